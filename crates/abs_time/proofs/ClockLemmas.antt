@@ -13,7 +13,8 @@ against-placed mode top before e h = rw (h, later mode before e.time) refl
 
 -- a record that is an event
 pub IsClock-photon : (mode : Mode) (count sum top input time dtime : ℕ) (records : List Raw) → IsClock mode count sum top records
-    → IsClock mode (count + 1) sum (max top (ordered_time mode (record { place = count + 1; kind = PhotonEvent input dtime; time = sum + time }))) (records ++ Photon input time dtime ∷ [])
+    → IsClock mode (count + 1) sum (max top (ordered_time mode (record { place = count + 1; kind = PhotonEvent input dtime; time = sum + time })))
+    (records ++ Photon input time dtime ∷ [])
 IsClock-photon mode count sum top input time dtime records h = record {
   placed = omega (arith, length-append records (Photon input time dtime ∷ []), h.placed);
   base = omega (arith, base-push records (Photon input time dtime), h.base);
@@ -21,7 +22,8 @@ IsClock-photon mode count sum top input time dtime records h = record {
 }
 
 pub IsClock-marker : (mode : Mode) (count sum top bits time : ℕ) (records : List Raw) → IsClock mode count sum top records
-    → IsClock mode (count + 1) sum (max top (ordered_time mode (record { place = count + 1; kind = MarkerEvent bits; time = sum + time }))) (records ++ Marker bits time ∷ [])
+    → IsClock mode (count + 1) sum (max top (ordered_time mode (record { place = count + 1; kind = MarkerEvent bits; time = sum + time })))
+    (records ++ Marker bits time ∷ [])
 IsClock-marker mode count sum top bits time records h = record {
   placed = omega (arith, length-append records (Marker bits time ∷ []), h.placed);
   base = omega (arith, base-push records (Marker bits time), h.base);
@@ -46,7 +48,8 @@ IsClock-reserved mode count sum top records h = record {
 
 -- the answers
 pub answer-photon : (mode : Mode) (count sum top input time dtime : ℕ) (records : List Raw) → IsClock mode count sum top records
-    → Ok (against mode top (record { place = count + 1; kind = PhotonEvent input dtime; time = sum + time })) ≡ place_answer mode records (Photon input time dtime)
+    → Ok (against mode top (record { place = count + 1; kind = PhotonEvent input dtime; time = sum + time })) ≡ place_answer mode records
+    (Photon input time dtime)
 unfolding place_answer
 answer-photon mode count sum top input time dtime records h = rw (h.placed, h.base) (ap Ok (against-placed mode top (events records) _ h.greatest))
 
@@ -55,14 +58,16 @@ pub answer-marker : (mode : Mode) (count sum top bits time : ℕ) (records : Lis
 unfolding place_answer
 answer-marker mode count sum top bits time records h = rw (h.placed, h.base) (ap Ok (against-placed mode top (events records) _ h.greatest))
 
-pub answer-limit : (mode : Mode) (count sum top ticks : ℕ) (records : List Raw) → sum ≤ wrap_limit → wrap_limit - sum < ticks → IsClock mode count sum top records
+pub answer-limit : (mode : Mode) (count sum top ticks : ℕ) (records : List Raw)
+    → sum ≤ wrap_limit → wrap_limit - sum < ticks → IsClock mode count sum top records
     → Err (TimeLimit (count + 1)) ≡ place_answer mode records (Wrap ticks)
 unfolding place_answer
 answer-limit mode count sum top ticks records within more h =
     let e : nat_lt wrap_limit (base records + ticks) ≡ true = rw (← h.base) (grind (arith, nat_tests)) in
     rw (e, h.placed) refl
 
-pub answer-wrap : (mode : Mode) (count sum top ticks : ℕ) (records : List Raw) → sum ≤ wrap_limit → ticks ≤ wrap_limit - sum → IsClock mode count sum top records
+pub answer-wrap : (mode : Mode) (count sum top ticks : ℕ) (records : List Raw)
+    → sum ≤ wrap_limit → ticks ≤ wrap_limit - sum → IsClock mode count sum top records
     → Ok WrapPlaced ≡ place_answer mode records (Wrap ticks)
 unfolding place_answer
 answer-wrap mode count sum top ticks records within few h =

@@ -1,7 +1,7 @@
 -- What a clock stands for.
 use Rattle.std.specs.Prelude.{ℕ, ◌≡◌, ◌+◌, ◌≤◌, ◌&&◌, IsTrue, nat_lt, List, [], ◌∷◌, ◌++◌, length, if◌then◌else◌, Result, Ok, Err}
 use Rattle.tally_base.{specs.declared.event.Event.Event, specs.declared.fault.Fault.Fault, specs.declared.fault.Fault.TheVariants.TimeLimit, specs.declared.header.Mode.Mode, specs.Events.is_ordered, specs.Limits.time_limit}
-use Rattle.ptu_definitions.{specs.declared.records.Raw.Raw, specs.Kinds.is_wrap, specs.Times.{base, event_after, events, passes}, specs.Kept.{is_late, greatest}, specs.Fitting.KindFits}
+use Rattle.ptu_definitions.{specs.declared.records.Raw.Raw, specs.Kinds.is_wrap, specs.Times.{base, event_after, events, passes}, specs.Kept.{is_late, greatest}, specs.Layouts.KindFits}
 use Rattle.abs_time.{specs.declared.clock.Clock.Clock, specs.declared.clock.Placed.Placed, specs.declared.clock.Placed.TheVariants.Event as InOrder, specs.declared.clock.Placed.TheVariants.{Late, Wrap, Reserved}}
 
 -- the numbers that a clock keeps, by the records placed

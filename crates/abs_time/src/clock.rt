@@ -1,7 +1,7 @@
 // The clock of a file: the absolute times of its records.
 ghost use Rattle.std.specs.Prelude.{◌≡◌, ◌+◌, ◌<◌, ◌≤◌, ◌++◌, ◌∷◌, [], List, ℕ, Bool, ◌&&◌, not, nat_lt, max, if◌then◌else◌, OnOk, OnErr, IfOk, IfErr, length};
 ghost use Rattle.tally_base.{specs.Events.is_ordered, specs.Limits.{record_limit, wrap_limit}};
-ghost use Rattle.ptu_definitions.specs.declared.records.Raw.{Raw};
+ghost use Rattle.ptu_definitions.{specs.declared.records.Raw.Raw, specs.Layouts.Fits, specs.Kept.ordered_time};
 
 use ptu_definitions::Raw;
 use tally_base::{Event, EventKind, Fault, Mode, WRAP_LIMIT};
@@ -32,7 +32,6 @@ pub struct Clock {
 
 impl Clock {
     ghost use Rattle.abs_time.specs.Placing.{IsClock, LeadsOn, mode_of, placed_by, greatest_by, HasPlaced, base_of, against, place_answer, IsSmall, Moves, IsAtPlace, IsNext};
-    ghost use Rattle.ptu_definitions.{specs.Fitting.Fits, specs.Kept.ordered_time};
 
     /// The clock of a file of this mode, before its first record.
     pub fn new(mode: Mode) -> Clock

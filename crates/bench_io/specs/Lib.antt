@@ -1,9 +1,7 @@
-pub mod CallCounts
+pub mod MemoryParts
 pub mod Given
 pub mod Inputs
 pub mod Sinks
-pub mod NamedBytes
-pub mod Turns
 pub mod Memory
 pub mod MemorySlots
 pub mod SinkState

@@ -1,7 +1,7 @@
 -- What inputs in memory hold, as callers see it.
 use Rattle.std.{specs.Prelude.{ℕ, List, [], ◌∷◌, ◌≡◌, Bool, true, false, None, Some, slice_get, take, refl}, specs.declared.option.Option.Option, proofs.Common.{sym, ◌∙◌, ◌++◌, append-nil, take-append-drop}, proofs.Math.Seq.take-nil, proofs.lemmas.Option.{none-some, same_Some}}
 use Rattle.tally_base.{specs.declared.slot.Slot.Slot, specs.declared.slot.Slot.TheVariants.{Plan, Data}}
-use Rattle.bench_io.{specs.declared.memory_slot.Reading.Reading, specs.declared.memory_slot.Reading.TheVariants.{Unasked, Refused, Open}, specs.declared.memory_slot.MemorySlot.MemorySlot, specs.declared.memory_inputs.MemoryInputs.MemoryInputs, specs.Given.{Given, gave, no_bytes, is_over, IsOf}, specs.Inputs.InputState, specs.NamedBytes.NamedBytes, specs.Memory.{file_named, rest_of_file, MemoryState}}
+use Rattle.bench_io.{specs.declared.memory_slot.Reading.Reading, specs.declared.memory_slot.Reading.TheVariants.{Unasked, Refused, Open}, specs.declared.memory_slot.MemorySlot.MemorySlot, specs.declared.memory_inputs.MemoryInputs.MemoryInputs, specs.Given.{Given, gave, no_bytes, is_over, IsOf}, specs.Inputs.InputState, specs.MemoryParts.NamedBytes, specs.Memory.{file_named, rest_of_file, MemoryState}}
 
 -- whether the slot was asked for
 abbrev pub was_asked : Reading → Bool

@@ -1,6 +1,6 @@
 // One slot of inputs in memory.
 ghost use Rattle.std.{specs.Prelude.{◌≡◌, ◌+◌, ◌^◌, ◌<◌, ◌⊎◌, Some, None, true, false, length, take, min, slice_get, IsSome, IfOk, IsOk, ◌↔◌, MatchOption, OnErr, OnOk}, specs.Io.{ReadsAtMost}};
-ghost use Rattle.bench_io.{specs.Given.{no_bytes, ReadGives}, specs.Inputs.IsOpened, specs.Turns.limited, specs.Memory.{file_named, rest_of_file}, specs.MemorySlots.{was_asked, was_opened, rest_in, told_in, given_in}};
+ghost use Rattle.bench_io.{specs.Given.{no_bytes, ReadGives}, specs.Inputs.IsOpened, specs.MemoryParts.limited, specs.Memory.{file_named, rest_of_file}, specs.MemorySlots.{was_asked, was_opened, rest_in, told_in, given_in}};
 ghost use Rattle.tally_base.specs.FaultCounts.{FailsOnce};
 
 use crate::memory_file::MemoryFile;

@@ -1,7 +1,73 @@
 -- The events of a block for a table of coincidences.
-use Rattle.std.{proofs.Common.{◌≡◌, ◌∙◌, ℕ, zero, suc, ◌+◌, ◌<◌, ◌≤◌, Bool, true, false, ◌&&◌, ◌||◌, List, [], ◌∷◌, ◌++◌, length, refl, sym, ap, arith, length-append, append-nil, append_assoc, ◌⊎◌, ⊎_elim, nat_lt, rules}, proofs.lemmas.Bool.false≢true, proofs.lemmas.List.Elements.filter-append}
-use Rattle.tally_base.{specs.declared.event.Event.Event, specs.Events.{is_photon, is_in}, specs.Settings.CoincidenceView, specs.Tally.{History, greatest_time}, specs.Limits.record_limit, specs.declared.block.Block.Block, specs.Columns.{rows, item, event_at, code_at, groups_at, time_at, gathered, events_in}, specs.Floors.{floor_after, InOrder}, proofs.Back.moves_row, proofs.Greatest.greatest-rows, proofs.Floors.{order-front, order-at}, proofs.BlockRows.{length-rows, more_rows}}
-use Rattle.coincidence.{specs.declared.pairing.Pairing.Pairing, specs.Pairs.photons_of_groups, specs.declared.pairing.Bin.Bin, specs.Pairing.{bin_of, CanPut, Came}, specs.StandsFor.{StandsFor, CanGive, CanTake}, proofs.Gives.{mine, may_put, photons-push}, proofs.Blocks.in_group}
+use Rattle.std.{proofs.Common.{◌≡◌, ◌∙◌, ℕ, zero, suc, ◌+◌, ◌<◌, ◌≤◌, Bool, true, false, ◌&&◌, ◌||◌, List, [], ◌∷◌, ◌++◌, length, refl, sym, ap, arith, length-append, append-nil, append_assoc, ◌⊎◌, ⊎_elim, nat_lt, rules, max, cond, fold, zero-add}, proofs.lemmas.Bool.false≢true, proofs.lemmas.List.Elements.filter-append, specs.List.AllByRecursion, proofs.lemmas.List.Sums.{length-filter, count_by-le-length}}
+use Rattle.tally_base.{specs.declared.event.Event.Event, specs.Events.{is_photon, is_in}, specs.Settings.CoincidenceView, specs.Tally.{History, greatest_time, floor_after, InOrder, moves_floor}, specs.Limits.record_limit, specs.declared.block.Block.Block, specs.Columns.{rows, item, event_at, code_at, groups_at, time_at, gathered, events_in}, proofs.Floors.{moves_row, order-front, order-at, greatest-rows}, proofs.BlockRows.{length-rows, more_rows}}
+use Rattle.coincidence.{specs.declared.pairing.Pairing.Pairing, specs.Pairs.{photons_of_groups, in_first, in_second}, specs.declared.pairing.Bin.Bin, specs.Pairing.{bin_of, CanPut, Came, BinIs, CanEnd, PairingDone}, specs.StandsFor.{StandsFor, CanGive, CanTake}, proofs.Blocks.in_group}
+use Rattle.lag_ring.proofs.Lists.{all_both, all_filter, all_passed}
+
+-- What an event does to the photons of the two groups.
+
+abbrev pub mine : CoincidenceView → Event × ℕ → Bool
+mine set x = in_first set x || in_second set x
+
+abbrev later : ℕ → Event × ℕ → ℕ
+later t x = cond (moves_floor false x.0) (max t x.0.time) t
+
+from_start : (t : ℕ) (h : History) → t ≤ fold later t h
+from_start t [] = omega arith
+from_start t (x ∷ h) = search (rules, arith, from_start (later t x) h)
+
+later_than : (t : ℕ) (x : Event × ℕ) (h : History) → is_photon x.0 ≡ true → later t x ≤ fold later (later t x) h → x.0.time ≤ fold later (later t x) h
+later_than t x h is rest = let now : later t x ≡ max t x.0.time = rw is refl in omega (arith, now)
+
+-- no photon comes after the greatest time
+in_time : (t : ℕ) (h : History) → AllByRecursion (λ x. is_photon x.0 ≡ true → x.0.time ≤ fold later t h) h
+in_time t [] = tt
+in_time t (x ∷ h) = (λ is. let rest = from_start (later t x) h in later_than t x h is rest, in_time (later t x) h)
+
+mine-photon : (p a b : Bool) → ((p && a) || (p && b)) ≡ true → p ≡ true
+mine-photon p a b is = search (rules, arith)
+
+pub none_after : (set : CoincidenceView) (h : History) (time : ℕ) → greatest_time false h ≤ time
+    → AllByRecursion (λ x. x.0.time ≤ time) (photons_of_groups set h)
+none_after set h time after =
+    all_both (λ x. mine set x ≡ true) (λ x. is_photon x.0 ≡ true → x.0.time ≤ greatest_time false h) (λ x. x.0.time ≤ time)
+    (λ x is before. let upto : x.0.time ≤ greatest_time false h =
+    before (mine-photon (is_photon x.0) (is_in x.1 set.first) (is_in x.1 set.second) is) in omega arith)
+    (photons_of_groups set h) (all_passed (mine set) h) (all_filter (λ x. is_photon x.0 ≡ true → x.0.time ≤ greatest_time false h) (mine set) h (in_time 0 h))
+
+pub few_photons : (set : CoincidenceView) (h : History) → length (photons_of_groups set h) ≤ length h
+few_photons set h = omega (arith, length-filter (mine set) h, count_by-le-length (mine set) h)
+
+-- the bin of one photon
+pub one_photon : (set : CoincidenceView) (e : Event) (groups : ℕ) → is_photon e ≡ true
+    → BinIs set (bin_of e.time (is_in groups set.first) (is_in groups set.second)) ((e, groups) ∷ [])
+one_photon set e groups photon = search (rules, arith, zero-add)
+
+-- a photon of either group may be put after those that came
+pub may_put : (set : CoincidenceView) (p : Pairing) (e : Event) (groups : ℕ) (h : History) (can : CanGive set p e h) → is_photon e ≡ true → CanPut set p (bin_of e.time (is_in groups set.first) (is_in groups set.second)) can.was.0 can.was.1 ((e, groups) ∷ [])
+may_put set p e groups h can photon = record {
+  few =
+      let few : length (can.was.0 ++ can.was.1) ≤ length h = (rw can.was.2 at (few_photons set h)) in
+      omega (arith, can.few, few, length-append can.was.0 can.was.1);
+  was = can.was.3;
+  is = one_photon set e groups photon;
+  after = (rw can.was.2 at (none_after set h e.time (can.after photon)));
+}
+
+-- it is among the photons
+pub photons-push : (set : CoincidenceView) (h : History) (x : Event × ℕ) → is_photon x.0 ≡ true
+    → (is_in x.1 set.first || is_in x.1 set.second) ≡ true → photons_of_groups set (h ++ x ∷ []) ≡ photons_of_groups set h ++ x ∷ []
+photons-push set h x photon either = filter-append (mine set) h (x ∷ []) ∙ ap (λ xs. photons_of_groups set h ++ xs) (rw (photon, either) refl)
+
+pub may_end : (closed : Bool) → closed ≡ false → (set : CoincidenceView) (p : Pairing) (count time : ℕ) (h : History)
+    → StandsFor closed set p count time h → count ≤ record_limit → CanEnd set p (photons_of_groups set h)
+may_end closed open' set p count time h is few = search (rules, arith, false≢true, few_photons)
+
+pub end_counts : (closed : Bool) (set : CoincidenceView) (p p' : Pairing) (count time : ℕ) (h : History)
+    → StandsFor closed set p count time h → PairingDone set p' (photons_of_groups set h) → StandsFor true set p' count time h
+end_counts closed set p p' count time h is done = record { taken = is.taken; floor = is.floor; photons = done }
+
+-- The events of a block for a table of coincidences.
 
 last_or : (i n : ℕ) → i ≤ suc n → (i ≡ suc n) ⊎ (i ≤ n)
 last_or i n le = grind (arith, le)
@@ -20,7 +86,8 @@ abbrev pub may_take : (set : CoincidenceView) (p p' : Pairing) (b : Block) (h : 
 may_take set p p' b h at inside can came =
     let floor = greatest_time false h in
     let next = order-at false floor (event_at b) b.len at inside can.after in
-    let so_far : greatest_time false (h ++ rows (item b) at) ≡ _ = greatest-rows false h (item b) at (order-upto false floor (event_at b) b.len at (omega (arith, inside)) can.after) in
+    let so_far : greatest_time false (h ++ rows (item b) at) ≡ _ =
+    greatest-rows false h (item b) at (order-upto false floor (event_at b) b.len at (omega (arith, inside)) can.after) in
     record {
       few = omega (arith, can.few, inside, length-append h (rows (item b) at), length-rows (item b) at, length-rows (event_at b) b.len);
       was = came;
@@ -37,7 +104,8 @@ none_found a b c found other is also neither = search (rules, arith)
 
 pub photons-same : (set : CoincidenceView) (b : Block) (h : History) (at : ℕ) (found other : Bool) → found ≡ (is_in (groups_at b at) set.first && nat_lt (code_at b at) 256) → other ≡ (is_in (groups_at b at) set.second && nat_lt (code_at b at) 256) → (found || other) ≡ false → photons_of_groups set (h ++ item b at ∷ []) ≡ photons_of_groups set h
 photons-same set b h at found other is also neither =
-    let out : mine set (item b at) ≡ false = rw (moves_row false b at) (none_found (is_in (groups_at b at) set.first) (is_in (groups_at b at) set.second) (nat_lt (code_at b at) 256) found other is also neither) in
+    let out : mine set (item b at) ≡ false = rw (moves_row false b at)
+    (none_found (is_in (groups_at b at) set.first) (is_in (groups_at b at) set.second) (nat_lt (code_at b at) 256) found other is also neither) in
     filter-append (mine set) h (item b at ∷ []) ∙ ap (λ xs. photons_of_groups set h ++ xs) (rw out refl) ∙ append-nil (photons_of_groups set h)
 
 pub one_more : (b : Block) (h : History) (at : ℕ) → h ++ rows (item b) (at + 1) ≡ (h ++ rows (item b) at) ++ item b at ∷ []
@@ -49,11 +117,13 @@ pub came_same : (set : CoincidenceView) (p : Pairing) (b : Block) (h : History) 
 came_same set p b h at found other is also neither came = rw (one_more b h at, photons-same set b (h ++ rows (item b) at) at found other is also neither) came
 
 -- the next event of a block comes after the photons before it
-pub row_after : (set : CoincidenceView) (p : Pairing) (b : Block) (h : History) (at : ℕ) → at < b.len → CanTake set p (gathered b) h → is_photon (event_at b at) ≡ true → greatest_time false (h ++ rows (item b) at) ≤ time_at b at
+pub row_after : (set : CoincidenceView) (p : Pairing) (b : Block) (h : History) (at : ℕ) → at < b.len
+    → CanTake set p (gathered b) h → is_photon (event_at b at) ≡ true → greatest_time false (h ++ rows (item b) at) ≤ time_at b at
 row_after set p b h at inside can photon =
     let floor = greatest_time false h in
     let next = order-at false floor (event_at b) b.len at inside can.after in
-    let so_far : greatest_time false (h ++ rows (item b) at) ≡ _ = greatest-rows false h (item b) at (order-upto false floor (event_at b) b.len at (omega (arith, inside)) can.after) in
+    let so_far : greatest_time false (h ++ rows (item b) at) ≡ _ =
+    greatest-rows false h (item b) at (order-upto false floor (event_at b) b.len at (omega (arith, inside)) can.after) in
     rw so_far (next.1 photon)
 
 module _ (set : CoincidenceView) (p p' : Pairing) (b : Block) (h : History) (at : ℕ) (inside : at < b.len) (can : CanTake set p (gathered b) h) (came : Came set p' (photons_of_groups set (h ++ rows (item b) at))) (found other : Bool) (is : found ≡ (is_in (groups_at b at) set.first && nat_lt (code_at b at) 256)) (also : other ≡ (is_in (groups_at b at) set.second && nat_lt (code_at b at) 256)) (either : (found || other) ≡ true) where
@@ -71,7 +141,8 @@ module _ (set : CoincidenceView) (p p' : Pairing) (b : Block) (h : History) (at 
 
   -- a photon of either group may be put
   pub put_row : (bin : Bin) (time : ℕ) → time ≡ time_at b at → bin ≡ bin_of time found other → CanPut set p' bin came.0 came.1 (item b at ∷ [])
-  put_row bin time at_time is_bin = rw (is_bin, at_time, ← first, ← second) (may_put set p' (event_at b at) (groups_at b at) (h ++ rows (item b) at) (may_take set p p' b h at inside can came) photon)
+  put_row bin time at_time is_bin = rw (is_bin, at_time, ← first, ← second)
+      (may_put set p' (event_at b at) (groups_at b at) (h ++ rows (item b) at) (may_take set p p' b h at inside can came) photon)
 
   -- and is then among those that came
   pub came_more : (p'' : Pairing) → Came set p'' ((came.0 ++ came.1) ++ item b at ∷ []) → Came set p'' (photons_of_groups set (h ++ rows (item b) (at + 1)))
@@ -82,8 +153,10 @@ pub may_events : (closed : Bool) → closed ≡ false → (set : CoincidenceView
 may_events closed open' set p count time h es is few after = search (rules, arith, false≢true)
 
 -- what it stands for then
-pub events_count : (closed : Bool) → closed ≡ false → (set : CoincidenceView) (p p' : Pairing) (count time count' time' : ℕ) (h : History) (b : Block) → StandsFor closed set p count time h → InOrder false time (gathered b)
-    → count' ≡ count + b.len → time' ≡ floor_after false time (gathered b) → Came set p' (photons_of_groups set (h ++ events_in b)) → StandsFor closed set p' count' time' (h ++ events_in b)
+pub events_count : (closed : Bool) → closed ≡ false → (set : CoincidenceView) (p p' : Pairing) (count time count' time' : ℕ) (h : History) (b : Block)
+    → StandsFor closed set p count time h → InOrder false time (gathered b)
+    → count' ≡ count + b.len → time' ≡ floor_after false time (gathered b)
+    → Came set p' (photons_of_groups set (h ++ events_in b)) → StandsFor closed set p' count' time' (h ++ events_in b)
 events_count true open' set p p' count time count' time' h b is after more moved came = absurd (false≢true (sym open'))
 events_count false open' set p p' count time count' time' h b is after more moved came = record {
   taken = omega (arith, is.taken, more, length-append h (events_in b), length-rows (item b) b.len);

@@ -24,7 +24,8 @@ module _ (sums : List ℕ) (full : length sums ≡ 256) (reach c least count : �
   below : (k : ℕ) → k ≤ least → cond (leb (least + 1) k && ltb k (least + 1 + count)) (get_or sums (least + 256 - k) 0) 0 ≡ 0
   below k under = let first : leb (least + 1) k ≡ false = grind (arith, nat_tests) in rw first refl
 
-  between : (k : ℕ) → least < k → k ≤ least + count → cond (leb (least + 1) k && ltb k (least + 1 + count)) (get_or sums (least + 256 - k) 0) 0 ≡ get_or sums (least + 256 - k) 0
+  between : (k : ℕ) → least < k → k ≤ least + count
+      → cond (leb (least + 1) k && ltb k (least + 1 + count)) (get_or sums (least + 256 - k) 0) 0 ≡ get_or sums (least + 256 - k) 0
   between k over under =
       let first : leb (least + 1) k ≡ true = grind (arith, nat_tests) in
       let last : ltb k (least + 1 + count) ≡ true = grind (arith, nat_tests) in
@@ -119,11 +120,13 @@ single-cell : (width n c : ℕ) → width ≡ 1 → eqb (n / width) c ≡ eqb n 
 single-cell width n c single = rw single (let same : n / 1 ≡ n = omega arith in rw same refl)
 
 pub strip-forward : (set : CoincidenceView) (c least count : ℕ) (sums : List ℕ) → set.width ≡ 1 → length sums ≡ 256 → count ≤ 256 → least + count ≤ set.reach
-    → sum_by (strip_pairs Forward set c least sums) (range_with_len (least + 1) count) ≡ downwards_at (set.reach + (least + count)) (take (256 - (256 - count)) (drop (256 - count) sums)) c
+    → sum_by (strip_pairs Forward set c least sums) (range_with_len (least + 1) count) ≡ downwards_at
+    (set.reach + (least + count)) (take (256 - (256 - count)) (drop (256 - count) sums)) c
 strip-forward set c least count sums single full few upto =
     rw (last-all sums count full few)
     (sum_by-same (strip_pairs Forward set c least sums) (forward_term sums full set.reach c least count few upto) (range_with_len (least + 1) count) (λ lag. ap (λ b. cond b (get_or sums (least + 256 - lag) 0) 0) (single-cell set.width (set.reach + lag) c single))
-    ∙ at_one (forward_term sums full set.reach c least count few upto) (c - set.reach) (least + 1) count (forward-none sums full set.reach c least count few upto)
+    ∙ at_one (forward_term sums full set.reach c least count few upto) (c - set.reach)
+    (least + 1) count (forward-none sums full set.reach c least count few upto)
     ∙ forward-one sums full set.reach c least count few upto
     ∙ forward-row sums full set.reach c least count few upto)
 
@@ -131,12 +134,15 @@ back-test : (reach lag c : ℕ) → lag ≤ reach → eqb (reach - lag) c ≡ eq
 back-test reach lag c near = grind (arith, nat_tests)
 
 pub strip-backward : (set : CoincidenceView) (c least count : ℕ) (sums : List ℕ) → set.width ≡ 1 → length sums ≡ 256 → count ≤ 256 → least + count ≤ set.reach
-    → sum_by (strip_pairs Backward set c least sums) (range_with_len (least + 1) count) ≡ upwards_at (set.reach - (least + count)) (take (256 - (256 - count)) (drop (256 - count) sums)) c
+    → sum_by (strip_pairs Backward set c least sums) (range_with_len (least + 1) count) ≡ upwards_at
+    (set.reach - (least + count)) (take (256 - (256 - count)) (drop (256 - count) sums)) c
 strip-backward set c least count sums single full few upto =
     rw (last-all sums count full few)
     (sum_by-agree (λ lag. (least + 1 ≤ lag) × (lag < least + 1 + count)) (strip_pairs Backward set c least sums) (backward_term sums full set.reach c least count few upto) (range_with_len (least + 1) count) (range-within (least + 1) count)
-    (λ lag within. ap (λ b. cond b (get_or sums (least + 256 - lag) 0) 0) (single-cell set.width (set.reach - lag) c single ∙ back-test set.reach lag c (omega arith)))
-    ∙ at_one (backward_term sums full set.reach c least count few upto) (set.reach - c) (least + 1) count (backward-none sums full set.reach c least count few upto)
+    (λ lag within. ap (λ b. cond b (get_or sums (least + 256 - lag) 0) 0)
+    (single-cell set.width (set.reach - lag) c single ∙ back-test set.reach lag c (omega arith)))
+    ∙ at_one (backward_term sums full set.reach c least count few upto) (set.reach - c)
+    (least + 1) count (backward-none sums full set.reach c least count few upto)
     ∙ backward-one sums full set.reach c least count few upto
     ∙ backward-row sums full set.reach c least count few upto)
 

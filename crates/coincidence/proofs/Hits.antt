@@ -27,7 +27,8 @@ pairs_in-append r [] ys = let none : cross r ys [] ≡ 0 = sum_by-same (λ y. co
 pairs_in-append r (x ∷ xs) ys = grind (arith, common_steps, sum_by-append, sum_by-cons, cross-cons_right, pairs_in-append r xs ys)
 
 -- in one bin each first element pairs with each second one but itself
-pub pairs_in-one : {X : Type 0} (first second : X → Bool) (xs : List X) → pairs_in (λ x y. first x && second y) xs + count_by (λ x. first x && second x) xs ≡ count_by first xs * count_by second xs
+pub pairs_in-one : {X : Type 0} (first second : X → Bool) (xs : List X)
+    → pairs_in (λ x y. first x && second y) xs + count_by (λ x. first x && second x) xs ≡ count_by first xs * count_by second xs
 pairs_in-one first second [] = refl
 pairs_in-one first second (x ∷ xs) =
     let firsts : count_by (λ y. first y && second x) xs ≡ count_by first xs * cond (second x) 1 0 = sum_by-same (λ y. cond (first y && second x) 1 0) (λ y. cond (first y) 1 0 * cond (second x) 1 0) xs (λ y. two (first y) (second x)) ∙ sum_by-times (λ y. cond (first y) 1 0) (cond (second x) 1 0) xs in
@@ -36,7 +37,8 @@ pairs_in-one first second (x ∷ xs) =
     (square (cond (first x) 1 0) (cond (second x) 1 0) (count_by first xs) (count_by second xs) _ _ (pairs_in-one first second xs))
 
 -- tests that agree where P holds of both count the same pairs
-pub pairs_in-agree : {X : Type 0} (P : X → Type 0) (r s : X → X → Bool) (xs : List X) → AllByRecursion P xs → ((x y : X) → P x → P y → r x y ≡ s x y) → pairs_in r xs ≡ pairs_in s xs
+pub pairs_in-agree : {X : Type 0} (P : X → Type 0) (r s : X → X → Bool) (xs : List X)
+    → AllByRecursion P xs → ((x y : X) → P x → P y → r x y ≡ s x y) → pairs_in r xs ≡ pairs_in s xs
 pairs_in-agree P r s [] all same = refl
 pairs_in-agree P r s (x ∷ xs) all same = search (rules, arith, sum_by-agree, pairs_in-agree P r s xs all.1 same)
 
@@ -77,15 +79,18 @@ module _ {X : Type 0} (first second : X → Bool) (at : X → ℕ) (hits : ℕ �
       sum_by-agree (λ x. at x ≡ n) (λ x. count_by (hit x) ys) (λ x. cond (first x) 1 0 * count_by (λ y. second y && hits n (at y)) ys) xs here
       (λ x is. sum_by-same (λ y. cond (hit x y) 1 0) (λ y. cond (second y && hits n (at y)) 1 0 * cond (first x) 1 0) ys (λ y. rw is (three' (first x) (second y) (hits n (at y)) ∙ mul_comm (cond (first x) 1 0) (cond (second y && hits n (at y)) 1 0)))
       ∙ sum_by-times (λ y. cond (second y && hits n (at y)) 1 0) (cond (first x) 1 0) ys ∙ mul_comm (count_by (λ y. second y && hits n (at y)) ys) (cond (first x) 1 0))
-      ∙ sum_by-times (λ x. cond (first x) 1 0) (count_by (λ y. second y && hits n (at y)) ys) xs ∙ mul_comm (count_by first xs) (count_by (λ y. second y && hits n (at y)) ys)
+      ∙ sum_by-times (λ x. cond (first x) 1 0) (count_by (λ y. second y && hits n (at y)) ys) xs
+      ∙ mul_comm (count_by first xs) (count_by (λ y. second y && hits n (at y)) ys)
 
   -- the pairs inside a bin
   pub hits-inside : (n : ℕ) (ys : List X) → AllByRecursion (λ y. at y ≡ n) ys → pairs_in hit ys ≡ cond (hits n n) (pairs_in (λ x y. first x && second y) ys) 0
   hits-inside n ys here =
       pairs_in-agree (λ x. at x ≡ n) hit (λ x y. (first x && second y) && hits n n) ys here (λ x y is_x is_y. rw (is_x, is_y) refl)
       ∙ elim (hits n n) as (λ b. pairs_in (λ x y. (first x && second y) && b) ys ≡ cond b (pairs_in (λ x y. first x && second y) ys) 0) [
-        | true ↦ pairs_in-agree (λ x. at x ≡ n) (λ x y. (first x && second y) && true) (λ x y. first x && second y) ys here (λ x y is_x is_y. elim (first x && second y) as (λ b. (b && true) ≡ b) [ true ↦ refl | false ↦ refl ])
-        | false ↦ pairs_in-zero (λ x y. (first x && second y) && false) ys (λ x y. elim (first x && second y) as (λ b. (b && false) ≡ false) [ true ↦ refl | false ↦ refl ])
+        | true ↦ pairs_in-agree (λ x. at x ≡ n) (λ x y. (first x && second y) && true) (λ x y. first x && second y) ys here
+            (λ x y is_x is_y. elim (first x && second y) as (λ b. (b && true) ≡ b) [ true ↦ refl | false ↦ refl ])
+        | false ↦ pairs_in-zero (λ x y. (first x && second y) && false) ys
+            (λ x y. elim (first x && second y) as (λ b. (b && false) ≡ false) [ true ↦ refl | false ↦ refl ])
       ]
 
   -- what a bin at n brings

@@ -1,8 +1,8 @@
 -- Pairs summed lag by lag.
-use Rattle.std.{proofs.Common.{◌≡◌, ◌≢◌, ◌∙◌, ℕ, zero, suc, ◌+◌, ◌-◌, ◌*◌, ◌/◌, ◌<◌, ◌≤◌, Bool, true, false, ◌&&◌, leb, ltb, eqb, cond, List, [], ◌∷◌, ◌++◌, refl, sym, ap, arith, append_assoc, rules}, specs.List.{sum_by, range_with_len, AllByRecursion}, proofs.lemmas.Grind.common_steps, proofs.lemmas.Bool.Decides.nat_tests, proofs.lemmas.List.Sums.{sum_by-cons, sum_by-append}}
 use Rattle.tally_base.specs.Settings.{CoincidenceView}
-use Rattle.lag_ring.{specs.declared.ring.Entry.Entry, specs.declared.window.Side.Side, specs.Window.{weight_of, weight_before}, specs.Ring.IsRising, proofs.Lists.all_both, proofs.Rising.{all_weaker, all_push}, proofs.Sums.{sum_by-same, sum_by-agree, sum_by-plus, sum_by-times, sum_by-zero}}
-use Rattle.coincidence.{specs.declared.pairing.Direction.Direction, specs.declared.pairing.Direction.TheVariants.{Forward, Backward}, specs.Pairing.{shifted_by, earlier_weight, pairs_of, pairs_of_all}, specs.Closing.{earlier_side, later_side, lag_pairs}, proofs.Hits.zeros, proofs.Visits.{pairs_near, pairs_far}}
+use Rattle.lag_ring.{specs.declared.ring.Entry.Entry, specs.declared.window.Side.Side, specs.Bytes.{weight_of, weight_before, weight_at, behind}, specs.Ring.IsRising, proofs.Lists.{all_both, all_join}, proofs.Rising.{all_weaker, all_push}, proofs.Sums.{sum_by-same, sum_by-agree, sum_by-plus, sum_by-times, sum_by-zero, window-before}}
+use Rattle.coincidence.{specs.declared.pairing.Direction.Direction, specs.declared.pairing.Direction.TheVariants.{Forward, Backward}, specs.Pairing.{shifted_by, earlier_weight, pairs_of, pairs_of_all}, specs.Closing.{earlier_side, later_side, lag_pairs, strip_pairs, window_pairs, FitsWindow}, proofs.Hits.zeros, proofs.Visits.{pairs_near, pairs_far}}
+use Rattle.std.{proofs.Common.{◌≡◌, ◌≢◌, ◌∙◌, ℕ, zero, suc, ◌+◌, ◌-◌, ◌*◌, ◌/◌, ◌<◌, ◌≤◌, Bool, true, false, ◌&&◌, leb, ltb, eqb, cond, List, [], ◌∷◌, ◌++◌, refl, sym, ap, arith, append_assoc, rules, length, get_or}, specs.List.{sum_by, range_with_len, AllByRecursion}, proofs.lemmas.Grind.common_steps, proofs.lemmas.Bool.Decides.nat_tests, proofs.lemmas.List.Sums.{sum_by-cons, sum_by-append, sum_by_push}}
 
 -- sums over two lists in either order
 swapped : {X Y : Type 0} (f : X → Y → ℕ) (xs : List X) (ys : List Y) → sum_by (λ x. sum_by (f x) ys) xs ≡ sum_by (λ y. sum_by (λ x. f x y) xs) ys
@@ -20,7 +20,8 @@ at_one f k a (suc n) none = search (rules, arith, sum_by-cons, at_one f k (a + 1
 
 -- the pairs with one earlier entry at one lag
 abbrev at_lag : Direction → CoincidenceView → ℕ → ℕ → ℕ → Entry → ℕ → ℕ
-at_lag d set c index later e lag = cond (eqb (shifted_by d set.reach lag / set.width) c) (cond (eqb (e.index + lag) index) (weight_of (earlier_side d) e) 0 * later) 0
+at_lag d set c index later e lag =
+    cond (eqb (shifted_by d set.reach lag / set.width) c) (cond (eqb (e.index + lag) index) (weight_of (earlier_side d) e) 0 * later) 0
 
 -- the pairs with one earlier entry, lag by lag
 module _ (d : Direction) (set : CoincidenceView) (c index later : ℕ) (e : Entry) (before : e.index < index) where
@@ -30,7 +31,8 @@ module _ (d : Direction) (set : CoincidenceView) (c index later : ℕ) (e : Entr
   elsewhere : (lag : ℕ) → lag ≢ index - e.index → at_lag d set c index later e lag ≡ 0
   elsewhere lag other = search (rules, arith)
 
-  here : at_lag d set c index later e (index - e.index) ≡ cond (eqb (shifted_by d set.reach (index - e.index) / set.width) c) (weight_of (earlier_side d) e * later) 0
+  here : at_lag d set c index later e (index - e.index) ≡ cond
+      (eqb (shifted_by d set.reach (index - e.index) / set.width) c) (weight_of (earlier_side d) e * later) 0
   here = search (rules, arith)
 
   by_lags : sum_by (at_lag d set c index later e) (range_with_len 1 set.reach) ≡ pairs_of d set c index later e
@@ -47,15 +49,20 @@ cell-sum' b f x xs = search (rules, arith, sum_by-cons)
 
 -- the pairs of all earlier entries, lag by lag
 all_lags : (d : Direction) (set : CoincidenceView) (c index later : ℕ) (es : List Entry) → AllByRecursion (λ e. e.index < index) es
-    → sum_by (λ lag. cond (eqb (shifted_by d set.reach lag / set.width) c) (weight_before (earlier_side d) lag index es * later) 0) (range_with_len 1 set.reach) ≡ pairs_of_all d set c index later es
+    → sum_by (λ lag. cond (eqb (shifted_by d set.reach lag / set.width) c) (weight_before (earlier_side d) lag index es * later) 0)
+    (range_with_len 1 set.reach) ≡ pairs_of_all d set c index later es
 all_lags d set c index later es before =
-    sum_by-same (λ lag. cond (eqb (shifted_by d set.reach lag / set.width) c) (weight_before (earlier_side d) lag index es * later) 0) (λ lag. sum_by (λ e. at_lag d set c index later e lag) es) (range_with_len 1 set.reach)
-    (λ lag. cell-sum (eqb (shifted_by d set.reach lag / set.width) c) (λ (e : Entry). cond (eqb (e.index + lag) index) (weight_of (earlier_side d) e) 0) later es)
+    sum_by-same (λ lag. cond (eqb (shifted_by d set.reach lag / set.width) c) (weight_before (earlier_side d) lag index es * later) 0)
+    (λ lag. sum_by (λ e. at_lag d set c index later e lag) es) (range_with_len 1 set.reach)
+    (λ lag. cell-sum (eqb (shifted_by d set.reach lag / set.width) c)
+    (λ (e : Entry). cond (eqb (e.index + lag) index) (weight_of (earlier_side d) e) 0) later es)
     ∙ swapped (λ lag (e : Entry). at_lag d set c index later e lag) (range_with_len 1 set.reach) es
-    ∙ sum_by-agree (λ e. e.index < index) (λ e. sum_by (at_lag d set c index later e) (range_with_len 1 set.reach)) (pairs_of d set c index later) es before (λ e below. by_lags d set c index later e below)
+    ∙ sum_by-agree (λ e. e.index < index) (λ e. sum_by (at_lag d set c index later e) (range_with_len 1 set.reach))
+    (pairs_of d set c index later) es before (λ e below. by_lags d set c index later e below)
 
 -- entries that aren't before count nowhere
-before_only : (side : Side) (lag index : ℕ) (es fs : List Entry) → 0 < lag → AllByRecursion (λ e. index ≤ e.index) fs → weight_before side lag index (es ++ fs) ≡ weight_before side lag index es
+before_only : (side : Side) (lag index : ℕ) (es fs : List Entry) → 0 < lag → AllByRecursion (λ e. index ≤ e.index) fs
+    → weight_before side lag index (es ++ fs) ≡ weight_before side lag index es
 before_only side lag index es fs some after = search (rules, arith, sum_by-zero, sum_by-append)
 
 pub range-within : (a n : ℕ) → AllByRecursion (λ i. (a ≤ i) × (i < a + n)) (range_with_len a n)
@@ -77,12 +84,107 @@ lags_in_turn d set c es (l ∷ ls) rising below =
     let cell : ℕ → Bool = λ lag. eqb (shifted_by d set.reach lag / set.width) c in
     let mine : ℕ → ℕ = λ lag. cond (cell lag) (weight_before (earlier_side d) lag l.index (es ++ l ∷ ls) * w) 0 in
     let rest : ℕ → ℕ = lag_pairs d set c (es ++ l ∷ ls) ls in
-    let split : sum_by (lag_pairs d set c (es ++ l ∷ ls) (l ∷ ls)) (range_with_len 1 set.reach) ≡ sum_by mine (range_with_len 1 set.reach) + sum_by rest (range_with_len 1 set.reach) =
+    let split : sum_by (lag_pairs d set c (es ++ l ∷ ls) (l ∷ ls)) (range_with_len 1 set.reach) ≡ sum_by mine
+    (range_with_len 1 set.reach) + sum_by rest (range_with_len 1 set.reach) =
     sum_by-same (lag_pairs d set c (es ++ l ∷ ls) (l ∷ ls)) (λ lag. mine lag + rest lag) (range_with_len 1 set.reach) (λ lag. cell-sum' (cell lag) (λ (e : Entry). weight_before (earlier_side d) lag e.index (es ++ l ∷ ls) * weight_of (later_side d) e) l ls)
     ∙ sum_by-plus mine rest (range_with_len 1 set.reach) in
     let own : sum_by mine (range_with_len 1 set.reach) ≡ pairs_of_all d set c l.index w es =
-    sum_by-agree (λ lag. (1 ≤ lag) × (lag < 1 + set.reach)) mine (λ lag. cond (cell lag) (weight_before (earlier_side d) lag l.index es * w) 0) (range_with_len 1 set.reach) (range-within 1 set.reach)
-    (λ lag in_range. rw (before_only (earlier_side d) lag l.index es (l ∷ ls) in_range.0 (omega arith, all_weaker (λ e. l.index < e.index) (λ e. l.index ≤ e.index) (λ e above. omega arith) ls rising.0)) refl)
+    sum_by-agree (λ lag. (1 ≤ lag) × (lag < 1 + set.reach)) mine
+    (λ lag. cond (cell lag) (weight_before (earlier_side d) lag l.index es * w) 0) (range_with_len 1 set.reach) (range-within 1 set.reach)
+    (λ lag in_range. rw (before_only (earlier_side d) lag l.index es (l ∷ ls) in_range.0
+    (omega arith, all_weaker (λ e. l.index < e.index) (λ e. l.index ≤ e.index) (λ e above. omega arith) ls rising.0)) refl)
     ∙ all_lags d set c l.index w es below.0 in
-    let others : sum_by rest (range_with_len 1 set.reach) ≡ in_turn d set c (es ++ l ∷ []) ls = rw (← append_assoc es (l ∷ []) ls) (lags_in_turn d set c (es ++ l ∷ []) ls rising.1 (below_next es l ls rising.0 below.1)) in
+    let others : sum_by rest (range_with_len 1 set.reach) ≡ in_turn d set c (es ++ l ∷ []) ls =
+    rw (← append_assoc es (l ∷ []) ls) (lags_in_turn d set c (es ++ l ∷ []) ls rising.1 (below_next es l ls rising.0 below.1)) in
     omega (arith, split, own, others)
+
+-- Pairs in windows.
+
+-- a range and the one behind it
+pub range-append : (a m n : ℕ) → range_with_len a (m + n) ≡ range_with_len a m ++ range_with_len (a + m) n
+range-append a zero n =
+    let e : a + 0 ≡ a = omega arith in
+    let z : 0 + n ≡ n = omega arith in
+    rw (e, z) refl
+range-append a (suc m) n =
+    let e : a + suc m ≡ a + 1 + m = omega arith in
+    let k : suc m + n ≡ suc (m + n) = omega arith in
+    rw (k, e) (ap (λ xs. a ∷ xs) (range-append (a + 1) m n))
+
+pub range-more : (f : ℕ → ℕ) (a i : ℕ) → sum_by f (range_with_len a (i + 1)) ≡ sum_by f (range_with_len a i) + f (a + i)
+range-more f a i = ap (sum_by f) (range-append a i 1) ∙ sum_by_push f (range_with_len a i) (a + i)
+
+pub range-le : (f : ℕ → ℕ) (a i n : ℕ) → i ≤ n → sum_by f (range_with_len a i) ≤ sum_by f (range_with_len a n)
+range-le f a i n upto =
+    let k : n ≡ i + (n - i) = omega arith in
+    let split : sum_by f (range_with_len a n) ≡ sum_by f (range_with_len a i) + sum_by f (range_with_len (a + i) (n - i)) = ap (λ m. sum_by f (range_with_len a m)) k ∙ ap (sum_by f) (range-append a i (n - i)) ∙ sum_by-append f (range_with_len a i) (range_with_len (a + i) (n - i)) in
+    omega (arith, split)
+
+-- a strip more
+pub range-strip : (f : ℕ → ℕ) (least count : ℕ)
+    → sum_by f (range_with_len 1 (least + count)) ≡ sum_by f (range_with_len 1 least) + sum_by f (range_with_len (least + 1) count)
+range-strip f least count =
+    let e : 1 + least ≡ least + 1 = omega arith in
+    ap (sum_by f) (range-append 1 least count) ∙ sum_by-append f (range_with_len 1 least) (range_with_len (1 + least) count) ∙ rw e refl
+
+-- the sum of one lag
+pub strip-term : (d : Direction) (set : CoincidenceView) (c least i shifted pairs : ℕ) (sums : List ℕ)
+    → shifted ≡ shifted_by d set.reach (least + 1 + i) → pairs ≡ get_or sums (256 - 1 - i) 0
+    → strip_pairs d set c least sums (least + 1 + i) ≡ cond (eqb (shifted / set.width) c) (pairs * 1) 0
+strip-term d set c least i shifted pairs sums is_shifted is_pairs =
+    let place : least + 256 - (least + 1 + i) ≡ 256 - 1 - i = omega arith in
+    let once : pairs * 1 ≡ pairs = omega arith in
+    rw (place, once, is_shifted, is_pairs) refl
+
+-- the sums of a strip are those of the window
+pub strip-window : (d : Direction) (set : CoincidenceView) (c least count top : ℕ) (sums window spots : List ℕ) → count ≤ 256 → least + 256 ≤ top
+    → ((q : ℕ) → q < 256 → get_or sums q 0 ≡ sum_by (behind window (top - 256 - least + q)) spots)
+    → sum_by (strip_pairs d set c least sums) (range_with_len (least + 1) count) ≡ sum_by
+    (window_pairs d set c window top spots) (range_with_len (least + 1) count)
+strip-window d set c least count top sums window spots few below is =
+    sum_by-agree (λ lag. (least + 1 ≤ lag) × (lag < least + 1 + count)) (strip_pairs d set c least sums)
+    (window_pairs d set c window top spots) (range_with_len (least + 1) count) (range-within (least + 1) count)
+    (λ lag within.
+    let q : ℕ = least + 256 - lag in
+    let place : top - 256 - least + q ≡ top - lag = omega arith in
+    let same : get_or sums q 0 ≡ sum_by (behind window (top - lag)) spots = (rw place at (is q (omega arith))) in
+    ap (λ n. cond (eqb (shifted_by d set.reach lag / set.width) c) n 0) same)
+
+-- the pairs of a window are those with the entries in it
+pub window-lags : (d : Direction) (set : CoincidenceView) (c top low : ℕ) (window spots : List ℕ) (es later : List Entry) → set.reach ≤ top
+    → ((p : ℕ) → p < length window → get_or window p 0 ≡ weight_at (earlier_side d) top low p es)
+    → AllByRecursion (λ e. (low ≤ e.index) × (e.index - low + top ≤ length window)) later
+    → ((f : ℕ → ℕ) → sum_by f spots ≡ sum_by (λ e. f (e.index - low) * weight_of (later_side d) e) later)
+    → sum_by (window_pairs d set c window top spots) (range_with_len 1 set.reach) ≡ sum_by (lag_pairs d set c es later) (range_with_len 1 set.reach)
+window-lags d set c top low window spots es later small has near photons =
+    sum_by-agree (λ lag. (1 ≤ lag) × (lag < 1 + set.reach)) (window_pairs d set c window top spots)
+    (lag_pairs d set c es later) (range_with_len 1 set.reach) (range-within 1 set.reach)
+    (λ lag within.
+    let same : sum_by (λ (e : Entry). get_or window (e.index - low + (top - lag)) 0 * weight_of (later_side d) e) later ≡ sum_by
+    (λ e. weight_before (earlier_side d) lag e.index es * weight_of (later_side d) e) later =
+    sum_by-agree (λ e. (low ≤ e.index) × (e.index - low + top ≤ length window)) (λ e. get_or window (e.index - low + (top - lag)) 0 * weight_of (later_side d) e) (λ e. weight_before (earlier_side d) lag e.index es * weight_of (later_side d) e) later near
+    (λ e at. ap (λ n. n * weight_of (later_side d) e) (window-before (earlier_side d) window low top es has lag e.index (omega arith) at.0 (omega arith))) in
+    ap (λ n. cond (eqb (shifted_by d set.reach lag / set.width) c) n 0) (photons (behind window (top - lag)) ∙ same))
+
+-- a sum over three lists
+pub three-sums : (f : Entry → ℕ) (front back ring later : List Entry) → front ++ back ≡ ring
+    → sum_by f (ring ++ later) ≡ sum_by f front + sum_by f back + sum_by f later
+three-sums f front back ring later is =
+    sum_by-append f ring later ∙ ap (λ es. sum_by f es + sum_by f later) (sym is) ∙ ap (λ n. n + sum_by f later) (sum_by-append f front back)
+
+-- the entries that fit have few photons on each side
+pub few_later : (d : Direction) (set : CoincidenceView) (most low : ℕ) (es later : List Entry)
+    → FitsWindow set most low es later → sum_by (weight_of (later_side d)) later ≤ 256
+few_later Forward set most low es later fits = fits.seconds
+few_later Backward set most low es later fits = fits.firsts
+
+-- entries behind others rise with them
+pub rising_join : (es later : List Entry) → IsRising es → IsRising later
+    → AllByRecursion (λ l. AllByRecursion (λ e. e.index < l.index) es) later → IsRising (es ++ later)
+rising_join [] later rising rising' above = rising'
+rising_join (e ∷ es) later rising rising' above = (
+  all_join (λ f. e.index < f.index) es later rising.0
+      (all_weaker (λ l. AllByRecursion (λ f. f.index < l.index) (e ∷ es)) (λ l. e.index < l.index) (λ l all. all.0) later above),
+  rising_join es later rising.1 rising'
+      (all_weaker (λ l. AllByRecursion (λ f. f.index < l.index) (e ∷ es)) (λ l. AllByRecursion (λ f. f.index < l.index) es) (λ l all. all.1) later above),
+)

@@ -1,8 +1,8 @@
 -- What a bin brings when it is closed.
 use Rattle.std.{proofs.Common.{◌≡◌, ℕ, ◌+◌, ◌-◌, ◌*◌, ◌/◌, ◌^◌, ◌<◌, ◌≤◌, Bool, true, false, ◌&&◌, leb, eqb, cond, List, [], ◌∷◌, ◌++◌, length, get_or, refl, sym, ◌∙◌, arith, length-append, rules}, specs.List.{sum_by, filter, AllByRecursion}, proofs.Math.Nat.{mul-le-mul, mul-le-mul_right}, proofs.lemmas.Grind.common_steps}
 use Rattle.tally_base.{specs.Settings.{CoincidenceView, coincidence_cells}, specs.Tally.History, specs.Limits.record_limit}
-use Rattle.lag_ring.{specs.declared.ring.Entry.Entry, specs.Cells.Cells, specs.Ring.{Ring, ring, IsRising}, specs.Kept.{weight_where, IsInReach}, proofs.Kept.{room_after, kept_after}, proofs.Rising.all_weaker, proofs.Sums.{sum_by-same, sum_by-times, sum_by-zero}}
-use Rattle.coincidence.{specs.declared.pairing.Bin.Bin, specs.declared.pairing.Direction.Direction, specs.declared.pairing.Direction.TheVariants.{Forward, Backward}, specs.Pairs.{in_first, in_second, is_in_cell, is_coincidence, coincidences}, specs.Pairing.{pairs_of_all, pairs_with, bin_pairs, RingIs, CellsAre, CanKeep, CanShut}, proofs.Hits.{pairs_in, hits-append, pairs_in-one, pairs_in-le}, proofs.Apart.pairs_apart-in, proofs.Visits.pairs_far}
+use Rattle.lag_ring.{specs.declared.ring.Entry.Entry, specs.Cells.Cells, specs.Ring.{Ring, ring, IsRising, weight_where, IsInReach}, proofs.Kept.{room_after, kept_after}, proofs.Rising.all_weaker, proofs.Sums.{sum_by-same, sum_by-times, sum_by-zero}}
+use Rattle.coincidence.{specs.declared.pairing.Bin.Bin, specs.declared.pairing.Direction.Direction, specs.declared.pairing.Direction.TheVariants.{Forward, Backward}, specs.Pairs.{in_first, in_second, is_in_cell, is_coincidence, coincidences}, specs.Pairing.{pairs_of_all, pairs_with, bin_pairs, RingIs, CellsAre, CanKeep, CanShut}, proofs.Hits.{pairs_in, hits-append, pairs_in-one, pairs_in-le}, proofs.Mirror.pairs_apart-in, proofs.Visits.pairs_far}
 
 scaled : (b : Bool) (n w : ℕ) → cond b (n * w) 0 ≡ cond b n 0 * w
 scaled b n w = search (rules, arith)
@@ -14,8 +14,10 @@ by_weights set c later es =
     let backward : Entry → ℕ = λ e. cond (is_in_cell set c later.index e.index) (e.b * later.a) 0 in
     let firsts : Entry → ℕ = λ e. cond (is_in_cell set c e.index later.index) e.a 0 in
     let seconds : Entry → ℕ = λ e. cond (is_in_cell set c later.index e.index) e.b 0 in
-    let one : sum_by forward es ≡ sum_by firsts es * later.b = sum_by-same forward (λ e. firsts e * later.b) es (λ e. scaled (is_in_cell set c e.index later.index) e.a later.b) ∙ sum_by-times firsts later.b es in
-    let other : sum_by backward es ≡ sum_by seconds es * later.a = sum_by-same backward (λ e. seconds e * later.a) es (λ e. scaled (is_in_cell set c later.index e.index) e.b later.a) ∙ sum_by-times seconds later.a es in
+    let one : sum_by forward es ≡ sum_by firsts es * later.b =
+    sum_by-same forward (λ e. firsts e * later.b) es (λ e. scaled (is_in_cell set c e.index later.index) e.a later.b) ∙ sum_by-times firsts later.b es in
+    let other : sum_by backward es ≡ sum_by seconds es * later.a =
+    sum_by-same backward (λ e. seconds e * later.a) es (λ e. scaled (is_in_cell set c later.index e.index) e.b later.a) ∙ sum_by-times seconds later.a es in
     rw (one, other) refl
 
 forward_near : (set : CoincidenceView) (c i n : ℕ) → is_in_cell set c i n ≡ true → n ≤ i + set.reach
@@ -60,7 +62,8 @@ module _ (set : CoincidenceView) (r : Ring) (bin : Bin) (closed xs : History) (c
   entries_within = omega (arith, can.were.keeps.within, can.were.reach)
 
   -- the ring has room for the bin, and keeps it, once what is further back than the reach is gone
-  module _ (some : 0 < set.reach) (es : List Entry) (kept : es ≡ filter (λ f. leb (bin.weights.index - (set.reach - 1)) f.index) r.entries) (rising : IsRising es) where
+  module _ (some : 0 < set.reach) (es : List Entry)
+      (kept : es ≡ filter (λ f. leb (bin.weights.index - (set.reach - 1)) f.index) r.entries) (rising : IsRising es) where
     some_reach : 0 < r.reach
     some_reach = omega (arith, some, can.were.reach)
 
@@ -105,7 +108,8 @@ module _ (set : CoincidenceView) (r : Ring) (old : Cells) (bin : Bin) (closed xs
   cells_shut cells step same added = record {
     count = same ∙ can.had.count;
     pairs = λ c in_range. omega (arith, step c in_range, can.had.pairs c in_range, grown set r bin closed xs can.keep c);
-    work = rw (length-append closed xs) (more_work set.reach (length closed) (length xs) cells.added can.keep.is.weighs.some (omega (arith, added, can.had.work, entries_within set r bin closed xs can.keep)));
+    work = rw (length-append closed xs) (more_work set.reach (length closed) (length xs) cells.added can.keep.is.weighs.some
+        (omega (arith, added, can.had.work, entries_within set r bin closed xs can.keep)));
   }
 
   -- where no entry is in reach, they count those inside the bin
@@ -115,4 +119,5 @@ module _ (set : CoincidenceView) (r : Ring) (old : Cells) (bin : Bin) (closed xs
 
     pub cells_alone : (cells : Cells) → ((c : ℕ) → c < coincidence_cells set → get_or cells.cells c 0 ≡ get_or old.cells c 0 + bin_pairs set c bin [])
         → length cells.cells ≡ length old.cells → cells.added ≤ old.added + 1 → CellsAre set cells (closed ++ xs)
-    cells_alone cells step same added = cells_shut cells (λ c in_range. omega (arith, step c in_range, alone set r bin closed xs can.keep far c)) same (omega (arith, added))
+    cells_alone cells step same added =
+        cells_shut cells (λ c in_range. omega (arith, step c in_range, alone set r bin closed xs can.keep far c)) same (omega (arith, added))

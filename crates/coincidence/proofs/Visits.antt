@@ -1,8 +1,8 @@
 -- One entry more in the loops over a ring.
-use Rattle.std.{proofs.Common.{◌≡◌, ℕ, ◌+◌, ◌-◌, ◌*◌, ◌/◌, ◌<◌, ◌≤◌, eqb, cond, List, [], ◌∷◌, refl, arith, rules}, proofs.lemmas.Grind.common_steps, proofs.lemmas.List.Sums.sum_by-cons}
-use Rattle.tally_base.specs.Settings.{CoincidenceView}
-use Rattle.lag_ring.specs.declared.ring.Entry.{Entry}
-use Rattle.coincidence.{specs.declared.pairing.Direction.Direction, specs.declared.pairing.Direction.TheVariants.{Forward, Backward}, specs.Pairs.is_in_cell, specs.Pairing.{shifted_by, earlier_weight, pairs_of, pairs_of_all}}
+use Rattle.tally_base.{specs.Settings.CoincidenceView, specs.Tally.History, specs.Limits.record_limit}
+use Rattle.lag_ring.{specs.declared.ring.Entry.Entry, proofs.Rising.all_weaker, proofs.Lists.{all_back, all_join, of_some}}
+use Rattle.coincidence.{specs.declared.pairing.Direction.Direction, specs.declared.pairing.Direction.TheVariants.{Forward, Backward}, specs.Pairs.is_in_cell, specs.Pairing.{shifted_by, earlier_weight, pairs_of, pairs_of_all, joined, BinIs, PairingIs, CanShut, CanPut, CanEnd, Came}, specs.declared.pairing.Pairing.Pairing, specs.StandsFor.HasPhotons, specs.declared.pairing.Bin.Bin}
+use Rattle.std.{proofs.Common.{◌≡◌, ℕ, ◌+◌, ◌-◌, ◌*◌, ◌/◌, ◌<◌, ◌≤◌, eqb, cond, List, [], ◌∷◌, refl, arith, rules, ◌≢◌, Some, ◌++◌, length, sym, length-append, append_assoc, Bool, true, false}, proofs.lemmas.Grind.common_steps, proofs.lemmas.List.Sums.{sum_by-cons, sum_by-append}, specs.List.AllByRecursion, proofs.Math.Nat.mul-le-mul_left}
 
 module _ (set : CoincidenceView) (index : ℕ) (earlier : Entry) (after : earlier.index < index) (near : index - earlier.index ≤ set.reach) where
   in_forward : (c : ℕ) → is_in_cell set c earlier.index index ≡ eqb ((set.reach + (index - earlier.index)) / set.width) c
@@ -12,11 +12,13 @@ module _ (set : CoincidenceView) (index : ℕ) (earlier : Entry) (after : earlie
   in_backward c = search (rules, arith)
 
   -- the cells of an entry in reach
-  pub pairs_near : (d : Direction) (later c : ℕ) → pairs_of d set c index later earlier ≡ cond (eqb (shifted_by d set.reach (index - earlier.index) / set.width) c) (earlier_weight d earlier * later) 0
+  pub pairs_near : (d : Direction) (later c : ℕ)
+      → pairs_of d set c index later earlier ≡ cond (eqb (shifted_by d set.reach (index - earlier.index) / set.width) c) (earlier_weight d earlier * later) 0
   pairs_near d later c = search (rules, arith, in_forward, in_backward)
 
 -- no cell counts an entry that is out of reach
-pub pairs_far : (set : CoincidenceView) (index : ℕ) (earlier : Entry) → set.reach < index - earlier.index → (d : Direction) (later c : ℕ) → pairs_of d set c index later earlier ≡ 0
+pub pairs_far : (set : CoincidenceView) (index : ℕ) (earlier : Entry) → set.reach < index - earlier.index
+    → (d : Direction) (later c : ℕ) → pairs_of d set c index later earlier ≡ 0
 pairs_far set index earlier far d later c = search (rules, arith)
 
 div-mono-le : (k m n : ℕ) → m ≤ n → m / k ≤ n / k
@@ -34,3 +36,55 @@ pub no_pairs : (d : Direction) (set : CoincidenceView) (c index later : ℕ) →
 no_pairs d set c index later none [] = refl
 no_pairs Forward set c index later none (e ∷ es) = search (rules, arith, sum_by-cons, no_pairs Forward set c index later none es)
 no_pairs Backward set c index later none (e ∷ es) = search (rules, arith, sum_by-cons, no_pairs Backward set c index later none es)
+
+-- The additions of a table are within its work.
+
+pub work_within : (closed : Bool) (set : CoincidenceView) (p : Pairing) (came : History)
+    → HasPhotons closed set p came → p.cells.added ≤ (2 * set.reach + 1) * length came
+work_within true set p came is = is.cells.work
+work_within false set p came is = search (rules, arith, length-append, mul-le-mul_left)
+
+-- What photons that come do to the bins.
+
+module _ (set : CoincidenceView) where
+  -- two runs of photons of one tick
+  pub joined_is : (bin more : Bin) (xs ys : History) → BinIs set bin xs → BinIs set more ys
+      → bin.weights.index ≡ more.weights.index → BinIs set (joined bin more) (xs ++ ys)
+  joined_is bin more xs ys left right same = record {
+    weighs = record {
+      some = omega (arith, length-append xs ys, left.weighs.some);
+      here = all_join (λ x. x.0.time ≡ bin.weights.index) xs ys left.weighs.here (rw same right.weighs.here);
+      a = rw (left.weighs.a, right.weighs.a) (sym (sum_by-append _ xs ys));
+      b = rw (left.weighs.b, right.weighs.b) (sym (sum_by-append _ xs ys));
+    };
+    both = rw (left.both, right.both) (sym (sum_by-append _ xs ys));
+  }
+
+  -- photons of another tick come after a bin and those before it
+  pub behind_bin : (bin new : Bin) (closed open' : History) → BinIs set bin open' → AllByRecursion (λ x. x.0.time < bin.weights.index) closed → AllByRecursion (λ x. x.0.time ≤ new.weights.index) (closed ++ open') → bin.weights.index ≢ new.weights.index
+      → AllByRecursion (λ x. x.0.time < new.weights.index) (closed ++ open')
+  behind_bin bin new closed open' is before all other =
+      let back = all_back (λ x. x.0.time ≤ new.weights.index) closed open' all in
+      let upto : bin.weights.index ≤ new.weights.index =
+      of_some (λ x. x.0.time) bin.weights.index (λ m. m ≤ new.weights.index) open' is.weighs.some is.weighs.here back in
+      grind (arith, common_steps, all_join, all_weaker)
+
+  -- the open bin may be closed
+  pub may_shut : (p : Pairing) (bin : Bin) → p.open ≡ Some bin → (closed open' : History) → PairingIs set p closed open'
+      → length closed + length open' ≤ record_limit → CanShut set p.ring p.cells bin closed open'
+  may_shut p bin is closed open' was few = search (rules, arith)
+
+  module _ (p : Pairing) (bin new : Bin) (is : p.open ≡ Some bin) (closed open' xs : History) (can : CanPut set p new closed open' xs) where
+    pub can_shut : CanShut set p.ring p.cells bin closed open'
+    can_shut = may_shut p bin is closed open' can.was (omega (arith, can.few))
+
+    -- photons of its own tick join it
+    pub joins : bin.weights.index ≡ new.weights.index → Came set (record p { «open» = Some (joined bin new) }) ((closed ++ open') ++ xs)
+    joins same = grind (arith, common_steps, append_assoc closed open' xs, joined_is bin new open' xs can_shut.keep.is can.is same)
+
+    -- those of another tick come after all that came
+    pub moved_on : bin.weights.index ≢ new.weights.index → AllByRecursion (λ x. x.0.time < new.weights.index) (closed ++ open')
+    moved_on other = behind_bin bin new closed open' can_shut.keep.is can_shut.keep.after can.after other
+
+  pub end_shut : (p : Pairing) (bin : Bin) → p.open ≡ Some bin → (came : History) (can : CanEnd set p came) → CanShut set p.ring p.cells bin can.was.0 can.was.1
+  end_shut p bin is came can = search (rules, arith, may_shut, length-append)

@@ -1,7 +1,7 @@
 -- Bins that are closed together.
 use Rattle.std.{specs.Prelude.{◌≡◌, ℕ, ◌+◌, ◌-◌, ◌^◌, ◌<◌, ◌≤◌, ◌==◌, ◌/◌, ◌*◌, ◌%◌, slice_index, Option, List, [], ◌∷◌, ◌++◌, length, map, sum_by, if◌then◌else◌}, specs.List.{AllByRecursion, range_with_len}}
 use Rattle.tally_base.{specs.Settings.CoincidenceView, specs.Tally.History, specs.Limits.record_limit}
-use Rattle.lag_ring.{specs.declared.ring.Entry.Entry, specs.declared.window.Side.Side, specs.declared.window.Side.TheVariants.{First, Second}, specs.Cells.Cells, specs.Ring.Ring, specs.Window.{weight_of, weight_at, weight_before}, specs.Bytes.{IsLight, behind}}
+use Rattle.lag_ring.{specs.declared.ring.Entry.Entry, specs.declared.window.Side.Side, specs.declared.window.Side.TheVariants.{First, Second}, specs.Cells.Cells, specs.Ring.Ring, specs.Bytes.{weight_of, weight_at, weight_before, IsLight, behind}}
 use Rattle.coincidence.{specs.declared.pairing.Bin.Bin, specs.declared.pairing.Direction.Direction, specs.declared.pairing.Direction.TheVariants.{Forward, Backward}, specs.Pairing.{BinIs, OpenIs, RingIs, CellsAre, bin_pairs, shifted_by}}
 
 -- the entries of bins
@@ -85,13 +85,6 @@ pub record IsOpenFor (reach top low : ℕ) (window : List ℕ) (later : List Ent
   pub lags : (reach ≤ top) × (top ≤ 4096) × (top % 256 ≡ 0)
   pub wide : top ≤ length window
   pub near : AllByRecursion (λ e. (low ≤ e.index) × (e.index - low + top ≤ length window)) later
-
--- A window serves photons at some spots up to the greatest lag: its places have few photons each, and so many lags have a place behind each spot.
-pub record ServesSpots (most top : ℕ) (window spots : List ℕ) : Type 0 where
-  pub weighed : (0 < most) × (most ≤ 255)
-  pub light : (p : ℕ) → p < length window → slice_index window p ≤ most
-  pub few : length spots ≤ 256
-  pub near : AllByRecursion (λ s. s + top ≤ length window) spots
 
 module _ (set : CoincidenceView) where
   -- photons came: those of closed bins, and behind them those of the gathered ones and of the open one

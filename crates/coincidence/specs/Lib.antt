@@ -1,13 +1,8 @@
 pub mod Intervals
 pub mod StartStop
-pub mod Laws
-pub mod Places
 pub mod Pairs
 pub mod Pairing
 pub mod StandsFor
 pub mod Coincidence
-pub mod CoincidenceLaws
-pub mod Ends
 pub mod Starts
-pub mod Counted
 pub mod Closing

@@ -1,7 +1,7 @@
 -- What the bins and cells of a table of coincidences stand for: photons that came in order, and how far they are paired.
 use Rattle.std.{specs.Prelude.{◌≡◌, ℕ, ◌+◌, ◌-◌, ◌*◌, ◌/◌, ◌^◌, ◌<◌, ◌≤◌, Bool, ◌&&◌, ◌==◌, Option, None, Some, List, [], ◌++◌, length, slice_index, sum_by, count_by, if◌then◌else◌}, specs.List.{AllByRecursion}}
 use Rattle.tally_base.{specs.Settings.{CoincidenceView, coincidence_cells}, specs.Tally.History, specs.Limits.record_limit}
-use Rattle.lag_ring.{specs.declared.ring.Entry.Entry, specs.Cells.Cells, specs.Ring.Ring, specs.Kept.{Weighs, Keeps}}
+use Rattle.lag_ring.{specs.declared.ring.Entry.Entry, specs.Cells.Cells, specs.Ring.{Ring, Weighs, Keeps}}
 use Rattle.coincidence.{specs.declared.pairing.Bin.Bin, specs.declared.pairing.Direction.Direction, specs.declared.pairing.Direction.TheVariants.{Forward, Backward}, specs.declared.pairing.Pairing.Pairing, specs.Pairs.{in_first, in_second, is_in_cell, coincidences}}
 
 -- how many photons of an earlier entry are in the group of the earlier photon

@@ -1,6 +1,6 @@
 -- What the fields of a table of coincidences stand for.
 use Rattle.std.specs.Prelude.{◌≡◌, ℕ, ◌+◌, ◌<◌, ◌≤◌, Bool, true, false, IsTrue, Option, List, ◌++◌, length}
-use Rattle.tally_base.{specs.declared.event.Event.Event, specs.Events.is_photon, specs.Settings.CoincidenceView, specs.Tally.{History, greatest_time}, specs.Limits.record_limit, specs.Floors.InOrder}
+use Rattle.tally_base.{specs.declared.event.Event.Event, specs.Events.is_photon, specs.Settings.CoincidenceView, specs.Tally.{History, greatest_time, InOrder}, specs.Limits.record_limit}
 use Rattle.lag_ring.{specs.Cells.Cells, specs.Ring.Ring}
 use Rattle.coincidence.{specs.declared.pairing.Bin.Bin, specs.declared.pairing.Pairing.Pairing, specs.Pairs.photons_of_groups, specs.Pairing.{Came, PairingDone, pairing_of}, specs.Closing.Gathered}
 

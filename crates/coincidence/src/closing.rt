@@ -1,13 +1,13 @@
 // Bins that are closed together.
 ghost use Rattle.std.{specs.Prelude.{◌≡◌, ℕ, ◌+◌, ◌-◌, ◌^◌, ◌<◌, ◌≤◌, ◌++◌, [], IsTrue, length, slice_index, sum_by}, specs.List.{AllByRecursion}};
 ghost use Rattle.tally_base.{specs.Settings.{coincidence_view, coincidence_cells}, specs.Tally.History};
-ghost use Rattle.lag_ring.{specs.Ring.IsRising, specs.Window.weight_of, specs.Bytes.IsLight, specs.Cells.Spends};
+ghost use Rattle.lag_ring.{specs.Ring.IsRising, specs.Bytes.{weight_of, IsLight}, specs.Cells.Spends};
 ghost use Rattle.coincidence.{specs.Pairing.{RingIs, CellsAre, bin_pairs, HasRoom, CountsMore}, specs.Closing.{weights_in, BinsAre, CanKeepAll, CanShutAll, FitsWindow}};
 
-use crate::lags::{MOST_SPOTS, TOP, are_near, pair_lags};
+use crate::lags::{TOP, are_near, pair_lags};
 use crate::pairing::{Bin, keep, pair_inside, shut};
 use arrayvec::ArrayVec;
-use lag_ring::{Entry, LagRing, RowCells, Side, total_weight, weight_bound};
+use lag_ring::{Entry, LagRing, MOST_SPOTS, RowCells, Side, total_weight, weight_bound};
 use std::sync::ledger::Ledger;
 use tally_base::{CoincidenceSet, Steps};
 

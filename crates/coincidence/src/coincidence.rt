@@ -1,6 +1,6 @@
 // A table of the pairs of photons of two groups by the difference of their times.
-ghost use Rattle.std.specs.Prelude.{◌≡◌, ◌+◌, ◌≤◌, [], false};
-ghost use Rattle.tally_base.{specs.Settings.coincidence_view, specs.Tally.History, specs.Limits.record_limit};
+ghost use Rattle.std.specs.Prelude.{◌≡◌, ◌+◌, ◌≤◌, [], false, ◌<◌, IfOk, slice_index, true};
+ghost use Rattle.tally_base.{specs.Settings.{coincidence_view, coincidence_cells}, specs.Tally.History, specs.Limits.record_limit, specs.Settings.PartSettings.CoincidenceSettings};
 ghost use Rattle.coincidence.specs.StandsFor.{StandsFor};
 
 use crate::pairing::{Pairing, cells_of};
@@ -28,8 +28,6 @@ pub struct Coincidence {
 }
 
 impl Coincidence {
-    ghost use Rattle.std.specs.Prelude.{◌<◌, IfOk, slice_index, true};
-    ghost use Rattle.tally_base.{specs.Settings.coincidence_cells, specs.Settings.PartSettings.CoincidenceSettings};
     ghost use Rattle.coincidence.{specs.Coincidence.{Holds, set_of, settings, cells_in, spent_by}, specs.Pairs.{coincidences, work}};
 
     /// A table of no events, with all the memory that it ever takes, or `AllocError` where it is wanting.
@@ -82,7 +80,7 @@ impl Coincidence {
 
 impl Tally for Coincidence {
     ghost use Rattle.std.specs.Prelude.{◌≡◌, ◌+◌, ◌<◌, ◌≤◌, [], true, false};
-    ghost use Rattle.coincidence.{specs.Coincidence.{Holds, set_of, settings, held, spent_by}, specs.CoincidenceLaws.{taken_is, floor_is, within_bound, marker_groups}};
+    ghost use Rattle.coincidence.specs.Coincidence.{Holds, set_of, settings, held, spent_by, within_bound, marker_groups};
 
     ghost holds = { Holds };
 
@@ -100,9 +98,9 @@ impl Tally for Coincidence {
 
     ghost same_set = { λ old new. set_of new ≡ set_of old };
 
-    ghost taken_is = { taken_is };
+    ghost taken_is = { λ t h is. is.taken };
 
-    ghost floor_is = { floor_is };
+    ghost floor_is = { λ t h is. is.floor };
 
     ghost within = { within_bound };
 

@@ -1,13 +1,11 @@
 // Pairs of many bins at once, lag by lag.
 ghost use Rattle.std.{specs.Prelude.{◌≡◌, ℕ, ◌+◌, ◌-◌, ◌*◌, ◌%◌, ◌^◌, ◌<◌, ◌≤◌, ◌++◌, IsTrue, length, slice_index, sum_by}, specs.List.{AllByRecursion}};
 ghost use Rattle.tally_base.specs.Settings.{coincidence_view, coincidence_cells};
-ghost use Rattle.arrayvec.specs.ArrayVec.{array_vec_len};
-ghost use Rattle.lag_ring.{specs.Window.weight_of, specs.Cells.Spends, specs.Bytes.{BothFit, BothHave}};
-ghost use Rattle.coincidence.{specs.declared.pairing.Direction.TheVariants.{Forward, Backward}, specs.Pairing.{HasRoom, CountsMore}, specs.Closing.{earlier_side, later_side, strip_sum, window_sum, lag_sum, both_lag_sums, FitsWindow, IsOpenFor, IsLow, IsEmpty, Weighs, ServesSpots}};
+ghost use Rattle.lag_ring.{specs.Cells.Spends, specs.Bytes.{BothFit, BothHave, ServesSpots}};
+ghost use Rattle.coincidence.{specs.declared.pairing.Direction.TheVariants.{Forward, Backward}, specs.Pairing.{HasRoom, CountsMore}, specs.Closing.{earlier_side, later_side, strip_sum, window_sum, lag_sum, both_lag_sums, FitsWindow, IsOpenFor, IsLow, IsEmpty, Weighs}};
 
 use crate::pairing::{Direction, add_pairs};
-use arrayvec::ArrayVec;
-use lag_ring::{BYTE_LAGS, Entry, LagRing, RowCells, Side, byte_lag_sums, put_bytes};
+use lag_ring::{BYTE_LAGS, Entry, LagRing, RowCells, Side, byte_lag_sums, put_bytes, spots_of};
 use std::sync::ledger::Ledger;
 use tally_base::{CoincidenceSet, Steps};
 
@@ -20,8 +18,16 @@ const SHORT: u32 = 512;
 /// How many ticks later bins may span where a window has few places for them.
 const CLOSE: u32 = 1024;
 
-/// How many photons later entries have at most on a side.
-pub(crate) const MOST_SPOTS: usize = 256;
+/// Windows in which later entries, and all that they reach, have their places.
+#[derive(Clone, Copy)]
+pub(crate) struct Places {
+    /// The least index of the later ones.
+    pub(crate) low: u64,
+    /// A number that no place has more photons of either group than.
+    pub(crate) most: usize,
+    /// How many lags before the first place a window has.
+    pub(crate) top: u32,
+}
 
 /// Adds the sums of the lags from `least + 1` to `least + count` to the cells of their differences,
 /// where a cell is one tick. That of a lag stands at `least + BYTE_LAGS - lag`.
@@ -131,7 +137,7 @@ fn pair_strip<L: Ledger>(
     ensures spends { Spends cells.old cells.new steps.old steps.new count }
 {
     let from = top as usize - BYTE_LAGS - least as usize;
-    let sums = byte_lag_sums(window, most, from, spots);
+    let sums = byte_lag_sums::<BYTE_LAGS>(window, most, from, spots);
     add_sums(cells, set, direction, least, count, &sums, steps);
 }
 
@@ -162,37 +168,6 @@ fn pair_window<L: Ledger>(
             cells, set, direction, least, count, top, most, window, spots, steps,
         );
     }
-}
-
-/// Puts a spot behind others so many times.
-#[inline(always)]
-fn put_spot(spots: &mut ArrayVec<u16, MOST_SPOTS>, spot: u16, times: u64)
-    requires room { array_vec_len spots.old + times ≤ MOST_SPOTS }
-    ensures sums { (f : ℕ → ℕ) → sum_by f spots.new.items ≡ sum_by f spots.old.items + f spot * times }
-    ensures len { array_vec_len spots.new ≡ array_vec_len spots.old + times }
-    ensures within { (n : ℕ) → spot ≤ n → AllByRecursion (λ s. s ≤ n) spots.old.items
-        → AllByRecursion (λ s. s ≤ n) spots.new.items }
-{
-    for _time in 0..times {
-        spots.push(spot);
-    }
-}
-
-/// The spot of each photon that entries have on one side, in a window that begins at `low`.
-fn spots_of(side: Side, low: u64, entries: &[Entry]) -> ArrayVec<u16, MOST_SPOTS>
-    requires near { AllByRecursion (λ e. (low ≤ e.index) × (e.index - low < TOP)) entries.now }
-    requires few { sum_by (weight_of side) entries.now ≤ MOST_SPOTS }
-    ensures sums { (f : ℕ → ℕ) → sum_by f result.items
-        ≡ sum_by (λ e. f (e.index - low) * weight_of side e) entries.now }
-    ensures few { array_vec_len result ≤ MOST_SPOTS }
-    ensures within { (n : ℕ) → AllByRecursion (λ e. e.index - low ≤ n) entries.now
-        → AllByRecursion (λ s. s ≤ n) result.items }
-{
-    let mut spots = ArrayVec::new();
-    for entry in entries {
-        put_spot(&mut spots, (entry.index - low) as u16, side.weight(entry));
-    }
-    spots
 }
 
 /// Adds the weights of the entries in a ring and of later ones to two windows.
@@ -233,18 +208,16 @@ fn pair_side<L: Ledger>(
     set: CoincidenceSet,
     direction: Direction,
     side: Side,
-    low: u64,
     later: &[Entry],
-    top: u32,
-    most: usize,
+    places: Places,
     window: &[u8],
     steps: &mut Steps<L>,
 )
     requires sized { length cells.old.cells ≡ coincidence_cells (coincidence_view set) }
-    requires photons { FitsWindow (coincidence_view set) most low ring.now.entries later.now
-        × IsLow most low (ring.now.entries ++ later.now) × (side ≡ later_side direction) }
-    requires opens { IsOpenFor set.reach top low window.now later.now }
-    requires has { Weighs (earlier_side direction) top low window.now
+    requires photons { FitsWindow (coincidence_view set) places.most places.low ring.now.entries later.now
+        × IsLow places.most places.low (ring.now.entries ++ later.now) × (side ≡ later_side direction) }
+    requires opens { IsOpenFor set.reach places.top places.low window.now later.now }
+    requires has { Weighs (earlier_side direction) places.top places.low window.now
         (ring.now.entries ++ later.now) }
     requires fits { HasRoom (coincidence_view set) cells.old
         (λ c. lag_sum direction (coincidence_view set) c (ring.now.entries ++ later.now) later.now) }
@@ -252,6 +225,7 @@ fn pair_side<L: Ledger>(
         (λ c. lag_sum direction (coincidence_view set) c (ring.now.entries ++ later.now) later.now) }
     ensures spends { Spends cells.old cells.new steps.old steps.new set.reach }
 {
+    let Places { low, most, top } = places;
     let spots = spots_of(side, low, later);
     pair_window(cells, set, direction, top, most, window, &spots, steps);
 }
@@ -261,19 +235,17 @@ fn pair_over<L: Ledger>(
     cells: &mut RowCells,
     ring: &LagRing,
     set: CoincidenceSet,
-    low: u64,
     later: &[Entry],
-    top: u32,
-    most: usize,
+    places: Places,
     firsts: &mut [u8],
     seconds: &mut [u8],
     steps: &mut Steps<L>,
 )
     requires sized { length cells.old.cells ≡ coincidence_cells (coincidence_view set) }
-    requires photons { FitsWindow (coincidence_view set) most low ring.now.entries later.now
-        × IsLow most low (ring.now.entries ++ later.now) }
-    requires opens { IsOpenFor set.reach top low firsts.old later.now
-        × IsOpenFor set.reach top low seconds.old later.now }
+    requires photons { FitsWindow (coincidence_view set) places.most places.low ring.now.entries later.now
+        × IsLow places.most places.low (ring.now.entries ++ later.now) }
+    requires opens { IsOpenFor set.reach places.top places.low firsts.old later.now
+        × IsOpenFor set.reach places.top places.low seconds.old later.now }
     requires empty { IsEmpty firsts.old × IsEmpty seconds.old
         × (length seconds.old ≡ length firsts.old) }
     requires fits { HasRoom (coincidence_view set) cells.old
@@ -282,32 +254,15 @@ fn pair_over<L: Ledger>(
         (λ c. both_lag_sums (coincidence_view set) c (ring.now.entries ++ later.now) later.now) }
     ensures spends { Spends cells.old cells.new steps.old steps.new (2 * set.reach) }
 {
+    let Places { low, top, .. } = places;
     fill(firsts, seconds, top, ring, low, later);
+    let (forward, backward) = (Direction::Forward, Direction::Backward);
+    let (first, second) = (Side::First, Side::Second);
     pair_side(
-        cells,
-        ring,
-        set,
-        Direction::Forward,
-        Side::Second,
-        low,
-        later,
-        top,
-        most,
-        firsts,
-        steps,
+        cells, ring, set, forward, second, later, places, firsts, steps,
     );
     pair_side(
-        cells,
-        ring,
-        set,
-        Direction::Backward,
-        Side::First,
-        low,
-        later,
-        top,
-        most,
-        seconds,
-        steps,
+        cells, ring, set, backward, first, later, places, seconds, steps,
     );
 }
 
@@ -330,47 +285,20 @@ pub(crate) fn pair_lags<L: Ledger>(
         (λ c. both_lag_sums (coincidence_view set) c (ring.now.entries ++ later.now) later.now) }
     ensures spends { Spends cells.old cells.new steps.old steps.new (2 * set.reach) }
 {
+    let short = Places {
+        low,
+        most,
+        top: SHORT,
+    };
+    let long = Places { top: TOP, ..short };
     if set.reach <= SHORT && are_near(low, SHORT, later) {
-        let (mut firsts, mut seconds) = ([0; 1024], [0; 1024]);
-        pair_over(
-            cells,
-            ring,
-            set,
-            low,
-            later,
-            SHORT,
-            most,
-            &mut firsts,
-            &mut seconds,
-            steps,
-        );
+        let (mut a, mut b) = ([0; 1024], [0; 1024]);
+        pair_over(cells, ring, set, later, short, &mut a, &mut b, steps);
     } else if are_near(low, CLOSE, later) {
-        let (mut firsts, mut seconds) = ([0; 5120], [0; 5120]);
-        pair_over(
-            cells,
-            ring,
-            set,
-            low,
-            later,
-            TOP,
-            most,
-            &mut firsts,
-            &mut seconds,
-            steps,
-        );
+        let (mut a, mut b) = ([0; 5120], [0; 5120]);
+        pair_over(cells, ring, set, later, long, &mut a, &mut b, steps);
     } else {
-        let (mut firsts, mut seconds) = ([0; 8192], [0; 8192]);
-        pair_over(
-            cells,
-            ring,
-            set,
-            low,
-            later,
-            TOP,
-            most,
-            &mut firsts,
-            &mut seconds,
-            steps,
-        );
+        let (mut a, mut b) = ([0; 8192], [0; 8192]);
+        pair_over(cells, ring, set, later, long, &mut a, &mut b, steps);
     }
 }

@@ -1,5 +1,5 @@
 // The bins of a table of coincidences, the ring of the last closed ones, and the cells.
-ghost use Rattle.std.{specs.Prelude.{◌≡◌, ℕ, ◌+◌, ◌-◌, ◌*◌, ◌/◌, ◌^◌, ◌<◌, ◌≤◌, [], ◌++◌, length, slice_index, if◌then◌else◌, ◌==◌, nat_le}, specs.List.{AllByRecursion}};
+ghost use Rattle.std.{specs.Prelude.{◌≡◌, ℕ, ◌+◌, ◌-◌, ◌*◌, ◌/◌, ◌^◌, ◌<◌, ◌≤◌, [], ◌++◌, length, slice_index, if◌then◌else◌, ◌==◌, nat_le, IfOk, None}, specs.List.AllByRecursion};
 ghost use Rattle.tally_base.{specs.Settings.{coincidence_view, coincidence_cells}, specs.Tally.History};
 ghost use Rattle.lag_ring.specs.Cells.{Spends};
 ghost use Rattle.coincidence.specs.Pairing.{pairs_of, pairs_of_all, pairs_with, bin_pairs, pairing_of, RingIs, CellsAre, CanKeep, CanShut, CanPut, Puts, HasRoom, CountsMore};
@@ -19,7 +19,6 @@ pub struct Bin {
 }
 
 impl Bin {
-    ghost use Rattle.std.specs.Prelude.{◌≡◌, ◌+◌, ◌^◌, ◌<◌};
     ghost use Rattle.coincidence.specs.Pairing.{bin_of, joined};
 
     /// The bin of one photon, which is in the first group, the second, or both.
@@ -64,7 +63,6 @@ pub enum Direction {
 }
 
 impl Direction {
-    ghost use Rattle.std.specs.Prelude.{◌≡◌, ◌≤◌};
     ghost use Rattle.coincidence.specs.Pairing.{earlier_weight, shifted_by};
 
     /// How many photons of an entry are the earlier ones of pairs.
@@ -449,7 +447,6 @@ pub(crate) fn put<L: Ledger>(
 }
 
 impl Pairing {
-    ghost use Rattle.std.specs.Prelude.{◌++◌, IfOk, None};
     ghost use Rattle.coincidence.specs.Pairing.{PairingIs, PairingDone, CanPut, CanEnd, Came};
 
     /// No bins, with all the memory that they and the cells ever take, or `AllocError` where it is

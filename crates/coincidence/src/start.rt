@@ -1,6 +1,6 @@
 // The start of an interval.
 ghost use Rattle.std.specs.Prelude.{◌≡◌, ◌≤◌, None, Some, if◌then◌else◌};
-ghost use Rattle.coincidence.{specs.Ends.ended, specs.Starts.{start_in, since_in}};
+ghost use Rattle.coincidence.specs.Starts.{ended, start_in, since_in};
 
 /// The last photon of either group, where it is in the start group.
 ///

@@ -1,7 +1,7 @@
 // A table of the times from a photon of one group to the next of another.
-ghost use Rattle.std.specs.Prelude.{◌≡◌, ◌+◌, ◌≤◌, vec_len, sum};
+ghost use Rattle.std.specs.Prelude.{◌≡◌, ◌+◌, ◌≤◌, vec_len, sum, ◌<◌, length, IfOk, [], false};
+ghost use Rattle.tally_base.{specs.Tally.History, specs.Settings.startstop_view, specs.Settings.PartSettings.StartStopSettings};
 ghost use Rattle.coincidence.specs.Starts.{since_in};
-ghost use Rattle.tally_base.specs.Tally.{History};
 
 use crate::counting::count_block;
 use crate::start::{Start, no_start};
@@ -31,8 +31,6 @@ pub struct StartStop {
 }
 
 impl StartStop {
-    ghost use Rattle.std.specs.Prelude.{◌<◌, length, IfOk, [], false};
-    ghost use Rattle.tally_base.{specs.Settings.startstop_view, specs.Settings.PartSettings.StartStopSettings};
     ghost use Rattle.coincidence.{specs.Intervals.{in_interval, count_over}, specs.StartStop.{Holds, set_of}};
 
     /// A table of no events, with all the memory that it ever takes.
@@ -81,7 +79,7 @@ impl StartStop {
 
 impl Tally for StartStop {
     ghost use Rattle.std.specs.Prelude.{◌+◌, length};
-    ghost use Rattle.coincidence.{specs.StartStop.{Holds, set_of, settings}, specs.Laws.{taken_is, floor_is, within_bound, marker_groups}};
+    ghost use Rattle.coincidence.specs.StartStop.{Holds, set_of, settings, within_bound, marker_groups};
 
     ghost holds = { Holds };
 
@@ -97,9 +95,9 @@ impl Tally for StartStop {
 
     ghost same_set = { λ old new. set_of new ≡ set_of old };
 
-    ghost taken_is = { taken_is };
+    ghost taken_is = { λ t h is. is.taken };
 
-    ghost floor_is = { floor_is };
+    ghost floor_is = { λ t h is. is.floor };
 
     ghost within = { within_bound };
 

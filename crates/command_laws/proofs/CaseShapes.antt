@@ -5,9 +5,9 @@ use Rattle.tally_base.{specs.declared.fault.Fault.Fault, specs.declared.header.H
 use Rattle.bench_io.specs.Inputs.{File}
 use Rattle.ptu_definitions.specs.Headers.{header_answer}
 use Rattle.plan_text.{specs.Plan.{PlanView, plan}, specs.Reading.plan_answer, specs.Fits.fits, proofs.Called.{called, valid, answers, plans}, proofs.Misfits.{misfit_named, is_first}}
-use Rattle.command_work.{specs.Outcomes.{Outcome, refused, written}, specs.Behaviours.{Work, Behaviour, NoCommand, Alone, OnFile, ByPlan}, specs.Endings.{on_file, unless, by_plan, outcome}}
+use Rattle.command_work.{specs.Outcomes.{Outcome, refused, written, StatusIn}, specs.Behaviours.{Work, Behaviour, NoCommand, Alone, OnFile, ByPlan}, specs.Endings.{on_file, unless, by_plan, outcome}}
 use Rattle.file_work.specs.FileOutcomes.{header_outcome}
-use Rattle.command_laws.{specs.Cases.{FileCase, HeaderCase, PrintCase}, specs.CommandCases.{RecordCases, Need, Needs, CommandCases, BadWords, Writes, ReadsHeader, ReadsRecords, ReadsByPlan, Has, Lacks, SuitCase, NeedCase, PlanCase, ShapeCase}, specs.Causes.{EndsCut, StatusIn}, proofs.FaultStatuses.some-same, proofs.CaseSteps.{Answer, file-holds, file-only, header-holds, header-only, not_fit}, proofs.Prints.{print-holds, print-only}}
+use Rattle.command_laws.{specs.Cases.{FileCase, HeaderCase, PrintCase}, specs.CommandCases.{RecordCases, Need, Needs, CommandCases, BadWords, Writes, ReadsHeader, ReadsRecords, ReadsByPlan, Has, Lacks, SuitCase, NeedCase, PlanCase, ShapeCase}, specs.Causes.EndsCut, proofs.FaultStatuses.some-same, proofs.CaseSteps.{Answer, file-holds, file-only, header-holds, header-only, not_fit}, proofs.Prints.{print-holds, print-only}}
 
 -- what records end a run with a fault for
 pub data Call : Type 0 where
@@ -24,10 +24,14 @@ CallsBy IsLate = λ records. records.too_late_for
 pub record RecordsMeet (further : ℕ → Type 0) (records : RecordCases) (end_of : Header → List ℕ → Outcome) : Type 0 where
   pub holds : (header : Header) (behind : List ℕ) → records.ends header behind (end_of header behind)
   pub only : (header : Header) (behind : List ℕ) (end : Outcome) → records.ends header behind end → end_of header behind ≡ end
-  pub cause : (header : Header) (behind : List ℕ) (end : Outcome) (fault : Fault) → records.ends header behind end → end.fault ≡ Some fault → (call : Call) × CallsBy call records header behind fault
-  pub ends : (call : Call) (header : Header) (behind : List ℕ) (fault : Fault) → CallsBy call records header behind fault → (end : Outcome) × records.ends header behind end × (end.fault ≡ Some fault)
-  pub refuses_status : (header : Header) (behind : List ℕ) (fault : Fault) → records.refuses header behind fault → StatusIn 18 21 fault × further (status_of fault)
-  pub late_status : (header : Header) (behind : List ℕ) (fault : Fault) → records.too_late_for header behind fault → StatusIn 24 24 fault × further (status_of fault)
+  pub cause : (header : Header) (behind : List ℕ) (end : Outcome) (fault : Fault) → records.ends header behind end
+      → end.fault ≡ Some fault → (call : Call) × CallsBy call records header behind fault
+  pub ends : (call : Call) (header : Header) (behind : List ℕ) (fault : Fault) → CallsBy call records header behind fault
+      → (end : Outcome) × records.ends header behind end × (end.fault ≡ Some fault)
+  pub refuses_status : (header : Header) (behind : List ℕ) (fault : Fault)
+      → records.refuses header behind fault → StatusIn 18 21 fault × further (status_of fault)
+  pub late_status : (header : Header) (behind : List ℕ) (fault : Fault)
+      → records.too_late_for header behind fault → StatusIn 24 24 fault × further (status_of fault)
 
 -- the same of a work that begins with a header
 pub record FileMeets (further : ℕ → Type 0) (records : RecordCases) (work : Work) : Type 0 where
@@ -56,10 +60,12 @@ pub record NeedMeets (further : ℕ → Type 0) (need : Need) (lacks : PlanView 
 
 -- A plan has what is needed, or its lack is its fault.
 pub needs-by : (further : ℕ → Type 0) (has : PlanView → Type 0) (lack : Fault) (lacks : PlanView → Option Fault)
-    → ((view : PlanView) → (has view × (lacks view ≡ None)) ⊎ ((has view → ⊥) × (lacks view ≡ Some lack))) → StatusIn 22 23 lack × further (status_of lack) → NeedMeets further (Needs has lack) lacks
+    → ((view : PlanView) → (has view × (lacks view ≡ None)) ⊎ ((has view → ⊥) × (lacks view ≡ Some lack)))
+    → StatusIn 22 23 lack × further (status_of lack) → NeedMeets further (Needs has lack) lacks
 needs-by further has lack lacks decides status = search (rules, arith, some-same)
 
-pub record PlanMeets (further : ℕ → Type 0) (need : Need) (records : PlanView → RecordCases) (lacks : PlanView → Option Fault) (work : PlanView → Work) : Type 0 where
+pub record PlanMeets (further : ℕ → Type 0) (need : Need) (records : PlanView
+    → RecordCases) (lacks : PlanView → Option Fault) (work : PlanView → Work) : Type 0 where
   pub needs : NeedMeets further need lacks
   pub works : (view : PlanView) → Has need view → PlannedMeets further (records view) view (work view)
 
@@ -84,23 +90,27 @@ module _ (work : Work) (told : (bytes : List ℕ) → work.outcome bytes ≡ hea
 module _ (further : ℕ → Type 0) (records : RecordCases) (work : Work) (told : FileMeets further records work) (data_file : File) where
   records-hold : FileCase (HeaderCase records.ends) data_file (on_file work data_file)
   records-hold =
-      file-holds work (HeaderCase records.ends) (λ bytes. subst (HeaderCase records.ends bytes) (sym (told.is bytes)) (header-holds told.end_of records.ends told.fails told.told.holds bytes)) data_file
+      file-holds work (HeaderCase records.ends) (λ bytes. subst (HeaderCase records.ends bytes)
+      (sym (told.is bytes)) (header-holds told.end_of records.ends told.fails told.told.holds bytes)) data_file
 
   records-only : (end : Outcome) → FileCase (HeaderCase records.ends) data_file end → on_file work data_file ≡ end
-  records-only end h = file-only work (HeaderCase records.ends) (λ bytes end h. told.is bytes ∙ header-only told.end_of records.ends told.fails told.told.only bytes end h) data_file end h
+  records-only end h = file-only work (HeaderCase records.ends)
+      (λ bytes end h. told.is bytes ∙ header-only told.end_of records.ends told.fails told.told.only bytes end h) data_file end h
 
 -- ## By a plan
 
 module _ (further : ℕ → Type 0) (records : RecordCases) (view : PlanView) (work : Work) (told : PlannedMeets further records view work) where
   suit-holds : (header : Header) (behind : List ℕ) → SuitCase view records.ends header behind (told.end_of (Ok (header, behind)))
-  suit-holds header behind = subst (SuitCase view records.ends header behind) (sym (told.headed header behind)) (by (fits (mode_of header.record_type) view) refl)
+  suit-holds header behind =
+      subst (SuitCase view records.ends header behind) (sym (told.headed header behind)) (by (fits (mode_of header.record_type) view) refl)
     where
       by : (r : Result (Unit {0}) Fault) → fits (mode_of header.record_type) view ≡ r → SuitCase view records.ends header behind (told.fit_of header behind r)
       by (Err fault) e = inl (fault, misfit_named (mode_of header.record_type) view fault e, told.misfit header behind fault)
       by (Ok done) e = inr (λ fault misfit. not_fit fault (sym e ∙ is_first (mode_of header.record_type) view fault misfit), told.told.holds header behind)
 
   suit-only : (header : Header) (behind : List ℕ) (end : Outcome) → SuitCase view records.ends header behind end → told.end_of (Ok (header, behind)) ≡ end
-  suit-only header behind end (inl h) = told.headed header behind ∙ ap (told.fit_of header behind) (is_first (mode_of header.record_type) view h.0 h.1) ∙ told.misfit header behind h.0 ∙ sym h.2
+  suit-only header behind end (inl h) =
+      told.headed header behind ∙ ap (told.fit_of header behind) (is_first (mode_of header.record_type) view h.0 h.1) ∙ told.misfit header behind h.0 ∙ sym h.2
   suit-only header behind end (inr h) = told.headed header behind ∙ by (fits (mode_of header.record_type) view) refl
     where
       by : (r : Result (Unit {0}) Fault) → fits (mode_of header.record_type) view ≡ r → told.fit_of header behind r ≡ end
@@ -110,14 +120,16 @@ module _ (further : ℕ → Type 0) (records : RecordCases) (view : PlanView) (w
   planned-holds : (data_file : File) → FileCase (HeaderCase (SuitCase view records.ends)) data_file (on_file work data_file)
   planned-holds data_file =
       let case = SuitCase view records.ends in
-      file-holds work (HeaderCase case) (λ bytes. subst (HeaderCase case bytes) (sym (told.is bytes)) (header-holds told.end_of case told.fails suit-holds bytes)) data_file
+      file-holds work (HeaderCase case)
+      (λ bytes. subst (HeaderCase case bytes) (sym (told.is bytes)) (header-holds told.end_of case told.fails suit-holds bytes)) data_file
 
   planned-only : (data_file : File) (end : Outcome) → FileCase (HeaderCase (SuitCase view records.ends)) data_file end → on_file work data_file ≡ end
   planned-only data_file end h =
       let case = SuitCase view records.ends in
       file-only work (HeaderCase case) (λ bytes end h. told.is bytes ∙ header-only told.end_of case told.fails suit-only bytes end h) data_file end h
 
-module _ (further : ℕ → Type 0) (need : Need) (records : PlanView → RecordCases) (lacks : PlanView → Option Fault) (work : PlanView → Work) (told : PlanMeets further need records lacks work) where
+module _ (further : ℕ → Type 0) (need : Need) (records : PlanView → RecordCases) (lacks : PlanView
+    → Option Fault) (work : PlanView → Work) (told : PlanMeets further need records lacks work) where
   need-holds : (view : PlanView) (data_file : File) → NeedCase need (records view) view data_file (unless (lacks view) (on_file (work view) data_file))
   need-holds view data_file = by (lacks view) refl
     where
@@ -125,7 +137,8 @@ module _ (further : ℕ → Type 0) (need : Need) (records : PlanView → Record
       by None e = let has = told.needs.has view e in inr (has, planned-holds further (records view) view (work view) (told.works view has) data_file)
       by (Some fault) e = inl (fault, told.needs.lack view fault e, refl)
 
-  need-only : (view : PlanView) (data_file : File) (end : Outcome) → NeedCase need (records view) view data_file end → unless (lacks view) (on_file (work view) data_file) ≡ end
+  need-only : (view : PlanView) (data_file : File) (end : Outcome)
+      → NeedCase need (records view) view data_file end → unless (lacks view) (on_file (work view) data_file) ≡ end
   need-only view data_file end h1 = search (rules, arith, planned-only)
 
   abbrev plan_end : File → Result PlanView Fault → Outcome
@@ -146,22 +159,26 @@ module _ (further : ℕ → Type 0) (need : Need) (records : PlanView → Record
 
 -- ## All shapes
 
-pub told-holds : (does : Behaviour) (shape : CommandCases) → MeetsCases does shape → (plan_file data_file : File) → ShapeCase shape plan_file data_file (outcome does plan_file data_file)
+pub told-holds : (does : Behaviour) (shape : CommandCases) → MeetsCases does shape
+    → (plan_file data_file : File) → ShapeCase shape plan_file data_file (outcome does plan_file data_file)
 unfolding outcome
 told-holds NoCommand BadWords told plan_file data_file = refl
 told-holds (Alone end) (Writes text) told plan_file data_file = told
 told-holds (OnFile file writing work) ReadsHeader told plan_file data_file = printed-holds work told data_file
 told-holds (OnFile file writing work) (ReadsRecords further records) told plan_file data_file = records-hold further records work told data_file
 told-holds (ByPlan plan_name file writing memory lacks work) (ReadsByPlan further need records) told None data_file = refl
-told-holds (ByPlan plan_name file writing memory lacks work) (ReadsByPlan further need records) told (Some text) data_file = plan-holds further need records lacks work told text data_file
+told-holds (ByPlan plan_name file writing memory lacks work) (ReadsByPlan further need records) told (Some text) data_file =
+    plan-holds further need records lacks work told text data_file
 told-holds does other told plan_file data_file = absurd told
 
-pub told-only : (does : Behaviour) (shape : CommandCases) → MeetsCases does shape → (plan_file data_file : File) (end : Outcome) → ShapeCase shape plan_file data_file end → outcome does plan_file data_file ≡ end
+pub told-only : (does : Behaviour) (shape : CommandCases) → MeetsCases does shape → (plan_file data_file : File) (end : Outcome)
+    → ShapeCase shape plan_file data_file end → outcome does plan_file data_file ≡ end
 unfolding outcome
 told-only NoCommand BadWords told plan_file data_file end h = sym h
 told-only (Alone whole) (Writes text) told plan_file data_file end h = told ∙ sym h
 told-only (OnFile file writing work) ReadsHeader told plan_file data_file end h = printed-only work told data_file end h
 told-only (OnFile file writing work) (ReadsRecords further records) told plan_file data_file end h = records-only further records work told data_file end h
 told-only (ByPlan plan_name file writing memory lacks work) (ReadsByPlan further need records) told None data_file end h = sym h
-told-only (ByPlan plan_name file writing memory lacks work) (ReadsByPlan further need records) told (Some text) data_file end h = plan-only further need records lacks work told text data_file end h
+told-only (ByPlan plan_name file writing memory lacks work) (ReadsByPlan further need records) told (Some text) data_file end h =
+    plan-only further need records lacks work told text data_file end h
 told-only does other told plan_file data_file end h = absurd told

@@ -36,7 +36,8 @@ false-empty (x ∷ xs) h = grind (arith, nat_tests)
 
 -- ## Files and headers
 
-pub file-holds : (work : Work) (case : List ℕ → Outcome → Type 0) → ((bytes : List ℕ) → case bytes (work.outcome bytes)) → (data_file : File) → FileCase case data_file (on_file work data_file)
+pub file-holds : (work : Work) (case : List ℕ → Outcome → Type 0) → ((bytes : List ℕ) → case bytes (work.outcome bytes))
+    → (data_file : File) → FileCase case data_file (on_file work data_file)
 file-holds work case holds data_file = search (rules, arith)
 
 pub file-only : (work : Work) (case : List ℕ → Outcome → Type 0) → ((bytes : List ℕ) (end : Outcome) → case bytes end → work.outcome bytes ≡ end) → (data_file : File) (end : Outcome) → FileCase case data_file end → on_file work data_file ≡ end
@@ -63,7 +64,8 @@ header-only out case fails only bytes end (inr h) = ap out ((one_answer bytes (O
 abbrev pub whole_answer : Reading → List ℕ → Bool → Result Summary Fault
 whole_answer how behind whole = if whole then Ok (summary how (words_of behind)) else Err (TruncatedRecord (length (rest_of behind)))
 
-pub streamed-clear : (how : Reading) (behind : List ℕ) → record_refusal how (words_of behind) ≡ None → streamed how behind ≡ whole_answer how behind (length (rest_of behind) == 0)
+pub streamed-clear : (how : Reading) (behind : List ℕ) → record_refusal how (words_of behind) ≡ None
+    → streamed how behind ≡ whole_answer how behind (length (rest_of behind) == 0)
 unfolding streamed
 streamed-clear how behind none = ap (λ o. or_refusal o (whole_answer how behind (length (rest_of behind) == 0))) none
 

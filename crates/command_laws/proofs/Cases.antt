@@ -1,20 +1,21 @@
 -- What `count`, `events`, `run`, `trace` and `demo` end with is what the table of cases calls for.
 use Rattle.std.{proofs.Common.{◌≡◌, ℕ, zero, suc, List, [], ◌∷◌, ◌++◌, length, Bool, true, false, None, Some, Ok, Err, refl, sym, ap, ◌∙◌, ◌⊎◌, subst, inl, inr, arith, ◌==◌, Result, nat_lt, map, if◌then◌else◌, rules}, specs.declared.option.Option.{Option}}
 use Rattle.tally_base.{specs.declared.fault.Fault.Fault, specs.declared.fault.Fault.TheVariants.{RecordLimit, TruncatedRecord, NoTrace}, specs.declared.header.Header.Header, specs.Faults.{fault_in, status_of}, specs.Settings.{PartSettings, StartStopView, TraceView}, specs.Tally.History}
-use Rattle.ptu_definitions.{specs.declared.records.Summary.Summary, specs.Words.{words_of, rest_of}, specs.Layouts.meaning_of, specs.Kinds.counts_of, specs.Counted.{record_limit, records_of, counted}, specs.Prefixes.each_after, specs.Firsts.IsFirst, specs.Times.events, specs.Streams.{Reading, record_refusal, summary, summary_of, streamed}, proofs.Firsts.{first-refusal, refused-first, none-refused, given-before, given-all}}
+use Rattle.ptu_definitions.{specs.declared.records.Summary.Summary, specs.Words.{words_of, rest_of, record_limit, records_of, counted}, specs.Layouts.meaning_of, specs.Kinds.counts_of, specs.Prefixes.each_after, specs.Streams.{IsFirst, Reading, record_refusal, summary, summary_of, streamed}, specs.Times.events, proofs.Firsts.{first-refusal, refused-first, none-refused, given-before, given-all}}
 use Rattle.record_stream.proofs.Lasts.{streamed-refused}
 use Rattle.plan_text.specs.Plan.{PlanView, parts_of}
-use Rattle.coincidence.proofs.Places.{intervals-are-pairs}
-use Rattle.gate_plan.{specs.Shifting.sorting, specs.Histories.{history}, specs.Plans.reading_by}
-use Rattle.list_out.{specs.EventText.{events_text, lines_of}}
+use Rattle.coincidence.proofs.Intervals.{intervals-are-pairs}
+use Rattle.gate_plan.{specs.Shifting.sorting, specs.Histories.{history, reading_by}}
+use Rattle.list_out.specs.Lines.{events_text, lines_of}
 use Rattle.table_out.{specs.Printed.{texts, table_lines}, specs.StartStop.startstop_printed, specs.Report.{head_text, printed, Table, table_text, report, with_events}}
 use Rattle.ptu_made.{specs.Generator.made_words, specs.Records.made_header}
 use Rattle.long_trace.specs.Texts.{open_text, whole_text}
 use Rattle.report_work.{specs.Reports.{report_of, if_fits, report_behind, report_outcome, any_plan, reporting}, specs.Demo.{demo_plan, demo_report}}
-use Rattle.file_work.{specs.CountText.counts_text, specs.FileOutcomes.{with_counts, counts_behind, count_outcome, listing, events_behind, counting, listing_all}}
+use Rattle.file_work.specs.FileOutcomes.{counts_text, with_counts, counts_behind, count_outcome, listing, events_behind, counting, listing_all}
 use Rattle.trace_work.{specs.TraceOutcomes.{trace_of, no_trace, traced, records_traced, traced_if_fits, traced_behind, tracing}, specs.TraceTexts.{settled-whole, settled-first}}
-use Rattle.command_work.specs.Outcomes.{Outcome, refused, written}
-use Rattle.command_laws.{specs.Cases.{WholeCase, CountCase, StreamCase, list_text, startstop_by_places, by_places, placed_text, report_by_places, words_report, trace_text, TraceCase, HasTrace, TracedCase}, specs.CommandCases.{IsIn, RefusedIn, count_cases, stream_cases, events_cases, run_cases, trace_cases, NeedsNothing, Needs}, proofs.FaultStatuses.{of-refused, of-written, of-end, whole-cause, range-as, wider, least-status, listed-status}, proofs.CaseSteps.{end_with, same-end, lt-true, lt-false, true-lt, false-lt, empty-true, empty-false, true-empty, false-empty, whole_answer, streamed-clear}, proofs.CaseShapes.{Call, IsCut, IsRefused, IsLate, CallsBy, RecordsMeet, FileMeets, PlanMeets, needs-by}}
+use Rattle.command_work.specs.Outcomes.{Outcome, refused, written, IsIn}
+use Rattle.ptu_cli.proofs.ByteFaults.{least-status}
+use Rattle.command_laws.{specs.Cases.{WholeCase, CountCase, StreamCase, list_text, startstop_by_places, by_places, placed_text, report_by_places, words_report, trace_text, TraceCase, HasTrace, TracedCase}, specs.CommandCases.{RefusedIn, count_cases, stream_cases, events_cases, run_cases, trace_cases, NeedsNothing, Needs}, proofs.FaultStatuses.{of-refused, of-written, of-end, whole-cause, range-as, wider, listed-status}, proofs.CaseSteps.{end_with, same-end, lt-true, lt-false, true-lt, false-lt, empty-true, empty-false, true-empty, false-empty, whole_answer, streamed-clear}, proofs.CaseShapes.{Call, IsCut, IsRefused, IsLate, CallsBy, RecordsMeet, FileMeets, PlanMeets, needs-by}}
 
 -- ## A report by places
 
@@ -22,14 +23,16 @@ texts-same : (f g : ℕ → List ℕ) (n : ℕ) → ((k : ℕ) → f k ≡ g k) 
 texts-same f g zero same = refl
 texts-same f g (suc n) same = rw (texts-same f g n same, same n) refl
 
-startstop-same : (set : StartStopView) (number : ℕ) (h : History) → table_lines (startstop_by_places set) number h ≡ table_lines (startstop_printed set) number h
+startstop-same : (set : StartStopView) (number : ℕ) (h : History)
+    → table_lines (startstop_by_places set) number h ≡ table_lines (startstop_printed set) number h
 unfolding startstop_printed
 startstop-same set number h = search (rules, arith, texts-same, intervals-are-pairs)
 
 part-same : (settings : PartSettings) (number : ℕ) (h : History) → table_lines (by_places settings) number h ≡ table_lines (printed settings) number h
 part-same settings number h = search (rules, arith, startstop-same)
 
-each-same : {A B : Type 0} (f g : List A → A → List B) (before xs : List A) → ((before : List A) (x : A) → f before x ≡ g before x) → each_after f before xs ≡ each_after g before xs
+each-same : {A B : Type 0} (f g : List A → A → List B) (before xs : List A)
+    → ((before : List A) (x : A) → f before x ≡ g before x) → each_after f before xs ≡ each_after g before xs
 each-same f g before [] same = refl
 each-same f g before (x ∷ xs) same = rw (same before x, each-same f g (before ++ x ∷ []) xs same) refl
 
@@ -37,7 +40,8 @@ report-same : (header : Header) (sum : Summary) (tables : List Table) → report
 unfolding report
 report-same header sum tables = ap (λ l. head_text header sum ++ l) (each-same placed_text table_text [] tables (λ before it. part-same it.0 _ it.1))
 
-summary-same : (how : Reading) (words : List ℕ) → summary how words ≡ summary_of how.policy.settle how.mode (map how.meaning words) (events (map how.meaning words))
+summary-same : (how : Reading) (words : List ℕ)
+    → summary how words ≡ summary_of how.policy.settle how.mode (map how.meaning words) (events (map how.meaning words))
 unfolding summary
 summary-same how words = refl
 
@@ -63,26 +67,31 @@ count_text header behind = counts_text header (counts_of (map (meaning_of header
 abbrev count_end : Header → List ℕ → Bool → Outcome
 count_end header behind many = if many then refused (RecordLimit record_limit) else whole_end behind (count_text header behind) (length (rest_of behind) == 0)
 
-count-steps : (header : Header) (behind : List ℕ) → count_outcome (with_counts header (counted header.record_type behind)) ≡ count_end header behind (nat_lt record_limit (length (words_of behind)))
+count-steps : (header : Header) (behind : List ℕ)
+    → count_outcome (with_counts header (counted header.record_type behind)) ≡ count_end header behind (nat_lt record_limit (length (words_of behind)))
 unfolding counted records_of
 count-steps header behind = search (rules, arith)
 
-count-by : (header : Header) (behind : List ℕ) (many : Bool) → nat_lt record_limit (length (words_of behind)) ≡ many → CountCase header behind (count_end header behind many)
+count-by : (header : Header) (behind : List ℕ) (many : Bool)
+    → nat_lt record_limit (length (words_of behind)) ≡ many → CountCase header behind (count_end header behind many)
 count-by header behind true h = inl (lt-true _ _ h, refl)
 count-by header behind false h = inr (lt-false _ _ h, whole-holds behind (count_text header behind) _ refl)
 
 count-holds : (header : Header) (behind : List ℕ) → CountCase header behind (count_outcome (with_counts header (counted header.record_type behind)))
 count-holds header behind = subst (CountCase header behind) (sym (count-steps header behind)) (count-by header behind _ refl)
 
-count-only : (header : Header) (behind : List ℕ) (end : Outcome) → CountCase header behind end → count_outcome (with_counts header (counted header.record_type behind)) ≡ end
+count-only : (header : Header) (behind : List ℕ) (end : Outcome) → CountCase header behind end
+    → count_outcome (with_counts header (counted header.record_type behind)) ≡ end
 count-only header behind end (inl h) = count-steps header behind ∙ ap (count_end header behind) (true-lt _ _ h.0) ∙ sym h.1
 count-only header behind end (inr h) = search (rules, arith, count-steps, count_end, false-lt, whole-only, count_text)
 
-count-cause : (header : Header) (behind : List ℕ) (end : Outcome) (fault : Fault) → CountCase header behind end → end.fault ≡ Some fault → (call : Call) × CallsBy call count_cases header behind fault
+count-cause : (header : Header) (behind : List ℕ) (end : Outcome) (fault : Fault) → CountCase header behind end
+    → end.fault ≡ Some fault → (call : Call) × CallsBy call count_cases header behind fault
 count-cause header behind end fault (inl h) e = (IsRefused, (h.0, of-refused end _ fault h.1 e))
 count-cause header behind end fault (inr h) e = let cut = whole-cause behind _ end fault h.1 e in (IsCut, (h.0, cut.0, cut.1))
 
-count-ends : (call : Call) (header : Header) (behind : List ℕ) (fault : Fault) → CallsBy call count_cases header behind fault → (end : Outcome) × CountCase header behind end × (end.fault ≡ Some fault)
+count-ends : (call : Call) (header : Header) (behind : List ℕ) (fault : Fault)
+    → CallsBy call count_cases header behind fault → (end : Outcome) × CountCase header behind end × (end.fault ≡ Some fault)
 count-ends IsCut header behind fault cut = (refused fault, inr (cut.0, inl (cut.1, ap refused cut.2)), refl)
 count-ends IsRefused header behind fault many = (refused fault, inl (many.0, ap refused many.1), refl)
 count-ends IsLate header behind fault never = absurd never
@@ -110,19 +119,23 @@ record Streams (how : Reading) (text_of : List ℕ → List ℕ) (whole_text beh
   cut_is : record_refusal how (words_of behind) ≡ None → (fault : Fault) → out (Err fault) ≡ end_with (text_of (words_of behind)) (Some fault)
   whole_is : record_refusal how (words_of behind) ≡ None → out (Ok (summary how (words_of behind))) ≡ written whole_text
 
-module _ (how : Reading) (text_of : List ℕ → List ℕ) (whole_text behind : List ℕ) (out : Result Summary Fault → Outcome) (told : Streams how text_of whole_text behind out) where
+module _ (how : Reading) (text_of : List ℕ → List ℕ) (whole_text behind : List ℕ) (out : Result Summary Fault
+    → Outcome) (told : Streams how text_of whole_text behind out) where
   first-end : (fault : Fault) (least : IsFirst how fault [] (words_of behind)) → out (streamed how behind) ≡ end_with (text_of least.front) (Some fault)
   first-end fault least = ap out (sym (streamed-refused how behind fault (refused-first how (words_of behind) fault least))) ∙ told.refused_is fault least
 
-  clear-end : record_refusal how (words_of behind) ≡ None → (whole : Bool) → (length (rest_of behind) == 0) ≡ whole → out (streamed how behind) ≡ out (whole_answer how behind whole)
+  clear-end : record_refusal how (words_of behind) ≡ None → (whole : Bool)
+      → (length (rest_of behind) == 0) ≡ whole → out (streamed how behind) ≡ out (whole_answer how behind whole)
   clear-end none whole is = ap out (streamed-clear how behind none ∙ ap (whole_answer how behind) is)
 
   stream-holds : StreamCase how text_of whole_text behind (out (streamed how behind))
   stream-holds = by (record_refusal how (words_of behind)) refl
     where
-      clear : record_refusal how (words_of behind) ≡ None → (whole : Bool) → (length (rest_of behind) == 0) ≡ whole → StreamCase how text_of whole_text behind (out (streamed how behind))
+      clear : record_refusal how (words_of behind) ≡ None → (whole : Bool) → (length (rest_of behind) == 0) ≡ whole
+          → StreamCase how text_of whole_text behind (out (streamed how behind))
       clear none true is = inr (inr ((none-refused how (words_of behind)).0 none, empty-true (rest_of behind) is, clear-end none true is ∙ told.whole_is none))
-      clear none false is = inr (inl ((none-refused how (words_of behind)).0 none, empty-false (rest_of behind) is, clear-end none false is ∙ told.cut_is none _))
+      clear none false is =
+          inr (inl ((none-refused how (words_of behind)).0 none, empty-false (rest_of behind) is, clear-end none false is ∙ told.cut_is none _))
 
       by : (o : Option Fault) → record_refusal how (words_of behind) ≡ o → StreamCase how text_of whole_text behind (out (streamed how behind))
       by (Some fault) e = let least = first-refusal how (words_of behind) fault e in inl (fault, least, first-end fault least)
@@ -130,25 +143,32 @@ module _ (how : Reading) (text_of : List ℕ → List ℕ) (whole_text behind : 
 
   stream-only : (end : Outcome) → StreamCase how text_of whole_text behind end → out (streamed how behind) ≡ end
   stream-only end (inl h) = first-end h.0 h.1 ∙ sym h.2
-  stream-only end (inr (inl h)) = let none = (none-refused how (words_of behind)).1 h.0 in clear-end none false (false-empty (rest_of behind) h.1) ∙ told.cut_is none _ ∙ sym h.2
-  stream-only end (inr (inr h)) = let none = (none-refused how (words_of behind)).1 h.0 in clear-end none true (true-empty (rest_of behind) h.1) ∙ told.whole_is none ∙ sym h.2
+  stream-only end (inr (inl h)) = let none =
+      (none-refused how (words_of behind)).1 h.0 in clear-end none false (false-empty (rest_of behind) h.1) ∙ told.cut_is none _ ∙ sym h.2
+  stream-only end (inr (inr h)) = let none =
+      (none-refused how (words_of behind)).1 h.0 in clear-end none true (true-empty (rest_of behind) h.1) ∙ told.whole_is none ∙ sym h.2
 
 module _ (how : Header → Reading) (ends : Header → List ℕ → Outcome → Type 0) (header : Header) (text_of : List ℕ → List ℕ) (whole_text behind : List ℕ) where
-  stream-cause : (end : Outcome) (fault : Fault) → StreamCase (how header) text_of whole_text behind end → end.fault ≡ Some fault → (call : Call) × CallsBy call (stream_cases how ends) header behind fault
+  stream-cause : (end : Outcome) (fault : Fault) → StreamCase (how header) text_of whole_text behind end
+      → end.fault ≡ Some fault → (call : Call) × CallsBy call (stream_cases how ends) header behind fault
   stream-cause end fault (inl h) e = (IsRefused, subst (λ (f : Fault). IsFirst (how header) f [] (words_of behind)) (sym (of-end end _ h.0 fault h.2 e)) h.1)
   stream-cause end fault (inr (inl h)) e = (IsCut, (h.0, h.1, of-end end _ _ fault h.2 e))
   stream-cause end fault (inr (inr h)) e = absurd (of-written end _ fault h.2 e)
 
-  stream-ends : (call : Call) (fault : Fault) → CallsBy call (stream_cases how ends) header behind fault → (end : Outcome) × StreamCase (how header) text_of whole_text behind end × (end.fault ≡ Some fault)
-  stream-ends IsCut fault cut = (end_with (text_of (words_of behind)) (Some fault), inr (inl (cut.0, cut.1, ap (λ f. end_with (text_of (words_of behind)) (Some f)) cut.2)), refl)
+  stream-ends : (call : Call) (fault : Fault) → CallsBy call (stream_cases how ends) header behind fault
+      → (end : Outcome) × StreamCase (how header) text_of whole_text behind end × (end.fault ≡ Some fault)
+  stream-ends IsCut fault cut =
+      (end_with (text_of (words_of behind)) (Some fault), inr (inl (cut.0, cut.1, ap (λ f. end_with (text_of (words_of behind)) (Some f)) cut.2)), refl)
   stream-ends IsRefused fault least = (end_with (text_of least.front) (Some fault), inl (fault, least, refl), refl)
   stream-ends IsLate fault never = absurd never
 
 -- what is shown of a command that ends by such a stream alone
-stream-meets : (further : ℕ → Type 0) (how : Header → Reading) (text_of whole_text : Header → List ℕ → List ℕ) (out : Header → List ℕ → Result Summary Fault → Outcome)
+stream-meets : (further : ℕ → Type 0) (how : Header → Reading) (text_of whole_text : Header
+    → List ℕ → List ℕ) (out : Header → List ℕ → Result Summary Fault → Outcome)
     → ((header : Header) (behind : List ℕ) → Streams (how header) (text_of header) (whole_text header (words_of behind)) behind (out header behind))
     → ((header : Header) (behind : List ℕ) (fault : Fault) → RefusedIn (how header) behind fault → further (status_of fault))
-    → RecordsMeet further (stream_cases how (λ header behind. StreamCase (how header) (text_of header) (whole_text header (words_of behind)) behind)) (λ header behind. out header behind (streamed (how header) behind))
+    → RecordsMeet further (stream_cases how (λ header behind. StreamCase (how header) (text_of header) (whole_text header (words_of behind)) behind))
+    (λ header behind. out header behind (streamed (how header) behind))
 stream-meets further how text_of whole_text out told status = record {
   holds = λ header behind. stream-holds (how header) (text_of header) _ behind (out header behind) (told header behind);
   only = λ header behind. stream-only (how header) (text_of header) _ behind (out header behind) (told header behind);
@@ -160,7 +180,8 @@ stream-meets further how text_of whole_text out told status = record {
 
 -- ## events
 
-list-streams : (header : Header) (behind : List ℕ) → Streams (listing header) (list_text header) (list_text header (words_of behind)) behind (λ r. end_with (lines_of (listing header) (words_of behind)) (fault_in r))
+list-streams : (header : Header) (behind : List ℕ) → Streams (listing header) (list_text header)
+    (list_text header (words_of behind)) behind (λ r. end_with (lines_of (listing header) (words_of behind)) (fault_in r))
 list-streams header behind = record {
   refused_is = λ fault least. ap (λ l. end_with (events_text l) (Some fault)) (given-before (listing header) (words_of behind) fault least);
   cut_is = λ none fault. ap (λ l. end_with (events_text l) (Some fault)) (given-all (listing header) (words_of behind) none);
@@ -197,8 +218,10 @@ run-told = record {
   };
 }
   where
-    report-streams : (view : PlanView) (header : Header) (behind : List ℕ) → Streams (reading_by view header) (λ words. []) (words_report view header (words_of behind)) behind (λ r. report_outcome (report_of view header behind r))
-    report-streams view header behind = record { refused_is = λ fault least. refl; cut_is = λ none fault. refl; whole_is = λ none. ap written (words-same view header (words_of behind)) }
+    report-streams : (view : PlanView) (header : Header) (behind : List ℕ) → Streams (reading_by view header) (λ words. [])
+        (words_report view header (words_of behind)) behind (λ r. report_outcome (report_of view header behind r))
+    report-streams view header behind =
+        record { refused_is = λ fault least. refl; cut_is = λ none fault. refl; whole_is = λ none. ap written (words-same view header (words_of behind)) }
 
 -- ## trace
 
@@ -206,9 +229,11 @@ module _ (set : TraceView) (view : PlanView) (header : Header) (behind : List �
   abbrev trace_whole : List ℕ
   trace_whole = whole_text set (history (sorting view) (reading_by view header) (words_of behind))
 
-  trace-streams : Streams (reading_by view header) (trace_text set view header) trace_whole behind (traced (Some set) (sorting view) (reading_by view header) behind)
+  trace-streams : Streams (reading_by view header) (trace_text set view header) trace_whole behind
+      (traced (Some set) (sorting view) (reading_by view header) behind)
   trace-streams = record {
-    refused_is = λ fault least. same-end _ _ _ _ (ap (open_text set) (settled-first (sorting view) (reading_by view header) (words_of behind) fault least)) refl;
+    refused_is =
+        λ fault least. same-end _ _ _ _ (ap (open_text set) (settled-first (sorting view) (reading_by view header) (words_of behind) fault least)) refl;
     cut_is = λ none fault. same-end _ _ _ _ (ap (open_text set) (settled-whole (sorting view) (reading_by view header) (words_of behind) none)) refl;
     whole_is = λ none. refl;
   }
@@ -225,8 +250,10 @@ module _ (set : TraceView) (view : PlanView) (header : Header) (behind : List �
   traced-only : (end : Outcome) → trace_of view ≡ Some set → TraceCase set view header behind end → trace_end (trace_of view) ≡ end
   traced-only end is h = ap trace_end is ∙ stream-only (reading_by view header) (trace_text set view header) trace_whole behind trace_out trace-streams end h
 
-  traced-ends : (call : Call) (fault : Fault) → trace_of view ≡ Some set → CallsBy call (trace_cases view) header behind fault → (end : Outcome) × TracedCase view header behind end × (end.fault ≡ Some fault)
-  traced-ends call fault is h = let end = stream-ends (reading_by view) (TracedCase view) header (trace_text set view header) trace_whole behind call fault h in (end.0, (set, is, end.1), end.2)
+  traced-ends : (call : Call) (fault : Fault) → trace_of view ≡ Some set → CallsBy call (trace_cases view) header behind fault
+      → (end : Outcome) × TracedCase view header behind end × (end.fault ≡ Some fault)
+  traced-ends call fault is h = let end =
+      stream-ends (reading_by view) (TracedCase view) header (trace_text set view header) trace_whole behind call fault h in (end.0, (set, is, end.1), end.2)
 
 trace-decides : (view : PlanView) → (HasTrace view × (no_trace view ≡ None)) ⊎ ((HasTrace view → ⊥) × (no_trace view ≡ Some NoTrace))
 trace-decides view = search (rules, arith)
@@ -244,9 +271,11 @@ trace-told = record {
     told = record {
       holds = λ header behind. traced-holds has.0 view header behind has.1;
       only = λ header behind end h. traced-only h.0 view header behind end h.1 h.2;
-      cause = λ header behind end fault h. stream-cause (reading_by view) (TracedCase view) header (trace_text h.0 view header) (trace_whole h.0 view header behind) behind end fault h.2;
+      cause = λ header behind end fault h. stream-cause (reading_by view) (TracedCase view) header
+          (trace_text h.0 view header) (trace_whole h.0 view header behind) behind end fault h.2;
       ends = λ call header behind fault. traced-ends has.0 view header behind call fault has.1;
-      refuses_status = λ header behind fault h. let s = least-status (reading_by view header) behind fault h in (s, wider 18 21 18 22 fault s (omega arith) (omega arith));
+      refuses_status = λ header behind fault h. let s =
+          least-status (reading_by view header) behind fault h in (s, wider 18 21 18 22 fault s (omega arith) (omega arith));
       late_status = λ header behind fault never. absurd never;
     };
   };

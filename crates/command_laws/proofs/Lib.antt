@@ -1,5 +1,4 @@
 pub mod Rows
-pub mod PickedFiles
 pub mod CaseSteps
 pub mod PickPhotons
 pub mod PickCases

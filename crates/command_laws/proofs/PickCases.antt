@@ -1,14 +1,15 @@
 -- What `pick` ends with is what the table of cases calls for.
-use Rattle.std.{proofs.Common.{◌≡◌, ℕ, List, [], ◌∷◌, ◌++◌, length, Bool, true, false, None, Some, Err, refl, sym, ap, ◌∙◌, subst, inl, inr, ◌≢◌, append-nil, arith, append_assoc, ◌⊎◌, ◌==◌, nat_le, if◌then◌else◌, ◌&&◌, rules}, specs.declared.option.Option.Option}
+use Rattle.std.{proofs.Common.{◌≡◌, ℕ, List, [], ◌∷◌, ◌++◌, length, Bool, true, false, None, Some, Err, refl, sym, ap, ◌∙◌, subst, inl, inr, ◌≢◌, append-nil, arith, append_assoc, ◌⊎◌, ◌==◌, nat_le, ◌&&◌, rules}, specs.declared.option.Option.Option}
 use Rattle.tally_base.{specs.declared.fault.Fault.Fault, specs.declared.fault.Fault.TheVariants.{TruncatedRecord, NoGroup, PickTime}, specs.declared.header.Header.Header, specs.Faults.fault_in, specs.declared.event.Event.Event}
-use Rattle.ptu_definitions.{specs.Words.{words_of, rest_of}, specs.Firsts.IsFirst, specs.Streams.{Reading, record_refusal, refusal}, proofs.Firsts.{first-refusal, refused-first, none-refused}}
+use Rattle.ptu_definitions.{specs.Words.{words_of, rest_of}, specs.Streams.{IsFirst, Reading, record_refusal, refusal}, proofs.Firsts.{first-refusal, refused-first, none-refused}}
 use Rattle.record_stream.proofs.Lasts.{streamed-refused}
 use Rattle.plan_text.specs.Plan.{PlanView}
-use Rattle.gate_plan.specs.Plans.{reading_by}
+use Rattle.gate_plan.specs.Histories.{reading_by}
 use Rattle.photon_pick.{specs.Late.too_late, specs.Ends.photons_by, specs.Texts.photons_in}
 use Rattle.pick_work.specs.PickOutcomes.{no_group, chosen_by, records_picked, picked_if_fits, picked_behind, picking}
-use Rattle.command_work.specs.Outcomes.{Outcome}
-use Rattle.command_laws.{specs.Causes.StatusIn, specs.Cases.{NoneRefused, HasGroup, settled_photons, kept_photons, FirstLate, LateAtRecord, LateAtEnd, RefusedInTime, SettledInTime, AllPicked, pick_end, PickedCase}, specs.CommandCases.{pick_statuses, NamesLate, pick_cases, Needs}, proofs.FaultStatuses.{of-written, of-end, range-as, wider, least-status}, proofs.CaseShapes.{Call, IsCut, IsRefused, IsLate, CallsBy, PlanMeets, needs-by}, proofs.PickPhotons.{late-ends, none-or-late, late-more, picked_end, end-late, end-in_time, in-settled, in-before, least-late, clear-front, all-end}, proofs.CaseSteps.{empty-true, empty-false, true-empty, false-empty, whole_answer, streamed-clear}}
+use Rattle.command_work.specs.Outcomes.{Outcome, StatusIn}
+use Rattle.ptu_cli.proofs.ByteFaults.{least-status}
+use Rattle.command_laws.{specs.Cases.{NoneRefused, HasGroup, settled_photons, kept_photons, FirstLate, LateAtRecord, LateAtEnd, RefusedInTime, SettledInTime, AllPicked, pick_end, PickedCase}, specs.CommandCases.{pick_statuses, NamesLate, pick_cases, Needs}, proofs.FaultStatuses.{of-written, of-end, range-as, wider}, proofs.CaseShapes.{Call, IsCut, IsRefused, IsLate, CallsBy, PlanMeets, needs-by}, proofs.PickPhotons.{late-ends, none-or-late, late-more, picked_end, end-late, end-in_time, in-settled, in-before, least-late, clear-front, all-end}, proofs.CaseSteps.{empty-true, empty-false, true-empty, false-empty, whole_answer, streamed-clear}}
 
 -- ## The records
 
@@ -32,7 +33,8 @@ module _ (view : PlanView) (group : ℕ) (header : Header) (behind : List ℕ) w
   kept = kept_photons view group header words
 
   -- among words of which none is refused
-  pub first-settled : (front more : List ℕ) → words ≡ front ++ more → NoneRefused how front → FirstLate how.mode (settled front) → LateAtRecord view group header words
+  pub first-settled : (front more : List ℕ) → words ≡ front ++ more → NoneRefused how front
+      → FirstLate how.mode (settled front) → LateAtRecord view group header words
   first-settled front more parts clear h =
       let least = least-late chooses how front h in
       record {
@@ -40,7 +42,8 @@ module _ (view : PlanView) (group : ℕ) (header : Header) (behind : List ℕ) w
         word = least.word;
         more = least.more ++ more;
         parts = parts ∙ ap (λ l. l ++ more) least.parts ∙ append_assoc (least.front ++ least.word ∷ []) least.more more;
-        unrefused = (none-refused how (least.front ++ least.word ∷ [])).0 (clear-front chooses how (least.front ++ least.word ∷ []) least.more front least.parts ((none-refused how front).1 clear));
+        unrefused = (none-refused how (least.front ++ least.word ∷ [])).0
+            (clear-front chooses how (least.front ++ least.word ∷ []) least.more front least.parts ((none-refused how front).1 clear));
         none_settled = least.none_settled;
         first = least.late;
       }
@@ -49,7 +52,8 @@ module _ (view : PlanView) (group : ℕ) (header : Header) (behind : List ℕ) w
   late-first late =
       let upto = late.front ++ late.word ∷ [] in
       let none = (none-refused how upto).1 late.unrefused in
-      late-ends chooses how upto late.more behind late.parts (late-more how.mode (settled upto) [] (photons_in chooses how upto) (in-settled chooses how upto none ∙ sym (append-nil (settled upto))) late.first)
+      late-ends chooses how upto late.more behind late.parts
+      (late-more how.mode (settled upto) [] (photons_in chooses how upto) (in-settled chooses how upto none ∙ sym (append-nil (settled upto))) late.first)
 
   refused-end : (fault : Fault) (refusal : RefusedInTime view group header words fault) → whole_end ≡ pick_end header (settled refusal.least.front) (Some fault)
   refused-end fault refusal =
@@ -62,7 +66,8 @@ module _ (view : PlanView) (group : ℕ) (header : Header) (behind : List ℕ) w
   clear-end : record_refusal how words ≡ None → (whole : Bool) → (length (rest_of behind) == 0) ≡ whole → whole_end ≡ picked_end how.mode (photons_by chooses how words (whole_answer how behind whole)) (fault_in (whole_answer how behind whole))
   clear-end none whole is = all-end chooses how behind (whole_answer how behind whole) (streamed-clear how behind none ∙ ap (whole_answer how behind) is)
 
-  cut-end : SettledInTime view group header words → rest_of behind ≢ [] → whole_end ≡ pick_end header (settled words) (Some (TruncatedRecord (length (rest_of behind))))
+  cut-end : SettledInTime view group header words → rest_of behind ≢ []
+      → whole_end ≡ pick_end header (settled words) (Some (TruncatedRecord (length (rest_of behind))))
   cut-end soon cut =
       let none = (none-refused how words).1 soon.unrefused in
       clear-end none false (false-empty (rest_of behind) cut)
@@ -73,23 +78,30 @@ module _ (view : PlanView) (group : ℕ) (header : Header) (behind : List ℕ) w
   late-last late = clear-end ((none-refused how words).1 late.unrefused) true (true-empty (rest_of behind) late.whole) ∙ end-late how.mode kept None late.first
 
   all-picked : (all : AllPicked view group header behind) → whole_end ≡ pick_end header kept None
-  all-picked all = clear-end ((none-refused how words).1 all.unrefused) true (true-empty (rest_of behind) all.whole) ∙ end-in_time how.mode kept None all.in_time
+  all-picked all =
+      clear-end ((none-refused how words).1 all.unrefused) true (true-empty (rest_of behind) all.whole) ∙ end-in_time how.mode kept None all.in_time
 
   pub picked-holds : PickedCase view group header behind whole_end
   picked-holds = by (record_refusal how words) refl
     where
-      stopped : (fault : Fault) (least : IsFirst how fault [] words) → (too_late how.mode (settled least.front) ≡ []) ⊎ FirstLate how.mode (settled least.front) → PickedCase view group header behind whole_end
+      stopped : (fault : Fault) (least : IsFirst how fault [] words)
+          → (too_late how.mode (settled least.front) ≡ []) ⊎ FirstLate how.mode (settled least.front) → PickedCase view group header behind whole_end
       stopped fault least (inr h) = let late = first-settled least.front (least.word ∷ least.more) least.parts least.unrefused h in inl (late, late-first late)
-      stopped fault least (inl none) = let refusal : RefusedInTime view group header words fault = record { least = least; in_time = none } in inr (inl (fault, refusal, refused-end fault refusal))
+      stopped fault least (inl none) = let refusal : RefusedInTime view group header words fault =
+          record { least = least; in_time = none } in inr (inl (fault, refusal, refused-end fault refusal))
 
-      left : NoneRefused how words → rest_of behind ≢ [] → (too_late how.mode (settled words) ≡ []) ⊎ FirstLate how.mode (settled words) → PickedCase view group header behind whole_end
+      left : NoneRefused how words → rest_of behind ≢ [] → (too_late how.mode (settled words) ≡ []) ⊎ FirstLate how.mode (settled words)
+          → PickedCase view group header behind whole_end
       left clear some (inr h) = let late = first-settled words [] (sym (append-nil words)) clear h in inl (late, late-first late)
-      left clear some (inl none) = let soon : SettledInTime view group header words = record { unrefused = clear; in_time = none } in inr (inr (inl (soon, some, cut-end soon some)))
+      left clear some (inl none) = let soon : SettledInTime view group header words =
+          record { unrefused = clear; in_time = none } in inr (inr (inl (soon, some, cut-end soon some)))
 
       whole : NoneRefused how words → rest_of behind ≡ [] → (too_late how.mode (settled words) ≡ []) ⊎ FirstLate how.mode (settled words) → (too_late how.mode kept ≡ []) ⊎ FirstLate how.mode kept → PickedCase view group header behind whole_end
       whole clear all (inr s) h = let late = first-settled words [] (sym (append-nil words)) clear s in inl (late, late-first late)
-      whole clear all (inl soon) (inr h) = let late : LateAtEnd view group header behind = record { unrefused = clear; whole = all; none_settled = soon; first = h } in inr (inr (inr (inl (late, late-last late))))
-      whole clear all (inl soon) (inl none) = let all : AllPicked view group header behind = record { unrefused = clear; whole = all; in_time = none } in inr (inr (inr (inr (all, all-picked all))))
+      whole clear all (inl soon) (inr h) = let late : LateAtEnd view group header behind =
+          record { unrefused = clear; whole = all; none_settled = soon; first = h } in inr (inr (inr (inl (late, late-last late))))
+      whole clear all (inl soon) (inl none) = let all : AllPicked view group header behind =
+          record { unrefused = clear; whole = all; in_time = none } in inr (inr (inr (inr (all, all-picked all))))
 
       ends : NoneRefused how words → (b : Bool) → (length (rest_of behind) == 0) ≡ b → PickedCase view group header behind whole_end
       ends clear true is = whole clear (empty-true (rest_of behind) is) (none-or-late how.mode (settled words)) (none-or-late how.mode kept)
@@ -111,15 +123,18 @@ module _ (view : PlanView) (group : ℕ) (header : Header) (behind : List ℕ) w
 abbrev has_group : ℕ → PlanView → Bool
 has_group group view = nat_le 1 group && nat_le group (length view.groups)
 
-group-decides : (group : ℕ) (view : PlanView) → (HasGroup group view × (no_group group view ≡ None)) ⊎ ((HasGroup group view → ⊥) × (no_group group view ≡ Some (NoGroup group)))
+group-decides : (group : ℕ) (view : PlanView)
+    → (HasGroup group view × (no_group group view ≡ None)) ⊎ ((HasGroup group view → ⊥) × (no_group group view ≡ Some (NoGroup group)))
 group-decides group view = search (rules, arith, has_group)
 
 -- ## What is told
 
-picked-cause : (group : ℕ) (view : PlanView) (header : Header) (behind : List ℕ) (end : Outcome) (fault : Fault) → PickedCase view group header behind end → end.fault ≡ Some fault
+picked-cause : (group : ℕ) (view : PlanView) (header : Header) (behind : List ℕ) (end : Outcome) (fault : Fault)
+    → PickedCase view group header behind end → end.fault ≡ Some fault
     → (call : Call) × CallsBy call (pick_cases group view) header behind fault
 picked-cause group view header behind end fault (inl h) e = (IsLate, inl (h.0, of-end end _ _ fault h.1 e))
-picked-cause group view header behind end fault (inr (inl h)) e = (IsRefused, subst (RefusedInTime view group header (words_of behind)) (sym (of-end end _ h.0 fault h.2 e)) h.1)
+picked-cause group view header behind end fault (inr (inl h)) e =
+    (IsRefused, subst (RefusedInTime view group header (words_of behind)) (sym (of-end end _ h.0 fault h.2 e)) h.1)
 picked-cause group view header behind end fault (inr (inr (inl h))) e = (IsCut, (h.0, h.1, of-end end _ _ fault h.2 e))
 picked-cause group view header behind end fault (inr (inr (inr (inl h)))) e = (IsLate, inr (h.0, of-end end _ _ fault h.1 e))
 picked-cause group view header behind end fault (inr (inr (inr (inr h)))) e = absurd (of-written end _ fault h.1 e)
@@ -127,21 +142,27 @@ picked-cause group view header behind end fault (inr (inr (inr (inr h)))) e = ab
 abbrev with_photons : Header → List Event → Fault → Outcome
 with_photons header photons further = pick_end header photons (Some further)
 
-picked-ends : (group : ℕ) (view : PlanView) (call : Call) (header : Header) (behind : List ℕ) (fault : Fault) → CallsBy call (pick_cases group view) header behind fault
+picked-ends : (group : ℕ) (view : PlanView) (call : Call) (header : Header) (behind : List ℕ) (fault : Fault)
+    → CallsBy call (pick_cases group view) header behind fault
     → (end : Outcome) × PickedCase view group header behind end × (end.fault ≡ Some fault)
 picked-ends group view IsCut header behind fault cut =
     let photons = settled_photons view group header (words_of behind) in
     (with_photons header photons fault, inr (inr (inl (cut.0, cut.1, ap (with_photons header photons) cut.2))), refl)
-picked-ends group view IsRefused header behind fault refusal = (with_photons header (settled_photons view group header refusal.least.front) fault, inr (inl (fault, refusal, refl)), refl)
-picked-ends group view IsLate header behind fault (inl late) = (with_photons header late.0.first.before fault, inl (late.0, ap (with_photons header late.0.first.before) late.1), refl)
-picked-ends group view IsLate header behind fault (inr late) = (with_photons header late.0.first.before fault, inr (inr (inr (inl (late.0, ap (with_photons header late.0.first.before) late.1)))), refl)
+picked-ends group view IsRefused header behind fault refusal =
+    (with_photons header (settled_photons view group header refusal.least.front) fault, inr (inl (fault, refusal, refl)), refl)
+picked-ends group view IsLate header behind fault (inl late) =
+    (with_photons header late.0.first.before fault, inl (late.0, ap (with_photons header late.0.first.before) late.1), refl)
+picked-ends group view IsLate header behind fault (inr late) =
+    (with_photons header late.0.first.before fault, inr (inr (inr (inl (late.0, ap (with_photons header late.0.first.before) late.1)))), refl)
 
-names-status : (group : ℕ) (view : PlanView) (header : Header) (behind : List ℕ) (fault : Fault) → NamesLate group view header behind fault → StatusIn 24 24 fault
+names-status : (group : ℕ) (view : PlanView) (header : Header) (behind : List ℕ) (fault : Fault)
+    → NamesLate group view header behind fault → StatusIn 24 24 fault
 names-status group view header behind fault h1 = search (rules, arith, range-as)
 
 pub pick-told : (group : ℕ) → PlanMeets pick_statuses (Needs (HasGroup group) (NoGroup group)) (pick_cases group) (no_group group) (picking group)
 pick-told group = record {
-  needs = needs-by pick_statuses (HasGroup group) (NoGroup group) (no_group group) (group-decides group) ((omega arith, omega arith), inr (omega arith, omega arith));
+  needs = needs-by pick_statuses (HasGroup group) (NoGroup group) (no_group group)
+      (group-decides group) ((omega arith, omega arith), inr (omega arith, omega arith));
   works = λ view has. record {
     end_of = picked_behind view group;
     fit_of = picked_if_fits view group;
@@ -155,7 +176,8 @@ pick-told group = record {
       cause = picked-cause group view;
       ends = picked-ends group view;
       refuses_status = λ header behind fault h. let s = least-status (reading_by view header) behind fault h.least in (s, inl s);
-      late_status = λ header behind fault h. let s = names-status group view header behind fault h in (s, inr (wider 24 24 23 24 fault s (omega arith) (omega arith)));
+      late_status = λ header behind fault h. let s =
+          names-status group view header behind fault h in (s, inr (wider 24 24 23 24 fault s (omega arith) (omega arith)));
     };
   };
 }

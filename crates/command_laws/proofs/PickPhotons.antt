@@ -1,10 +1,10 @@
 -- The photons that `pick` writes, and the first of them that is too late.
 use Rattle.std.{proofs.Common.{◌≡◌, ◌∙◌, ℕ, List, [], ◌∷◌, ◌++◌, Bool, true, false, cond, None, Some, Ok, Err, map, refl, sym, ap, inl, inr, append_assoc, append-nil, ◌⊎◌, Result, arith, rules}, specs.List.filter, specs.declared.option.Option.Option, proofs.lemmas.List.Elements.filter-append}
 use Rattle.tally_base.{specs.declared.event.Event.Event, specs.declared.fault.Fault.Fault, specs.declared.fault.Fault.TheVariants.PickTime, specs.declared.header.Mode.Mode, specs.Faults.fault_in}
-use Rattle.ptu_definitions.{specs.declared.records.Summary.Summary, specs.Firsts.IsFirst, specs.Prefixes.first, specs.Settled.{not_marked, settled_by}, specs.Streams.{Reading, record_refusal, given, last_in, streamed}, specs.Times.events, specs.Words.words_of, proofs.DeliveredLaws.{delivered-settled, delivered-none}, proofs.Firsts.{given-all, given-before}, proofs.StreamLemmas.{given-front, given-stays, refused-more}}
+use Rattle.ptu_definitions.{specs.declared.records.Summary.Summary, specs.Streams.{IsFirst, Reading, record_refusal, given, last_in, streamed}, specs.Prefixes.first, specs.Settled.{not_marked, settled_by}, specs.Times.events, specs.Words.words_of, proofs.DeliveredLaws.{delivered-settled, delivered-none}, proofs.Firsts.{given-all, given-before}, proofs.StreamLemmas.{given-front, given-stays, refused-more}}
 use Rattle.short_file.specs.ShortFiles.{short_header, short_file, bytes_in}
 use Rattle.record_write.specs.Picked.{is_too_late, picked_words, picked_file}
-use Rattle.photon_pick.{specs.Late.{too_late, writable}, specs.Texts.{photons_in, late_or}, specs.Ends.{photons_by, photons_of, end_text, end_fault}, proofs.Parts.chosen-more, proofs.Ends.kept-are, proofs.Streams.clear-from_ok}
+use Rattle.photon_pick.{specs.Late.{too_late, writable}, specs.Texts.{photons_in, late_or}, specs.Ends.{photons_by, photons_of, end_text, end_fault}, proofs.Parts.chosen-more, proofs.Ends.{kept-are, clear-from_ok}}
 use Rattle.command_work.specs.Outcomes.{Outcome}
 use Rattle.command_laws.specs.Cases.{FirstLate}
 
@@ -29,10 +29,12 @@ module _ (mode : Mode) where
   none-or-late [] = inl refl
   none-or-late (p ∷ ps) = by (is_too_late mode p.time) refl (none-or-late ps)
     where
-      by : (b : Bool) → is_too_late mode p.time ≡ b → (too_late mode ps ≡ []) ⊎ FirstLate mode ps → (cond b (p ∷ too_late mode ps) (too_late mode ps) ≡ []) ⊎ FirstLate mode (p ∷ ps)
+      by : (b : Bool) → is_too_late mode p.time ≡ b → (too_late mode ps ≡ []) ⊎ FirstLate mode ps
+          → (cond b (p ∷ too_late mode ps) (too_late mode ps) ≡ []) ⊎ FirstLate mode (p ∷ ps)
       by true is rest = inr (record { before = []; photon = p; behind = ps; parts = refl; none_before = refl; late = is })
       by false is (inl none) = inl none
-      by false is (inr h) = inr (record { before = p ∷ h.before; photon = h.photon; behind = h.behind; parts = ap (λ l. p ∷ l) h.parts; none_before = rw is h.none_before; late = h.late })
+      by false is (inr h) = inr (record
+          { before = p ∷ h.before; photon = h.photon; behind = h.behind; parts = ap (λ l. p ∷ l) h.parts; none_before = rw is h.none_before; late = h.late })
 
   -- it is the same where more come behind
   abbrev pub late-more : (ps tail now : List Event) → now ≡ ps ++ tail → FirstLate mode ps → FirstLate mode now
@@ -58,11 +60,13 @@ module _ (mode : Mode) where
     fault = late_or (first (too_late mode ps)) fault;
   }
 
-  pub end-late : (ps : List Event) (fault : Option Fault) (h : FirstLate mode ps) → picked_end ps fault ≡ record { text = picked_file mode h.before; fault = Some (PickTime h.photon.place) }
+  pub end-late : (ps : List Event) (fault : Option Fault) (h : FirstLate mode ps)
+      → picked_end ps fault ≡ record { text = picked_file mode h.before; fault = Some (PickTime h.photon.place) }
   unfolding short_file
   end-late ps fault h = rw (first-late ps h, late-writable ps h) refl
 
-  pub end-in_time : (ps : List Event) (fault : Option Fault) → too_late mode ps ≡ [] → picked_end ps fault ≡ record { text = picked_file mode ps; fault = fault }
+  pub end-in_time : (ps : List Event) (fault : Option Fault) → too_late mode ps ≡ []
+      → picked_end ps fault ≡ record { text = picked_file mode ps; fault = fault }
   unfolding short_file
   end-in_time ps fault none = rw (all-writable ps none, none) refl
 
@@ -77,7 +81,8 @@ module _ (chooses : Event → Bool) (how : Reading) where
   in-settled words none = search (rules, arith, given-all, delivered-settled)
 
   pub in-before : (words : List ℕ) (fault : Fault) (least : IsFirst how fault [] words) → photons_in chooses how words ≡ settled_chosen least.front
-  in-before words fault least = ap (λ l. filter chooses (not_marked l)) (given-before how words fault least) ∙ ap (filter chooses) (delivered-settled how.policy.settle how.mode (events (map how.meaning least.front)))
+  in-before words fault least = ap (λ l. filter chooses (not_marked l)) (given-before how words fault least)
+      ∙ ap (filter chooses) (delivered-settled how.policy.settle how.mode (events (map how.meaning least.front)))
 
   in-more : (words more now : List ℕ) → now ≡ words ++ more → (tail : List Event) × (photons_in chooses how now ≡ photons_in chooses how words ++ tail)
   in-more words more now parts =
@@ -85,18 +90,21 @@ module _ (chooses : Event → Bool) (how : Reading) where
       (filter chooses (not_marked front.0), ap (photons_in chooses how) parts ∙ ap (λ l. filter chooses (not_marked l)) front.1 ∙ chosen-more chooses (given how words) front.0)
 
   -- those of some words are in front of those of all bytes behind a header that begin with them
-  pub front-of : (words more bytes : List ℕ) → words_of bytes ≡ words ++ more → (tail : List Event) × (photons_of chooses how bytes ≡ photons_in chooses how words ++ tail)
+  pub front-of : (words more bytes : List ℕ) → words_of bytes ≡ words ++ more
+      → (tail : List Event) × (photons_of chooses how bytes ≡ photons_in chooses how words ++ tail)
   front-of words more bytes parts = by (streamed how bytes) refl
     where
       given_front : (tail : List Event) × (photons_in chooses how (words_of bytes) ≡ photons_in chooses how words ++ tail)
       given_front = in-more words more (words_of bytes) parts
 
-      by : (r : Result Summary Fault) → streamed how bytes ≡ r → (tail : List Event) × (photons_by chooses how (words_of bytes) r ≡ photons_in chooses how words ++ tail)
+      by : (r : Result Summary Fault) → streamed how bytes ≡ r
+          → (tail : List Event) × (photons_by chooses how (words_of bytes) r ≡ photons_in chooses how words ++ tail)
       by (Err fault) is = given_front
       by (Ok summary) is =
           let rest = filter chooses (not_marked (last_in how (words_of bytes))) in (
             given_front.0 ++ rest,
-            kept-are chooses how (words_of bytes) (clear-from_ok how bytes summary is) ∙ ap (λ l. l ++ rest) given_front.1 ∙ append_assoc (photons_in chooses how words) given_front.0 rest,
+            kept-are chooses how (words_of bytes) (clear-from_ok how bytes summary is)
+                ∙ ap (λ l. l ++ rest) given_front.1 ∙ append_assoc (photons_in chooses how words) given_front.0 rest,
           )
 
   -- of no words
@@ -113,7 +121,8 @@ module _ (chooses : Event → Bool) (how : Reading) where
     pub none_settled : too_late how.mode (settled_chosen front) ≡ []
     pub late : FirstLate how.mode (settled_chosen (front ++ word ∷ []))
 
-  least_behind : (front rest words : List ℕ) → words ≡ front ++ rest → too_late how.mode (settled_chosen front) ≡ [] → FirstLate how.mode (settled_chosen words) → Least words
+  least_behind : (front rest words : List ℕ) → words ≡ front ++ rest
+      → too_late how.mode (settled_chosen front) ≡ [] → FirstLate how.mode (settled_chosen words) → Least words
   least_behind front [] words parts none h =
       let whole : settled_chosen words ≡ settled_chosen front = ap settled_chosen (parts ∙ append-nil front) in
       let late : first (too_late how.mode (settled_chosen words)) ≡ Some h.photon = first-late how.mode (settled_chosen words) h in
@@ -126,7 +135,8 @@ module _ (chooses : Event → Bool) (how : Reading) where
       here : (front : List ℕ) (word : ℕ) (rest words : List ℕ) → words ≡ (front ++ word ∷ []) ++ rest → too_late how.mode (settled_chosen front) ≡ []
           → (too_late how.mode (settled_chosen (front ++ word ∷ [])) ≡ []) ⊎ FirstLate how.mode (settled_chosen (front ++ word ∷ []))
           → (too_late how.mode (settled_chosen (front ++ word ∷ [])) ≡ [] → Least words) → Least words
-      here front word rest words parts none (inr late) next = record { front = front; word = word; more = rest; parts = parts; none_settled = none; late = late }
+      here front word rest words parts none (inr late) next =
+          record { front = front; word = word; more = rest; parts = parts; none_settled = none; late = late }
       here front word rest words parts none (inl soon) next = next soon
 
   pub least-late : (words : List ℕ) → FirstLate how.mode (settled_chosen words) → Least words
@@ -144,14 +154,17 @@ module _ (chooses : Event → Bool) (how : Reading) where
   abbrev pub all_end : List ℕ → Outcome
   all_end bytes = record { text = short_header how.mode ++ end_text chooses how bytes; fault = end_fault chooses how bytes }
 
-  pub all-end : (bytes : List ℕ) (r : Result Summary Fault) → streamed how bytes ≡ r → all_end bytes ≡ picked_end how.mode (photons_by chooses how (words_of bytes) r) (fault_in r)
+  pub all-end : (bytes : List ℕ) (r : Result Summary Fault) → streamed how bytes ≡ r
+      → all_end bytes ≡ picked_end how.mode (photons_by chooses how (words_of bytes) r) (fault_in r)
   all-end bytes r is = ap (λ r. picked_end how.mode (photons_by chooses how (words_of bytes) r) (fault_in r)) is
 
   -- a photon that is too late among those of some words ends all bytes that begin with these
   pub late-ends : (words more bytes : List ℕ) → words_of bytes ≡ words ++ more → (h : FirstLate how.mode (photons_in chooses how words)) → all_end bytes ≡ record { text = picked_file how.mode h.before; fault = Some (PickTime h.photon.place) }
   late-ends words more bytes parts h =
       let front = front-of words more bytes parts in
-      end-late how.mode (photons_of chooses how bytes) (fault_in (streamed how bytes)) (late-more how.mode (photons_in chooses how words) front.0 (photons_of chooses how bytes) front.1 h)
+      end-late how.mode (photons_of chooses how bytes) (fault_in (streamed how bytes))
+      (late-more how.mode (photons_in chooses how words) front.0 (photons_of chooses how bytes) front.1 h)
 
-  pub in-stays : (words more : List ℕ) (fault : Fault) → record_refusal how words ≡ Some fault → photons_in chooses how (words ++ more) ≡ photons_in chooses how words
+  pub in-stays : (words more : List ℕ) (fault : Fault) → record_refusal how words ≡ Some fault
+      → photons_in chooses how (words ++ more) ≡ photons_in chooses how words
   in-stays words more fault refused = ap (λ l. filter chooses (not_marked l)) (given-stays how words more fault refused)

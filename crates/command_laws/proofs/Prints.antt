@@ -1,13 +1,14 @@
 -- What `header` ends with is what the table of cases calls for.
 use Rattle.std.{proofs.Common.{◌≡◌, ℕ, List, [], ◌∷◌, ◌++◌, None, Some, refl, sym, ap, ◌∙◌, subst, inl, inr, ◌⊎◌, flat_map, arith, rules}, specs.declared.option.Option.{Option}}
 use Rattle.tally_base.specs.Faults.{fault_in}
-use Rattle.ptu_definitions.{specs.TagList.Item, specs.Endings.HasHeader, specs.Headers.{header_answer, head_of}, specs.Seen.{seen, seen_preamble, HasNoFront, HasLongestFront}, proofs.Sound.one_answer, proofs.SeenLemmas.{seen-header, seen_preamble-header}, proofs.SeenLaws.{seen-longest, seen-none}, proofs.Longest.some-longest}
+use Rattle.ptu_definitions.{specs.TagList.Item, specs.Endings.HasHeader, specs.Headers.{header_answer, head_of, seen, seen_preamble, HasNoFront, HasLongestFront}, proofs.Sound.one_answer, proofs.SeenLemmas.{seen-header, seen_preamble-header}, proofs.SeenLaws.{seen-longest, seen-none}, proofs.Longest.some-longest}
 use Rattle.list_out.specs.HeaderText.{preamble_part, item_text, shown_text, header_text}
 use Rattle.command_laws.{specs.Cases.{Prints, PrintCase}, proofs.CaseSteps.same-end}
 use Rattle.command_work.specs.Outcomes.{Outcome}
 use Rattle.file_work.specs.FileOutcomes.{header_outcome}
 
-shown-at : (bytes : List ℕ) (start : Option (List ℕ)) (items : List Item) → seen_preamble bytes ≡ start → seen bytes ≡ items → shown_text bytes ≡ preamble_part start ++ flat_map item_text items
+shown-at : (bytes : List ℕ) (start : Option (List ℕ)) (items : List Item) → seen_preamble bytes ≡ start
+    → seen bytes ≡ items → shown_text bytes ≡ preamble_part start ++ flat_map item_text items
 unfolding shown_text
 shown-at bytes start items p q = rw (p, q) refl
 
@@ -15,7 +16,8 @@ head-text : (bytes : List ℕ) → header_text bytes ≡ shown_text (head_of byt
 unfolding header_text
 head-text bytes = refl
 
-shown-header : (bytes : List ℕ) (items : List Item) (h : HasHeader bytes items) → shown_text bytes ≡ preamble_part (Some h.start) ++ flat_map item_text (h.inner ++ h.last ∷ [])
+shown-header : (bytes : List ℕ) (items : List Item) (h : HasHeader bytes items)
+    → shown_text bytes ≡ preamble_part (Some h.start) ++ flat_map item_text (h.inner ++ h.last ∷ [])
 shown-header bytes items h = search (rules, arith, shown-at, seen_preamble-header, seen-header)
 
 prints-holds : (bytes : List ℕ) → Prints bytes (shown_text bytes)

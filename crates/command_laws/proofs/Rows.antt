@@ -1,9 +1,9 @@
 -- The commands and their outcomes at known words and bytes.
 use Rattle.std.proofs.Common.{◌≡◌, ℕ, List, [], ◌∷◌, ◌++◌, None, Some, replicate, refl, codes}
 use Rattle.tally_base.{specs.declared.slot.Slot.TheVariants.Data, specs.declared.header.RecordType.TheVariants.HydraHarp2T3, specs.declared.fault.Fault.TheVariants.{Usage, OpenFault, BadMagic, TruncatedHeader, TruncatedRecord}, specs.RecordTypes.type_with}
-use Rattle.ptu_definitions.{specs.TagFields.{name_in, code_in, value_in, has_body, is_known}, specs.Endings.{walk, ending}, specs.Fields.{value_under, found_in, header_of}, specs.Headers.header_answer, specs.Layouts.hydra_t3, specs.Counted.{counted, records_of}, specs.Seen.{seen, seen_preamble}}
+use Rattle.ptu_definitions.{specs.TagList.{name_in, code_in, value_in, has_body, is_known}, specs.Endings.{walk, ending}, specs.Fields.{value_under, found_in, header_of}, specs.Headers.{header_answer, seen, seen_preamble}, specs.Layouts.hydra_t3, specs.Words.{counted, records_of}}
 use Rattle.list_out.specs.HeaderText.{shown_text, header_text}
-use Rattle.file_work.specs.CountText.{counts_text}
+use Rattle.file_work.specs.FileOutcomes.{counts_text}
 use Rattle.command_words.specs.Commands.{Count, Header, Events, Run, Trace, Pick, Demo, number_in, request_of}
 use Rattle.ptu_cli.specs.Behaviours.{behaviour}
 use Rattle.command_work.specs.Endings.{outcome}
@@ -14,97 +14,36 @@ known =
     ++ codes "TTResultFormat_TTTRRecType" ++ replicate 6 0 ++ replicate 4 255 ++ 8 ∷ 0 ∷ 0 ∷ 16 ∷ 4 ∷ 3 ∷ 1 ∷ 1 ∷ replicate 4 0
     ++ codes "Header_End" ++ replicate 22 0 ++ replicate 4 255 ++ 8 ∷ 0 ∷ 255 ∷ 255 ∷ replicate 8 0
 
-pub row-count : request_of (codes "count" ∷ codes "f" ∷ []) ≡ Some (Count (codes "f"))
-row-count = refl
-
-pub row-header : request_of (codes "header" ∷ [] ∷ []) ≡ Some (Header [])
-row-header = refl
-
-pub row-other : request_of (codes "Count" ∷ codes "f" ∷ []) ≡ None
-row-other = refl
-
-pub row-more : request_of (codes "count" ∷ codes "f" ∷ codes "g" ∷ []) ≡ None
-row-more = refl
-
-pub row-demo : request_of (codes "demo" ∷ codes "00000000000000000007" ∷ codes "10000000" ∷ []) ≡ Some (Demo 7 10000000)
-unfolding number_in
-row-demo = refl
-
-pub row-greatest : request_of (codes "demo" ∷ codes "18446744073709551615" ∷ codes "0" ∷ []) ≡ Some (Demo 18446744073709551615 0)
-unfolding number_in
-row-greatest = refl
-
-pub row-great : request_of (codes "demo" ∷ codes "18446744073709551616" ∷ codes "1" ∷ []) ≡ None
-unfolding number_in
-row-great = refl
-
-pub row-many : request_of (codes "demo" ∷ codes "1" ∷ codes "10000001" ∷ []) ≡ None
-unfolding number_in
-row-many = refl
-
-pub row-sign : request_of (codes "demo" ∷ codes "1" ∷ codes "-5" ∷ []) ≡ None
-unfolding number_in
-row-sign = refl
-
-pub row-digits : request_of (codes "demo" ∷ codes "000000000000000000001" ∷ codes "1" ∷ []) ≡ None
-unfolding number_in
-row-digits = refl
-
-pub row-no_digit : request_of (codes "demo" ∷ [] ∷ codes "1" ∷ []) ≡ None
-unfolding number_in
-row-no_digit = refl
-
-pub row-events : request_of (codes "events" ∷ codes "f" ∷ []) ≡ Some (Events (codes "f"))
-row-events = refl
-
-pub row-run : request_of (codes "run" ∷ codes "p" ∷ codes "f" ∷ []) ≡ Some (Run (codes "p") (codes "f"))
-row-run = refl
-
-pub row-trace : request_of (codes "trace" ∷ codes "p" ∷ codes "f" ∷ []) ≡ Some (Trace (codes "p") (codes "f"))
-row-trace = refl
-
-pub row-pick : request_of (codes "pick" ∷ codes "p" ∷ codes "012" ∷ codes "f" ∷ []) ≡ Some (Pick (codes "p") 12 (codes "f"))
-unfolding number_in
-row-pick = refl
-
-pub row-pick_greatest : request_of (codes "pick" ∷ [] ∷ codes "18446744073709551615" ∷ [] ∷ []) ≡ Some (Pick [] 18446744073709551615 [])
-unfolding number_in
-row-pick_greatest = refl
-
-pub row-pick_great : request_of (codes "pick" ∷ [] ∷ codes "18446744073709551616" ∷ [] ∷ []) ≡ None
-unfolding number_in
-row-pick_great = refl
-
-pub row-pick_word : request_of (codes "pick" ∷ codes "p" ∷ codes "first" ∷ codes "f" ∷ []) ≡ None
-unfolding number_in
-row-pick_word = refl
-
-pub row-pick_fewer : request_of (codes "pick" ∷ codes "p" ∷ codes "1" ∷ []) ≡ None
-row-pick_fewer = refl
-
-pub row-usage : outcome (behaviour None) None None ≡ record { text = []; fault = Some Usage }
-unfolding outcome
-row-usage = refl
-
-pub row-absent : outcome (behaviour (Some (Count []))) None None ≡ record { text = []; fault = Some (OpenFault Data) }
-unfolding outcome
-row-absent = refl
-
-pub row-rest : outcome (behaviour (Some (Count []))) None (Some (known ++ 1 ∷ 0 ∷ 0 ∷ 0 ∷ 9 ∷ 9 ∷ [])) ≡ record { text = []; fault = Some (TruncatedRecord 2) }
-unfolding outcome header_answer ending walk name_in code_in value_in has_body is_known value_under found_in header_of type_with counted records_of hydra_t3 counts_text
-row-rest = refl
-
-pub row-short : outcome (behaviour (Some (Header []))) None (Some (codes "PQ")) ≡ record { text = []; fault = Some (TruncatedHeader 2) }
-unfolding outcome header_answer ending walk header_text shown_text seen seen_preamble
-row-short = refl
-
-pub row-magic : outcome (behaviour (Some (Header []))) None (Some (codes "PQTTTS")) ≡ record { text = []; fault = Some BadMagic }
-unfolding outcome header_answer ending walk header_text shown_text seen seen_preamble
-row-magic = refl
-
-pub row-lines : outcome (behaviour (Some (Count []))) None (Some (known ++ 1 ∷ 0 ∷ 0 ∷ 0 ∷ [])) ≡ record {
-  text = counts_text (record { record_type = HydraHarp2T3; count = None; global = None; resolution = None; version = codes "1.0.00" ++ 0 ∷ 0 ∷ [] }) (record { records = 1; photons = 1; markers = 0; wraps = 0; reserved = 0 });
-  fault = None;
-}
-unfolding outcome header_answer ending walk name_in code_in value_in has_body is_known value_under found_in header_of type_with counted records_of hydra_t3
-row-lines = refl
+pub rows :
+    (request_of (codes "count" ∷ codes "f" ∷ []) ≡ Some (Count (codes "f")))
+    × (request_of (codes "header" ∷ [] ∷ []) ≡ Some (Header []))
+    × (request_of (codes "Count" ∷ codes "f" ∷ []) ≡ None)
+    × (request_of (codes "count" ∷ codes "f" ∷ codes "g" ∷ []) ≡ None)
+    × (request_of (codes "demo" ∷ codes "00000000000000000007" ∷ codes "10000000" ∷ []) ≡ Some (Demo 7 10000000))
+    × (request_of (codes "demo" ∷ codes "18446744073709551615" ∷ codes "0" ∷ []) ≡ Some (Demo 18446744073709551615 0))
+    × (request_of (codes "demo" ∷ codes "18446744073709551616" ∷ codes "1" ∷ []) ≡ None)
+    × (request_of (codes "demo" ∷ codes "1" ∷ codes "10000001" ∷ []) ≡ None)
+    × (request_of (codes "demo" ∷ codes "1" ∷ codes "-5" ∷ []) ≡ None)
+    × (request_of (codes "demo" ∷ codes "000000000000000000001" ∷ codes "1" ∷ []) ≡ None)
+    × (request_of (codes "demo" ∷ [] ∷ codes "1" ∷ []) ≡ None)
+    × (request_of (codes "events" ∷ codes "f" ∷ []) ≡ Some (Events (codes "f")))
+    × (request_of (codes "run" ∷ codes "p" ∷ codes "f" ∷ []) ≡ Some (Run (codes "p") (codes "f")))
+    × (request_of (codes "trace" ∷ codes "p" ∷ codes "f" ∷ []) ≡ Some (Trace (codes "p") (codes "f")))
+    × (request_of (codes "pick" ∷ codes "p" ∷ codes "012" ∷ codes "f" ∷ []) ≡ Some (Pick (codes "p") 12 (codes "f")))
+    × (request_of (codes "pick" ∷ [] ∷ codes "18446744073709551615" ∷ [] ∷ []) ≡ Some (Pick [] 18446744073709551615 []))
+    × (request_of (codes "pick" ∷ [] ∷ codes "18446744073709551616" ∷ [] ∷ []) ≡ None)
+    × (request_of (codes "pick" ∷ codes "p" ∷ codes "first" ∷ codes "f" ∷ []) ≡ None)
+    × (request_of (codes "pick" ∷ codes "p" ∷ codes "1" ∷ []) ≡ None)
+    × (outcome (behaviour None) None None ≡ record { text = []; fault = Some Usage })
+    × (outcome (behaviour (Some (Count []))) None None ≡ record { text = []; fault = Some (OpenFault Data) })
+    × (outcome (behaviour (Some (Count []))) None (Some (known ++ 1 ∷ 0 ∷ 0 ∷ 0 ∷ 9 ∷ 9 ∷ [])) ≡ record { text = []; fault = Some (TruncatedRecord 2) })
+    × (outcome (behaviour (Some (Header []))) None (Some (codes "PQ")) ≡ record { text = []; fault = Some (TruncatedHeader 2) })
+    × (outcome (behaviour (Some (Header []))) None (Some (codes "PQTTTS")) ≡ record { text = []; fault = Some BadMagic })
+    × (outcome (behaviour (Some (Count []))) None (Some (known ++ 1 ∷ 0 ∷ 0 ∷ 0 ∷ [])) ≡ record {
+      text = counts_text (record { record_type = HydraHarp2T3; count = None; global = None; resolution = None; version = codes "1.0.00" ++ 0 ∷ 0 ∷ [] })
+          (record { records = 1; photons = 1; markers = 0; wraps = 0; reserved = 0 });
+      fault = None;
+    })
+unfolding number_in outcome header_answer ending walk name_in code_in value_in has_body is_known value_under
+    found_in header_of type_with counted records_of hydra_t3 counts_text header_text shown_text seen seen_preamble
+rows = (refl, refl, refl, refl, refl, refl, refl, refl, refl, refl, refl, refl, refl, refl, refl, refl, refl, refl, refl, refl, refl, refl, refl, refl, refl)

@@ -2,13 +2,13 @@
 use Rattle.std.{specs.Prelude.{ℕ, ◌≡◌, ◌≢◌, ◌⊎◌, ◌<◌, ◌≤◌, List, [], ◌∷◌, ◌++◌, length, take, get_or, map, flat_map, codes, decimal, nat_le, count_by, ◌+◌, ◌/◌, ◌==◌, true, None, Some, Result, Ok, Err}, specs.List.filter, specs.declared.option.Option.Option}
 use Rattle.tally_base.{specs.declared.slot.Slot.TheVariants.Data, specs.declared.event.Event.Event, specs.declared.fault.Fault.Fault, specs.declared.fault.Fault.TheVariants.{OpenFault, RecordLimit, TruncatedRecord, PickTime}, specs.declared.header.Header.Header, specs.declared.header.Mode.Mode, specs.Faults.fault_in, specs.RecordTypes.mode_of, specs.Settings.{PartSettings, StartStopView, TraceView}, specs.Settings.PartSettings.StartStopSettings}
 use Rattle.bench_io.specs.Inputs.{File}
-use Rattle.ptu_definitions.{specs.declared.records.Summary.Summary, specs.TagList.{Item, IsHeader}, specs.Headers.{HasAnswer, head_of}, specs.Seen.{begun, IsLongestFront, HasNoFront}, specs.Words.{words_of, rest_of}, specs.Layouts.meaning_of, specs.Kinds.counts_of, specs.Counted.record_limit, specs.Prefixes.each, specs.Settled.{kept_by, settled_by}, specs.Times.events, specs.Streams.{Reading, refusal, events_in, summary_of}, specs.Firsts.IsFirst}
+use Rattle.ptu_definitions.{specs.declared.records.Summary.Summary, specs.TagList.{Item, IsHeader}, specs.Headers.{HasAnswer, head_of, begun, IsLongestFront, HasNoFront}, specs.Words.{words_of, rest_of, record_limit}, specs.Layouts.meaning_of, specs.Kinds.counts_of, specs.Prefixes.each, specs.Settled.{kept_by, settled_by}, specs.Times.events, specs.Streams.{Reading, refusal, events_in, summary_of, IsFirst}}
 use Rattle.plan_text.specs.Plan.{PlanView, parts_of}
-use Rattle.coincidence.specs.Places.{count_pairs}
-use Rattle.gate_plan.{specs.Shifting.sorting, specs.Histories.{history, settled_history}, specs.Plans.reading_by}
-use Rattle.list_out.{specs.HeaderText.{preamble_text, item_text}, specs.EventText.events_text, specs.Lines.line}
+use Rattle.coincidence.specs.Intervals.{count_pairs}
+use Rattle.gate_plan.{specs.Shifting.sorting, specs.Histories.{history, settled_history, reading_by}}
+use Rattle.list_out.{specs.HeaderText.{preamble_text, item_text}, specs.Lines.{events_text, line}}
 use Rattle.table_out.{specs.Printed.{Printed, cell_line, table_lines}, specs.StartStop.startstop_printed, specs.Report.{head_text, printed, same_kind, Table, with_events}}
-use Rattle.file_work.{specs.CountText.counts_text, specs.FileOutcomes.listing}
+use Rattle.file_work.specs.FileOutcomes.{counts_text, listing}
 use Rattle.command_work.specs.Outcomes.{Outcome, refused, written}
 use Rattle.trace_work.specs.TraceOutcomes.{trace_of}
 use Rattle.pick_work.specs.PickOutcomes.{chosen_by}

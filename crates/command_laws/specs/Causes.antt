@@ -5,11 +5,11 @@ use Rattle.tally_base.{specs.declared.slot.Slot.TheVariants.{Plan, Data}, specs.
 use Rattle.bench_io.specs.Inputs.{File}
 use Rattle.ptu_definitions.{specs.Headers.HasAnswer, specs.Words.{words_of, rest_of}}
 use Rattle.plan_text.{specs.Plan.{PlanView, plan}, specs.Reading.{document, IsValid, IsCalledFor}, specs.Fits.IsMisfit}
-use Rattle.gate_plan.specs.Plans.{reading_by}
+use Rattle.gate_plan.specs.Histories.{reading_by}
 use Rattle.command_words.specs.Commands.{Request}
 use Rattle.ptu_cli.specs.Behaviours.{behaviour}
-use Rattle.command_work.specs.Endings.{outcome}
-use Rattle.command_laws.{specs.Cases.{NoneRefused, HasGroup}, specs.CommandCases.{RecordCases, Need, CommandCases, BadWords, Writes, ReadsHeader, ReadsRecords, ReadsByPlan, IsIn, Has, Lacks, Suits}}
+use Rattle.command_work.{specs.Endings.outcome, specs.Outcomes.{IsIn, StatusIn}}
+use Rattle.command_laws.{specs.Cases.{NoneRefused, HasGroup}, specs.CommandCases.{RecordCases, Need, CommandCases, BadWords, Writes, ReadsHeader, ReadsRecords, ReadsByPlan, Has, Lacks, Suits}}
 
 -- The file is there, and its bytes are this plan.
 pub record IsValidPlan (plan_file : File) (view : PlanView) : Type 0 where
@@ -107,9 +107,6 @@ IsPickable group plan_file data_file =
 -- the command ends with this fault, where nothing outside fails
 abbrev pub EndsWithFault : Option Request → File → File → Fault → Type 0
 EndsWithFault request plan_file data_file fault = (outcome (behaviour request) plan_file data_file).fault ≡ Some fault
-
-abbrev pub StatusIn : ℕ → ℕ → Fault → Type 0
-StatusIn low high fault = IsIn low high (status_of fault)
 
 -- the faults that the words and files of a command may call for, by their statuses
 abbrev pub MayCallFor : CommandCases → Fault → Type 0

@@ -3,13 +3,13 @@ use Rattle.std.{specs.Prelude.{ℕ, ◌≡◌, ◌≢◌, ◌⊎◌, ◌<◌, �
 use Rattle.toml.specs.Data.{Members, table}
 use Rattle.tally_base.{specs.declared.slot.Slot.TheVariants.Plan, specs.declared.fault.Fault.Fault, specs.declared.fault.Fault.TheVariants.{Usage, OpenFault, OutOfMemory, RecordLimit, NoTrace, NoGroup, PickTime}, specs.declared.header.Header.Header, specs.RecordTypes.mode_of}
 use Rattle.bench_io.specs.Inputs.{File}
-use Rattle.ptu_definitions.{specs.Words.words_of, specs.Counted.record_limit, specs.Streams.Reading, specs.Firsts.IsFirst}
+use Rattle.ptu_definitions.{specs.Words.{words_of, record_limit}, specs.Streams.{Reading, IsFirst}}
 use Rattle.plan_text.{specs.Plan.{PlanView, plan}, specs.Reading.{document, IsValid, IsCalledFor}, specs.Fits.IsMisfit}
-use Rattle.gate_plan.specs.Plans.{reading_by}
+use Rattle.gate_plan.specs.Histories.{reading_by}
 use Rattle.ptu_made.{specs.Generator.made_words, specs.Records.made_header}
 use Rattle.command_words.specs.Commands.{Request, Count, Events, Run, Trace, Pick, Demo, Header as HeaderOf}
 use Rattle.report_work.specs.Demo.{demo_plan}
-use Rattle.command_work.specs.Outcomes.{Outcome, refused, written}
+use Rattle.command_work.specs.Outcomes.{Outcome, refused, written, IsIn}
 use Rattle.file_work.specs.FileOutcomes.{listing}
 use Rattle.command_laws.specs.Cases.{FileCase, HeaderCase, NoneRefused, CountCase, PrintCase, ListCase, words_report, ReportCase, HasTrace, TracedCase, HasGroup, LateAtRecord, LateAtEnd, SettledInTime, RefusedInTime, PickedCase}
 
@@ -43,10 +43,6 @@ pub data CommandCases : Type 1 where
   ReadsByPlan : (further : ℕ → Type 0) (need : Need) (records : PlanView → RecordCases) → CommandCases
 
 -- ## The commands
-
--- the number is one of these
-abbrev pub IsIn : ℕ → ℕ → ℕ → Type 0
-IsIn low high n = (low ≤ n) × (n ≤ high)
 
 -- the least record that is refused, and with which fault
 abbrev pub RefusedIn : Reading → List ℕ → Fault → Type 0

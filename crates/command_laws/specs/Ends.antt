@@ -2,14 +2,17 @@
 use Rattle.std.{specs.Prelude.{ℕ, ◌≡◌, ◌≤◌, ◌⊎◌, ◌↔◌, List, None, Some, false, length, map}, specs.declared.option.Option.{Option}}
 use Rattle.tally_base.{specs.declared.event.Event.Event, specs.declared.fault.Fault.Fault, specs.declared.fault.Fault.TheVariants.NoGroup, specs.declared.header.Header.Header, specs.declared.header.Mode.Mode, specs.RecordTypes.mode_of}
 use Rattle.bench_io.specs.Inputs.{File}
-use Rattle.ptu_definitions.specs.Counted.{record_limit}
+use Rattle.ptu_definitions.{specs.Words.record_limit, specs.Headers.Shows}
 use Rattle.plan_text.specs.Plan.{PlanView}
-use Rattle.list_out.specs.EventText.{events_text}
+use Rattle.gate_plan.specs.Histories.{reading_by}
+use Rattle.photon_pick.{specs.Ends.photons_of, specs.Late.writable}
+use Rattle.pick_work.specs.PickOutcomes.{chosen_by}
+use Rattle.list_out.specs.Lines.{events_text}
 use Rattle.record_write.specs.Picked.{picked_words, picked_events}
 use Rattle.command_words.specs.Commands.{Request, Events}
 use Rattle.ptu_cli.specs.Behaviours.{behaviour}
-use Rattle.command_work.{specs.Endings.outcome, specs.Outcomes.{Outcome, written}}
-use Rattle.command_laws.{specs.Cases.HasGroup, specs.CommandCases.{CommandCases, Needs, Suits, cases}, specs.Written.photons_written, specs.Causes.{Headed, IsPlanWith, EndsWithFault, StatusIn, TooLate}}
+use Rattle.command_work.{specs.Endings.outcome, specs.Outcomes.{Outcome, written, StatusIn}, specs.Behaviours.{Work, Behaviour, NoCommand, Alone, OnFile, ByPlan}}
+use Rattle.command_laws.{specs.Cases.HasGroup, specs.CommandCases.{CommandCases, Needs, Suits, cases}, specs.Causes.{Headed, IsPlanWith, EndsWithFault, TooLate}}
 
 -- how a command ends over its files, where nothing outside fails
 abbrev pub ends_with : Request → File → File → Outcome
@@ -23,6 +26,10 @@ EndsWhere low high as_said = (request : Option Request) (plan_file data_file : F
 abbrev pub Lists : List ℕ → List ℕ → Mode → List Event → Type 0
 Lists name file mode photons = ends_with (Events name) None (Some file) ≡ written (events_text (map (λ e. (e, false)) (picked_events mode photons)))
 
+-- the photons that are written of the bytes behind a header: those before the first that is too late
+abbrev pub photons_written : ℕ → PlanView → Header → List ℕ → List Event
+photons_written group plan header bytes = writable (mode_of header.record_type) (photons_of (chosen_by plan group) (reading_by plan header) bytes)
+
 -- Where the plan has the group and suits a file with a header, and the words of its written photons are few enough for `events`, this lists just them in the text.
 abbrev pub ListsWritten : ℕ → File → File → List ℕ → List ℕ → Type 0
 ListsWritten group plan_file data_file name text = (view : PlanView) (header : Header) (behind : List ℕ)
@@ -35,3 +42,14 @@ abbrev pub EndsWellOrLate : Request → File → File → Type 0
 EndsWellOrLate request plan_file data_file =
     ((ends_with request plan_file data_file).fault ≡ None)
     ⊎ ((fault : Fault) × EndsWithFault (Some request) plan_file data_file fault × TooLate (cases (Some request)) plan_file data_file fault)
+
+-- The bytes call for no end by themselves, or for one that stays whatever comes behind them.
+abbrev pub GoesOnOrShows : Work → List ℕ → Type 0
+GoesOnOrShows work bytes = work.goes_on bytes ⊎ Shows work.outcome bytes (work.outcome bytes)
+
+-- Bytes of FILE call for no end of the command by themselves, or for one that stays.
+abbrev pub EndsStay : Behaviour → Type 0
+EndsStay NoCommand = Unit {0}
+EndsStay (Alone end) = Unit {0}
+EndsStay (OnFile file writing work) = (bytes : List ℕ) → GoesOnOrShows work bytes
+EndsStay (ByPlan plan file writing memory lacks work) = (view : PlanView) (bytes : List ℕ) → GoesOnOrShows (work view) bytes

@@ -5,15 +5,15 @@
 
 ghost use Rattle.std.{specs.Prelude.{◌≡◌, ◌≤◌, ◌↔◌, ℕ, List, None, Some, length}, specs.declared.option.Option.{Option}};
 ghost use Rattle.bench_io.specs.Inputs.{File};
-ghost use Rattle.ptu_definitions.specs.Counted.{record_limit};
+ghost use Rattle.ptu_definitions.specs.Words.{record_limit};
 ghost use Rattle.record_write.specs.Picked.{CanBePicked, picked_words, picked_file};
-ghost use Rattle.ptu_made.{specs.MadeFile.made_file, specs.Generator.photon_limit};
+ghost use Rattle.ptu_made.{specs.Records.made_file, specs.Generator.photon_limit};
 ghost use Rattle.tally_base.{specs.declared.event.Event.Event, specs.declared.header.Mode.Mode, specs.declared.fault.Fault.Fault, specs.declared.fault.Fault.TheVariants.Usage};
 ghost use Rattle.command_words.specs.Commands.{Request, Run, Pick, Demo};
 ghost use Rattle.ptu_cli.{specs.Runs.{Around, Runs}, specs.Behaviours.behaviour};
 ghost use Rattle.report_work.specs.Demo.{demo_text};
 ghost use Rattle.command_work.{specs.Outcomes.Outcome, specs.Endings.outcome};
-ghost use Rattle.command_laws.{specs.CommandCases.{cases, IsOutcome}, specs.Causes.{EndsWithFault, Absent, NoPlan, Misfits, NoHeader, Cut, Refused, Lacking, TooLate, IsPickable, MayCallFor, MayEndWith}, specs.Ends.{ends_with, EndsWhere, Lists, ListsWritten, EndsWellOrLate}, specs.Stays.EndsStay, specs.ToldFiles.OverToldFiles};
+ghost use Rattle.command_laws.{specs.CommandCases.{cases, IsOutcome}, specs.Causes.{EndsWithFault, Absent, NoPlan, Misfits, NoHeader, Cut, Refused, Lacking, TooLate, IsPickable, MayCallFor, MayEndWith}, specs.Ends.{ends_with, EndsWhere, Lists, ListsWritten, EndsWellOrLate, EndsStay}, specs.ToldFiles.OverToldFiles};
 
 /// A `demo` ends as `run` does on the text of its plan and the made file.
 pub fn demo_is_a_run()

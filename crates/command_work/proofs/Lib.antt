@@ -1,12 +1,5 @@
 pub mod Told
 pub mod Once
-pub mod Few
 pub mod Pieces
-pub mod Streams
-pub mod WorkTold
 pub mod PlanTold
-pub mod Plans
-pub mod Answers
-pub mod TellingLaws
 pub mod RestEnds
-pub mod Fronts

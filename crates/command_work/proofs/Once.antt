@@ -2,7 +2,7 @@
 use Rattle.std.{proofs.Common.{ℕ, ◌≡◌, Bool, false, None, Some, refl, subst, arith, rules}, specs.declared.option.Option.{Option}}
 use Rattle.tally_base.{specs.declared.slot.Slot.Slot, specs.declared.fault.Fault.Fault, specs.declared.fault.Fault.TheVariants.{OpenFault, ReadFault, WriteFault, OutOfMemory}, specs.Faults.{is_outside, HasReason}, specs.FaultCounts.Rose}
 use Rattle.bench_io.specs.Inputs.{InputState, KeepsOther, OpensNone}
-use Rattle.command_work.specs.Once.{tells_opening, tells_reading, CountsIf, InputsOnce, OutOnce}
+use Rattle.command_work.specs.Outcomes.{tells_opening, tells_reading, CountsIf, InputsOnce, OutOnce}
 
 pub Rose-kept : (before mid now : ℕ) → mid ≡ before → Rose mid now → Rose before now
 Rose-kept before mid now same rose = subst (λ (n : ℕ). Rose n now) same rose
@@ -45,32 +45,40 @@ once-refl state fault quiet = once-none state state fault quiet (record { openin
 pub once-behind : (a b c : InputState) (fault : Option Fault) → InputsOnce a b None → InputsOnce b c fault → InputsOnce a c fault
 once-behind a b c fault p q = search (rules, arith, counts-behind)
 
-other-reads : (slot : Slot) (a b : InputState) → KeepsOther slot a b → b.read_faults slot ≡ a.read_faults slot → (it : Slot) → b.read_faults it ≡ a.read_faults it
+other-reads : (slot : Slot) (a b : InputState) → KeepsOther slot a b
+    → b.read_faults slot ≡ a.read_faults slot → (it : Slot) → b.read_faults it ≡ a.read_faults it
 other-reads slot a b other same it = search (rules, arith)
 
-other-openings : (slot : Slot) (a b : InputState) → KeepsOther slot a b → b.open_faults slot ≡ a.open_faults slot → (it : Slot) → b.open_faults it ≡ a.open_faults it
+other-openings : (slot : Slot) (a b : InputState) → KeepsOther slot a b
+    → b.open_faults slot ≡ a.open_faults slot → (it : Slot) → b.open_faults it ≡ a.open_faults it
 other-openings slot a b other same it = search (rules, arith)
 
-unread-reads : (slot : Slot) (a b : InputState) → KeepsOther slot a b → Rose (a.read_faults slot) (b.read_faults slot) → (it : Slot) → CountsIf (tells_reading (Some (ReadFault slot)) it) (a.read_faults it) (b.read_faults it)
+unread-reads : (slot : Slot) (a b : InputState) → KeepsOther slot a b → Rose (a.read_faults slot) (b.read_faults slot)
+    → (it : Slot) → CountsIf (tells_reading (Some (ReadFault slot)) it) (a.read_faults it) (b.read_faults it)
 unread-reads slot a b other once it = search (rules, arith)
 
-unopened-openings : (slot : Slot) (a b : InputState) → KeepsOther slot a b → Rose (a.open_faults slot) (b.open_faults slot) → (it : Slot) → CountsIf (tells_opening (Some (OpenFault slot)) it) (a.open_faults it) (b.open_faults it)
+unopened-openings : (slot : Slot) (a b : InputState) → KeepsOther slot a b → Rose (a.open_faults slot) (b.open_faults slot)
+    → (it : Slot) → CountsIf (tells_opening (Some (OpenFault slot)) it) (a.open_faults it) (b.open_faults it)
 unopened-openings slot a b other once it = search (rules, arith)
 
 -- a read that did not fail behind others that did not, whatever is refused then
-pub once-read : (slot : Slot) (a b c : InputState) (fault : Option Fault) → IsQuiet fault → InputsOnce a b None → KeepsOther slot b c → OpensNone b c → c.read_faults slot ≡ b.read_faults slot → InputsOnce a c fault
+pub once-read : (slot : Slot) (a b c : InputState) (fault : Option Fault) → IsQuiet fault → InputsOnce a b None
+    → KeepsOther slot b c → OpensNone b c → c.read_faults slot ≡ b.read_faults slot → InputsOnce a c fault
 once-read slot a b c fault quiet so_far other none same = search (rules, arith, once-none, once-behind, other-reads)
 
 -- a read that failed
-pub once-unread : (slot : Slot) (a b c : InputState) → InputsOnce a b None → KeepsOther slot b c → OpensNone b c → Rose (b.read_faults slot) (c.read_faults slot) → InputsOnce a c (Some (ReadFault slot))
+pub once-unread : (slot : Slot) (a b c : InputState) → InputsOnce a b None → KeepsOther slot b c
+    → OpensNone b c → Rose (b.read_faults slot) (c.read_faults slot) → InputsOnce a c (Some (ReadFault slot))
 once-unread slot a b c so_far other none once = search (rules, arith, once-behind, unread-reads)
 
 -- an opening that did not fail
-pub once-opened : (slot : Slot) (a b c : InputState) → InputsOnce a b None → KeepsOther slot b c → c.read_faults slot ≡ b.read_faults slot → c.open_faults slot ≡ b.open_faults slot → InputsOnce a c None
+pub once-opened : (slot : Slot) (a b c : InputState) → InputsOnce a b None → KeepsOther slot b c
+    → c.read_faults slot ≡ b.read_faults slot → c.open_faults slot ≡ b.open_faults slot → InputsOnce a c None
 once-opened slot a b c so_far other reads same = search (rules, arith, once-behind, other-openings, other-reads)
 
 -- an opening that failed
-pub once-unopened : (slot : Slot) (a b c : InputState) → InputsOnce a b None → KeepsOther slot b c → c.read_faults slot ≡ b.read_faults slot → Rose (b.open_faults slot) (c.open_faults slot) → InputsOnce a c (Some (OpenFault slot))
+pub once-unopened : (slot : Slot) (a b c : InputState) → InputsOnce a b None → KeepsOther slot b c
+    → c.read_faults slot ≡ b.read_faults slot → Rose (b.open_faults slot) (c.open_faults slot) → InputsOnce a c (Some (OpenFault slot))
 once-unopened slot a b c so_far other reads once = search (rules, arith, once-behind, unopened-openings, other-reads)
 
 -- ## The count of standard output
@@ -79,5 +87,6 @@ pub out-inside : (fault : Fault) (before now : ℕ) → is_outside fault ≡ fal
 out-inside fault before now inside same = search (rules, arith)
 
 -- nor does one that has another reason
-pub out-unwritten : (opening reading : Slot → Type 0) (memory : Type 0) (fault : Fault) (count : ℕ) → HasReason opening reading ⊥ memory fault → OutOnce (Some fault) count count
+pub out-unwritten : (opening reading : Slot → Type 0) (memory : Type 0) (fault : Fault) (count : ℕ)
+    → HasReason opening reading ⊥ memory fault → OutOnce (Some fault) count count
 out-unwritten opening reading memory fault count reason = search (rules, arith)

@@ -1,23 +1,28 @@
 -- A piece that is fed in two parts, and what the bytes taken call for.
-use Rattle.std.{proofs.Common.{slice_range, ◌≡◌, ◌+◌, ◌≤◌, ℕ, List, [], ◌++◌, Ok, length, arith, take, drop, refl, sym, ap, ◌∙◌, append_assoc, append-nil, take-append-drop, ◌<◌, rules}, proofs.Math.Seq.take-add, proofs.lemmas.List.{length-drop, length-take-le}}
-use Rattle.tally_base.specs.declared.header.Header.{Header}
+use Rattle.std.{proofs.Common.{slice_range, ◌≡◌, ◌+◌, ◌≤◌, ℕ, List, [], ◌++◌, Ok, length, arith, take, drop, refl, sym, ap, ◌∙◌, append_assoc, append-nil, take-append-drop, ◌<◌, rules, true, false, Err, Result, IfOk, IfErr, Some, inl, inr, ⊎_elim}, proofs.Math.Seq.take-add, proofs.lemmas.List.{length-drop, length-take-le, length-take}, specs.declared.option.Option.Option, proofs.lemmas.Result.IfErr-weaker}
+use Rattle.tally_base.{specs.declared.header.Header.Header, specs.declared.fault.Fault.Fault, specs.Faults.{is_outside, fault_in}, specs.declared.fault.Fault.TheVariants.WriteFault, proofs.Reasons.HasReason-follows}
 use Rattle.ptu_definitions.{specs.Endings.ending, specs.Headers.header_answer}
-use Rattle.command_work.specs.Outcomes.{IsCut}
+use Rattle.command_work.{specs.Outcomes.{IsCut, SaysNoEnd}, specs.Behaviours.piece_limit, specs.Works.TakesFew, specs.Pieces.StopsSoon, specs.Endings.Span, specs.Tellings.{Telling, IsText, Opens}, specs.Rests.{EndsText, CutsText, ReadsText, ReadsRest}, proofs.Once.{counts-behind, quiet-memory, once-refl, Rose-kept}, proofs.RestEnds.{end_with, writes-reason, writes-once, writes-quiet}}
 use Rattle.ptu_header.{specs.declared.reader.HeaderReader.HeaderReader, specs.Reading.HasRead}
+use Rattle.bench_io.{specs.Given.{Given, Consumes}, specs.Inputs.InputState, proofs.States.Consumes-nil, proofs.Bytes.{Appends-trans, AppendsShort-behind}}
+use Rattle.told_text.{specs.Texts.{WroteText, CutText, WritesText}, proofs.Texts.{WroteText-trans, CutText-behind, CutText-more}}
 
 together : (bytes piece : List ℕ) (used more : ℕ) → (bytes ++ take used piece) ++ take more (drop used piece) ≡ bytes ++ take (used + more) piece
 together bytes piece used more = append_assoc bytes (take used piece) (take more (drop used piece)) ∙ ap (λ l. bytes ++ l) (sym (take-add used more piece))
 
 -- a reader that was given a first part of a piece, and then a part of what is left of it
-pub HasRead-further : (reader : HeaderReader) (bytes piece part : List ℕ) (used more : ℕ) → part ≡ drop used piece → HasRead reader ((bytes ++ take used piece) ++ take more part) → HasRead reader (bytes ++ take (used + more) piece)
+pub HasRead-further : (reader : HeaderReader) (bytes piece part : List ℕ) (used more : ℕ) → part ≡ drop used piece
+    → HasRead reader ((bytes ++ take used piece) ++ take more part) → HasRead reader (bytes ++ take (used + more) piece)
 HasRead-further reader bytes piece part used more e h = search (rules, arith, together)
 
 -- a first part and all that is left
 pub whole-piece : (bytes piece part : List ℕ) (used : ℕ) → part ≡ drop used piece → (bytes ++ take used piece) ++ part ≡ bytes ++ piece
-whole-piece bytes piece part used e = ap (λ l. (bytes ++ take used piece) ++ l) e ∙ append_assoc bytes (take used piece) (drop used piece) ∙ ap (λ l. bytes ++ l) (take-append-drop used piece)
+whole-piece bytes piece part used e =
+    ap (λ l. (bytes ++ take used piece) ++ l) e ∙ append_assoc bytes (take used piece) (drop used piece) ∙ ap (λ l. bytes ++ l) (take-append-drop used piece)
 
 pub whole-piece-more : (bytes piece more : List ℕ) (used : ℕ) → (bytes ++ take used piece) ++ (drop used piece ++ more) ≡ (bytes ++ piece) ++ more
-whole-piece-more bytes piece more used = sym (append_assoc (bytes ++ take used piece) (drop used piece) more) ∙ ap (λ l. l ++ more) (whole-piece bytes piece (drop used piece) used refl)
+whole-piece-more bytes piece more used =
+    sym (append_assoc (bytes ++ take used piece) (drop used piece) more) ∙ ap (λ l. l ++ more) (whole-piece bytes piece (drop used piece) used refl)
 
 -- no bytes are the front of each header
 pub IsCut-nil : IsCut []
@@ -29,9 +34,127 @@ pub some_used : (bytes piece : List ℕ) (used : ℕ) (header : Header) → IsCu
 some_used bytes piece used header cut whole = search (rules, arith, append-nil)
 
 -- fewer bytes than a buffer has stand behind a header that ends in it
-pub few_behind : (buffer : List ℕ) (used len size : ℕ) → length buffer ≡ size → 0 < used → used ≤ len → len ≤ length buffer → length (slice_range buffer used len) < size
+pub few_behind : (buffer : List ℕ) (used len size : ℕ) → length buffer ≡ size → 0 < used
+    → used ≤ len → len ≤ length buffer → length (slice_range buffer used len) < size
 few_behind buffer used len size whole some within fits = search (rules, arith, length-drop, length-take-le)
 
 -- the bytes taken are a header with these bytes behind it, whatever comes next
 abbrev pub ShowsHeader : List ℕ → Header → List ℕ → Type 0
 ShowsHeader taken header behind = (more : List ℕ) → header_answer (taken ++ more) ≡ Ok (header, behind ++ more)
+
+-- No more is taken than one read behind bytes that call for no end by themselves.
+
+pub few-none : (goes_on : List ℕ → Type 0) (front : List ℕ) (before after : Given) → Consumes before after front → goes_on front → TakesFew goes_on before after
+few-none goes_on front before after took goes = search (rules, arith, append-nil)
+
+pub few-piece : (goes_on : List ℕ → Type 0) (front : List ℕ) (len : ℕ) (into : List ℕ) (before after : Given) → Consumes before after (front ++ take len into) → goes_on front → length into ≤ piece_limit → TakesFew goes_on before after
+few-piece goes_on front len into before after took goes size = search (rules, arith, length-take)
+
+pub few-map : (p q : List ℕ → Type 0) (before after : Given) → ((l : List ℕ) → p l → q l) → TakesFew p before after → TakesFew q before after
+few-map p q before after f h = record { front = h.front; last = h.last; consumes = h.consumes; goes = f h.front h.goes; few = h.few }
+
+pub few-behind : (p q : List ℕ → Type 0) (taken : List ℕ) (before mid after : Given) → Consumes before mid taken
+    → ((l : List ℕ) → p l → q (taken ++ l)) → TakesFew p mid after → TakesFew q before after
+few-behind p q taken before mid after took f h = search (rules, arith, append_assoc)
+
+-- Where an end is not from outside, no read has failed.
+none-unread : {A : Type 0} (P : Type 0) (r : Result A Fault) → IfErr r (λ fault. is_outside fault ≡ false) → IfErr r (λ fault. is_outside fault ≡ true → P)
+none-unread P (Ok value) inside = tt
+none-unread P (Err fault) inside = search (rules, arith)
+
+-- a read failed
+pub stops-unread : {A : Type 0} (goes_on : List ℕ → Type 0) (front : List ℕ) (before after : Given) (fault : Fault) → Consumes before after front → goes_on front → SaysNoEnd before after → StopsSoon {A = A} goes_on before after (Err fault)
+stops-unread goes_on front before after fault took goes on = search (rules, arith, few-none)
+
+-- a piece was read behind bytes that go on so, and it ended the work
+pub stops-piece : {A : Type 0} (goes_on : List ℕ → Type 0) (front : List ℕ) (len : ℕ) (into : List ℕ) (before after : Given) (r : Result A Fault) → Consumes before after (front ++ take len into) → goes_on front → length into ≤ piece_limit
+    → IfErr r (λ fault. is_outside fault ≡ false) → IfOk r (λ value. SaysNoEnd before after) → StopsSoon goes_on before after r
+stops-piece goes_on front len into before after r took goes size inside on = search (rules, arith, none-unread, few-piece)
+
+-- What stands in front of the rest, and the rest.
+
+-- a text was written before
+pub WritesText-behind : (shown mid grown : List ℕ) (refused : Option Fault) (a b c : Option (List ℕ)) (before between after : ℕ) (r : Result (Unit {0}) Fault) → WroteText shown mid a b before between → WritesText mid grown refused b c between after r → WritesText shown grown refused a c before after r
+WritesText-behind shown mid grown refused a b c before between after (Ok x) p q = (q.0, WroteText-trans _ _ _ _ _ _ _ _ _ p q.1)
+WritesText-behind shown mid grown refused a b c before between after (Err fault) p (inl q) = inl (q.0, WroteText-trans _ _ _ _ _ _ _ _ _ p q.1)
+WritesText-behind shown mid grown refused a b c before between after (Err fault) p (inr q) = inr (q.0, CutText-behind _ _ _ _ _ _ _ _ _ p q.1)
+
+abbrev pub still : InputState → Option (List ℕ) → Option (List ℕ) → ℕ → ℕ → Span
+still state old new before after = record { before = state; after = state; old = old; new = new; faults_before = before; faults_after = after }
+
+module _ (t : Telling) (is : IsText t) (wants : Type 0) (state : InputState) (a c : Option (List ℕ)) (before after : ℕ) where
+  -- it ended before the rest was read
+  pub front-fails : (first front more : List ℕ) (fault : Fault) → first ≡ front ++ more → WritesText {X = Unit {0}} [] (t.text front) (t.refuses front) a c before after (Err fault) → ReadsRest t [] first wants (still state a c before after) (Err fault)
+  front-fails first front more fault split writes =
+      let whole : (left : List ℕ) → (first ++ []) ++ left ≡ front ++ (more ++ left) =
+      λ left. rw append-nil (ap (λ l. l ++ left) split ∙ append_assoc front more left) in
+      record {
+        answer =
+            ⊎_elim
+            (λ (r : (t.refuses front ≡ Some fault) × WroteText [] (t.text front) a c before after).
+            inr (record {
+              taken = [];
+              consumes = Consumes-nil _;
+              more = r.1.more;
+              written = r.1.written;
+              is = λ left follows. ap t.ends (whole left) ∙ is.refused front (more ++ left) fault r.0 ∙ ap (λ l. end_with l (Some fault)) r.1.adds;
+            }))
+            (λ (r : (fault ≡ WriteFault) × CutText [] (t.text front) a c before after). inl (rw r.0 refl))
+            writes;
+        reason = writes-reason _ _ _ _ _ _ _ _ _ (Err fault) (is.inside front) writes
+            (λ short. (
+              short.rose,
+              record {
+                taken = [];
+                consumes = Consumes-nil _;
+                cut = λ left follows.
+                    let tail = is.front front (more ++ left) in
+                    let cut = CutText-more _ _ _ tail.0 a c _ _ (ap (λ l. (t.ends l).text) (whole left) ∙ tail.1) short in
+                    record { more = cut.more; adds = cut.adds; short = cut.cut };
+              },
+            ));
+        once = record { inputs = once-refl _ _ (writes-quiet _ _ _ _ _ _ _ (Err fault) (is.inside front) writes); out = writes-once _ _ _ _ _ _ _ (Err fault) (is.inside front) writes };
+        few = inl refl;
+      }
+
+  -- nothing was opened
+  pub open-fails : (first : List ℕ) (fault : Fault) → Opens {X = Unit {0}} t wants a c before after (Err fault)
+      → ReadsRest t [] first wants (still state a c before after) (Err fault)
+  open-fails first fault (inl h) = front-fails first [] first fault refl h
+  open-fails first fault (inr h) = search (rules, arith, once-refl, quiet-memory)
+
+-- the rest was read
+pub rest-follows : (t : Telling) (wants : Type 0) (first : List ℕ) (at : Span) (a : Option (List ℕ)) (before : ℕ) (r : Result (Unit {0}) Fault) → WroteText [] (t.text first) a at.old before at.faults_before → ReadsRest t (t.text first) first ⊥ at r → ReadsRest t [] first wants (record at { old = a; faults_before = before }) r
+rest-follows t wants first at a before r wrote rest = record {
+  answer = ⊎_elim (λ h. inl h) (λ h. inr (ended h)) rest.answer;
+  reason = IfErr-weaker r _ _
+      (λ fault h.
+      HasReason-follows _ _ _ _ _ _ _ _ fault (λ slot no. no) (λ slot h. (h.0, h.1, read h.2)) (λ h. (Rose-kept _ _ _ wrote.kept h.0, cut h.1)) (λ no. absurd no.wants) h)
+      rest.reason;
+  once = record { inputs = rest.once.inputs; out = counts-behind _ _ _ _ wrote.kept rest.once.out };
+  few = rest.few;
+}
+  where
+    joined : (text more : List ℕ) → text ≡ t.text first ++ more → text ≡ wrote.more ++ more
+    joined text more e = e ∙ ap (λ l. l ++ more) wrote.adds
+
+    ended : EndsText t (t.text first) first ⊥ at (fault_in r) → EndsText t [] first wants (record at { old = a; faults_before = before }) (fault_in r)
+    ended h = record {
+      taken = h.taken;
+      consumes = h.consumes;
+      more = wrote.more ++ h.more;
+      written = Appends-trans _ _ _ _ _ wrote.written h.written;
+      is = λ left follows. h.is left follows ∙ ap (λ l. end_with (l ++ h.more) (fault_in r)) wrote.adds;
+    }
+
+    read : ReadsText t (t.text first) first ⊥ at → ReadsText t [] first wants (record at { old = a; faults_before = before })
+    read h = record { taken = h.taken; consumes = h.consumes; more = wrote.more ++ h.more; adds = joined _ h.more h.adds; written = Appends-trans _ _ _ _ _ wrote.written h.written; unrefused = h.unrefused; unended = h.unended }
+
+    cut : CutsText t (t.text first) first ⊥ at → CutsText t [] first wants (record at { old = a; faults_before = before })
+    cut h = record {
+      taken = h.taken;
+      consumes = h.consumes;
+      cut = λ left follows.
+          let more = h.cut left follows in
+          record { more = wrote.more ++ more.more; adds = joined _ more.more more.adds; short = AppendsShort-behind _ _ _ _ _ wrote.written more.short };
+    }

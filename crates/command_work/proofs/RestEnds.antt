@@ -1,9 +1,116 @@
 -- The text of bytes that grow, and how a call of the loop's body ends it.
-use Rattle.std.{proofs.Common.{◌≡◌, ◌∙◌, ◌≤◌, ℕ, List, [], ◌++◌, None, Some, Ok, Err, refl, ap, inl, inr, ⊎_elim, append_assoc, append-nil, length, take, arith, ◌⊎◌, true, false, Result, IfErr, IsErrAnd, rules}, specs.declared.option.Option.Option, proofs.lemmas.List.length-take}
-use Rattle.tally_base.{specs.declared.fault.Fault.Fault, specs.declared.fault.Fault.TheVariants.{ReadFault, WriteFault}, specs.declared.slot.Slot.Slot, specs.declared.slot.Slot.TheVariants.Data, specs.Faults.{is_outside, fault_in, HasReason}, proofs.Reasons.HasReason-inside, specs.FaultCounts.Rose}
-use Rattle.bench_io.{specs.Given.{Consumes, IsAtEnd}, specs.Inputs.{InputState, KeepsOther, OpensNone}, proofs.Givens.{Consumes-nil, Consumes-kept, Consumes-trans}}
+use Rattle.std.{proofs.Common.{◌≡◌, ◌∙◌, ◌≤◌, ℕ, List, [], ◌++◌, None, Some, Ok, Err, refl, ap, inl, inr, ⊎_elim, append_assoc, append-nil, length, take, arith, ◌⊎◌, true, false, Result, IfErr, IsErrAnd, rules, length-append, ◌≢◌, ◌+◌, OnOk}, specs.declared.option.Option.Option, proofs.lemmas.List.length-take, specs.Io.KnownBytes.Appends, proofs.lemmas.Bool.cases_Bool}
+use Rattle.tally_base.{specs.declared.fault.Fault.Fault, specs.declared.fault.Fault.TheVariants.{ReadFault, WriteFault}, specs.declared.slot.Slot.Slot, specs.declared.slot.Slot.TheVariants.Data, specs.Faults.{is_outside, fault_in, HasReason}, proofs.Reasons.HasReason-inside, specs.FaultCounts.Rose, specs.declared.header.Header.Header, specs.declared.header.Mode.Mode}
+use Rattle.bench_io.{specs.Given.{Consumes, IsAtEnd}, specs.Inputs.{InputState, KeepsOther, OpensNone}, proofs.States.{Consumes-nil, Consumes-kept, Consumes-trans}, specs.Sinks.AppendsShort}
 use Rattle.told_text.{specs.Texts.{WroteText, CutText, WritesText}, proofs.Texts.{WroteText-none, WroteText-trans, CutText-behind, CutText-more}}
-use Rattle.command_work.{specs.Told.SaysNoEnd, specs.Once.{InputsOnce, OutOnce}, specs.Behaviours.piece_limit, specs.Endings.{Span}, specs.Works.TakesFew, specs.Tellings.{Telling, IsText, WritesPiece, WritesEnd}, specs.Rests.{EndsText, ReadsRest}, proofs.Once.{out-inside, counts-behind, IsQuiet, quiet-none, quiet-write, quiet-inside, once-refl, once-read, once-unread, Rose-kept}, proofs.Told.fails-on, proofs.TellingLaws.{end_with, same-end}}
+use Rattle.command_work.{specs.Outcomes.{SaysNoEnd, InputsOnce, OutOnce, Outcome, refused, MayChange}, specs.Behaviours.piece_limit, specs.Endings.Span, specs.Works.TakesFew, specs.Tellings.{Telling, IsText, WritesPiece, WritesEnd, Opens, unless_declined, headed_end, headed_text, HeadedGoes}, specs.Rests.{EndsText, ReadsRest}, proofs.Once.{out-inside, counts-behind, IsQuiet, quiet-none, quiet-write, quiet-inside, once-refl, once-read, once-unread, Rose-kept}, proofs.Told.fails-on, proofs.PlanTold.misfit-inside}
+use Rattle.plan_text.{specs.Plan.PlanView, specs.Fits.fits, proofs.Misfits.misfit_named}
+use Rattle.ptu_definitions.{specs.Words.words_of, specs.Streams.{Reading, record_refusal, refusals, streamed}}
+use Rattle.record_stream.{specs.declared.stream.RecordStream.RecordStream, specs.Standing.{refused_with, bytes_in}, specs.Pieces.StaysOpen}
+
+-- What is made of bytes that are refused or not.
+
+abbrev pub end_with : List ℕ → Option Fault → Outcome
+end_with text fault = record { text = text; fault = fault }
+
+pub same-end : (end : Outcome) (text : List ℕ) (fault : Option Fault) → end.text ≡ text → end.fault ≡ fault → end ≡ end_with text fault
+same-end end text fault p q = ap (λ l. end_with l end.fault) p ∙ ap (λ f. end_with text f) q
+
+pub declined-law : (declined : Option Fault) (t : Telling)
+    → ((fault : Fault) → declined ≡ Some fault → is_outside fault ≡ false) → IsText t → IsText (unless_declined declined t)
+declined-law None t inside is = is
+declined-law (Some why) t inside is = search (rules, arith, end_with)
+
+err-from : (r : Result (Unit {0}) Fault) (fault : Fault) → fault_in r ≡ Some fault → r ≡ Err fault
+err-from r fault h = search (rules, arith)
+
+-- where a plan's parts suit a file
+pub fits-law : (mode : Mode) (plan : PlanView) {t : Telling} → IsText t → IsText (unless_declined (fault_in (fits mode plan)) t)
+fits-law mode plan {t} is = declined-law _ t (λ fault h. misfit-inside mode plan fault (misfit_named mode plan fault (err-from (fits mode plan) fault h))) is
+
+-- ## What a file is made of
+
+-- by the header's answer
+module _ (tells : Header → Telling) where
+  pub ends-headed : (out : Result (Header × List ℕ) Fault → Outcome)
+      → ((header : Header) (behind : List ℕ) → out (Ok (header, behind)) ≡ (tells header).ends behind) → ((fault : Fault) → out (Err fault) ≡ refused fault)
+      → (answer : Result (Header × List ℕ) Fault) → out answer ≡ headed_end tells answer
+  ends-headed out found failed (Ok it) = found it.0 it.1
+  ends-headed out found failed (Err fault) = failed fault
+
+  pub text-headed : (shown : Result (Header × List ℕ) Fault → List ℕ)
+      → ((header : Header) (behind : List ℕ) → shown (Ok (header, behind)) ≡ (tells header).text behind) → ((fault : Fault) → shown (Err fault) ≡ [])
+      → (answer : Result (Header × List ℕ) Fault) → shown answer ≡ headed_text tells answer
+  text-headed shown found failed (Ok it) = found it.0 it.1
+  text-headed shown found failed (Err fault) = failed fault
+
+  pub goes-headed : (goes : Result (Header × List ℕ) Fault → Type 0)
+      → ((header : Header) (behind : List ℕ) → (tells header).refuses behind ≡ None → goes (Ok (header, behind)))
+      → ((fault : Fault) → MayChange (Some fault) → goes (Err fault))
+      → (answer : Result (Header × List ℕ) Fault) → HeadedGoes tells answer → goes answer
+  goes-headed goes found failed (Ok it) h = found it.0 it.1 h
+  goes-headed goes found failed (Err fault) h = failed fault h
+
+-- by whether a plan's parts suit it
+module _ (t : Telling) (behind : List ℕ) where
+  pub ends-fit : (out : Result (Unit {0}) Fault → Outcome) → out (Ok tt) ≡ t.ends behind → ((fault : Fault) → out (Err fault) ≡ refused fault)
+      → (fit : Result (Unit {0}) Fault) → out fit ≡ (unless_declined (fault_in fit) t).ends behind
+  ends-fit out suits misfit (Ok done) = suits
+  ends-fit out suits misfit (Err fault) = misfit fault
+
+  pub text-fit : (shown : Result (Unit {0}) Fault → List ℕ) → shown (Ok tt) ≡ t.text behind → ((fault : Fault) → shown (Err fault) ≡ [])
+      → (fit : Result (Unit {0}) Fault) → shown fit ≡ (unless_declined (fault_in fit) t).text behind
+  text-fit shown suits misfit (Ok done) = suits
+  text-fit shown suits misfit (Err fault) = misfit fault
+
+  pub goes-fit : (goes : Result (Unit {0}) Fault → Type 0) → (t.refuses behind ≡ None → goes (Ok tt)) → (fit : Result (Unit {0}) Fault)
+      → (unless_declined (fault_in fit) t).refuses behind ≡ None → goes fit
+  goes-fit goes suits (Ok done) h = suits h
+  goes-fit goes suits (Err fault) h = cc
+
+-- ## What opening wrote
+
+module _ (X : Type 0) (t : Telling) (wants : Type 0) (old new : Option (List ℕ)) (before after : ℕ) where
+  -- a part that doesn't suit
+  pub opens-misfit : (fit : Result (Unit {0}) Fault) (fault : Fault) → fit ≡ Err fault
+      → Opens {X = X} (unless_declined (fault_in fit) t) wants old old before before (Err fault)
+  opens-misfit fit fault is = rw is (inl (inl (refl, WroteText-none [] old before)))
+
+  -- the text of no byte was written
+  pub opens-wrote : (x : X) (head : List ℕ) → t.text [] ≡ head → t.refuses [] ≡ None
+      → Appends old new head → after ≡ before → Opens t wants old new before after (Ok x)
+  opens-wrote x head is none wrote kept = (none, record { more = head; adds = is; written = wrote; kept = kept })
+
+  -- or was cut short
+  pub opens-cut : (fault : Fault) (head : List ℕ) → t.text [] ≡ head → fault ≡ WriteFault
+      → AppendsShort old new head → Rose before after → Opens {X = X} t wants old new before after (Err fault)
+  opens-cut fault head is write short rose = inl (inr (write, record { more = head; adds = is; cut = short; rose = rose }))
+
+-- ## A text that is cut short is not empty
+
+pub AppendsShort-none : (a b : Option (List ℕ)) → AppendsShort a b [] → ⊥
+AppendsShort-none a b q = let e : length {A = ℕ} [] ≡ length (q.0 ++ q.1) = ap length q.3 in let some = q.2 in omega (arith, e, some, length-append q.0 q.1)
+
+-- Streams of records that have refused nothing.
+
+pub not_written : (refused : Option Fault) → refused ≡ None → refused ≢ Some WriteFault
+not_written refused none = search (rules, arith)
+
+pub streamed-open : (how : Reading) (bytes : List ℕ) → record_refusal how (words_of bytes) ≡ None → MayChange (fault_in (streamed how bytes))
+unfolding streamed
+streamed-open how bytes none = search (rules, arith, cases_Bool)
+
+-- a stream that refused nothing took the whole piece
+pub stays-open : {A : Type 0} (old new : RecordStream) (piece : List ℕ) (r : Result A Fault)
+    → refused_with new ≡ fault_in r → OnOk r (bytes_in new ≡ bytes_in old + length piece) → OnOk r (StaysOpen old new piece)
+stays-open old new piece r refused counted = search (rules, arith)
+
+-- no words are refused
+pub refused-none : (how : Reading) → record_refusal how [] ≡ None
+unfolding refusals
+refused-none how = refl
+
+-- The text of bytes that grow, and how a call of the loop's body ends it.
 
 abbrev pub later : Span → InputState → Option (List ℕ) → ℕ → Span
 later at after new faults = record at { after = after; new = new; faults_after = faults }
@@ -46,9 +153,11 @@ writes-once shown grown refused b c faults now r inside h = search (rules, arith
 pub writes-quiet : (shown grown : List ℕ) (refused : Option Fault) (b c : Option (List ℕ)) (faults now : ℕ) (r : Result (Unit {0}) Fault) → ((fault : Fault) → refused ≡ Some fault → is_outside fault ≡ false) → WritesText shown grown refused b c faults now r → IsQuiet (fault_in r)
 writes-quiet shown grown refused b c faults now r inside h = search (rules, arith, quiet-none, quiet-inside, quiet-write)
 
-module _ {t : Telling} {shown bytes so_far : List ℕ} {at : Span} {s2 : InputState} (memory : Type 0) (so : SoFar t shown bytes so_far at) (read : Read at.after s2) where
+module _ {t : Telling} {shown bytes so_far : List ℕ} {at : Span} {s2 : InputState}
+    (memory : Type 0) (so : SoFar t shown bytes so_far at) (read : Read at.after s2) where
   -- a read failed
-  pub rest-unread : s2.given Data ≡ at.after.given Data → Rose (at.after.read_faults Data) (s2.read_faults Data) → ReadsRest t shown bytes memory (later at s2 at.new at.faults_after) (Err (ReadFault Data))
+  pub rest-unread : s2.given Data ≡ at.after.given Data → Rose (at.after.read_faults Data) (s2.read_faults Data)
+      → ReadsRest t shown bytes memory (later at s2 at.new at.faults_after) (Err (ReadFault Data))
   rest-unread keeps rose =
       let took = Consumes-kept _ _ _ so_far so.took keeps in
       record {
@@ -76,11 +185,13 @@ module _ {t : Telling} {shown bytes so_far : List ℕ} {at : Span} {s2 : InputSt
     few = record { front = so_far; last = piece; consumes = took; goes = so.clear; few = let e = length-take len into in omega (arith, e, small) }
 
     -- a piece was taken
-    pub so-piece : SaysNoEnd (at.before.given Data) (s2.given Data) → WritesPiece t (bytes ++ so_far) piece at.new c at.faults_after now (Ok tt) → SoFar t shown bytes (so_far ++ piece) (later at s2 c now)
+    pub so-piece : SaysNoEnd (at.before.given Data) (s2.given Data)
+        → WritesPiece t (bytes ++ so_far) piece at.new c at.faults_after now (Ok tt) → SoFar t shown bytes (so_far ++ piece) (later at s2 c now)
     so-piece on writes = search (rules, arith, once-read, quiet-none, took, append_assoc, piece)
 
     -- a piece was refused, or was cut short
-    pub rest-piece : (fault : Fault) → WritesPiece t (bytes ++ so_far) piece at.new c at.faults_after now (Err fault) → ReadsRest t shown bytes memory (later at s2 c now) (Err fault)
+    pub rest-piece : (fault : Fault) → WritesPiece t (bytes ++ so_far) piece at.new c at.faults_after now (Err fault)
+        → ReadsRest t shown bytes memory (later at s2 c now) (Err fault)
     rest-piece fault writes =
         record {
           answer =
@@ -104,7 +215,8 @@ module _ {t : Telling} {shown bytes so_far : List ℕ} {at : Span} {s2 : InputSt
                   consumes = took;
                   cut = λ left follows.
                       let front = so.is.front all left in
-                      let cut = CutText-more _ _ (t.ends (all ++ left)).text front.0 at.old c _ _ front.1 (CutText-behind _ _ _ at.old at.new c _ _ _ so.wrote short) in
+                      let cut = CutText-more _ _ (t.ends (all ++ left)).text front.0 at.old c _ _ front.1
+                      (CutText-behind _ _ _ at.old at.new c _ _ _ so.wrote short) in
                       record { more = cut.more; adds = rw (← append_assoc bytes so_far piece) cut.adds; short = cut.cut };
                 },
               ));
@@ -113,7 +225,8 @@ module _ {t : Telling} {shown bytes so_far : List ℕ} {at : Span} {s2 : InputSt
         }
 
     -- the end of the data
-    pub rest-end : (r : Result (Unit {0}) Fault) → piece ≡ [] → IsAtEnd (s2.given Data) → WritesEnd t (bytes ++ so_far) at.new c at.faults_after now r → ReadsRest t shown bytes memory (later at s2 c now) r
+    pub rest-end : (r : Result (Unit {0}) Fault) → piece ≡ [] → IsAtEnd (s2.given Data)
+        → WritesEnd t (bytes ++ so_far) at.new c at.faults_after now r → ReadsRest t shown bytes memory (later at s2 c now) r
     rest-end r none end writes =
         let took_all : Consumes (at.before.given Data) (s2.given Data) so_far = rw (none, append-nil) at took in
         record {
@@ -125,7 +238,8 @@ module _ {t : Telling} {shown bytes so_far : List ℕ} {at : Span} {s2 : InputSt
                 record {
                   taken = so_far;
                   consumes = took_all;
-                  cut = λ left follows. record { more = cut.more; adds = ap (λ l. (t.ends l).text) (none_behind left (follows end)) ∙ cut.adds; short = cut.cut };
+                  cut = λ left follows. record
+                      { more = cut.more; adds = ap (λ l. (t.ends l).text) (none_behind left (follows end)) ∙ cut.adds; short = cut.cut };
                 },
               ));
           once = record { inputs = once-read Data _ _ _ _ (writes-quiet _ _ _ _ _ _ _ r (so.is.end_inside _) writes) so.once read.other read.none kept; out = counts-behind _ _ _ _ so.wrote.kept (writes-once _ _ _ _ _ _ _ r (so.is.end_inside _) writes) };

@@ -4,7 +4,7 @@ use Rattle.tally_base.{specs.declared.slot.Slot.Slot, specs.declared.slot.Slot.T
 use Rattle.bench_io.{specs.Sinks.AppendsShort, specs.Given.{IsOf, IsAtEnd}, specs.Inputs.{File, InputState, IsOpened}, specs.declared.inputs.Inputs.Ghosts as InputGhosts, specs.declared.sink.Sink.Ghosts as SinkGhosts}
 use Rattle.ptu_definitions.specs.Headers.{header_answer}
 use Rattle.plan_text.{specs.Plan.{PlanView, parts_of}, specs.Reading.{text_limit, plan_answer}, specs.Fits.fits}
-use Rattle.command_work.{specs.Once.{InputsOnce, OutOnce}, specs.Outcomes.{Outcome, refused, status}, specs.Behaviours.{piece_limit, Work, Writing, AtEnd, AsItReads, so_far, under, Memory, ForPlan, ForTables, Behaviour, NoCommand, Alone, OnFile, ByPlan}}
+use Rattle.command_work.{specs.Outcomes.{InputsOnce, OutOnce, Outcome, refused, status}, specs.Behaviours.{piece_limit, Work, Writing, AtEnd, AsItReads, so_far, under, Memory, ForPlan, ForTables, Behaviour, NoCommand, Alone, OnFile, ByPlan}}
 
 -- ## What the files call for
 

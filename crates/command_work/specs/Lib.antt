@@ -1,11 +1,7 @@
-pub mod Told
-pub mod Once
 pub mod Outcomes
 pub mod Behaviours
 pub mod Endings
 pub mod Works
 pub mod Pieces
-pub mod HeaderPieces
-pub mod PlanPieces
 pub mod Tellings
 pub mod Rests

@@ -2,7 +2,7 @@
 use Rattle.std.{specs.Prelude.{ℕ, ◌≡◌, ◌⊎◌, List, ◌++◌, true, None, Result, IsErrAnd, IfErr}, specs.declared.option.Option.Option, specs.Io.KnownBytes.{Keeps, Appends}}
 use Rattle.tally_base.{specs.declared.fault.Fault.Fault, specs.declared.slot.Slot.TheVariants.Data, specs.FaultCounts.Rose, specs.Faults.{is_outside, fault_in, HasReason}}
 use Rattle.bench_io.{specs.Sinks.AppendsShort, specs.Given.{Consumes, MayFollow}}
-use Rattle.command_work.{specs.Endings.{Span, Once}, specs.Told.SaysNoEnd, specs.Tellings.Telling, specs.Works.TakesFew}
+use Rattle.command_work.{specs.Endings.{Span, Once}, specs.Outcomes.SaysNoEnd, specs.Tellings.Telling, specs.Works.TakesFew}
 
 -- Bytes were given before, of which this text is shown; `memory` says why memory may be refused.
 module _ (t : Telling) (shown bytes : List ℕ) (memory : Type 0) (at : Span) where

@@ -3,7 +3,7 @@ use Rattle.std.{specs.Prelude.{ℕ, ◌≡◌, ◌⊎◌, ◌≤◌, List, ◌++
 use Rattle.tally_base.{specs.declared.slot.Slot.TheVariants.Data, specs.declared.fault.Fault.Fault, specs.FaultCounts.Rose, specs.Faults.{is_outside, fault_in, HasReason}}
 use Rattle.bench_io.specs.Given.{Given, Consumes, MayFollow}
 use Rattle.plan_text.specs.Plan.{PlanView}
-use Rattle.command_work.{specs.Told.{Says, SaysNoEnd}, specs.Behaviours.{piece_limit, Work, Writing, Memory, so_far, under}, specs.Endings.{Cuts, Span, Once, WantsBehind}}
+use Rattle.command_work.{specs.Outcomes.{Says, SaysNoEnd}, specs.Behaviours.{piece_limit, Work, Writing, Memory, so_far, under}, specs.Endings.{Cuts, Span, Once, WantsBehind}}
 
 -- The bytes taken end so, whatever may stand behind them, and this text was written.
 pub record EndsWork (work : Work) (start now : Given) (old new : Option (List ℕ)) (fault : Option Fault) : Type 0 where

@@ -2,7 +2,7 @@
 ghost use Rattle.std.specs.Prelude.{List, ℕ, IfErr, IfOk};
 ghost use Rattle.tally_base.{specs.declared.slot.Slot.TheVariants.Data, specs.Faults.fault_in};
 ghost use Rattle.bench_io.{specs.Given.Consumes, specs.Inputs.OnlyReads};
-ghost use Rattle.command_work.{specs.Once.InputsOnce, specs.Outcomes.IsCut, specs.Pieces.{ReadReason, IsReady, StopsSoon}, specs.HeaderPieces.{EndsIn, HeaderEnds}};
+ghost use Rattle.command_work.{specs.Outcomes.{InputsOnce, IsCut}, specs.Pieces.{ReadReason, IsReady, StopsSoon, EndsIn, HeaderEnds}};
 
 use crate::header::{Fed, feed_piece};
 use bench_io::Inputs;

@@ -2,8 +2,8 @@
 ghost use Rattle.std.specs.Prelude.{◌≡◌, ◌≤◌, ◌<◌, List, ℕ, length, true, IfErr, IfOk};
 ghost use Rattle.tally_base.{specs.declared.slot.Slot.TheVariants.Plan as PlanSlot, specs.declared.fault.Fault.TheVariants.ReadFault, specs.FaultCounts.Rose, specs.Faults.fault_in};
 ghost use Rattle.bench_io.{specs.Given.Consumes, specs.Inputs.OnlyReads};
-ghost use Rattle.ptu_definitions.specs.Counted.{record_limit};
-ghost use Rattle.command_work.{specs.Told.SaysNoEnd, specs.Once.InputsOnce, specs.Endings.{OpensAs, TakesPlan}, specs.PlanPieces.{MayOpen, OnlyUses, IsFilled, AnswersPlan, PlanReason}};
+ghost use Rattle.ptu_definitions.specs.Words.{record_limit};
+ghost use Rattle.command_work.{specs.Outcomes.{SaysNoEnd, InputsOnce}, specs.Endings.{OpensAs, TakesPlan}, specs.Pieces.{MayOpen, OnlyUses, IsFilled, AnswersPlan, PlanReason}};
 
 use bench_io::Inputs;
 use plan_text::{Plan, TEXT_LIMIT, read_plan};

@@ -2,7 +2,7 @@
 ghost use Rattle.std.{specs.Prelude.{◌≡◌, ◌≤◌, ◌<◌, List, ℕ, true, false, None, IfSome}, specs.declared.option.Option.{Option}};
 ghost use Rattle.tally_base.{specs.declared.slot.Slot.Slot, specs.declared.slot.Slot.TheVariants.Plan as PlanSlot, specs.declared.slot.Slot.TheVariants.Data, specs.declared.fault.Fault.Fault, specs.Faults.is_outside};
 ghost use Rattle.bench_io.specs.Inputs.{OnlyReads};
-ghost use Rattle.ptu_definitions.specs.Counted.{record_limit};
+ghost use Rattle.ptu_definitions.specs.Words.{record_limit};
 ghost use Rattle.plan_text.{specs.Plan.PlanView, specs.Reading.plan_view};
 ghost use Rattle.command_work.{specs.Behaviours.{Work, Writing, Memory, OnFile, ByPlan}, specs.Endings.{Does, span}, specs.Works.{WantsNone, LeavesWork, LeavesPlanned}};
 

@@ -1,6 +1,6 @@
 -- The counts over the rows of a block.
-use Rattle.std.{proofs.Common.{◌≡◌, ◌∙◌, ℕ, ◌+◌, ◌-◌, ◌/◌, ◌<◌, ◌≤◌, Bool, true, false, ◌&&◌, cond, ◌++◌, ap, refl, arith, nat_lt, nat_le, ◌==◌, if◌then◌else◌}, proofs.lemmas.Bool.Decides.nat_tests, proofs.lemmas.List.Sums.{sum_by-append, sum_by_push}}
-use Rattle.tally_base.{specs.declared.event.Event.Event, specs.Events.{is_photon, is_in}, specs.Settings.TraceView, specs.Tally.History, specs.Columns.{rows, item, event_at, code_at, time_at, groups_at}, specs.declared.block.Block.Block, proofs.Back.moves_row, proofs.BlockRows.more_rows}
+use Rattle.std.{proofs.Common.{◌≡◌, ℕ, ◌+◌, ◌-◌, ◌/◌, ◌<◌, ◌≤◌, Bool, true, false, ◌&&◌, cond, ◌++◌, ap, refl, arith, nat_lt, nat_le, ◌==◌, if◌then◌else◌, rules}, proofs.lemmas.Bool.Decides.nat_tests, proofs.lemmas.List.Sums.{sum_by-append, sum_by_push}}
+use Rattle.tally_base.{specs.declared.event.Event.Event, specs.Events.{is_photon, is_in}, specs.Settings.TraceView, specs.Tally.History, specs.Columns.{rows, item, code_at, time_at, groups_at}, specs.declared.block.Block.Block, proofs.Floors.moves_row, proofs.BlockRows.more_rows}
 use Rattle.count_trace.specs.TraceCounts.{count_times, in_trace_bin}
 
 none_either : (b : Bool) → ◌≡◌ {A = ℕ} 0 (if b then 0 else 0)
@@ -22,21 +22,15 @@ abbrev pub one_at : TraceView → Block → ℕ → ℕ
 one_at set b n = if is_in (groups_at b n) set.group && nat_lt (code_at b n) 256 then 1 else 0
 
 -- one row more
-pub count-row : (set : TraceView) (test : ℕ → Bool) (b : Block) (n : ℕ) → count_times set test (rows (item b) (n + 1)) ≡ count_times set test (rows (item b) n) + (if test (time_at b n) then one_at set b n else 0)
-count-row set test b n =
-    ap (count_times set test) (more_rows (item b) n)
-    ∙ sum_by_push (λ (x : Event × ℕ). cond (is_photon x.0 && (is_in x.1 set.group && test x.0.time)) 1 0) (rows (item b) n) (item b n)
-    ∙ ap (λ k. count_times set test (rows (item b) n) + k) (passes (is_photon (event_at b n)) (is_in (groups_at b n) set.group) (test (time_at b n)) ∙ ap (λ p. if test (time_at b n) then (if is_in (groups_at b n) set.group && p then 1 else 0) else 0) (moves_row false b n))
+pub count-row : (set : TraceView) (test : ℕ → Bool) (b : Block) (n : ℕ)
+    → count_times set test (rows (item b) (n + 1)) ≡ count_times set test (rows (item b) n) + (if test (time_at b n) then one_at set b n else 0)
+count-row set test b n = search (rules, arith, more_rows, sum_by_push, moves_row)
 
 pub bin-row : (set : TraceView) (n : ℕ) (b : Block) (at : ℕ) → in_trace_bin set n (rows (item b) (at + 1)) ≡ in_trace_bin set n (rows (item b) at) + (if nat_le set.origin (time_at b at) && ((time_at b at - set.origin) / set.width == n) then one_at set b at else 0)
 bin-row set n b at = count-row set (λ time. nat_le set.origin time && ((time - set.origin) / set.width == n)) b at
 
 pub one_at_most : (set : TraceView) (b : Block) (n : ℕ) → one_at set b n ≤ 1
-one_at_most set b n = by_case (is_in (groups_at b n) set.group && nat_lt (code_at b n) 256)
-  where
-    by_case : (t : Bool) → (if t then 1 else 0) ≤ 1
-    by_case true = omega arith
-    by_case false = omega arith
+one_at_most set b n = search (rules, arith)
 
 early : (origin time : ℕ) → time < origin → nat_le origin time ≡ false
 early origin time lt = grind (arith, nat_tests, lt)

@@ -1,6 +1,6 @@
 // A trace of photons over the time of the file.
-ghost use Rattle.std.specs.Prelude.{◌≡◌, ◌+◌, ◌*◌, ◌≤◌, vec_len, sum};
-ghost use Rattle.tally_base.specs.Tally.{History};
+ghost use Rattle.std.specs.Prelude.{◌≡◌, ◌+◌, ◌*◌, ◌≤◌, vec_len, length, sum, ◌<◌, IfOk, [], false};
+ghost use Rattle.tally_base.{specs.Tally.History, specs.Settings.trace_view, specs.Settings.PartSettings.TraceSettings};
 
 use crate::bin::Bin;
 use crate::counting::{Outside, count_block};
@@ -17,20 +17,17 @@ use tally_base::{Block, Steps, Tally, TraceSet};
 pub struct Trace {
     set: TraceSet,
     cells: Vec<u64>,
-    before: u64,
-    beyond: u64,
+    outside: Outside,
     kept: Bin,
     taken: u64,
     floor: u64,
     closed: bool,
     ghost sized: { vec_len cells ≡ set.bins },
-    ghost small: { sum cells.items + before + beyond ≤ taken },
+    ghost small: { sum cells.items + outside.before + outside.beyond ≤ taken },
     ghost edge: { kept.low ≡ set.origin + kept.index * set.width },
 }
 
 impl Trace {
-    ghost use Rattle.std.specs.Prelude.{◌<◌, length, IfOk, [], false};
-    ghost use Rattle.tally_base.{specs.Settings.trace_view, specs.Settings.PartSettings.TraceSettings};
     ghost use Rattle.count_trace.{specs.TraceCounts.{in_trace_bin, count_before, count_beyond}, specs.Trace.{Holds, set_of}};
 
     /// A trace of no events, with all the memory that it ever takes, or `AllocError` where it is wanting.
@@ -44,8 +41,10 @@ impl Trace {
         Ok(Trace {
             set,
             cells: vec![in alloc; 0; set.bins as usize]?,
-            before: 0,
-            beyond: 0,
+            outside: Outside {
+                before: 0,
+                beyond: 0,
+            },
             kept: Bin {
                 index: 0,
                 low: set.origin,
@@ -78,7 +77,7 @@ impl Trace {
         ensures { (h : History) → Holds self.now h
             → result ≡ count_before (trace_view (set_of self.now)) h }
     {
-        self.before
+        self.outside.before
     }
 
     /// How many photons of the group came at or past the end of the last bin.
@@ -86,13 +85,12 @@ impl Trace {
         ensures { (h : History) → Holds self.now h
             → result ≡ count_beyond (trace_view (set_of self.now)) h }
     {
-        self.beyond
+        self.outside.beyond
     }
 }
 
 impl Tally for Trace {
-    ghost use Rattle.std.specs.Prelude.{◌+◌, length};
-    ghost use Rattle.count_trace.{specs.Trace.{Holds, set_of, settings}, specs.Laws.{taken_is, floor_is, within_bound, marker_groups}};
+    ghost use Rattle.count_trace.specs.Trace.{Holds, set_of, settings, within_bound, marker_groups};
 
     ghost holds = { Holds };
 
@@ -109,9 +107,9 @@ impl Tally for Trace {
 
     ghost same_set = { λ old new. set_of new ≡ set_of old };
 
-    ghost taken_is = { taken_is };
+    ghost taken_is = { λ t h is. is.taken };
 
-    ghost floor_is = { floor_is };
+    ghost floor_is = { λ t h is. is.floor };
 
     ghost within = { within_bound };
 
@@ -120,19 +118,13 @@ impl Tally for Trace {
     fn events<L: Ledger>(&mut self, block: &Block, _steps: &mut Steps<L>) {
         self.taken += block.len() as u64;
         self.floor = block.floor_after(false, self.floor);
-        let mut outside = Outside {
-            before: self.before,
-            beyond: self.beyond,
-        };
         count_block(
             &self.set,
             &mut self.cells,
-            &mut outside,
+            &mut self.outside,
             &mut self.kept,
             block,
         );
-        self.before = outside.before;
-        self.beyond = outside.beyond;
     }
 
     fn close<L: Ledger>(&mut self, _steps: &mut Steps<L>) {

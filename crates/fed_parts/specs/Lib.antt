@@ -1,4 +1,2 @@
 pub mod Ahead
 pub mod Give
-pub mod Taker
-pub mod Tables

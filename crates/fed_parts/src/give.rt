@@ -3,7 +3,7 @@ ghost use Rattle.std.specs.Prelude.{◌≡◌, ◌+◌, ◌<◌, ◌≤◌, ◌+
 ghost use Rattle.tally_base.{specs.declared.event.Event.Event, specs.Events.is_ordered, specs.Limits.record_limit, specs.Columns.{sorted, gathered, events_in, IsSorted}};
 ghost use Rattle.gate_plan.{specs.Groups.sorting_of, specs.Histories.with_groups};
 ghost use Rattle.abs_time.specs.Floors.{moved_floor};
-ghost use Rattle.fed_parts.{specs.Ahead.{taken_with, floor_with, floor_with_one, IsAt, NoneWaits}, specs.Give.{Each, Moves, Closed, kept_of}, specs.Tables.{MayTake, HasTaken}};
+ghost use Rattle.fed_parts.{specs.Ahead.{taken_with, floor_with, floor_with_one, IsAt, NoneWaits}, specs.Give.{Each, Moves, Closed, kept_of, MayTake, HasTaken}};
 
 use crate::reached::Reached;
 use gate_plan::{Gates, sort_events};

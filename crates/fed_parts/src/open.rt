@@ -9,7 +9,7 @@ use count_trace::Trace;
 use flim_cube::FlimCube;
 use fold_count::Fold;
 use plan_parts::Part;
-use plan_text::Plan;
+use plan_text::{Plan, each_list};
 use scan_image::Image;
 use std::alloc::{AllocError, Global};
 use tally_base::{
@@ -111,7 +111,7 @@ fn open_list<S: OpensPart>(
 }
 
 /// The tables of a plan, in the order of the report, which were given nothing. Memory is wanting only for a table.
-#[tactic(auto, using(crate::proofs::Opens::behind_all))]
+#[tactic(auto, using(crate::proofs::OneByOne::behind_all))]
 pub fn open_all(alloc: Global, plan: &Plan) -> Result<Vec<Part>, AllocError>
     ensures settings { IfOk result (λ parts.
         settings_in parts.items ≡ parts_of (plan_view plan.now)) }
@@ -119,13 +119,6 @@ pub fn open_all(alloc: Global, plan: &Plan) -> Result<Vec<Part>, AllocError>
     ensures wanting { IfErr result (λ error. 0 < length (parts_of (plan_view plan.now))) }
 {
     let mut parts = Vec::new(alloc);
-    open_list(alloc, plan.histograms.as_slice(), &mut parts)?;
-    open_list(alloc, plan.traces.as_slice(), &mut parts)?;
-    open_list(alloc, plan.startstops.as_slice(), &mut parts)?;
-    open_list(alloc, plan.coincidences.as_slice(), &mut parts)?;
-    open_list(alloc, plan.images.as_slice(), &mut parts)?;
-    open_list(alloc, plan.correlations.as_slice(), &mut parts)?;
-    open_list(alloc, plan.cubes.as_slice(), &mut parts)?;
-    open_list(alloc, plan.folds.as_slice(), &mut parts)?;
+    each_list!(plan, sets => open_list(alloc, sets, &mut parts));
     Ok(parts)
 }

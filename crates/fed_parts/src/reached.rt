@@ -1,6 +1,6 @@
 // How far the tables of an engine are within a piece.
-ghost use Rattle.std.specs.Prelude.{◌≡◌};
-ghost use Rattle.tally_base.specs.Limits.{record_limit};
+ghost use Rattle.std.specs.Prelude.{◌≡◌, ◌+◌, ◌<◌, ◌≤◌, length};
+ghost use Rattle.tally_base.{specs.Limits.record_limit, specs.Columns.gathered, specs.Tally.floor_after};
 ghost use Rattle.abs_time.specs.Floors.{moved_floor, orders_markers};
 
 use abs_time::{moved_floor, orders_markers};
@@ -16,9 +16,6 @@ pub struct Reached {
 }
 
 impl Reached {
-    ghost use Rattle.std.specs.Prelude.{◌+◌, ◌<◌, ◌≤◌, length};
-    ghost use Rattle.tally_base.{specs.Columns.gathered, specs.Floors.floor_after};
-
     /// One event more, which no table is given.
     #[inline(always)]
     pub(crate) fn pass(&mut self, mode: Mode, event: &Event, late: bool)

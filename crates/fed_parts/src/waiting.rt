@@ -1,9 +1,9 @@
 // A block of events to every table, behind events that wait.
 ghost use Rattle.std.specs.Prelude.{◌≡◌, ◌+◌, ◌<◌, ◌≤◌, ◌++◌, [], All, false, length};
-ghost use Rattle.tally_base.{specs.Limits.record_limit, specs.Columns.{sorted, gathered}, specs.Floors.floor_after};
+ghost use Rattle.tally_base.{specs.Limits.record_limit, specs.Columns.{sorted, gathered}, specs.Tally.floor_after};
 ghost use Rattle.gate_plan.{specs.Groups.sorting_of, specs.Histories.with_groups};
 ghost use Rattle.abs_time.specs.Floors.{orders_markers};
-ghost use Rattle.fed_parts.{specs.Ahead.{taken_with, floor_with, floor_behind, NoneWaits}, specs.Give.{Each, Moves}, specs.Tables.{MayTake, HasTaken}};
+ghost use Rattle.fed_parts.{specs.Ahead.{taken_with, floor_with, floor_behind, NoneWaits}, specs.Give.{Each, Moves, MayTake, HasTaken}};
 
 use crate::give::flush;
 use crate::reached::Reached;

@@ -1,5 +1,2 @@
-pub mod CountEnds
-pub mod Printers
-pub mod HeaderEnds
+pub mod Ends
 pub mod EventSteps
-pub mod EventEnds

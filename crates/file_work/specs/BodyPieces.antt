@@ -1,8 +1,35 @@
 -- What printing the body of a tag in pieces leaves.
-use Rattle.std.{specs.Prelude.{ℕ, List, [], ◌++◌, codes, Bool, if◌then◌else◌}, specs.declared.option.Option.{Option}}
+use Rattle.std.{specs.Prelude.{ℕ, ◌≡◌, List, [], ◌++◌, codes, Bool, if◌then◌else◌, ◌+◌, ◌∷◌, length, true, false, Ok, Err}, specs.declared.option.Option.Option, specs.Io.KnownBytes.Appends}
+use Rattle.bench_io.specs.Sinks.{AppendsShort, PassesOn}
 use Rattle.ptu_tag.specs.declared.kind.TagKind.{TagKind}
-use Rattle.list_out.specs.HeaderText.{body_text}
-use Rattle.file_work.specs.Grown.{PutsMore, CutsMore}
+use Rattle.list_out.{specs.HeaderText.{body_text, kind_with, header_text}, specs.Lines.HasPut}
+use Rattle.tally_base.{specs.declared.header.Header.Header, specs.Faults.is_outside}
+use Rattle.ptu_definitions.{specs.TagList.{code_in, Item}, specs.Headers.{header_answer, Shows, seen}}
+use Rattle.ptu_header.specs.Reading.{HasRead, bytes_taken, is_open}
+use Rattle.command_work.specs.Outcomes.{IsCut}
+use Rattle.file_work.{specs.declared.print.HeaderPrinter.HeaderPrinter, specs.declared.print.Printed.Printed, specs.declared.print.Printed.TheVariants.{More, Done, Refused}}
+
+-- ## A text that has grown
+
+-- What the text has grown by was put behind what a block holds.
+pub record PutsMore (shown grown : List ℕ) (old new : Option (List ℕ)) (held now : List ℕ) : Type 0 where
+  pub added : List ℕ
+  pub text : grown ≡ shown ++ added
+  pub put : PassesOn old new (held ++ added) now
+
+-- It was written.
+pub record AppendsMore (shown grown : List ℕ) (old new : Option (List ℕ)) : Type 0 where
+  pub added : List ℕ
+  pub text : grown ≡ shown ++ added
+  pub written : Appends old new added
+
+-- It was cut short, behind what a block held.
+pub record CutsMore (shown grown : List ℕ) (old new : Option (List ℕ)) (held : List ℕ) : Type 0 where
+  pub added : List ℕ
+  pub text : grown ≡ shown ++ added
+  pub cut : AppendsShort old new (held ++ added)
+
+-- ## The text of a body
 
 -- What bytes add to the text of a body was put behind what a block holds; was cut short.
 abbrev pub PutsBody : TagKind → List ℕ → List ℕ → Option (List ℕ) → Option (List ℕ) → List ℕ → List ℕ → Type 0
@@ -14,3 +41,33 @@ CutsBody kind part bytes = CutsMore (body_text kind part) (body_text kind (part 
 -- the end of the line of a body, where the body is whole
 abbrev pub end_line : Bool → List ℕ
 end_line last = if last then codes "\n" else []
+
+-- What printing a header in pieces leaves.
+
+-- The printer was given these bytes, and knows how the body goes on that they end in.
+pub record Prints (printer : HeaderPrinter) (bytes : List ℕ) : Type 0 where
+  pub read : HasRead printer.reader bytes
+  pub taken : bytes_taken printer.reader ≡ length bytes
+  pub body : (items : List Item) (tag part : List ℕ) → seen bytes ≡ items ++ record { tag = tag; body = part } ∷ [] → HasPut printer.body (kind_with (code_in tag)) part
+
+-- what the bytes before and a piece say, however the reader leaves the piece
+abbrev pub Leaves : List ℕ → List ℕ → HeaderPrinter → Printed → Type 0
+Leaves bytes piece printer More = Prints printer (bytes ++ piece) × (is_open printer.reader ≡ true) × IsCut (bytes ++ piece)
+Leaves bytes piece printer Done = (header : Header) × (behind : List ℕ) × ((more : List ℕ) → header_answer (bytes ++ piece ++ more) ≡ Ok (header, behind ++ more))
+Leaves bytes piece printer (Refused fault) = Shows header_answer (bytes ++ piece) (Err fault)
+
+-- What a piece behind some bytes adds to the text of the header was put behind what a block holds; was written; was cut short.
+abbrev pub PutsHeader : List ℕ → List ℕ → Option (List ℕ) → Option (List ℕ) → List ℕ → List ℕ → Type 0
+PutsHeader bytes piece = PutsMore (header_text bytes) (header_text (bytes ++ piece))
+
+abbrev pub AppendsHeader : List ℕ → List ℕ → Option (List ℕ) → Option (List ℕ) → Type 0
+AppendsHeader bytes piece = AppendsMore (header_text bytes) (header_text (bytes ++ piece))
+
+abbrev pub CutsHeader : List ℕ → List ℕ → Option (List ℕ) → Option (List ℕ) → List ℕ → Type 0
+CutsHeader bytes piece = CutsMore (header_text bytes) (header_text (bytes ++ piece))
+
+-- A printer that goes on has taken the whole piece. A refusal is one that the bytes call for.
+abbrev pub EndsPiece : HeaderPrinter → HeaderPrinter → List ℕ → Printed → Type 0
+EndsPiece old new piece More = bytes_taken new.reader ≡ bytes_taken old.reader + length piece
+EndsPiece old new piece Done = Unit {0}
+EndsPiece old new piece (Refused fault) = is_outside fault ≡ false

@@ -2,8 +2,8 @@
 use Rattle.std.{proofs.Common.{◌≡◌, ◌∙◌, ◌+◌, ◌<◌, ◌≤◌, ◌==◌, ℕ, List, [], ◌++◌, Bool, true, false, length, length-append, arith, refl, sym, ap, None, Some, Ok, Err, nat_lt, if◌then◌else◌, Result}, specs.declared.option.Option.Option, proofs.lemmas.Bool.Decides.nat_tests}
 use Rattle.tally_base.{specs.declared.fault.Fault.Fault, specs.declared.fault.Fault.TheVariants.{RecordLimit, TruncatedRecord}, specs.declared.header.Header.Header, specs.declared.header.RecordType.RecordType, specs.Faults.{is_outside, fault_in}}
 use Rattle.bench_io.specs.Sinks.{AppendsShort}
-use Rattle.ptu_definitions.{specs.declared.records.KindCounts.KindCounts, specs.Words.{words_of, rest_of}, specs.Kinds.counts_of, specs.Counted.{counted, records_of, record_limit}, specs.Headers.header_answer, proofs.WordsLemmas.words_of-append}
-use Rattle.command_work.{specs.Outcomes.MayChange, specs.Behaviours.AtEnd, specs.Endings.Cuts, specs.Works.WantsNone, specs.Tellings.{IsText, Suits, headed_end, headed_text, HeadedGoes}, proofs.TellingLaws.{AppendsShort-none, end_with}}
+use Rattle.ptu_definitions.{specs.declared.records.KindCounts.KindCounts, specs.Words.{words_of, rest_of, counted, records_of, record_limit}, specs.Kinds.counts_of, specs.Headers.header_answer, proofs.WordsLemmas.words_of-append}
+use Rattle.command_work.{specs.Outcomes.MayChange, specs.Behaviours.AtEnd, specs.Endings.Cuts, specs.Works.WantsNone, specs.Tellings.{IsText, Suits}, proofs.RestEnds.{AppendsShort-none, end_with, ends-headed, text-headed, goes-headed}}
 use Rattle.file_work.{specs.FileOutcomes.{with_counts, counts_behind, file_counts, count_outcome, counting}, specs.CountPieces.{too_many, counts}}
 
 -- ## Too many records
@@ -57,7 +57,7 @@ module _ (header : Header) where
   with_counts-open (Ok counts) h = tt
   with_counts-open (Err fault) h = h
 
-  ends-fault : (r : Result KindCounts Fault) → (count_outcome (with_counts header r)).fault ≡ fault_in r
+  pub ends-fault : (r : Result KindCounts Fault) → (count_outcome (with_counts header r)).fault ≡ fault_in r
   ends-fault (Ok counts) = refl
   ends-fault (Err fault) = refl
 
@@ -78,24 +78,15 @@ cuts : (old new : Option (List ℕ)) (r : Result (Header × KindCounts) Fault) �
 cuts old new (Ok found) short = (refl, short)
 cuts old new (Err fault) short = absurd (AppendsShort-none old new short)
 
-ends : (answer : Result (Header × List ℕ) Fault) → count_outcome (counts_behind answer) ≡ headed_end counts answer
-ends (Ok found) = refl
-ends (Err fault) = refl
-
-text : (answer : Result (Header × List ℕ) Fault) → [] ≡ headed_text counts answer
-text (Ok found) = refl
-text (Err fault) = refl
-
-goes : (answer : Result (Header × List ℕ) Fault) → HeadedGoes counts answer → MayChange (fault_in (counts_behind answer))
-goes (Ok found) h = with_counts-open found.0 (counted found.0.record_type found.1) (counted-open found.0.record_type found.1 h)
-goes (Err fault) h = h
-
 pub counting-suits : Suits counting AtEnd WantsNone counts (λ header. ⊥)
 counting-suits = record {
-  ends = λ bytes. ends (header_answer bytes);
-  text = λ bytes. text (header_answer bytes);
+  ends = λ bytes. ends-headed counts (λ r. count_outcome (counts_behind r)) (λ header behind. refl) (λ fault. refl) (header_answer bytes);
+  text = λ bytes. text-headed counts (λ r. []) (λ header behind. refl) (λ fault. refl) (header_answer bytes);
   cuts = λ bytes old new. cuts old new (file_counts bytes);
-  goes = λ bytes. goes (header_answer bytes);
+  goes = λ bytes.
+      goes-headed counts (λ r. MayChange (fault_in (counts_behind r)))
+      (λ header behind h. with_counts-open header (counted header.record_type behind) (counted-open header.record_type behind h))
+      (λ fault h. h) (header_answer bytes);
   wanting = λ bytes behind header answer wants few. wants;
   is = counts-law;
 }

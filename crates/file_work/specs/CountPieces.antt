@@ -1,7 +1,7 @@
 -- What is made of the bytes after a header, where their records are counted.
 use Rattle.std.{specs.Prelude.{ℕ, ◌≤◌, List, [], length, nat_lt, None, Some, if◌then◌else◌}, specs.declared.option.Option.{Option}}
 use Rattle.tally_base.{specs.declared.fault.Fault.Fault, specs.declared.fault.Fault.TheVariants.RecordLimit, specs.declared.header.Header.Header, specs.declared.header.RecordType.RecordType}
-use Rattle.ptu_definitions.{specs.Words.words_of, specs.Counted.{counted, record_limit}}
+use Rattle.ptu_definitions.specs.Words.{words_of, counted, record_limit}
 use Rattle.record_layout.{specs.declared.counter.Counter.Counter, specs.Counting.HasCounted}
 use Rattle.command_work.specs.Tellings.{Telling}
 use Rattle.file_work.specs.FileOutcomes.{with_counts, count_outcome}

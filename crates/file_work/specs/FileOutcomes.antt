@@ -1,10 +1,20 @@
 -- What `count`, `header` and `events` do with the bytes of FILE, and what they end with where nothing outside fails.
-use Rattle.std.specs.Prelude.{ℕ, List, Result, Ok, Err}
-use Rattle.tally_base.{specs.declared.fault.Fault.Fault, specs.declared.header.Header.Header, specs.Faults.fault_in, specs.declared.event.Policy.Policy, specs.declared.event.Order.TheVariants.Drop, specs.declared.event.OnReserved.TheVariants.Skip}
-use Rattle.ptu_definitions.{specs.declared.records.KindCounts.KindCounts, specs.Headers.header_answer, specs.Counted.{counted, record_limit}, specs.Words.words_of, specs.Streams.{Reading, reading, streamed}}
-use Rattle.list_out.{specs.EventText.lines_of, specs.HeaderText.header_text}
-use Rattle.file_work.specs.CountText.{counts_text}
+use Rattle.std.specs.Prelude.{ℕ, List, ◌++◌, codes, decimal, Result, Ok, Err}
+use Rattle.tally_base.{specs.declared.fault.Fault.Fault, specs.declared.header.Header.Header, specs.RecordTypes.name_of, specs.Faults.fault_in, specs.declared.event.Policy.Policy, specs.declared.event.Order.TheVariants.Drop, specs.declared.event.OnReserved.TheVariants.Skip}
+use Rattle.ptu_definitions.{specs.declared.records.KindCounts.KindCounts, specs.Headers.header_answer, specs.Words.{counted, record_limit, words_of}, specs.Streams.{Reading, reading, streamed}}
+use Rattle.list_out.{specs.Lines.{lines_of, line, announced}, specs.HeaderText.header_text}
 use Rattle.command_work.{specs.Outcomes.{Outcome, refused, written, MayChange, IsCut}, specs.Behaviours.{Work, AreWhole, AreRead, IsHeaded}}
+
+-- what `count` prints
+unfoldable pub counts_text : Header → KindCounts → List ℕ
+counts_text header counts =
+    line (codes "type") (name_of header.record_type)
+    ++ line (codes "announced") (announced header.count)
+    ++ line (codes "records") (decimal counts.records)
+    ++ line (codes "photons") (decimal counts.photons)
+    ++ line (codes "markers") (decimal counts.markers)
+    ++ line (codes "wraps") (decimal counts.wraps)
+    ++ line (codes "reserved") (decimal counts.reserved)
 
 -- a header and the counts of the records behind it
 abbrev pub with_counts : Header → Result KindCounts Fault → Result (Header × KindCounts) Fault

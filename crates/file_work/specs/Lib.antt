@@ -1,10 +1,6 @@
-pub mod CountText
 pub mod FileOutcomes
 pub mod CountPieces
 pub mod CountLaws
-pub mod Grown
 pub mod BodyPieces
-pub mod HeaderPrints
 pub mod EventLines
-pub mod EventPieces
 pub mod EventLaws

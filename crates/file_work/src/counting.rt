@@ -1,4 +1,5 @@
 // The records of a file, counted while it is read.
+
 use crate::counts::write_counts;
 use bench_io::Sink;
 use command_work::{Job, Reader};

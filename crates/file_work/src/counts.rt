@@ -2,7 +2,7 @@
 ghost use Rattle.std.{specs.Prelude.{◌≡◌, IfErr, OnOk, OnErr}, specs.Io.KnownBytes.{Appends}};
 ghost use Rattle.bench_io.specs.Sinks.{AppendsShort};
 ghost use Rattle.tally_base.specs.FaultCounts.{FailsOnce};
-ghost use Rattle.file_work.specs.CountText.{counts_text};
+ghost use Rattle.file_work.specs.FileOutcomes.{counts_text};
 
 use arrayvec::ArrayVec;
 use bench_io::{Sink, write_all};
@@ -11,7 +11,7 @@ use record_layout::KindCounts;
 use tally_base::{Fault, Header};
 
 /// Leaves the seven lines of `count` in `into`.
-#[tactic(auto, unfolding(crate::specs::CountText::counts_text))]
+#[tactic(auto, unfolding(crate::specs::FileOutcomes::counts_text))]
 fn put_counts(header: &Header, counts: &KindCounts, into: &mut ArrayVec<u8, 256>)
     ensures { into.new.items ≡ counts_text header.now counts.now }
 {

@@ -3,7 +3,7 @@ ghost use Rattle.std.specs.Prelude.{◌≡◌, List, ℕ, OnOk, false, IfErr};
 ghost use Rattle.tally_base.specs.Faults.{is_outside};
 ghost use Rattle.ptu_definitions.specs.Streams.{streamed};
 ghost use Rattle.record_stream.{specs.Standing.{how_of, HasStreamed}, specs.Pieces.{TakesOn, StaysOpen}};
-ghost use Rattle.file_work.{specs.EventLines.ListsNone, specs.EventPieces.{IsOpenIn, ListsPiece}};
+ghost use Rattle.file_work.specs.EventLines.{ListsNone, IsOpenIn, ListsPiece};
 
 use abs_time::{moved_floor, orders_markers};
 use bench_io::{Block, Sink};
@@ -160,9 +160,9 @@ pub struct EventReader {
 
 impl Reader for EventReader {
     ghost use Rattle.std.specs.Prelude.{◌+◌, ◌*◌, ◌-◌};
-    ghost use Rattle.ptu_definitions.specs.Counted.{record_limit};
+    ghost use Rattle.ptu_definitions.specs.Words.{record_limit};
     ghost use Rattle.record_stream.specs.Standing.{bytes_in};
-    ghost use Rattle.file_work.{specs.EventPieces.{lists, HasListed}, specs.EventLaws.{lists-law, listed-clear}};
+    ghost use Rattle.file_work.{specs.EventLines.{lists, HasListed}, specs.EventLaws.{lists-law, listed-clear}};
 
     ghost tells = { λ r. lists (how_of r.stream) };
 
@@ -190,7 +190,7 @@ pub struct Listing;
 
 impl Job for Listing {
     ghost use Rattle.command_work.{specs.Behaviours.AsItReads, specs.Works.WantsNone};
-    ghost use Rattle.file_work.{specs.FileOutcomes.{events_so_far, listing, listing_all}, specs.EventPieces.lists, specs.EventLaws.listing-suits};
+    ghost use Rattle.file_work.{specs.FileOutcomes.{events_so_far, listing, listing_all}, specs.EventLines.lists, specs.EventLaws.listing-suits};
 
     type Reader = EventReader;
 

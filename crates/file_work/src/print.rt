@@ -1,11 +1,11 @@
 // Prints a header while it is read.
 ghost use Rattle.std.specs.Prelude.{◌≡◌, ◌≤◌, ◌^◌, ◌++◌, [], List, ℕ, true, false, IfOk, OnOk, OnErr, Err};
-ghost use Rattle.tally_base.{specs.Faults.{is_outside}, specs.FaultCounts.FailsOnce};
-ghost use Rattle.ptu_definitions.{specs.Headers.header_answer, specs.TagFields.code_in};
+ghost use Rattle.tally_base.{specs.Faults.is_outside, specs.FaultCounts.FailsOnce};
+ghost use Rattle.ptu_definitions.{specs.Headers.header_answer, specs.TagList.code_in};
 ghost use Rattle.bench_io.specs.Sinks.{AppendsShort, PassesOn};
 ghost use Rattle.ptu_tag.{specs.declared.kind.TagKind.TagKind, specs.Kinds.{IsHead, code_of}};
 ghost use Rattle.ptu_header.specs.Reading.{bytes_taken, is_open};
-ghost use Rattle.list_out.{specs.HeaderText.{head_text, bare_end}, specs.Body.HasPut};
+ghost use Rattle.list_out.{specs.HeaderText.{head_text, bare_end}, specs.Lines.HasPut};
 ghost use Rattle.file_work.specs.BodyPieces.{PutsBody, CutsBody, end_line};
 
 use arrayvec::ArrayVec;
@@ -81,7 +81,7 @@ fn put_end<O: Sink>(last: bool, block: &mut Block, out: &mut O) -> Result<(), Fa
 }
 
 impl HeaderPrinter {
-    ghost use Rattle.file_work.specs.HeaderPrints.{Prints, Leaves, PutsHeader, CutsHeader, AppendsHeader, EndsPiece};
+    ghost use Rattle.file_work.specs.BodyPieces.{Prints, Leaves, PutsHeader, CutsHeader, AppendsHeader, EndsPiece};
 
     /// A printer that was given no bytes.
     pub(crate) fn new() -> HeaderPrinter

@@ -1,30 +1,19 @@
 -- Bytes that are put, and the counts that they make.
-use Rattle.std.{proofs.Common.{◌≡◌, ◌∙◌, ℕ, zero, suc, ◌+◌, ◌-◌, ◌*◌, ◌/◌, ◌%◌, ◌<◌, ◌≤◌, List, [], ◌∷◌, ◌++◌, length, get_or, set, take, replicate, refl, ap, sym, subst, zero-add, inl, inr, arith, ◌≢◌, slice_index}, specs.Int.{w16, w64, byte_worth, sum_through, from_le_bytes, div_ceil}, proofs.lemmas.Bool.{cases_eq, cases_lt}, proofs.lemmas.List.{ext_get_or, get_or-set_same, get_or-set_other, get_or_past, get_or-replicate, get_or_append_left, get_or-append_right, length-set, length-replicate, take_all}, proofs.lemmas.List.FromFn.get_or-map-range_with_len, proofs.lemmas.Nat.{mod-mul-add, mul-le, row_fits}}
+use Rattle.std.{proofs.Common.{◌≡◌, ◌∙◌, ℕ, zero, suc, ◌+◌, ◌-◌, ◌*◌, ◌/◌, ◌%◌, ◌<◌, ◌≤◌, List, [], ◌∷◌, ◌++◌, length, get_or, set, take, replicate, refl, ap, sym, zero-add, inl, inr, arith, ◌≢◌, slice_index, rules}, specs.Int.{w16, w64, byte_worth, sum_through, from_le_bytes, div_ceil}, proofs.lemmas.Bool.{cases_eq, cases_lt}, proofs.lemmas.List.{ext_get_or, get_or-set_same, get_or-set_other, get_or_past, get_or-replicate, get_or_append_left, get_or-append_right, length-set, length-replicate, take_all}, proofs.lemmas.List.FromFn.get_or-map-range_with_len, proofs.lemmas.Nat.{mod-mul-add, mul-le, row_fits}}
 use Rattle.flim_cube.specs.Bytes.{byte_in, count_in, counts_in, length_counts}
 
 -- A byte that is put in a list of lists is there, and the others are as before.
-pub put_own : (bytes : List (List ℕ)) (entry : List ℕ) (place byte : ℕ) → place / 8 < length bytes → length entry ≡ 8 → byte_in (set bytes (place / 8) (set entry (place % 8) byte)) place ≡ byte
+pub put_own : (bytes : List (List ℕ)) (entry : List ℕ) (place byte : ℕ) → place / 8 < length bytes
+    → length entry ≡ 8 → byte_in (set bytes (place / 8) (set entry (place % 8) byte)) place ≡ byte
 unfolding byte_in
-put_own bytes entry place byte inside eight =
-    ap (λ e. get_or e (place % 8) 0) (get_or-set_same bytes (place / 8) (set entry (place % 8) byte) [] inside)
-    ∙ get_or-set_same entry (place % 8) byte 0 (omega (arith, eight))
+put_own bytes entry place byte inside eight = search (rules, arith, get_or-set_same)
 
 one_place : (a b : ℕ) → a / 8 ≡ b / 8 → a % 8 ≡ b % 8 → a ≡ b
 one_place a b entries bytes = omega (arith, entries, bytes)
 
 pub put_other : (bytes : List (List ℕ)) (entry : List ℕ) (place byte other : ℕ) → place / 8 < length bytes → entry ≡ get_or bytes (place / 8) [] → other ≢ place → byte_in (set bytes (place / 8) (set entry (place % 8) byte)) other ≡ byte_in bytes other
 unfolding byte_in
-put_other bytes entry place byte other inside is apart =
-    elim (cases_eq (other / 8) (place / 8)) [
-      | inl same ↦
-          let apart_in : other % 8 ≢ place % 8 = λ same_byte. apart (one_place other place same same_byte) in
-          ap (λ i. get_or (get_or (set bytes (place / 8) (set entry (place % 8) byte)) i []) (other % 8) 0) same
-          ∙ ap (λ e. get_or e (other % 8) 0) (get_or-set_same bytes (place / 8) (set entry (place % 8) byte) [] inside)
-          ∙ get_or-set_other entry (place % 8) (other % 8) byte 0 apart_in
-          ∙ ap (λ e. get_or e (other % 8) 0) is
-          ∙ ap (λ i. get_or (get_or bytes i []) (other % 8) 0) (sym same)
-      | inr differs ↦ ap (λ e. get_or e (other % 8) 0) (get_or-set_other bytes (place / 8) (other / 8) (set entry (place % 8) byte) [] differs)
-    ]
+put_other bytes entry place byte other inside is apart = search (rules, arith, cases_eq, one_place, get_or-set_same, get_or-set_other)
 
 abbrev pub eight_zeros : List ℕ
 eight_zeros = replicate 8 0
@@ -36,13 +25,10 @@ zero_read (suc n) (suc i) = zero_read n i
 
 -- Bytes of 0 behind the last change none.
 zeros_read : (n entry byte : ℕ) → get_or {A = ℕ} (get_or (replicate n eight_zeros) entry []) byte 0 ≡ 0
-zeros_read n entry byte =
-    elim (cases_lt entry n) [
-      | inl inside ↦ ap (λ e. get_or e byte 0) (get_or-replicate n entry eight_zeros [] inside) ∙ zero_read 8 byte
-      | inr past ↦ ap (λ e. get_or e byte 0) (get_or_past (replicate n eight_zeros) entry [] (omega (arith, past, length-replicate n eight_zeros)))
-    ]
+zeros_read n entry byte = search (rules, arith, cases_lt, get_or-replicate, eight_zeros, zero_read, get_or_past, length-replicate)
 
-pub more_zeros : (bytes : List (List ℕ)) (n count place : ℕ) → length bytes ≤ n → byte_in (take n bytes ++ replicate count eight_zeros) place ≡ byte_in bytes place
+pub more_zeros : (bytes : List (List ℕ)) (n count place : ℕ) → length bytes ≤ n
+    → byte_in (take n bytes ++ replicate count eight_zeros) place ≡ byte_in bytes place
 unfolding byte_in
 more_zeros bytes n count place all =
     let entry = place / 8 in
@@ -82,9 +68,10 @@ pub first_row : (size cell : ℕ) → 0 * size + cell ≡ cell
 first_row size cell = omega arith
 
 -- A count has the bytes that make it.
-pub count_same : (bytes bytes' : List (List ℕ)) (size cell : ℕ) → ((i : ℕ) → i < 8 → byte_in bytes' (i * size + cell) ≡ byte_in bytes (i * size + cell)) → count_in bytes' size cell ≡ count_in bytes size cell
+pub count_same : (bytes bytes' : List (List ℕ)) (size cell : ℕ)
+    → ((i : ℕ) → i < 8 → byte_in bytes' (i * size + cell) ≡ byte_in bytes (i * size + cell)) → count_in bytes' size cell ≡ count_in bytes size cell
 unfolding count_in
-count_same bytes bytes' size cell same = sum_agree (λ i. byte_worth i (byte_in bytes' (i * size + cell))) (λ i. byte_worth i (byte_in bytes (i * size + cell))) 7 (λ i le. ap (byte_worth i) (same i (omega (arith, le))))
+count_same bytes bytes' size cell same = search (rules, arith, sum_agree)
 
 -- Where the lowest byte of a count is more by so much, the count is.
 pub count_more : (bytes bytes' : List (List ℕ)) (size cell more : ℕ) → byte_in bytes' cell ≡ byte_in bytes cell + more → ((i : ℕ) → 0 < i → i < 8 → byte_in bytes' (i * size + cell) ≡ byte_in bytes (i * size + cell)) → count_in bytes' size cell ≡ count_in bytes size cell + more
@@ -94,14 +81,13 @@ count_more bytes bytes' size cell more low same = sum_first (λ i. byte_worth i 
 -- A count is at least its lowest byte.
 pub low_byte : (bytes : List (List ℕ)) (size cell : ℕ) → byte_in bytes cell ≤ count_in bytes size cell
 unfolding count_in
-low_byte bytes size cell = subst (λ place. byte_in bytes place ≤ sum_through (λ i. byte_worth i (byte_in bytes (i * size + cell))) 7) (first_row size cell) (sum_low (λ i. byte_worth i (byte_in bytes (i * size + cell))) 7)
+low_byte bytes size cell = search (rules, arith, first_row, sum_low)
 
 pub row_behind : (i size cell : ℕ) → 0 < i → size ≤ i * size + cell
 row_behind i size cell some = omega (arith, mul-le 1 size i size (omega (arith, some)) (omega arith))
 
 worth_none : (i : ℕ) → byte_worth i 0 ≡ 0
-worth_none zero = refl
-worth_none (suc i) = omega arith
+worth_none i = search (rules, arith)
 
 none_through : (k : ℕ) → sum_through (λ i. 0) k ≡ 0
 none_through zero = refl
@@ -110,9 +96,7 @@ none_through (suc k) = omega (arith, none_through k)
 -- Where the other bytes are all 0, a count is its lowest byte.
 pub count_low : (bytes : List (List ℕ)) (size cell : ℕ) → ((place : ℕ) → size ≤ place → byte_in bytes place ≡ 0) → count_in bytes size cell ≡ byte_in bytes cell
 unfolding count_in
-count_low bytes size cell behind =
-    sum_first (λ i. byte_worth i (byte_in bytes (i * size + cell))) (λ i. 0) (byte_in bytes cell) 7 (ap (byte_in bytes) (first_row size cell) ∙ sym (zero-add (byte_in bytes cell))) (λ i some le. ap (byte_worth i) (behind (i * size + cell) (row_behind i size cell some)) ∙ worth_none i)
-    ∙ ap (λ n. n + byte_in bytes cell) (none_through 7) ∙ zero-add (byte_in bytes cell)
+count_low bytes size cell behind = search (rules, arith, sum_first, first_row, zero-add, row_behind, worth_none, none_through)
 
 pub get_counts : (bytes : List (List ℕ)) (size cell : ℕ) → cell < size → slice_index (counts_in bytes size) cell ≡ count_in bytes size cell
 unfolding counts_in
@@ -126,24 +110,30 @@ count_none bytes size zeros =
     get_counts bytes size i inside ∙ count_low bytes size i (λ place le. zeros place) ∙ zeros i ∙ sym (get_or-replicate size i 0 0 inside))
 
 -- Where the bytes of a count are these, it is the number that they make.
-pub count_from : (bytes : List (List ℕ)) (size cell : ℕ) (parts : List ℕ) → ((i : ℕ) → i < 8 → byte_in bytes (i * size + cell) ≡ slice_index parts i) → count_in bytes size cell ≡ from_le_bytes w64 parts
+pub count_from : (bytes : List (List ℕ)) (size cell : ℕ) (parts : List ℕ)
+    → ((i : ℕ) → i < 8 → byte_in bytes (i * size + cell) ≡ slice_index parts i) → count_in bytes size cell ≡ from_le_bytes w64 parts
 unfolding count_in
-count_from bytes size cell parts same = sum_agree (λ i. byte_worth i (byte_in bytes (i * size + cell))) (λ i. byte_worth i (slice_index parts i)) 7 (λ i le. ap (byte_worth i) (same i (omega (arith, le))))
+count_from bytes size cell parts same = search (rules, arith, sum_agree)
 
-pub counts_same : (bytes bytes' : List (List ℕ)) (size : ℕ) → ((cell : ℕ) → cell < size → count_in bytes' size cell ≡ count_in bytes size cell) → counts_in bytes' size ≡ counts_in bytes size
-counts_same bytes bytes' size same = ext_get_or 0 (counts_in bytes' size) (counts_in bytes size) (length_counts bytes' size ∙ sym (length_counts bytes size)) (λ i lt.
+pub counts_same : (bytes bytes' : List (List ℕ)) (size : ℕ)
+    → ((cell : ℕ) → cell < size → count_in bytes' size cell ≡ count_in bytes size cell) → counts_in bytes' size ≡ counts_in bytes size
+counts_same bytes bytes' size same =
+    ext_get_or 0 (counts_in bytes' size) (counts_in bytes size) (length_counts bytes' size ∙ sym (length_counts bytes size)) (λ i lt.
     let inside : i < size = omega (arith, lt, length_counts bytes' size) in
     get_counts bytes' size i inside ∙ same i inside ∙ sym (get_counts bytes size i inside))
 
 -- Where one count is another number and the rest are as before, so is the list of the counts.
 pub counts_set : (bytes bytes' : List (List ℕ)) (size at count : ℕ) → at < size → count_in bytes' size at ≡ count → ((cell : ℕ) → cell < size → cell ≢ at → count_in bytes' size cell ≡ count_in bytes size cell) → counts_in bytes' size ≡ set (counts_in bytes size) at count
 counts_set bytes bytes' size at count low own others =
-    ext_get_or 0 (counts_in bytes' size) (set (counts_in bytes size) at count) (length_counts bytes' size ∙ sym (length-set (counts_in bytes size) at count ∙ length_counts bytes size)) (λ i lt.
+    ext_get_or 0 (counts_in bytes' size) (set (counts_in bytes size) at count)
+    (length_counts bytes' size ∙ sym (length-set (counts_in bytes size) at count ∙ length_counts bytes size)) (λ i lt.
     let inside : i < size = omega (arith, lt, length_counts bytes' size) in
     let here : at < length (counts_in bytes size) = omega (arith, low, length_counts bytes size) in
     elim (cases_eq i at) [
-      | inl same ↦ get_counts bytes' size i inside ∙ ap (count_in bytes' size) same ∙ own ∙ sym (get_or-set_same (counts_in bytes size) at count 0 here) ∙ ap (λ i. get_or (set (counts_in bytes size) at count) i 0) (sym same)
-      | inr apart ↦ get_counts bytes' size i inside ∙ others i inside apart ∙ sym (get_counts bytes size i inside) ∙ sym (get_or-set_other (counts_in bytes size) at i count 0 apart)
+      | inl same ↦ get_counts bytes' size i inside ∙ ap (count_in bytes' size) same ∙ own
+          ∙ sym (get_or-set_same (counts_in bytes size) at count 0 here) ∙ ap (λ i. get_or (set (counts_in bytes size) at count) i 0) (sym same)
+      | inr apart ↦ get_counts bytes' size i inside ∙ others i inside apart ∙ sym (get_counts bytes size i inside)
+          ∙ sym (get_or-set_other (counts_in bytes size) at i count 0 apart)
     ])
 
 -- The byte of a cell is none of another.
@@ -151,15 +141,7 @@ pub other_cell : (size i cell at : ℕ) → cell < size → cell ≢ at → (i *
 other_cell size i cell at inside apart = λ same. apart (sym (mod-mul-add i size cell inside) ∙ same)
 
 pub each_of_eight : (P : ℕ → Type 0) → P 0 → P 1 → P 2 → P 3 → P 4 → P 5 → P 6 → P 7 → (i : ℕ) → i < 8 → P i
-each_of_eight P p0 p1 p2 p3 p4 p5 p6 p7 zero low = p0
-each_of_eight P p0 p1 p2 p3 p4 p5 p6 p7 (suc zero) low = p1
-each_of_eight P p0 p1 p2 p3 p4 p5 p6 p7 (suc (suc zero)) low = p2
-each_of_eight P p0 p1 p2 p3 p4 p5 p6 p7 (suc (suc (suc zero))) low = p3
-each_of_eight P p0 p1 p2 p3 p4 p5 p6 p7 (suc (suc (suc (suc zero)))) low = p4
-each_of_eight P p0 p1 p2 p3 p4 p5 p6 p7 (suc (suc (suc (suc (suc zero))))) low = p5
-each_of_eight P p0 p1 p2 p3 p4 p5 p6 p7 (suc (suc (suc (suc (suc (suc zero)))))) low = p6
-each_of_eight P p0 p1 p2 p3 p4 p5 p6 p7 (suc (suc (suc (suc (suc (suc (suc zero))))))) low = p7
-each_of_eight P p0 p1 p2 p3 p4 p5 p6 p7 (suc (suc (suc (suc (suc (suc (suc (suc i)))))))) low = absurd (omega (arith, low))
+each_of_eight P p0 p1 p2 p3 p4 p5 p6 p7 i low = search (rules, arith)
 
 -- Where all but the two lowest bytes are 0, a count is the number that these make.
 pub count_two : (bytes : List (List ℕ)) (size cell : ℕ) → ((place : ℕ) → 2 * size ≤ place → byte_in bytes place ≡ 0) → count_in bytes size cell ≡ from_le_bytes w16 (byte_in bytes (0 * size + cell) ∷ byte_in bytes (1 * size + cell) ∷ [])

@@ -1,8 +1,8 @@
 -- The definitions at known events.
 use Rattle.std.proofs.Common.{◌≡◌, ℕ, refl, false, [], ◌∷◌, None, Some}
 use Rattle.tally_base.{specs.declared.event.Event.Event, specs.declared.event.EventKind.TheVariants.{Photon, Marker}, specs.Settings.{CubeView}, specs.Tally.History}
-use Rattle.scan_image.{specs.ImageCounts.count_outside, specs.Totals.in_all_cells}
-use Rattle.flim_cube.{specs.CubeCounts.{in_cell, count_over}, specs.Totals.in_whole_cube}
+use Rattle.scan_image.specs.ImageCounts.{count_outside, in_all_cells}
+use Rattle.flim_cube.specs.CubeCounts.{in_cell, count_over, in_whole_cube}
 
 -- A photon of the first group with this dtime, and a marker of all groups.
 abbrev photon : ℕ → ℕ → Event × ℕ
@@ -13,7 +13,8 @@ marker time bits = (record { place = 1; kind = Marker bits; time = time }, 15)
 
 -- Two columns and two rows of dwell 10, two bins of 5 ticks.
 abbrev small : CubeView
-small = record { image = record { group = 1; width = 2; height = 2; dwell = 10; line = 1; frame = Some 2; stop = None; serpentine = false }; dwidth = 5; dbins = 2 }
+small = record
+    { image = record { group = 1; width = 2; height = 2; dwell = 10; line = 1; frame = Some 2; stop = None; serpentine = false }; dwidth = 5; dbins = 2 }
 
 -- A frame and a line in one marker. In the first pixel dtimes of each bin and one past the last, one in the second, and one behind the line.
 abbrev scanned : History

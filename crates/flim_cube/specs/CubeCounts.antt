@@ -1,5 +1,5 @@
--- The counts of a cube over the events that it is given.
-use Rattle.std.specs.Prelude.{ℕ, Bool, false, ◌&&◌, ◌==◌, nat_le, ◌/◌, Option, None, Some}
+-- The counts of a cube over the events that it is given, and their sums.
+use Rattle.std.{specs.Prelude.{ℕ, Bool, false, ◌&&◌, ◌==◌, nat_le, ◌/◌, Option, None, Some, sum_by}, specs.List.range_with_len}
 use Rattle.tally_base.{specs.Settings.CubeView, specs.Tally.History}
 use Rattle.scan_image.specs.ImageCounts.{count_met, is_at}
 
@@ -19,3 +19,11 @@ in_cell set x y b h = count_met set.image (λ place dtime. is_in_cell x y b plac
 -- how many photons of the group have a place, and a dtime past the last bin
 abbrev pub count_over : CubeView → History → ℕ
 count_over set h = count_met set.image (λ place dtime. is_over set.dbins place (dtime / set.dwidth)) h
+
+-- the sum over the bins of a pixel
+abbrev pub in_pixel : CubeView → ℕ → ℕ → History → ℕ
+in_pixel set x y h = sum_by (λ b. in_cell set x y b h) (range_with_len 0 set.dbins)
+
+-- the sum over all pixels, row by row
+abbrev pub in_whole_cube : CubeView → History → ℕ
+in_whole_cube set h = sum_by (λ y. sum_by (λ x. in_pixel set x y h) (range_with_len 0 set.image.width)) (range_with_len 0 set.image.height)

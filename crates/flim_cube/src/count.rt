@@ -1,6 +1,6 @@
 // What the photons of a cube add to.
 ghost use Rattle.std.specs.Prelude.{◌≡◌, ◌+◌, ◌*◌, ◌/◌, ◌<◌, ◌≤◌, sum, length};
-ghost use Rattle.tally_base.{specs.Settings.cube_view, specs.Divisors.divisor_of};
+ghost use Rattle.tally_base.specs.Settings.{cube_view, divisor_of};
 
 use crate::spread::Cells;
 use scan_image::Pixels;
@@ -27,7 +27,7 @@ pub struct BinCounts {
 }
 
 impl Pixels for Bins {
-    ghost use Rattle.flim_cube.{specs.Cells.counts_of, specs.Counted.Counted};
+    ghost use Rattle.flim_cube.{specs.Cells.counts_of, specs.Cube.Counted};
 
     type Counts = BinCounts;
 

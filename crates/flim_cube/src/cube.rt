@@ -1,7 +1,8 @@
 // A cube: an image of a scan with a histogram in each pixel.
-ghost use Rattle.std.specs.Prelude.{◌≡◌, ◌+◌, ◌*◌, ◌<◌, ◌≤◌, length, sum};
-ghost use Rattle.tally_base.{specs.Settings.{image_view, cube_view}, specs.Tally.History};
+ghost use Rattle.std.{specs.Prelude.{◌≡◌, ◌+◌, ◌*◌, ◌<◌, ◌≤◌, length, sum, IfOk, [], false}, specs.Int.div_ceil};
+ghost use Rattle.tally_base.{specs.Settings.{image_view, cube_view}, specs.Tally.History, specs.Settings.PartSettings.CubeSettings};
 ghost use Rattle.marker_map.specs.Lines.{image_of, markers_given, line_start};
+ghost use Rattle.scan_image.specs.ImageCounts.{count_outside};
 ghost use Rattle.flim_cube.specs.Cells.{counts_of};
 
 use crate::count::{BinCounts, Bins, cell_of};
@@ -34,9 +35,6 @@ pub struct FlimCube {
 }
 
 impl FlimCube {
-    ghost use Rattle.std.{specs.Prelude.{IfOk, [], false}, specs.Int.div_ceil};
-    ghost use Rattle.tally_base.{specs.Settings.PartSettings.CubeSettings};
-    ghost use Rattle.scan_image.specs.ImageCounts.{count_outside};
     ghost use Rattle.flim_cube.{specs.CubeCounts.{in_cell, count_over}, specs.Cube.{Holds, set_of}};
 
     /// A cube of no events, with all the memory that it ever takes, or `AllocError` where it is wanting. Of
@@ -102,7 +100,7 @@ impl FlimCube {
 }
 
 impl Tally for FlimCube {
-    ghost use Rattle.flim_cube.{specs.Cells.entries_of, specs.Cube.{Holds, set_of, settings}, specs.Laws.{taken_is, floor_is, within_bound, marker_groups}};
+    ghost use Rattle.flim_cube.{specs.Cells.entries_of, specs.Cube.{Holds, set_of, settings, within_bound, marker_groups}};
 
     ghost holds = { Holds };
 
@@ -120,9 +118,9 @@ impl Tally for FlimCube {
 
     ghost same_set = { λ old new. set_of new ≡ set_of old };
 
-    ghost taken_is = { taken_is };
+    ghost taken_is = { λ t h is. is.taken };
 
-    ghost floor_is = { floor_is };
+    ghost floor_is = { λ t h is. is.floor };
 
     ghost within = { within_bound };
 

@@ -1,5 +1,5 @@
 // Cells that count in one byte each until one of them needs more.
-ghost use Rattle.std.{specs.Prelude.{◌≡◌, ◌≢◌, ℕ, ◌+◌, ◌*◌, ◌/◌, ◌%◌, ◌^◌, ◌<◌, ◌≤◌, length, slice_index, vec_capacity}, specs.Int.{div_ceil}};
+ghost use Rattle.std.{specs.Prelude.{◌≡◌, ◌≢◌, ℕ, ◌+◌, ◌*◌, ◌/◌, ◌%◌, ◌^◌, ◌<◌, ◌≤◌, length, slice_index, vec_capacity, IfOk, replicate, slice_set}, specs.Int.div_ceil};
 ghost use Rattle.flim_cube.specs.Bytes.{byte_in};
 
 use std::alloc::{AllocError, Global};
@@ -76,7 +76,6 @@ fn width_of(parts: [u8; 8]) -> usize
 }
 
 impl Cells {
-    ghost use Rattle.std.specs.Prelude.{IfOk, replicate, slice_set};
     ghost use Rattle.flim_cube.specs.Cells.{counts_of, entries_of, part_of, width_of_each};
 
     /// So many cells, each 0, or `AllocError` where memory for them is wanting. It takes all the memory that

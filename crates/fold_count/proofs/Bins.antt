@@ -14,14 +14,16 @@ not_before : (tick before : ℕ) (b : Bool) (n : ℕ) → before ≤ tick → co
 not_before tick before b n late = let e : ltb tick before ≡ false = grind (arith, nat_tests, late) in rw e refl
 
 -- one that is before the tick counts, and another doesn't
-pub of_push : (before s : ℕ) (xs : List Entry) (e : Entry) → e.index < before → photons_of before s (xs ++ e ∷ []) ≡ photons_of before s xs + cond (eqb e.b s) e.a 0
+pub of_push : (before s : ℕ) (xs : List Entry) (e : Entry) → e.index < before
+    → photons_of before s (xs ++ e ∷ []) ≡ photons_of before s xs + cond (eqb e.b s) e.a 0
 of_push before s xs e lt = search (rules, arith, sum_by_push)
 
 pub of_late : (before s : ℕ) (xs : List Entry) (e : Entry) → before ≤ e.index → photons_of before s (xs ++ e ∷ []) ≡ photons_of before s xs
 of_late before s xs e late = omega (arith, sum_by_push (λ e. cond (ltb e.index before && eqb e.b s) e.a 0) xs e, not_before e.index before (eqb e.b s) e.a late)
 
 -- where each bin's set is known by its tick
-pub of_known : (set : ℕ → ℕ) (before s : ℕ) (bins : List Entry) → AllByRecursion (λ e. e.b ≡ set e.index) bins → photons_of before s bins ≡ photons_where (λ t. ltb t before && eqb (set t) s) bins
+pub of_known : (set : ℕ → ℕ) (before s : ℕ) (bins : List Entry) → AllByRecursion (λ e. e.b ≡ set e.index) bins
+    → photons_of before s bins ≡ photons_where (λ t. ltb t before && eqb (set t) s) bins
 of_known set before s bins known = search (rules, arith, sum_by-agree)
 
 pub where_push : (test : ℕ → Bool) (xs : List Entry) (e : Entry) → photons_where test (xs ++ e ∷ []) ≡ photons_where test xs + cond (test e.index) e.a 0
@@ -34,11 +36,14 @@ pub photons_append : (xs ys : List Entry) → photons_in (xs ++ ys) ≡ photons_
 photons_append xs ys = sum_by-append (λ e. e.a) xs ys
 
 -- the photons so far, and those of the next bin, are among all
-pub room_for_next : (test : ℕ → Bool) (bins : List Entry) (i : ℕ) (d : Entry) → i < length bins → photons_where test (take i bins) + (get_or bins i d).a ≤ photons_in bins
-room_for_next test bins i d inside = omega (arith, where_at_most test (take i bins), sum_by_more (λ e. e.a) bins i d inside, sum_by-take-le (λ e. e.a) bins (i + 1))
+pub room_for_next : (test : ℕ → Bool) (bins : List Entry) (i : ℕ) (d : Entry) → i < length bins
+    → photons_where test (take i bins) + (get_or bins i d).a ≤ photons_in bins
+room_for_next test bins i d inside =
+    omega (arith, where_at_most test (take i bins), sum_by_more (λ e. e.a) bins i d inside, sum_by-take-le (λ e. e.a) bins (i + 1))
 
 -- from a bin on that isn't before a tick, none is
-pub late_from : (bins : List Entry) (i before : ℕ) (d : Entry) → IsRising bins → i < length bins → before ≤ (get_or bins i d).index → AllByRecursion (λ e. before ≤ e.index) (drop i bins)
+pub late_from : (bins : List Entry) (i before : ℕ) (d : Entry) → IsRising bins → i < length bins
+    → before ≤ (get_or bins i d).index → AllByRecursion (λ e. before ≤ e.index) (drop i bins)
 late_from [] i before d rising inside late = absurd (omega (arith, inside))
 late_from (e ∷ bins) zero before d rising inside late = search (rules, arith, all_weaker)
 late_from (e ∷ bins) (suc i) before d rising inside late = late_from bins i before d rising.1 (omega (arith, inside)) late
@@ -57,14 +62,16 @@ where_true before bins = search (rules, arith, sum_by-same, and_true)
 both : (a b : Bool) (n : ℕ) → cond a (cond b n 0) 0 ≡ cond (a && b) n 0
 both a b n = search (rules, arith)
 
-pub where_kept : (test : ℕ → Bool) (before : ℕ) (bins : List Entry) → photons_where test (filter (λ e. leb before e.index) bins) ≡ photons_where (λ t. leb before t && test t) bins
+pub where_kept : (test : ℕ → Bool) (before : ℕ) (bins : List Entry)
+    → photons_where test (filter (λ e. leb before e.index) bins) ≡ photons_where (λ t. leb before t && test t) bins
 where_kept test before bins = search (rules, arith, sum_by-filter, sum_by-same, both)
 
 parts : (before tick n : ℕ) → cond (leb before tick) n 0 + cond (ltb tick before) n 0 ≡ n
 parts before tick n = grind (arith, nat_tests)
 
 -- what is kept and what is before have all photons
-pub photons_kept : (before : ℕ) (bins : List Entry) → photons_in (filter (λ e. leb before e.index) bins) + photons_where (λ t. ltb t before) bins ≡ photons_in bins
+pub photons_kept : (before : ℕ) (bins : List Entry)
+    → photons_in (filter (λ e. leb before e.index) bins) + photons_where (λ t. ltb t before) bins ≡ photons_in bins
 photons_kept before bins =
     let kept = sum_by-filter (λ e. leb before e.index) (λ e. e.a) bins in
     omega (arith, kept, each bins)
@@ -76,7 +83,8 @@ photons_kept before bins =
 -- ## What is kept from a tick on, of bins and an open one behind them
 
 -- the open one goes with those that are before the tick
-pub kept_short : (before : ℕ) (bins : List Entry) (bin : Entry) → bin.index < before → filter (λ e. leb before e.index) bins ≡ filter (λ e. leb before e.index) (bins ++ bin ∷ [])
+pub kept_short : (before : ℕ) (bins : List Entry) (bin : Entry) → bin.index < before
+    → filter (λ e. leb before e.index) bins ≡ filter (λ e. leb before e.index) (bins ++ bin ∷ [])
 kept_short before [] bin lt = let e : leb before bin.index ≡ false = grind (arith, nat_tests, lt) in rw e refl
 kept_short before (e ∷ bins) bin lt = ap (λ xs. cond (leb before e.index) (e ∷ xs) xs) (kept_short before bins bin lt)
 
@@ -84,11 +92,13 @@ kept_short before (e ∷ bins) bin lt = ap (λ xs. cond (leb before e.index) (e 
 one_more : (b : Bool) (e bin : Entry) (xs ys : List Entry) → xs ++ bin ∷ [] ≡ ys → cond b (e ∷ xs) xs ++ bin ∷ [] ≡ cond b (e ∷ ys) ys
 one_more b e bin xs ys is = search (rules, arith)
 
-pub kept_long : (before : ℕ) (bins : List Entry) (bin : Entry) → before ≤ bin.index → filter (λ e. leb before e.index) bins ++ bin ∷ [] ≡ filter (λ e. leb before e.index) (bins ++ bin ∷ [])
+pub kept_long : (before : ℕ) (bins : List Entry) (bin : Entry) → before ≤ bin.index
+    → filter (λ e. leb before e.index) bins ++ bin ∷ [] ≡ filter (λ e. leb before e.index) (bins ++ bin ∷ [])
 kept_long before [] bin le = let e : leb before bin.index ≡ true = grind (arith, nat_tests, le) in rw e refl
 kept_long before (e ∷ bins) bin le = search (rules, arith, one_more, kept_long before bins bin le)
 
-pub below_kept : (before index : ℕ) (bins : List Entry) → AllByRecursion (λ e. e.index < index) bins → AllByRecursion (λ e. e.index < index) (filter (λ e. leb before e.index) bins)
+pub below_kept : (before index : ℕ) (bins : List Entry) → AllByRecursion (λ e. e.index < index) bins
+    → AllByRecursion (λ e. e.index < index) (filter (λ e. leb before e.index) bins)
 below_kept before index bins above = all_filter (λ e. e.index < index) (λ e. leb before e.index) bins above
 
 pub few_after : (before : ℕ) (bins : List Entry) → length (filter (λ e. leb before e.index) bins) ≤ length bins

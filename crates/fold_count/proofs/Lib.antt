@@ -1,9 +1,6 @@
 pub mod Numbers
-pub mod Unions
-pub mod Lists
 pub mod Nested
 pub mod Bins
-pub mod Sound
 pub mod Settled
 pub mod Pushed
 pub mod Totals

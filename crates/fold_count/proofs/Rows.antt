@@ -1,7 +1,7 @@
 -- The definitions at known photons.
 use Rattle.std.proofs.Common.{◌≡◌, ℕ, refl, [], ◌∷◌}
 use Rattle.tally_base.{specs.declared.event.Event.Event, specs.declared.event.EventKind.TheVariants.{Photon, Marker}, specs.Settings.FoldView, specs.Tally.History}
-use Rattle.fold_count.{specs.FoldCounts.in_set, specs.Totals.in_all_sets}
+use Rattle.fold_count.specs.FoldCounts.{in_set, in_all_sets}
 
 -- A photon in these groups, and a marker of all groups.
 abbrev photon : ℕ → ℕ → Event × ℕ

@@ -2,7 +2,7 @@
 use Rattle.std.{proofs.Common.{◌≡◌, ◌∙◌, ℕ, ◌+◌, ◌^◌, ◌<◌, ◌≤◌, Bool, true, false, ◌&&◌, cond, ltb, leb, eqb, List, [], ◌∷◌, ◌++◌, filter, length, get_or, refl, sym, arith, slice_index, rules}, specs.List.{list_any, count_by, AllByRecursion}, proofs.lemmas.Bool.cases_lt, proofs.lemmas.Bool.Decides.nat_tests, proofs.lemmas.List.Folds.list_any_at}
 use Rattle.tally_base.{specs.declared.event.Event.Event, specs.Settings.FoldView, specs.Tally.History}
 use Rattle.lag_ring.{specs.declared.ring.Entry.Entry, proofs.Rising.{all_push, all_weaker}, proofs.Lists.all_filter}
-use Rattle.fold_count.{specs.FoldCounts.{is_of, is_of_any, is_seen, seen_set}, specs.Folded.{photons_of, photons_where, is_from, met_from, Parted, AreCounts}, proofs.Numbers.{number_agree, number_none}, proofs.Lists.{any_agree, any_none, count_agree, count_parts}, proofs.Bins.{where_push, where_kept, of_known}}
+use Rattle.fold_count.{specs.FoldCounts.{is_of, is_of_any, is_seen, seen_set}, specs.Folded.{photons_of, photons_where, is_from, met_from, Parted, AreCounts}, proofs.Numbers.{number_agree, number_none, any_agree, any_none, count_agree, count_parts}, proofs.Bins.{where_push, where_kept, of_known}}
 
 -- a photon of a group is one of at least one of them
 pub of_any : (groups : List ℕ) (x : Event × ℕ) (k : ℕ) → k < length groups → is_of (get_or groups k 0) x ≡ true → is_of_any groups x ≡ true
@@ -26,19 +26,24 @@ known set tick front h near upto t from =
     any_agree (λ x. is_of_any set.groups x ≡ true → x.0.time ≤ tick) (is_seen set.window t (get_or set.groups k 0)) (is_from (get_or set.groups k 0) t) h upto (λ x le. seen_from set tick front t k x near from inside le))
 
 -- no photon of a group comes behind the last tick
-none_behind : (set : FoldView) (tick t k : ℕ) (h : History) → k < length set.groups → tick < t → AllByRecursion (λ x. is_of_any set.groups x ≡ true → x.0.time ≤ tick) h → list_any (is_from (get_or set.groups k 0) t) h ≡ false
-none_behind set tick t k h inside lt upto = any_none (λ x. is_of_any set.groups x ≡ true → x.0.time ≤ tick) (is_from (get_or set.groups k 0) t) h upto (λ x le. by_case x le (is_of (get_or set.groups k 0) x) refl)
+none_behind : (set : FoldView) (tick t k : ℕ) (h : History) → k < length set.groups → tick < t
+    → AllByRecursion (λ x. is_of_any set.groups x ≡ true → x.0.time ≤ tick) h → list_any (is_from (get_or set.groups k 0) t) h ≡ false
+none_behind set tick t k h inside lt upto = any_none (λ x. is_of_any set.groups x ≡ true
+    → x.0.time ≤ tick) (is_from (get_or set.groups k 0) t) h upto (λ x le. by_case x le (is_of (get_or set.groups k 0) x) refl)
   where
-    by_case : (x : Event × ℕ) → (is_of_any set.groups x ≡ true → x.0.time ≤ tick) → (b : Bool) → is_of (get_or set.groups k 0) x ≡ b → (b && leb t x.0.time) ≡ false
+    by_case : (x : Event × ℕ) → (is_of_any set.groups x ≡ true → x.0.time ≤ tick)
+        → (b : Bool) → is_of (get_or set.groups k 0) x ≡ b → (b && leb t x.0.time) ≡ false
     by_case x le false is = refl
     by_case x le true is = let below : x.0.time ≤ tick = le (of_any set.groups x k inside is) in grind (arith, nat_tests, lt, below)
 
-pub met_none : (set : FoldView) (tick t : ℕ) (h : History) → tick < t → AllByRecursion (λ x. is_of_any set.groups x ≡ true → x.0.time ≤ tick) h → met_from set.groups h t ≡ 0
+pub met_none : (set : FoldView) (tick t : ℕ) (h : History) → tick < t
+    → AllByRecursion (λ x. is_of_any set.groups x ≡ true → x.0.time ≤ tick) h → met_from set.groups h t ≡ 0
 met_none set tick t h lt upto = number_none (λ group. list_any (is_from group t) h) set.groups 0 (λ k inside. none_behind set tick t k h inside lt upto)
 
 -- A photon is before the front, or between it and a later one, or neither.
 pieces : (any : Bool) (t front before pat digits s : ℕ) → front ≤ before → (any ≡ true → front ≤ t → pat ≡ digits)
-    → cond (any && (ltb t front && eqb pat s)) 1 0 + cond (any && (leb front t && (ltb t before && eqb digits s))) 1 0 ≡ cond (any && (ltb t before && eqb pat s)) 1 0
+    → cond (any && (ltb t front && eqb pat s)) 1 0 + cond
+    (any && (leb front t && (ltb t before && eqb digits s))) 1 0 ≡ cond (any && (ltb t before && eqb pat s)) 1 0
 pieces false t front before pat digits s le same = refl
 pieces true t front before pat digits s le same = search (rules, arith, cases_lt)
 
@@ -51,7 +56,8 @@ everywhere : (any : Bool) (t tick before : ℕ) (test : Bool) → tick < before 
 everywhere false t tick before test lt upto = refl
 everywhere true t tick before test lt upto = search (rules, arith)
 
-module _ (set : FoldView) (cells : List ℕ) (bins : List Entry) (tick front : ℕ) (h : History) (is : Parted set cells bins tick front h) (near : tick ≤ front + set.window) (before : ℕ) (le : front ≤ before) where
+module _ (set : FoldView) (cells : List ℕ) (bins : List Entry) (tick front : ℕ) (h : History)
+    (is : Parted set cells bins tick front h) (near : tick ≤ front + set.window) (before : ℕ) (le : front ≤ before) where
   -- the cells once the bins before a tick are counted
   counted_before : (s cell cell' : ℕ) → cell ≡ count_by (λ x. is_of_any set.groups x && (ltb x.0.time front && eqb (seen_set set h x.0.time) s)) h
       → cell' ≡ cell + photons_of before s bins
@@ -63,11 +69,13 @@ module _ (set : FoldView) (cells : List ℕ) (bins : List Entry) (tick front : �
       (λ x. is_of_any set.groups x && (ltb x.0.time front && eqb (seen_set set h x.0.time) s))
       (λ x. is_of_any set.groups x && (leb front x.0.time && (ltb x.0.time before && eqb (met_from set.groups h x.0.time) s)))
       (λ x. is_of_any set.groups x && (ltb x.0.time before && eqb (seen_set set h x.0.time) s))
-      h is.upto (λ x upto. pieces (is_of_any set.groups x) x.0.time front before (seen_set set h x.0.time) (met_from set.groups h x.0.time) s le (λ any from. known set tick front h near is.upto x.0.time from)) in
+      h is.upto (λ x upto. pieces (is_of_any set.groups x) x.0.time front before (seen_set set h x.0.time)
+      (met_from set.groups h x.0.time) s le (λ any from. known set tick front h near is.upto x.0.time from)) in
       omega (arith, was, now, more, sets, all)
 
   -- and the bins that are kept then
-  kept_from : (test : ℕ → Bool) → photons_where (λ t. leb before t && test t) bins ≡ count_by (λ x. is_of_any set.groups x && (leb before x.0.time && test x.0.time)) h
+  kept_from : (test : ℕ → Bool)
+      → photons_where (λ t. leb before t && test t) bins ≡ count_by (λ x. is_of_any set.groups x && (leb before x.0.time && test x.0.time)) h
   kept_from test =
       is.kept (λ t. leb before t && test t)
       ∙ count_agree (λ x. is_of_any set.groups x ≡ true → x.0.time ≤ tick)
@@ -83,7 +91,8 @@ module _ (set : FoldView) (cells : List ℕ) (bins : List Entry) (tick front : �
     counted = λ s inside. counted_before s (slice_index cells s) (slice_index cells' s) (is.counted s inside) (now s inside);
     kept = λ test. omega (arith, where_push test (filter (λ e. leb before e.index) bins) bin, no_photons (test bin.index) bin.a none, where_kept test before bins, kept_from test);
     met = all_push (λ e. e.b ≡ met_from set.groups h e.index) (filter (λ e. leb before e.index) bins) bin (all_filter (λ e. e.b ≡ met_from set.groups h e.index) (λ e. leb before e.index) bins is.met) (empty ∙ sym (met_none set tick bin.index h after is.upto));
-    upto = all_weaker (λ x. is_of_any set.groups x ≡ true → x.0.time ≤ tick) (λ x. is_of_any set.groups x ≡ true → x.0.time ≤ bin.index) (λ x upto any. let below : x.0.time ≤ tick = upto any in omega (arith, below, after)) h is.upto;
+    upto = all_weaker (λ x. is_of_any set.groups x ≡ true → x.0.time ≤ tick) (λ x. is_of_any set.groups x ≡ true
+        → x.0.time ≤ bin.index) (λ x upto any. let below : x.0.time ≤ tick = upto any in omega (arith, below, after)) h is.upto;
   }
     where
       no_photons : (b : Bool) (n : ℕ) → n ≡ 0 → cond b n 0 ≡ 0

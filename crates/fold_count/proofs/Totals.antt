@@ -1,7 +1,7 @@
 -- The cells of a fold add up, and the first of them is 0.
 use Rattle.std.{proofs.Common.{◌≡◌, ◌∙◌, ℕ, ◌+◌, ◌*◌, ◌^◌, ◌<◌, Bool, true, false, ◌&&◌, ◌||◌, cond, eqb, leb, List, [], ◌∷◌, ◌++◌, length, refl, ap, arith, append_assoc}, specs.List.{list_any, count_by, AllByRecursion}, proofs.lemmas.Bool.Decides.nat_tests, proofs.lemmas.List.Folds.list_any-append}
 use Rattle.tally_base.{proofs.Sums.{sum_none, count_none, parts}, specs.declared.event.Event.Event, specs.Events.{is_photon, is_in}, specs.Settings.FoldView, specs.Tally.History}
-use Rattle.fold_count.{specs.FoldCounts.{is_of_any, is_seen, number_of, seen_set, in_set}, specs.Totals.in_all_sets, proofs.Numbers.number_below, proofs.Lists.count_agree}
+use Rattle.fold_count.{specs.FoldCounts.{is_of_any, is_seen, number_of, seen_set, in_set, in_all_sets}, proofs.Numbers.{number_below, count_agree}}
 
 not_behind : (b : Bool) (a n : ℕ) → a < n → (b && leb n a) ≡ false
 not_behind true a n few = grind (arith, nat_tests, few)
@@ -9,8 +9,10 @@ not_behind false a n few = refl
 
 pub add_up : (set : FoldView) (h : History) → in_all_sets set h ≡ count_by (is_of_any set.groups) h
 add_up set h =
-    let few : (x : Event × ℕ) → seen_set set h x.0.time < 2 ^ length set.groups = λ x. number_below (λ group. list_any (is_seen set.window x.0.time group) h) set.groups in
-    let none = count_none (λ x. is_of_any set.groups x && leb (2 ^ length set.groups) (seen_set set h x.0.time)) (λ x. not_behind (is_of_any set.groups x) (seen_set set h x.0.time) (2 ^ length set.groups) (few x)) h in
+    let few : (x : Event × ℕ) → seen_set set h x.0.time < 2 ^ length set.groups =
+    λ x. number_below (λ group. list_any (is_seen set.window x.0.time group) h) set.groups in
+    let none = count_none (λ x. is_of_any set.groups x && leb (2 ^ length set.groups) (seen_set set h x.0.time))
+    (λ x. not_behind (is_of_any set.groups x) (seen_set set h x.0.time) (2 ^ length set.groups) (few x)) h in
     omega (arith, none, parts (is_of_any set.groups) (λ x. seen_set set h x.0.time) (2 ^ length set.groups) h)
 
 or_true : (a b c : Bool) → b ≡ true → (a || (b || c)) ≡ true
@@ -29,7 +31,8 @@ positive : (b : Bool) (n : ℕ) → 0 < n → 0 < cond b 1 0 + 2 * n
 positive true n some = omega (arith, some)
 positive false n some = omega (arith, some)
 
-digit_case : (p q : ℕ → Bool) (g n : ℕ) (any : Bool) (b : Bool) → ((g : ℕ) → q g ≡ true → p g ≡ true) → q g ≡ b → (b || any) ≡ true → (any ≡ true → 0 < n) → 0 < cond (p g) 1 0 + 2 * n
+digit_case : (p q : ℕ → Bool) (g n : ℕ) (any : Bool) (b : Bool) → ((g : ℕ) → q g ≡ true → p g ≡ true)
+    → q g ≡ b → (b || any) ≡ true → (any ≡ true → 0 < n) → 0 < cond (p g) 1 0 + 2 * n
 digit_case p q g n any true follows here is rest = let e : p g ≡ true = follows g here in rw e (omega arith)
 digit_case p q g n any false follows here is rest = positive (p g) n (rest is)
 
@@ -47,7 +50,8 @@ own_window window x g photon is =
     let to : leb x.0.time (x.0.time + window) ≡ true = grind (arith, nat_tests) in
     rw (photon, is, from, to) refl
 
-not_zero : (set : FoldView) (h : History) (x : Event × ℕ) → ((p : Event × ℕ → Bool) → p x ≡ true → list_any p h ≡ true) → (b : Bool) → is_of_any set.groups x ≡ b → (b && eqb (seen_set set h x.0.time) 0) ≡ false
+not_zero : (set : FoldView) (h : History) (x : Event × ℕ) → ((p : Event × ℕ → Bool) → p x ≡ true → list_any p h ≡ true)
+    → (b : Bool) → is_of_any set.groups x ≡ b → (b && eqb (seen_set set h x.0.time) 0) ≡ false
 not_zero set h x member false is = refl
 not_zero set h x member true is =
     let parts = second_true (is_photon x.0) (list_any (λ group. is_in x.1 group) set.groups) is in

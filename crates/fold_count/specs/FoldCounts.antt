@@ -1,5 +1,5 @@
 -- The sets of groups that have a photon in the window that begins at a photon.
-use Rattle.std.{specs.Prelude.{ℕ, ◌+◌, ◌*◌, Bool, ◌&&◌, ◌==◌, nat_le, List, [], ◌∷◌, count_by, if◌then◌else◌}, specs.List.list_any}
+use Rattle.std.{specs.Prelude.{ℕ, ◌+◌, ◌*◌, Bool, ◌&&◌, ◌==◌, nat_le, List, [], ◌∷◌, count_by, if◌then◌else◌, ◌^◌, sum_by, length}, specs.List.{list_any, range_with_len}}
 use Rattle.tally_base.{specs.declared.event.Event.Event, specs.Events.{is_photon, is_in}, specs.Settings.FoldView, specs.Tally.History}
 
 -- a photon of the group
@@ -26,3 +26,7 @@ seen_set set h time = number_of (λ group. list_any (is_seen set.window time gro
 -- how many photons of at least one of the groups have this set in the window that begins at them
 abbrev pub in_set : FoldView → ℕ → History → ℕ
 in_set set s h = count_by (λ x. is_of_any set.groups x && (seen_set set h x.0.time == s)) h
+
+-- the sum over all sets
+abbrev pub in_all_sets : FoldView → History → ℕ
+in_all_sets set h = sum_by (λ s. in_set set s h) (range_with_len 0 (2 ^ length set.groups))

@@ -1,7 +1,7 @@
 -- What the numbers that a fold keeps stand for.
 use Rattle.std.{specs.Prelude.{◌≡◌, ℕ, ◌+◌, ◌-◌, ◌^◌, ◌<◌, ◌≤◌, ⊤, Bool, true, false, IsTrue, ◌&&◌, ◌==◌, nat_le, nat_lt, List, [], ◌∷◌, ◌++◌, length, map, slice_index, count_by, sum_by, bit_or, if◌then◌else◌}, specs.Coded.Unit-prop, specs.List.{list_any, AllByRecursion}, proofs.Props.props}
-use Rattle.tally_base.{specs.declared.event.Event.Event, specs.Events.{is_photon, is_in}, specs.Settings.FoldView, specs.Tally.History, specs.Limits.time_limit, specs.declared.block.Block.Block, specs.Columns.{gathered, IsSorted}, specs.Floors.InOrder}
-use Rattle.lag_ring.{specs.declared.ring.Entry.Entry, specs.Ring.Ring, specs.Kept.weight_where}
+use Rattle.tally_base.{specs.declared.event.Event.Event, specs.Events.{is_photon, is_in}, specs.Settings.FoldView, specs.Tally.{History, InOrder}, specs.Limits.time_limit, specs.declared.block.Block.Block, specs.Columns.{gathered, IsSorted}}
+use Rattle.lag_ring.{specs.declared.ring.Entry.Entry, specs.Ring.{Ring, weight_where}}
 use Rattle.fold_count.specs.FoldCounts.{is_of, is_of_any, number_of, seen_set, in_set}
 
 -- the bins that wait to be counted, the open one last

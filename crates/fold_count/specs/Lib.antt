@@ -1,5 +1,3 @@
 pub mod FoldCounts
 pub mod Folded
 pub mod Fold
-pub mod Laws
-pub mod Totals

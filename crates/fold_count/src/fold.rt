@@ -1,6 +1,6 @@
 // A fold: the sets of groups that have a photon in a window.
-ghost use Rattle.std.specs.Prelude.{◌≡◌, ◌+◌, ◌≤◌, false, sum};
-ghost use Rattle.tally_base.{specs.Settings.fold_view, specs.Tally.History, specs.Limits.record_limit};
+ghost use Rattle.std.specs.Prelude.{◌≡◌, ◌+◌, ◌≤◌, false, sum, ◌<◌, ◌^◌, length, slice_index, true, IfOk, []};
+ghost use Rattle.tally_base.{specs.Settings.fold_view, specs.Tally.History, specs.Limits.record_limit, specs.Settings.PartSettings.FoldSettings};
 ghost use Rattle.fold_count.specs.Folded.{IsSound, IsSound-prop, waiting, photons_in};
 
 use crate::taking::{count_all, put_block};
@@ -34,8 +34,6 @@ pub struct Fold {
 }
 
 impl Fold {
-    ghost use Rattle.std.specs.Prelude.{◌<◌, ◌^◌, length, slice_index, true, IfOk, []};
-    ghost use Rattle.tally_base.specs.Settings.PartSettings.{FoldSettings};
     ghost use Rattle.fold_count.{specs.FoldCounts.in_set, specs.Fold.{Holds, set_of, cells_in}};
 
     /// A fold of no events, with all the memory that it ever takes, or `AllocError` where it is wanting.
@@ -93,8 +91,7 @@ impl Fold {
 }
 
 impl Tally for Fold {
-    ghost use Rattle.std.specs.Prelude.{length};
-    ghost use Rattle.fold_count.{specs.Fold.{Holds, set_of, settings, held}, specs.Laws.{taken_is, floor_is, within_bound, marker_groups}};
+    ghost use Rattle.fold_count.specs.Fold.{Holds, set_of, settings, held, within_bound, marker_groups};
 
     ghost holds = { Holds };
 
@@ -110,9 +107,9 @@ impl Tally for Fold {
 
     ghost same_set = { λ old new. set_of new ≡ set_of old };
 
-    ghost taken_is = { taken_is };
+    ghost taken_is = { λ t h is. is.taken };
 
-    ghost floor_is = { floor_is };
+    ghost floor_is = { λ t h is. is.floor };
 
     ghost within = { within_bound };
 

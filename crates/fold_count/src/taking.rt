@@ -1,6 +1,6 @@
 // The events that a fold is given.
 ghost use Rattle.std.specs.Prelude.{◌≡◌, ◌+◌, ◌<◌, ◌≤◌, ◌++◌, ◌∷◌, [], ℕ, false, ◌^◌, IsTrue, length, sum, if◌then◌else◌};
-ghost use Rattle.tally_base.{specs.Events.is_photon, specs.Settings.fold_view, specs.Tally.History, specs.Limits.{record_limit, time_limit}, specs.Columns.{gathered, events_in, IsSorted}, specs.Floors.{floor_after, InOrder}};
+ghost use Rattle.tally_base.{specs.Events.is_photon, specs.Settings.fold_view, specs.Tally.{History, floor_after, InOrder}, specs.Limits.{record_limit, time_limit}, specs.Columns.{gathered, events_in, IsSorted}};
 ghost use Rattle.fold_count.specs.Folded.{IsSound, IsInTime, Stands, PutsPhoton, CanPut, ComesAfter, AreCounts, waiting, photons_in};
 
 use crate::groups::set_in;

@@ -1,8 +1,9 @@
 -- The list of the events that tables are given: the kept list, with shifted dtimes and with groups.
 use Rattle.std.specs.Prelude.{ℕ, List, map}
-use Rattle.tally_base.{specs.declared.event.Event.Event, specs.Settings.GroupView, specs.Tally.History}
+use Rattle.tally_base.{specs.declared.event.Event.Event, specs.Settings.GroupView, specs.Tally.History, specs.declared.event.Policy.Policy, specs.declared.header.Header.Header}
 use Rattle.gate_plan.{specs.Taking.groups_by, specs.Shifting.{Sorting, shifted}}
-use Rattle.ptu_definitions.{specs.Settled.{kept_by, settled_by}, specs.Times.events, specs.Streams.Reading}
+use Rattle.ptu_definitions.{specs.Settled.{kept_by, settled_by}, specs.Times.events, specs.Streams.{Reading, reading}}
+use Rattle.plan_text.specs.Plan.{PlanView}
 
 -- events whose dtimes are shifted, each with the groups that it is in
 abbrev pub grouped : List GroupView → List Event → History
@@ -19,3 +20,12 @@ history by how words = with_groups by (kept_by how.policy.settle how.mode (event
 -- The same of those that are settled: what tables are given while more words may come.
 unfoldable pub settled_history : Sorting → Reading → List ℕ → History
 settled_history by how words = with_groups by (settled_by how.policy.settle how.mode (events (map how.meaning words)))
+
+-- How a plan reads the records behind a header.
+
+abbrev pub policy_of : PlanView → Policy
+policy_of plan = record { order = plan.order; reserved = plan.reserved; records = plan.records; settle = plan.settle }
+
+-- how a plan reads the records behind a header
+abbrev pub reading_by : PlanView → Header → Reading
+reading_by plan header = reading header.record_type (policy_of plan)

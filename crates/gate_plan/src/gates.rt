@@ -1,6 +1,7 @@
 // The shifted dtimes of events, and the groups that they are in.
-ghost use Rattle.std.{specs.Prelude.{◌≡◌, ◌<◌, ◌≤◌, ◌==◌, ℕ, map, length, None, is_some, slice_index, slice_index_or}, specs.Option.{ForSome}};
-ghost use Rattle.tally_base.specs.Settings.{group_view, shift_view};
+ghost use Rattle.std.{specs.Prelude.{◌≡◌, ◌<◌, ◌≤◌, ◌==◌, ℕ, map, length, None, is_some, slice_index, slice_index_or, ◌+◌, ◌-◌, ◌↔◌, [], get_or, nat_lt, false}, specs.Option.ForSome};
+ghost use Rattle.tally_base.{specs.Settings.{group_view, shift_view}, specs.Events.is_in};
+ghost use Rattle.plan_text.specs.Reading.{plan_view};
 ghost use Rattle.gate_plan.{specs.Shifting.shift_of, specs.Parting.{plain_bits, gated_bits, gated_sum, all_gates, gates_in, TellsGroups}};
 
 use crate::copies::groups_again;
@@ -40,9 +41,6 @@ pub struct Gates {
 }
 
 impl Gates {
-    ghost use Rattle.std.specs.Prelude.{◌+◌, ◌-◌, ◌↔◌, [], get_or, nat_lt, false};
-    ghost use Rattle.tally_base.specs.Events.{is_in};
-    ghost use Rattle.plan_text.specs.Reading.{plan_view};
     ghost use Rattle.gate_plan.{specs.Shifting.{sorting, shifted, shifted_dtime}, specs.Taking.{takes, groups_in}, specs.Groups.sorting_of};
 
     /// The shifts and the groups of a plan.

@@ -3,7 +3,4 @@ pub mod Lists
 pub mod Sums
 pub mod Between
 pub mod Kept
-pub mod Windows
-pub mod Places
-pub mod Spots
 pub mod Wholes

@@ -1,6 +1,6 @@
 -- Counts in two parts.
 use Rattle.std.{proofs.Common.{◌≡◌, ◌≢◌, ℕ, zero, suc, ◌+◌, ◌-◌, ◌^◌, ◌<◌, ◌≤◌, true, false, eqb, leb, cond, List, [], ◌∷◌, length, get_or, replicate, set, refl, ap, arith}, proofs.lemmas.Bool.Decides.{nat_tests}, proofs.lemmas.List.{ext_get_or, get_or-set_same, get_or-set_other, get_or_past, length-set}}
-use Rattle.lag_ring.specs.{Parts.{part_sum, whole, AreParts}, Cells.{upwards_at, downwards_at}}
+use Rattle.lag_ring.specs.Cells.{part_sum, whole, AreParts, upwards_at, downwards_at}
 
 pub whole-length : (lows highs : List ℕ) → length highs ≡ length lows → length (whole lows highs) ≡ length lows
 whole-length [] highs same = refl
@@ -19,7 +19,8 @@ whole-zeros zero = refl
 whole-zeros (suc n) = ap (λ xs. 0 ∷ xs) (whole-zeros n)
 
 -- Parts of which one count grew are those of the list with that count set.
-pub whole-set : (lows highs lows' highs' : List ℕ) (at more : ℕ) → length highs ≡ length lows → length lows' ≡ length lows → length highs' ≡ length lows' → at < length lows
+pub whole-set : (lows highs lows' highs' : List ℕ) (at more : ℕ) → length highs ≡ length lows
+    → length lows' ≡ length lows → length highs' ≡ length lows' → at < length lows
     → ((c : ℕ) → c < length lows → part_sum lows' highs' c ≡ part_sum lows highs c + cond (eqb at c) more 0)
     → whole lows' highs' ≡ set (whole lows highs) at (get_or (whole lows highs) at 0 + more)
 whole-set lows highs lows' highs' at more same long same' inside grew =
@@ -30,44 +31,49 @@ whole-set lows highs lows' highs' at more same long same' inside grew =
     (λ c within. (elim (eqb at c) as (λ b. eqb at c ≡ b → get_or (whole lows' highs') c 0 ≡ get_or (set old at (get_or old at 0 + more)) c 0) [
       | true ↦ λ here.
           let is : at ≡ c = grind (arith, nat_tests, here) in
-          let now : get_or (whole lows' highs') c 0 ≡ get_or old c 0 + more = omega (arith, whole-at lows' highs' c same', whole-at lows highs c same, (rw here at (grew c (omega (arith, within, len'))))) in
+          let now : get_or (whole lows' highs') c 0 ≡ get_or old c 0 + more =
+          omega (arith, whole-at lows' highs' c same', whole-at lows highs c same, (rw here at (grew c (omega (arith, within, len'))))) in
           rw (now, is, get_or-set_same old c (get_or old c 0 + more) 0 (omega (arith, within, len', len))) refl
       | false ↦ λ away.
           let other : c ≢ at = grind (arith, nat_tests, away) in
-          rw (get_or-set_other old at c (get_or old at 0 + more) 0 other) (omega (arith, whole-at lows' highs' c same', whole-at lows highs c same, (rw away at (grew c (omega (arith, within, len'))))))
+          rw (get_or-set_other old at c (get_or old at 0 + more) 0 other)
+          (omega (arith, whole-at lows' highs' c same', whole-at lows highs c same, (rw away at (grew c (omega (arith, within, len'))))))
     ]) refl)
 
 -- No count that a row is added to passes the greatest.
 pub upwards-few : (lows highs : List ℕ) (from c : ℕ) (row : List ℕ) → AreParts lows highs → c < length lows
     → ((q : ℕ) → q < length row → part_sum lows highs (from + q) + get_or row q 0 ≤ 2 ^ 80) → part_sum lows highs c + upwards_at from row c ≤ 2 ^ 80
-upwards-few lows highs from c row are inside fits = (elim (leb from c) as (λ b. leb from c ≡ b → part_sum lows highs c + cond b (get_or row (c - from) 0) 0 ≤ 2 ^ 80) [
-  | true ↦ λ upto.
-      let above : from ≤ c = grind (arith, nat_tests, upto) in
-      let q : ℕ = c - from in
-      let place : from + q ≡ c = omega arith in
-      (elim (leb (length row) q) as (λ b. leb (length row) q ≡ b → part_sum lows highs c + get_or row q 0 ≤ 2 ^ 80) [
-        | true ↦ λ long. (let past : length row ≤ q = grind (arith, nat_tests, long) in rw (get_or_past row q 0 past) (omega (arith, are.few c inside)))
-        | false ↦ λ short. rw place at (fits q (grind (arith, nat_tests, short)))
-      ]) refl
-  | false ↦ λ below. omega (arith, are.few c inside)
-]) refl
+upwards-few lows highs from c row are inside fits =
+    (elim (leb from c) as (λ b. leb from c ≡ b → part_sum lows highs c + cond b (get_or row (c - from) 0) 0 ≤ 2 ^ 80) [
+      | true ↦ λ upto.
+          let above : from ≤ c = grind (arith, nat_tests, upto) in
+          let q : ℕ = c - from in
+          let place : from + q ≡ c = omega arith in
+          (elim (leb (length row) q) as (λ b. leb (length row) q ≡ b → part_sum lows highs c + get_or row q 0 ≤ 2 ^ 80) [
+            | true ↦ λ long. (let past : length row ≤ q = grind (arith, nat_tests, long) in rw (get_or_past row q 0 past) (omega (arith, are.few c inside)))
+            | false ↦ λ short. rw place at (fits q (grind (arith, nat_tests, short)))
+          ]) refl
+      | false ↦ λ below. omega (arith, are.few c inside)
+    ]) refl
 
 pub downwards-few : (lows highs : List ℕ) (from c : ℕ) (row : List ℕ) → AreParts lows highs → c < length lows
     → ((q : ℕ) → q < length row → part_sum lows highs (from - q) + get_or row q 0 ≤ 2 ^ 80) → part_sum lows highs c + downwards_at from row c ≤ 2 ^ 80
-downwards-few lows highs from c row are inside fits = (elim (leb c from) as (λ b. leb c from ≡ b → part_sum lows highs c + cond b (get_or row (from - c) 0) 0 ≤ 2 ^ 80) [
-  | true ↦ λ upto.
-      let below : c ≤ from = grind (arith, nat_tests, upto) in
-      let q : ℕ = from - c in
-      let place : from - q ≡ c = omega arith in
-      (elim (leb (length row) q) as (λ b. leb (length row) q ≡ b → part_sum lows highs c + get_or row q 0 ≤ 2 ^ 80) [
-        | true ↦ λ long. (let past : length row ≤ q = grind (arith, nat_tests, long) in rw (get_or_past row q 0 past) (omega (arith, are.few c inside)))
-        | false ↦ λ short. rw place at (fits q (grind (arith, nat_tests, short)))
-      ]) refl
-  | false ↦ λ above. omega (arith, are.few c inside)
-]) refl
+downwards-few lows highs from c row are inside fits =
+    (elim (leb c from) as (λ b. leb c from ≡ b → part_sum lows highs c + cond b (get_or row (from - c) 0) 0 ≤ 2 ^ 80) [
+      | true ↦ λ upto.
+          let below : c ≤ from = grind (arith, nat_tests, upto) in
+          let q : ℕ = from - c in
+          let place : from - q ≡ c = omega arith in
+          (elim (leb (length row) q) as (λ b. leb (length row) q ≡ b → part_sum lows highs c + get_or row q 0 ≤ 2 ^ 80) [
+            | true ↦ λ long. (let past : length row ≤ q = grind (arith, nat_tests, long) in rw (get_or_past row q 0 past) (omega (arith, are.few c inside)))
+            | false ↦ λ short. rw place at (fits q (grind (arith, nat_tests, short)))
+          ]) refl
+      | false ↦ λ above. omega (arith, are.few c inside)
+    ]) refl
 
 -- A number that is set among small ones is small, and so are all.
-pub small-set : (lows : List ℕ) (at v : ℕ) → at < length lows → v < 2 ^ 63 → ((c : ℕ) → get_or lows c 0 < 2 ^ 63) → (c : ℕ) → get_or (set lows at v) c 0 < 2 ^ 63
+pub small-set : (lows : List ℕ) (at v : ℕ) → at < length lows → v < 2 ^ 63
+    → ((c : ℕ) → get_or lows c 0 < 2 ^ 63) → (c : ℕ) → get_or (set lows at v) c 0 < 2 ^ 63
 small-set lows at v inside small all c = (elim (eqb at c) as (λ b. eqb at c ≡ b → get_or (set lows at v) c 0 < 2 ^ 63) [
   | true ↦ λ here. (let is : c ≡ at = grind (arith, nat_tests, here) in rw (is, get_or-set_same lows at v 0 inside) small)
   | false ↦ λ away. (let other : c ≢ at = grind (arith, nat_tests, away) in rw (get_or-set_other lows at c v 0 other) (all c))

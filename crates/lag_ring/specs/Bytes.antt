@@ -1,6 +1,26 @@
 -- Weights by tick in bytes.
-use Rattle.std.{specs.Prelude.{ℕ, ◌≡◌, ◌+◌, ◌^◌, ◌<◌, ◌≤◌, List, length, slice_index}, specs.List.{AllByRecursion}}
-use Rattle.lag_ring.{specs.declared.ring.Entry.Entry, specs.declared.window.Side.Side, specs.declared.window.Side.TheVariants.{First, Second}, specs.Window.weight_at}
+use Rattle.std.{specs.Prelude.{ℕ, ◌≡◌, ◌+◌, ◌-◌, ◌*◌, ◌^◌, ◌<◌, ◌≤◌, ◌==◌, List, length, slice_index, sum_by}, specs.List.AllByRecursion}
+use Rattle.lag_ring.{specs.declared.ring.Entry.Entry, specs.declared.window.Side.Side, specs.declared.window.Side.TheVariants.{First, Second}, specs.Ring.weight_where}
+
+-- Weights by tick.
+
+abbrev pub weight_of : Side → Entry → ℕ
+weight_of First e = e.a
+weight_of Second e = e.b
+
+-- the weight of the entry that stands so many lags before an index, or 0
+abbrev pub weight_before : Side → ℕ → ℕ → List Entry → ℕ
+weight_before side lag index es = weight_where (weight_of side) (λ i. i + lag == index) es
+
+-- the weight of the entry that has the place p in a window, whose place 0 is that of the index top below low
+abbrev pub weight_at : Side → ℕ → ℕ → ℕ → List Entry → ℕ
+weight_at side top low p es = weight_where (weight_of side) (λ i. i + top == low + p) es
+
+-- an entry's weight times what stands in the window so many places after that of its index, where place 0 is that of low
+abbrev pub product_at : Side → List ℕ → ℕ → ℕ → Entry → ℕ
+product_at side window low from e = slice_index window (e.index - low + from) * weight_of side e
+
+-- Weights by tick in bytes.
 
 -- no weight of the entries is above this number
 abbrev pub IsLight : ℕ → List Entry → Type 0
@@ -24,3 +44,10 @@ BothFit top low firsts seconds es = Fit First top low firsts es × Fit Second to
 
 abbrev pub BothHave : ℕ → ℕ → List ℕ → List ℕ → List ℕ → List ℕ → List Entry → Type 0
 BothHave top low firsts seconds firsts' seconds' es = Have First top low firsts firsts' es × Have Second top low seconds seconds' es
+
+-- A window serves photons at some spots up to the greatest lag: its places have few photons each, and so many lags have a place behind each spot.
+pub record ServesSpots (most top : ℕ) (window spots : List ℕ) : Type 0 where
+  pub weighed : (0 < most) × (most ≤ 255)
+  pub light : (p : ℕ) → p < length window → slice_index window p ≤ most
+  pub few : length spots ≤ 256
+  pub near : AllByRecursion (λ s. s + top ≤ length window) spots

@@ -1,5 +1,5 @@
 // Entries in a circular buffer.
-ghost use Rattle.std.{specs.Prelude.{◌≡◌, ◌+◌, ◌<◌, ◌≤◌, [], ◌∷◌, ◌++◌, IfOk, filter, length, nat_le, slice_get, slice_set, Some}, specs.List.{AllByRecursion}};
+ghost use Rattle.std.{specs.Prelude.{◌≡◌, ◌+◌, ◌<◌, ◌≤◌, [], ◌∷◌, ◌++◌, IfOk, filter, length, nat_le, slice_get, slice_set, Some}, specs.List.AllByRecursion};
 ghost use Rattle.lag_ring.specs.Ring.{IsRising, spare};
 
 use crate::ring::Entry;

@@ -1,11 +1,20 @@
 // Weights by tick in bytes, and the pairs that single photons make over them at many lags at once.
-ghost use Rattle.std.{specs.Prelude.{◌≡◌, ℕ, ◌+◌, ◌^◌, ◌<◌, ◌≤◌, ◌==◌, length, slice_index, sum_by, if◌then◌else◌}, specs.List.{AllByRecursion}};
-ghost use Rattle.lag_ring.{specs.declared.window.Side.TheVariants.{First, Second}, specs.Window.weight_at, specs.Bytes.{IsLight, behind, BothFit, BothHave}};
+ghost use Rattle.std.{specs.Prelude.{◌≡◌, ℕ, ◌+◌, ◌-◌, ◌*◌, ◌^◌, ◌<◌, ◌≤◌, ◌==◌, length, slice_index, sum_by, if◌then◌else◌}, specs.List.{AllByRecursion}};
+ghost use Rattle.lag_ring.{specs.declared.window.Side.TheVariants.{First, Second}, specs.Bytes.{weight_of, weight_at, IsLight, behind, Fit, Have, BothFit, BothHave}};
+ghost use Rattle.arrayvec.specs.ArrayVec.{array_vec_len};
 
 use crate::ring::Entry;
+use crate::window::Side;
+use arrayvec::ArrayVec;
 
-/// How many lags are summed at once in bytes.
+/// How many lags at most are summed at once in bytes.
 pub const BYTE_LAGS: usize = 256;
+
+/// How many spots there are at most.
+pub const MOST_SPOTS: usize = 256;
+
+/// How many places from the first on may be spots.
+const SPAN: u64 = 4096;
 
 /// A number that no weight of the entries is above. It is not 0.
 pub fn weight_bound(entries: &[Entry]) -> u64
@@ -71,61 +80,114 @@ pub fn put_bytes(firsts: &mut [u8], seconds: &mut [u8], top: u64, low: u64, entr
     }
 }
 
+/// The same for one of the two groups, in one window.
+pub fn put_side(window: &mut [u8], side: Side, top: u64, low: u64, entries: &[Entry])
+    requires early { AllByRecursion (λ e. e.index + top < 2 ^ 64) entries.now }
+    requires fit { Fit side top low window.old entries.now }
+    ensures have { Have side top low window.old window.new entries.now }
+    ensures same { length window.new ≡ length window.old }
+{
+    for entry in entries {
+        let place = entry.index + top;
+        if place >= low && place - low < window.len() as u64 {
+            put_byte(window, (place - low) as usize, side.weight(entry));
+        }
+    }
+}
+
+/// Puts a spot behind others so many times.
+#[inline(always)]
+fn put_spot(spots: &mut ArrayVec<u16, MOST_SPOTS>, spot: u16, times: u64)
+    requires room { array_vec_len spots.old + times ≤ MOST_SPOTS }
+    ensures sums { (f : ℕ → ℕ) → sum_by f spots.new.items ≡ sum_by f spots.old.items + f spot * times }
+    ensures len { array_vec_len spots.new ≡ array_vec_len spots.old + times }
+    ensures within { (n : ℕ) → spot ≤ n → AllByRecursion (λ s. s ≤ n) spots.old.items
+        → AllByRecursion (λ s. s ≤ n) spots.new.items }
+{
+    for _time in 0..times {
+        spots.push(spot);
+    }
+}
+
+/// The spot of each photon that entries have on one side, in a window that begins at `low`.
+pub fn spots_of(side: Side, low: u64, entries: &[Entry]) -> ArrayVec<u16, MOST_SPOTS>
+    requires near { AllByRecursion (λ e. (low ≤ e.index) × (e.index - low < SPAN)) entries.now }
+    requires few { sum_by (weight_of side) entries.now ≤ MOST_SPOTS }
+    ensures sums { (f : ℕ → ℕ) → sum_by f result.items
+        ≡ sum_by (λ e. f (e.index - low) * weight_of side e) entries.now }
+    ensures few { array_vec_len result ≤ MOST_SPOTS }
+    ensures within { (n : ℕ) → AllByRecursion (λ e. e.index - low ≤ n) entries.now
+        → AllByRecursion (λ s. s ≤ n) result.items }
+{
+    let mut spots = ArrayVec::new();
+    for entry in entries {
+        put_spot(&mut spots, (entry.index - low) as u16, side.weight(entry));
+    }
+    spots
+}
+
 /// Adds each byte of a part of a window to a sum.
 #[inline(always)]
-fn add_bytes(sums: &mut [u8; BYTE_LAGS], part: &[u8])
-    requires all { length part.now ≡ BYTE_LAGS }
-    requires fits { (q : ℕ) → q < BYTE_LAGS
+fn add_bytes<const N: usize>(sums: &mut [u8; N], part: &[u8])
+    requires all { length part.now ≡ N }
+    requires fits { (q : ℕ) → q < N
         → slice_index sums.old q + slice_index part.now q < 2 ^ 8 }
-    ensures sums { (q : ℕ) → q < BYTE_LAGS
+    ensures sums { (q : ℕ) → q < N
         → slice_index sums.new q ≡ slice_index sums.old q + slice_index part.now q }
 {
-    for q in 0..BYTE_LAGS {
+    for q in 0..N {
         sums[q] += part[q];
     }
 }
 
 /// What stands behind each of a few spots of a window, summed for each of some lags.
 #[inline(always)]
-fn byte_sums(window: &[u8], from: usize, spots: &[u16]) -> [u8; BYTE_LAGS]
-    requires fits { (q : ℕ) → q < BYTE_LAGS
+fn byte_sums<const N: usize>(window: &[u8], from: usize, spots: &[u16]) -> [u8; N]
+    requires lags { N ≤ BYTE_LAGS }
+    requires fits { (q : ℕ) → q < N
         → sum_by (behind window.now (from + q)) spots.now < 2 ^ 8 }
-    requires inside { AllByRecursion (λ s. s + from + BYTE_LAGS ≤ length window.now) spots.now }
-    ensures sums { (q : ℕ) → q < BYTE_LAGS
+    requires inside { AllByRecursion (λ s. s + from + N ≤ length window.now) spots.now }
+    ensures sums { (q : ℕ) → q < N
         → slice_index result q ≡ sum_by (behind window.now (from + q)) spots.now }
 {
-    let mut sums = [0; BYTE_LAGS];
+    let mut sums = [0; N];
     for spot in spots {
         let at = *spot as usize + from;
-        add_bytes(&mut sums, &window[at..at + BYTE_LAGS]);
+        add_bytes(&mut sums, &window[at..at + N]);
     }
     sums
 }
 
 /// Adds each of some bytes to a sum.
 #[inline(always)]
-fn add_wide(sums: &mut [u32; BYTE_LAGS], bytes: &[u8; BYTE_LAGS])
-    requires fits { (q : ℕ) → q < BYTE_LAGS
+fn add_wide<const N: usize>(sums: &mut [u32; N], bytes: &[u8; N])
+    requires fits { (q : ℕ) → q < N
         → slice_index sums.old q + slice_index bytes.now q < 2 ^ 32 }
-    ensures sums { (q : ℕ) → q < BYTE_LAGS
+    ensures sums { (q : ℕ) → q < N
         → slice_index sums.new q ≡ slice_index sums.old q + slice_index bytes.now q }
 {
-    for q in 0..BYTE_LAGS {
+    for q in 0..N {
         sums[q] += u32::from(bytes[q]);
     }
 }
 
 /// What stands behind each of some spots of a window, summed for each of some lags: sum `q` takes for a spot the
 /// place `from + q` behind it.
-pub fn byte_lag_sums(window: &[u8], most: usize, from: usize, spots: &[u16]) -> [u32; BYTE_LAGS]
+pub fn byte_lag_sums<const N: usize>(
+    window: &[u8],
+    most: usize,
+    from: usize,
+    spots: &[u16],
+) -> [u32; N]
+    requires lags { N ≤ BYTE_LAGS }
     requires most { (0 < most) × (most ≤ 255) }
     requires light { (p : ℕ) → p < length window.now → slice_index window.now p ≤ most }
     requires few { length spots.now ≤ 2 ^ 16 }
-    requires inside { AllByRecursion (λ s. s + from + BYTE_LAGS ≤ length window.now) spots.now }
-    ensures sums { (q : ℕ) → q < BYTE_LAGS
+    requires inside { AllByRecursion (λ s. s + from + N ≤ length window.now) spots.now }
+    ensures sums { (q : ℕ) → q < N
         → slice_index result q ≡ sum_by (behind window.now (from + q)) spots.now }
 {
-    let mut sums = [0; BYTE_LAGS];
+    let mut sums = [0; N];
     // So many spots are summed in bytes that none passes 255.
     for part in spots.chunks(255 / most) {
         let bytes = byte_sums(window, from, part);

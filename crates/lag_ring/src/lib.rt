@@ -11,8 +11,10 @@ mod ring;
 mod rows;
 mod window;
 
-pub use bytes::{BYTE_LAGS, byte_lag_sums, put_bytes, weight_bound};
+pub use bytes::{
+    BYTE_LAGS, MOST_SPOTS, byte_lag_sums, put_bytes, put_side, spots_of, weight_bound,
+};
 pub use cells::PairCells;
 pub use ring::{Entry, LagRing};
 pub use rows::RowCells;
-pub use window::{FEW_LAGS, LAGS, Side, few_lag_sums, lag_sums, put_weights, total_weight};
+pub use window::{Side, total_weight};

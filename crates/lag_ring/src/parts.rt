@@ -1,6 +1,6 @@
 // Counts in two parts, of which most additions change the low one alone.
 ghost use Rattle.std.specs.Prelude.{◌≡◌, ℕ, ◌+◌, ◌*◌, ◌^◌, ◌<◌, ◌≤◌, ◌==◌, length, slice_index, if◌then◌else◌};
-ghost use Rattle.lag_ring.specs.Parts.{part_sum, AreParts};
+ghost use Rattle.lag_ring.specs.Cells.{part_sum, AreParts, Raise};
 
 /// A low part is below this before and after each addition.
 pub(crate) const CARRY: u64 = 1 << 63;
@@ -11,10 +11,7 @@ pub(crate) fn add_to(low: &mut [u64], high: &mut [u64], at: usize, more: u128)
     requires inside { at < length low.old }
     requires parts { AreParts low.old high.old }
     requires fits { part_sum low.old high.old at + more ≤ 2 ^ 80 }
-    ensures parts { AreParts low.new high.new }
-    ensures sums { (c : ℕ) → c < length low.old → part_sum low.new high.new c
-        ≡ part_sum low.old high.old c + (if at == c then more else 0) }
-    ensures same { length low.new ≡ length low.old }
+    ensures { Raise low.old high.old low.new high.new (λ c. if at == c then more else 0) }
 {
     let sum = u128::from(low[at]) + more;
     if sum < 1 << 63 {
@@ -47,10 +44,7 @@ pub(crate) fn carry_if(greatest: u64, low: &mut [u64], high: &mut [u64])
     requires greatest { greatest < CARRY
         → (c : ℕ) → c < length low.old → slice_index low.old c < 2 ^ 63 }
     requires few { (c : ℕ) → c < length low.old → part_sum low.old high.old c ≤ 2 ^ 80 }
-    ensures parts { AreParts low.new high.new }
-    ensures sums { (c : ℕ) → c < length low.old
-        → part_sum low.new high.new c ≡ part_sum low.old high.old c }
-    ensures same { length low.new ≡ length low.old }
+    ensures { Raise low.old high.old low.new high.new (λ c. 0) }
 {
     if greatest >= CARRY {
         carry(low, high);

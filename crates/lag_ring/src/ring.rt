@@ -1,5 +1,5 @@
 // The recent occupied bins.
-ghost use Rattle.std.{specs.Prelude.{◌≡◌, ◌+◌, ◌<◌, ◌≤◌, [], ◌∷◌, ◌++◌, IfOk, filter, length, nat_le, slice_get, slice_set, Some, true}, specs.List.{AllByRecursion}};
+ghost use Rattle.std.{specs.Prelude.{◌≡◌, ◌+◌, ◌<◌, ◌≤◌, [], ◌∷◌, ◌++◌, IfOk, filter, length, nat_le, slice_get, slice_set, Some, true}, specs.List.AllByRecursion};
 ghost use Rattle.lag_ring.specs.Ring.{IsRising, spare, ring, kept_or};
 
 use crate::buffer::Buffered;

@@ -1,6 +1,6 @@
 // Cells that count pairs, for whole rows of them.
 ghost use Rattle.std.specs.Prelude.{◌≡◌, ℕ, ◌+◌, ◌-◌, ◌^◌, ◌<◌, ◌≤◌, [], ◌∷◌, ◌++◌, IfOk, length, replicate, slice_index, slice_set};
-ghost use Rattle.lag_ring.specs.{Cells.{upwards_at, downwards_at, upwards_from, downwards_from}, Parts.{part_sum, AreParts}};
+ghost use Rattle.lag_ring.specs.Cells.{upwards_at, downwards_at, upwards_from, downwards_from, part_sum, AreParts, Raise};
 
 use crate::parts::{CARRY, add_to, carry_if, whole_at};
 use noted::Noted;
@@ -23,7 +23,7 @@ pub struct RowCells {
 
 impl Model for RowCells {
     ghost use Rattle.std.specs.Prelude.{length};
-    ghost use Rattle.lag_ring.specs.{Cells.{Cells, pair_cells, cells_code}, Parts.{whole, AreParts}};
+    ghost use Rattle.lag_ring.specs.Cells.{Cells, pair_cells, cells_code, whole, AreParts};
 
     ghost Value = { Cells };
 
@@ -106,10 +106,7 @@ fn add_upwards_to<L: Ledger>(
     requires parts { AreParts low.old high.old }
     requires fits { (q : ℕ) → q < length row.now
         → part_sum low.old high.old (from + q) + slice_index row.now q ≤ 2 ^ 80 }
-    ensures parts { AreParts low.new high.new }
-    ensures sums { (c : ℕ) → c < length low.old → part_sum low.new high.new c
-        ≡ part_sum low.old high.old c + upwards_at from row.now c }
-    ensures same { length low.new ≡ length low.old }
+    ensures raised { Raise low.old high.old low.new high.new (upwards_at from row.now) }
     ensures places { additions.new.items ≡ additions.old.items ++ upwards_from from (length row.now) }
     ensures steps { steps.new ≡ steps.old + length row.now }
 {
@@ -131,10 +128,7 @@ fn add_downwards_to<L: Ledger>(
     requires parts { AreParts low.old high.old }
     requires fits { (q : ℕ) → q < length row.now
         → part_sum low.old high.old (from - q) + slice_index row.now q ≤ 2 ^ 80 }
-    ensures parts { AreParts low.new high.new }
-    ensures sums { (c : ℕ) → c < length low.old → part_sum low.new high.new c
-        ≡ part_sum low.old high.old c + downwards_at from row.now c }
-    ensures same { length low.new ≡ length low.old }
+    ensures raised { Raise low.old high.old low.new high.new (downwards_at from row.now) }
     ensures places { additions.new.items ≡ additions.old.items ++ downwards_from from (length row.now) }
     ensures steps { steps.new ≡ steps.old + length row.now }
 {
@@ -173,7 +167,7 @@ impl RowCells {
     /// Adds a row of numbers of pairs to as many cells, in one step each: the first to the cell
     /// `from`, and each further one to the cell above.
     #[inline(always)]
-    #[tactic(auto, using(crate::proofs::Places::upwards_length))]
+    #[tactic(auto, using(crate::proofs::Between::upwards_length))]
     pub fn add_upwards<L: Ledger>(&mut self, from: u32, row: &[u32], steps: &mut Steps<L>)
         requires inside { from + length row.now ≤ length self.old.cells }
         requires sums { (q : ℕ) → q < length row.now
@@ -198,7 +192,7 @@ impl RowCells {
     /// Adds a row of numbers of pairs to as many cells, in one step each: the first to the cell
     /// `from`, and each further one to the cell below.
     #[inline(always)]
-    #[tactic(auto, using(crate::proofs::Places::downwards_length))]
+    #[tactic(auto, using(crate::proofs::Between::downwards_length))]
     pub fn add_downwards<L: Ledger>(&mut self, from: u32, row: &[u32], steps: &mut Steps<L>)
         requires inside { (from < length self.old.cells) × (length row.now ≤ from + 1) }
         requires sums { (q : ℕ) → q < length row.now

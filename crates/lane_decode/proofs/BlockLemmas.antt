@@ -1,6 +1,6 @@
 -- Words in eights.
 use Rattle.std.{proofs.Common.{◌≡◌, ◌++◌, ◌∷◌, [], slice_set, ℕ, List, length, get_or, map, ap, sym, ◌∙◌}, proofs.lemmas.List.{map-append, append_assoc}, proofs.lemmas.Simd.pick_l_whole}
-use Rattle.ptu_definitions.{specs.declared.records.Raw.Raw, specs.declared.records.Raw.TheVariants.Reserved, specs.Fours.numbers}
+use Rattle.ptu_definitions.{specs.declared.records.Raw.Raw, specs.declared.records.Raw.TheVariants.Reserved, specs.Words.numbers}
 
 -- eight more of the words that are left
 pub eight-more : (meaning : ℕ → Raw) (rest eight behind : List (List ℕ)) (all front front' : List Raw)

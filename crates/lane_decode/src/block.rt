@@ -1,6 +1,6 @@
 // Blocks of words, decoded.
 ghost use Rattle.std.specs.Prelude.{◌≡◌, ◌*◌, length, map};
-ghost use Rattle.ptu_definitions.{specs.Fours.numbers, specs.Words.words_of};
+ghost use Rattle.ptu_definitions.specs.Words.{numbers, words_of};
 
 use crate::lanes::FieldLanes;
 use ptu_definitions::Raw;

@@ -1,7 +1,7 @@
 // The fields of eight words, split at once.
 ghost use Rattle.std.specs.Prelude.{◌≡◌, ◌<◌, ◌^◌, ℕ, slice_index};
-ghost use Rattle.ptu_definitions.specs.Fours.{numbers};
-ghost use Rattle.record_layout.specs.Parts.{fields_in};
+ghost use Rattle.ptu_definitions.specs.Words.{numbers};
+ghost use Rattle.record_layout.specs.Joins.{fields_in};
 
 use ptu_definitions::Raw;
 use record_layout::{Fields, RecordLayout};

@@ -1,7 +1,7 @@
 -- The text of a header that is at its end or refused grows no more.
-use Rattle.std.{proofs.Common.{◌≡◌, ◌≢◌, ◌-◌, ◌^◌, ◌<◌, ◌≤◌, ℕ, List, [], ◌∷◌, ◌++◌, true, false, length, take, refl, sym, ap, ◌∙◌, subst, append-nil, arith, length-append, inl, inr, Result, Ok, Err, None, Some, nat_eq, if◌then◌else◌}, specs.declared.option.Option.Option, proofs.lemmas.Bool.cases_lt, proofs.lemmas.List.{length-take, take-append-le, take_all}}
-use Rattle.tally_base.{specs.declared.fault.Fault.Fault, specs.declared.fault.Fault.TheVariants.{TruncatedHeader, HeaderLimit}, specs.declared.header.Header.Header, specs.declared.header.RecordType.RecordType, specs.RecordTypes.type_with}
-use Rattle.ptu_definitions.{specs.declared.found.Found.Found, specs.Endings.{Ending, OtherFile, BadType, BadLength, Whole, Open, ending}, specs.Fields.{header_of, with_value, with_type}, specs.Headers.{header_answer, header_limit, head_of, answer_as, with_rest, unfinished}, specs.Shown.Shows, proofs.AnswerLemmas.head-front, proofs.SeenLaws.seen-answered}
+use Rattle.std.{proofs.Common.{◌≡◌, ◌≢◌, ◌-◌, ◌^◌, ◌<◌, ◌≤◌, ℕ, List, [], ◌∷◌, ◌++◌, length, take, refl, sym, ap, ◌∙◌, subst, append-nil, arith, length-append, inl, inr, Result, Ok, Err, if◌then◌else◌, rules}, proofs.lemmas.Bool.cases_lt, proofs.lemmas.List.{length-take, take-append-le, take_all}}
+use Rattle.tally_base.{specs.declared.fault.Fault.Fault, specs.declared.fault.Fault.TheVariants.TruncatedHeader, specs.declared.header.Header.Header}
+use Rattle.ptu_definitions.{specs.declared.found.Found.Found, specs.Endings.{Ending, OtherFile, BadType, BadLength, Whole, Open, ending}, specs.Fields.header_of, specs.Headers.{header_answer, head_of, answer_as, with_rest, unfinished, Shows}, proofs.AnswerLemmas.head-front, proofs.SeenLaws.seen-answered}
 use Rattle.list_out.{specs.HeaderText.{shown_text, header_text}, proofs.Growing.{Grown, shown_text-grows}}
 
 -- the first bytes of a longer file
@@ -31,22 +31,14 @@ header_text-answered a b short answered =
 -- a header is never refused as cut by its fields
 header_of-not_cut : (version : List ℕ) (found : Found) (size : ℕ) → header_of version found ≢ Err (TruncatedHeader size)
 unfolding header_of
-header_of-not_cut version found size = by_value version found found.record_type size
-  where
-    by_type : (version : List ℕ) (found : Found) (value : ℕ) (record_type : Option RecordType) (size : ℕ) → with_type version found value record_type ≢ Err (TruncatedHeader size)
-    by_type version found value None size = λ e. cc
-    by_type version found value (Some record_type) size = λ e. cc
+header_of-not_cut version found size = search (rules, arith)
 
-    by_value : (version : List ℕ) (found : Found) (value : Option ℕ) (size : ℕ) → with_value version found value ≢ Err (TruncatedHeader size)
-    by_value version found None size = λ e. cc
-    by_value version found (Some value) size = by_type version found value (type_with value) size
-
-with_rest-cut : (rest : List ℕ) (header : Result Header Fault) (size : ℕ) → header ≢ Err (TruncatedHeader size) → with_rest rest header ≢ Err (TruncatedHeader size)
-with_rest-cut rest (Ok header) size h = λ e. cc
-with_rest-cut rest (Err fault) size h = λ e. let same : fault ≡ TruncatedHeader size = cc in h (ap Err same)
+with_rest-cut : (rest : List ℕ) (header : Result Header Fault) (size : ℕ)
+    → header ≢ Err (TruncatedHeader size) → with_rest rest header ≢ Err (TruncatedHeader size)
+with_rest-cut rest header size h = search (rules, arith)
 
 unfinished-cut : (length size : ℕ) → unfinished length ≡ TruncatedHeader size → size ≡ length
-unfinished-cut length size = elim (nat_eq length header_limit) as (λ b. (if b then HeaderLimit else TruncatedHeader length) ≡ TruncatedHeader size → size ≡ length) [ true ↦ λ e. cc | false ↦ λ e. cc ]
+unfinished-cut length size = search (rules, arith)
 
 -- a file that is cut is cut where it ends
 answer_as-cut : (file : List ℕ) (end : Ending) (size : ℕ) → answer_as file end ≡ Err (TruncatedHeader size) → size ≡ length (head_of file)
@@ -66,12 +58,14 @@ header_text-refused a b fault shown = elim (cases_lt (length a) (2 ^ 24)) [
   | inr long ↦ header_text-full a b long
   | inl short ↦ header_text-answered a b short (λ count cut.
       let here : count ≡ length (head_of a) = header_answer-cut a count cut in
-      let next : count ≡ length (head_of (a ++ 0 ∷ [])) = header_answer-cut (a ++ 0 ∷ []) count (shown (0 ∷ []) ∙ sym (shown []) ∙ ap header_answer (append-nil a) ∙ cut) in
+      let next : count ≡ length (head_of (a ++ 0 ∷ [])) =
+      header_answer-cut (a ++ 0 ∷ []) count (shown (0 ∷ []) ∙ sym (shown []) ∙ ap header_answer (append-nil a) ∙ cut) in
       absurd (omega (arith, here, next, length-take (2 ^ 24) a, length-take (2 ^ 24) (a ++ 0 ∷ []), length-append a (0 ∷ []))))
 ]
 
 -- the text of a header that is whole, whatever comes behind it
-pub header_text-done : (a b : List ℕ) (header : Header) (behind : List ℕ) → ((more : List ℕ) → header_answer (a ++ more) ≡ Ok (header, behind ++ more)) → header_text (a ++ b) ≡ header_text a
+pub header_text-done : (a b : List ℕ) (header : Header) (behind : List ℕ)
+    → ((more : List ℕ) → header_answer (a ++ more) ≡ Ok (header, behind ++ more)) → header_text (a ++ b) ≡ header_text a
 header_text-done a b header behind done = elim (cases_lt (length a) (2 ^ 24)) [
   | inr long ↦ header_text-full a b long
   | inl short ↦ header_text-answered a b short (λ count cut.

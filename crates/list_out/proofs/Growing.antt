@@ -1,8 +1,8 @@
 -- The text of a header grows with its bytes.
-use Rattle.std.{proofs.Common.{◌≡◌, ◌+◌, ◌-◌, ◌<◌, ◌≤◌, ℕ, zero, suc, List, [], ◌∷◌, ◌++◌, true, false, length, take, drop, refl, sym, ap, ◌∙◌, subst, append_assoc, append-nil, take-append-drop, arith, length-append, inl, inr, None, Some, nat_lt, nat_eq, codes, not, ◌||◌, ◌⊎◌, if◌then◌else◌}, specs.declared.option.Option.Option, specs.Str.bytes_eq, specs.List.flat_map, proofs.lemmas.Bool.{cases_lt, cases_Bool}, proofs.lemmas.Bool.Decides.nat_tests, proofs.lemmas.List.{length-take, length-drop, take-append-le, drop-append-le, take_all}, proofs.Math.Seq.{take-append-add, drop-append-add}}
+use Rattle.std.{proofs.Common.{◌≡◌, ◌+◌, ◌-◌, ◌<◌, ◌≤◌, ℕ, zero, suc, List, [], ◌∷◌, ◌++◌, true, false, length, take, drop, refl, sym, ap, ◌∙◌, subst, append_assoc, append-nil, take-append-drop, arith, length-append, inl, inr, None, Some, nat_lt, codes, not, ◌||◌, ◌⊎◌, if◌then◌else◌, rules}, specs.declared.option.Option.Option, specs.Str.bytes_eq, specs.List.flat_map, proofs.lemmas.Bool.{cases_lt, cases_Bool}, proofs.lemmas.List.{length-take, length-drop, take-append-le, drop-append-le, take_all}, proofs.Math.Seq.{take-append-add, drop-append-add}}
 use Rattle.ptu_tag.{specs.declared.kind.TagKind.TagKind, specs.declared.kind.TagKind.TheVariants.{Empty8, Bool8, Int8, BitSet64, Color8, Float8, TDateTime, Float8Array, AnsiString, WideString, BinaryBlob}}
-use Rattle.ptu_definitions.{specs.TagFields.{code_in, is_known, is_negative, body_size, is_end}, specs.TagList.Item, specs.Seen.{seen_from, seen, seen_preamble}, proofs.Walks.{take_front, drop_front, not_less, is_less}, proofs.SeenLemmas.seen_from-short}
-use Rattle.list_out.{specs.HeaderText.{body_text, head_text, head_in, kind_with, item_text, end_text, preamble_text, shown_text}, specs.Body.has_no_nul, proofs.Bodies.{body_text-digits, body_text-passed, body_text-ended}}
+use Rattle.ptu_definitions.{specs.TagList.{code_in, is_known, is_negative, body_size, is_end, Item}, specs.Headers.{seen_from, seen, seen_preamble}, proofs.Walks.{take_front, drop_front, not_less, is_less}, proofs.SeenLemmas.seen_from-short}
+use Rattle.list_out.{specs.HeaderText.{body_text, head_text, head_in, kind_with, item_text, end_text, preamble_text, shown_text}, specs.Lines.has_no_nul, proofs.Bodies.{body_text-digits, body_text-passed, body_text-ended}}
 
 -- a text that begins with another
 abbrev pub Grown : List ℕ → List ℕ → Type 0
@@ -37,11 +37,10 @@ abbrev pub item_of : List ℕ → List ℕ → Item
 item_of tag body = record { tag = tag; body = body }
 
 -- the text of an item that isn't whole
-pub item_text-cut : (tag part : List ℕ) → length part < body_size tag → item_text (item_of tag part) ≡ head_text (head_in tag) (kind_with (code_in tag)) ++ body_text (kind_with (code_in tag)) part
+pub item_text-cut : (tag part : List ℕ) → length part < body_size tag
+    → item_text (item_of tag part) ≡ head_text (head_in tag) (kind_with (code_in tag)) ++ body_text (kind_with (code_in tag)) part
 unfolding item_text
-item_text-cut tag part short =
-    let differ : nat_eq (length part) (body_size tag) ≡ false = grind (arith, nat_tests) in
-    rw differ (append-nil _)
+item_text-cut tag part short = search (rules, arith, append-nil)
 
 pub item_text-grows : (tag part extra : List ℕ) → length part < body_size tag → Grown (item_text (item_of tag part)) (item_text (item_of tag (part ++ extra)))
 unfolding item_text
@@ -63,7 +62,8 @@ seen_from-unknown (suc limit) tag rest size unknown =
     let long : nat_lt (length (tag ++ rest)) 48 ≡ false = not_less (length (tag ++ rest)) 48 (omega (arith, length-append tag rest)) in
     rw (long, take_front 48 tag rest size, unknown) refl
 
-pub seen_from-negative : (limit : ℕ) (tag rest : List ℕ) → length tag ≡ 48 → is_known (code_in tag) ≡ true → is_negative tag ≡ true → seen_from limit (tag ++ rest) ≡ []
+pub seen_from-negative : (limit : ℕ) (tag rest : List ℕ) → length tag ≡ 48
+    → is_known (code_in tag) ≡ true → is_negative tag ≡ true → seen_from limit (tag ++ rest) ≡ []
 unfolding seen_from
 seen_from-negative zero tag rest size known negative = refl
 seen_from-negative (suc limit) tag rest size known negative =
@@ -102,20 +102,25 @@ grows-cut n m tag rest b size known positive cut =
     ] in
     let extra = take (body_size tag - length rest) b in
     let counts : body_size tag ≡ length rest + (body_size tag - length rest) = omega (arith, cut) in
-    let longer : take (body_size tag) (rest ++ b) ≡ rest ++ extra = ap (λ k. take k (rest ++ b)) counts ∙ take-append-add rest b (body_size tag - length rest) in
+    let longer : take (body_size tag) (rest ++ b) ≡ rest ++ extra =
+    ap (λ k. take k (rest ++ b)) counts ∙ take-append-add rest b (body_size tag - length rest) in
     let before : items_text (seen_from (suc n) (tag ++ rest)) ≡ item_text (item_of tag rest) =
-    ap items_text (seen_from-good n tag rest size known positive) ∙ ap (λ l. item_text (item_of tag l) ++ items_text (seen_behind n tag rest)) part ∙ ap (λ l. item_text (item_of tag rest) ++ items_text l) none
+    ap items_text (seen_from-good n tag rest size known positive) ∙ ap (λ l. item_text (item_of tag l) ++ items_text (seen_behind n tag rest)) part
+    ∙ ap (λ l. item_text (item_of tag rest) ++ items_text l) none
     ∙ append-nil (item_text (item_of tag rest)) in
     let after : items_text (seen_from (suc m) (tag ++ (rest ++ b))) ≡ item_text (item_of tag (rest ++ extra)) ++ items_text (seen_behind m tag (rest ++ b)) =
-    ap items_text (seen_from-good m tag (rest ++ b) size known positive) ∙ ap (λ l. item_text (item_of tag l) ++ items_text (seen_behind m tag (rest ++ b))) longer in
+    ap items_text (seen_from-good m tag (rest ++ b) size known positive)
+    ∙ ap (λ l. item_text (item_of tag l) ++ items_text (seen_behind m tag (rest ++ b))) longer in
     Grown-at _ _ _ _ before after (Grown-before _ _ _ (item_text-grows tag rest extra cut))
 
 abbrev Hypothesis : ℕ → ℕ → Type 0
 Hypothesis n m = (a b : List ℕ) → length a ≤ n → length (a ++ b) ≤ m → Grown (items_text (seen_from n a)) (items_text (seen_from m (a ++ b)))
 
 -- a tag whose body is whole
-grows-whole : (n m : ℕ) (tag rest b : List ℕ) → Hypothesis n m → length tag ≡ 48 → is_known (code_in tag) ≡ true → is_negative tag ≡ false → body_size tag ≤ length rest
-    → length (tag ++ rest) ≤ suc n → length (tag ++ (rest ++ b)) ≤ suc m → Grown (items_text (seen_from (suc n) (tag ++ rest))) (items_text (seen_from (suc m) (tag ++ (rest ++ b))))
+grows-whole : (n m : ℕ) (tag rest b : List ℕ) → Hypothesis n m → length tag ≡ 48
+    → is_known (code_in tag) ≡ true → is_negative tag ≡ false → body_size tag ≤ length rest
+    → length (tag ++ rest) ≤ suc n → length (tag ++ (rest ++ b)) ≤ suc m
+    → Grown (items_text (seen_from (suc n) (tag ++ rest))) (items_text (seen_from (suc m) (tag ++ (rest ++ b))))
 grows-whole n m tag rest b before size known positive whole fits fits_more =
     let body = take (body_size tag) rest in
     let same : take (body_size tag) (rest ++ b) ≡ body = take-append-le (body_size tag) rest b whole in
@@ -127,7 +132,8 @@ grows-whole n m tag rest b before size known positive whole fits fits_more =
           (omega (arith, size, fits_more, length-append tag (rest ++ b), length-append rest b, length-append left b, length-drop (body_size tag) rest)))
     ] in
     Grown-at _ _ _ _ (ap items_text (seen_from-good n tag rest size known positive))
-    (ap items_text (seen_from-good m tag (rest ++ b) size known positive) ∙ ap (λ l. item_text (item_of tag l) ++ items_text (seen_behind m tag (rest ++ b))) same)
+    (ap items_text (seen_from-good m tag (rest ++ b) size known positive)
+    ∙ ap (λ l. item_text (item_of tag l) ++ items_text (seen_behind m tag (rest ++ b))) same)
     (Grown-behind (item_text (item_of tag body)) _ _ next)
 
 grows-tag : (n m : ℕ) (tag rest b : List ℕ) → Hypothesis n m → length tag ≡ 48 → length (tag ++ rest) ≤ suc n → length (tag ++ (rest ++ b)) ≤ suc m
@@ -188,12 +194,14 @@ pub shown_text-none : (a : List ℕ) → seen_preamble a ≡ None → shown_text
 unfolding shown_text
 shown_text-none a none = rw (none, seen-none a none) refl
 
-grows-begun : (a b preamble : List ℕ) → 16 ≤ length a → seen_preamble a ≡ Some preamble → seen_preamble (a ++ b) ≡ Some preamble → Grown (shown_text a) (shown_text (a ++ b))
+grows-begun : (a b preamble : List ℕ) → 16 ≤ length a → seen_preamble a ≡ Some preamble
+    → seen_preamble (a ++ b) ≡ Some preamble → Grown (shown_text a) (shown_text (a ++ b))
 unfolding shown_text
 grows-begun a b preamble long before after =
     let behind : drop 16 (a ++ b) ≡ drop 16 a ++ b = drop-append-le 16 a b long in
     rw (before, after, seen-some a preamble before, seen-some (a ++ b) preamble after, behind)
-    (Grown-behind (preamble_text preamble) _ _ (seen_from-grows (length a) (length (a ++ b)) (drop 16 a) b (omega (arith, length-drop 16 a)) (omega (arith, length-append (drop 16 a) b, length-append a b, length-drop 16 a))))
+    (Grown-behind (preamble_text preamble) _ _ (seen_from-grows (length a) (length (a ++ b)) (drop 16 a) b
+    (omega (arith, length-drop 16 a)) (omega (arith, length-append (drop 16 a) b, length-append a b, length-drop 16 a))))
 
 -- whatever comes behind the bytes, their text is the first part of the text
 pub shown_text-grows : (a b : List ℕ) → Grown (shown_text a) (shown_text (a ++ b))
@@ -202,6 +210,7 @@ shown_text-grows a b = elim (seen_preamble-some a b) [
   | inr same ↦ by_preamble a b same.0 (seen_preamble a) refl same.1
 ]
   where
-    by_preamble : (a b : List ℕ) → 16 ≤ length a → (preamble : Option (List ℕ)) → seen_preamble a ≡ preamble → seen_preamble (a ++ b) ≡ seen_preamble a → Grown (shown_text a) (shown_text (a ++ b))
+    by_preamble : (a b : List ℕ) → 16 ≤ length a → (preamble : Option (List ℕ)) → seen_preamble a ≡ preamble
+        → seen_preamble (a ++ b) ≡ seen_preamble a → Grown (shown_text a) (shown_text (a ++ b))
     by_preamble a b long None is same = Grown-none _ _ (shown_text-none a is)
     by_preamble a b long (Some preamble) is same = grows-begun a b preamble long is (same ∙ is)

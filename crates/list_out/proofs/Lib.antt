@@ -3,5 +3,3 @@ pub mod Growing
 pub mod Final
 pub mod StepTexts
 pub mod Rows
-pub mod EventRows
-pub mod BlockTexts

@@ -1,8 +1,8 @@
 -- The text of a header at known bytes.
-use Rattle.std.{proofs.Common.{◌≡◌, ◌-◌, ◌/◌, ◌%◌, ℕ, zero, suc, List, [], ◌∷◌, ◌++◌, length, take, replicate, refl, codes}, specs.Fmt.{digits}}
-use Rattle.tally_base.specs.Hexadecimal.{hexadecimal}
-use Rattle.ptu_definitions.{specs.TagFields.{name_in, index_in, code_in, value_in, has_body, is_known}, specs.Seen.{seen, seen_from, seen_preamble}}
-use Rattle.list_out.specs.HeaderText.{head_text, body_text, kind_with, item_text, preamble_text, shown_text, header_text}
+use Rattle.std.{proofs.Common.{◌≡◌, ◌-◌, ◌/◌, ◌%◌, ℕ, zero, suc, List, [], ◌∷◌, ◌++◌, length, take, replicate, refl, codes, ◌∙◌, ◌<◌, false, map, ap, sym, append_assoc, append-nil, arith, rules, true}, specs.Fmt.digits}
+use Rattle.tally_base.{specs.Hexadecimal.hexadecimal, specs.declared.event.Event.Event, specs.Columns.rows, proofs.BlockRows.rows-last, specs.declared.event.EventKind.TheVariants.{Photon, Marker}}
+use Rattle.ptu_definitions.{specs.TagList.{name_in, index_in, code_in, value_in, has_body, is_known}, specs.Headers.{seen, seen_from, seen_preamble}}
+use Rattle.list_out.{specs.HeaderText.{head_text, body_text, kind_with, item_text, preamble_text, shown_text, header_text}, specs.Lines.{event_text, events_text}}
 
 abbrev start_bytes : List ℕ
 start_bytes = (codes "PQTTTR" ++ 0 ∷ 0 ∷ []) ++ codes "1.0.00" ++ 0 ∷ 0 ∷ []
@@ -38,133 +38,112 @@ type_text = codes "tag TTResultFormat_TTTRRecType -1 tyInt8 16843524\n"
 abbrev end_text : List ℕ
 end_text = codes "tag Header_End -1 tyEmpty8 -\n"
 
--- the header of a file with two tags
-pub row-short : header_text short_header ≡ start_text ++ type_text ++ end_text
-unfolding header_text shown_text preamble_text seen seen_from seen_preamble item_text head_text body_text kind_with name_in index_in code_in value_in has_body is_known hexadecimal digits
-row-short = refl
+-- the lines of events of which none is late
+abbrev pub lines : List Event → List ℕ
+lines es = events_text (map (λ e. (e, false)) es)
 
--- The second tag is cut, and it prints as nothing.
-pub row-cut : header_text (take 100 short_header) ≡ start_text ++ type_text
-unfolding header_text shown_text preamble_text seen seen_from seen_preamble item_text head_text body_text kind_with name_in index_in code_in value_in has_body is_known hexadecimal digits
-row-cut = refl
+lines-push : (es : List Event) (e : Event) → lines (es ++ e ∷ []) ≡ lines es ++ event_text e false
+lines-push [] e = append-nil (event_text e false)
+lines-push (x ∷ es) e = ap (λ t. event_text x false ++ t) (lines-push es e) ∙ sym (append_assoc (event_text x false) (lines es) (event_text e false))
 
--- The first tag is cut.
-pub row-no_tag : header_text (take 63 short_header) ≡ start_text
-unfolding header_text shown_text preamble_text seen seen_from seen_preamble item_text head_text body_text kind_with name_in index_in code_in value_in has_body is_known hexadecimal digits
-row-no_tag = refl
+-- one line before those that are written
+pub one-before : (f : ℕ → Event) (n : ℕ) (e : Event) (behind now all : List ℕ) → 0 < n → e ≡ f (n - 1)
+    → now ≡ event_text e false ++ behind → lines (rows f n) ++ behind ≡ all → lines (rows f (n - 1)) ++ now ≡ all
+one-before f n e behind now all some is written whole = search (rules, arith, lines, append_assoc, rows-last, lines-push)
 
--- The preamble is cut.
-pub row-no_preamble : header_text (take 15 short_header) ≡ []
-unfolding header_text shown_text preamble_text seen seen_from seen_preamble item_text head_text body_text kind_with name_in index_in code_in value_in has_body is_known hexadecimal digits
-row-no_preamble = refl
-
--- no file of the format
-pub row-other : header_text (codes "PQTTTS" ++ replicate 10 0) ≡ []
-unfolding header_text shown_text preamble_text seen seen_from seen_preamble item_text head_text body_text kind_with name_in index_in code_in value_in has_body is_known hexadecimal digits
-row-other = refl
-
--- The last two bytes of the magic are printed as they are.
-pub row-magic : header_text ((codes "PQTTTR" ++ 1 ∷ 255 ∷ []) ++ replicate 8 171) ≡ codes "magic 50515454545201FF\nversion ABABABABABABABAB\n"
-unfolding header_text shown_text preamble_text seen seen_from seen_preamble item_text head_text body_text kind_with name_in index_in code_in value_in has_body is_known hexadecimal digits
-row-magic = refl
-
--- Behind the end of the header nothing is printed.
-pub row-behind : header_text (short_header ++ type_tag) ≡ start_text ++ type_text ++ end_text
-unfolding header_text shown_text preamble_text seen seen_from seen_preamble item_text head_text body_text kind_with name_in index_in code_in value_in has_body is_known hexadecimal digits
-row-behind = refl
-
--- A space and a backslash in a name are printed as digits.
-pub row-odd_name : header_text (start_bytes ++ tag (codes "A B\\") 2 0x11000008 0xFF ++ type_tag ++ end_tag)
-    ≡ start_text ++ codes "tag A\\x20B\\x5C 2 tyBitSet64 00000000000000FF\n" ++ type_text ++ end_text
-unfolding header_text shown_text preamble_text seen seen_from seen_preamble item_text head_text body_text kind_with name_in index_in code_in value_in has_body is_known hexadecimal digits
-row-odd_name = refl
-
--- A name ends before its first NUL, and an empty one prints as nothing.
-pub row-names : header_text (start_bytes ++ alone (codes "!~" ++ 127 ∷ 31 ∷ 255 ∷ 0 ∷ codes "B") 0xFFFF0008 0 ++ alone [] 0xFFFF0008 0)
-    ≡ start_text ++ codes "tag !~\\x7F\\x1F\\xFF -1 tyEmpty8 -\ntag  -1 tyEmpty8 -\n"
-unfolding header_text shown_text preamble_text seen seen_from seen_preamble item_text head_text body_text kind_with name_in index_in code_in value_in has_body is_known hexadecimal digits
-row-names = refl
-
--- a name of 32 bytes with no NUL
-pub row-whole_name : header_text (start_bytes ++ alone (replicate 32 65) 0xFFFF0008 0)
-    ≡ start_text ++ codes "tag AAAAAAAAAAAAAAAAAAAAAAAAAAAAAAAA -1 tyEmpty8 -\n"
-unfolding header_text shown_text preamble_text seen seen_from seen_preamble item_text head_text body_text kind_with name_in index_in code_in value_in has_body is_known hexadecimal digits
-row-whole_name = refl
-
--- A body is cut, and its line has no newline.
-pub row-cut_blob : header_text (start_bytes ++ alone (codes "B") 0xFFFFFFFF 3 ++ 1 ∷ 2 ∷ []) ≡ start_text ++ codes "tag B -1 tyBinaryBlob 3 0102"
-unfolding header_text shown_text preamble_text seen seen_from seen_preamble item_text head_text body_text kind_with name_in index_in code_in value_in has_body is_known hexadecimal digits
-row-cut_blob = refl
-
--- The body is whole.
-pub row-whole_blob : header_text (start_bytes ++ alone (codes "B") 0xFFFFFFFF 3 ++ 1 ∷ 2 ∷ 255 ∷ [])
-    ≡ start_text ++ codes "tag B -1 tyBinaryBlob 3 0102FF\n"
-unfolding header_text shown_text preamble_text seen seen_from seen_preamble item_text head_text body_text kind_with name_in index_in code_in value_in has_body is_known hexadecimal digits
-row-whole_blob = refl
-
--- A body as text ends before its first NUL.
-pub row-text : header_text (start_bytes ++ (alone (codes "S") 0x4001FFFF 5 ++ codes "a " ++ 0 ∷ codes "bc") ++ end_tag)
-    ≡ start_text ++ codes "tag S -1 tyAnsiString 5 a \n" ++ end_text
-unfolding header_text shown_text preamble_text seen seen_from seen_preamble item_text head_text body_text kind_with name_in index_in code_in value_in has_body is_known hexadecimal digits
-row-text = refl
-
--- The newline comes after the last byte of the body, printed or not.
-pub row-cut_text : header_text (start_bytes ++ alone (codes "S") 0x4001FFFF 5 ++ codes "a" ++ 0 ∷ codes "bc")
-    ≡ start_text ++ codes "tag S -1 tyAnsiString 5 a"
-unfolding header_text shown_text preamble_text seen seen_from seen_preamble item_text head_text body_text kind_with name_in index_in code_in value_in has_body is_known hexadecimal digits
-row-cut_text = refl
-
-pub row-odd_text : header_text (start_bytes ++ alone (codes "S") 0x4001FFFF 6 ++ codes " \\~" ++ 127 ∷ 31 ∷ 255 ∷ [])
-    ≡ start_text ++ codes "tag S -1 tyAnsiString 6  \\x5C~\\x7F\\x1F\\xFF\n"
-unfolding header_text shown_text preamble_text seen seen_from seen_preamble item_text head_text body_text kind_with name_in index_in code_in value_in has_body is_known hexadecimal digits
-row-odd_text = refl
-
--- A body of length 0 prints as nothing after the space.
-pub row-empty_text : header_text (start_bytes ++ alone (codes "S") 0x4001FFFF 0 ++ end_tag)
-    ≡ start_text ++ codes "tag S -1 tyAnsiString 0 \n" ++ end_text
-unfolding header_text shown_text preamble_text seen seen_from seen_preamble item_text head_text body_text kind_with name_in index_in code_in value_in has_body is_known hexadecimal digits
-row-empty_text = refl
-
--- A wide string is printed as bytes.
-pub row-wide_text : header_text (start_bytes ++ (alone (codes "W") 0x4002FFFF 4 ++ 65 ∷ 0 ∷ 0 ∷ 0 ∷ []) ++ end_tag)
-    ≡ start_text ++ codes "tag W -1 tyWideString 4 41000000\n" ++ end_text
-unfolding header_text shown_text preamble_text seen seen_from seen_preamble item_text head_text body_text kind_with name_in index_in code_in value_in has_body is_known hexadecimal digits
-row-wide_text = refl
-
--- The bytes of a body are in the order of the file.
-pub row-floats : header_text (start_bytes ++ (alone (codes "F") 0x2001FFFF 8 ++ number 8 0x3FF0000000000000) ++ end_tag)
-    ≡ start_text ++ codes "tag F -1 tyFloat8Array 8 000000000000F03F\n" ++ end_text
-unfolding header_text shown_text preamble_text seen seen_from seen_preamble item_text head_text body_text kind_with name_in index_in code_in value_in has_body is_known hexadecimal digits
-row-floats = refl
-
--- A truth value is true where a bit of it is set.
-pub row-truth : header_text (start_bytes ++ tag (codes "T") 0 8 0 ++ tag (codes "T") 1 8 2 ++ tag (codes "T") 0x7FFFFFFF 8 0x8000000000000000)
-    ≡ start_text ++ codes "tag T 0 tyBool8 false\ntag T 1 tyBool8 true\ntag T 2147483647 tyBool8 true\n"
-unfolding header_text shown_text preamble_text seen seen_from seen_preamble item_text head_text body_text kind_with name_in index_in code_in value_in has_body is_known hexadecimal digits
-row-truth = refl
-
--- An index and a number have a sign.
-pub row-numbers : header_text (start_bytes ++ tag (codes "N") 0x80000000 0x10000008 0x8000000000000000 ++ tag (codes "N") 0xFFFFFFFE 0x10000008 0)
-    ≡ start_text ++ codes "tag N -2147483648 tyInt8 -9223372036854775808\ntag N -2 tyInt8 0\n"
-unfolding header_text shown_text preamble_text seen seen_from seen_preamble item_text head_text body_text kind_with name_in index_in code_in value_in has_body is_known hexadecimal digits
-row-numbers = refl
-
-pub row-bits : header_text (start_bytes ++ alone (codes "C") 0x12000008 0xABC ++ alone (codes "D") 0x20000008 0x3E6AD7F29ABCAF48 ++ alone (codes "E") 0x21000008 1)
-    ≡ start_text ++ codes "tag C -1 tyColor8 0000000000000ABC\ntag D -1 tyFloat8 3E6AD7F29ABCAF48\ntag E -1 tyTDateTime 0000000000000001\n"
-unfolding header_text shown_text preamble_text seen seen_from seen_preamble item_text head_text body_text kind_with name_in index_in code_in value_in has_body is_known hexadecimal digits
-row-bits = refl
-
--- A tag that is refused prints as nothing, and what is behind it neither.
-pub row-refused_type : header_text (start_bytes ++ type_tag ++ alone (codes "X") 0x30000008 0 ++ end_tag) ≡ start_text ++ type_text
-unfolding header_text shown_text preamble_text seen seen_from seen_preamble item_text head_text body_text kind_with name_in index_in code_in value_in has_body is_known hexadecimal digits
-row-refused_type = refl
-
-pub row-refused_length : header_text (start_bytes ++ type_tag ++ alone (codes "X") 0x4001FFFF 0xFFFFFFFFFFFFFFFF) ≡ start_text ++ type_text
-unfolding header_text shown_text preamble_text seen seen_from seen_preamble item_text head_text body_text kind_with name_in index_in code_in value_in has_body is_known hexadecimal digits
-row-refused_length = refl
-
--- The end of a header may have a body.
-pub row-end_body : header_text (start_bytes ++ (alone (codes "Header_End") 0x4001FFFF 2 ++ codes "ok") ++ 1 ∷ 0 ∷ 0 ∷ 0 ∷ [])
-    ≡ start_text ++ codes "tag Header_End -1 tyAnsiString 2 ok\n"
-unfolding header_text shown_text preamble_text seen seen_from seen_preamble item_text head_text body_text kind_with name_in index_in code_in value_in has_body is_known hexadecimal digits
-row-end_body = refl
+pub rows :
+    -- the header of a file with two tags
+    (header_text short_header ≡ start_text ++ type_text ++ end_text)
+    -- The second tag is cut, and it prints as nothing.
+    × (header_text (take 100 short_header) ≡ start_text ++ type_text)
+    -- The first tag is cut.
+    × (header_text (take 63 short_header) ≡ start_text)
+    -- The preamble is cut.
+    × (header_text (take 15 short_header) ≡ [])
+    -- no file of the format
+    × (header_text (codes "PQTTTS" ++ replicate 10 0) ≡ [])
+    -- The last two bytes of the magic are printed as they are.
+    × (header_text ((codes "PQTTTR" ++ 1 ∷ 255 ∷ []) ++ replicate 8 171) ≡ codes "magic 50515454545201FF\nversion ABABABABABABABAB\n")
+    -- Behind the end of the header nothing is printed.
+    × (header_text (short_header ++ type_tag) ≡ start_text ++ type_text ++ end_text)
+    -- A space and a backslash in a name are printed as digits.
+    × (header_text (start_bytes ++ tag (codes "A B\\") 2 0x11000008 0xFF ++ type_tag ++ end_tag)
+    ≡ start_text ++ codes "tag A\\x20B\\x5C 2 tyBitSet64 00000000000000FF\n" ++ type_text ++ end_text)
+    -- A name ends before its first NUL, and an empty one prints as nothing.
+    × (header_text (start_bytes ++ alone (codes "!~" ++ 127 ∷ 31 ∷ 255 ∷ 0 ∷ codes "B") 0xFFFF0008 0 ++ alone [] 0xFFFF0008 0)
+    ≡ start_text ++ codes "tag !~\\x7F\\x1F\\xFF -1 tyEmpty8 -\ntag  -1 tyEmpty8 -\n")
+    -- a name of 32 bytes with no NUL
+    × (header_text (start_bytes ++ alone (replicate 32 65) 0xFFFF0008 0) ≡ start_text ++ codes "tag AAAAAAAAAAAAAAAAAAAAAAAAAAAAAAAA -1 tyEmpty8 -\n")
+    -- A body is cut, and its line has no newline.
+    × (header_text (start_bytes ++ alone (codes "B") 0xFFFFFFFF 3 ++ 1 ∷ 2 ∷ []) ≡ start_text ++ codes "tag B -1 tyBinaryBlob 3 0102")
+    -- The body is whole.
+    × (header_text (start_bytes ++ alone (codes "B") 0xFFFFFFFF 3 ++ 1 ∷ 2 ∷ 255 ∷ []) ≡ start_text ++ codes "tag B -1 tyBinaryBlob 3 0102FF\n")
+    -- A body as text ends before its first NUL.
+    × (header_text (start_bytes ++ (alone (codes "S") 0x4001FFFF 5 ++ codes "a " ++ 0 ∷ codes "bc") ++ end_tag)
+    ≡ start_text ++ codes "tag S -1 tyAnsiString 5 a \n" ++ end_text)
+    -- The newline comes after the last byte of the body, printed or not.
+    × (header_text (start_bytes ++ alone (codes "S") 0x4001FFFF 5 ++ codes "a" ++ 0 ∷ codes "bc") ≡ start_text ++ codes "tag S -1 tyAnsiString 5 a")
+    × (header_text (start_bytes ++ alone (codes "S") 0x4001FFFF 6 ++ codes " \\~" ++ 127 ∷ 31 ∷ 255 ∷ [])
+    ≡ start_text ++ codes "tag S -1 tyAnsiString 6  \\x5C~\\x7F\\x1F\\xFF\n")
+    -- A body of length 0 prints as nothing after the space.
+    × (header_text (start_bytes ++ alone (codes "S") 0x4001FFFF 0 ++ end_tag) ≡ start_text ++ codes "tag S -1 tyAnsiString 0 \n" ++ end_text)
+    -- A wide string is printed as bytes.
+    × (header_text (start_bytes ++ (alone (codes "W") 0x4002FFFF 4 ++ 65 ∷ 0 ∷ 0 ∷ 0 ∷ []) ++ end_tag)
+    ≡ start_text ++ codes "tag W -1 tyWideString 4 41000000\n" ++ end_text)
+    -- The bytes of a body are in the order of the file.
+    × (header_text (start_bytes ++ (alone (codes "F") 0x2001FFFF 8 ++ number 8 0x3FF0000000000000) ++ end_tag)
+    ≡ start_text ++ codes "tag F -1 tyFloat8Array 8 000000000000F03F\n" ++ end_text)
+    -- A truth value is true where a bit of it is set.
+    × (header_text (start_bytes ++ tag (codes "T") 0 8 0 ++ tag (codes "T") 1 8 2 ++ tag (codes "T") 0x7FFFFFFF 8 0x8000000000000000)
+    ≡ start_text ++ codes "tag T 0 tyBool8 false\ntag T 1 tyBool8 true\ntag T 2147483647 tyBool8 true\n")
+    -- An index and a number have a sign.
+    × (header_text (start_bytes ++ tag (codes "N") 0x80000000 0x10000008 0x8000000000000000 ++ tag (codes "N") 0xFFFFFFFE 0x10000008 0)
+    ≡ start_text ++ codes "tag N -2147483648 tyInt8 -9223372036854775808\ntag N -2 tyInt8 0\n")
+    × (header_text (start_bytes ++ alone (codes "C") 0x12000008 0xABC ++ alone (codes "D") 0x20000008 0x3E6AD7F29ABCAF48 ++ alone (codes "E") 0x21000008 1)
+    ≡ start_text ++ codes "tag C -1 tyColor8 0000000000000ABC\ntag D -1 tyFloat8 3E6AD7F29ABCAF48\ntag E -1 tyTDateTime 0000000000000001\n")
+    -- A tag that is refused prints as nothing, and what is behind it neither.
+    × (header_text (start_bytes ++ type_tag ++ alone (codes "X") 0x30000008 0 ++ end_tag) ≡ start_text ++ type_text)
+    × (header_text (start_bytes ++ type_tag ++ alone (codes "X") 0x4001FFFF 0xFFFFFFFFFFFFFFFF) ≡ start_text ++ type_text)
+    -- The end of a header may have a body.
+    × (header_text (start_bytes ++ (alone (codes "Header_End") 0x4001FFFF 2 ++ codes "ok") ++ 1 ∷ 0 ∷ 0 ∷ 0 ∷ [])
+    ≡ start_text ++ codes "tag Header_End -1 tyAnsiString 2 ok\n")
+    -- The lines of the events of a block, from the last one on.
+    -- The lines of events at known events.
+    × (event_text (record { place = 3; kind = Photon 0 0; time = 4101 }) false ≡ codes "3 photon 0 4101 0\n")
+    × (event_text (record { place = 1; kind = Marker 15; time = 4111 }) false ≡ codes "1 marker 15 4111\n")
+    × (event_text (record { place = 3; kind = Photon 64 32767; time = 7 }) true ≡ codes "3 photon 64 7 32767 late\n")
+    -- one line behind the other
+    × (events_text ((record { place = 1; kind = Photon 0 0; time = 9 }, false) ∷ (record { place = 2; kind = Marker 1; time = 7 }, true) ∷ []) ≡
+    codes "1 photon 0 9 0\n2 marker 1 7 late\n")
+unfolding header_text shown_text preamble_text seen seen_from seen_preamble item_text head_text
+    body_text kind_with name_in index_in code_in value_in has_body is_known hexadecimal digits event_text
+rows = (
+  refl,
+  refl,
+  refl,
+  refl,
+  refl,
+  refl,
+  refl,
+  refl,
+  refl,
+  refl,
+  refl,
+  refl,
+  refl,
+  refl,
+  refl,
+  refl,
+  refl,
+  refl,
+  refl,
+  refl,
+  refl,
+  refl,
+  refl,
+  refl,
+  refl,
+  refl,
+  refl,
+  refl,
+)

@@ -1,4 +1,2 @@
 pub mod HeaderText
-pub mod Body
-pub mod EventText
 pub mod Lines

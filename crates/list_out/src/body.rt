@@ -27,7 +27,7 @@ pub struct BodyText {
 }
 
 impl BodyText {
-    ghost use Rattle.list_out.specs.Body.{HasPut};
+    ghost use Rattle.list_out.specs.Lines.{HasPut};
 
     /// The text of a body of which no byte was put yet.
     pub fn new(kind: TagKind) -> BodyText

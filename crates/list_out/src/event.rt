@@ -1,7 +1,7 @@
 // The lines of events.
 ghost use Rattle.std.specs.Prelude.{◌≡◌, ◌+◌, ◌≤◌, ◌++◌, length, drop, map, false};
 ghost use Rattle.tally_base.specs.Columns.{gathered};
-ghost use Rattle.list_out.specs.EventText.{event_text, events_text, kind_text, line_end};
+ghost use Rattle.list_out.specs.Lines.{event_text, events_text, kind_text, line_end};
 
 use crate::backwards::{LINE_SIZE, write_number, write_text};
 use arrayvec::ArrayVec;
@@ -56,7 +56,7 @@ fn write_end(line: &mut [u8], end: usize, late: bool) -> usize
 /// Writes the line of an event, with its newline, before what stands from `end` on, and returns where it
 /// starts.
 #[inline(always)]
-#[tactic(auto, unfolding(crate::specs::EventText::event_text))]
+#[tactic(auto, unfolding(crate::specs::Lines::event_text))]
 fn write_event(text: &mut [u8], end: usize, event: &Event, late: bool) -> usize
     requires room { LINE_SIZE ≤ end }
     requires inside { end ≤ length text.old }

@@ -16,7 +16,8 @@ binned-early set x early = search (rules, arith, binned, of_group)
 pub binned-is : (set : TraceView) (x : Event × ℕ) → of_group set x ≡ true → set.origin ≤ x.0.time → is_binned set x ≡ true
 binned-is set x is le = search (rules, arith, binned)
 
-pub CountsOn-none : (set : TraceView) (state : BinState) (x : Event × ℕ) (lines : List ℕ) → is_binned set x ≡ false → CountsOn set state state (x ∷ []) lines lines
+pub CountsOn-none : (set : TraceView) (state : BinState) (x : Event × ℕ) (lines : List ℕ)
+    → is_binned set x ≡ false → CountsOn set state state (x ∷ []) lines lines
 CountsOn-none set state x lines e = record {
   text = [];
   put = sym (append-nil lines);
@@ -24,7 +25,8 @@ CountsOn-none set state x lines e = record {
   closed = λ h is. none-closes set state h x e is;
 }
 
-pub CountsOn-same : (set : TraceView) (state : BinState) (x : Event × ℕ) (lines : List ℕ) → is_binned set x ≡ true → bin_at set x.0.time ≡ state.bin → CountsOn set state (record state { count = state.count + 1 }) (x ∷ []) lines lines
+pub CountsOn-same : (set : TraceView) (state : BinState) (x : Event × ℕ) (lines : List ℕ) → is_binned set x ≡ true
+    → bin_at set x.0.time ≡ state.bin → CountsOn set state (record state { count = state.count + 1 }) (x ∷ []) lines lines
 CountsOn-same set state x lines e at = record {
   text = [];
   put = sym (append-nil lines);
@@ -47,7 +49,8 @@ CountsOn-in set state x lines more is le at = by_group (of_group set x) refl
 
 pub CountsOn-next : (set : TraceView) (state : BinState) (x : Event × ℕ) (lines lines' : List ℕ) (next : ℕ) (frequencies : List ℕ) (many : ℕ)
     → is_binned set x ≡ true → bin_at set x.0.time ≡ next → state.bin < next
-    → ((c : ℕ) → c < frequency_limit → slice_index frequencies c ≡ slice_index state.frequencies c + (if state.count == c then 1 else 0) + (if 0 == c then next - state.bin - 1 else 0))
+    → ((c : ℕ) → c < frequency_limit
+    → slice_index frequencies c ≡ slice_index state.frequencies c + (if state.count == c then 1 else 0) + (if 0 == c then next - state.bin - 1 else 0))
     → many ≡ state.many + (if nat_le frequency_limit state.count then 1 else 0)
     → lines' ≡ lines ++ bin_line state.bin state.count
     → CountsOn set state (record { bin = next; count = 1; frequencies = frequencies; many = many }) (x ∷ []) lines lines'
@@ -55,10 +58,12 @@ CountsOn-next set state x lines lines' next frequencies many e at later raised r
   text = bin_line state.bin state.count;
   put = put;
   counted = λ h is. next-follows set state h x next e at later is frequencies many raised raised_many;
-  closed = λ h is. next-closes set state h x next e at later is (record { bin = next; count = 1; frequencies = frequencies; many = many }) refl (next-follows set state h x next e at later is frequencies many raised raised_many);
+  closed = λ h is. next-closes set state h x next e at later is (record { bin = next; count = 1; frequencies = frequencies; many = many }) refl
+      (next-follows set state h x next e at later is frequencies many raised raised_many);
 }
 
-pub CountsOn-trans : (set : TraceView) (a b c : BinState) (m n : History) (lines lines' lines'' : List ℕ) → CountsOn set a b m lines lines' → CountsOn set b c n lines' lines'' → CountsOn set a c (m ++ n) lines lines''
+pub CountsOn-trans : (set : TraceView) (a b c : BinState) (m n : History) (lines lines' lines'' : List ℕ)
+    → CountsOn set a b m lines lines' → CountsOn set b c n lines' lines'' → CountsOn set a c (m ++ n) lines lines''
 CountsOn-trans set a b c m n lines lines' lines'' p q = record {
   text = p.text ++ q.text;
   put = q.put ∙ ap (λ l. l ++ q.text) p.put ∙ append_assoc lines p.text q.text;
@@ -71,7 +76,8 @@ CountsOn-trans set a b c m n lines lines' lines'' p q = record {
 }
 
 -- a photon of the group before the origin is counted there
-pub before-push : (set : TraceView) (h : History) (x : Event × ℕ) (more : ℕ) → more ≡ (if of_group set x then 1 else 0) → count_before set (h ++ x ∷ []) ≡ count_before set h + (if nat_lt x.0.time set.origin then more else 0)
+pub before-push : (set : TraceView) (h : History) (x : Event × ℕ) (more : ℕ) → more ≡ (if of_group set x then 1 else 0)
+    → count_before set (h ++ x ∷ []) ≡ count_before set h + (if nat_lt x.0.time set.origin then more else 0)
 before-push set h x more is = times-group set (λ time. nat_lt time set.origin) h x (of_group set x) refl ∙ ap (λ n. count_before set h + n) (by_cases (of_group set x) (nat_lt x.0.time set.origin) ∙ ap (λ n. if nat_lt x.0.time set.origin then n else 0) (sym is))
   where
     by_cases : (b t : Bool) → ◌≡◌ {A = ℕ} (if b && t then 1 else 0) (if t then (if b then 1 else 0) else 0)
@@ -104,6 +110,7 @@ other-way false true p' same = rw same refl
 other-way false false p' same = rw same refl
 
 -- where the newest bin begins, behind one event more
-pub low-next : (g p : Bool) (more low low' floor time origin : ℕ) → more ≡ (if g && p then 1 else 0) → (IsTrue p → floor ≤ time) → low ≤ max floor origin → (0 < more → low' ≤ max time origin) → (more ≡ 0 → low' ≡ low)
+pub low-next : (g p : Bool) (more low low' floor time origin : ℕ) → more ≡ (if g && p then 1 else 0)
+    → (IsTrue p → floor ≤ time) → low ≤ max floor origin → (0 < more → low' ≤ max time origin) → (more ≡ 0 → low' ≡ low)
     → low' ≤ max (if p then time else floor) origin
 low-next g p more low low' floor time origin is order below new same = search (rules, arith)

@@ -45,15 +45,18 @@ module _ (set : TraceView) (state : BinState) (h : History) (is : CountsBins set
       → whole_text set h ≡ open_text set h ++ (bin_line state.bin state.count ++ summary_text (counts set (span set h) h) (count_before set h))
   whole-is lines = search (rules, arith, append_assoc)
 
-  pub whole-none : state.count ≡ 0 → whole_text set h ≡ open_text set h ++ (bin_line state.bin state.count ++ summary_text (counts set (span set h) h) (count_before set h))
+  pub whole-none : state.count ≡ 0
+      → whole_text set h ≡ open_text set h ++ (bin_line state.bin state.count ++ summary_text (counts set (span set h) h) (count_before set h))
   whole-none none = whole-is (lines-none none)
 
-  pub whole-some : 0 < state.count → whole_text set h ≡ open_text set h ++ (bin_line state.bin state.count ++ summary_text (counts set (span set h) h) (count_before set h))
+  pub whole-some : 0 < state.count
+      → whole_text set h ≡ open_text set h ++ (bin_line state.bin state.count ++ summary_text (counts set (span set h) h) (count_before set h))
   whole-some some = whole-is (lines-some some)
 
 module _ (set : TraceView) (state : BinState) (h : History) (is : CountsBins set state h) where
   -- With the newest bin, if it isn't empty, they are the counts of all bins.
-  pub all-counted : (p : ℕ → Bool) (n m : ℕ) → n ≡ count_by p (counts set state.bin h) → m ≡ n + (if nat_lt 0 state.count && p state.count then 1 else 0) → m ≡ count_by p (counts set (span set h) h)
+  pub all-counted : (p : ℕ → Bool) (n m : ℕ) → n ≡ count_by p (counts set state.bin h)
+      → m ≡ n + (if nat_lt 0 state.count && p state.count then 1 else 0) → m ≡ count_by p (counts set (span set h) h)
   all-counted p n m before is_sum = search (rules, arith, cases_eq, none_more, counted-none, counted-some)
 
   pub whole-any : whole_text set h ≡ open_text set h ++ (bin_line state.bin state.count ++ summary_text (counts set (span set h) h) (count_before set h))
@@ -61,12 +64,15 @@ module _ (set : TraceView) (state : BinState) (h : History) (is : CountsBins set
 
 -- ## The lines of the frequencies
 
-lines-next : (all : List ℕ) (n : ℕ) (line held : List ℕ) → line ≡ frequency_line n (frequency all n) → (held ++ frequency_lines all n) ++ line ≡ held ++ frequency_lines all (n + 1)
+lines-next : (all : List ℕ) (n : ℕ) (line held : List ℕ) → line ≡ frequency_line n (frequency all n)
+    → (held ++ frequency_lines all n) ++ line ≡ held ++ frequency_lines all (n + 1)
 lines-next all n line held is =
-    append_assoc held (frequency_lines all n) line ∙ ap (λ l. held ++ l) (ap (λ l. frequency_lines all n ++ l) is ∙ sym (lines-more (λ c. frequency_line c (frequency all c)) n (n + 1) refl))
+    append_assoc held (frequency_lines all n) line
+    ∙ ap (λ l. held ++ l) (ap (λ l. frequency_lines all n ++ l) is ∙ sym (lines-more (λ c. frequency_line c (frequency all c)) n (n + 1) refl))
 
 pub next-put : (all : List ℕ) (n : ℕ) (line : List ℕ) (a b c : Option (List ℕ)) (held mid now : List ℕ) → line ≡ frequency_line n (frequency all n) → PassesOn a b (held ++ frequency_lines all n) mid → PassesOn b c (mid ++ line) now → PassesOn a c (held ++ frequency_lines all (n + 1)) now
-next-put all n line a b c held mid now is so_far put = subst (λ t. PassesOn a c t now) (lines-next all n line held is) (PassesOn-trans a b c (held ++ frequency_lines all n) mid line now so_far put)
+next-put all n line a b c held mid now is so_far put =
+    subst (λ t. PassesOn a c t now) (lines-next all n line held is) (PassesOn-trans a b c (held ++ frequency_lines all n) mid line now so_far put)
 
 pub next-cut : (all : List ℕ) (n : ℕ) (line : List ℕ) (a b c : Option (List ℕ)) (held mid : List ℕ) → n < frequency_limit → line ≡ frequency_line n (frequency all n) → PassesOn a b (held ++ frequency_lines all n) mid → AppendsShort b c (mid ++ line) → AppendsShort a c (held ++ frequencies_text all)
 unfolding frequencies_text
@@ -76,7 +82,8 @@ next-cut all n line a b c held mid inside is so_far cut =
     (ap (λ l. l ++ rest.0) (lines-next all n line held is) ∙ append_assoc held (frequency_lines all (n + 1)) rest.0 ∙ ap (λ l. held ++ l) (sym rest.1))
     (AppendsShort-more a c _ rest.0 (AppendsShort-passed a b c (held ++ frequency_lines all n) mid line so_far cut))
 
-pub all-put : (all : List ℕ) (n : ℕ) (a b : Option (List ℕ)) (held now : List ℕ) → n ≡ frequency_limit → PassesOn a b (held ++ frequency_lines all n) now → PassesOn a b (held ++ frequencies_text all) now
+pub all-put : (all : List ℕ) (n : ℕ) (a b : Option (List ℕ)) (held now : List ℕ) → n ≡ frequency_limit
+    → PassesOn a b (held ++ frequency_lines all n) now → PassesOn a b (held ++ frequencies_text all) now
 unfolding frequencies_text
 all-put all n a b held now is put = rw is at put
 

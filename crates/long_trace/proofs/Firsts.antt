@@ -27,14 +27,16 @@ pub lines-same : {A : Type 0} (f g : ℕ → List A) (n : ℕ) → ((b : ℕ) �
 lines-same f g n same = search (rules, arith, flat-of-map, first-same)
 
 -- the lines of more begin with those of fewer
-pub lines-front : {A : Type 0} (f : ℕ → List A) (n k m : ℕ) → m ≡ k + n → (rest : List A) × (flat_map f (range_with_len 0 m) ≡ flat_map f (range_with_len 0 n) ++ rest)
+pub lines-front : {A : Type 0} (f : ℕ → List A) (n k m : ℕ) → m ≡ k + n
+    → (rest : List A) × (flat_map f (range_with_len 0 m) ≡ flat_map f (range_with_len 0 n) ++ rest)
 lines-front f n zero m e = let same : m ≡ n = omega (arith, e) in ([], rw same (sym (append-nil (flat_map f (range_with_len 0 n)))))
 lines-front f n (suc k) m e =
     let fewer = lines-front f n k (k + n) refl in
     (fewer.0 ++ f (k + n), lines-more f (k + n) m (omega (arith, e)) ∙ ap (λ l. l ++ f (k + n)) fewer.1 ∙ append_assoc (flat_map f (range_with_len 0 n)) fewer.0 (f (k + n)))
 
 -- how many of the first pass a test
-pub count-more : (p : ℕ → Bool) (f : ℕ → ℕ) (n m : ℕ) → m ≡ n + 1 → count_by p (map f (range_with_len 0 m)) ≡ count_by p (map f (range_with_len 0 n)) + cond (p (f n)) 1 0
+pub count-more : (p : ℕ → Bool) (f : ℕ → ℕ) (n m : ℕ) → m ≡ n + 1
+    → count_by p (map f (range_with_len 0 m)) ≡ count_by p (map f (range_with_len 0 n)) + cond (p (f n)) 1 0
 count-more p f n m e = ap (count_by p) (first-more f n m e) ∙ sum_by_push (λ x. cond (p x) 1 0) (map f (range_with_len 0 n)) (f n)
 
 one_more : (b : Bool) (k : ℕ) → cond b k 0 + cond b 1 0 ≡ cond b (suc k) 0

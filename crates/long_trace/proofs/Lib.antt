@@ -2,6 +2,5 @@ pub mod Firsts
 pub mod Steps
 pub mod BinSteps
 pub mod Ends
-pub mod Given
 pub mod Rising
 pub mod Rows

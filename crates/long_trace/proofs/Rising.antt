@@ -50,10 +50,12 @@ one-binned set h x e below =
       keeps =
           ap (λ n. bin_lines set n (h ++ x ∷ [])) less
           ∙ front.1
-          ∙ ap (λ l. l ++ front.0) (still set (span set h - 1) h (h ++ x ∷ []) (λ b lt. bin-other set b h x e (λ (q : bin_at set x.0.time ≡ b). omega (arith, lt, below, q))));
+          ∙ ap (λ l. l ++ front.0)
+          (still set (span set h - 1) h (h ++ x ∷ []) (λ b lt. bin-other set b h x e (λ (q : bin_at set x.0.time ≡ b). omega (arith, lt, below, q))));
     }
 
-one-unbinned : (set : TraceView) (h : History) (x : Event × ℕ) (time : ℕ) → is_binned set x ≡ false → span set h ≤ bin_at set time + 1 → Goes set h (h ++ x ∷ []) time
+one-unbinned : (set : TraceView) (h : History) (x : Event × ℕ) (time : ℕ)
+    → is_binned set x ≡ false → span set h ≤ bin_at set time + 1 → Goes set h (h ++ x ∷ []) time
 one-unbinned set h x time e below =
     let now : span set (h ++ x ∷ []) ≡ span set h = span-push set h x false e in
     record {
@@ -80,7 +82,8 @@ one-goes set h x floor some up below = by (is_binned set x) refl
         let later = floor-up set (is_photon x.0) floor x.0.time some up in
         one-unbinned set h x (if is_photon x.0 then x.0.time else floor) e (omega (arith, below, later))
 
-pub goes-on : (set : TraceView) (h more : History) (floor : ℕ) → 0 < set.width → RisesFrom floor more → span set h ≤ bin_at set floor + 1 → Goes set h (h ++ more) (last_time floor more)
+pub goes-on : (set : TraceView) (h more : History) (floor : ℕ) → 0 < set.width → RisesFrom floor more
+    → span set h ≤ bin_at set floor + 1 → Goes set h (h ++ more) (last_time floor more)
 goes-on set h [] floor some up below = rw (append-nil h) (record { within = below; tail = []; keeps = sym (append-nil (closed_lines set h)) })
 goes-on set h (x ∷ more) floor some up below =
     let one = one-goes set h x floor some up.0 below in
@@ -93,7 +96,8 @@ goes-on set h (x ∷ more) floor some up below =
     })
 
 -- The text before the end is in front of that of more events.
-pub open-front : (set : TraceView) (h more : History) → 0 < set.width → RisesFrom 0 (h ++ more) → (tail : List ℕ) × (open_text set (h ++ more) ≡ open_text set h ++ tail)
+pub open-front : (set : TraceView) (h more : History) → 0 < set.width → RisesFrom 0 (h ++ more)
+    → (tail : List ℕ) × (open_text set (h ++ more) ≡ open_text set h ++ tail)
 open-front set h more some up =
     let parts = rises-parts 0 h more up in
     let first = goes-on set [] h 0 some parts.0 (omega arith) in

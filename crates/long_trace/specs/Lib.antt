@@ -3,4 +3,3 @@ pub mod Bins
 pub mod States
 pub mod Written
 pub mod LongTrace
-pub mod Totals

@@ -1,5 +1,5 @@
--- What a trace without end prints of the events that it is given.
-use Rattle.std.{specs.Prelude.{ℕ, Bool, ◌+◌, ◌-◌, ◌/◌, ◌==◌, ◌&&◌, nat_le, max, List, [], ◌++◌, map, fold, count_by, codes, decimal, if◌then◌else◌}, specs.List.{range_with_len, flat_map}}
+-- What a trace without end prints of the events that it is given, and how many bins it has by their counts.
+use Rattle.std.{specs.Prelude.{ℕ, Bool, ◌+◌, ◌-◌, ◌/◌, ◌==◌, ◌&&◌, nat_le, max, List, [], ◌++◌, map, fold, count_by, codes, decimal, if◌then◌else◌, sum_by}, specs.List.{range_with_len, flat_map}}
 use Rattle.tally_base.{specs.declared.event.Event.Event, specs.Events.{is_photon, is_in}, specs.Settings.TraceView, specs.Tally.History}
 use Rattle.count_trace.specs.TraceCounts.{in_trace_bin, count_before}
 
@@ -76,3 +76,7 @@ open_text set h = first_line set ++ closed_lines set h
 -- the whole text: the first line, the lines of all bins, and how often each count came
 abbrev pub whole_text : TraceView → History → List ℕ
 whole_text set h = first_line set ++ bin_lines set (span set h) h ++ summary_text (counts set (span set h) h) (count_before set h)
+
+-- how many of the counts have a number of their own
+abbrev pub in_all_frequencies : List ℕ → ℕ
+in_all_frequencies all = sum_by (λ c. frequency all c) (range_with_len 0 frequency_limit)

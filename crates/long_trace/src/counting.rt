@@ -1,7 +1,7 @@
 // The photons of a trace, counted by their times.
 ghost use Rattle.std.specs.Prelude.{◌≡◌, ℕ, ◌+◌, ◌*◌, ◌^◌, ◌<◌, ◌≤◌, ◌&&◌, [], false, true, max, nat_lt, nat_le, ◌==◌, slice_index, sum, length, if◌then◌else◌};
 ghost use Rattle.arrayvec.specs.ArrayVec.{array_vec_len};
-ghost use Rattle.tally_base.{specs.Columns.{gathered, events_in, IsSorted}, specs.Floors.{floor_after, InOrder}, specs.Limits.record_limit, specs.Settings.trace_view};
+ghost use Rattle.tally_base.{specs.Columns.{gathered, events_in, IsSorted}, specs.Tally.{floor_after, InOrder}, specs.Limits.record_limit, specs.Settings.trace_view};
 ghost use Rattle.long_trace.{specs.Texts.frequency_limit, specs.Bins.CountsAt, specs.States.{state_of, CanCount, Counted, CountsAll, IsInStep, IsUpTo, Opens}};
 
 use crate::closed::Closed;

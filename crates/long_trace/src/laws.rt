@@ -1,7 +1,7 @@
 // Laws of the definitions, each as the contract of a function that does nothing.
 ghost use Rattle.std.specs.Prelude.{◌≡◌, ◌+◌, ◌-◌, ◌<◌, ◌≤◌, ℕ};
 ghost use Rattle.count_trace.specs.TraceCounts.{in_trace_bin};
-ghost use Rattle.long_trace.{specs.Texts.{span, counts, above}, specs.Totals.in_all_frequencies};
+ghost use Rattle.long_trace.specs.Texts.{span, counts, above, in_all_frequencies};
 ghost use Rattle.tally_base.{specs.Settings.TraceView, specs.Tally.History};
 
 /// The last bin of the span of a trace isn't empty, and each behind it is.

@@ -1,7 +1,7 @@
 // A trace without end.
-ghost use Rattle.std.{specs.Prelude.{◌≡◌, ◌+◌, ◌*◌, ◌<◌, ◌≤◌, ◌&&◌, if◌then◌else◌, IfErr, OnOk, OnErr, max, slice_index, sum}, specs.Io.KnownBytes.{Appends}};
+ghost use Rattle.std.{specs.Prelude.{◌≡◌, ◌+◌, ◌*◌, ◌<◌, ◌≤◌, ◌&&◌, if◌then◌else◌, IfErr, OnOk, OnErr, max, slice_index, sum, ◌++◌, ◌∷◌, [], IsTrue, true, false, is_ok, length}, specs.Io.KnownBytes.Appends};
 ghost use Rattle.bench_io.specs.Sinks.{AppendsShort};
-ghost use Rattle.tally_base.{specs.FaultCounts.{FailsOnce}, specs.Events.{is_photon, is_in}};
+ghost use Rattle.tally_base.{specs.FaultCounts.FailsOnce, specs.Events.{is_photon, is_in}, specs.Columns.{gathered, events_in, IsSorted}, specs.Tally.{floor_after, InOrder, History}, specs.Limits.record_limit, specs.Settings.trace_view};
 
 use crate::closed::Closed;
 use crate::counting::{OpenBin, closed_with, count_at, count_block};
@@ -40,8 +40,6 @@ pub struct LongTrace {
 }
 
 impl LongTrace {
-    ghost use Rattle.std.specs.Prelude.{◌++◌, ◌∷◌, [], IsTrue, true, false, is_ok, length};
-    ghost use Rattle.tally_base.{specs.Columns.{gathered, events_in, IsSorted}, specs.Floors.{floor_after, InOrder}, specs.Limits.record_limit, specs.Settings.trace_view, specs.Tally.History};
     ghost use Rattle.long_trace.{specs.Texts.{first_line, whole_text}, specs.Written.{AppendsRest, CutsRest}, specs.LongTrace.{Holds, GivenMore, Starts, set_of, taken_of, floor_of, was_begun, is_going, held, printed_by}};
 
     /// A trace of no events. It doesn't look at the number of bins.

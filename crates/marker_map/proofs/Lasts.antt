@@ -1,6 +1,6 @@
 -- One more element, and what the last one that passes parts a list into.
 use Rattle.std.{proofs.Common.{◌≡◌, ◌∙◌, Bool, true, false, ◌||◌, cond, List, [], ◌∷◌, ◌++◌, refl, ap, Option, None, Some, filter, arith, rules}, specs.List.{list_any, last_or}, proofs.lemmas.List.append-nil, proofs.lemmas.List.Elements.filter-append, proofs.lemmas.List.Folds.list_any-append}
-use Rattle.marker_map.specs.Lasts.{last_that, until_last, behind_last, from_last}
+use Rattle.marker_map.specs.Places.{last_that, until_last, behind_last, from_last}
 
 list_any-one : {X : Type 0} (p : X → Bool) (y : X) (b : Bool) → p y ≡ b → list_any p (y ∷ []) ≡ b
 list_any-one p y b is = search (rules, arith)
@@ -56,9 +56,11 @@ pub from-passing : {X : Type 0} (p : X → Bool) (xs : List X) (y : X) → p y �
 from-passing p [] y is = ap (λ b. cond b (y ∷ []) []) is
 from-passing p (x ∷ xs) y is = cc (any-passing p xs y is, from-passing p xs y is)
 
-from-cases : {X : Type 0} (any here : Bool) (front xs : List X) (x y : X) → cond any (cond any (front ++ y ∷ []) []) (cond here (x ∷ (xs ++ y ∷ [])) []) ≡ cond (here || any) (cond any front (cond here (x ∷ xs) []) ++ y ∷ []) []
+from-cases : {X : Type 0} (any here : Bool) (front xs : List X) (x y : X)
+    → cond any (cond any (front ++ y ∷ []) []) (cond here (x ∷ (xs ++ y ∷ [])) []) ≡ cond (here || any) (cond any front (cond here (x ∷ xs) []) ++ y ∷ []) []
 from-cases any here front xs x y = search (rules, arith)
 
-pub from-failing : {X : Type 0} (p : X → Bool) (xs : List X) (y : X) → p y ≡ false → from_last p (xs ++ y ∷ []) ≡ cond (list_any p xs) (from_last p xs ++ y ∷ []) []
+pub from-failing : {X : Type 0} (p : X → Bool) (xs : List X) (y : X) → p y ≡ false
+    → from_last p (xs ++ y ∷ []) ≡ cond (list_any p xs) (from_last p xs ++ y ∷ []) []
 from-failing p [] y is = ap (λ b. cond b (y ∷ []) []) is
 from-failing p (x ∷ xs) y is = cc (any-failing p xs y is, from-failing p xs y is, from-cases (list_any p xs) (p x) (from_last p xs) xs x y)

@@ -1,7 +1,50 @@
 -- Where a photon is in an image, by all the markers before it.
-use Rattle.std.{specs.Prelude.{ℕ, Bool, ◌-◌, ◌/◌, ◌%◌, ◌&&◌, ◌==◌, nat_lt, List, Option, None, Some, count_by, option_and_then, if◌then◌else◌}, specs.List.{list_any}}
+use Rattle.std.{specs.Prelude.{ℕ, Bool, ◌-◌, ◌/◌, ◌%◌, ◌&&◌, ◌==◌, nat_lt, List, Option, None, Some, count_by, option_and_then, if◌then◌else◌, false, max, fold, [], ◌∷◌, filter}, specs.List.{list_any, last_or}, specs.Int.bit_at}
 use Rattle.tally_base.specs.Settings.{ImageView}
-use Rattle.marker_map.{specs.Lasts.{last_that, until_last, behind_last, from_last}, specs.Marks.{Mark, has_bit, has_named_bit}}
+
+-- The markers of a scan, and a list, seen from its last element that passes a test.
+
+-- what a marker event says: its bits and its time
+pub record Mark : Type 0 where
+  pub bits : ℕ
+  pub time : ℕ
+
+abbrev pub mark : ℕ → ℕ → Mark
+mark bits time = record { bits = bits; time = time }
+
+-- These bits have bit n, which has the value 2 ^ (n - 1).
+abbrev pub has_bit : ℕ → ℕ → Bool
+has_bit n bits = bit_at bits (n - 1) == 1
+
+-- where a plan names no bit, no bits have it
+abbrev pub has_named_bit : Option ℕ → ℕ → Bool
+has_named_bit None bits = false
+has_named_bit (Some n) bits = has_bit n bits
+
+-- the greatest time of these markers, or 0 where there are none
+abbrev pub greatest_time : List Mark → ℕ
+greatest_time ms = fold (λ t m. max t m.time) 0 ms
+
+-- the last element that passes
+abbrev pub last_that : {X : Type 0} → (X → Bool) → List X → Option X
+last_that p xs = last_or None (filter p xs)
+
+-- the list up to its last element that passes, that one included, and nothing where none passes
+abbrev pub until_last : {X : Type 0} → (X → Bool) → List X → List X
+until_last p [] = []
+until_last p (x ∷ xs) = if list_any p (x ∷ xs) then x ∷ until_last p xs else []
+
+-- the elements behind the last one that passes, and all of them where none passes
+abbrev pub behind_last : {X : Type 0} → (X → Bool) → List X → List X
+behind_last p [] = []
+behind_last p (x ∷ xs) = if list_any p (x ∷ xs) then behind_last p xs else x ∷ xs
+
+-- the list from its last element that passes on, that one included, and nothing where none passes
+abbrev pub from_last : {X : Type 0} → (X → Bool) → List X → List X
+from_last p [] = []
+from_last p (x ∷ xs) = if list_any p xs then from_last p xs else if p x then x ∷ xs else []
+
+-- Where a photon is in an image, by all the markers before it.
 
 abbrev pub is_line : ImageView → Mark → Bool
 is_line set m = has_bit set.line m.bits

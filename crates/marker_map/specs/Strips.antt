@@ -1,7 +1,7 @@
 -- Where photons are on the line that is open.
-use Rattle.std.specs.Prelude.{ℕ, Bool, true, false, ◌-◌, ◌/◌, nat_lt, Option, None, Some, if◌then◌else◌}
-use Rattle.tally_base.specs.Divisors.{divisor_of}
-use Rattle.marker_map.{specs.declared.strip.Strip.Strip, specs.declared.strip.Way.Way, specs.declared.strip.Way.TheVariants.{Forwards, Backwards}}
+use Rattle.std.{specs.Prelude.{ℕ, Bool, true, false, ◌-◌, ◌/◌, nat_lt, Option, None, Some, if◌then◌else◌, ◌+◌, ◌%◌, ◌==◌, ◌&&◌, List, is_none, option_map, option_and_then}, specs.List.list_any}
+use Rattle.tally_base.specs.Settings.{divisor_of, ImageView}
+use Rattle.marker_map.{specs.declared.strip.Strip.Strip, specs.declared.strip.Way.Way, specs.declared.strip.Way.TheVariants.{Forwards, Backwards}, specs.Places.{from_last, Mark, is_frame, line_of, lines_in, row_of, within}, specs.declared.lines.Line.Line}
 
 -- the time of the marker of the line
 abbrev pub start_of : Strip → ℕ
@@ -32,3 +32,27 @@ place_behind strip since = if strip.open then (if nat_lt (since / divisor_of str
 -- of a photon at this time
 abbrev pub place_on : Strip → ℕ → Option (ℕ × ℕ)
 place_on strip time = place_behind strip (time - strip.start)
+
+-- The line and the rows that lines keep, and the place of a photon by the line that is open.
+
+abbrev pub line_at : ℕ → ℕ → Line
+line_at start row = record { start = start; row = row }
+
+-- the line and the row of a photon that comes next
+abbrev pub open_line : ImageView → List Mark → Option Line
+open_line set ms = option_and_then (λ line. option_map (line_at line.time) (row_of set ms)) (line_of set ms)
+
+-- the row of a line that comes next
+abbrev pub next_row_by : Option ℕ → ImageView → List Mark → Option ℕ
+next_row_by None set ms = Some (lines_in set ms % set.height)
+next_row_by (Some frame) set ms = if list_any (is_frame frame) ms then Some (lines_in set (from_last (is_frame frame) ms)) else None
+
+abbrev pub next_row : ImageView → List Mark → Option ℕ
+next_row set ms = next_row_by set.frame set ms
+
+-- Without a frame bit the rows begin again behind the last.
+abbrev pub row_after : ImageView → ℕ → ℕ
+row_after set row = if (row + 1 == set.height) && is_none set.frame then 0 else row + 1
+
+abbrev pub place_by : ImageView → ℕ → Option Line → Option (ℕ × ℕ)
+place_by set time line = option_and_then (λ line. within set ((time - line.start) / set.dwell) line.row) line

@@ -1,6 +1,6 @@
 // The bits of a marker.
 ghost use Rattle.std.{specs.Prelude.{◌≡◌, ◌<◌, ◌≤◌}, specs.Option.{ForSome}};
-ghost use Rattle.marker_map.specs.Marks.{has_bit, has_named_bit};
+ghost use Rattle.marker_map.specs.Places.{has_bit, has_named_bit};
 
 /// Whether these bits have bit `bit`, 1 to 4, which has the value 2^(bit - 1).
 pub fn has_bit(bits: u8, bit: u8) -> bool

@@ -1,6 +1,6 @@
 // Laws of the definitions, each as the contract of a function that does nothing.
 ghost use Rattle.std.{specs.Prelude.{◌≡◌, Bool, false, None, List, [], ◌++◌, option_to_list, if◌then◌else◌}, specs.List.{list_any, last_or}};
-ghost use Rattle.marker_map.{specs.Lasts.{last_that, until_last, behind_last, from_last}, specs.Marks.Mark};
+ghost use Rattle.marker_map.specs.Places.{last_that, until_last, behind_last, from_last, Mark};
 
 /// The last marker that passes a test parts the markers: up to it, and behind it, where none passes.
 pub fn the_last_marker_parts_them()

@@ -1,7 +1,7 @@
 // The lines of a scan.
-ghost use Rattle.std.{specs.Prelude.{◌≡◌, ◌+◌, ◌<◌, ◌≤◌, None, Some, option_map, if◌then◌else◌}, specs.Option.{ForSome}};
-ghost use Rattle.tally_base.{specs.Settings.image_view, specs.Limits.record_limit, specs.Divisors.divisor_of};
-ghost use Rattle.marker_map.{specs.Places.runs_back, specs.Rows.{line_at, row_after}};
+ghost use Rattle.std.{specs.Prelude.{◌≡◌, ◌+◌, ◌<◌, ◌≤◌, None, Some, option_map, if◌then◌else◌, ℕ, List, [], ◌∷◌, ◌++◌, IfSome, max}, specs.Option.ForSome};
+ghost use Rattle.tally_base.{specs.Settings.{image_view, divisor_of}, specs.Limits.record_limit};
+ghost use Rattle.marker_map.{specs.Places.runs_back, specs.Strips.{line_at, row_after}};
 
 use crate::bits::{has_bit, has_named_bit};
 use crate::strip::Strip;
@@ -81,8 +81,7 @@ fn runs_back(set: &ImageSet, row: u64) -> bool
 }
 
 impl Lines {
-    ghost use Rattle.std.specs.Prelude.{ℕ, List, [], ◌∷◌, ◌++◌, IfSome, max};
-    ghost use Rattle.marker_map.{specs.Marks.{Mark, mark}, specs.Places.place_of, specs.Strips.{place_on, start_of, width_of, height_of}, specs.PlacesBy.place_by, specs.Lines.{Saw, image_of, markers_given, line_start}};
+    ghost use Rattle.marker_map.{specs.Places.{Mark, mark, place_of}, specs.Strips.{place_on, start_of, width_of, height_of, place_by}, specs.Lines.{Saw, image_of, markers_given, line_start}};
 
     /// The lines of an image, before any marker.
     pub fn new(set: &ImageSet) -> Lines

@@ -1,6 +1,6 @@
 // The line of the photons that come before the next marker.
-ghost use Rattle.std.specs.Prelude.{◌≡◌, ◌<◌, ◌/◌, ℕ, true};
-ghost use Rattle.tally_base.specs.Divisors.{divisor_of, IsShort};
+ghost use Rattle.std.specs.Prelude.{◌≡◌, ◌<◌, ◌/◌, ℕ, true, ◌≤◌, IfSome};
+ghost use Rattle.tally_base.specs.Settings.{divisor_of, IsShort};
 
 use tally_base::Divisor;
 
@@ -48,7 +48,6 @@ pub struct Strip {
 }
 
 impl Strip {
-    ghost use Rattle.std.specs.Prelude.{◌≤◌, IfSome};
     ghost use Rattle.marker_map.specs.Strips.{place_on, place_behind, column_on, start_of, width_of, height_of, is_backwards, turns};
 
     /// Whether the line runs from the last column to the first.

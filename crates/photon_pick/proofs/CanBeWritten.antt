@@ -1,10 +1,10 @@
 -- The photons of a group of a file can be written, up to the first that is too late.
 use Rattle.std.{proofs.Common.{◌≡◌, ◌∙◌, ℕ, ◌+◌, List, [], ◌∷◌, ◌++◌, Bool, true, false, cond, length, take, drop, map, refl, sym, ap, subst, Result, ◌==◌, arith, rules}, specs.List.{All, AllByRecursion, filter}, proofs.lemmas.Bool.eqb-true, proofs.lemmas.List.take-append-drop, proofs.lemmas.List.Elements.{All-nil, All-head, All-tail, All-append, All-filter, All-from_recursion, filter-append}, proofs.lemmas.List.Sorted.All-permutation}
 use Rattle.tally_base.{specs.declared.event.Event.Event, specs.declared.event.EventKind.TheVariants.Marker as MarkerEvent, specs.declared.event.Policy.Policy, specs.declared.fault.Fault.Fault, specs.declared.header.Mode.Mode, specs.declared.header.RecordType.RecordType, specs.Events.{is_photon, is_ordered}, specs.RecordTypes.mode_of}
-use Rattle.ptu_definitions.{specs.declared.records.Raw.Raw, specs.declared.records.Summary.Summary, specs.Fitting.{Fits, KindFits}, specs.Kept.kept, specs.Layouts.meaning_of, specs.Prefixes.each_after, specs.Settled.{is_overtaken, unless_overtaken, not_overtaken, in_time, ordered, kept_by, Rises}, specs.Streams.{Reading, reading, given, streamed}, specs.Times.{event_of, event_after, events}, specs.Words.words_of, proofs.DeliveredLaws.{in_time-kept, delivered-settled}, proofs.FittingLemmas.meaning-fits, proofs.SettledLaws.{in_time-permutation, Rises-put_all}, proofs.SettledLemmas.{Rises-lower, IsNonDecreasingBy-Rises}}
+use Rattle.ptu_definitions.{specs.declared.records.Raw.Raw, specs.declared.records.Summary.Summary, specs.Layouts.{Fits, KindFits, meaning_of}, specs.Kept.kept, specs.Prefixes.each_after, specs.Settled.{is_overtaken, unless_overtaken, not_overtaken, in_time, ordered, kept_by, Rises}, specs.Streams.{Reading, reading, given, streamed}, specs.Times.{event_of, event_after, events}, specs.Words.words_of, proofs.DeliveredLaws.{in_time-kept, delivered-settled}, proofs.WordsLemmas.meaning-fits, proofs.SettledLaws.{in_time-permutation, Rises-put_all}, proofs.SettledLemmas.{Rises-lower, IsNonDecreasingBy-Rises}}
 use Rattle.gate_plan.specs.Shifting.{Sorting}
 use Rattle.record_write.specs.Picked.{is_too_late, IsPhotonOf, CanBePicked}
-use Rattle.photon_pick.{specs.Chosen.is_chosen, specs.Late.{too_late, writable}, specs.Texts.photons_in, specs.Ends.{photons_kept, photons_by, photons_of}, proofs.Parts.writable-all, proofs.Wanted.{first-of}}
+use Rattle.photon_pick.{specs.Chosen.is_chosen, specs.Late.{too_late, writable}, specs.Texts.photons_in, specs.Ends.{photons_kept, photons_by, photons_of}, proofs.Parts.writable-all, proofs.Ends.first-of}
 
 -- ## Events fit the mode of their records
 
@@ -17,7 +17,8 @@ marker-fits mode bits = search (rules, arith)
 event-fits : (mode : Mode) (place base : ℕ) (raw : Raw) → Fits mode raw → FitAll mode (event_of place base raw)
 event-fits mode place base raw fits = search (rules, arith, mode, marker-fits)
 
-events-fit_after : (mode : Mode) (meaning : ℕ → Raw) → ((word : ℕ) → Fits mode (meaning word)) → (before : List Raw) (words : List ℕ) → FitAll mode (each_after event_after before (map meaning words))
+events-fit_after : (mode : Mode) (meaning : ℕ → Raw) → ((word : ℕ) → Fits mode (meaning word))
+    → (before : List Raw) (words : List ℕ) → FitAll mode (each_after event_after before (map meaning words))
 events-fit_after mode meaning fits before [] = All-nil (λ (e : Event). KindFits mode e.kind)
 events-fit_after mode meaning fits before (word ∷ words) =
     All-append (λ (e : Event). KindFits mode e.kind) (event_after before (meaning word)) _
@@ -87,7 +88,8 @@ module _ (mode : Mode) (chooses : Event → Bool) (photons : (e : Event) → cho
   chosen-fit [] all = tt
   chosen-fit (e ∷ es) all = by (chooses e) refl (chosen-fit es (All-tail (λ (x : Event). KindFits mode x.kind) e es all))
     where
-      by : (b : Bool) → chooses e ≡ b → AllByRecursion (IsPhotonOf mode) (filter chooses es) → AllByRecursion (IsPhotonOf mode) (cond b (e ∷ filter chooses es) (filter chooses es))
+      by : (b : Bool) → chooses e ≡ b → AllByRecursion (IsPhotonOf mode) (filter chooses es)
+          → AllByRecursion (IsPhotonOf mode) (cond b (e ∷ filter chooses es) (filter chooses es))
       by true is rest = (record { photon = photons e is; fits = All-head (λ (x : Event). KindFits mode x.kind) e es all }, rest)
       by false is rest = rest
 
@@ -117,7 +119,8 @@ module _ (mode : Mode) (chooses : Event → Bool) (photons : (e : Event) → cho
   in_time-follow : (k : ℕ) (es : List Event) → FitAll mode es → CanFollow mode (filter chooses (in_time k (ordered mode es)))
   unfolding in_time
   in_time-follow k es fit = record {
-    fits = chosen-fit (in_time k (ordered mode es)) (in_time-all (λ (e : Event). KindFits mode e.kind) k (ordered mode es) (All-filter (λ e. is_ordered mode e) (λ (e : Event). KindFits mode e.kind) es fit));
+    fits = chosen-fit (in_time k (ordered mode es)) (in_time-all (λ (e : Event). KindFits mode e.kind) k
+        (ordered mode es) (All-filter (λ e. is_ordered mode e) (λ (e : Event). KindFits mode e.kind) es fit));
     rising = chosen-rise 0 (in_time k (ordered mode es)) (Rises-put_all [] (not_overtaken k (ordered mode es)) tt);
   }
 

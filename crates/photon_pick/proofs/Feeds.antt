@@ -1,17 +1,18 @@
 -- What a piece writes of the photons of a group.
 use Rattle.std.{proofs.Common.{◌≡◌, ◌∙◌, ℕ, List, [], ◌++◌, Bool, None, Some, Ok, Err, refl, ap, inl, inr, ⊎_elim, Result, OnOk, arith, rules}, specs.List.filter, specs.declared.option.Option.Option, specs.Io.KnownBytes.Appends}
 use Rattle.tally_base.{specs.declared.event.Event.Event, specs.declared.fault.Fault.Fault, specs.declared.fault.Fault.TheVariants.WriteFault, specs.FaultCounts.Rose}
-use Rattle.bench_io.{specs.Sinks.AppendsShort, proofs.Bytes.{Appends-flushed, AppendsShort-flushed, AppendsShort-more, AppendsShort-kept, Keeps-from_none}}
+use Rattle.bench_io.{specs.Sinks.AppendsShort}
 use Rattle.ptu_definitions.{specs.Kept.Marked, specs.Settled.not_marked, specs.Streams.{Reading, record_refusal, given}}
 use Rattle.record_stream.{specs.declared.taker.EventTaker.Ghosts, specs.Feeding.{GaveOn, BrokeOn, Fed}}
-use Rattle.photon_pick.{specs.Taking.{Stand, Took, Refused, RefusedLate, RefusedCut}, specs.Texts.{photons_in, text_in, refusal_in, answer_by, HasPickedIn}, proofs.Parts.{AppendsShort-none, chosen-more, took-clear, took-bytes, took-put, took-picked, late-first, late-bytes, late-put, cut-bytes, cut-short}}
+use Rattle.photon_pick.{specs.Giving.{Stand, Took, Refused}, specs.Texts.{photons_in, text_in, refusal_in, answer_by, HasPickedIn}, proofs.Parts.{chosen-more, took-clear, took-picked, took-wrote, took-cut, refused-wrote, refused-cut}}
 use Rattle.told_text.specs.Texts.{WroteText, CutText, WritesText}
 
 pub photons-more : (chooses : Event → Bool) (how : Reading) (words now : List ℕ) (more : Marked) → given how now ≡ given how words ++ more → photons_in chooses how now ≡ photons_in chooses how words ++ filter chooses (not_marked more)
 photons-more chooses how words now more adds = ap (λ l. filter chooses (not_marked l)) adds ∙ chosen-more chooses (given how words) more
 
 module _ {T : Type 0} (g : Ghosts T) (a b : T) (at : T → Stand) (chooses : Event → Bool) (how : Reading) (same_choice : (at a).chooses ≡ chooses) (same_mode : (at a).mode ≡ how.mode) (empty : (at a).held ≡ []) (c : Option (List ℕ)) (faults : ℕ)
-    (none : g.got a a []) (gets : (l : Marked) → g.got a b l → Took (at a) (at b) l) (breaks : (l : Marked) → g.broke a b l → Refused (at a) (at b) l) (words now : List ℕ) (has : HasPickedIn chooses how (at a).picker words) where
+    (none : g.got a a []) (gets : (l : Marked) → g.got a b l → Took (at a) (at b) l) (breaks : (l : Marked) → g.broke a b l
+    → Refused (at a) (at b) l) (words now : List ℕ) (has : HasPickedIn chooses how (at a).picker words) where
   abbrev s : Stand
   s = at a
 
@@ -38,12 +39,7 @@ module _ {T : Type 0} (g : Ghosts T) (a b : T) (at : T → Stand) (chooses : Eve
   gave-are h = photons-more chooses how words now h.more h.adds
 
   gave-wrote : (h : GaveOn g how a b words now) → Appends t.written c t.held → faults ≡ t.sink → WroteText (text words) (text now) s.written c s.sink faults
-  gave-wrote h flushed still = record {
-    more = _;
-    adds = took-bytes s t chooses how.mode same_choice same_mode empty before total has.in_time has.picked h.more (gave h) (gave-are h);
-    written = Appends-flushed s.written t.written c _ t.held (took-put s t chooses how.mode same_choice same_mode empty before total has.in_time has.picked h.more (gave h) (gave-are h)) flushed;
-    kept = still ∙ (gave h).kept_sink;
-  }
+  gave-wrote h flushed still = search (rules, arith, took-wrote, s, t, before, total, gave, gave-are)
 
   gave-clear : (h : GaveOn g how a b words now) (answer : Option Fault) → record_refusal how now ≡ answer → refuses now ≡ answer
   gave-clear h answer is = rw (took-clear s t chooses how.mode same_choice same_mode empty before total has.in_time has.picked h.more (gave h) (gave-are h)) is
@@ -55,14 +51,7 @@ module _ {T : Type 0} (g : Ghosts T) (a b : T) (at : T → Stand) (chooses : Eve
   }
 
   gave-cut : (h : GaveOn g how a b words now) → AppendsShort t.written c t.held → Rose t.sink faults → CutText (text words) (text now) s.written c s.sink faults
-  gave-cut h short rose =
-      let still = (gave h).kept_sink in
-      record {
-        more = _;
-        adds = took-bytes s t chooses how.mode same_choice same_mode empty before total has.in_time has.picked h.more (gave h) (gave-are h);
-        cut = AppendsShort-flushed s.written t.written c _ t.held (took-put s t chooses how.mode same_choice same_mode empty before total has.in_time has.picked h.more (gave h) (gave-are h)) short;
-        rose = rw still at rose;
-      }
+  gave-cut h short rose = search (rules, arith, took-cut, s, t, before, total, gave, gave-are)
 
   -- a photon of the group was refused
   broke : (h : BrokeOn g how a b words now) → Refused s t h.front
@@ -73,7 +62,8 @@ module _ {T : Type 0} (g : Ghosts T) (a b : T) (at : T → Stand) (chooses : Eve
 
   -- What a piece wrote, where the block was flushed.
   pub feeds-on : (r : Result (Unit {0}) Fault) → s.fault ≡ None → Appends t.written c t.held → faults ≡ t.sink → Fed g how a b words now r
-      → WritesText (text words) (text now) (refuses now) s.written c s.sink faults (answer_by t.fault r) × OnOk (answer_by t.fault r) (HasPickedIn chooses how t.picker now)
+      → WritesText (text words) (text now) (refuses now) s.written c s.sink faults
+      (answer_by t.fault r) × OnOk (answer_by t.fault r) (HasPickedIn chooses how t.picker now)
   feeds-on (Ok done) free flushed still fed = search (rules, arith, gave, gave-clear, gave-wrote, gave-stands)
   feeds-on (Err fault) free flushed still fed =
       ⊎_elim
@@ -81,36 +71,10 @@ module _ {T : Type 0} (g : Ghosts T) (a b : T) (at : T → Stand) (chooses : Eve
       let kept : t.fault ≡ None = (gave r.1).same_fault ∙ free in
       rw kept (inl (gave-clear r.1 (Some fault) r.0, gave-wrote r.1 flushed still), tt))
       (λ (r : (fault ≡ WriteFault) × BrokeOn g how a b words now).
-      ⊎_elim
-      (λ (late : RefusedLate s t (broke r.1).front (broke r.1).e).
-      rw (late.fault) (
-        inl (
-          rw (late-first s t chooses how.mode same_choice same_mode empty before total has.in_time has.picked r.1.front r.1.back (broke r.1) (broke-are r.1) late) refl,
-          record {
-            more = _;
-            adds = late-bytes s t chooses how.mode same_choice same_mode empty before total has.in_time has.picked r.1.front r.1.back (broke r.1) (broke-are r.1) late;
-            written = Appends-flushed s.written t.written c _ t.held (late-put s t chooses how.mode same_choice same_mode empty before total has.in_time has.picked r.1.front r.1.back (broke r.1) (broke-are r.1) late) flushed;
-            kept = still ∙ late.kept;
-          },
-        ),
-        tt,
-      ))
-      (λ (cut : RefusedCut s t (broke r.1).front (broke r.1).e).
-      let it = cut-bytes s t chooses how.mode same_choice same_mode empty before total has.in_time has.picked r.1.front r.1.back (broke r.1) (broke-are r.1) cut in
-      let short = cut-short s t chooses how.mode same_choice same_mode empty before total has.in_time has.picked r.1.front r.1.back (broke r.1) (broke-are r.1) cut in
-      rw (cut.fault) (
-        inr (
-          refl,
-          record {
-            more = _;
-            adds = it.1;
-            cut = AppendsShort-more s.written c _ it.0 (AppendsShort-kept s.written t.written c _ short.0 (Keeps-from_none t.written c (rw short.1 at flushed)));
-            rose = rw still cut.rose;
-          },
-        ),
-        tt,
-      ))
-      (broke r.1).why)
+      let it =
+      refused-wrote s t chooses how.mode same_choice same_mode empty before total has.in_time has.picked r.1.front r.1.back (broke r.1) (broke-are r.1) c faults
+      (record_refusal how now) flushed still in
+      rw it.1 (it.2, tt))
       fed
 
   -- What it wrote where the flush failed.
@@ -120,20 +84,9 @@ module _ {T : Type 0} (g : Ghosts T) (a b : T) (at : T → Stand) (chooses : Eve
       ⊎_elim
       (λ (r : (record_refusal how now ≡ Some fault) × GaveOn g how a b words now). inr (refl, gave-cut r.1 short rose))
       (λ (r : (fault ≡ WriteFault) × BrokeOn g how a b words now).
-      ⊎_elim
-      (λ (late : RefusedLate s t (broke r.1).front (broke r.1).e).
-      let still = late.kept in
       inr (
         refl,
-        record {
-          more = _;
-          adds = late-bytes s t chooses how.mode same_choice same_mode empty before total has.in_time has.picked r.1.front r.1.back (broke r.1) (broke-are r.1) late;
-          cut = AppendsShort-flushed s.written t.written c _ t.held (late-put s t chooses how.mode same_choice same_mode empty before total has.in_time has.picked r.1.front r.1.back (broke r.1) (broke-are r.1) late) short;
-          rose = rw still at rose;
-        },
+        refused-cut s t chooses how.mode same_choice same_mode empty before total has.in_time has.picked r.1.front r.1.back (broke r.1)
+            (broke-are r.1) c faults short rose,
       ))
-      (λ (cut : RefusedCut s t (broke r.1).front (broke r.1).e).
-      let gone = cut-short s t chooses how.mode same_choice same_mode empty before total has.in_time has.picked r.1.front r.1.back (broke r.1) (broke-are r.1) cut in
-      absurd (AppendsShort-none t.written c (rw (gone.1) at short)))
-      (broke r.1).why)
       fed

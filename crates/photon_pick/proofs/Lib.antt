@@ -1,9 +1,7 @@
 pub mod Rows
 pub mod BlockTakes
-pub mod Wanted
 pub mod Parts
 pub mod Feeds
 pub mod Ends
-pub mod Streams
 pub mod Stays
 pub mod CanBeWritten

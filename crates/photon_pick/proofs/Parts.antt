@@ -1,11 +1,12 @@
 -- What was put of photons behind others, and what is left of them.
-use Rattle.std.{proofs.Common.{◌≡◌, ◌∙◌, ℕ, List, [], ◌∷◌, ◌++◌, Bool, true, false, Some, cond, refl, sym, ap, subst, append_assoc, append-nil, arith, length, length-append, rules}, specs.List.filter, specs.declared.option.Option.Option, proofs.lemmas.List.Elements.filter-append}
-use Rattle.tally_base.{specs.declared.event.Event.Event, specs.declared.header.Mode.Mode}
-use Rattle.bench_io.specs.Sinks.{AppendsShort, PassesOn}
+use Rattle.std.{proofs.Common.{◌≡◌, ◌∙◌, ℕ, List, [], ◌∷◌, ◌++◌, Bool, true, false, Some, cond, refl, sym, ap, subst, append_assoc, append-nil, arith, length, length-append, rules, inl, inr, ⊎_elim, Err}, specs.List.filter, specs.declared.option.Option.Option, proofs.lemmas.List.Elements.filter-append, specs.Io.KnownBytes.Appends}
+use Rattle.tally_base.{specs.declared.event.Event.Event, specs.declared.header.Mode.Mode, specs.declared.fault.Fault.Fault, specs.declared.fault.Fault.TheVariants.{PickTime, WriteFault}, specs.FaultCounts.Rose}
+use Rattle.bench_io.{specs.Sinks.{AppendsShort, PassesOn}, proofs.Bytes.{Appends-flushed, AppendsShort-flushed, AppendsShort-more, AppendsShort-kept, Keeps-from_none}}
 use Rattle.ptu_definitions.{specs.Kept.Marked, specs.Prefixes.{each_after, first}, specs.Settled.not_marked, proofs.DeliveredLaws.not_marked-append, proofs.PrefixLemmas.each_after-append}
-use Rattle.short_file.{specs.ShortFiles.bytes_in, proofs.WordBytes.bytes_in-append}
+use Rattle.short_file.{specs.ShortFiles.bytes_in, proofs.ShortHeaders.bytes_in-append}
 use Rattle.record_write.{specs.Picked.{is_too_late, photon_words, picked_words}, specs.Picker.HasPicked}
-use Rattle.photon_pick.{specs.Late.{too_late, writable}, specs.Taking.{Stand, Took, Refused, RefusedLate, RefusedCut, PutsPhotons}}
+use Rattle.photon_pick.{specs.Late.{too_late, writable}, specs.Giving.{Stand, Took, Refused, RefusedLate, RefusedCut, PutsPhotons}, specs.Texts.late_or}
+use Rattle.told_text.specs.Texts.{WroteText, CutText, WritesText}
 
 -- ## Photons that are too late
 
@@ -25,7 +26,8 @@ writable-all mode ps none = ap (writable mode) (sym (append-nil ps)) ∙ writabl
 too_late-both : (mode : Mode) (ps qs : List Event) → too_late mode ps ≡ [] → too_late mode qs ≡ [] → too_late mode (ps ++ qs) ≡ []
 too_late-both mode ps qs p q = filter-append (λ e. is_too_late mode e.time) ps qs ∙ rw (p, q) refl
 
-first-late : (mode : Mode) (ps back : List Event) (e : Event) → too_late mode ps ≡ [] → is_too_late mode e.time ≡ true → first (too_late mode (ps ++ e ∷ back)) ≡ Some e
+first-late : (mode : Mode) (ps back : List Event) (e : Event) → too_late mode ps ≡ []
+    → is_too_late mode e.time ≡ true → first (too_late mode (ps ++ e ∷ back)) ≡ Some e
 first-late mode ps back e p late = ap first (filter-append (λ x. is_too_late mode x.time) ps (e ∷ back)) ∙ rw (p, late) refl
 
 writable-late : (mode : Mode) (ps back : List Event) (e : Event) → too_late mode ps ≡ [] → is_too_late mode e.time ≡ true → writable mode (ps ++ e ∷ back) ≡ ps
@@ -44,7 +46,8 @@ move-cut m n a b held behind photons same none h = search (rules, arith)
 -- ## Texts
 
 -- the words of photons behind others
-pub words-more : (mode : Mode) (ps qs : List Event) → bytes_in (picked_words mode (ps ++ qs)) ≡ bytes_in (picked_words mode ps) ++ bytes_in (each_after (photon_words mode) ps qs)
+pub words-more : (mode : Mode) (ps qs : List Event)
+    → bytes_in (picked_words mode (ps ++ qs)) ≡ bytes_in (picked_words mode ps) ++ bytes_in (each_after (photon_words mode) ps qs)
 unfolding picked_words
 words-more mode ps qs = search (rules, arith, each_after-append, bytes_in-append)
 
@@ -52,7 +55,8 @@ pub AppendsShort-none : (a b : Option (List ℕ)) → AppendsShort a b [] → �
 AppendsShort-none a b q = let e : length {A = ℕ} [] ≡ length (q.0 ++ q.1) = ap length q.3 in let some = q.2 in omega (arith, e, some, length-append q.0 q.1)
 
 -- the photons that are chosen of more events
-pub chosen-more : (chooses : Event → Bool) (l m : Marked) → filter chooses (not_marked (l ++ m)) ≡ filter chooses (not_marked l) ++ filter chooses (not_marked m)
+pub chosen-more : (chooses : Event → Bool) (l m : Marked)
+    → filter chooses (not_marked (l ++ m)) ≡ filter chooses (not_marked l) ++ filter chooses (not_marked m)
 chosen-more chooses l m = ap (filter chooses) (not_marked-append l m) ∙ filter-append chooses (not_marked l) (not_marked m)
 
 -- the bytes of the words of photons, up to the first that is too late
@@ -64,11 +68,13 @@ module _ (s t : Stand) (chooses : Event → Bool) (mode : Mode) (same_choice : s
   bytes-before = ap (λ ps. bytes_in (picked_words mode ps)) (writable-all mode before clear)
 
   -- the bytes where these photons come behind those before
-  bytes-now : (qs : List Event) → writable mode total ≡ before ++ qs → bytes_of mode total ≡ bytes_of mode before ++ bytes_in (each_after (photon_words mode) before qs)
+  bytes-now : (qs : List Event) → writable mode total ≡ before ++ qs
+      → bytes_of mode total ≡ bytes_of mode before ++ bytes_in (each_after (photon_words mode) before qs)
   bytes-now qs is = search (rules, arith, words-more, bytes-before)
 
   -- what was put, from a block that held nothing
-  put-in : (qs : List Event) → ((behind : List Event) → HasPicked s.picker behind → PutsPhotons s t behind qs) → PassesOn s.written t.written (bytes_in (each_after (photon_words mode) before qs)) t.held
+  put-in : (qs : List Event) → ((behind : List Event) → HasPicked s.picker behind → PutsPhotons s t behind qs)
+      → PassesOn s.written t.written (bytes_in (each_after (photon_words mode) before qs)) t.held
   put-in qs puts = rw (same_mode, empty) at (puts before picked)
 
   chosen-is : (l : Marked) → filter s.chooses (not_marked l) ≡ filter chooses (not_marked l)
@@ -79,11 +85,27 @@ module _ (s t : Stand) (chooses : Event → Bool) (mode : Mode) (same_choice : s
     pub took-clear : too_late mode total ≡ []
     took-clear = search (rules, arith, too_late-both)
 
-    pub took-bytes : bytes_of mode total ≡ bytes_of mode before ++ bytes_in (each_after (photon_words mode) before (filter chooses (not_marked more)))
+    took-bytes : bytes_of mode total ≡ bytes_of mode before ++ bytes_in (each_after (photon_words mode) before (filter chooses (not_marked more)))
     took-bytes = bytes-now (filter chooses (not_marked more)) (writable-all mode total took-clear ∙ are)
 
-    pub took-put : PassesOn s.written t.written (bytes_in (each_after (photon_words mode) before (filter chooses (not_marked more)))) t.held
+    took-put : PassesOn s.written t.written (bytes_in (each_after (photon_words mode) before (filter chooses (not_marked more)))) t.held
     took-put = rw (chosen-is more) at (put-in (filter s.chooses (not_marked more)) took.text)
+
+    -- what is written of them, where the block was flushed, and where that failed
+    pub took-wrote : (c : Option (List ℕ)) (faults : ℕ) → Appends t.written c t.held
+        → faults ≡ t.sink → WroteText (bytes_of mode before) (bytes_of mode total) s.written c s.sink faults
+    took-wrote c faults flushed still =
+        record { more = _; adds = took-bytes; written = Appends-flushed s.written t.written c _ t.held took-put flushed; kept = still ∙ took.kept_sink }
+
+    pub took-cut : (c : Option (List ℕ)) (faults : ℕ) → AppendsShort t.written c t.held
+        → Rose t.sink faults → CutText (bytes_of mode before) (bytes_of mode total) s.written c s.sink faults
+    took-cut c faults short rose =
+        record {
+          more = _;
+          adds = took-bytes;
+          cut = AppendsShort-flushed s.written t.written c _ t.held took-put short;
+          rose = subst (λ n. Rose n faults) took.kept_sink rose;
+        }
 
     pub took-picked : HasPicked t.picker total
     took-picked = let it = took.picked before picked in rw (are, ← chosen-is more) it
@@ -94,7 +116,8 @@ module _ (s t : Stand) (chooses : Event → Bool) (mode : Mode) (same_choice : s
     refused-are =
         let front : filter chooses (not_marked first_ones) ≡ r.front ++ r.e ∷ [] = sym (chosen-is first_ones) ∙ r.photons in
         are
-        ∙ ap (λ l. before ++ l) (chosen-more chooses first_ones back ∙ ap (λ l. l ++ filter chooses (not_marked back)) front ∙ append_assoc r.front (r.e ∷ []) (filter chooses (not_marked back)))
+        ∙ ap (λ l. before ++ l) (chosen-more chooses first_ones back ∙ ap (λ l. l ++ filter chooses (not_marked back)) front
+        ∙ append_assoc r.front (r.e ∷ []) (filter chooses (not_marked back)))
         ∙ sym (append_assoc before r.front (r.e ∷ filter chooses (not_marked back)))
 
     refused-clear : too_late mode (before ++ r.front) ≡ []
@@ -102,31 +125,76 @@ module _ (s t : Stand) (chooses : Event → Bool) (mode : Mode) (same_choice : s
 
     -- it was too late
     module _ (late : RefusedLate s t r.front r.e) where
-      pub late-first : first (too_late mode total) ≡ Some r.e
+      late-first : first (too_late mode total) ≡ Some r.e
       late-first = search (rules, arith, refused-are, first-late, refused-clear, move-time)
 
-      pub late-bytes : bytes_of mode total ≡ bytes_of mode before ++ bytes_in (each_after (photon_words mode) before r.front)
+      late-bytes : bytes_of mode total ≡ bytes_of mode before ++ bytes_in (each_after (photon_words mode) before r.front)
       late-bytes = search (rules, arith, bytes-now, refused-are, writable-late, refused-clear, move-time)
 
-      pub late-put : PassesOn s.written t.written (bytes_in (each_after (photon_words mode) before r.front)) t.held
+      late-put : PassesOn s.written t.written (bytes_in (each_after (photon_words mode) before r.front)) t.held
       late-put = put-in r.front late.text
 
     -- a write failed at it
     module _ (cut : RefusedCut s t r.front r.e) where
-      pub cut-bytes : (tail : List ℕ) × (bytes_of mode total ≡ bytes_of mode before ++ (bytes_in (each_after (photon_words mode) before (r.front ++ r.e ∷ [])) ++ tail))
+      cut-bytes : (tail : List ℕ)
+          × (bytes_of mode total ≡ bytes_of mode before ++ (bytes_in (each_after (photon_words mode) before (r.front ++ r.e ∷ [])) ++ tail))
       cut-bytes =
           let f = r.front in
           let e = r.e in
           let last = filter chooses (not_marked back) in
           let soon : too_late mode (e ∷ []) ≡ [] = rw (move-time s.mode mode e.time false same_mode cut.soon) refl in
           let more = writable mode last in
-          let parts : total ≡ (before ++ (f ++ e ∷ [])) ++ last = refused-are ∙ append_assoc before f (e ∷ last) ∙ ap (λ l. before ++ l) (sym (append_assoc f (e ∷ []) last)) ∙ sym (append_assoc before (f ++ e ∷ []) last) in
-          let all : too_late mode (before ++ (f ++ e ∷ [])) ≡ [] = ap (too_late mode) (sym (append_assoc before f (e ∷ []))) ∙ too_late-both mode (before ++ f) (e ∷ []) refused-clear soon in
-          let is : writable mode total ≡ before ++ ((f ++ e ∷ []) ++ more) = ap (writable mode) parts ∙ writable-clear mode (before ++ (f ++ e ∷ [])) last all ∙ append_assoc before (f ++ e ∷ []) more in (
+          let parts : total ≡ (before ++ (f ++ e ∷ [])) ++ last = refused-are ∙ append_assoc before f (e ∷ last)
+          ∙ ap (λ l. before ++ l) (sym (append_assoc f (e ∷ []) last)) ∙ sym (append_assoc before (f ++ e ∷ []) last) in
+          let all : too_late mode (before ++ (f ++ e ∷ [])) ≡ [] =
+          ap (too_late mode) (sym (append_assoc before f (e ∷ []))) ∙ too_late-both mode (before ++ f) (e ∷ []) refused-clear soon in
+          let is : writable mode total ≡ before ++ ((f ++ e ∷ []) ++ more) =
+          ap (writable mode) parts ∙ writable-clear mode (before ++ (f ++ e ∷ [])) last all ∙ append_assoc before (f ++ e ∷ []) more in (
             bytes_in (each_after (photon_words mode) (before ++ (f ++ e ∷ [])) more),
             bytes-now ((f ++ e ∷ []) ++ more) is
                 ∙ ap (λ l. bytes_of mode before ++ l) (ap bytes_in (each_after-append (photon_words mode) before (f ++ e ∷ []) more) ∙ bytes_in-append (each_after (photon_words mode) before (f ++ e ∷ [])) (each_after (photon_words mode) (before ++ (f ++ e ∷ [])) more)),
           )
 
-      pub cut-short : AppendsShort s.written t.written (bytes_in (each_after (photon_words mode) before (r.front ++ r.e ∷ []))) × (t.held ≡ [])
+      cut-short : AppendsShort s.written t.written (bytes_in (each_after (photon_words mode) before (r.front ++ r.e ∷ []))) × (t.held ≡ [])
       cut-short = search (rules, arith, move-cut)
+
+    -- what is written of them, where the block was flushed, and where that failed
+    pub refused-wrote : (c : Option (List ℕ)) (faults : ℕ) (other : Option Fault) → Appends t.written c t.held → faults ≡ t.sink
+        → (fault : Fault) × (t.fault ≡ Some fault) × WritesText {X = Unit {0}} (bytes_of mode before) (bytes_of mode total)
+        (late_or (first (too_late mode total)) other) s.written c s.sink faults (Err fault)
+    refused-wrote c faults other flushed still =
+        ⊎_elim
+        (λ (late : RefusedLate s t r.front r.e). (
+          PickTime r.e.place,
+          late.fault,
+          inl (
+            rw (late-first late) refl,
+            record {
+              more = _;
+              adds = late-bytes late;
+              written = Appends-flushed s.written t.written c _ t.held (late-put late) flushed;
+              kept = still ∙ late.kept;
+            },
+          ),
+        ))
+        (λ (cut : RefusedCut s t r.front r.e).
+        let it = cut-bytes cut in
+        let gone = cut-short cut in
+        let short =
+        AppendsShort-more s.written c _ it.0 (AppendsShort-kept s.written t.written c _ gone.0 (Keeps-from_none t.written c (rw gone.1 at flushed))) in
+        (WriteFault, cut.fault, inr (refl, record { more = _; adds = it.1; cut = short; rose = subst (λ n. Rose s.sink n) (sym still) cut.rose })))
+        r.why
+
+    pub refused-cut : (c : Option (List ℕ)) (faults : ℕ) → AppendsShort t.written c t.held
+        → Rose t.sink faults → CutText (bytes_of mode before) (bytes_of mode total) s.written c s.sink faults
+    refused-cut c faults short rose =
+        ⊎_elim
+        (λ (late : RefusedLate s t r.front r.e).
+        record {
+          more = _;
+          adds = late-bytes late;
+          cut = AppendsShort-flushed s.written t.written c _ t.held (late-put late) short;
+          rose = subst (λ n. Rose n faults) late.kept rose;
+        })
+        (λ (cut : RefusedCut s t r.front r.e). let gone = cut-short cut in absurd (AppendsShort-none t.written c (rw (gone.1) at short)))
+        r.why

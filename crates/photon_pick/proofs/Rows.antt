@@ -9,16 +9,6 @@ use Rattle.photon_pick.{specs.Chosen.is_chosen, specs.Ends.{end_text, end_fault}
 abbrev photon : ℕ → ℕ → Event
 photon place time = record { place = place; kind = Photon 1 0; time = time }
 
--- The first that is too late ends what is written, and is named, also where a photon behind it could be written.
-pub row-writable : writable T2 (photon 4 7 ∷ photon 9 (2 ^ 62 + 2 ^ 25) ∷ photon 11 (2 ^ 62) ∷ []) ≡ photon 4 7 ∷ []
-row-writable = refl
-
-pub row-late : late_or (first (too_late T2 (photon 4 7 ∷ photon 9 (2 ^ 62 + 2 ^ 25) ∷ photon 11 (2 ^ 62 + 2 ^ 26) ∷ []))) (Some (TruncatedRecord 1)) ≡ Some (PickTime 9)
-row-late = refl
-
-pub row-none : late_or (first (too_late T3 (photon 4 7 ∷ photon 9 (2 ^ 62 + 1023) ∷ []))) None ≡ None
-row-none = refl
-
 abbrev lenient : RecordType → Reading
 lenient record_type = reading record_type (record { order = Drop; reserved = Skip; records = 100; settle = 0 })
 
@@ -29,22 +19,20 @@ group_of inputs = is_chosen (record { period = 1; shifts = []; groups = record {
 abbrev of_words : List ℕ → List ℕ
 of_words words = bytes_in words
 
--- Of a T3 file the photons of input 0 keep their dtimes.
-pub row-T3 : end_text (group_of 1) (lenient HydraHarp2T3) (of_words (0xFE000003 ∷ 0x00019005 ∷ 0x02000006 ∷ 0xFE000001 ∷ 0x00000007 ∷ [])) ≡ of_words (0xFE000003 ∷ 0x00019005 ∷ 0xFE000001 ∷ 0x00000007 ∷ [])
-unfolding picked_words streamed refusals refusal events kept marked hydra_t3
-row-T3 = refl
-
--- A wrap of an older device is another number of units here.
-pub row-pico : end_text (group_of 2) (lenient PicoHarpT2) (of_words (0xF0000000 ∷ 0x10000001 ∷ [])) ≡ of_words (0xFE000006 ∷ 0x008F0001 ∷ [])
-unfolding picked_words streamed refusals refusal events kept marked pico_t2
-row-pico = refl
-
--- A photon of another input is left out.
-pub row-sync : end_text (group_of 1) (lenient HydraHarp2T2) (of_words (0x80000007 ∷ 0x00000009 ∷ [])) ≡ of_words (0x80000007 ∷ [])
-unfolding picked_words streamed refusals refusal events kept marked hydra_t2
-row-sync = refl
-
--- Bytes that are left over are refused, and the photons before them written.
-pub row-cut : end_fault (group_of 1) (lenient HydraHarp2T2) (of_words (0x80000007 ∷ []) ++ 5 ∷ []) ≡ Some (TruncatedRecord 1)
-unfolding given delivered streamed refusals refusal events kept marked hydra_t2
-row-cut = refl
+pub rows :
+    -- The first that is too late ends what is written, and is named, also where a photon behind it could be written.
+    (writable T2 (photon 4 7 ∷ photon 9 (2 ^ 62 + 2 ^ 25) ∷ photon 11 (2 ^ 62) ∷ []) ≡ photon 4 7 ∷ [])
+    × (late_or (first (too_late T2 (photon 4 7 ∷ photon 9 (2 ^ 62 + 2 ^ 25) ∷ photon 11 (2 ^ 62 + 2 ^ 26) ∷ []))) (Some (TruncatedRecord 1))
+    ≡ Some (PickTime 9))
+    × (late_or (first (too_late T3 (photon 4 7 ∷ photon 9 (2 ^ 62 + 1023) ∷ []))) None ≡ None)
+    -- Of a T3 file the photons of input 0 keep their dtimes.
+    × (end_text (group_of 1) (lenient HydraHarp2T3) (of_words (0xFE000003 ∷ 0x00019005 ∷ 0x02000006 ∷ 0xFE000001 ∷ 0x00000007 ∷ []))
+    ≡ of_words (0xFE000003 ∷ 0x00019005 ∷ 0xFE000001 ∷ 0x00000007 ∷ []))
+    -- A wrap of an older device is another number of units here.
+    × (end_text (group_of 2) (lenient PicoHarpT2) (of_words (0xF0000000 ∷ 0x10000001 ∷ [])) ≡ of_words (0xFE000006 ∷ 0x008F0001 ∷ []))
+    -- A photon of another input is left out.
+    × (end_text (group_of 1) (lenient HydraHarp2T2) (of_words (0x80000007 ∷ 0x00000009 ∷ [])) ≡ of_words (0x80000007 ∷ []))
+    -- Bytes that are left over are refused, and the photons before them written.
+    × (end_fault (group_of 1) (lenient HydraHarp2T2) (of_words (0x80000007 ∷ []) ++ 5 ∷ []) ≡ Some (TruncatedRecord 1))
+unfolding picked_words streamed refusals refusal events kept marked hydra_t3 pico_t2 hydra_t2 given delivered
+rows = (refl, refl, refl, refl, refl, refl, refl)

@@ -1,5 +1,5 @@
 -- Which photons are too late to be written.
-use Rattle.std.{specs.Prelude.{List, [], ◌∷◌, if◌then◌else◌}, specs.List.filter}
+use Rattle.std.{specs.Prelude.{List, [], ◌∷◌, if◌then◌else◌, ◌≡◌, true, ◌++◌}, specs.List.filter}
 use Rattle.tally_base.{specs.declared.event.Event.Event, specs.declared.header.Mode.Mode}
 use Rattle.record_write.specs.Picked.{is_too_late}
 
@@ -11,3 +11,12 @@ too_late mode photons = filter (λ e. is_too_late mode e.time) photons
 abbrev pub writable : Mode → List Event → List Event
 writable mode [] = []
 writable mode (e ∷ es) = if is_too_late mode e.time then [] else e ∷ writable mode es
+
+-- The photons before the first that is too late to be written.
+
+-- They are the first of these photons, none of them is too late, and behind them is nothing, or first one that is.
+pub record AreBeforeLate (mode : Mode) (front photons : List Event) : Type 0 where
+  pub behind : List Event
+  pub parts : photons ≡ front ++ behind
+  pub in_time : too_late mode front ≡ []
+  pub next : (e : Event) (more : List Event) → behind ≡ e ∷ more → is_too_late mode e.time ≡ true

@@ -2,7 +2,7 @@
 ghost use Rattle.std.specs.Prelude.{◌≡◌, ◌<◌, ◌≤◌, ◌&&◌, ℕ, false, filter, slice_index};
 ghost use Rattle.tally_base.specs.Columns.{count, gathered};
 ghost use Rattle.gate_plan.{specs.Groups.sorting_of, specs.Parting.gated_bits, specs.Taking.groups_in};
-ghost use Rattle.photon_pick.{specs.Chosen.is_chosen, specs.Places.events_at};
+ghost use Rattle.photon_pick.{specs.Chosen.is_chosen, specs.Giving.events_at};
 
 use gate_plan::Gates;
 use tally_base::{BLOCK_SIZE, Block, Event, EventKind, is_in};

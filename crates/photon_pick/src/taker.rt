@@ -47,7 +47,7 @@ pub(crate) struct Picks<'g, 'p, 'o, O: Sink> {
 
 impl<'g, 'p, 'o, O: Sink> EventTaker for Picks<'g, 'p, 'o, O> {
     ghost use Rattle.std.{specs.Prelude.{refl}, proofs.Common.{◌∙◌}};
-    ghost use Rattle.photon_pick.specs.Taking.{Took, Refused, took_none, stand};
+    ghost use Rattle.photon_pick.specs.Giving.{Took, Refused, took_none, stand};
 
     ghost got = { λ s t l. Took (stand (is_chosen (sorting_of s.gates.now) s.group) s.picker.now s.mode s.taken s.floor
         (O.faults s.out.now) (O.written s.out.now) s.block s.fault)

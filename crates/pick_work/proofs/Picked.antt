@@ -4,12 +4,12 @@ use Rattle.tally_base.{specs.declared.event.Event.Event, specs.declared.fault.Fa
 use Rattle.told_text.specs.Texts.{WroteText, CutText, WritesText}
 use Rattle.ptu_definitions.specs.Streams.{Reading}
 use Rattle.plan_text.{specs.Plan.PlanView, specs.Fits.fits}
-use Rattle.gate_plan.{specs.Shifting.{Sorting, sorting}, specs.Plans.reading_by}
+use Rattle.gate_plan.{specs.Shifting.{Sorting, sorting}, specs.Histories.reading_by}
 use Rattle.short_file.specs.ShortFiles.{short_header}
 use Rattle.record_write.{specs.declared.picker.Picker.Picker, specs.Picker.HasPicked}
 use Rattle.photon_pick.{specs.Chosen.is_chosen, proofs.Stays.{text-none, has-none, unrefused}}
-use Rattle.command_work.{proofs.Streams.refused-none}
-use Rattle.pick_work.{specs.PickPieces.{picks, picks_by}}
+use Rattle.command_work.proofs.RestEnds.{refused-none}
+use Rattle.pick_work.specs.PickOutcomes.{picks, picks_by}
 
 module _ (head shown grown : List ℕ) (refused : Option Fault) (old new : Option (List ℕ)) (before after : ℕ) where
   adds : (more : List ℕ) → grown ≡ shown ++ more → head ++ grown ≡ (head ++ shown) ++ more
@@ -21,7 +21,8 @@ module _ (head shown grown : List ℕ) (refused : Option Fault) (old new : Optio
   cut : CutText shown grown old new before after → CutText (head ++ shown) (head ++ grown) old new before after
   cut h = record { more = h.more; adds = adds h.more h.adds; cut = h.cut; rose = h.rose }
 
-  pub writes-headed : (r : Result (Unit {0}) Fault) → WritesText shown grown refused old new before after r → WritesText (head ++ shown) (head ++ grown) refused old new before after r
+  pub writes-headed : (r : Result (Unit {0}) Fault) → WritesText shown grown refused old new before after r
+      → WritesText (head ++ shown) (head ++ grown) refused old new before after r
   writes-headed (Ok done) h = (h.0, wrote h.1)
   writes-headed (Err fault) (inl h) = inl (h.0, wrote h.1)
   writes-headed (Err fault) (inr h) = inr (h.0, cut h.1)

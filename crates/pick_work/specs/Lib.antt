@@ -1,3 +1,2 @@
 pub mod PickOutcomes
-pub mod PickPieces
 pub mod PickLaws

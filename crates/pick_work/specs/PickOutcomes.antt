@@ -1,12 +1,14 @@
 -- What `pick` ends with over the bytes of a file.
 use Rattle.std.{specs.Prelude.{ℕ, ◌≡◌, ◌&&◌, nat_le, Bool, List, [], ◌++◌, length, None, Some, Result, Ok, Err, if◌then◌else◌}, specs.declared.option.Option.Option}
-use Rattle.tally_base.{specs.declared.event.Event.Event, specs.declared.fault.Fault.Fault, specs.declared.fault.Fault.TheVariants.NoGroup, specs.declared.header.Header.Header, specs.RecordTypes.mode_of}
+use Rattle.tally_base.{specs.declared.event.Event.Event, specs.declared.fault.Fault.Fault, specs.declared.fault.Fault.TheVariants.NoGroup, specs.declared.header.Header.Header, specs.RecordTypes.mode_of, specs.Faults.fault_in}
 use Rattle.ptu_definitions.{specs.Headers.header_answer, specs.Words.words_of, specs.Streams.Reading}
 use Rattle.plan_text.{specs.Plan.PlanView, specs.Fits.fits}
-use Rattle.gate_plan.{specs.Shifting.sorting, specs.Plans.reading_by}
+use Rattle.gate_plan.{specs.Shifting.sorting, specs.Histories.reading_by}
 use Rattle.short_file.specs.ShortFiles.{short_header}
-use Rattle.photon_pick.{specs.Chosen.is_chosen, specs.Texts.{text_in, refusal_in}, specs.Ends.{photons_kept, end_text, end_fault}, specs.Late.too_late}
-use Rattle.command_work.{specs.Outcomes.{Outcome, refused, MayChange}, specs.Behaviours.{Work, AreRead, IsHeaded}}
+use Rattle.photon_pick.{specs.Chosen.is_chosen, specs.Texts.{text_in, refusal_in, HasPickedIn}, specs.Ends.{photons_kept, end_text, end_fault}, specs.Late.too_late, specs.Pieces.IsNoFurther}
+use Rattle.command_work.{specs.Outcomes.{Outcome, refused, MayChange}, specs.Behaviours.{Work, AreRead, IsHeaded}, specs.Tellings.{Telling, unless_declined}}
+use Rattle.record_stream.{specs.declared.stream.RecordStream.RecordStream, specs.Standing.{how_of, refused_with, HasStreamed}}
+use Rattle.record_write.specs.declared.picker.Picker.{Picker}
 
 -- the fault of a plan without a group of this number
 abbrev pub no_group : ℕ → PlanView → Option Fault
@@ -71,3 +73,24 @@ picking group plan = record {
   goes_on = pick_goes_on group plan;
   good = IsHeaded (λ header behind. (fits (mode_of header.record_type) plan ≡ Ok (tt {0})) × AreRead (reading_by plan header) behind × AllInTime group plan header behind);
 }
+
+-- What is made of the bytes after a header, where the photons of a group are written.
+
+-- a file of the photons that are chosen
+abbrev pub picks : (Event → Bool) → Reading → Telling
+picks chooses how = record {
+  text = λ bytes. short_header how.mode ++ text_in chooses how (words_of bytes);
+  ends = λ bytes. record { text = short_header how.mode ++ end_text chooses how bytes; fault = end_fault chooses how bytes };
+  refuses = λ bytes. refusal_in chooses how (words_of bytes);
+}
+
+-- those of a plan's group, where the plan's parts suit the file
+abbrev pub picks_by : ℕ → PlanView → Header → Telling
+picks_by group plan header = unless_declined (fault_in (fits (mode_of header.record_type) plan)) (picks (chosen_by plan group) (reading_by plan header))
+
+-- The stream was given these bytes and refused none, and the picker has picked the photons that they give.
+pub record HasWritten (chooses : Event → Bool) (stream : RecordStream) (picker : Picker) (bytes : List ℕ) : Type 0 where
+  pub going : refused_with stream ≡ None
+  pub behind : IsNoFurther stream picker
+  pub streamed : HasStreamed stream bytes
+  pub picked : HasPickedIn chooses (how_of stream) picker (words_of bytes)

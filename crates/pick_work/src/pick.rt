@@ -1,6 +1,6 @@
 // The photons of a group of a plan, written while the data are read.
 ghost use Rattle.std.specs.Prelude.{◌≡◌, ◌<◌, ◌≤◌, None};
-ghost use Rattle.ptu_definitions.specs.Counted.{record_limit};
+ghost use Rattle.ptu_definitions.specs.Words.{record_limit};
 ghost use Rattle.plan_text.specs.Reading.{plan_view};
 ghost use Rattle.pick_work.specs.PickOutcomes.{no_group};
 
@@ -25,11 +25,11 @@ pub(crate) struct PickReader {
 
 impl Reader for PickReader {
     ghost use Rattle.std.specs.Prelude.{◌+◌, ◌*◌, ◌-◌};
-    ghost use Rattle.ptu_definitions.specs.Counted.{record_limit};
+    ghost use Rattle.ptu_definitions.specs.Words.{record_limit};
     ghost use Rattle.gate_plan.specs.Groups.{sorting_of};
     ghost use Rattle.record_stream.specs.Standing.{how_of, bytes_in};
     ghost use Rattle.photon_pick.specs.Chosen.{is_chosen};
-    ghost use Rattle.pick_work.{specs.PickPieces.{picks, HasWritten}, specs.PickLaws.{picks-law, written-clear}};
+    ghost use Rattle.pick_work.{specs.PickOutcomes.{picks, HasWritten}, specs.PickLaws.{picks-law, written-clear}};
 
     ghost tells = { λ r. picks (is_chosen (sorting_of r.gates) r.group) (how_of r.stream) };
 
@@ -69,7 +69,7 @@ pub(crate) struct PickJob<'p> {
 impl<'p> Job for PickJob<'p> {
     ghost use Rattle.plan_text.specs.Reading.{plan_view};
     ghost use Rattle.command_work.{specs.Behaviours.AsItReads, specs.Works.WantsNone};
-    ghost use Rattle.pick_work.{specs.PickOutcomes.{pick_so_far, picking}, specs.PickPieces.picks_by, specs.PickLaws.picking-suits};
+    ghost use Rattle.pick_work.{specs.PickOutcomes.{pick_so_far, picking, picks_by}, specs.PickLaws.picking-suits};
 
     type Reader = PickReader;
 

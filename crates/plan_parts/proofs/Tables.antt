@@ -2,7 +2,7 @@
 use Rattle.std.{proofs.Common.{◌≡◌, ◌≤◌, List, [], ◌∷◌, length, arith, sum_by}, proofs.lemmas.List.Sums.sum_by-cons}
 use Rattle.tally_base.{specs.Settings.{entries, is_strict}, specs.Tally.{History, greatest_time}}
 use Rattle.tau_cascade.proofs.Work.{work_within}
-use Rattle.plan_parts.{specs.declared.part.Part.Part, specs.declared.part.Part.TheVariants.Correlation as InCorrelation, specs.contracts.part.PartTally.TheImpl.ghosts, specs.Part.laws_of, specs.Parts.{settings_in, entries_in, IsWithinWork}}
+use Rattle.plan_parts.{specs.declared.part.Part.Part, specs.declared.part.Part.TheVariants.Correlation as InCorrelation, specs.contracts.part.PartTally.TheImpl.ghosts, specs.Parts.{laws_of, settings_in, entries_in, IsWithinWork}}
 
 pub part_taken : (p : Part) (h : History) → ghosts.holds p h → ghosts.taken p ≡ length h
 part_taken p = (laws_of p).taken_is
@@ -16,7 +16,8 @@ part_within p = (laws_of p).within
 -- The tables keep no more entries than their settings say.
 pub tables_within : (parts : List Part) → entries_in parts ≤ sum_by entries (settings_in parts)
 tables_within [] = omega arith
-tables_within (p ∷ parts) = omega (arith, part_within p, tables_within parts, sum_by-cons ghosts.held p parts, sum_by-cons entries (ghosts.settings p) (settings_in parts))
+tables_within (p ∷ parts) =
+    omega (arith, part_within p, tables_within parts, sum_by-cons ghosts.held p parts, sum_by-cons entries (ghosts.settings p) (settings_in parts))
 
 -- What a correlation spent on the events that it stands for is within their work.
 pub part_worked : (h : History) (p : Part) → ghosts.holds p h → IsWithinWork h p

@@ -30,9 +30,27 @@ pub enum Part {
     Fold(Fold),
 }
 
+/// Evaluates an expression of the table of whatever kind that a part is, as
+/// `in_part!(part, table => table.taken())`.
+#[macro_export]
+macro_rules! in_part {
+    ($part:expr, $table:ident => $value:expr) => {
+        match $part {
+            $crate::Part::Hist($table) => $value,
+            $crate::Part::Trace($table) => $value,
+            $crate::Part::StartStop($table) => $value,
+            $crate::Part::Coincidence($table) => $value,
+            $crate::Part::Image($table) => $value,
+            $crate::Part::Correlation($table) => $value,
+            $crate::Part::Cube($table) => $value,
+            $crate::Part::Fold($table) => $value,
+        }
+    };
+}
+
 impl Tally for Part {
     ghost use Rattle.std.specs.Prelude.{◌≡◌};
-    ghost use Rattle.plan_parts.specs.Part.{by_kind, laws_of};
+    ghost use Rattle.plan_parts.specs.Parts.{by_kind, laws_of};
 
     ghost holds = { by_kind (λ T g t. g.holds t) };
 
@@ -62,28 +80,10 @@ impl Tally for Part {
     /// The kind of the table is tested once.
     #[inline]
     fn events<L: Ledger>(&mut self, block: &Block, steps: &mut Steps<L>) {
-        match self {
-            Part::Hist(t) => t.events(block, steps),
-            Part::Trace(t) => t.events(block, steps),
-            Part::StartStop(t) => t.events(block, steps),
-            Part::Coincidence(t) => t.events(block, steps),
-            Part::Image(t) => t.events(block, steps),
-            Part::Correlation(t) => t.events(block, steps),
-            Part::Cube(t) => t.events(block, steps),
-            Part::Fold(t) => t.events(block, steps),
-        }
+        in_part!(self, table => table.events(block, steps))
     }
 
     fn close<L: Ledger>(&mut self, steps: &mut Steps<L>) {
-        match self {
-            Part::Hist(t) => t.close(steps),
-            Part::Trace(t) => t.close(steps),
-            Part::StartStop(t) => t.close(steps),
-            Part::Coincidence(t) => t.close(steps),
-            Part::Image(t) => t.close(steps),
-            Part::Correlation(t) => t.close(steps),
-            Part::Cube(t) => t.close(steps),
-            Part::Fold(t) => t.close(steps),
-        }
+        in_part!(self, table => table.close(steps))
     }
 }

@@ -3,17 +3,19 @@ use Rattle.std.{proofs.Common.{rules}, proofs.Common.{◌≡◌, refl, ℕ, suc,
 use Rattle.toml.specs.Data.{Data, table, get}
 use Rattle.tally_base.specs.Settings.{PartSettings, entries}
 use Rattle.toml_rules.{specs.Rules.{AllHold, each}, specs.Values.{number_or, list_at}}
-use Rattle.plan_text.{specs.Kind.{Kind, tables, list_of_kind}, specs.Kinds.{kinds, lists, table_lists}, specs.TableList.TableList, specs.Settle.{settle, settle_or_none}, specs.Document.{document_rules, rule_of_lengths, has_at_most, AreShort}, specs.Plan.{PlanView, plan, plan_rules}, specs.Reading.plan_answer, specs.Bound.{bound, greatest_bound, most_entries}, proofs.Whole.{all_before, each_holds, kinds_of_lists}, proofs.ByKind.{integer_most, KeepsFew, kinds_keep_few}, proofs.Called.{valid, plans}}
+use Rattle.plan_text.{specs.Kind.{Kind, tables, list_of_kind, TableList}, specs.Kinds.{kinds, lists, table_lists}, specs.Settle.{settle, settle_or_none}, specs.Document.{document_rules, rule_of_lengths, has_at_most, AreShort}, specs.Plan.{PlanView, plan, plan_rules}, specs.Reading.plan_answer, specs.Bound.{bound, greatest_bound, most_entries}, proofs.Whole.{all_before, each_holds, kinds_of_lists}, proofs.ByKind.{integer_most, KeepsFew, kinds_keep_few}, proofs.Called.{valid, plans}}
 
 -- ## Tables of one kind
 
 -- a table more
-one_more : (here : Option PartSettings) (found : List PartSettings) (n most : ℕ) → ((p : PartSettings) → here ≡ Some p → entries p ≤ most) → sum_by entries found ≤ n * most → sum_by entries (cons_option here found) ≤ (n + 1) * most
+one_more : (here : Option PartSettings) (found : List PartSettings) (n most : ℕ) → ((p : PartSettings) → here ≡ Some p → entries p ≤ most)
+    → sum_by entries found ≤ n * most → sum_by entries (cons_option here found) ≤ (n + 1) * most
 one_more None found n most few rest = grind (arith, rest)
 one_more (Some p) found n most few rest = grind (arith, few p refl, rest, sum_by-cons entries p found)
 
 -- tables that each keep at most so many entries
-pub tables_keep : (read : Data → Option PartSettings) (most : ℕ) (tables : List Data) → ((t : Data) (p : PartSettings) → read t ≡ Some p → entries p ≤ most) → sum_by entries (filter_map read tables) ≤ length tables * most
+pub tables_keep : (read : Data → Option PartSettings) (most : ℕ) (tables : List Data)
+    → ((t : Data) (p : PartSettings) → read t ≡ Some p → entries p ≤ most) → sum_by entries (filter_map read tables) ≤ length tables * most
 tables_keep read most [] each = omega arith
 tables_keep read most (t ∷ ts) each =
     let more : suc (length ts) ≡ length ts + 1 = omega arith in
@@ -34,7 +36,8 @@ pub are_short : (d : Data) → AllHold (plan_rules d) → AreShort lists d
 unfolding plan_rules document_rules rule_of_lengths
 are_short d all =
     let of_document = all_before (document_rules d) (flat_map (λ list. list.rules d) table_lists) all in
-    few_tables d lists (each_holds (λ (list : List ℕ × ℕ). has_at_most list.1 list.0 d) 1 lists (λ at b. of_document 7 at (inr (inr (inr (inr (inr (inr (inl (refl, b))))))))))
+    few_tables d lists
+    (each_holds (λ (list : List ℕ × ℕ). has_at_most list.1 list.0 d) 1 lists (λ at b. of_document 7 at (inr (inr (inr (inr (inr (inr (inl (refl, b))))))))))
 
 -- the key and the greatest length of a list
 abbrev limit_of : TableList → List ℕ × ℕ

@@ -1,10 +1,10 @@
 -- What proofs ask of each kind of table: its place in the order of the report, and that none of its tables keeps more
 -- than one of the greatest settings.
-use Rattle.std.{proofs.Common.{rules}, proofs.Common.{◌≡◌, refl, ℕ, suc, ◌+◌, ◌-◌, ◌*◌, ◌/◌, ◌^◌, ◌≤◌, Bool, true, false, cond, List, [], ◌∷◌, map, codes, ◌&&◌, nat_le, length, Option, Some, None, arith}, specs.List.AllByRecursion, specs.Option.{option_and_then, option_map}, proofs.lemmas.Nat.mul-le, proofs.Math.Nat.div-le_of_le-mul, proofs.Math.Pow.pow_mono, proofs.lemmas.Bool.Decides.nat_tests}
 use Rattle.toml.specs.Data.{Data, Items, as_array, get}
 use Rattle.tally_base.{specs.Settings.{PartSettings, ImageView, entries}, specs.Settings.PartSettings.{HistSettings, TraceSettings, StartStopSettings, CoincidenceSettings, ImageSettings, CorrelationSettings, CubeSettings, FoldSettings}, specs.Limits.wrap_limit}
-use Rattle.toml_rules.specs.Values.{integer_in, number_in}
-use Rattle.plan_text.{specs.Kind.Kind, specs.Kinds.{kinds, lists, part_lists}, specs.Groups.{groups, group_number}, specs.Histograms.{histogram, hist_of}, specs.Traces.{trace, trace_of}, specs.StartStops.{startstop, startstop_of}, specs.Coincidences.{coincidence, coincidence_of}, specs.Images.{image, image_values, image_of, raster, raster_of, bits, serpentine}, specs.Correlations.{correlation, correlation_of, lags, if_even}, specs.Cubes.{cube, cube_of, bins, has_few_bins}, specs.Folds.{fold_settings, fold_of, numbers, numbers_in, numbers_from}, specs.Plan.plan, specs.declared.plan.Plan.Plan}
+use Rattle.toml_rules.{specs.Values.{integer_in, number_in}, specs.Rules.RiseFrom}
+use Rattle.plan_text.{specs.Kind.Kind, specs.Kinds.{kinds, lists, part_lists}, specs.Groups.{groups, group_number, group_rules}, specs.Histograms.{histogram, hist_of, histogram_kind}, specs.Traces.{trace, trace_of, trace_kind}, specs.StartStops.{startstop, startstop_of, startstop_kind}, specs.Coincidences.{coincidence, coincidence_of, coincidence_kind}, specs.Images.{image_kind, image_values, image_of, raster, raster_of, bits, serpentine}, specs.Correlations.{correlation, correlation_of, correlation_kind, lags, if_even}, specs.Cubes.{cube, cube_of, cube_kind, bins, has_few_bins}, specs.Folds.{fold_settings, fold_of, fold_kind, numbers, numbers_in, numbers_from}, specs.Plan.{plan, plan_rules}, specs.declared.plan.Plan.Plan, specs.Document.{document_rules, rule_of_lists, rule_of_lengths}, specs.Shifts.shift_rules}
+use Rattle.std.{proofs.Common.{rules, ◌≡◌, refl, ℕ, suc, ◌+◌, ◌-◌, ◌*◌, ◌/◌, ◌^◌, ◌≤◌, Bool, true, false, cond, List, [], ◌∷◌, map, codes, ◌&&◌, nat_le, length, Option, Some, None, arith}, specs.List.AllByRecursion, specs.Option.{option_and_then, option_map}, proofs.lemmas.Nat.mul-le, proofs.Math.Nat.div-le_of_le-mul, proofs.Math.Pow.pow_mono, proofs.lemmas.Bool.Decides.nat_tests}
 
 -- ## Its place
 
@@ -53,40 +53,28 @@ IsAtMost most found = (n : ℕ) → found ≡ Some n → n ≤ most
 hist_keeps : (group width bins : Option ℕ) (p : PartSettings) → IsAtMost 32768 bins → hist_of group width bins ≡ Some p → entries p ≤ 32769
 hist_keeps group width bins p few is = search (rules, arith)
 
-histogram_keeps : (d t : Data) (p : PartSettings) → histogram d t ≡ Some p → entries p ≤ 32769
-unfolding histogram
-histogram_keeps d t p is = search (rules, arith, hist_keeps, most_read)
-
-trace_of_keeps : (group begin width bins : Option ℕ) (p : PartSettings) → IsAtMost (2 ^ 20) bins → trace_of group begin width bins ≡ Some p → entries p ≤ 1048579
+trace_of_keeps : (group begin width bins : Option ℕ) (p : PartSettings)
+    → IsAtMost (2 ^ 20) bins → trace_of group begin width bins ≡ Some p → entries p ≤ 1048579
 trace_of_keeps group begin width bins p few is = search (rules, arith)
 
-trace_keeps : (d t : Data) (p : PartSettings) → trace d t ≡ Some p → entries p ≤ 1048579
-unfolding trace
-trace_keeps d t p is = search (rules, arith, trace_of_keeps, most_read)
-
-startstop_of_keeps : (start stop width bins : Option ℕ) (p : PartSettings) → IsAtMost 32768 bins → startstop_of start stop width bins ≡ Some p → entries p ≤ 32770
+startstop_of_keeps : (start stop width bins : Option ℕ) (p : PartSettings)
+    → IsAtMost 32768 bins → startstop_of start stop width bins ≡ Some p → entries p ≤ 32770
 startstop_of_keeps start stop width bins p few is = search (rules, arith)
-
-startstop_keeps : (d t : Data) (p : PartSettings) → startstop d t ≡ Some p → entries p ≤ 32770
-unfolding startstop
-startstop_keeps d t p is = search (rules, arith, startstop_of_keeps, most_read)
 
 -- a quotient is not above what is divided
 quotient : (n m : ℕ) → n / m ≤ n
 quotient n m = search (rules, arith, div-le_of_le-mul)
 
-coincidence_of_keeps : (first second reach width : Option ℕ) (p : PartSettings) → IsAtMost (2 ^ 20) reach → coincidence_of first second reach width ≡ Some p → entries p ≤ 3145731
+coincidence_of_keeps : (first second reach width : Option ℕ) (p : PartSettings)
+    → IsAtMost (2 ^ 20) reach → coincidence_of first second reach width ≡ Some p → entries p ≤ 3145731
 coincidence_of_keeps (Some first) (Some second) (Some reach) (Some width) p few is =
     let same : p ≡ CoincidenceSettings (record { first = first; second = second; reach = reach; width = width }) = cc in
     rw same (omega (arith, few reach refl, quotient (2 * reach) width))
 coincidence_of_keeps _ _ _ _ p few is = cc
 
-coincidence_keeps : (d t : Data) (p : PartSettings) → coincidence d t ≡ Some p → entries p ≤ 3145731
-unfolding coincidence
-coincidence_keeps d t p is = search (rules, arith, coincidence_of_keeps, most_read)
-
 -- a raster has at most 2,048 by 2,048 pixels
-raster_few : (width height dwell : Option ℕ) (r : ℕ × (ℕ × ℕ)) → IsAtMost 2048 width → IsAtMost 2048 height → raster_of width height dwell ≡ Some r → (r.0 ≤ 2048) × (r.1.0 ≤ 2048)
+raster_few : (width height dwell : Option ℕ) (r : ℕ × (ℕ × ℕ)) → IsAtMost 2048 width
+    → IsAtMost 2048 height → raster_of width height dwell ≡ Some r → (r.0 ≤ 2048) × (r.1.0 ≤ 2048)
 raster_few (Some width) (Some height) (Some dwell) r narrow low is =
     let same : r ≡ (width, (height, dwell)) = cc in
     rw same (narrow width refl, low height refl)
@@ -108,18 +96,18 @@ values_keep : (d t : Data) (set : ImageView) → image_values d t ≡ Some set �
 unfolding image_values
 values_keep d t set is = image_of_keeps (group_number d (get (codes "group") t)) (raster t) (bits t) (serpentine t) set (raster_in t) is
 
-settings_keep : (found : Option ImageView) (p : PartSettings) → ((set : ImageView) → found ≡ Some set → entries (ImageSettings set) ≤ 4194308) → option_map ImageSettings found ≡ Some p → entries p ≤ 4194308
+settings_keep : (found : Option ImageView) (p : PartSettings) → ((set : ImageView) → found ≡ Some set → entries (ImageSettings set) ≤ 4194308)
+    → option_map ImageSettings found ≡ Some p → entries p ≤ 4194308
 settings_keep found p few is = search (rules, arith)
 
-image_keeps : (d t : Data) (p : PartSettings) → image d t ≡ Some p → entries p ≤ 4194308
-image_keeps d t p is = settings_keep (image_values d t) p (values_keep d t) is
-
-correlation_of_keeps : (first second lags levels : Option ℕ) (p : PartSettings) → IsAtMost 128 lags → IsAtMost 40 levels → correlation_of first second lags levels ≡ Some p → entries p ≤ 7784
+correlation_of_keeps : (first second lags levels : Option ℕ) (p : PartSettings) → IsAtMost 128 lags
+    → IsAtMost 40 levels → correlation_of first second lags levels ≡ Some p → entries p ≤ 7784
 correlation_of_keeps (Some first) (Some second) (Some lags) (Some levels) p near few is =
     let same : p ≡ CorrelationSettings (record { first = first; second = second; lags = lags; levels = levels }) = cc in
     let near = near lags refl in
     let few = few levels refl in
-    rw same (omega (arith, mul-le levels (lags + 1) 40 129 few (omega (arith, near)), mul-le (levels - 1) (lags / 2) 39 64 (omega (arith, few)) (omega (arith, near))))
+    rw same (omega
+    (arith, mul-le levels (lags + 1) 40 129 few (omega (arith, near)), mul-le (levels - 1) (lags / 2) 39 64 (omega (arith, few)) (omega (arith, near))))
 correlation_of_keeps _ _ _ _ p near few is = cc
 
 even_most : (found : Option ℕ) (most : ℕ) → IsAtMost most found → IsAtMost most (option_and_then if_even found)
@@ -130,10 +118,6 @@ lags_few : (t : Data) → IsAtMost 128 (lags t)
 unfolding lags
 lags_few t = even_most (number_in 2 128 (get (codes "lags") t)) 128 (most_read 2 128 (get (codes "lags") t))
 
-correlation_keeps : (d t : Data) (p : PartSettings) → correlation d t ≡ Some p → entries p ≤ 7784
-unfolding correlation
-correlation_keeps d t p is = search (rules, arith, correlation_of_keeps, lags_few, most_read)
-
 few_bins_keep : (image : ImageView) (bins : ℕ × ℕ) (p : PartSettings) (few : Bool) → has_few_bins image bins.1 ≡ few → cond few (Some (CubeSettings (record { image = image; dwidth = bins.0; dbins = bins.1 }))) None ≡ Some p → entries p ≤ 67108869
 few_bins_keep image bins p true few is = search (rules, arith)
 few_bins_keep image bins p false few is = cc
@@ -141,12 +125,9 @@ few_bins_keep image bins p false few is = cc
 cube_of_keeps : (image : Option ImageView) (bins : Option (ℕ × ℕ)) (p : PartSettings) → cube_of image bins ≡ Some p → entries p ≤ 67108869
 cube_of_keeps image bins p is = search (rules, arith, few_bins_keep)
 
-cube_keeps : (d t : Data) (p : PartSettings) → cube d t ≡ Some p → entries p ≤ 67108869
-unfolding cube
-cube_keeps d t p is = cube_of_keeps (image_values d t) (bins t) p is
-
 -- as many numbers as integers
-counted : (n : ℕ) (more : Option (List ℕ)) (count : ℕ) (ns : List ℕ) → ((ms : List ℕ) → more ≡ Some ms → length ms ≡ count) → option_map (λ numbers. n ∷ numbers) more ≡ Some ns → length ns ≡ suc count
+counted : (n : ℕ) (more : Option (List ℕ)) (count : ℕ) (ns : List ℕ) → ((ms : List ℕ) → more ≡ Some ms → length ms ≡ count)
+    → option_map (λ numbers. n ∷ numbers) more ≡ Some ns → length ns ≡ suc count
 counted n None count ns few is = cc
 counted n (Some ms) count ns few is = search (rules, arith)
 
@@ -160,7 +141,8 @@ numbers_count most low (d ∷ ds) ns is = first_counted (integer_in low most d) 
 some_and_few : (a b : Bool) → (a && b) ≡ true → b ≡ true
 some_and_few a b is = search (rules, arith)
 
-among_few : (most : ℕ) (ds : List Data) (ns : List ℕ) (few : Bool) → (nat_le 1 (length ds) && nat_le (length ds) 6) ≡ few → cond few (numbers_from most 1 ds) None ≡ Some ns → length ns ≤ 6
+among_few : (most : ℕ) (ds : List Data) (ns : List ℕ) (few : Bool) → (nat_le 1 (length ds) && nat_le (length ds) 6) ≡ few
+    → cond few (numbers_from most 1 ds) None ≡ Some ns → length ns ≤ 6
 among_few most ds ns true few is = search (rules, arith, some_and_few, numbers_count)
 among_few most ds ns false few is = cc
 
@@ -171,16 +153,13 @@ numbers_few : (d t : Data) (ns : List ℕ) → numbers d t ≡ Some ns → lengt
 unfolding numbers
 numbers_few d t ns is = in_few (length (groups d)) (option_and_then as_array (get (codes "groups") t)) ns is
 
-fold_of_keeps : (groups : Option (List ℕ)) (window : Option ℕ) (p : PartSettings) → ((ns : List ℕ) → groups ≡ Some ns → length ns ≤ 6) → IsAtMost (2 ^ 20) window → fold_of groups window ≡ Some p → entries p ≤ 1048642
+fold_of_keeps : (groups : Option (List ℕ)) (window : Option ℕ) (p : PartSettings) → ((ns : List ℕ) → groups ≡ Some ns → length ns ≤ 6)
+    → IsAtMost (2 ^ 20) window → fold_of groups window ≡ Some p → entries p ≤ 1048642
 fold_of_keeps (Some groups) (Some window) p few near is =
     let same : p ≡ FoldSettings (record { groups = groups; window = window }) = cc in
     let sets : 2 ^ length groups ≤ 2 ^ 6 = pow_mono (few groups refl) in
     rw same (omega (arith, near window refl, sets))
 fold_of_keeps _ _ p few near is = cc
-
-fold_keeps : (d t : Data) (p : PartSettings) → fold_settings d t ≡ Some p → entries p ≤ 1048642
-unfolding fold_settings
-fold_keeps d t p is = search (rules, arith, fold_of_keeps, numbers_few, most_read)
 
 -- ## All kinds
 
@@ -189,6 +168,20 @@ abbrev pub KeepsFew : Data → Kind → Type 0
 KeepsFew d kind = (t : Data) (p : PartSettings) → kind.read d t ≡ Some p → entries p ≤ entries kind.greatest
 
 pub kinds_keep_few : (d : Data) → AllByRecursion (KeepsFew d) kinds
+unfolding histogram trace startstop coincidence correlation cube fold_settings
 kinds_keep_few d =
-    let last : _ × (_ × (_ × (_ × Unit {0}))) = (image_keeps d, (correlation_keeps d, (cube_keeps d, (fold_keeps d, tt)))) in
-    (histogram_keeps d, (trace_keeps d, (startstop_keeps d, (coincidence_keeps d, last))))
+    let hist : KeepsFew d histogram_kind = λ t p is. search (rules, arith, hist_keeps, most_read) in
+    let trace : KeepsFew d trace_kind = λ t p is. search (rules, arith, trace_of_keeps, most_read) in
+    let startstop : KeepsFew d startstop_kind = λ t p is. search (rules, arith, startstop_of_keeps, most_read) in
+    let coincidence : KeepsFew d coincidence_kind = λ t p is. search (rules, arith, coincidence_of_keeps, most_read) in
+    let image : KeepsFew d image_kind = λ t p is. settings_keep (image_values d t) p (values_keep d t) is in
+    let correlation : KeepsFew d correlation_kind = λ t p is. search (rules, arith, correlation_of_keeps, lags_few, most_read) in
+    let cube : KeepsFew d cube_kind = λ t p is. cube_of_keeps (image_values d t) (bins t) p is in
+    let fold : KeepsFew d fold_kind = λ t p is. search (rules, arith, fold_of_keeps, numbers_few, most_read) in
+    (hist, (trace, (startstop, (coincidence, (image, (correlation, (cube, (fold, tt))))))))
+
+-- The rules of a plan stand in their order.
+
+pub plan_rules_rise : (d : Data) → RiseFrom 0 (plan_rules d)
+unfolding plan_rules document_rules rule_of_lists rule_of_lengths group_rules shift_rules
+plan_rules_rise d = grind arith

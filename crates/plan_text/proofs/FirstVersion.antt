@@ -3,7 +3,7 @@ use Rattle.std.{proofs.Common.{rules}, proofs.Common.{◌≡◌, refl, ℕ, ◌�
 use Rattle.toml.specs.Data.{Data, Members, table, no_members, member, get, get_member}
 use Rattle.tally_base.{specs.Settings.{PartSettings, GroupView, ImageView}, specs.Settings.PartSettings.ImageSettings}
 use Rattle.toml_rules.{specs.Rules.AllHold, specs.Values.{is_one_of, members_within, has_keys, list_at}}
-use Rattle.plan_text.{specs.Version.is_second, specs.Kind.{Kind, tables}, specs.Kinds.{kinds, table_lists}, specs.Groups.{groups, group, group_of, group_number, inputs, gates, one_gate}, specs.Shifts.{shifts, period, period_or_one, all_shifts}, specs.Settle.{settle, settle_or_none}, specs.Histograms.{histogram_kind, histogram, hist_of}, specs.Traces.{trace_kind, trace, trace_of}, specs.StartStops.{startstop_kind, startstop, startstop_of}, specs.Coincidences.{coincidence_kind, coincidence, coincidence_of}, specs.Images.{images, image, image_values, image_of, raster, bits, serpentine, other_image_keys, has_image_keys}, specs.Correlations.{correlation_kind, correlation, correlation_of, lags}, specs.Cubes.{cubes}, specs.Folds.{folds}, specs.Document.{document_rules, known_keys, has_known_keys}, specs.Plan.{PlanView, plan, plan_rules}, specs.Reading.{document, plan_answer}, specs.FirstVersion.{IsOfFirst, SaysFirst}, proofs.Whole.{all_before, all_after, lists_hold, each_holds}, proofs.Called.{valid, plans}}
+use Rattle.plan_text.{specs.Version.is_second, specs.Kind.{Kind, tables}, specs.Kinds.{kinds, second_kinds, table_lists}, specs.Groups.{groups, group, group_of, group_number, inputs, gates, one_gate}, specs.Shifts.{shifts, period, period_or_one, all_shifts}, specs.Settle.{settle, settle_or_none}, specs.Histograms.{histogram_kind, histogram, hist_of}, specs.Traces.{trace_kind, trace, trace_of}, specs.StartStops.{startstop_kind, startstop, startstop_of}, specs.Coincidences.{coincidence_kind, coincidence, coincidence_of}, specs.Images.{images, image, image_values, image_of, raster, bits, serpentine, other_image_keys, has_image_keys}, specs.Correlations.{correlation_kind, correlation, correlation_of, lags}, specs.Document.{document_rules, known_keys, has_known_keys}, specs.Plan.{PlanView, plan, plan_rules}, specs.Reading.{document, plan_answer}, specs.FirstVersion.{IsOfFirst, SaysFirst}, proofs.Whole.{all_before, all_after, lists_hold, each_holds}, proofs.Called.{valid, plans}}
 
 -- ## A key that is not known
 
@@ -15,25 +15,31 @@ both true b h = (refl, h)
 both false b h = cc
 
 -- at one member, of which the rest has nothing at the key
-absent_here : (key k : List ℕ) (o : Ordering) (d : Data) (rest : Option Data) → slice_cmp nat_cmp key k ≡ o → (key ≡ k → ⊥) → rest ≡ None → match_ordering o rest (Some d) rest ≡ None
+absent_here : (key k : List ℕ) (o : Ordering) (d : Data) (rest : Option Data) → slice_cmp nat_cmp key k ≡ o
+    → (key ≡ k → ⊥) → rest ≡ None → match_ordering o rest (Some d) rest ≡ None
 absent_here key k o d rest is other none = search (rules, arith, exact_bytes)
 
-absent : (needed other : List (List ℕ)) (key : List ℕ) (ms : Members) → (is_one_of needed key || is_one_of other key) ≡ false → members_within needed other ms ≡ true → get_member key ms ≡ None
+absent : (needed other : List (List ℕ)) (key : List ℕ) (ms : Members) → (is_one_of needed key || is_one_of other key) ≡ false
+    → members_within needed other ms ≡ true → get_member key ms ≡ None
 absent needed other key no_members unknown within = refl
 absent needed other key (member k d ms) unknown within =
     let here = both (is_one_of needed k || is_one_of other k) (members_within needed other ms) within in
-    absent_here key k (slice_cmp nat_cmp key k) d _ refl (λ same. let known = rw same at unknown in let is_known = here.0 in cc) (absent needed other key ms unknown here.1)
+    absent_here key k (slice_cmp nat_cmp key k) d _ refl (λ same. let known =
+    rw same at unknown in let is_known = here.0 in cc) (absent needed other key ms unknown here.1)
 
 -- A table with only known keys has nothing at another.
-absent_in : (needed other : List (List ℕ)) (key : List ℕ) (d : Data) → (is_one_of needed key || is_one_of other key) ≡ false → has_keys needed other d ≡ true → get key d ≡ None
+absent_in : (needed other : List (List ℕ)) (key : List ℕ) (d : Data)
+    → (is_one_of needed key || is_one_of other key) ≡ false → has_keys needed other d ≡ true → get key d ≡ None
 absent_in needed other key d unknown has = search (rules, arith, absent)
 
 -- ## What is found in a list
 
-found_here : {Y : Type 0} (P : Y → Type 0) (here : Option Y) (rest : List Y) → ((y : Y) → here ≡ Some y → P y) → AllByRecursion P rest → AllByRecursion P (cons_option here rest)
+found_here : {Y : Type 0} (P : Y → Type 0) (here : Option Y) (rest : List Y)
+    → ((y : Y) → here ≡ Some y → P y) → AllByRecursion P rest → AllByRecursion P (cons_option here rest)
 found_here P here rest each all = search (rules, arith)
 
-found_all : {X Y : Type 0} (f : X → Option Y) (P : Y → Type 0) (Q : X → Type 0) (xs : List X) → ((x : X) (y : Y) → Q x → f x ≡ Some y → P y) → AllByRecursion Q xs → AllByRecursion P (filter_map f xs)
+found_all : {X Y : Type 0} (f : X → Option Y) (P : Y → Type 0) (Q : X → Type 0) (xs : List X)
+    → ((x : X) (y : Y) → Q x → f x ≡ Some y → P y) → AllByRecursion Q xs → AllByRecursion P (filter_map f xs)
 found_all f P Q [] each all = tt
 found_all f P Q (x ∷ xs) each all = found_here P (f x) (filter_map f xs) (λ y. each x y all.0) (found_all f P Q xs each all.1)
 
@@ -58,13 +64,16 @@ coincidence_is first second reach width p is = search (rules, arith, some_same)
 correlation_is : (first second lags levels : Option ℕ) (p : PartSettings) → correlation_of first second lags levels ≡ Some p → IsOfFirst p
 correlation_is first second lags levels p is = search (rules, arith, some_same)
 
-image_is : (group : Option ℕ) (raster : Option (ℕ × (ℕ × ℕ))) (bits : Option (ℕ × (Option ℕ × Option ℕ))) (set : ImageView) → image_of group raster bits (Some false) ≡ Some set → set.serpentine ≡ false
+image_is : (group : Option ℕ) (raster : Option (ℕ × (ℕ × ℕ))) (bits : Option (ℕ × (Option ℕ × Option ℕ))) (set : ImageView)
+    → image_of group raster bits (Some false) ≡ Some set → set.serpentine ≡ false
 image_is group raster bits set is = search (rules, arith, some_same)
 
-image_part : (found : Option ImageView) (p : PartSettings) → ((set : ImageView) → found ≡ Some set → set.serpentine ≡ false) → option_map ImageSettings found ≡ Some p → IsOfFirst p
+image_part : (found : Option ImageView) (p : PartSettings) → ((set : ImageView) → found ≡ Some set → set.serpentine ≡ false)
+    → option_map ImageSettings found ≡ Some p → IsOfFirst p
 image_part found p forwards is = search (rules, arith, some_same)
 
-group_is : (set : Option ℕ) (ranges : Option (List (ℕ × ℕ))) (g : GroupView) → ((gates : List (ℕ × ℕ)) → ranges ≡ Some gates → length gates ≤ 1) → group_of set ranges ≡ Some g → length g.gates ≤ 1
+group_is : (set : Option ℕ) (ranges : Option (List (ℕ × ℕ))) (g : GroupView)
+    → ((gates : List (ℕ × ℕ)) → ranges ≡ Some gates → length gates ≤ 1) → group_of set ranges ≡ Some g → length g.gates ≤ 1
 group_is set ranges g few is = search (rules, arith, some_same)
 
 one_range : (range : Option (ℕ × ℕ)) (gates : List (ℕ × ℕ)) → option_map (λ range. range ∷ []) range ≡ Some gates → length gates ≤ 1
@@ -119,22 +128,27 @@ module _ (d : Data) (first : is_second d ≡ false) (all : AllHold (plan_rules d
   image_forwards : (t : Data) (p : PartSettings) → has_image_keys d t ≡ true → image d t ≡ Some p → IsOfFirst p
   unfolding has_image_keys image_values serpentine
   image_forwards t p has is =
-      let none = absent_in (codes "group" ∷ codes "width" ∷ codes "height" ∷ codes "dwell" ∷ codes "line" ∷ []) (other_image_keys false) (codes "serpentine") t refl (rw first at has) in
+      let none = absent_in (codes "group" ∷ codes "width" ∷ codes "height" ∷ codes "dwell" ∷ codes "line" ∷ [])
+      (other_image_keys false) (codes "serpentine") t refl (rw first at has) in
       image_part (image_values d t) p (λ set found. image_is (group_number d (get (codes "group") t)) (raster t) (bits t) set (rw none at found)) is
 
   -- the tables of a kind are of version 1
   abbrev OfFirst : Kind → Type 0
   OfFirst kind = AllByRecursion IsOfFirst (filter_map (kind.read d) (tables kind d))
 
+  -- no table is of a kind whose key is not known
+  none_of : (more : List Kind) → AllByRecursion (λ kind. is_one_of (known_keys false) kind.key ≡ false) more → AllByRecursion OfFirst more
+  none_of [] unknown = tt
+  none_of (kind ∷ more) unknown = (rw (no_tables kind.key unknown.0) tt, none_of more unknown.1)
+
   each_kind : AllByRecursion OfFirst kinds
   unfolding known_keys histogram trace startstop coincidence correlation
   each_kind =
-      let free = λ (kind : Kind) (is : (t : Data) (p : PartSettings) → kind.read d t ≡ Some p → IsOfFirst p). found_all (kind.read d) IsOfFirst (λ t. Unit {0}) (tables kind d) (λ t p any. is t p) (any (tables kind d)) in
-      let no_cubes : cubes d ≡ [] = no_tables (codes "cube") refl in
-      let no_folds : folds d ≡ [] = no_tables (codes "fold") refl in
+      let free = λ (kind : Kind) (is : (t : Data) (p : PartSettings) → kind.read d t ≡ Some p
+      → IsOfFirst p). found_all (kind.read d) IsOfFirst (λ t. Unit {0}) (tables kind d) (λ t p any. is t p) (any (tables kind d)) in
       let of_images = found_all (image d) IsOfFirst (λ t. has_image_keys d t ≡ true) (images d) image_forwards images_known in
-      let last : _ × (_ × (_ × (_ × Unit {0}))) = (of_images, (free correlation_kind (λ t p. correlation_is _ _ _ _ p), (rw no_cubes tt, (rw no_folds tt, tt)))) in
-      (free histogram_kind (λ t p. hist_is _ _ _ p), (free trace_kind (λ t p. trace_is _ _ _ _ p), (free startstop_kind (λ t p. startstop_is _ _ _ _ p), (free coincidence_kind (λ t p. coincidence_is _ _ _ _ p), last))))
+      let last : _ × (_ × (_ × _)) = (free coincidence_kind (λ t p. coincidence_is _ _ _ _ p), (of_images, (free correlation_kind (λ t p. correlation_is _ _ _ _ p), none_of second_kinds (search rules)))) in
+      (free histogram_kind (λ t p. hist_is _ _ _ p), (free trace_kind (λ t p. trace_is _ _ _ _ p), (free startstop_kind (λ t p. startstop_is _ _ _ _ p), last)))
 
   parts_first : (more : List Kind) → AllByRecursion OfFirst more → All IsOfFirst (flat_map (λ kind. filter_map (kind.read d) (tables kind d)) more)
   parts_first [] of_first = All-nil IsOfFirst
@@ -150,7 +164,8 @@ module _ (d : Data) (first : is_second d ≡ false) (all : AllHold (plan_rules d
     parts = parts_first kinds each_kind;
   }
 
-pub first_version : (bytes : List ℕ) (ms : Members) (view : PlanView) → document bytes ≡ Some ms → is_second (table ms) ≡ false → plan_answer bytes ≡ Ok view → SaysFirst view
+pub first_version : (bytes : List ℕ) (ms : Members) (view : PlanView) → document bytes ≡ Some ms
+    → is_second (table ms) ≡ false → plan_answer bytes ≡ Ok view → SaysFirst view
 first_version bytes ms view is first ok =
     let good = valid bytes view ok in
     let same_ms : good.1 ≡ ms = let read = good.2 in cc in

@@ -1,9 +1,5 @@
-pub mod OnLiterals
-pub mod Inputs
 pub mod Gates
 pub mod Numbers
-pub mod Documents
-pub mod Rise
 pub mod Rows
 pub mod Whole
 pub mod Misfits

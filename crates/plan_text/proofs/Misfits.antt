@@ -8,20 +8,23 @@ pub or_next_assoc : (a b c : Result (Unit {0}) Fault) → or_next a (or_next b c
 or_next_assoc a b c = search (rules, arith)
 
 -- tables after tables
-pub parts_fit_after : (mode : Mode) (before after : List PartSettings) → parts_fit mode (before ++ after) ≡ or_next (parts_fit mode before) (parts_fit mode after)
+pub parts_fit_after : (mode : Mode) (before after : List PartSettings)
+    → parts_fit mode (before ++ after) ≡ or_next (parts_fit mode before) (parts_fit mode after)
 parts_fit_after mode [] after = refl
 parts_fit_after mode (part ∷ before) after = search (rules, arith, or_next_assoc, parts_fit_after mode before after)
 
 -- ## From the answer to the first part
 
-refused_by : (mode : Mode) (found : Option PartKind) (fault : Fault) → refusal mode found ≡ Err fault → (kind : PartKind) × (found ≡ Some kind) × (fault ≡ PlanMode kind 1 mode)
+refused_by : (mode : Mode) (found : Option PartKind) (fault : Fault) → refusal mode found ≡ Err fault
+    → (kind : PartKind) × (found ≡ Some kind) × (fault ≡ PlanMode kind 1 mode)
 refused_by mode None fault err = search (rules, err)
 refused_by mode (Some kind) fault err = (kind, refl, IfErr-at_err (λ e. e ≡ PlanMode kind 1 mode) err refl)
 
 pub suits_by : (mode : Mode) (found : Option PartKind) → refusal mode found ≡ Ok tt → found ≡ None
 suits_by mode found ok = search (rules, arith)
 
-first_refused : (mode : Mode) (parts : List PartSettings) (fault : Fault) → parts_fit mode parts ≡ Err fault → (kind : PartKind) × (fault ≡ PlanMode kind 1 mode) × IsFirstMisfit mode parts kind
+first_refused : (mode : Mode) (parts : List PartSettings) (fault : Fault) → parts_fit mode parts ≡ Err fault
+    → (kind : PartKind) × (fault ≡ PlanMode kind 1 mode) × IsFirstMisfit mode parts kind
 first_refused mode [] fault err = search (rules, err)
 first_refused mode (part ∷ parts) fault err =
     elim (or_next_err (refusal mode (misfit mode part)) (parts_fit mode parts) fault err) [
@@ -44,12 +47,14 @@ misfit_named mode plan fault err =
           let gates = kept_nowhere (λ number. PlanMode Gate number mode) 1 groups ungated.0 in
           elim (or_next_err (shifts_fit mode plan.shifts) (parts_fit mode plan.parts) fault ungated.1) [
             | inl shift ↦ inr (inl (gates, breaks_first (λ number. PlanMode Shift number mode) 1 shifts fault shift))
-            | inr passed ↦ inr (inr (gates, kept_nowhere (λ number. PlanMode Shift number mode) 1 shifts passed.0, first_refused mode plan.parts fault passed.1))
+            | inr passed ↦ inr
+                (inr (gates, kept_nowhere (λ number. PlanMode Shift number mode) 1 shifts passed.0, first_refused mode plan.parts fault passed.1))
           ]
     ]
 
 -- what is named is a part
-pub names_part : (mode : Mode) (plan : PlanView) (fault : Fault) → IsMisfit mode plan fault → (kind : PartKind) × (number : ℕ) × (fault ≡ PlanMode kind number mode)
+pub names_part : (mode : Mode) (plan : PlanView) (fault : Fault) → IsMisfit mode plan fault
+    → (kind : PartKind) × (number : ℕ) × (fault ≡ PlanMode kind number mode)
 names_part mode plan fault (inl (number, is, first)) = (Gate, number, is)
 names_part mode plan fault (inr (inl (suit, (number, is, first)))) = (Shift, number, is)
 names_part mode plan fault (inr (inr (suit, suits, (kind, is, first)))) = (kind, 1, is)
@@ -60,14 +65,16 @@ refused_first : (mode : Mode) (before : List PartSettings) (here : PartSettings)
 refused_first mode [] here after kind names suit = rw names refl
 refused_first mode (part ∷ before) here after kind names suit = rw suit.0 (refused_first mode before here after kind names suit.1)
 
-first_by : (make : ℕ → Fault) (first : ℕ) (tests : List Bool) (index : ℕ) (r : Result (Unit {0}) Fault) → BreaksFirst first tests index → held_from make first tests ≡ r → held_from make first tests ≡ Err (make index)
+first_by : (make : ℕ → Fault) (first : ℕ) (tests : List Bool) (index : ℕ) (r : Result (Unit {0}) Fault)
+    → BreaksFirst first tests index → held_from make first tests ≡ r → held_from make first tests ≡ Err (make index)
 first_by make first tests index (Ok done) breaks is = absurd (kept_nowhere make first tests is index breaks.breaks)
 first_by make first tests index (Err fault) breaks is =
     let (other, names, found) = breaks_first make first tests fault is in
     let same : other ≡ index = omega (arith, found.least index breaks.breaks, breaks.least other found.breaks) in
     is ∙ ap (λ f. Err f) (names ∙ ap make same)
 
-none_by : (make : ℕ → Fault) (first : ℕ) (tests : List Bool) (r : Result (Unit {0}) Fault) → ((at' : ℕ) → BreaksAt first tests at' → ⊥) → held_from make first tests ≡ r → held_from make first tests ≡ Ok tt
+none_by : (make : ℕ → Fault) (first : ℕ) (tests : List Bool) (r : Result (Unit {0}) Fault)
+    → ((at' : ℕ) → BreaksAt first tests at' → ⊥) → held_from make first tests ≡ r → held_from make first tests ≡ Ok tt
 none_by make first tests r none is = search (rules, arith, breaks_first)
 
 pub is_first : (mode : Mode) (plan : PlanView) (fault : Fault) → IsMisfit mode plan fault → fits mode plan ≡ Err fault
@@ -96,6 +103,7 @@ module _ {S : Type 0} (settings : S → PartSettings) (mode : Mode) where
   all_fit suit [] = refl
   all_fit suit (set ∷ sets) = rw (suit set) (all_fit suit sets)
 
-  pub none_fits : (kind : PartKind) → ((set : S) → misfit mode (settings set) ≡ Some kind) → (sets : List S) → 0 < length sets → parts_fit mode (map settings sets) ≡ Err (PlanMode kind 1 mode)
+  pub none_fits : (kind : PartKind) → ((set : S) → misfit mode (settings set) ≡ Some kind)
+      → (sets : List S) → 0 < length sets → parts_fit mode (map settings sets) ≡ Err (PlanMode kind 1 mode)
   none_fits kind names [] some = absurd (omega (arith, some))
   none_fits kind names (set ∷ sets) some = rw (names set) refl

@@ -1,9 +1,35 @@
 -- Numbers of groups that rise, one at a time.
-use Rattle.std.proofs.Common.{◌≡◌, refl, ap, sym, ◌∙◌, ℕ, ◌+◌, ◌<◌, ◌≤◌, List, [], ◌∷◌, ◌++◌, map, drop, length, get_or, Option, Some, option_map, arith, rules}
+use Rattle.std.{proofs.Common.{◌≡◌, refl, ap, sym, ◌∙◌, ℕ, ◌+◌, ◌<◌, ◌≤◌, List, [], ◌∷◌, ◌++◌, map, drop, length, get_or, Option, Some, option_map, arith, rules, ◌^◌}, proofs.Math.Pow.pow_mono, proofs.lemmas.Grind.pow_more, proofs.lemmas.List.drop_more}
 use Rattle.toml.{specs.Data.Data, specs.declared.value.Value.Value, specs.View.view}
 use Rattle.tally_base.specs.Gates.{AreGroups}
 use Rattle.toml_rules.specs.Values.{integer_in}
-use Rattle.plan_text.{specs.Folds.numbers_from, proofs.Inputs.first_of}
+use Rattle.plan_text.{specs.Folds.numbers_from, specs.Groups.inputs_from}
+
+-- The bit set of inputs, one input at a time.
+
+both_added : (a b : ℕ) (set : Option ℕ) → option_map (λ more. a + more) (option_map (λ more. b + more) set) ≡ option_map (λ more. a + b + more) set
+both_added a b set = search (rules, arith)
+
+pub inputs_step : (inputs low n : ℕ) (d : Data) (ds : List Data) → integer_in low 64 d ≡ Some n
+    → option_map (λ set. inputs + set) (inputs_from low (d ∷ ds)) ≡ option_map (λ set. inputs + 2 ^ n + set) (inputs_from (n + 1) ds)
+inputs_step inputs low n d ds is = rw is (both_added inputs (2 ^ n) (inputs_from (n + 1) ds))
+
+pub first_of : (vs : List Value) (i : ℕ) (v : Value) → i < length vs → v ≡ get_or vs i v → map view (drop i vs) ≡ view v ∷ map view (drop (i + 1) vs)
+first_of vs i v within at = ap (map view) (drop_more vs i v within) ∙ ap (λ w. view w ∷ map view (drop (i + 1) vs)) (sym at)
+
+-- one more input is taken in
+pub inputs_kept : (inputs low n added i : ℕ) (vs : List Value) (v : Value) (all : Option ℕ)
+    → i < length vs → v ≡ get_or vs i v → Some n ≡ integer_in low 64 (view v) → added ≡ 2 ^ n
+    → option_map (λ set. inputs + set) (inputs_from low (map view (drop i vs))) ≡ all
+    → option_map (λ set. inputs + added + set) (inputs_from (n + 1) (map view (drop (i + 1) vs))) ≡ all
+inputs_kept inputs low n added i vs v all within at is power rest = search (rules, arith, inputs_step, first_of)
+
+-- a number below 2 ^ low, and a power from there on
+pub below_next : (inputs low n : ℕ) → inputs < 2 ^ low → low ≤ n → inputs + 2 ^ n < 2 ^ (n + 1)
+below_next inputs low n below from = omega (arith, pow_mono from, pow_more 2 n)
+
+pub below_all : (inputs low : ℕ) → inputs < 2 ^ low → low ≤ 65 → inputs < 2 ^ 65
+below_all inputs low below most = omega (arith, pow_mono most)
 
 -- Numbers that rise, each above low, and are below last.
 abbrev pub NumbersTo : ℕ → ℕ → List ℕ → Type 0
@@ -22,7 +48,8 @@ put_last : (front : List ℕ) (n : ℕ) (more : List ℕ) → front ++ n ∷ mor
 put_last [] n more = refl
 put_last (first ∷ front) n more = ap (λ l. first ∷ l) (put_last front n more)
 
-both_put : (front : List ℕ) (n : ℕ) (more : Option (List ℕ)) → option_map (λ l. front ++ l) (option_map (λ l. n ∷ l) more) ≡ option_map (λ l. (front ++ n ∷ []) ++ l) more
+both_put : (front : List ℕ) (n : ℕ) (more : Option (List ℕ))
+    → option_map (λ l. front ++ l) (option_map (λ l. n ∷ l) more) ≡ option_map (λ l. (front ++ n ∷ []) ++ l) more
 both_put front n more = search (rules, arith, put_last)
 
 numbers_step : (front : List ℕ) (most low n : ℕ) (d : Data) (ds : List Data) → integer_in low most d ≡ Some n
@@ -30,7 +57,8 @@ numbers_step : (front : List ℕ) (most low n : ℕ) (d : Data) (ds : List Data)
 numbers_step front most low n d ds is = rw is (both_put front n (numbers_from most (n + 1) ds))
 
 -- one more number is taken in
-pub numbers_kept : (front : List ℕ) (most low i n : ℕ) (vs : List Value) (v : Value) (all : Option (List ℕ)) → i < length vs → v ≡ get_or vs i v → Some n ≡ integer_in low most (view v)
+pub numbers_kept : (front : List ℕ) (most low i n : ℕ) (vs : List Value) (v : Value) (all : Option (List ℕ))
+    → i < length vs → v ≡ get_or vs i v → Some n ≡ integer_in low most (view v)
     → option_map (λ l. front ++ l) (numbers_from most low (map view (drop i vs))) ≡ all
     → option_map (λ l. (front ++ n ∷ []) ++ l) (numbers_from most (n + 1) (map view (drop (i + 1) vs))) ≡ all
 numbers_kept front most low i n vs v all within at is rest =

@@ -2,7 +2,7 @@
 use Rattle.std.{proofs.Common.{arith, rules}, proofs.Common.{◌≡◌, ap, refl, ℕ, ◌+◌, Bool, true, List, [], ◌∷◌, ◌++◌, map, filter_map, ◌∙◌, Option, Some, is_some, inl, inr}, proofs.lemmas.Bool.{cases_Bool, false≢true}, proofs.lemmas.List.map-append, specs.List.{AllByRecursion, cons_option, flat_map}}
 use Rattle.toml.specs.Data.{Data}
 use Rattle.toml_rules.{specs.Rules.{Rule, BreaksAt, IsBroken, AllHold, or_next, all_kept}, proofs.Least.all_kept_after}
-use Rattle.plan_text.{specs.Plan.{plan_rules, lists_kept, plan, IsWhole}, specs.Document.document_rules, specs.Kind.{Kind, tables, last_rule, kind_rules, list_of_kind}, specs.Kinds.{kinds, first_lists, second_lists, table_lists}, specs.Groups.{group_rules, groups, group, group_of, inputs, gates}, specs.Shifts.{shift_rules, all_shifts}, specs.TableList.TableList}
+use Rattle.plan_text.{specs.Plan.{plan_rules, lists_kept, plan, IsWhole}, specs.Document.document_rules, specs.Kind.{Kind, tables, last_rule, kind_rules, list_of_kind, TableList}, specs.Kinds.{kinds, first_lists, second_lists, table_lists}, specs.Groups.{group_rules, groups, group, group_of, inputs, gates}, specs.Shifts.{shift_rules, all_shifts}}
 
 -- rules of a part are rules of the whole
 broken_after : (before after : List Rule) (n at : ℕ) → IsBroken after n at → IsBroken (before ++ after) n at
@@ -22,7 +22,8 @@ pub all_after : (before after : List Rule) → AllHold (before ++ after) → All
 all_after before after all = λ n at b. all n at (broken_after before after n at b)
 
 -- a rule on each thing of a list
-pub each_holds : {X : Type 0} (test : X → Bool) (first : ℕ) (xs : List X) → ((at : ℕ) → BreaksAt first (map test xs) at → ⊥) → AllByRecursion (λ x. test x ≡ true) xs
+pub each_holds : {X : Type 0} (test : X → Bool) (first : ℕ) (xs : List X)
+    → ((at : ℕ) → BreaksAt first (map test xs) at → ⊥) → AllByRecursion (λ x. test x ≡ true) xs
 each_holds test first [] nowhere = tt
 each_holds test first (x ∷ xs) nowhere =
     elim (cases_Bool (test x)) [
@@ -35,7 +36,8 @@ both_hold : {X : Type 0} (a b c : X → Bool) (xs : List X) → ((x : X) → a x
 both_hold a b c [] joins first second = tt
 both_hold a b c (x ∷ xs) joins first second = (joins x first.0 second.0, both_hold a b c xs joins first.1 second.1)
 
-kept_first : {Y : Type 0} (here : Option Y) (found : List Y) (seen : List (Option Y)) → is_some here ≡ true → map (λ y. Some y) found ≡ seen → map (λ y. Some y) (cons_option here found) ≡ here ∷ seen
+kept_first : {Y : Type 0} (here : Option Y) (found : List Y) (seen : List (Option Y)) → is_some here ≡ true
+    → map (λ y. Some y) found ≡ seen → map (λ y. Some y) (cons_option here found) ≡ here ∷ seen
 kept_first here found seen some rest = search (rules, arith, false≢true)
 
 all_kept_in : {X Y : Type 0} (f : X → Option Y) (xs : List X) → AllByRecursion (λ x. is_some (f x) ≡ true) xs → map (λ y. Some y) (filter_map f xs) ≡ map f xs
@@ -51,7 +53,8 @@ unfolding group_rules group
 groups_in d all =
     let sets = each_holds (λ g. is_some (inputs g)) 1 (groups d) (λ at b. all 9 at (inr (inl (refl, b)))) in
     let ranges = each_holds (λ g. is_some (gates d g)) 1 (groups d) (λ at b. all 10 at (inr (inr (inl (refl, b))))) in
-    all_kept_in (group d) (groups d) (both_hold (λ g. is_some (inputs g)) (λ g. is_some (gates d g)) (λ g. is_some (group d g)) (groups d) (λ g a b. group_read (inputs g) (gates d g) a b) sets ranges)
+    all_kept_in (group d) (groups d) (both_hold (λ g. is_some (inputs g)) (λ g. is_some (gates d g))
+    (λ g. is_some (group d g)) (groups d) (λ g a b. group_read (inputs g) (gates d g) a b) sets ranges)
 
 same_list : {X : Type 0} (xs : List X) → map (λ x. x) xs ≡ xs
 same_list [] = refl
@@ -64,9 +67,11 @@ shifts_in d all =
     ∙ same_list (all_shifts d)
 
 -- where the rules on a kind hold, each of its tables gives settings
-kind_whole : (kind : Kind) (d : Data) → AllHold (kind_rules kind d) → map (λ y. Some y) (filter_map (kind.read d) (tables kind d)) ≡ map (kind.read d) (tables kind d)
+kind_whole : (kind : Kind) (d : Data) → AllHold (kind_rules kind d)
+    → map (λ y. Some y) (filter_map (kind.read d) (tables kind d)) ≡ map (kind.read d) (tables kind d)
 kind_whole kind d all =
-    all_kept_in (kind.read d) (tables kind d) (each_holds (λ table. is_some (kind.read d table)) 1 (tables kind d) (λ at b. all_after (kind.before d) (last_rule kind d ∷ []) all kind.last at (inl (refl, b))))
+    all_kept_in (kind.read d) (tables kind d) (each_holds (λ table. is_some (kind.read d table)) 1 (tables kind d)
+    (λ at b. all_after (kind.before d) (last_rule kind d ∷ []) all kind.last at (inl (refl, b))))
 
 -- Each rule on the list holds.
 abbrev pub Holds : Data → TableList → Type 0

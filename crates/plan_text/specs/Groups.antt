@@ -3,7 +3,7 @@ use Rattle.std.specs.Prelude.{ℕ, ◌+◌, ◌^◌, Bool, ◌&&◌, nat_le, Lis
 use Rattle.toml.specs.Data.{Data, Items, as_array, get}
 use Rattle.tally_base.specs.Settings.{GroupView}
 use Rattle.toml_rules.{specs.Rules.{Rule, each}, specs.Values.{list_of, list_at, has_keys, integer_in, number_in}}
-use Rattle.plan_text.{specs.TableList.TableList, specs.Version.is_second}
+use Rattle.plan_text.{specs.Kind.TableList, specs.Version.is_second}
 
 -- the tables of groups
 abbrev pub groups : Data → List Data

@@ -3,7 +3,17 @@ use Rattle.std.specs.Prelude.{ℕ, List, [], ◌∷◌, ◌++◌, Option, is_som
 use Rattle.toml.specs.Data.{Data}
 use Rattle.tally_base.specs.Settings.{PartSettings}
 use Rattle.toml_rules.{specs.Rules.{Rule, each}, specs.Values.list_at}
-use Rattle.plan_text.specs.TableList.{TableList}
+
+-- What a plan says of one list of tables.
+
+-- A list of tables of a plan: its groups, its shifts, or its tables of one kind.
+pub record TableList : Type 0 where
+  -- the key of the list in a document
+  pub key : List ℕ
+  -- how many tables a plan has in it at most
+  pub most : ℕ
+  -- the rules on them
+  pub rules : Data → List Rule
 
 -- One kind of tables.
 pub record Kind : Type 0 where

@@ -1,5 +1,4 @@
 pub mod Version
-pub mod TableList
 pub mod Groups
 pub mod Kind
 pub mod Histograms

@@ -5,7 +5,7 @@ use Rattle.tally_base.{specs.declared.fault.Fault.Fault, specs.declared.event.Or
 use Rattle.tally_base.specs.declared.event.Order.TheVariants as orders
 use Rattle.tally_base.specs.declared.event.OnReserved.TheVariants as choices
 use Rattle.toml_rules.specs.Rules.{Rule, or_next, all_kept}
-use Rattle.plan_text.{specs.Document.{order, reserved, records, document_rules}, specs.Groups.{groups, group}, specs.Kind.tables, specs.Kinds.{kinds, table_lists}, specs.Settle.settle_or_none, specs.Shifts.{period_or_one, all_shifts}, specs.TableList.TableList}
+use Rattle.plan_text.{specs.Document.{order, reserved, records, document_rules}, specs.Groups.{groups, group}, specs.Kind.{tables, TableList}, specs.Kinds.{kinds, table_lists}, specs.Settle.settle_or_none, specs.Shifts.{period_or_one, all_shifts}}
 
 -- all rules, in their order
 unfoldable pub plan_rules : Data → List Rule

@@ -3,7 +3,7 @@ use Rattle.std.specs.Prelude.{ℕ, ◌+◌, ◌-◌, ◌==◌, Bool, List, [], �
 use Rattle.toml.specs.Data.{Data, get}
 use Rattle.tally_base.specs.Settings.{ShiftView}
 use Rattle.toml_rules.{specs.Rules.{Rule, whole, each}, specs.Values.{list_at, has_keys, integer_in, number_in}}
-use Rattle.plan_text.{specs.Settle.settle, specs.TableList.TableList}
+use Rattle.plan_text.{specs.Settle.settle, specs.Kind.TableList}
 
 -- the tables of shifts
 abbrev pub shifts : Data → List Data

@@ -56,7 +56,7 @@ fn group_count(document: &Value) -> u64
 }
 
 /// The numbers of the groups of a fold.
-#[tactic(auto, using(toml_rules::proofs::Lists::list_of_view), unfolding(crate::specs::Folds::numbers))]
+#[tactic(auto, using(toml_rules::proofs::Least::list_of_view), unfolding(crate::specs::Folds::numbers))]
 fn numbers(document: &Value, table: &Value) -> Option<ArrayVec<u8, 6>>
     requires few { length (groups (view document.now)) ≤ 64 }
     ensures numbers { option_map (λ numbers. numbers.items) result

@@ -51,7 +51,7 @@ fn inputs_among(items: &[Value]) -> Option<u128>
 }
 
 /// The inputs of a group.
-#[tactic(auto, using(toml_rules::proofs::Lists::list_of_view), unfolding(crate::specs::Groups::inputs))]
+#[tactic(auto, using(toml_rules::proofs::Least::list_of_view), unfolding(crate::specs::Groups::inputs))]
 fn inputs(group: &Value) -> Option<u128>
     ensures set { result ≡ inputs (view group.now) }
     ensures range { IfSome result (λ set. (0 < set) × (set < 2 ^ 65)) }
@@ -86,7 +86,7 @@ fn range_in(low: u16, items: &[Value]) -> Option<(u16, u16)>
 }
 
 /// The same of what may be an array.
-#[tactic(auto, using(toml_rules::proofs::Lists::list_of_view))]
+#[tactic(auto, using(toml_rules::proofs::Least::list_of_view))]
 fn range_among(low: u16, value: &Value) -> Option<(u16, u16)>
     ensures range { result ≡ range_among low (as_array (view value.now)) }
     ensures some { IfSome result (λ range. (low ≤ range.0) × (range.0 < range.1) × (range.1 ≤ 32768)) }
@@ -129,7 +129,7 @@ fn ranges_in(items: &[Value]) -> Option<ArrayVec<(u16, u16), 8>>
 }
 
 /// The gates of a group of version 2.
-#[tactic(auto, using(toml_rules::proofs::Lists::list_of_view))]
+#[tactic(auto, using(toml_rules::proofs::Least::list_of_view))]
 fn many_gates(group: &Value) -> Option<ArrayVec<(u16, u16), 8>>
     ensures ranges { option_map (λ ranges. ranges.items) result ≡ many_gates (get (codes "gates") (view group.now)) }
     ensures rise { IfSome result (λ ranges. AreGates 0 ranges.items) }

@@ -1,5 +1,5 @@
 // What a plan says of one kind of tables: the rules on them, and the settings that they give.
-ghost use Rattle.std.specs.Prelude.{◌≡◌, ◌+◌, ◌≤◌, Option, map, filter_map, length, is_some, option_map};
+ghost use Rattle.std.specs.Prelude.{◌≡◌, ◌+◌, ◌≤◌, Option, map, filter_map, length, is_some, option_map, OnOk, IfOk, IfErr, Ok, Err};
 ghost use Rattle.toml.specs.View.{view};
 ghost use Rattle.tally_base.specs.Settings.{PartSettings};
 ghost use Rattle.toml_rules.specs.Rules.{all_kept, kept, each};
@@ -41,17 +41,6 @@ pub(crate) trait PlanKind: Default + Drop {
         ensures { (set : Self) → misfit mode (settings set) ≡ result };
 }
 
-/// Goes through the rules on a kind.
-#[tactic(auto, using(toml_rules::proofs::Least::all_kept_after))]
-pub(crate) fn keeps_kind_rules<K: PlanKind>(document: &Value) -> Result<(), Fault>
-    requires groups { length (groups (view document.now)) ≤ 64 }
-    requires few { length (tables K.kind (view document.now)) ≤ 255 }
-    ensures { result ≡ all_kept (kind_rules K.kind (view document.now)) }
-{
-    K::keeps_before(document)?;
-    each_gives::<K>(K::last_rule(), document, K::tables(document))
-}
-
 /// Each of the tables gives settings. Refused with the rule and the number of the first, from 1, that gives none.
 fn each_gives<K: PlanKind>(rule: u8, document: &Value, items: &[Value]) -> Result<(), Fault>
     requires groups { length (groups (view document.now)) ≤ 64 }
@@ -67,7 +56,7 @@ fn each_gives<K: PlanKind>(rule: u8, document: &Value, items: &[Value]) -> Resul
 }
 
 /// The settings of the tables of a kind that give some, in their order.
-pub(crate) fn list_of<K: PlanKind, const N: usize>(document: &Value) -> ArrayVec<K, N>
+fn list_of<K: PlanKind, const N: usize>(document: &Value) -> ArrayVec<K, N>
     requires groups { length (groups (view document.now)) ≤ 64 }
     requires few { length (tables K.kind (view document.now)) ≤ N }
     ensures { map K.settings result.items
@@ -81,6 +70,24 @@ pub(crate) fn list_of<K: PlanKind, const N: usize>(document: &Value) -> ArrayVec
         }
     }
     found
+}
+
+/// The settings of the tables of a kind, where no rule on it is broken.
+#[tactic(auto, using(toml_rules::proofs::Least::all_kept_after))]
+pub(crate) fn list_by_rules<K: PlanKind, const N: usize>(
+    document: &Value,
+) -> Result<ArrayVec<K, N>, Fault>
+    requires groups { length (groups (view document.now)) ≤ 64 }
+    requires few { length (tables K.kind (view document.now)) ≤ N }
+    requires small { N ≤ 255 }
+    ensures kept { OnOk result (all_kept (kind_rules K.kind (view document.now)) ≡ Ok tt) }
+    ensures refused { IfErr result (λ fault. all_kept (kind_rules K.kind (view document.now)) ≡ Err fault) }
+    ensures list { IfOk result (λ list. map K.settings list.items
+        ≡ filter_map (K.kind.read (view document.now)) (tables K.kind (view document.now))) }
+{
+    K::keeps_before(document)?;
+    each_gives::<K>(K::last_rule(), document, K::tables(document))?;
+    Ok(list_of(document))
 }
 
 /// There is no table of a kind that the mode does not suit.

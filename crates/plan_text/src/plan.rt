@@ -40,6 +40,22 @@ pub struct Plan {
     pub ghost some_period: { (0 < period) × (period ≤ 32768) },
 }
 
+/// Evaluates a result with the settings of each kind of table of a plan, in the order of the report, and
+/// returns the first refusal, as `each_list!(plan, sets => suit_tables(sets, mode))`.
+#[macro_export]
+macro_rules! each_list {
+    ($plan:expr, $sets:ident => $result:expr) => {
+        $crate::each_list!($plan, $sets => $result;
+            histograms traces startstops coincidences images correlations cubes folds)
+    };
+    ($plan:expr, $sets:ident => $result:expr; $($list:ident)*) => {
+        $({
+            let $sets = $plan.$list.as_slice();
+            $result?;
+        })*
+    };
+}
+
 impl Plan {
     ghost use Rattle.std.specs.Prelude.{◌≡◌};
     ghost use Rattle.plan_text.{specs.Fits.parts_fit, specs.Plan.parts_of, specs.Reading.plan_view};
@@ -49,14 +65,7 @@ impl Plan {
     pub(crate) fn tables_suit(&self, mode: Mode) -> Result<(), Fault>
         ensures { result ≡ parts_fit mode (parts_of (plan_view self.now)) }
     {
-        suit_tables(self.histograms.as_slice(), mode)?;
-        suit_tables(self.traces.as_slice(), mode)?;
-        suit_tables(self.startstops.as_slice(), mode)?;
-        suit_tables(self.coincidences.as_slice(), mode)?;
-        suit_tables(self.images.as_slice(), mode)?;
-        suit_tables(self.correlations.as_slice(), mode)?;
-        suit_tables(self.cubes.as_slice(), mode)?;
-        suit_tables(self.folds.as_slice(), mode)?;
+        each_list!(self, sets => suit_tables(sets, mode));
         Ok(())
     }
 }

@@ -1,22 +1,19 @@
 // How a plan is read.
-ghost use Rattle.std.specs.Prelude.{◌≡◌, ◌≤◌, ◌<◌, ◌≢◌, map, filter_map, length, IfOk, IfErr, OnOk, Some, None, Err, unwrap_or, false};
+ghost use Rattle.std.specs.Prelude.{◌≡◌, ◌≤◌, ◌<◌, ◌≢◌, map, filter_map, length, IfOk, IfErr, OnOk, Some, None, Ok, Err, unwrap_or, false};
 ghost use Rattle.tally_base.{specs.Faults.is_outside, specs.Settings.group_view, specs.Limits.record_limit};
 ghost use Rattle.toml.{specs.Data.{Members, table}, specs.View.{view}};
 ghost use Rattle.toml_rules.specs.Rules.{all_kept, Names, AllHold};
-ghost use Rattle.plan_text.{specs.Groups.{groups, group}, specs.Document.{order, reserved, records, HasFewTables}, specs.Kinds.table_lists, specs.Settle.settle_or_none, specs.Plan.{order_of, reserved_of, plan_rules, lists_kept, plan, IsWhole}, specs.Reading.{document, plan_answer, plan_view, plan_seen, if_kept, IsCalledFor, IsValid}};
+ghost use Rattle.plan_text.{specs.Groups.{groups, group}, specs.Document.{order, reserved, records}, specs.Settle.settle_or_none, specs.Plan.{order_of, reserved_of, plan_rules, plan, IsWhole}, specs.Reading.{document, plan_answer, plan_view, plan_seen, if_kept, IsCalledFor, IsValid}};
 
 use crate::document::{keeps_document_rules, order, records, reserved};
 use crate::groups::{group, keeps_group_rules};
-use crate::kind::{keeps_kind_rules, list_of};
+use crate::kind::list_by_rules;
 use crate::plan::Plan;
 use crate::settle::settle_or_none;
 use crate::shifts::{keeps_shift_rules, period_or_one, shifts_of};
 use arrayvec::ArrayVec;
 use std::alloc::Global;
-use tally_base::{
-    CoincidenceSet, CorrelationSet, CubeSet, Fault, FoldSet, Group, HistSet, ImageSet, OnReserved,
-    Order, Policy, RECORD_LIMIT, StartStopSet, TraceSet,
-};
+use tally_base::{Fault, Group, OnReserved, Order, Policy, RECORD_LIMIT};
 use toml::Value;
 use toml_rules::list_at;
 
@@ -55,14 +52,14 @@ fn plan_by_rules(document: &Value) -> Result<Plan, Fault>
     ensures records { IfOk result (λ plan. (0 < plan.policy.records) × (plan.policy.records ≤ record_limit)) }
     ensures inside { IfErr result (λ fault. is_outside fault ≡ false) }
 {
-    match keeps_rules(document) {
-        Ok(()) => Ok(plan_of(document)),
+    match plan_of(document) {
+        Ok(plan) => Ok(plan),
         Err(fault) => Err(fault),
     }
 }
 
 /// The table that the bytes are as a TOML document.
-#[tactic(auto, using(crate::proofs::Documents::document_of_text))]
+#[tactic(auto, using(crate::proofs::Called::document_of_text))]
 fn read_document(alloc: Global, bytes: &[u8]) -> Result<Value, Fault>
     ensures ok { IfOk result (λ value. (ms : Members) × (document bytes.now ≡ Some ms) × (view value ≡ table ms)) }
     ensures refused { IfErr result (λ fault. fault ≢ Fault.OutOfMemory → (fault ≡ Fault.PlanSyntax) × (document bytes.now ≡ None)) }
@@ -83,56 +80,33 @@ fn read_document(alloc: Global, bytes: &[u8]) -> Result<Value, Fault>
     }
 }
 
-/// All rules, in their order.
-#[tactic(auto, using(crate::proofs::Whole::plan_kept))]
-fn keeps_rules(document: &Value) -> Result<(), Fault>
-    ensures kept { result ≡ all_kept (plan_rules (view document.now)) }
-    ensures few { OnOk result (HasFewTables (view document.now)) }
+/// Goes through all rules in their order, and reads the tables of each list behind the rules on it.
+#[tactic(auto, using(crate::proofs::Whole::plan_kept), unfolding(crate::specs::Plan::plan))]
+fn plan_of(document: &Value) -> Result<Plan, Fault>
+    ensures kept { OnOk result (all_kept (plan_rules (view document.now)) ≡ Ok tt) }
+    ensures refused { IfErr result (λ fault. all_kept (plan_rules (view document.now)) ≡ Err fault) }
+    ensures plan { IfOk result (λ found. plan_view found ≡ plan (view document.now)) }
+    ensures records { IfOk result (λ plan. (0 < plan.policy.records) × (plan.policy.records ≤ record_limit)) }
 {
     keeps_document_rules(document)?;
-    keep_rules_of_lists(document)?;
-    Ok(())
-}
-
-/// The rules on each list of tables.
-fn keep_rules_of_lists(document: &Value) -> Result<(), Fault>
-    requires few { HasFewTables (view document.now) }
-    ensures { result ≡ lists_kept table_lists (view document.now) }
-{
     keeps_group_rules(document)?;
-    keeps_kind_rules::<HistSet>(document)?;
-    keeps_kind_rules::<TraceSet>(document)?;
-    keeps_kind_rules::<StartStopSet>(document)?;
-    keeps_kind_rules::<CoincidenceSet>(document)?;
-    keeps_kind_rules::<ImageSet>(document)?;
-    keeps_kind_rules::<CorrelationSet>(document)?;
-    keeps_shift_rules(document)?;
-    keeps_kind_rules::<CubeSet>(document)?;
-    keeps_kind_rules::<FoldSet>(document)?;
-    Ok(())
-}
-
-/// The plan that a valid document gives.
-#[tactic(auto, unfolding(crate::specs::Plan::plan))]
-fn plan_of(document: &Value) -> Plan
-    requires few { HasFewTables (view document.now) }
-    ensures plan { plan_view result ≡ plan (view document.now) }
-    ensures records { (0 < result.policy.records) × (result.policy.records ≤ record_limit) }
-{
-    Plan {
+    Ok(Plan {
         policy: policy_of(document),
         period: period_or_one(document) as u32,
-        shifts: shifts_of(document),
         groups: groups_of(document, list_at(document, "group")),
-        histograms: list_of(document),
-        traces: list_of(document),
-        startstops: list_of(document),
-        coincidences: list_of(document),
-        images: list_of(document),
-        correlations: list_of(document),
-        cubes: list_of(document),
-        folds: list_of(document),
-    }
+        histograms: list_by_rules(document)?,
+        traces: list_by_rules(document)?,
+        startstops: list_by_rules(document)?,
+        coincidences: list_by_rules(document)?,
+        images: list_by_rules(document)?,
+        correlations: list_by_rules(document)?,
+        shifts: {
+            keeps_shift_rules(document)?;
+            shifts_of(document)
+        },
+        cubes: list_by_rules(document)?,
+        folds: list_by_rules(document)?,
+    })
 }
 
 /// Which records the document refuses.

@@ -1,33 +1,17 @@
 -- What is shown of each command's work: good files end it well, and no end of it is that of a bad command line.
-use Rattle.std.{proofs.Common.{◌≡◌, ℕ, List, length, false, None, Some, Ok, refl, sym, ap, ◌∙◌, ◌≢◌, arith, nat_lt, Bool, true, Err, ◌&&◌, nat_le, Result, if◌then◌else◌}, proofs.lemmas.Bool.Decides.nat_tests, specs.declared.option.Option.Option}
-use Rattle.tally_base.{specs.Faults.fault_in, specs.declared.header.RecordType.RecordType, specs.declared.event.Event.Event, specs.declared.fault.Fault.Fault, specs.declared.fault.Fault.TheVariants.NoGroup, specs.declared.header.Header.Header, specs.RecordTypes.mode_of, specs.Settings.TraceView}
-use Rattle.ptu_definitions.{specs.Headers.header_answer, specs.Words.words_of, specs.Kinds.counts_of, specs.Counted.{record_limit, records_of, counted}, specs.Streams.{Reading, summary, streamed}, specs.Prefixes.first, specs.declared.records.Summary.Summary}
-use Rattle.plan_text.{specs.Plan.{PlanView, plan}, specs.Fits.fits, proofs.Misfits.misfit_named}
-use Rattle.gate_plan.{specs.Plans.reading_by, specs.Shifting.sorting}
+use Rattle.std.{proofs.Common.{◌≡◌, ℕ, List, [], length, false, true, None, Some, Ok, refl, ap, ◌≢◌, arith, nat_lt, Bool, ◌&&◌, nat_le, if◌then◌else◌}, proofs.lemmas.Bool.Decides.nat_tests, specs.declared.option.Option.Option}
+use Rattle.tally_base.{specs.Faults.fault_in, specs.declared.header.RecordType.RecordType, specs.declared.event.Event.Event, specs.declared.fault.Fault.Fault, specs.declared.fault.Fault.TheVariants.NoGroup, specs.RecordTypes.mode_of, specs.Settings.TraceView}
+use Rattle.ptu_definitions.{specs.Words.{words_of, record_limit, records_of, counted}, specs.Kinds.counts_of, specs.Streams.{Reading, summary, streamed}, specs.Prefixes.first}
+use Rattle.plan_text.specs.Plan.{PlanView}
+use Rattle.gate_plan.{specs.Histories.reading_by, specs.Shifting.sorting}
 use Rattle.command_work.{specs.Outcomes.status, specs.Behaviours.{Work, Behaviour, AreWhole, AreRead, NoCommand, Alone, OnFile, ByPlan}}
-use Rattle.file_work.specs.FileOutcomes.{file_counts, listing, counting, printing, listing_all}
-use Rattle.trace_work.specs.TraceOutcomes.{trace_of, tracing, unless_traced, traced, traced_if_fits, traced_behind, trace_outcome}
+use Rattle.file_work.{specs.FileOutcomes.{counts_behind, count_outcome, events_behind, listing, counting, printing, listing_all}, specs.CountLaws.ends-fault as counts-fault}
+use Rattle.trace_work.{specs.TraceOutcomes.{trace_of, tracing, unless_traced, traced_if_fits, traced_behind}, specs.TraceTexts.ends-fault as traces-fault}
 use Rattle.command_words.specs.Commands.{Request, Count, Events, Run, Trace, Pick, Demo, Header as HeaderOf}
-use Rattle.report_work.specs.Reports.{reporting, report_outcome, report_of, if_fits, report_behind, file_report}
-use Rattle.pick_work.specs.PickOutcomes.{picking, no_group, chosen_by, picked_if_fits, picked_behind, pick_outcome}
+use Rattle.report_work.{specs.Reports.{reporting, report_outcome, if_fits, report_behind}, specs.RunLaws.ends-fault as reports-fault}
+use Rattle.pick_work.specs.PickOutcomes.{picking, no_group, chosen_by, picked_if_fits, picked_behind}
 use Rattle.photon_pick.{specs.Late.too_late, specs.Texts.late_or, specs.Ends.photons_of}
-use Rattle.ptu_cli.{specs.Behaviours.behaviour, proofs.ByteFaults.{header_answer-bytes, counts_behind-bytes, count_outcome-bytes, fault_in-bytes, events_behind-bytes, IsOfBytes}, proofs.RunFaults.{report-bytes, streamed_by-bytes, misfit-bytes}}
-
--- the faults of a trace are those of a run by the same plan
-records-fault : (view : PlanView) (header : Header) (bytes : List ℕ) (r : Result Summary Fault) → (traced (trace_of view) (sorting view) (reading_by view header) bytes r).fault ≡ (report_outcome (report_of view header bytes r)).fault
-records-fault view header bytes (Ok summary) = refl
-records-fault view header bytes (Err fault) = refl
-
-fits-fault : (view : PlanView) (header : Header) (bytes : List ℕ) (r : Result (Unit {0}) Fault) → (traced_if_fits view header bytes r).fault ≡ (report_outcome (if_fits view header bytes r)).fault
-fits-fault view header bytes (Ok done) = records-fault view header bytes (streamed (reading_by view header) bytes)
-fits-fault view header bytes (Err fault) = refl
-
-behind-fault : (view : PlanView) (r : Result (Header × List ℕ) Fault) → (traced_behind view r).fault ≡ (report_outcome (report_behind view r)).fault
-behind-fault view (Ok found) = fits-fault view found.0 found.1 (fits (mode_of found.0.record_type) view)
-behind-fault view (Err fault) = refl
-
-pub trace-fault : (view : PlanView) (bytes : List ℕ) → (trace_outcome view bytes).fault ≡ (report_outcome (file_report view bytes)).fault
-trace-fault view bytes = behind-fault view (header_answer bytes)
+use Rattle.ptu_cli.{specs.Behaviours.behaviour, proofs.ByteFaults.{headed-bytes, counted-bytes, streamed-bytes, fitted-bytes}}
 
 pub untraced-status : (set : Option TraceView) → status (unless_traced set) ≢ 1
 untraced-status None = λ e. omega arith
@@ -37,17 +21,6 @@ untraced-status (Some set) = λ e. omega arith
 late-bytes : (late : Option Event) (other : Option Fault) → status other ≢ 1 → status (late_or late other) ≢ 1
 late-bytes None other h = h
 late-bytes (Some e) other h = λ one. omega arith
-
-fit-bytes : (group : ℕ) (view : PlanView) (header : Header) (behind : List ℕ) (r : Result (Unit {0}) Fault) → fits (mode_of header.record_type) view ≡ r → status (picked_if_fits view group header behind r).fault ≢ 1
-fit-bytes group view header behind (Err fault) is = misfit-bytes (mode_of header.record_type) view fault (misfit_named (mode_of header.record_type) view fault is)
-fit-bytes group view header behind (Ok done) is = late-bytes (first (too_late (mode_of header.record_type) (photons_of (chosen_by view group) (reading_by view header) behind))) (fault_in (streamed (reading_by view header) behind)) (streamed_by-bytes view header behind)
-
-behind-bytes : (group : ℕ) (view : PlanView) (r : Result (Header × List ℕ) Fault) → IsOfBytes r → status (picked_behind view group r).fault ≢ 1
-behind-bytes group view (Err fault) h = h
-behind-bytes group view (Ok found) h = fit-bytes group view found.0 found.1 (fits (mode_of found.0.record_type) view) refl
-
-pub pick-bytes : (group : ℕ) (view : PlanView) (bytes : List ℕ) → status (pick_outcome group view bytes).fault ≢ 1
-pick-bytes group view bytes = behind-bytes group view (header_answer bytes) (header_answer-bytes bytes)
 
 lack-bytes : (has : Bool) (group : ℕ) → status (if has then None else Some (NoGroup group)) ≢ 1
 lack-bytes true group = λ one. omega arith
@@ -80,37 +53,47 @@ streamed-read how behind h = rw (h.unrefused, h.whole) refl
 counting-sound : WorkIsSound counting
 counting-sound = record {
   well = λ bytes h. rw (h.2, counted-whole h.0.record_type h.1 h.3) refl;
-  no_usage = λ bytes. count_outcome-bytes (file_counts bytes) (counts_behind-bytes (header_answer bytes) (header_answer-bytes bytes));
+  no_usage = headed-bytes (λ r. count_outcome (counts_behind r))
+      (λ header behind. rw (counts-fault header (counted header.record_type behind)) (counted-bytes header.record_type behind)) (λ fault. refl);
 }
 
 printing-sound : WorkIsSound printing
 printing-sound = record {
   well = λ bytes h. rw h.2 refl;
-  no_usage = λ bytes. fault_in-bytes (header_answer bytes) (header_answer-bytes bytes);
+  no_usage = headed-bytes (λ r. record { text = []; fault = fault_in r }) (λ header behind e. omega arith) (λ fault. refl);
 }
 
 listing-sound : WorkIsSound listing_all
 listing-sound = record {
   well = λ bytes h. rw h.2 (ap fault_in (streamed-read (listing h.0) h.1 h.3));
-  no_usage = λ bytes. events_behind-bytes (header_answer bytes) (header_answer-bytes bytes);
+  no_usage = headed-bytes events_behind (λ header. streamed-bytes (listing header)) (λ fault. refl);
 }
 
 reporting-sound : (view : PlanView) → WorkIsSound (reporting view)
 reporting-sound view = record {
   well = λ bytes h. rw (h.2, h.3.0, streamed-read (reading_by view h.0) h.1 h.3.1) refl;
-  no_usage = λ bytes. report-bytes view bytes;
+  no_usage = headed-bytes (λ r. report_outcome (report_behind view r))
+      (λ header behind. fitted-bytes view header (λ r. report_outcome (if_fits view header behind r))
+      (rw (reports-fault view header behind (streamed (reading_by view header) behind)) (streamed-bytes (reading_by view header) behind))
+      (λ fault. refl)) (λ fault. refl);
 }
 
 tracing-sound : (view : PlanView) → WorkIsSound (tracing view)
 tracing-sound view = record {
   well = λ bytes h. rw (h.2, h.3.0, streamed-read (reading_by view h.0) h.1 h.3.1) refl;
-  no_usage = λ bytes e. report-bytes view bytes (ap status (sym (trace-fault view bytes)) ∙ e);
+  no_usage = headed-bytes (traced_behind view)
+      (λ header behind. fitted-bytes view header (traced_if_fits view header behind)
+      (rw (traces-fault (sorting view) (reading_by view header) (trace_of view) behind) (streamed-bytes (reading_by view header) behind))
+      (λ fault. refl)) (λ fault. refl);
 }
 
 picking-sound : (group : ℕ) (view : PlanView) → WorkIsSound (picking group view)
 picking-sound group view = record {
   well = λ bytes h. rw (h.2, h.3.0, streamed-read (reading_by view h.0) h.1 h.3.1, h.3.2) refl;
-  no_usage = λ bytes. pick-bytes group view bytes;
+  no_usage = headed-bytes (picked_behind view group)
+      (λ header behind. fitted-bytes view header (picked_if_fits view group header behind)
+      (late-bytes (first (too_late (mode_of header.record_type) (photons_of (chosen_by view group) (reading_by view header) behind))) _
+      (streamed-bytes (reading_by view header) behind)) (λ fault. refl)) (λ fault. refl);
 }
 
 pub sound : (request : Request) → IsSound (behaviour (Some request))

@@ -1,12 +1,12 @@
 -- What each command does, told once.
-use Rattle.std.{specs.Prelude.{None, Some}, specs.declared.option.Option.{Option}}
+use Rattle.std.{specs.Prelude.{List, None, Some, map, string_bytes}, specs.declared.string.String.String, specs.declared.alloc.Global.Global, specs.declared.option.Option.Option}
 use Rattle.list_out.specs.HeaderText.{header_text}
 use Rattle.command_work.{specs.Outcomes.written, specs.Behaviours.{AtEnd, AsItReads, ForPlan, ForTables, Behaviour, NoCommand, Alone, OnFile, ByPlan}}
 use Rattle.file_work.specs.FileOutcomes.{counting, printing, events_so_far, listing_all}
 use Rattle.report_work.{specs.Reports.{any_plan, reporting}, specs.Demo.demo_report}
 use Rattle.trace_work.specs.TraceOutcomes.{no_trace, trace_so_far, tracing}
 use Rattle.pick_work.specs.PickOutcomes.{no_group, pick_so_far, picking}
-use Rattle.command_words.specs.Commands.{Request, Count, Events, Run, Trace, Pick, Demo, Header as HeaderOf}
+use Rattle.command_words.specs.Commands.{Request, request_of, Count, Events, Run, Trace, Pick, Demo, Header as HeaderOf}
 
 abbrev pub behaviour : Option Request → Behaviour
 behaviour None = NoCommand
@@ -17,3 +17,11 @@ behaviour (Some (Run plan file)) = ByPlan plan file AtEnd ForTables any_plan rep
 behaviour (Some (Trace plan file)) = ByPlan plan file (AsItReads trace_so_far) ForPlan no_trace tracing
 behaviour (Some (Pick plan group file)) = ByPlan plan file (AsItReads (pick_so_far group)) ForPlan (no_group group) (picking group)
 behaviour (Some (Demo seed count)) = Alone (written (demo_report seed count))
+
+-- what the words ask for
+abbrev pub request_in : List (String Global) → Option Request
+request_in words = request_of (map (λ word. string_bytes word) words)
+
+-- how the command of the words behaves
+abbrev pub behaviour_of : List (String Global) → Behaviour
+behaviour_of words = behaviour (request_in words)

@@ -1,3 +1,2 @@
 pub mod Behaviours
-pub mod Requests
 pub mod Runs

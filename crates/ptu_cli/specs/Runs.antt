@@ -4,7 +4,7 @@ use Rattle.tally_base.{specs.declared.slot.Slot.Slot, specs.declared.fault.Fault
 use Rattle.bench_io.{specs.Inputs.{File, InputState}, specs.declared.inputs.Inputs.Ghosts as InputGhosts, specs.declared.sink.Sink.Ghosts as SinkGhosts}
 use Rattle.command_words.specs.Commands.{Request}
 use Rattle.ptu_cli.specs.Behaviours.{behaviour}
-use Rattle.command_work.{specs.Once.{InputsOnce, OutOnce}, specs.Outcomes.{Outcome, status}, specs.Endings.{AreItsFiles, ForItsFiles, ToldAreIts, TellsFault, EndsBy, FailsOpening, FailsReading, CutsOutcome, RunsOut, Asks, LacksMemory, NoneRose, IsGood}}
+use Rattle.command_work.{specs.Outcomes.{InputsOnce, OutOnce, Outcome, status}, specs.Endings.{AreItsFiles, ForItsFiles, ToldAreIts, TellsFault, EndsBy, FailsOpening, FailsReading, CutsOutcome, RunsOut, Asks, LacksMemory, NoneRose, IsGood}}
 
 -- The states before a run and behind it: of the inputs, of standard output and of standard error, each with the count of its failed writes.
 pub record Around : Type 0 where

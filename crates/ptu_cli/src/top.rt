@@ -2,7 +2,7 @@
 ghost use Rattle.std.specs.Prelude.{◌≡◌, false, None, Some, Err};
 ghost use Rattle.tally_base.specs.declared.slot.Slot.{Slot};
 ghost use Rattle.command_work.specs.Endings.{IsMeant, TellsFault, Does, span};
-ghost use Rattle.ptu_cli.{specs.Requests.{request_in, behaviour_of}, specs.Runs.{Runs, around}};
+ghost use Rattle.ptu_cli.{specs.Behaviours.{request_in, behaviour_of}, specs.Runs.{Runs, around}};
 
 use arrayvec::ArrayVec;
 use bench_io::{Inputs, Sink, write_all};

@@ -2,7 +2,7 @@
 ghost use Rattle.std.{specs.Prelude.{◌≡◌, drop, false, Some, Ok, Err, IsOk, IfOk, IfErr}, specs.Process.exit_status, specs.IoError.error_kind, specs.Vec.Iter.into_iter_items};
 ghost use Rattle.tally_base.{specs.declared.slot.Slot.Slot, specs.declared.fault.Fault.TheVariants.OutOfMemory, specs.Faults.status_of};
 ghost use Rattle.file_edge.specs.Edge.{fault_of_kind};
-ghost use Rattle.ptu_cli.{specs.Requests.{request_in, behaviour_of}, specs.Runs.{Runs, around}};
+ghost use Rattle.ptu_cli.{specs.Behaviours.{request_in, behaviour_of}, specs.Runs.{Runs, around}};
 ghost use Rattle.command_work.specs.Endings.{IsMeant, TellsFault};
 
 use crate::top::{ptu_main, tell};

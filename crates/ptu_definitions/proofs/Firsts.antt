@@ -1,33 +1,19 @@
 -- The record refusal is that of the least record that is refused.
-use Rattle.std.{proofs.Common.{◌≡◌, ◌<◌, ℕ, zero, suc, List, [], ◌∷◌, ◌++◌, None, Some, Ok, Err, ◌==◌, length, take, get_or, refl, sym, ap, ◌∙◌, append_assoc, append-nil, arith, ◌↔◌, Bool, true, false, ◌&&◌, ◌+◌, nat_le, map, if◌then◌else◌}, specs.declared.option.Option.Option}
-use Rattle.tally_base.{specs.declared.event.Event.Event, specs.declared.header.Mode.Mode, specs.Faults.{is_outside, fault_in}, specs.declared.fault.Fault.TheVariants.{RecordLimit, ReservedRecord, BackwardTime, TimeLimit, TruncatedRecord}, specs.Events.{stops_late, stops_reserved}, specs.declared.fault.Fault.Fault}
-use Rattle.ptu_definitions.{specs.Kinds.is_reserved, specs.Times.{events, event_after, passes}, specs.Kept.greatest, specs.Settled.is_late_by, specs.Prefixes.{each_after, listed, first}, specs.Streams.{Reading, late_refusal, refusal, refusals, record_refusal, unrefused_after, events_in, given, streamed, or_refusal, summary}, specs.Firsts.IsFirst, proofs.StreamLemmas.{listed-none, listed-rest, refused-push, refused-more, unrefused-all, unrefused-upto}, specs.Words.{words_of, rest_of}}
+use Rattle.std.{proofs.Common.{◌≡◌, ◌<◌, ℕ, zero, suc, List, [], ◌∷◌, ◌++◌, None, Some, Ok, Err, ◌==◌, length, take, get_or, refl, sym, ap, ◌∙◌, append_assoc, append-nil, arith, ◌↔◌, Bool, true, false, if◌then◌else◌, rules}, specs.declared.option.Option.Option}
+use Rattle.tally_base.{specs.declared.event.Event.Event, specs.declared.header.Mode.Mode, specs.Faults.{is_outside, fault_in}, specs.declared.fault.Fault.TheVariants.{RecordLimit, ReservedRecord, TimeLimit, TruncatedRecord}, specs.declared.fault.Fault.Fault}
+use Rattle.ptu_definitions.{specs.Prefixes.{listed, first}, specs.Streams.{Reading, late_refusal, refusal, refusals, record_refusal, unrefused_after, events_in, given, streamed, or_refusal, summary, IsFirst}, proofs.StreamLemmas.{listed-none, listed-rest, refused-push, refused-more, unrefused-all, unrefused-upto, refusals_after}, specs.Words.{words_of, rest_of}}
 
-abbrev after : Reading → List ℕ → List ℕ → List Fault
-after how before ws = each_after (λ before word. listed (refusal how before word)) before ws
-
-first_here : (how : Reading) (fault : Fault) (before : List ℕ) (w : ℕ) (ws : List ℕ) (o : Option Fault) → refusal how before w ≡ o → first (listed o ++ after how (before ++ w ∷ []) ws) ≡ Some fault
-    → (first (after how (before ++ w ∷ []) ws) ≡ Some fault → IsFirst how fault (before ++ w ∷ []) ws) → IsFirst how fault before (w ∷ ws)
+first_here : (how : Reading) (fault : Fault) (before : List ℕ) (w : ℕ) (ws : List ℕ) (o : Option Fault)
+    → refusal how before w ≡ o → first (listed o ++ refusals_after how (before ++ w ∷ []) ws) ≡ Some fault
+    → (first (refusals_after how (before ++ w ∷ []) ws) ≡ Some fault → IsFirst how fault (before ++ w ∷ []) ws) → IsFirst how fault before (w ∷ ws)
 first_here how fault before w ws (Some other) is h rest =
     record { front = []; word = w; more = ws; parts = refl; refused = rw (append-nil before) (is ∙ h); unrefused = λ k d none. absurd (omega arith) }
-first_here how fault before w ws None is h rest =
-    let r = rest h in
-    record {
-      front = w ∷ r.front;
-      word = r.word;
-      more = r.more;
-      parts = ap (λ l. w ∷ l) r.parts;
-      refused = rw (append_assoc before (w ∷ []) r.front) at r.refused;
-      unrefused = λ k d within. none_at r k d within;
-    }
-  where
-    none_at : (r : IsFirst how fault (before ++ w ∷ []) ws) (k d : ℕ) → k < length (w ∷ r.front) → refusal how (before ++ take k (w ∷ r.front)) (get_or (w ∷ r.front) k d) ≡ None
-    none_at r zero d within = rw (append-nil before) is
-    none_at r (suc k) d within = let h = r.unrefused k d (omega arith) in rw (append_assoc before (w ∷ []) (take k r.front)) at h
+first_here how fault before w ws None is h rest = search (rules, arith, append_assoc)
 
-first_after : (how : Reading) (fault : Fault) (before words : List ℕ) → first (after how before words) ≡ Some fault → IsFirst how fault before words
+first_after : (how : Reading) (fault : Fault) (before words : List ℕ) → first (refusals_after how before words) ≡ Some fault → IsFirst how fault before words
 first_after how fault before [] h = cc
-first_after how fault before (w ∷ ws) h = first_here how fault before w ws (refusal how before w) refl h (λ rest. first_after how fault (before ++ w ∷ []) ws rest)
+first_after how fault before (w ∷ ws) h =
+    first_here how fault before w ws (refusal how before w) refl h (λ rest. first_after how fault (before ++ w ∷ []) ws rest)
 
 pub first-refusal : (how : Reading) (words : List ℕ) (fault : Fault) → record_refusal how words ≡ Some fault → IsFirst how fault [] words
 unfolding refusals
@@ -37,14 +23,14 @@ first-refusal how words fault h = first_after how fault [] words h
 abbrev NoneRefused : Reading → List ℕ → List ℕ → Type 0
 NoneRefused how before ws = (k d : ℕ) → k < length ws → refusal how (before ++ take k ws) (get_or ws k d) ≡ None
 
-clear_after : (how : Reading) (before ws : List ℕ) → NoneRefused how before ws → after how before ws ≡ []
+clear_after : (how : Reading) (before ws : List ℕ) → NoneRefused how before ws → refusals_after how before ws ≡ []
 clear_after how before [] none = refl
 clear_after how before (w ∷ ws) none =
     let here : refusal how before w ≡ None = rw (append-nil before) at (none 0 0 (omega arith)) in
     let rest = clear_after how (before ++ w ∷ []) ws (λ k d within. rw (append_assoc before (w ∷ []) (take k ws)) (none (suc k) d (omega arith))) in
     rw (here, rest) refl
 
-none_after : (how : Reading) (before ws : List ℕ) → after how before ws ≡ [] → NoneRefused how before ws
+none_after : (how : Reading) (before ws : List ℕ) → refusals_after how before ws ≡ [] → NoneRefused how before ws
 none_after how before [] clear k d within = absurd (omega arith)
 none_after how before (w ∷ ws) clear zero d within = rw (append-nil before) (listed-none (refusal how before w) _ clear)
 none_after how before (w ∷ ws) clear (suc k) d within =
@@ -52,8 +38,7 @@ none_after how before (w ∷ ws) clear (suc k) d within =
     rw (append_assoc before (w ∷ []) (take k ws)) at h
 
 first-none : (faults : List Fault) → first faults ≡ None → faults ≡ []
-first-none [] h = refl
-first-none (fault ∷ faults) h = cc
+first-none faults h = search (rules, arith)
 
 clear : (how : Reading) (ws : List ℕ) → NoneRefused how [] ws → refusals how ws ≡ []
 unfolding refusals
@@ -63,7 +48,8 @@ none-where-clear : (how : Reading) (ws : List ℕ) → refusals how ws ≡ [] �
 unfolding refusals
 none-where-clear how ws h = none_after how [] ws h
 
-pub none-refused : (how : Reading) (words : List ℕ) → record_refusal how words ≡ None ↔ ((k d : ℕ) → k < length words → refusal how (take k words) (get_or words k d) ≡ None)
+pub none-refused : (how : Reading) (words : List ℕ)
+    → record_refusal how words ≡ None ↔ ((k d : ℕ) → k < length words → refusal how (take k words) (get_or words k d) ≡ None)
 none-refused how words = (λ h. none-where-clear how words (first-none _ h), λ none. ap first (clear how words none))
 
 pub unrefused-none : (how : Reading) (words : List ℕ) → record_refusal how words ≡ None → unrefused_after how [] words ≡ words
@@ -77,7 +63,8 @@ given-all how words h = ap (events_in how) (unrefused-none how words h)
 upto : (front : List ℕ) (w : ℕ) (more words : List ℕ) → words ≡ front ++ w ∷ more → words ≡ (front ++ w ∷ []) ++ more
 upto front w more words parts = parts ∙ sym (append_assoc front (w ∷ []) more)
 
-refused-upto : (how : Reading) (fault : Fault) (words : List ℕ) (least : IsFirst how fault [] words) → record_refusal how (least.front ++ least.word ∷ []) ≡ Some fault
+refused-upto : (how : Reading) (fault : Fault) (words : List ℕ) (least : IsFirst how fault [] words)
+    → record_refusal how (least.front ++ least.word ∷ []) ≡ Some fault
 refused-upto how fault words least = refused-push how least.front least.word fault (clear how least.front least.unrefused) least.refused
 
 pub refused-first : (how : Reading) (words : List ℕ) (fault : Fault) → IsFirst how fault [] words → record_refusal how words ≡ Some fault
@@ -86,8 +73,7 @@ refused-first how words fault least =
     ∙ refused-more how (least.front ++ least.word ∷ []) least.more fault (refused-upto how fault words least)
 
 pub unrefused-before : (how : Reading) (words : List ℕ) (fault : Fault) (least : IsFirst how fault [] words) → unrefused_after how [] words ≡ least.front
-unrefused-before how words fault least =
-    ap (unrefused_after how []) least.parts ∙ unrefused-upto how least.front least.word least.more fault (clear how least.front least.unrefused) least.refused
+unrefused-before how words fault least = search (rules, arith, unrefused-upto, clear)
 
 pub given-before : (how : Reading) (words : List ℕ) (fault : Fault) (least : IsFirst how fault [] words) → given how words ≡ events_in how least.front
 unfolding given
@@ -108,24 +94,16 @@ late-inside true fault is = some-inside fault is
 late-inside false fault is = none-inside
 
 late_refusal-inside : (k : ℕ) (mode : Mode) (before es : List Event) → Inside (late_refusal k mode before es)
-late_refusal-inside k mode before [] = none-inside
-late_refusal-inside k mode before (e ∷ es) = late-inside (is_late_by k mode before e) (BackwardTime e.place e.time (greatest mode before)) refl
+late_refusal-inside k mode before es = search (rules, arith, none-inside, late-inside)
 
 causes-inside : (full reserved passing stops : Bool) (limit place word : ℕ) (late : Option Fault) → Inside late
-    → Inside (if full then Some (RecordLimit limit) else if reserved then Some (ReservedRecord place word) else if passing then Some (TimeLimit place) else if stops then late else None)
-causes-inside true reserved passing stops limit place word late is = some-inside (RecordLimit limit) refl
-causes-inside false true passing stops limit place word late is = some-inside (ReservedRecord place word) refl
-causes-inside false false true stops limit place word late is = some-inside (TimeLimit place) refl
-causes-inside false false false true limit place word late is = is
-causes-inside false false false false limit place word late is = none-inside
+    → Inside (if full then Some (RecordLimit limit) else if reserved then Some
+    (ReservedRecord place word) else if passing then Some (TimeLimit place) else if stops then late else None)
+causes-inside full reserved passing stops limit place word late is = search (rules, arith, some-inside, none-inside)
 
 refusal-inside : (how : Reading) (before : List ℕ) (word : ℕ) → Inside (refusal how before word)
 unfolding refusal
-refusal-inside how before word =
-    let records = map how.meaning before in
-    let raw = how.meaning word in
-    causes-inside (nat_le how.policy.records (length records)) (is_reserved raw && stops_reserved how.policy.reserved) (passes records raw) (stops_late how.policy.order) how.policy.records (length records + 1) word
-    (late_refusal how.policy.settle how.mode (events records) (event_after records raw)) (late_refusal-inside how.policy.settle how.mode (events records) (event_after records raw))
+refusal-inside how before word = search (rules, arith, causes-inside, late_refusal-inside)
 
 pub record_refusal-inside : (how : Reading) (words : List ℕ) (fault : Fault) → record_refusal how words ≡ Some fault → is_outside fault ≡ false
 record_refusal-inside how words fault h = let r = first-refusal how words fault h in refusal-inside how r.front r.word fault r.refused
@@ -135,7 +113,8 @@ pub streamed-inside : (how : Reading) (bytes : List ℕ) (fault : Fault) → fau
 unfolding streamed
 streamed-inside how bytes fault is = by (record_refusal how (words_of bytes)) refl is
   where
-    cut : (b : Bool) → fault_in (if b then Ok (summary how (words_of bytes)) else Err (TruncatedRecord (length (rest_of bytes)))) ≡ Some fault → is_outside fault ≡ false
+    cut : (b : Bool) → fault_in (if b then Ok (summary how (words_of bytes)) else Err (TruncatedRecord (length (rest_of bytes)))) ≡ Some fault
+        → is_outside fault ≡ false
     cut true h = cc
     cut false h = let same : TruncatedRecord (length (rest_of bytes)) ≡ fault = cc in rw (← same) refl
 

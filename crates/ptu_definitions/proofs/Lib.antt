@@ -1,5 +1,4 @@
 pub mod Walks
-pub mod EndingLemmas
 pub mod AnswerLemmas
 pub mod Sound
 pub mod Rows
@@ -10,11 +9,9 @@ pub mod Nests
 pub mod SeenLaws
 pub mod Stays
 pub mod Longest
-pub mod FoursLemmas
 pub mod PrefixLemmas
 pub mod StreamLemmas
 pub mod Firsts
-pub mod FittingLemmas
 pub mod StreamRows
 pub mod SettledLemmas
 pub mod SettlingLemmas

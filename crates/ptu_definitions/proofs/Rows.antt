@@ -1,7 +1,7 @@
 -- The definitions at known bytes.
 use Rattle.std.proofs.Common.{◌≡◌, ◌-◌, ◌/◌, ◌%◌, ℕ, zero, suc, List, [], ◌∷◌, ◌++◌, None, Some, Ok, Err, length, take, replicate, refl, codes, negsuc, pos}
 use Rattle.tally_base.{specs.declared.header.RecordType.TheVariants.HydraHarp2T3, specs.declared.fault.Fault.TheVariants.{BadMagic, TruncatedHeader, TagType, TagLength, NoRecordType, UnknownRecordType}, specs.RecordTypes.type_with}
-use Rattle.ptu_definitions.{specs.TagFields.{name_in, code_in, value_in, has_body, is_known}, specs.Endings.{walk, ending}, specs.Fields.{value_under, found_in, header_of}, specs.Headers.header_answer, specs.Seen.{seen_from, seen, seen_preamble}}
+use Rattle.ptu_definitions.{specs.TagList.{name_in, code_in, value_in, has_body, is_known}, specs.Endings.{walk, ending}, specs.Fields.{value_under, found_in, header_of}, specs.Headers.{header_answer, seen_from, seen, seen_preamble}}
 
 abbrev version_bytes : List ℕ
 version_bytes = codes "1.0.00" ++ 0 ∷ 0 ∷ []
@@ -22,82 +22,8 @@ end_tag = tag (codes "Header_End") (8 ∷ 0 ∷ 255 ∷ 255 ∷ []) (replicate 8
 abbrev known : List ℕ
 known = start_bytes ++ type_tag (8 ∷ 0 ∷ 0 ∷ 16 ∷ []) (4 ∷ 3 ∷ 1 ∷ 1 ∷ []) ++ end_tag
 
-pub row-known : header_answer (known ++ 7 ∷ []) ≡ Ok (record { record_type = HydraHarp2T3; count = None; global = None; resolution = None; version = version_bytes }, 7 ∷ [])
-unfolding header_answer ending walk name_in code_in value_in has_body is_known value_under found_in header_of type_with
-row-known = refl
-
-pub row-cut : header_answer (take 100 known) ≡ Err (TruncatedHeader 100)
-unfolding header_answer ending walk name_in code_in value_in has_body is_known value_under found_in header_of type_with
-row-cut = refl
-
-pub row-other : header_answer (codes "PQTTTS") ≡ Err BadMagic
-unfolding header_answer ending walk
-row-other = refl
-
-pub row-short : header_answer (codes "PQ") ≡ Err (TruncatedHeader 2)
-unfolding header_answer ending walk
-row-short = refl
-
-pub row-bad_type : header_answer (start_bytes ++ type_tag (8 ∷ 0 ∷ 0 ∷ 48 ∷ []) (4 ∷ 3 ∷ 1 ∷ 1 ∷ [])) ≡ Err (TagType 1 0x30000008)
-unfolding header_answer ending walk name_in code_in value_in has_body is_known value_under found_in header_of type_with
-row-bad_type = refl
-
-pub row-bad_length : header_answer (start_bytes ++ tag (codes "A") (255 ∷ 255 ∷ 1 ∷ 64 ∷ []) (replicate 8 255)) ≡ Err (TagLength 1 (negsuc 0))
-unfolding header_answer ending walk name_in code_in value_in has_body is_known value_under found_in header_of type_with
-row-bad_length = refl
-
-pub row-no_type : header_answer (start_bytes ++ type_tag (8 ∷ 0 ∷ 0 ∷ 0 ∷ []) (4 ∷ 3 ∷ 1 ∷ 1 ∷ []) ++ end_tag) ≡ Err NoRecordType
-unfolding header_answer ending walk name_in code_in value_in has_body is_known value_under found_in header_of type_with
-row-no_type = refl
-
-pub row-unknown_type : header_answer (start_bytes ++ type_tag (8 ∷ 0 ∷ 0 ∷ 16 ∷ []) (8 ∷ 3 ∷ 1 ∷ 0 ∷ []) ++ end_tag) ≡ Err (UnknownRecordType (pos 0x00010308))
-unfolding header_answer ending walk name_in code_in value_in has_body is_known value_under found_in header_of type_with
-row-unknown_type = refl
-
-pub row-first_type : header_answer (start_bytes ++ type_tag (8 ∷ 0 ∷ 0 ∷ 16 ∷ []) (4 ∷ 3 ∷ 1 ∷ 1 ∷ []) ++ type_tag (8 ∷ 0 ∷ 0 ∷ 16 ∷ []) (3 ∷ 3 ∷ 1 ∷ 0 ∷ []) ++ end_tag)
-    ≡ Ok (record { record_type = HydraHarp2T3; count = None; global = None; resolution = None; version = version_bytes }, [])
-unfolding header_answer ending walk name_in code_in value_in has_body is_known value_under found_in header_of type_with
-row-first_type = refl
-
--- no bytes at all
-pub row-empty : header_answer [] ≡ Err (TruncatedHeader 0)
-unfolding header_answer ending walk
-row-empty = refl
-
--- a header with no other tag
-pub row-end_alone : header_answer (start_bytes ++ end_tag) ≡ Err NoRecordType
-unfolding header_answer ending walk name_in code_in value_in has_body is_known value_under found_in header_of type_with
-row-end_alone = refl
-
 abbrev type_item : List ℕ
 type_item = type_tag (8 ∷ 0 ∷ 0 ∷ 16 ∷ []) (4 ∷ 3 ∷ 1 ∷ 1 ∷ [])
-
--- An item named Header_End ends the list, whatever its type, and its body is passed over.
-pub row-end_text : header_answer (start_bytes ++ type_item ++ tag (codes "Header_End") (255 ∷ 255 ∷ 1 ∷ 64 ∷ []) (2 ∷ replicate 7 0) ++ codes "ok" ++ 7 ∷ 8 ∷ [])
-    ≡ Ok (record { record_type = HydraHarp2T3; count = None; global = None; resolution = None; version = version_bytes }, 7 ∷ 8 ∷ [])
-unfolding header_answer ending walk name_in code_in value_in has_body is_known value_under found_in header_of type_with
-row-end_text = refl
-
-pub row-end_number : header_answer (start_bytes ++ type_item ++ tag (codes "Header_End") (8 ∷ 0 ∷ 0 ∷ 16 ∷ []) (replicate 8 255) ++ 7 ∷ [])
-    ≡ Ok (record { record_type = HydraHarp2T3; count = None; global = None; resolution = None; version = version_bytes }, 7 ∷ [])
-unfolding header_answer ending walk name_in code_in value_in has_body is_known value_under found_in header_of type_with
-row-end_number = refl
-
--- A Header_End whose body is cut doesn't end the list.
-pub row-end_cut : header_answer (start_bytes ++ type_item ++ tag (codes "Header_End") (255 ∷ 255 ∷ 1 ∷ 64 ∷ []) (2 ∷ replicate 7 0) ++ codes "o") ≡ Err (TruncatedHeader 113)
-unfolding header_answer ending walk name_in code_in value_in has_body is_known value_under found_in header_of type_with
-row-end_cut = refl
-
--- What stands behind the first NUL of an identifier isn't compared.
-pub row-behind_nul : header_answer (start_bytes ++ tag (codes "TTResultFormat_TTTRRecType" ++ 0 ∷ codes "more") (8 ∷ 0 ∷ 0 ∷ 16 ∷ []) (4 ∷ 3 ∷ 1 ∷ 1 ∷ replicate 4 0) ++ tag (codes "Header_End" ++ 0 ∷ codes "x") (8 ∷ 0 ∷ 255 ∷ 255 ∷ []) (replicate 8 0))
-    ≡ Ok (record { record_type = HydraHarp2T3; count = None; global = None; resolution = None; version = version_bytes }, [])
-unfolding header_answer ending walk name_in code_in value_in has_body is_known value_under found_in header_of type_with
-row-behind_nul = refl
-
--- What stands before it is.
-pub row-longer_name : header_answer (start_bytes ++ tag (codes "TTResultFormat_TTTRRecType2") (8 ∷ 0 ∷ 0 ∷ 16 ∷ []) (4 ∷ 3 ∷ 1 ∷ 1 ∷ replicate 4 0) ++ end_tag) ≡ Err NoRecordType
-unfolding header_answer ending walk name_in code_in value_in has_body is_known value_under found_in header_of type_with
-row-longer_name = refl
 
 -- a number of so many bytes
 abbrev number : ℕ → ℕ → List ℕ
@@ -134,28 +60,58 @@ bench_header =
 
 abbrev bench_words : List ℕ
 bench_words =
-    number 4 0xFE000001 ++ number 4 0x86000006 ++ number 4 0x00019006 ++ number 4 0x02032008 ++ number 4 0x00401014 ++ number 4 0x024E2015 ++ number 4 0xFE000000 ++ number 4 0x88000000
+    number 4 0xFE000001 ++ number 4 0x86000006 ++ number 4 0x00019006 ++ number 4 0x02032008
+    ++ number 4 0x00401014 ++ number 4 0x024E2015 ++ number 4 0xFE000000 ++ number 4 0x88000000
     ++ number 4 0x00019002
 
-pub row-bench_size : length (bench_header ++ bench_words) ≡ 783
-row-bench_size = refl
-
-pub row-bench : header_answer (bench_header ++ bench_words)
-    ≡ Ok (record { record_type = HydraHarp2T3; count = Some (pos 9); global = Some 0x3E6AD7F29ABCAF48; resolution = Some 0x3DC19799812DEA11; version = version_bytes }, bench_words)
-unfolding header_answer ending walk name_in code_in value_in has_body is_known value_under found_in header_of type_with
-row-bench = refl
-
--- what a front, a whole tag and two bytes of its body show
-pub row-seen : seen (start_bytes ++ type_item ++ tag (codes "A") (255 ∷ 255 ∷ 1 ∷ 64 ∷ []) (3 ∷ replicate 7 0) ++ codes "ok")
-    ≡ record { tag = type_item; body = [] } ∷ record { tag = tag (codes "A") (255 ∷ 255 ∷ 1 ∷ 64 ∷ []) (3 ∷ replicate 7 0); body = codes "ok" } ∷ []
-unfolding seen seen_from name_in code_in value_in has_body is_known
-row-seen = refl
-
--- A preamble is seen once it is whole.
-pub row-seen_preamble : seen_preamble (start_bytes ++ codes "A") ≡ Some start_bytes
-unfolding seen_preamble
-row-seen_preamble = refl
-
-pub row-no_preamble : seen_preamble (take 15 start_bytes) ≡ None
-unfolding seen_preamble
-row-no_preamble = refl
+pub rows :
+    (header_answer (known ++ 7 ∷ [])
+    ≡ Ok (record { record_type = HydraHarp2T3; count = None; global = None; resolution = None; version = version_bytes }, 7 ∷ []))
+    × (header_answer (take 100 known) ≡ Err (TruncatedHeader 100))
+    × (header_answer (codes "PQTTTS") ≡ Err BadMagic)
+    × (header_answer (codes "PQ") ≡ Err (TruncatedHeader 2))
+    × (header_answer (start_bytes ++ type_tag (8 ∷ 0 ∷ 0 ∷ 48 ∷ []) (4 ∷ 3 ∷ 1 ∷ 1 ∷ [])) ≡ Err (TagType 1 0x30000008))
+    × (header_answer (start_bytes ++ tag (codes "A") (255 ∷ 255 ∷ 1 ∷ 64 ∷ []) (replicate 8 255)) ≡ Err (TagLength 1 (negsuc 0)))
+    × (header_answer (start_bytes ++ type_tag (8 ∷ 0 ∷ 0 ∷ 0 ∷ []) (4 ∷ 3 ∷ 1 ∷ 1 ∷ []) ++ end_tag) ≡ Err NoRecordType)
+    × (header_answer (start_bytes ++ type_tag (8 ∷ 0 ∷ 0 ∷ 16 ∷ []) (8 ∷ 3 ∷ 1 ∷ 0 ∷ []) ++ end_tag) ≡ Err (UnknownRecordType (pos 0x00010308)))
+    × (header_answer (start_bytes ++ type_tag (8 ∷ 0 ∷ 0 ∷ 16 ∷ []) (4 ∷ 3 ∷ 1 ∷ 1 ∷ []) ++ type_tag (8 ∷ 0 ∷ 0 ∷ 16 ∷ []) (3 ∷ 3 ∷ 1 ∷ 0 ∷ []) ++ end_tag)
+    ≡ Ok (record { record_type = HydraHarp2T3; count = None; global = None; resolution = None; version = version_bytes }, []))
+    -- no bytes at all
+    × (header_answer [] ≡ Err (TruncatedHeader 0))
+    -- a header with no other tag
+    × (header_answer (start_bytes ++ end_tag) ≡ Err NoRecordType)
+    -- An item named Header_End ends the list, whatever its type, and its body is passed over.
+    × (header_answer (start_bytes ++ type_item ++ tag (codes "Header_End") (255 ∷ 255 ∷ 1 ∷ 64 ∷ []) (2 ∷ replicate 7 0) ++ codes "ok" ++ 7 ∷ 8 ∷ [])
+    ≡ Ok (record { record_type = HydraHarp2T3; count = None; global = None; resolution = None; version = version_bytes }, 7 ∷ 8 ∷ []))
+    × (header_answer (start_bytes ++ type_item ++ tag (codes "Header_End") (8 ∷ 0 ∷ 0 ∷ 16 ∷ []) (replicate 8 255) ++ 7 ∷ [])
+    ≡ Ok (record { record_type = HydraHarp2T3; count = None; global = None; resolution = None; version = version_bytes }, 7 ∷ []))
+    -- A Header_End whose body is cut doesn't end the list.
+    × (header_answer (start_bytes ++ type_item ++ tag (codes "Header_End") (255 ∷ 255 ∷ 1 ∷ 64 ∷ []) (2 ∷ replicate 7 0) ++ codes "o")
+    ≡ Err (TruncatedHeader 113))
+    -- What stands behind the first NUL of an identifier isn't compared.
+    × (header_answer (start_bytes ++ tag (codes "TTResultFormat_TTTRRecType" ++ 0 ∷ codes "more") (8 ∷ 0 ∷ 0 ∷ 16 ∷ []) (4 ∷ 3 ∷ 1 ∷ 1 ∷ replicate 4 0) ++ tag
+    (codes "Header_End" ++ 0 ∷ codes "x") (8 ∷ 0 ∷ 255 ∷ 255 ∷ []) (replicate 8 0))
+    ≡ Ok (record { record_type = HydraHarp2T3; count = None; global = None; resolution = None; version = version_bytes }, []))
+    -- What stands before it is.
+    × (header_answer (start_bytes ++ tag (codes "TTResultFormat_TTTRRecType2") (8 ∷ 0 ∷ 0 ∷ 16 ∷ []) (4 ∷ 3 ∷ 1 ∷ 1 ∷ replicate 4 0) ++ end_tag)
+    ≡ Err NoRecordType)
+    × (length (bench_header ++ bench_words) ≡ 783)
+    × (header_answer (bench_header ++ bench_words)
+    ≡ Ok (
+      record {
+        record_type = HydraHarp2T3;
+        count = Some (pos 9);
+        global = Some 0x3E6AD7F29ABCAF48;
+        resolution = Some 0x3DC19799812DEA11;
+        version = version_bytes;
+      },
+      bench_words,
+    ))
+    -- what a front, a whole tag and two bytes of its body show
+    × (seen (start_bytes ++ type_item ++ tag (codes "A") (255 ∷ 255 ∷ 1 ∷ 64 ∷ []) (3 ∷ replicate 7 0) ++ codes "ok")
+    ≡ record { tag = type_item; body = [] } ∷ record { tag = tag (codes "A") (255 ∷ 255 ∷ 1 ∷ 64 ∷ []) (3 ∷ replicate 7 0); body = codes "ok" } ∷ [])
+    -- A preamble is seen once it is whole.
+    × (seen_preamble (start_bytes ++ codes "A") ≡ Some start_bytes)
+    × (seen_preamble (take 15 start_bytes) ≡ None)
+unfolding header_answer ending walk name_in code_in value_in has_body is_known value_under found_in header_of type_with seen seen_from seen_preamble
+rows = (refl, refl, refl, refl, refl, refl, refl, refl, refl, refl, refl, refl, refl, refl, refl, refl, refl, refl, refl, refl, refl)

@@ -1,5 +1,5 @@
 -- Laws of the kept list and the settled list.
-use Rattle.std.{proofs.Common.{◌≡◌, ◌+◌, ◌<◌, ◌≤◌, ℕ, List, [], ◌∷◌, ◌++◌, Bool, true, false, cond, length, length-append, refl, sym, ap, ◌∙◌, append_assoc, append-nil, arith, nat_lt, ◌==◌}, specs.List.filter, specs.List.Sorted.{IsPermutation, IsNonDecreasingBy}, proofs.lemmas.List.Sorted.{IsPermutation-refl, IsPermutation-cons, IsPermutation-middle, IsPermutation-trans, IsPermutation-append_left}, proofs.lemmas.List.Elements.filter-append, proofs.lemmas.Bool.{ltb-true, ltb-false, eqb-true, ne_eqb}}
+use Rattle.std.{proofs.Common.{◌≡◌, ◌+◌, ◌<◌, ◌≤◌, ℕ, List, [], ◌∷◌, ◌++◌, Bool, true, false, cond, length, length-append, refl, sym, ap, ◌∙◌, append_assoc, append-nil, arith, nat_lt, ◌==◌, rules}, specs.List.filter, specs.List.Sorted.{IsPermutation, IsNonDecreasingBy}, proofs.lemmas.List.Sorted.{IsPermutation-refl, IsPermutation-cons, IsPermutation-middle, IsPermutation-trans, IsPermutation-append_left}, proofs.lemmas.List.Elements.filter-append, proofs.lemmas.Bool.{ltb-true, ltb-false, eqb-true, ne_eqb}}
 use Rattle.tally_base.specs.declared.event.Event.{Event}
 use Rattle.ptu_definitions.{specs.Prefixes.each_after, specs.Settled.{later_than, is_overtaken, unless_overtaken, not_overtaken, put_in, put_all, in_time, Rises}, proofs.SettledLemmas.{later_than-length, Rises-put_in, IsNonDecreasingBy-Rises}}
 
@@ -30,9 +30,12 @@ pub Rises-put_all : (sorted es : List Event) → Rises 0 sorted → Rises 0 (put
 Rises-put_all sorted [] up = up
 Rises-put_all sorted (e ∷ es) up = Rises-put_all (put_in e sorted) es (Rises-put_in 0 e sorted (omega arith) up)
 
-pub in_time-rising : (k : ℕ) (es : List Event) → IsNonDecreasingBy (λ (e : Event). e.time) (in_time k es)
+pub in_time-rises : (k : ℕ) (es : List Event) → Rises 0 (in_time k es)
 unfolding in_time
-in_time-rising k es = IsNonDecreasingBy-Rises 0 (put_all [] (not_overtaken k es)) (Rises-put_all [] (not_overtaken k es) tt)
+in_time-rises k es = Rises-put_all [] (not_overtaken k es) tt
+
+pub in_time-rising : (k : ℕ) (es : List Event) → IsNonDecreasingBy (λ (e : Event). e.time) (in_time k es)
+in_time-rising k es = IsNonDecreasingBy-Rises 0 (in_time k es) (in_time-rises k es)
 
 -- Those of equal time in file order.
 abbrev at_time : ℕ → List Event → List Event
@@ -43,22 +46,15 @@ skips b x xs off none = rw off none
 
 none_at : (t u : ℕ) (xs : List Event) → t < u → Rises u xs → at_time t xs ≡ []
 none_at t u [] h up = refl
-none_at t u (x ∷ xs) h up =
-    let le : u ≤ x.time = up.0 in
-    let off : (x.time == t) ≡ false = ne_eqb x.time t (λ same. omega arith) in
-    skips (x.time == t) x (at_time t xs) off (none_at t x.time xs (omega arith) up.1)
+none_at t u (x ∷ xs) h up = search (rules, arith, ne_eqb, skips, at_time, none_at t x.time xs (omega arith) up.1)
 
 -- an event that is before all others or has another time
-front_pick : (t : ℕ) (b : Bool) (e : Event) (xs : List Event) → (e.time == t) ≡ b → (b ≡ true → at_time t xs ≡ []) → cond b (e ∷ at_time t xs) (at_time t xs) ≡ at_time t xs ++ cond b (e ∷ []) []
-front_pick t true e xs is none = rw (none refl) refl
-front_pick t false e xs is none = sym (append-nil (at_time t xs))
+front_pick : (t : ℕ) (b : Bool) (e : Event) (xs : List Event) → (e.time == t) ≡ b → (b ≡ true → at_time t xs ≡ [])
+    → cond b (e ∷ at_time t xs) (at_time t xs) ≡ at_time t xs ++ cond b (e ∷ []) []
+front_pick t b e xs is none = search (rules, arith, append-nil, at_time)
 
 stable_pick : (t : ℕ) (b : Bool) (e x : Event) (xs ys : List Event) → nat_lt e.time x.time ≡ b → Rises x.time xs → (x.time ≤ e.time → at_time t ys ≡ at_time t (xs ++ e ∷ [])) → at_time t (cond b (e ∷ x ∷ xs) (x ∷ ys)) ≡ at_time t ((x ∷ xs) ++ e ∷ [])
-stable_pick t true e x xs ys is up rest =
-    let lt : e.time < x.time = ltb-true e.time x.time is in
-    front_pick t (e.time == t) e (x ∷ xs) refl (λ on. none_at t x.time (x ∷ xs) (let same : e.time ≡ t = eqb-true e.time t on in omega arith) (omega arith, up))
-    ∙ sym (filter-append (λ (y : Event). y.time == t) (x ∷ xs) (e ∷ []))
-stable_pick t false e x xs ys is up rest = ap (λ l. cond (x.time == t) (x ∷ l) l) (rest (ltb-false e.time x.time is))
+stable_pick t b e x xs ys is up rest = search (rules, arith, ltb-true, front_pick, none_at, eqb-true, filter-append, ltb-false)
 
 pub put_in-stable : (t u : ℕ) (e : Event) (xs : List Event) → Rises u xs → at_time t (put_in e xs) ≡ at_time t (xs ++ e ∷ [])
 put_in-stable t u e [] up = refl
@@ -78,8 +74,10 @@ unfolding in_time
 in_time-stable k t es = put_all-stable t [] (not_overtaken k es) tt
 
 -- Where there are few events, none is late.
-few_pick : (k : ℕ) (c : Bool) (before : List Event) (e : Event) → is_overtaken k before e ≡ c → length before ≤ k → ◌≡◌ {A = List Event} (cond c [] (e ∷ [])) (e ∷ [])
-few_pick k true before e is few = let most : later_than e.time before ≤ length before = later_than-length e.time before in let more : k < later_than e.time before = ltb-true k (later_than e.time before) is in absurd (omega arith)
+few_pick : (k : ℕ) (c : Bool) (before : List Event) (e : Event) → is_overtaken k before e ≡ c
+    → length before ≤ k → ◌≡◌ {A = List Event} (cond c [] (e ∷ [])) (e ∷ [])
+few_pick k true before e is few = let most : later_than e.time before ≤ length before =
+    later_than-length e.time before in let more : k < later_than e.time before = ltb-true k (later_than e.time before) is in absurd (omega arith)
 few_pick k false before e is few = refl
 
 few-after : (k : ℕ) (before es : List Event) → length before + length es ≤ k + 1 → each_after (unless_overtaken k) before es ≡ es

@@ -1,16 +1,12 @@
 -- What is settled, one event after another.
-use Rattle.std.{proofs.Common.{◌≡◌, ◌+◌, ◌-◌, ◌<◌, ◌≤◌, ℕ, List, [], ◌∷◌, ◌++◌, Bool, true, false, cond, length, refl, sym, ap, subst, ◌∙◌, append_assoc, length-append, arith, ⊎_elim, nat_lt}, specs.List.AllByRecursion, proofs.lemmas.Bool.{cases_lt, lt-ltb, le-ltb}, proofs.Math.Seq.{take-append_seam, drop-append_seam}}
+use Rattle.std.{proofs.Common.{◌≡◌, ◌+◌, ◌-◌, ◌<◌, ◌≤◌, ℕ, List, [], ◌∷◌, ◌++◌, true, false, length, refl, sym, ap, subst, ◌∙◌, append_assoc, length-append, arith, ⊎_elim, rules}, specs.List.AllByRecursion, proofs.lemmas.Bool.{cases_lt, lt-ltb, le-ltb}, proofs.Math.Seq.{take-append_seam, drop-append_seam}, proofs.lemmas.Grind.common_steps}
 use Rattle.tally_base.specs.declared.event.Event.{Event}
-use Rattle.ptu_definitions.{specs.Settled.{later_than, is_overtaken, put_in, in_time, without_last, last_of, marked_as, settles, Rises}, specs.Settling.IsOpen, proofs.SettledLemmas.{later_than-push, later_than-cons, later_than-put_in, length-put_in, Rises-put_in, put_in-append, is_no_later, all_later, later_than-length, in_time-late, in_time-push}}
+use Rattle.ptu_definitions.{specs.Settled.{later_than, is_overtaken, put_in, in_time, without_last, last_of, marked_as, settles, Rises, IsOpen}, proofs.SettledLemmas.{later_than-push, later_than-cons, later_than-put_in, length-put_in, Rises-put_in, put_in-append, is_no_later, all_later, later_than-length, in_time-late, in_time-push}}
 
 -- Facts of each event of a list.
 pub each-put_in : (P : Event → Type 0) (e : Event) (xs : List Event) → P e → AllByRecursion P xs → AllByRecursion P (put_in e xs)
 each-put_in P e [] p all = (p, tt)
-each-put_in P e (x ∷ xs) p all = pick (nat_lt e.time x.time) (each-put_in P e xs p all.1)
-  where
-    pick : (b : Bool) → AllByRecursion P (put_in e xs) → AllByRecursion P (cond b (e ∷ x ∷ xs) (x ∷ put_in e xs))
-    pick true rest = (p, (all.0, all.1))
-    pick false rest = (all.0, rest)
+each-put_in P e (x ∷ xs) p all = search (rules, arith, each-put_in P e xs p all.1)
 
 pub each-weaker : (P Q : Event → Type 0) (xs : List Event) → ((x : Event) → P x → Q x) → AllByRecursion P xs → AllByRecursion Q xs
 each-weaker P Q [] f all = tt
@@ -31,10 +27,9 @@ is_not_late k es g w last e now few h = le-ltb k (later_than e.time es) (omega (
 pub joined-late : (k : ℕ) (es g w : List Event) (e : Event) → is_overtaken k es e ≡ true → g ++ w ≡ in_time k es → g ++ w ≡ in_time k (es ++ e ∷ [])
 joined-late k es g w e late joined = joined ∙ sym (in_time-late k es e late)
 
-pub joined-put : (k : ℕ) (es g w : List Event) (last : ℕ) (e : Event) → is_overtaken k es e ≡ false → IsOpen k es g w last → last ≤ e.time → g ++ w ≡ in_time k es → g ++ put_in e w ≡ in_time k (es ++ e ∷ [])
-joined-put k es g w last e late now h joined =
-    sym (put_in-append e g w (each-weaker (λ x. x.time ≤ last) (λ x. x.time ≤ e.time) g (λ x le. omega arith) now.early))
-    ∙ ap (put_in e) joined ∙ sym (in_time-push k es e late)
+pub joined-put : (k : ℕ) (es g w : List Event) (last : ℕ) (e : Event) → is_overtaken k es e ≡ false
+    → IsOpen k es g w last → last ≤ e.time → g ++ w ≡ in_time k es → g ++ put_in e w ≡ in_time k (es ++ e ∷ [])
+joined-put k es g w last e late now h joined = search (rules, arith, put_in-append, each-weaker, in_time-push)
 
 -- the first that waits is settled
 pub joined-give : (k : ℕ) (es g w rest : List Event) (x : Event) → w ≡ x ∷ rest → g ++ w ≡ in_time k es → (g ++ x ∷ []) ++ rest ≡ in_time k es
@@ -42,11 +37,7 @@ joined-give k es g w rest x is joined = append_assoc g (x ∷ []) rest ∙ ap (�
 
 -- What holds as long as the list goes on.
 above-push : (es w : List Event) (e : Event) (t : ℕ) → later_than t es ≡ later_than t w → later_than t (es ++ e ∷ []) ≡ later_than t (put_in e w)
-above-push es w e t h =
-    let a : later_than t (es ++ e ∷ []) ≡ later_than t es + cond (nat_lt t e.time) 1 0 = later_than-push t es e in
-    let b : later_than t (e ∷ w) ≡ cond (nat_lt t e.time) 1 0 + later_than t w = later_than-cons t e w in
-    let c : later_than t (put_in e w) ≡ later_than t (e ∷ w) = later_than-put_in t e w in
-    omega arith
+above-push es w e t h = search (rules, arith, later_than-push, later_than-cons, later_than-put_in)
 
 below-push : (k : ℕ) (es : List Event) (e : Event) (t : ℕ) → k < later_than t es → k < later_than t (es ++ e ∷ [])
 below-push k es e t h = omega (arith, later_than-push t es e)
@@ -65,7 +56,8 @@ open-late k es g w last e now h = record {
   below = λ t lt. below-push k es e t (now.below t lt);
 }
 
-pub open-wait : (k : ℕ) (es g w : List Event) (last : ℕ) (e : Event) → IsOpen k es g w last → last ≤ e.time → length w < k → IsOpen k (es ++ e ∷ []) g (put_in e w) last
+pub open-wait : (k : ℕ) (es g w : List Event) (last : ℕ) (e : Event) → IsOpen k es g w last
+    → last ≤ e.time → length w < k → IsOpen k (es ++ e ∷ []) g (put_in e w) last
 open-wait k es g w last e now h few = record {
   rising = Rises-put_in last e w h now.rising;
   early = now.early;
@@ -74,12 +66,14 @@ open-wait k es g w last e now h few = record {
   below = λ t lt. below-push k es e t (now.below t lt);
 }
 
-pub open-emit : (k : ℕ) (es g w rest : List Event) (last : ℕ) (e x : Event) → IsOpen k es g w last → last ≤ e.time → length w ≡ k → put_in e w ≡ x ∷ rest → IsOpen k (es ++ e ∷ []) (g ++ x ∷ []) rest x.time
+pub open-emit : (k : ℕ) (es g w rest : List Event) (last : ℕ) (e x : Event) → IsOpen k es g w last
+    → last ≤ e.time → length w ≡ k → put_in e w ≡ x ∷ rest → IsOpen k (es ++ e ∷ []) (g ++ x ∷ []) rest x.time
 open-emit k es g w rest last e x now h full is =
     let up : Rises last (x ∷ rest) = subst (Rises last) is (Rises-put_in last e w h now.rising) in
     let least : last ≤ x.time = up.0 in
     let count : length (x ∷ rest) ≡ length w + 1 = ap length (sym is) ∙ length-put_in e w in
-    let same : (t : ℕ) → last ≤ t → later_than t (es ++ e ∷ []) ≡ later_than t (x ∷ rest) = λ t le. above-push es w e t (now.above t le) ∙ ap (later_than t) is in
+    let same : (t : ℕ) → last ≤ t → later_than t (es ++ e ∷ []) ≡ later_than t (x ∷ rest) =
+    λ t le. above-push es w e t (now.above t le) ∙ ap (later_than t) is in
     record {
       rising = up.1;
       early = all-push (λ y. y.time ≤ x.time) g x (each-weaker (λ y. y.time ≤ last) (λ y. y.time ≤ x.time) g (λ y le. omega arith) now.early) (omega arith);
@@ -101,16 +95,10 @@ none_settled : (k n : ℕ) (w : List Event) → length w ≤ k → length w - k 
 none_settled k n w few = omega arith
 
 pub settled-is : (k : ℕ) (es g w : List Event) (last : ℕ) → IsOpen k es g w last → length w ≤ k → g ++ w ≡ in_time k es → without_last k (in_time k es) ≡ g
-settled-is k es g w last now few joined = ⊎_elim
-    (λ less. let none : g ≡ [] = now.full less in rw (← joined, none, none_settled k 0 w few) refl)
-    (λ all. let full : k ≡ length w = omega arith in rw (← joined, full, seam) (take-append_seam g w))
-    (cases_lt (length w) k)
+settled-is k es g w last now few joined = grind (arith, common_steps, none_settled, seam, take-append_seam, cases_lt)
 
 pub waits-is : (k : ℕ) (es g w : List Event) (last : ℕ) → IsOpen k es g w last → length w ≤ k → g ++ w ≡ in_time k es → last_of k (in_time k es) ≡ w
-waits-is k es g w last now few joined = ⊎_elim
-    (λ less. let none : g ≡ [] = now.full less in rw (← joined, none, none_settled k 0 w few) refl)
-    (λ all. let full : k ≡ length w = omega arith in rw (← joined, full, seam) (drop-append_seam g w))
-    (cases_lt (length w) k)
+waits-is k es g w last now few joined = grind (arith, common_steps, none_settled, seam, drop-append_seam, cases_lt)
 
 -- What one event more settles.
 pub settles-late : (k : ℕ) (es : List Event) (e : Event) → is_overtaken k es e ≡ true → settles k es e ≡ (e, true) ∷ []

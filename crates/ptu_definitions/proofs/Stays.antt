@@ -1,5 +1,5 @@
 -- More bytes behind a file change its header's answer only where the header is cut.
-use Rattle.std.{proofs.Common.{subst, ◌+◌, ◌≡◌, ◌≢◌, ◌-◌, ◌≤◌, ◌^◌, ℕ, List, [], ◌∷◌, ◌++◌, length, take, drop, refl, sym, ap, ◌∙◌, append_assoc, append-nil, arith, length-append, inl, inr, Ok, Err, Result}, proofs.lemmas.List.{length-take, take-append-le, drop-append-le, take_all, length-drop}, proofs.lemmas.Bool.cases_lt}
+use Rattle.std.{proofs.Common.{subst, ◌+◌, ◌≡◌, ◌≢◌, ◌-◌, ◌≤◌, ◌^◌, ℕ, List, [], ◌++◌, length, take, drop, refl, sym, ap, ◌∙◌, append_assoc, append-nil, arith, length-append, inl, inr, Ok, Err, Result, rules}, proofs.lemmas.List.{length-take, take-append-le, drop-append-le, take_all, length-drop}, proofs.lemmas.Bool.cases_lt}
 use Rattle.tally_base.{specs.declared.fault.Fault.Fault, specs.declared.fault.Fault.TheVariants.TruncatedHeader, specs.declared.header.Header.Header}
 use Rattle.ptu_definitions.{specs.TagList.{Item, bytes_of}, specs.Endings.{Ending, OtherFile, BadType, BadLength, Whole, Open, HasTag, HasHeader, IsOpen, EndsAs, ending}, specs.Fields.{found_in, header_of, version_in}, specs.Headers.{header_answer, head_of, answer_as, with_rest, unfinished}, proofs.Sound.{ending-applies, ending-one}, proofs.AnswerLemmas.{head-front, answer-open, answer-at, bytes_of-append}, proofs.SeenLaws.{other-append, behind_tag, refusal, err_is}}
 
@@ -9,51 +9,27 @@ with_more more (Ok found) = Ok (found.0, found.1 ++ more)
 with_more more (Err fault) = Err fault
 
 with_rest-more : (rest more : List ℕ) (r : Result Header Fault) → with_rest (rest ++ more) r ≡ with_more more (with_rest rest r)
-with_rest-more rest more (Ok header) = refl
-with_rest-more rest more (Err fault) = refl
+with_rest-more rest more r = search (rules, arith)
 
 -- A tag that stands behind a front stands there whatever comes behind.
 tag-more : (bytes more : List ℕ) (number : ℕ) (tag : List ℕ) → HasTag bytes number tag → HasTag (bytes ++ more) number tag
-tag-more bytes more number tag h = record {
-  start = h.start;
-  items = h.items;
-  front = h.front;
-  rest = h.rest ++ more;
-  is_front = h.is_front;
-  number_is = h.number_is;
-  size = h.size;
-  bytes_are = ap (λ l. l ++ more) h.bytes_are ∙ behind_tag h.front tag h.rest more;
-}
+tag-more bytes more number tag h = search (rules, arith, behind_tag)
 
 -- Of the ways in which a tag list can end each but the last stays with more bytes behind.
 ends-more : (bytes more : List ℕ) (end : Ending) → EndsAs bytes end → (end ≡ Open → more ≡ []) → EndsAs (bytes ++ more) end
 ends-more bytes more OtherFile h whole = other-append bytes more h
-ends-more bytes more (BadType number code) h whole = record { tag = h.tag; stands = tag-more bytes more number h.tag h.stands; code_is = h.code_is; unknown = h.unknown }
-ends-more bytes more (BadLength number value) h whole =
-    record { tag = h.tag; stands = tag-more bytes more number h.tag h.stands; known = h.known; value_is = h.value_is; negative = h.negative }
-ends-more bytes more (Whole items) h whole = record {
-  start = h.start;
-  inner = h.inner;
-  last = h.last;
-  header = h.header;
-  rest = h.rest ++ more;
-  is_header = h.is_header;
-  items_are = h.items_are;
-  bytes_are = ap (λ l. l ++ more) h.bytes_are ∙ append_assoc h.header h.rest more;
-}
+ends-more bytes more (BadType number code) h whole = search (rules, arith, tag-more)
+ends-more bytes more (BadLength number value) h whole = search (rules, arith, tag-more)
+ends-more bytes more (Whole items) h whole = search (rules, arith, append_assoc)
 ends-more bytes more Open h whole = subst IsOpen (sym (ap (λ l. bytes ++ l) (whole refl) ∙ append-nil bytes)) h
 
 -- a header is no longer than the bytes that begin with it
 header-size : (bytes : List ℕ) (items : List Item) → HasHeader bytes items → 16 + length (bytes_of items) ≤ length bytes
-header-size bytes items h =
-    let own = h.last.tag ++ h.last.body in
-    let all : bytes_of items ≡ bytes_of h.inner ++ own = ap bytes_of h.items_are ∙ bytes_of-append h.inner (h.last ∷ []) ∙ ap (λ l. bytes_of h.inner ++ l) (append-nil own) in
-    let header : length h.header ≡ length h.start + (length (bytes_of h.inner) + length own) =
-    ap length h.is_header.bytes ∙ omega (arith, length-append (h.start ++ bytes_of h.inner) own, length-append h.start (bytes_of h.inner), length-append h.start (bytes_of h.inner ++ own), length-append (bytes_of h.inner) own) in
-    omega (arith, ap length h.bytes_are, length-append h.header h.rest, header, h.is_header.front.preamble.size, ap length all, length-append (bytes_of h.inner) own)
+header-size bytes items h = search (rules, arith, bytes_of-append, append-nil, length-append)
 
 -- what more bytes do to the answer of an ending that stays
-answer-more : (file more : List ℕ) (end : Ending) → EndsAs (head_of file) end → (end ≡ Open → length (head_of (file ++ more)) ≡ length (head_of file)) → answer_as (file ++ more) end ≡ with_more more (answer_as file end)
+answer-more : (file more : List ℕ) (end : Ending) → EndsAs (head_of file) end
+    → (end ≡ Open → length (head_of (file ++ more)) ≡ length (head_of file)) → answer_as (file ++ more) end ≡ with_more more (answer_as file end)
 answer-more file more OtherFile h whole = refl
 answer-more file more (BadType number code) h whole = refl
 answer-more file more (BadLength number value) h whole = refl
@@ -68,16 +44,19 @@ answer-more file more (Whole items) h whole =
 answer-more file more Open h whole = ap (λ n. refusal (unfinished n)) (whole refl)
 
 -- where the first bytes of a longer file are those of the file and some of what comes behind
-stays : (file more tail : List ℕ) → head_of (file ++ more) ≡ head_of file ++ tail → (ending (head_of file) ≡ Open → tail ≡ []) → header_answer (file ++ more) ≡ with_more more (header_answer file)
+stays : (file more tail : List ℕ) → head_of (file ++ more) ≡ head_of file ++ tail
+    → (ending (head_of file) ≡ Open → tail ≡ []) → header_answer (file ++ more) ≡ with_more more (header_answer file)
 unfolding header_answer
 stays file more tail head whole =
     let end = ending (head_of file) in
     let applies = ending-applies (head_of file) in
-    let same : ending (head_of (file ++ more)) ≡ end = ap ending head ∙ ending-one (head_of file ++ tail) end (ends-more (head_of file) tail end applies whole) in
+    let same : ending (head_of (file ++ more)) ≡ end =
+    ap ending head ∙ ending-one (head_of file ++ tail) end (ends-more (head_of file) tail end applies whole) in
     answer-at (file ++ more) end same
     ∙ answer-more file more end applies (λ cut. ap length (head ∙ ap (λ l. head_of file ++ l) (whole cut) ∙ append-nil (head_of file)))
 
-pub header-stays : (file more : List ℕ) → ((count : ℕ) → header_answer file ≢ Err (TruncatedHeader count)) → header_answer (file ++ more) ≡ with_more more (header_answer file)
+pub header-stays : (file more : List ℕ) → ((count : ℕ) → header_answer file ≢ Err (TruncatedHeader count))
+    → header_answer (file ++ more) ≡ with_more more (header_answer file)
 header-stays file more answered = elim (cases_lt (length file) (2 ^ 24)) [
   | inl few ↦
       let all : head_of file ≡ file = take_all (2 ^ 24) file (omega (arith, few)) in
@@ -87,14 +66,13 @@ header-stays file more answered = elim (cases_lt (length file) (2 ^ 24)) [
   | inr full ↦ stays file more [] (take-append-le (2 ^ 24) file more full ∙ sym (append-nil (head_of file))) (λ cut. refl)
 ]
 
-pub refused-stays : (file more : List ℕ) (fault : Fault) → header_answer file ≡ Err fault → ((count : ℕ) → fault ≢ TruncatedHeader count) → header_answer (file ++ more) ≡ Err fault
-refused-stays file more fault is other = header-stays file more (λ count cut. other count (err_is fault (TruncatedHeader count) (sym is ∙ cut))) ∙ ap (with_more more) is
+pub refused-stays : (file more : List ℕ) (fault : Fault) → header_answer file ≡ Err fault
+    → ((count : ℕ) → fault ≢ TruncatedHeader count) → header_answer (file ++ more) ≡ Err fault
+refused-stays file more fault is other = search (rules, arith, header-stays, err_is, with_more)
 
 abbrev headed : Header → List ℕ → Result (Header × List ℕ) Fault
 headed header behind = Ok (header, behind)
 
-not_refused : (header : Header) (behind : List ℕ) (fault : Fault) → headed header behind ≡ Err fault → ⊥
-not_refused header behind fault e = cc
-
-pub headed-stays : (file more behind : List ℕ) (header : Header) → header_answer file ≡ Ok (header, behind) → header_answer (file ++ more) ≡ Ok (header, behind ++ more)
-headed-stays file more behind header is = header-stays file more (λ count cut. not_refused header behind (TruncatedHeader count) (sym is ∙ cut)) ∙ ap (with_more more) is
+pub headed-stays : (file more behind : List ℕ) (header : Header)
+    → header_answer file ≡ Ok (header, behind) → header_answer (file ++ more) ≡ Ok (header, behind ++ more)
+headed-stays file more behind header is = search (rules, arith, header-stays, with_more)

@@ -1,5 +1,5 @@
 -- Streams that grow.
-use Rattle.std.{proofs.Common.{◌≡◌, ℕ, List, [], ◌∷◌, ◌++◌, Bool, cond, None, Some, map, max, refl, sym, ap, ◌∙◌, append_assoc, append-nil, arith, nat_lt, not, ◌&&◌, ◌||◌}, specs.declared.option.Option.Option, specs.List.list_any, proofs.lemmas.Grind.common_steps, proofs.lemmas.List.map-append, proofs.lemmas.Bool.Decides.nat_tests}
+use Rattle.std.{proofs.Common.{◌≡◌, ℕ, List, [], ◌∷◌, ◌++◌, Bool, cond, None, Some, map, max, refl, sym, ap, ◌∙◌, append_assoc, append-nil, arith, nat_lt, not, ◌&&◌, ◌||◌, rules}, specs.declared.option.Option.Option, specs.List.list_any, proofs.lemmas.Grind.common_steps, proofs.lemmas.List.map-append, proofs.lemmas.Bool.Decides.nat_tests}
 use Rattle.tally_base.{specs.declared.event.Event.Event, specs.declared.header.Mode.Mode, specs.Events.is_ordered, specs.declared.fault.Fault.Fault}
 use Rattle.ptu_definitions.{specs.declared.records.Raw.Raw, specs.Prefixes.{each_after, listed, first}, specs.Times.{event_after, events}, specs.Kept.{floor_of, mark, marked, is_late, greatest, ordered_time, Marked}, specs.Streams.{Reading, refusal, refusals, record_refusal, unless_refused, unrefused_after, events_in, given}, proofs.PrefixLemmas.{each-push, each_after-append, first-append}, proofs.DeliveredLaws.{delivered_after, delivered-append}}
 
@@ -39,7 +39,8 @@ refusals-push how ws w = each-push _ ws w
 pub clear-push : (how : Reading) (ws : List ℕ) (w : ℕ) → refusals how ws ≡ [] → refusal how ws w ≡ None → refusals how (ws ++ w ∷ []) ≡ []
 clear-push how ws w clear none = refusals-push how ws w ∙ rw (clear, none) refl
 
-pub refused-push : (how : Reading) (ws : List ℕ) (w : ℕ) (fault : Fault) → refusals how ws ≡ [] → refusal how ws w ≡ Some fault → record_refusal how (ws ++ w ∷ []) ≡ Some fault
+pub refused-push : (how : Reading) (ws : List ℕ) (w : ℕ) (fault : Fault) → refusals how ws ≡ []
+    → refusal how ws w ≡ Some fault → record_refusal how (ws ++ w ∷ []) ≡ Some fault
 refused-push how ws w fault clear some = ap first (refusals-push how ws w) ∙ rw (clear, some) refl
 
 pub refused-more : (how : Reading) (ws more : List ℕ) (fault : Fault) → record_refusal how ws ≡ Some fault → record_refusal how (ws ++ more) ≡ Some fault
@@ -47,17 +48,16 @@ unfolding refusals
 refused-more how ws more fault h = rw each_after-append (first-append _ _ fault h)
 
 pub listed-none : (o : Option Fault) (more : List Fault) → listed o ++ more ≡ [] → o ≡ None
-listed-none None more h = refl
-listed-none (Some fault) more h = cc
+listed-none o more h = search (rules, arith)
 
 pub listed-rest : (o : Option Fault) (more : List Fault) → listed o ++ more ≡ [] → more ≡ []
-listed-rest None more h = h
-listed-rest (Some fault) more h = cc
+listed-rest o more h = search (rules, arith)
 
-abbrev refusals_after : Reading → List ℕ → List ℕ → List Fault
+abbrev pub refusals_after : Reading → List ℕ → List ℕ → List Fault
 refusals_after how before ws = each_after (λ before word. listed (refusal how before word)) before ws
 
-unrefused-clear : (how : Reading) (before ws more : List ℕ) → refusals_after how before ws ≡ [] → unrefused_after how before (ws ++ more) ≡ ws ++ unrefused_after how (before ++ ws) more
+unrefused-clear : (how : Reading) (before ws more : List ℕ) → refusals_after how before ws ≡ []
+    → unrefused_after how before (ws ++ more) ≡ ws ++ unrefused_after how (before ++ ws) more
 unrefused-clear how before [] more clear = rw (append-nil before) refl
 unrefused-clear how before (w ∷ ws) more clear =
     let here : refusal how before w ≡ None = listed-none (refusal how before w) _ clear in
@@ -68,7 +68,8 @@ pub unrefused-all : (how : Reading) (ws : List ℕ) → refusals how ws ≡ [] �
 unfolding refusals
 unrefused-all how ws clear = ap (unrefused_after how []) (sym (append-nil ws)) ∙ unrefused-clear how [] ws [] clear ∙ append-nil ws
 
-pub unrefused-upto : (how : Reading) (ws : List ℕ) (w : ℕ) (more : List ℕ) (fault : Fault) → refusals how ws ≡ [] → refusal how ws w ≡ Some fault → unrefused_after how [] (ws ++ w ∷ more) ≡ ws
+pub unrefused-upto : (how : Reading) (ws : List ℕ) (w : ℕ) (more : List ℕ) (fault : Fault)
+    → refusals how ws ≡ [] → refusal how ws w ≡ Some fault → unrefused_after how [] (ws ++ w ∷ more) ≡ ws
 unfolding refusals
 unrefused-upto how ws w more fault clear some = unrefused-clear how [] ws (w ∷ more) clear ∙ rw some (append-nil ws)
 
@@ -76,7 +77,8 @@ pub given-clear : (how : Reading) (ws : List ℕ) → refusals how ws ≡ [] →
 unfolding given
 given-clear how ws clear = ap (events_in how) (unrefused-all how ws clear)
 
-pub given-refused : (how : Reading) (ws : List ℕ) (w : ℕ) (fault : Fault) → refusals how ws ≡ [] → refusal how ws w ≡ Some fault → given how (ws ++ w ∷ []) ≡ events_in how ws
+pub given-refused : (how : Reading) (ws : List ℕ) (w : ℕ) (fault : Fault) → refusals how ws ≡ []
+    → refusal how ws w ≡ Some fault → given how (ws ++ w ∷ []) ≡ events_in how ws
 unfolding given
 given-refused how ws w fault clear some = ap (events_in how) (unrefused-upto how ws w [] fault clear some)
 
@@ -85,7 +87,8 @@ unless-front : (w : ℕ) (o : Option Fault) (a b tail : List ℕ) → a ≡ b ++
 unless-front w None a b tail e = (tail, ap (λ l. w ∷ l) e)
 unless-front w (Some fault) a b tail e = ([], refl)
 
-unrefused-front : (how : Reading) (before ws more : List ℕ) → (tail : List ℕ) × (unrefused_after how before (ws ++ more) ≡ unrefused_after how before ws ++ tail)
+unrefused-front : (how : Reading) (before ws more : List ℕ)
+    → (tail : List ℕ) × (unrefused_after how before (ws ++ more) ≡ unrefused_after how before ws ++ tail)
 unrefused-front how before [] more = (unrefused_after how before more, refl)
 unrefused-front how before (w ∷ ws) more =
     let r = unrefused-front how (before ++ w ∷ []) ws more in
@@ -98,13 +101,15 @@ given-front how ws more =
     let r = unrefused-front how [] ws more in
     (_, ap (events_in how) r.1 ∙ events_in-append how (unrefused_after how [] ws) r.0)
 
-unless-stays : (w : ℕ) (o : Option Fault) (rest : List Fault) (fault : Fault) (a b : List ℕ) → first (listed o ++ rest) ≡ Some fault → (first rest ≡ Some fault → a ≡ b) → unless_refused w a o ≡ unless_refused w b o
-unless-stays w None rest fault a b h e = ap (λ l. w ∷ l) (e h)
-unless-stays w (Some other) rest fault a b h e = refl
+unless-stays : (w : ℕ) (o : Option Fault) (rest : List Fault) (fault : Fault) (a b : List ℕ)
+    → first (listed o ++ rest) ≡ Some fault → (first rest ≡ Some fault → a ≡ b) → unless_refused w a o ≡ unless_refused w b o
+unless-stays w o rest fault a b h e = search (rules, arith)
 
-unrefused-stays : (how : Reading) (before ws more : List ℕ) (fault : Fault) → first (refusals_after how before ws) ≡ Some fault → unrefused_after how before (ws ++ more) ≡ unrefused_after how before ws
+unrefused-stays : (how : Reading) (before ws more : List ℕ) (fault : Fault) → first (refusals_after how before ws) ≡ Some fault
+    → unrefused_after how before (ws ++ more) ≡ unrefused_after how before ws
 unrefused-stays how before [] more fault h = cc
-unrefused-stays how before (w ∷ ws) more fault h = unless-stays w (refusal how before w) _ fault _ _ h (λ rest. unrefused-stays how (before ++ w ∷ []) ws more fault rest)
+unrefused-stays how before (w ∷ ws) more fault h =
+    unless-stays w (refusal how before w) _ fault _ _ h (λ rest. unrefused-stays how (before ++ w ∷ []) ws more fault rest)
 
 pub given-stays : (how : Reading) (ws more : List ℕ) (fault : Fault) → record_refusal how ws ≡ Some fault → given how (ws ++ more) ≡ given how ws
 unfolding given refusals
@@ -114,7 +119,8 @@ given-stays how ws more fault h = ap (events_in how) (unrefused-stays how [] ws 
 max-mark : (b l : Bool) (t top rest : ℕ) → l ≡ (b && nat_lt t top) → max top (max (cond (b && not l) t 0) rest) ≡ max (max top (cond b t 0)) rest
 max-mark b l t top rest h = grind (arith, common_steps, nat_tests)
 
-floor_of-after : (mode : Mode) (before es : List Event) → max (greatest mode before) (floor_of mode (each_after (mark mode) before es)) ≡ greatest mode (before ++ es)
+floor_of-after : (mode : Mode) (before es : List Event)
+    → max (greatest mode before) (floor_of mode (each_after (mark mode) before es)) ≡ greatest mode (before ++ es)
 floor_of-after mode before [] = rw append-nil (omega arith)
 floor_of-after mode before (e ∷ es) =
     let rest = floor_of mode (each_after (mark mode) (before ++ e ∷ []) es) in

@@ -1,6 +1,7 @@
--- The words of bytes that grow.
-use Rattle.std.proofs.Common.{◌≡◌, ◌/◌, ◌%◌, ◌<◌, ◌≤◌, ℕ, List, [], ◌∷◌, ◌++◌, length, refl, ap, arith}
-use Rattle.ptu_definitions.specs.Words.{word_of, words_of, rest_of}
+-- The words of bytes that grow, and of bytes in fours.
+use Rattle.std.{proofs.Common.{◌≡◌, ◌/◌, ◌%◌, ◌<◌, ◌≤◌, ℕ, List, [], ◌∷◌, ◌++◌, length, refl, ap, arith, rules, ◌*◌, suc, drop, length-append, Bool}, specs.Simd.first_chunks, specs.Int.{from_le_bytes, w32}, proofs.lemmas.Grind.common_steps, proofs.lemmas.Bool.Decides.nat_tests}
+use Rattle.tally_base.{specs.declared.header.RecordType.RecordType, specs.declared.header.Mode.TheVariants.{T2, T3}, specs.RecordTypes.mode_of}
+use Rattle.ptu_definitions.{specs.Words.{word_of, words_of, rest_of, numbers}, specs.Layouts.{pico_t2, pico_t3, hydra_t2, hydra_t3, meaning_of, Fits}}
 
 -- the words of bytes behind others, by what was left over of these
 pub words_of-append : (bytes piece : List ℕ) → words_of (bytes ++ piece) ≡ words_of bytes ++ words_of (rest_of bytes ++ piece)
@@ -34,32 +35,59 @@ length-rest_of (a ∷ b ∷ c ∷ d ∷ more) = omega (arith, length-rest_of mor
 
 -- more bytes give no fewer words
 pub length-words_of-append : (bytes more : List ℕ) → length (words_of bytes) ≤ length (words_of (bytes ++ more))
-length-words_of-append [] more = omega arith
-length-words_of-append (a ∷ []) more = omega arith
-length-words_of-append (a ∷ b ∷ []) more = omega arith
-length-words_of-append (a ∷ b ∷ c ∷ []) more = omega arith
-length-words_of-append (a ∷ b ∷ c ∷ d ∷ rest) more = omega (arith, length-words_of-append rest more)
+length-words_of-append bytes more = omega (arith, length-words_of bytes, length-words_of (bytes ++ more), length-append bytes more)
 
 -- bytes that are no word
 pub words_of-few : (bytes : List ℕ) → length bytes < 4 → words_of bytes ≡ []
-words_of-few [] few = refl
-words_of-few (a ∷ []) few = refl
-words_of-few (a ∷ b ∷ []) few = refl
-words_of-few (a ∷ b ∷ c ∷ []) few = refl
-words_of-few (a ∷ b ∷ c ∷ d ∷ more) few = absurd (omega arith)
+words_of-few bytes few = search (rules, arith)
 
 pub rest_of-few : (bytes : List ℕ) → length bytes < 4 → rest_of bytes ≡ bytes
-rest_of-few [] few = refl
-rest_of-few (a ∷ []) few = refl
-rest_of-few (a ∷ b ∷ []) few = refl
-rest_of-few (a ∷ b ∷ c ∷ []) few = refl
-rest_of-few (a ∷ b ∷ c ∷ d ∷ more) few = absurd (omega arith)
+rest_of-few bytes few = search (rules, arith)
 
 -- bytes that are one word
 pub rest_of-four : (bytes : List ℕ) → length bytes ≡ 4 → rest_of bytes ≡ []
-rest_of-four [] four = absurd (omega arith)
-rest_of-four (a ∷ []) four = absurd (omega arith)
-rest_of-four (a ∷ b ∷ []) four = absurd (omega arith)
-rest_of-four (a ∷ b ∷ c ∷ []) four = absurd (omega arith)
-rest_of-four (a ∷ b ∷ c ∷ d ∷ []) four = refl
-rest_of-four (a ∷ b ∷ c ∷ d ∷ e ∷ more) four = absurd (omega arith)
+rest_of-four bytes four = search (rules, arith)
+
+-- the fours of `as_chunks` are the words
+number_of : (a b c d : ℕ) → from_le_bytes w32 (a ∷ b ∷ c ∷ d ∷ []) ≡ word_of a b c d
+number_of a b c d = omega arith
+
+pub numbers-chunks : (bytes : List ℕ) → numbers (first_chunks 4 (length bytes / 4) bytes) ≡ words_of bytes
+numbers-chunks [] = refl
+numbers-chunks (a ∷ []) = refl
+numbers-chunks (a ∷ b ∷ []) = refl
+numbers-chunks (a ∷ b ∷ c ∷ []) = refl
+numbers-chunks (a ∷ b ∷ c ∷ d ∷ more) =
+    let count : length (a ∷ b ∷ c ∷ d ∷ more) / 4 ≡ suc (length more / 4) = omega arith in
+    rw (count, number_of a b c d, numbers-chunks more) refl
+
+-- behind the fours of `as_chunks` lies what is left over
+pub drop-chunks : (bytes : List ℕ) → drop (length bytes / 4 * 4) bytes ≡ rest_of bytes
+drop-chunks [] = refl
+drop-chunks (a ∷ []) = refl
+drop-chunks (a ∷ b ∷ []) = refl
+drop-chunks (a ∷ b ∷ c ∷ []) = refl
+drop-chunks (a ∷ b ∷ c ∷ d ∷ more) =
+    let count : length (a ∷ b ∷ c ∷ d ∷ more) / 4 * 4 ≡ suc (suc (suc (suc (length more / 4 * 4)))) = omega arith in
+    rw count (drop-chunks more)
+
+-- The fields of each word are as large as the mode of its record type allows.
+
+pico_t2-fits : (word : ℕ) → Fits T2 (pico_t2 word)
+unfolding pico_t2
+pico_t2-fits word = grind (arith, common_steps, nat_tests)
+
+pico_t3-fits : (word : ℕ) → Fits T3 (pico_t3 word)
+unfolding pico_t3
+pico_t3-fits word = grind (arith, common_steps, nat_tests)
+
+hydra_t2-fits : (old : Bool) (word : ℕ) → Fits T2 (hydra_t2 old word)
+unfolding hydra_t2
+hydra_t2-fits old word = grind (arith, common_steps, nat_tests)
+
+hydra_t3-fits : (old : Bool) (word : ℕ) → Fits T3 (hydra_t3 old word)
+unfolding hydra_t3
+hydra_t3-fits old word = grind (arith, common_steps, nat_tests)
+
+pub meaning-fits : (t : RecordType) (word : ℕ) → Fits (mode_of t) (meaning_of t word)
+meaning-fits t word = search (rules, arith, pico_t2-fits, pico_t3-fits, hydra_t2-fits, hydra_t3-fits)

@@ -1,6 +1,6 @@
 -- What a record means, after the record layouts of PicoQuant's unified TTTR format. Bit 0 is the lowest of a word.
-use Rattle.std.specs.Prelude.{ℕ, ◌+◌, ◌*◌, ◌/◌, ◌%◌, ◌^◌, ◌==◌, nat_le, Bool, true, false, if◌then◌else◌}
-use Rattle.tally_base.{specs.declared.header.RecordType.RecordType, specs.declared.header.RecordType.TheVariants.{PicoHarpT2, PicoHarpT3, HydraHarpT2, HydraHarpT3, HydraHarp2T2, HydraHarp2T3, TimeHarp260NT2, TimeHarp260NT3, TimeHarp260PT2, TimeHarp260PT3, MultiHarpT2, MultiHarpT3}}
+use Rattle.std.specs.Prelude.{ℕ, ◌+◌, ◌*◌, ◌/◌, ◌%◌, ◌^◌, ◌==◌, nat_le, Bool, true, false, if◌then◌else◌, ◌≡◌, ◌<◌, ◌≤◌}
+use Rattle.tally_base.{specs.declared.header.RecordType.RecordType, specs.declared.header.RecordType.TheVariants.{PicoHarpT2, PicoHarpT3, HydraHarpT2, HydraHarpT3, HydraHarp2T2, HydraHarp2T3, TimeHarp260NT2, TimeHarp260NT3, TimeHarp260PT2, TimeHarp260PT3, MultiHarpT2, MultiHarpT3}, specs.declared.header.Mode.Mode, specs.declared.header.Mode.TheVariants.{T2, T3}, specs.declared.event.EventKind.EventKind, specs.declared.event.EventKind.TheVariants.{Photon as PhotonEvent, Marker as MarkerEvent}}
 use Rattle.ptu_definitions.{specs.declared.records.Raw.Raw, specs.declared.records.Raw.TheVariants.{Photon, Marker, Wrap, Reserved}}
 
 -- the `count` bits of a word from bit `low` on
@@ -82,3 +82,18 @@ meaning_of TimeHarp260PT2 = hydra_t2 false
 meaning_of TimeHarp260PT3 = hydra_t3 false
 meaning_of MultiHarpT2 = hydra_t2 false
 meaning_of MultiHarpT3 = hydra_t3 false
+
+-- How large the fields of a record are.
+
+-- an event of a file of this mode
+abbrev pub KindFits : Mode → EventKind → Type 0
+KindFits T2 (PhotonEvent input dtime) = (input ≤ 64) × (dtime ≡ 0)
+KindFits T3 (PhotonEvent input dtime) = (input ≤ 63) × (dtime ≤ 32767)
+KindFits mode (MarkerEvent bits) = Unit {0}
+
+-- a record of a file of this mode
+abbrev pub Fits : Mode → Raw → Type 0
+Fits mode (Photon input time dtime) = (time < 2 ^ 28) × KindFits mode (PhotonEvent input dtime)
+Fits mode (Marker bits time) = time < 2 ^ 28
+Fits mode (Wrap ticks) = Unit {0}
+Fits mode Reserved = Unit {0}

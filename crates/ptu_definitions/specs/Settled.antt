@@ -1,5 +1,5 @@
 -- Events that may come some places too late: which are late all the same, the kept list and the settled list.
-use Rattle.std.specs.Prelude.{ℕ, ◌-◌, ◌≤◌, ◌&&◌, ◌==◌, not, Bool, true, false, nat_lt, List, [], ◌∷◌, ◌++◌, length, take, drop, map, filter, count_by, if◌then◌else◌}
+use Rattle.std.{specs.Prelude.{ℕ, ◌-◌, ◌≤◌, ◌&&◌, ◌==◌, not, Bool, true, false, nat_lt, List, [], ◌∷◌, ◌++◌, length, take, drop, map, filter, count_by, if◌then◌else◌, ◌≡◌, ◌<◌}, specs.List.AllByRecursion}
 use Rattle.tally_base.{specs.declared.event.Event.Event, specs.declared.header.Mode.Mode, specs.Events.is_ordered}
 use Rattle.ptu_definitions.{specs.Prefixes.each, specs.Kept.{Marked, marked, kept}}
 
@@ -97,3 +97,14 @@ delivered_last k mode es = if k == 0 then [] else marked_as false (last_of k (in
 abbrev pub Rises : ℕ → List Event → Type 0
 Rises time [] = Unit {0}
 Rises time (x ∷ xs) = (time ≤ x.time) × Rises x.time xs
+
+-- What is known of events in the order in which they came, of those settled and of those not settled yet.
+
+-- An event is late exactly where it is before the last time settled: all k that wait are no earlier than this, and of
+-- all that came only those that wait can be later.
+pub record IsOpen (k : ℕ) (came settled waiting : List Event) (last : ℕ) : Type 0 where
+  pub rising : Rises last waiting
+  pub early : AllByRecursion (λ x. x.time ≤ last) settled
+  pub full : length waiting < k → settled ≡ []
+  pub above : (t : ℕ) → last ≤ t → later_than t came ≡ later_than t waiting
+  pub below : (t : ℕ) → t < last → k < later_than t came

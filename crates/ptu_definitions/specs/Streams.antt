@@ -1,5 +1,5 @@
 -- What a stream of records gives: its refusal, its events and its summary.
-use Rattle.std.{specs.Prelude.{ℕ, ◌+◌, ◌&&◌, ◌==◌, nat_le, List, [], ◌∷◌, ◌++◌, length, count_by, map, None, Some, Result, Ok, Err, if◌then◌else◌}, specs.declared.option.Option.Option}
+use Rattle.std.{specs.Prelude.{ℕ, ◌+◌, ◌&&◌, ◌==◌, nat_le, List, [], ◌∷◌, ◌++◌, length, count_by, map, None, Some, Result, Ok, Err, if◌then◌else◌, ◌≡◌, ◌<◌, take, get_or}, specs.declared.option.Option.Option}
 use Rattle.tally_base.{specs.declared.event.Event.Event, specs.declared.event.Policy.Policy, specs.declared.fault.Fault.Fault, specs.declared.fault.Fault.TheVariants.{TruncatedRecord, RecordLimit, ReservedRecord, BackwardTime, TimeLimit}, specs.declared.header.Mode.Mode, specs.declared.header.RecordType.RecordType, specs.RecordTypes.mode_of, specs.Events.{stops_late, stops_reserved}}
 use Rattle.ptu_definitions.{specs.declared.records.Summary.Summary, specs.declared.records.Raw.Raw, specs.Kinds.{is_photon, is_marker, is_wrap, is_reserved}, specs.Layouts.meaning_of, specs.Prefixes.{each, listed, first, last}, specs.Times.{event_after, events, passes}, specs.Kept.{Marked, greatest}, specs.Settled.{is_late_by, late_by, kept_by, delivered, delivered_last}, specs.Words.{words_of, rest_of}}
 
@@ -89,3 +89,14 @@ unfoldable pub streamed : Reading → List ℕ → Result Summary Fault
 streamed how bytes =
     or_refusal (record_refusal how (words_of bytes))
     (if length (rest_of bytes) == 0 then Ok (summary how (words_of bytes)) else Err (TruncatedRecord (length (rest_of bytes))))
+
+-- The least record that is refused.
+
+-- Some words are refused so, and none of those before the first of these.
+pub record IsFirst (how : Reading) (fault : Fault) (before words : List ℕ) : Type 0 where
+  pub front : List ℕ
+  pub word : ℕ
+  pub more : List ℕ
+  pub parts : words ≡ front ++ word ∷ more
+  pub refused : refusal how (before ++ front) word ≡ Some fault
+  pub unrefused : (k : ℕ) (d : ℕ) → k < length front → refusal how (before ++ take k front) (get_or front k d) ≡ None

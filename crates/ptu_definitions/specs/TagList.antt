@@ -1,6 +1,53 @@
 -- The tag list of a file: fronts, items and headers, as whole lists of bytes.
-use Rattle.std.specs.Prelude.{ℕ, ◌≡◌, List, [], ◌∷◌, ◌++◌, length, take, codes, true, false}
-use Rattle.ptu_definitions.specs.TagFields.{code_in, is_known, is_negative, body_size, is_end}
+use Rattle.std.{specs.Prelude.{ℕ, ◌+◌, ◌*◌, ◌^◌, ◌==◌, ◌||◌, ◌&&◌, not, nat_le, List, [], ◌∷◌, take, drop, take_while, codes, Bool, if◌then◌else◌, ◌≡◌, ◌++◌, length, true, false}, specs.Str.bytes_eq}
+
+-- The parts of the 48 bytes of a tag.
+
+-- a little-endian number
+abbrev pub little : List ℕ → ℕ
+little [] = 0
+little (byte ∷ bytes) = byte + 256 * little bytes
+
+abbrev pub ident_in : List ℕ → List ℕ
+ident_in tag = take 32 tag
+
+-- a name: an identifier up to its first NUL, or all of it
+abbrev pub name_of : List ℕ → List ℕ
+name_of ident = take_while (λ byte. not (byte == 0)) ident
+
+unfoldable pub name_in : List ℕ → List ℕ
+name_in tag = name_of (ident_in tag)
+
+unfoldable pub index_in : List ℕ → ℕ
+index_in tag = little (take 4 (drop 32 tag))
+
+unfoldable pub code_in : List ℕ → ℕ
+code_in tag = little (take 4 (drop 36 tag))
+
+unfoldable pub value_in : List ℕ → ℕ
+value_in tag = little (take 8 (drop 40 tag))
+
+-- the types that have a body
+unfoldable pub has_body : ℕ → Bool
+has_body code = code == 0x2001FFFF || code == 0x4001FFFF || code == 0x4002FFFF || code == 0xFFFFFFFF
+
+unfoldable pub is_known : ℕ → Bool
+is_known code =
+    code == 0xFFFF0008 || code == 8 || code == 0x10000008 || code == 0x11000008 || code == 0x12000008 || code == 0x20000008 || code == 0x21000008
+    || has_body code
+
+-- the value is a length below 0
+abbrev pub is_negative : List ℕ → Bool
+is_negative tag = has_body (code_in tag) && nat_le (2 ^ 63) (value_in tag)
+
+-- how many bytes follow the tag
+abbrev pub body_size : List ℕ → ℕ
+body_size tag = if has_body (code_in tag) then value_in tag else 0
+
+abbrev pub is_end : List ℕ → Bool
+is_end tag = bytes_eq (name_in tag) (codes "Header_End")
+
+-- The tag list of a file: fronts, items and headers, as whole lists of bytes.
 
 pub record Item : Type 0 where
   pub tag : List ℕ

@@ -1,11 +1,10 @@
 // A reader that carries at most one tag, and the number of body bytes still to come.
 ghost use Rattle.std.specs.Prelude.{◌≡◌, ◌+◌, ◌*◌, ◌^◌, ◌≤◌, ◌↔◌, [], IsTrue, List, ℕ, length, true, false, Err, take, codes};
 ghost use Rattle.arrayvec.specs.ArrayVec.{array_vec_len};
-ghost use Rattle.ptu_definitions.{specs.Endings.IsOtherFile, specs.TagFields.{code_in, body_size}};
+ghost use Rattle.ptu_definitions.{specs.Endings.IsOtherFile, specs.TagList.{code_in, body_size}, specs.Headers.header_answer};
 ghost use Rattle.ptu_tag.specs.Kinds.{IsHead, code_of};
-ghost use Rattle.ptu_header.specs.declared.reader.Phase.TheVariants as Phase;
 ghost use Rattle.tally_base.specs.Faults.{is_outside};
-ghost use Rattle.ptu_header.specs.Phases.{phase_after, outside_at};
+ghost use Rattle.ptu_header.{specs.declared.reader.Phase.TheVariants as Phase, specs.Phases.{phase_after, outside_at}};
 
 use crate::fields::{header, with};
 use crate::fill::{eight, fill, same};
@@ -53,7 +52,6 @@ pub struct HeaderReader {
 
 impl HeaderReader {
     ghost use Rattle.ptu_header.specs.Reading.{HasRead, Steps, StepsWhole, InTag, IsEnd, IsInside, Takes, TookTag, IsDue, Repeats, bytes_taken, is_open};
-    ghost use Rattle.ptu_definitions.specs.Headers.{header_answer};
 
     /// A reader that has taken no byte.
     pub fn new() -> HeaderReader

@@ -1,9 +1,60 @@
 -- The events of the made file are its photons.
-use Rattle.std.{proofs.Common.{◌≡◌, ◌+◌, ◌*◌, ◌/◌, ◌%◌, ◌<◌, ◌≤◌, ℕ, zero, suc, Bool, true, false, List, [], ◌∷◌, ◌++◌, length, map, refl, ◌∙◌, arith, nat_lt, if◌then◌else◌}, proofs.lemmas.List.Sums.{sum_by-cons, sum_by_push}, proofs.lemmas.Bool.Decides.nat_tests}
-use Rattle.tally_base.specs.declared.event.EventKind.TheVariants.{Photon as PhotonEvent}
-use Rattle.ptu_definitions.{specs.declared.records.Raw.Raw, specs.declared.records.Raw.TheVariants.{Photon, Wrap}, specs.Layouts.hydra_t2, specs.Prefixes.each_after, specs.Times.{amount, base, event_after, events}}
-use Rattle.ptu_made.{specs.Generator.{next_state, states, gap, channel, last_time, unit, photon_word, words_behind, made_words}, specs.Records.made_photons, proofs.Behind.{Giving, all_given, all_given-cons, words_behind-cons}, proofs.Meanings.{photon-meaning, wrap-meaning}}
-use Rattle.short_file.specs.TimedEvents.{Timed, timed}
+use Rattle.tally_base.{specs.declared.event.EventKind.TheVariants.Photon as PhotonEvent, specs.declared.event.Policy.Policy, specs.declared.fault.Fault.Fault, specs.declared.header.RecordType.TheVariants.HydraHarp2T2, specs.Events.stops_late, specs.Limits.wrap_limit}
+use Rattle.ptu_definitions.{specs.declared.records.Raw.Raw, specs.declared.records.Raw.TheVariants.{Photon, Wrap}, specs.Layouts.hydra_t2, specs.Prefixes.each_after, specs.Times.{amount, base, event_after, events}, specs.Words.{words_of, rest_of}, specs.Kinds.{is_reserved, is_wrap}, specs.Streams.{reading, refusal, record_refusal}, proofs.Firsts.none-refused}
+use Rattle.ptu_made.{specs.Generator.{next_state, states, gap, channel, last_time, unit, photon_word, words_behind, made_words}, specs.Records.{made_photons, IsPhotonOrWrap}, proofs.Behind.{Giving, all_given, all_given-cons, words_behind-cons}}
+use Rattle.short_file.{specs.ShortFiles.{Timed, timed, bytes_in}, proofs.ShortHeaders.{IsWord, words_of-bytes_in, rest_of-bytes_in}}
+use Rattle.std.{proofs.Common.{◌≡◌, ◌+◌, ◌*◌, ◌<◌, ◌≤◌, ℕ, zero, suc, Bool, false, None, List, [], ◌∷◌, length, map, take, refl, arith, nat_lt, nat_le, ◌&&◌, if◌then◌else◌, rules, ◌/◌, ◌%◌, true, ◌++◌, ◌∙◌, ◌^◌, get_or}, specs.List.AllByRecursion, specs.declared.option.Option.Option, proofs.lemmas.List.{length-map, length-take}, proofs.lemmas.List.Sums.{sum_by-cons, sum_by_push}, proofs.lemmas.Bool.Decides.nat_tests}
+
+-- The words of the made file are photons and wraps.
+
+-- a word of 32 bits, and what it means
+pub record IsMade (word : ℕ) : Type 0 where
+  pub small : word < 2 ^ 32
+  pub means : IsPhotonOrWrap (hydra_t2 false word)
+
+pub photon-meaning : (input time : ℕ) → input < 2 → hydra_t2 false (photon_word input time) ≡ Photon (input + 1) (time % unit) 0
+unfolding hydra_t2
+photon-meaning input time few = search (rules, arith)
+
+pub wrap-meaning : hydra_t2 false 0xFE000001 ≡ Wrap unit
+unfolding hydra_t2
+wrap-meaning = refl
+
+photon-made : (input time : ℕ) → input < 2 → IsMade (photon_word input time)
+photon-made input time few = record {
+  small = omega arith;
+  means = rw (photon-meaning input time few) (omega arith, omega arith, omega arith, refl);
+}
+
+wrap-made : IsMade 0xFE000001
+wrap-made = record { small = omega arith; means = rw wrap-meaning refl }
+
+words-made : (wraps : Bool) (input time : ℕ) (more : List ℕ) → input < 2 → AllByRecursion IsMade more
+    → AllByRecursion IsMade (((if wraps then 0xFE000001 ∷ [] else []) ++ photon_word input time ∷ []) ++ more)
+words-made wraps input time more few rest = search (rules, arith, wrap-made, photon-made)
+
+behind-made : (start : ℕ) (xs : List ℕ) → AllByRecursion IsMade (words_behind start xs)
+behind-made start [] = tt
+behind-made start (state ∷ xs) = search (rules, arith, words_behind-cons, words-made, behind-made (start + gap state) xs)
+
+pub all-made : (seed count : ℕ) → AllByRecursion IsMade (made_words seed count)
+unfolding made_words
+all-made seed count = behind-made 0 (states count seed)
+
+pub all_means : (words : List ℕ) → AllByRecursion IsMade words → (k d : ℕ) → k < length words → IsMade (get_or words k d)
+all_means [] h k d within = absurd (omega arith)
+all_means (word ∷ words) h zero d within = h.0
+all_means (word ∷ words) h (suc k) d within = all_means words h.1 k d (omega arith)
+
+small : (words : List ℕ) → AllByRecursion IsMade words → AllByRecursion IsWord words
+small [] h = tt
+small (word ∷ words) h = (h.0.small, small words h.1)
+
+-- the words of their bytes
+pub words-bytes : (words : List ℕ) → AllByRecursion IsMade words → (words_of (bytes_in words) ≡ words) × (rest_of (bytes_in words) ≡ [])
+words-bytes words h = (words_of-bytes_in words (small words h), rest_of-bytes_in words)
+
+-- The events of the made file are its photons.
 
 abbrev photon : Giving Timed
 photon before time number = record { kind = PhotonEvent (number + 1) 0; time = time } ∷ []
@@ -19,27 +70,15 @@ abbrev words_if : Bool → ℕ → ℕ → List ℕ
 words_if wraps number time = (if wraps then 0xFE000001 ∷ [] else []) ++ photon_word number time ∷ []
 
 -- one photon more, where the base is that of the photon before it
-one-photon : (wraps : Bool) (before : List Raw) (start time number : ℕ) (more : List ℕ) (rest : List Timed) → wraps ≡ nat_lt (start / unit) (time / unit) → start ≤ time → time < start + unit → number < 2
+one-photon : (wraps : Bool) (before : List Raw) (start time number : ℕ) (more : List ℕ) (rest : List Timed)
+    → wraps ≡ nat_lt (start / unit) (time / unit) → start ≤ time → time < start + unit → number < 2
     → base before ≡ unit_of start → ((longer : List Raw) → base longer ≡ unit_of time → events_after longer more ≡ rest)
     → events_after before (words_if wraps number time ++ more) ≡ record { kind = PhotonEvent (number + 1) 0; time = time } ∷ rest
-one-photon true before start time number more rest wraps late soon few same go =
-    let first = before ++ Wrap unit ∷ [] in
-    let based : base first ≡ base before + unit = sum_by_push amount before (Wrap unit) in
-    let longer = first ++ Photon (number + 1) (time % unit) 0 ∷ [] in
-    let stays : base longer ≡ base first + 0 = sum_by_push amount first (Photon (number + 1) (time % unit) 0) in
-    let above : start / unit < time / unit = grind (arith, nat_tests) in
-    let here : base first + time % unit ≡ time = omega arith in
-    let next : base longer ≡ unit_of time = omega arith in
-    rw (wrap-meaning, photon-meaning number time few, here, go longer next) refl
-one-photon false before start time number more rest wraps late soon few same go =
-    let longer = before ++ Photon (number + 1) (time % unit) 0 ∷ [] in
-    let stays : base longer ≡ base before + 0 = sum_by_push amount before (Photon (number + 1) (time % unit) 0) in
-    let level : time / unit ≤ start / unit = grind (arith, nat_tests) in
-    let here : base before + time % unit ≡ time = omega arith in
-    let next : base longer ≡ unit_of time = omega arith in
-    rw (photon-meaning number time few, here, go longer next) refl
+one-photon true before start time number more rest wraps late soon few same go = search (rules, arith, sum_by_push, wrap-meaning, photon-meaning)
+one-photon false before start time number more rest wraps late soon few same go = search (rules, arith, sum_by_push, photon-meaning)
 
-events-behind : (before : List Raw) (start : ℕ) (xs : List ℕ) → base before ≡ unit_of start → events_after before (words_behind start xs) ≡ all_given photon start xs
+events-behind : (before : List Raw) (start : ℕ) (xs : List ℕ) → base before ≡ unit_of start
+    → events_after before (words_behind start xs) ≡ all_given photon start xs
 events-behind before start [] same = refl
 events-behind before start (state ∷ xs) same =
     let time = start + gap state in
@@ -47,7 +86,8 @@ events-behind before start (state ∷ xs) same =
     (one-photon (nat_lt (start / unit) (time / unit)) before start time (channel state) (words_behind time xs) (all_given photon time xs) refl (omega arith) (omega arith) (omega arith) same
     (λ longer next. events-behind longer time xs next))
 
-same-each : {A B : Type 0} (f g : List A → A → List B) (before xs : List A) → ((before : List A) (x : A) → f before x ≡ g before x) → each_after f before xs ≡ each_after g before xs
+same-each : {A B : Type 0} (f g : List A → A → List B) (before xs : List A)
+    → ((before : List A) (x : A) → f before x ≡ g before x) → each_after f before xs ≡ each_after g before xs
 same-each f g before [] same = refl
 same-each f g before (x ∷ xs) same = rw (same before x, same-each f g (before ++ x ∷ []) xs same) refl
 
@@ -56,12 +96,11 @@ timed-at number time other same = rw same refl
 
 pub made-events : (seed count : ℕ) → map timed (events (map (hydra_t2 false) (made_words seed count))) ≡ made_photons seed count
 unfolding events made_words made_photons
-made-events seed count =
-    events-behind [] 0 (states count seed) refl
-    ∙ same-each _ _ [] (states count seed) (λ before state. timed-at (channel state) (0 + (last_time before + gap state)) (last_time before + gap state) (omega arith))
+made-events seed count = search (rules, arith, events-behind, same-each, timed-at)
 
 -- the wraps of one photon more
-one-wraps : (wraps : Bool) (start time number : ℕ) (more : List ℕ) → wraps ≡ nat_lt (start / unit) (time / unit) → start ≤ time → time < start + unit → number < 2
+one-wraps : (wraps : Bool) (start time number : ℕ) (more : List ℕ)
+    → wraps ≡ nat_lt (start / unit) (time / unit) → start ≤ time → time < start + unit → number < 2
     → base (map (hydra_t2 false) (words_if wraps number time ++ more)) + unit_of start ≡ base (map (hydra_t2 false) more) + unit_of time
 one-wraps true start time number more wraps late soon few =
     let above : start / unit < time / unit = grind (arith, nat_tests) in
@@ -70,19 +109,15 @@ one-wraps true start time number more wraps late soon few =
     let first : base (Wrap unit ∷ photon_raw ∷ records) ≡ unit + base (photon_raw ∷ records) = sum_by-cons amount (Wrap unit) (photon_raw ∷ records) in
     let second : base (photon_raw ∷ records) ≡ 0 + base records = sum_by-cons amount photon_raw records in
     rw (wrap-meaning, photon-meaning number time few) (omega arith)
-one-wraps false start time number more wraps late soon few =
-    let level : time / unit ≤ start / unit = grind (arith, nat_tests) in
-    let photon_raw = Photon (number + 1) (time % unit) 0 in
-    let records = map (hydra_t2 false) more in
-    let second : base (photon_raw ∷ records) ≡ 0 + base records = sum_by-cons amount photon_raw records in
-    rw (photon-meaning number time few) (omega arith)
+one-wraps false start time number more wraps late soon few = search (rules, arith, sum_by-cons, photon-meaning)
 
 -- the wraps of all words are the whole units of the last time
 wraps-behind : (start : ℕ) (xs : List ℕ) → base (map (hydra_t2 false) (words_behind start xs)) + unit_of start ≡ unit_of (start + last_time xs)
 wraps-behind start [] = let same : start + last_time [] ≡ start = omega arith in rw same (omega arith)
 wraps-behind start (state ∷ xs) =
     let time = start + gap state in
-    let one = one-wraps (nat_lt (start / unit) (time / unit)) start time (channel state) (words_behind time xs) refl (omega arith) (omega arith) (omega arith) in
+    let one =
+    one-wraps (nat_lt (start / unit) (time / unit)) start time (channel state) (words_behind time xs) refl (omega arith) (omega arith) (omega arith) in
     let rest = wraps-behind time xs in
     let more : last_time (state ∷ xs) ≡ gap state + last_time xs = sum_by-cons gap state xs in
     let end : start + last_time (state ∷ xs) ≡ time + last_time xs = omega arith in
@@ -91,16 +126,15 @@ wraps-behind start (state ∷ xs) =
 last_time-le : (count seed : ℕ) → last_time (states count seed) ≤ 512 * count
 unfolding states
 last_time-le zero seed = omega arith
-last_time-le (suc count) seed =
-    let more : last_time (next_state seed ∷ states count (next_state seed)) ≡ gap (next_state seed) + last_time (states count (next_state seed)) = sum_by-cons gap (next_state seed) (states count (next_state seed)) in
-    omega (arith, more, last_time-le count (next_state seed))
+last_time-le (suc count) seed = search (rules, arith, sum_by-cons, last_time-le count (next_state seed))
 
 pub wraps-le : (seed count : ℕ) → base (map (hydra_t2 false) (made_words seed count)) ≤ 512 * count
 unfolding made_words
 wraps-le seed count = let all = wraps-behind 0 (states count seed) in omega (arith, all, last_time-le count seed)
 
 -- how many words there are
-pair-few : (wraps : Bool) (number time : ℕ) (more : List ℕ) (n : ℕ) → n ≤ length more → length more ≤ 2 * n → (suc n ≤ length (words_if wraps number time ++ more)) × (length (words_if wraps number time ++ more) ≤ 2 * suc n)
+pair-few : (wraps : Bool) (number time : ℕ) (more : List ℕ) (n : ℕ) → n ≤ length more → length more ≤ 2 * n
+    → (suc n ≤ length (words_if wraps number time ++ more)) × (length (words_if wraps number time ++ more) ≤ 2 * suc n)
 pair-few true number time more n low high = (omega arith, omega arith)
 pair-few false number time more n low high = (omega arith, omega arith)
 
@@ -121,3 +155,49 @@ unfolding made_words
 few-words seed count =
     let few = few-behind 0 (states count seed) in
     (omega (arith, few.0, length-states count seed), omega (arith, few.1, length-states count seed))
+
+-- No record of the made file is refused.
+
+not_reserved : (raw : Raw) → IsPhotonOrWrap raw → is_reserved raw ≡ false
+not_reserved raw h = search (rules, arith)
+
+amount-le : (raw : Raw) → IsPhotonOrWrap raw → amount raw ≤ unit
+amount-le raw h = search (rules, arith)
+
+base-le : (words : List ℕ) → AllByRecursion IsMade words → base (map (hydra_t2 false) words) ≤ length words * unit
+base-le [] h = omega arith
+base-le (word ∷ words) h = search (rules, arith, sum_by-cons, amount-le, base-le words h.1)
+
+take-made : (k : ℕ) (words : List ℕ) → AllByRecursion IsMade words → AllByRecursion IsMade (take k words)
+take-made zero words h = tt
+take-made (suc k) [] h = tt
+take-made (suc k) (word ∷ words) h = (h.0, take-made k words h.1)
+
+and-false : (a b : Bool) → b ≡ false → (a && b) ≡ false
+and-false a b h = search (rules, arith)
+
+first-false : (a b : Bool) → a ≡ false → (a && b) ≡ false
+first-false a b h = rw h refl
+
+no-cause : (full reserved passing stops : Bool) (limit gap pass late : Option Fault) → full ≡ false → reserved ≡ false → passing ≡ false → stops ≡ false
+    → (if full then limit else if reserved then gap else if passing then pass else if stops then late else None) ≡ None
+no-cause full reserved passing stops limit gap pass late f r p s = rw (f, r, p, s) refl
+
+refusal-none : (policy : Policy) (before : List ℕ) (word : ℕ) → stops_late policy.order ≡ false
+    → length before < policy.records → length before ≤ 20000000 → AllByRecursion IsMade before → IsMade word
+    → refusal (reading HydraHarp2T2 policy) before word ≡ None
+unfolding refusal
+refusal-none policy before word drops few small made is =
+    let records = map (hydra_t2 false) before in
+    let raw = hydra_t2 false word in
+    let size : length records ≡ length before = length-map before (hydra_t2 false) in
+    let full : nat_le policy.records (length records) ≡ false = grind (arith, nat_tests) in
+    let low = base-le before made in
+    let step = amount-le raw is.means in
+    let passing : nat_lt wrap_limit (base records + amount raw) ≡ false = grind (arith, nat_tests) in
+    no-cause _ _ _ _ _ _ _ _ full (first-false (is_reserved raw) _ (not_reserved raw is.means)) (and-false (is_wrap raw) _ passing) drops
+
+pub unrefused : (policy : Policy) (words : List ℕ) → stops_late policy.order ≡ false
+    → length words ≤ policy.records → length words ≤ 20000000 → AllByRecursion IsMade words
+    → record_refusal (reading HydraHarp2T2 policy) words ≡ None
+unrefused policy words drops few small made = search (rules, arith, none-refused, length-take, refusal-none, take-made, all_means)

@@ -1,43 +1,23 @@
 -- The definitions at known seeds.
 use Rattle.std.proofs.Common.{◌≡◌, [], ◌∷◌, ◌++◌, replicate, refl, codes}
-use Rattle.ptu_made.{specs.Generator.{next_state, states, gap, channel, drawn, photon_words, made_words}, specs.Records.made_photons, specs.MadeFile.made_file}
+use Rattle.ptu_made.{specs.Generator.{next_state, states, gap, channel, drawn, photon_words, made_words}, specs.Records.{made_photons, made_file}}
 use Rattle.tally_base.specs.declared.event.EventKind.TheVariants.{Photon}
 use Rattle.short_file.specs.ShortFiles.{short_header, short_file}
 
-pub row-state : next_state 0 ≡ 0x14057B7EF767814F
-row-state = refl
-
-pub row-drawn : drawn 0x14057B7EF767814F ≡ 0x0A02BDBF
-row-drawn = refl
-
-pub row-gap : gap 0x14057B7EF767814F ≡ 447
-row-gap = refl
-
-pub row-channel : channel 0x14057B7EF767814F ≡ 0
-row-channel = refl
-
-pub row-first : made_words 0 1 ≡ 0x000001BF ∷ []
-unfolding made_words states
-row-first = refl
-
-pub row-words : made_words 1 4 ≡ 0x020001D6 ∷ 0x0200032F ∷ 0x000003FB ∷ 0x020004E1 ∷ []
-unfolding made_words states
-row-words = refl
-
--- a new unit begins
-pub row-wrap : photon_words 0x3FFFFD5 0x4000135 1 ≡ 0xFE000001 ∷ 0x02000135 ∷ []
-row-wrap = refl
-
-pub row-no_wrap : photon_words 0x3FFFF00 0x3FFFFD5 1 ≡ 0x03FFFFD5 ∷ []
-row-no_wrap = refl
-
-pub row-file : made_file 0 1
+pub rows :
+    (next_state 0 ≡ 0x14057B7EF767814F)
+    × (drawn 0x14057B7EF767814F ≡ 0x0A02BDBF)
+    × (gap 0x14057B7EF767814F ≡ 447)
+    × (channel 0x14057B7EF767814F ≡ 0)
+    × (made_words 0 1 ≡ 0x000001BF ∷ [])
+    × (made_words 1 4 ≡ 0x020001D6 ∷ 0x0200032F ∷ 0x000003FB ∷ 0x020004E1 ∷ [])
+    -- a new unit begins
+    × (photon_words 0x3FFFFD5 0x4000135 1 ≡ 0xFE000001 ∷ 0x02000135 ∷ [])
+    × (photon_words 0x3FFFF00 0x3FFFFD5 1 ≡ 0x03FFFFD5 ∷ [])
+    × (made_file 0 1
     ≡ codes "PQTTTR" ++ 0 ∷ 0 ∷ (codes "1.0.00" ++ 0 ∷ 0 ∷ (codes "TTResultFormat_TTTRRecType"
     ++ 0 ∷ 0 ∷ 0 ∷ 0 ∷ 0 ∷ 0 ∷ 255 ∷ 255 ∷ 255 ∷ 255 ∷ 8 ∷ 0 ∷ 0 ∷ 16 ∷ 4 ∷ 2 ∷ 1 ∷ 1 ∷ 0 ∷ 0 ∷ 0 ∷ 0 ∷ (codes "Header_End"
-    ++ replicate 22 0 ++ (255 ∷ 255 ∷ 255 ∷ 255 ∷ 8 ∷ 0 ∷ 255 ∷ 255 ∷ 0 ∷ 0 ∷ 0 ∷ 0 ∷ 0 ∷ 0 ∷ 0 ∷ 0 ∷ 0xBF ∷ 1 ∷ 0 ∷ 0 ∷ []))))
-unfolding made_file short_file short_header made_words states
-row-file = refl
-
-pub row-photons : made_photons 1 2 ≡ record { kind = Photon 2 0; time = 470 } ∷ record { kind = Photon 2 0; time = 815 } ∷ []
-unfolding made_photons states
-row-photons = refl
+    ++ replicate 22 0 ++ (255 ∷ 255 ∷ 255 ∷ 255 ∷ 8 ∷ 0 ∷ 255 ∷ 255 ∷ 0 ∷ 0 ∷ 0 ∷ 0 ∷ 0 ∷ 0 ∷ 0 ∷ 0 ∷ 0xBF ∷ 1 ∷ 0 ∷ 0 ∷ [])))))
+    × (made_photons 1 2 ≡ record { kind = Photon 2 0; time = 470 } ∷ record { kind = Photon 2 0; time = 815 } ∷ [])
+unfolding made_words states made_file short_file short_header made_photons
+rows = (refl, refl, refl, refl, refl, refl, refl, refl, refl, refl)

@@ -1,9 +1,9 @@
 -- What the words of the made file mean.
-use Rattle.std.specs.Prelude.{ℕ, ◌+◌, ◌≡◌, ◌<◌, ◌≤◌, List, [], ◌∷◌}
-use Rattle.tally_base.{specs.declared.header.Header.Header, specs.declared.header.Mode.TheVariants.T2, specs.declared.event.EventKind.TheVariants.Photon as PhotonEvent}
-use Rattle.ptu_definitions.{specs.declared.records.Raw.Raw, specs.declared.records.Raw.TheVariants.{Photon, Marker, Wrap, Reserved}, specs.Prefixes.each}
-use Rattle.short_file.{specs.ShortFiles.short_fields, specs.TimedEvents.Timed}
-use Rattle.ptu_made.specs.Generator.{states, gap, channel, last_time, unit}
+use Rattle.std.{specs.Prelude.{ℕ, ◌+◌, ◌≡◌, ◌<◌, ◌≤◌, List, [], ◌∷◌}, specs.declared.option.Option.Option}
+use Rattle.tally_base.{specs.declared.header.Header.Header, specs.declared.header.Mode.TheVariants.T2, specs.declared.event.EventKind.TheVariants.Photon as PhotonEvent, specs.declared.event.Policy.Policy, specs.declared.fault.Fault.Fault, specs.declared.header.RecordType.TheVariants.HydraHarp2T2}
+use Rattle.ptu_definitions.{specs.declared.records.Raw.Raw, specs.declared.records.Raw.TheVariants.{Photon, Marker, Wrap, Reserved}, specs.Prefixes.each, specs.Streams.{reading, record_refusal}}
+use Rattle.short_file.specs.ShortFiles.{short_fields, short_file, Timed}
+use Rattle.ptu_made.specs.Generator.{states, gap, channel, last_time, unit, made_words}
 
 -- a photon of input 1 or 2, or one wrap
 abbrev pub IsPhotonOrWrap : Raw → Type 0
@@ -19,3 +19,13 @@ made_header = short_fields T2
 -- Each photon is of the input behind its channel, and comes its gap behind the one before.
 unfoldable pub made_photons : ℕ → ℕ → List Timed
 made_photons seed count = each (λ before state. record { kind = PhotonEvent (channel state + 1) 0; time = last_time before + gap state } ∷ []) (states count seed)
+
+-- The made file.
+
+-- the made file of so many photons of a seed
+unfoldable pub made_file : ℕ → ℕ → List ℕ
+made_file seed count = short_file T2 (made_words seed count)
+
+-- why a record of the made file is refused that is read by this policy, where one is
+abbrev pub made_refusal : Policy → ℕ → ℕ → Option Fault
+made_refusal policy seed count = record_refusal (reading HydraHarp2T2 policy) (made_words seed count)

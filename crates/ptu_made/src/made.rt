@@ -1,8 +1,8 @@
 // A made file as inputs.
-ghost use Rattle.std.{specs.Prelude.{◌≡◌, ◌≤◌, true, false, length, min, unwrap_or, [], IsOk, IfOk, OnErr, OnOk}, specs.Io.{ReadsAtMost}};
+ghost use Rattle.std.{specs.Prelude.{◌≡◌, ◌≤◌, true, false, length, min, unwrap_or, [], IsOk, IfOk, OnErr, OnOk}, specs.Io.ReadsAtMost};
 ghost use Rattle.bench_io.{specs.Given.{ReadGives, no_bytes}, specs.Inputs.{IsOpened, Keeps, KeepsOther, OpensNone}, specs.Memory.left_of};
 ghost use Rattle.tally_base.specs.FaultCounts.{FailsOnce};
-ghost use Rattle.ptu_made.{specs.MadeFile.made_file, specs.Generator.photon_limit};
+ghost use Rattle.ptu_made.{specs.Records.made_file, specs.Generator.photon_limit};
 
 use crate::slot::{Begun, read_in};
 use crate::unread::Unread;

@@ -32,7 +32,7 @@ fn state_behind(state: u64) -> u64
 }
 
 impl Photons {
-    ghost use Rattle.ptu_made.specs.Left.{words_left};
+    ghost use Rattle.ptu_made.specs.Unread.{words_left};
 
     pub(crate) fn new(seed: u64, count: u64) -> Photons
         requires { count ≤ photon_limit }

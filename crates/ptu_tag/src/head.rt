@@ -1,6 +1,6 @@
 // The parts of one tag.
 ghost use Rattle.std.specs.Prelude.{◌≡◌};
-ghost use Rattle.ptu_definitions.specs.TagFields.{name_of};
+ghost use Rattle.ptu_definitions.specs.TagList.{name_of};
 ghost use Rattle.ptu_tag.specs.Kinds.{IsHead};
 
 use byteorder::{ByteOrder, LittleEndian};

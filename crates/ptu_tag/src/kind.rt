@@ -1,6 +1,6 @@
 // The types of tags.
 ghost use Rattle.std.specs.Prelude.{◌≡◌, IfSome, IsSome, ◌↔◌, true};
-ghost use Rattle.ptu_definitions.specs.TagFields.{is_known, has_body};
+ghost use Rattle.ptu_definitions.specs.TagList.{is_known, has_body};
 ghost use Rattle.ptu_tag.specs.Kinds.{code_of};
 
 /// The types of tags in PicoQuant's unified TTTR format, there named tyEmpty8, tyBool8 and so on.
@@ -33,7 +33,7 @@ pub enum TagKind {
 
 impl TagKind {
     /// The type of a code. None exactly for a code that is no type's.
-    #[tactic(auto, unfolding(ptu_definitions::specs::TagFields::is_known, ptu_definitions::specs::TagFields::has_body))]
+    #[tactic(auto, unfolding(ptu_definitions::specs::TagList::is_known, ptu_definitions::specs::TagList::has_body))]
     pub fn of(code: u32) -> Option<TagKind>
         ensures known { IsSome result ↔ (is_known code ≡ true) }
         ensures code { IfSome result (λ kind. code_of kind ≡ code) }
@@ -55,7 +55,7 @@ impl TagKind {
     }
 
     /// Whether a body follows the tag. Its value is the body's length then.
-    #[tactic(auto, unfolding(ptu_definitions::specs::TagFields::has_body))]
+    #[tactic(auto, unfolding(ptu_definitions::specs::TagList::has_body))]
     pub fn has_body(&self) -> bool
         ensures { result ≡ has_body (code_of self.now) }
     {

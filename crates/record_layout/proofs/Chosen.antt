@@ -2,7 +2,7 @@
 use Rattle.std.{proofs.Common.{◌≡◌, ◌+◌, ◌<◌, ◌≤◌, ◌++◌, [], ◌∷◌, ℕ, zero, suc, List, Bool, true, false, length, map, take, get_or, replicate, cond, refl, sym, ap, subst, ◌∙◌, arith, ltb}, specs.Prelude.{count_ones}, specs.Prelude.{◌&&◌, nat_le}, specs.List.{filter, range_with_len}, proofs.lemmas.List.FromFn.{get_or-map-range_with_len, length-range_with_len}, proofs.lemmas.List.Elements.{filter-append}, proofs.lemmas.Simd.{get_or-replicate, get_or-chunk}, proofs.lemmas.Bool.{leb-true, ltb-true}, proofs.lemmas.List.{map-append, length-map, length-append, get_or-map, get_or-take}, proofs.lemmas.List.Sums.{length-filter, count_by-le-length}}
 use lib.Count.{ones}
 use lib.Lanes.{Each1, chunk, all_below}
-use Rattle.record_layout.specs.Chosen.{has_bit, bits_in, lanes_by}
+use Rattle.record_layout.specs.InClose.{has_bit, bits_in, lanes_by}
 
 -- what holds of each number below 256
 pub each : {X : Type 0} (f : ℕ → X) (x d : X) → map f (range_with_len 0 256) ≡ replicate 256 x → (m : ℕ) → m < 256 → f m ≡ x
@@ -53,7 +53,8 @@ range-append a (suc n) m =
     let same : a + 1 + n ≡ a + suc n = omega arith in
     ap (range_with_len a) more ∙ ap (λ l. a ∷ l) (range-append (a + 1) n m ∙ ap (λ k. range_with_len (a + 1) n ++ range_with_len k m) same)
 
-filter-shift : (f g : ℕ → Bool) (a b n : ℕ) → ((j : ℕ) → b ≤ j → j < b + n → f (a + j) ≡ g j) → filter f (range_with_len (a + b) n) ≡ map (λ i. a + i) (filter g (range_with_len b n))
+filter-shift : (f g : ℕ → Bool) (a b n : ℕ) → ((j : ℕ) → b ≤ j → j < b + n → f (a + j) ≡ g j)
+    → filter f (range_with_len (a + b) n) ≡ map (λ i. a + i) (filter g (range_with_len b n))
 filter-shift f g a b zero same = refl
 filter-shift f g a b (suc n) same =
     let rest = filter-shift f g a (b + 1) n (λ j le lt. same j (omega (arith, le)) (omega (arith, lt))) in
@@ -62,17 +63,20 @@ filter-shift f g a b (suc n) same =
     rw here (by_case (g b) (subst (λ k. filter f (range_with_len k n) ≡ map (λ i. a + i) (filter g (range_with_len (b + 1) n))) next rest))
   where
     by_case : (x : Bool) → filter f (range_with_len (a + b + 1) n) ≡ map (λ i. a + i) (filter g (range_with_len (b + 1) n))
-        → cond x ((a + b) ∷ filter f (range_with_len (a + b + 1) n)) (filter f (range_with_len (a + b + 1) n)) ≡ map (λ i. a + i) (cond x (b ∷ filter g (range_with_len (b + 1) n)) (filter g (range_with_len (b + 1) n)))
+        → cond x ((a + b) ∷ filter f (range_with_len (a + b + 1) n)) (filter f (range_with_len (a + b + 1) n)) ≡ map
+        (λ i. a + i) (cond x (b ∷ filter g (range_with_len (b + 1) n)) (filter g (range_with_len (b + 1) n)))
     by_case true is = ap (λ l. (a + b) ∷ l) is
     by_case false is = is
 
 -- eight more
-pub stay-more : (f : ℕ → Bool) (a bits : ℕ) → ((i : ℕ) → i < 8 → has_bit bits i ≡ f (a + i)) → filter f (range_with_len 0 (a + 8)) ≡ filter f (range_with_len 0 a) ++ map (λ i. a + i) (bits_in bits)
+pub stay-more : (f : ℕ → Bool) (a bits : ℕ) → ((i : ℕ) → i < 8 → has_bit bits i ≡ f (a + i))
+    → filter f (range_with_len 0 (a + 8)) ≡ filter f (range_with_len 0 a) ++ map (λ i. a + i) (bits_in bits)
 unfolding bits_in
 stay-more f a bits same =
     let from : 0 + a ≡ a + 0 = omega arith in
     ap (filter f) (range-append 0 a 8) ∙ filter-append f (range_with_len 0 a) (range_with_len (0 + a) 8)
-    ∙ ap (λ l. filter f (range_with_len 0 a) ++ l) (ap (λ k. filter f (range_with_len k 8)) from ∙ filter-shift f (has_bit bits) a 0 8 (λ j le lt. sym (same j (omega (arith, lt)))))
+    ∙ ap (λ l. filter f (range_with_len 0 a) ++ l)
+    (ap (λ k. filter f (range_with_len k 8)) from ∙ filter-shift f (has_bit bits) a 0 8 (λ j le lt. sym (same j (omega (arith, lt)))))
 
 lanes-at : (xs ks : List ℕ) (a : ℕ) → Each1 (λ j. j < 8) ks → map (λ i. get_or (chunk a 8 xs) i 0) ks ≡ map (λ i. get_or xs i 0) (map (λ i. a + i) ks)
 lanes-at xs [] a lt = refl
@@ -80,27 +84,33 @@ lanes-at xs (k ∷ ks) a lt = rw (get_or-chunk a 8 xs k 0 lt.0) (ap (λ l. get_o
 
 -- a column with eight more of another
 pub column-more : (f : ℕ → Bool) (xs old new : List ℕ) (a bits len : ℕ) → bits < 256 → ((i : ℕ) → i < 8 → has_bit bits i ≡ f (a + i))
-    → take len old ≡ map (λ i. get_or xs i 0) (filter f (range_with_len 0 a)) → take (len + length (bits_in bits)) new ≡ take len old ++ lanes_by (chunk a 8 xs) bits
+    → take len old ≡ map (λ i. get_or xs i 0) (filter f (range_with_len 0 a))
+    → take (len + length (bits_in bits)) new ≡ take len old ++ lanes_by (chunk a 8 xs) bits
     → take (len + length (bits_in bits)) new ≡ map (λ i. get_or xs i 0) (filter f (range_with_len 0 (a + 8)))
 column-more f xs old new a bits len few same is put =
-    put ∙ ap (λ l. l ++ lanes_by (chunk a 8 xs) bits) is ∙ ap (λ l. map (λ i. get_or xs i 0) (filter f (range_with_len 0 a)) ++ l) (lanes-at xs (bits_in bits) a (below-bits bits few))
-    ∙ sym (map-append (λ i. get_or xs i 0) (filter f (range_with_len 0 a)) (map (λ i. a + i) (bits_in bits))) ∙ ap (map (λ i. get_or xs i 0)) (sym (stay-more f a bits same))
+    put ∙ ap (λ l. l ++ lanes_by (chunk a 8 xs) bits) is
+    ∙ ap (λ l. map (λ i. get_or xs i 0) (filter f (range_with_len 0 a)) ++ l) (lanes-at xs (bits_in bits) a (below-bits bits few))
+    ∙ sym (map-append (λ i. get_or xs i 0) (filter f (range_with_len 0 a)) (map (λ i. a + i) (bits_in bits)))
+    ∙ ap (map (λ i. get_or xs i 0)) (sym (stay-more f a bits same))
 
 pub few-staying : (f : ℕ → Bool) (n : ℕ) → length (filter f (range_with_len 0 n)) ≤ n
 few-staying f n = omega (arith, length-filter f (range_with_len 0 n), count_by-le-length f (range_with_len 0 n), length-range_with_len 0 n)
 
-pub length-more : (f : ℕ → Bool) (a bits len : ℕ) → bits < 256 → ((i : ℕ) → i < 8 → has_bit bits i ≡ f (a + i)) → len ≡ length (filter f (range_with_len 0 a)) → len + count_ones bits ≡ length (filter f (range_with_len 0 (a + 8)))
+pub length-more : (f : ℕ → Bool) (a bits len : ℕ) → bits < 256 → ((i : ℕ) → i < 8 → has_bit bits i ≡ f (a + i))
+    → len ≡ length (filter f (range_with_len 0 a)) → len + count_ones bits ≡ length (filter f (range_with_len 0 (a + 8)))
 length-more f a bits len few same is =
     let all = ap length (stay-more f a bits same) ∙ length-append (filter f (range_with_len 0 a)) (map (λ i. a + i) (bits_in bits)) in
     omega (arith, is, all, ones-bits bits few, length-map (bits_in bits) (λ i. a + i))
 
 -- a column of the places themselves
-pub map-same : (f : ℕ → Bool) (g : ℕ → ℕ) (a n : ℕ) → ((j : ℕ) → a ≤ j → j < a + n → g j ≡ j) → map g (filter f (range_with_len a n)) ≡ filter f (range_with_len a n)
+pub map-same : (f : ℕ → Bool) (g : ℕ → ℕ) (a n : ℕ) → ((j : ℕ) → a ≤ j → j < a + n → g j ≡ j)
+    → map g (filter f (range_with_len a n)) ≡ filter f (range_with_len a n)
 map-same f g a zero is = refl
 map-same f g a (suc n) is = by_case (f a) (map-same f g (a + 1) n (λ j le lt. is j (omega (arith, le)) (omega (arith, lt))))
   where
     by_case : (x : Bool) → map g (filter f (range_with_len (a + 1) n)) ≡ filter f (range_with_len (a + 1) n)
-        → map g (cond x (a ∷ filter f (range_with_len (a + 1) n)) (filter f (range_with_len (a + 1) n))) ≡ cond x (a ∷ filter f (range_with_len (a + 1) n)) (filter f (range_with_len (a + 1) n))
+        → map g (cond x (a ∷ filter f (range_with_len (a + 1) n)) (filter f (range_with_len (a + 1) n))) ≡ cond x
+        (a ∷ filter f (range_with_len (a + 1) n)) (filter f (range_with_len (a + 1) n))
     by_case true rest = rw (is a (omega arith) (omega arith)) (ap (λ l. a ∷ l) rest)
     by_case false rest = rest
 
@@ -108,7 +118,8 @@ map-same f g a (suc n) is = by_case (f a) (map-same f g (a + 1) n (λ j le lt. i
 pub place-more : (f : ℕ → Bool) (n : ℕ) → filter f (range_with_len 0 (n + 1)) ≡ filter f (range_with_len 0 n) ++ cond (f n) (n ∷ []) []
 place-more f n =
     let from : 0 + n ≡ n = omega arith in
-    ap (filter f) (range-append 0 n 1) ∙ filter-append f (range_with_len 0 n) (range_with_len (0 + n) 1) ∙ ap (λ k. filter f (range_with_len 0 n) ++ cond (f k) (k ∷ []) []) from
+    ap (filter f) (range-append 0 n 1) ∙ filter-append f (range_with_len 0 n) (range_with_len (0 + n) 1)
+    ∙ ap (λ k. filter f (range_with_len 0 n) ++ cond (f k) (k ∷ []) []) from
 
 -- none of the places is too great
 pub place-below : (f : ℕ → Bool) (a n j : ℕ) → j < length (filter f (range_with_len a n)) → get_or (filter f (range_with_len a n)) j 0 < a + n
@@ -123,7 +134,8 @@ place-below f a (suc n) j lt = by_case (f a) j (λ i few. omega (arith, place-be
     by_case false j rest few = rest j few
 
 -- a list by its places
-pub map-places : {X : Type 0} (f g : ℕ → X) (ks : List ℕ) (a : ℕ) → ((j : ℕ) → j < length ks → f (a + j) ≡ g (get_or ks j 0)) → map f (range_with_len a (length ks)) ≡ map g ks
+pub map-places : {X : Type 0} (f g : ℕ → X) (ks : List ℕ) (a : ℕ)
+    → ((j : ℕ) → j < length ks → f (a + j) ≡ g (get_or ks j 0)) → map f (range_with_len a (length ks)) ≡ map g ks
 map-places f g [] a same = refl
 map-places f g (k ∷ ks) a same =
     let first : a ≡ a + 0 = omega arith in
@@ -134,5 +146,6 @@ map-places f g (k ∷ ks) a same =
     rw here (ap (λ l. g k ∷ l) rest)
 
 -- what is put at a place is of the place that it has in the columns
-pub at-stayed : (xs ys ks : List ℕ) (len j : ℕ) → take len xs ≡ map (λ i. get_or ys i 0) ks → j < len → j < length ks → get_or xs j 0 ≡ get_or ys (get_or ks j 0) 0
+pub at-stayed : (xs ys ks : List ℕ) (len j : ℕ) → take len xs ≡ map (λ i. get_or ys i 0) ks
+    → j < len → j < length ks → get_or xs j 0 ≡ get_or ys (get_or ks j 0) 0
 at-stayed xs ys ks len j is lt few = sym (get_or-take len xs j 0 lt) ∙ ap (λ l. get_or l j 0) is ∙ get_or-map (λ i. get_or ys i 0) ks j 0 0 few

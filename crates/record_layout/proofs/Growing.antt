@@ -1,8 +1,8 @@
 -- A counter's bytes grow.
-use Rattle.std.{proofs.Common.{◌≡◌, ◌+◌, ◌-◌, ◌*◌, ◌<◌, ◌≤◌, ℕ, List, [], ◌++◌, length, map, Ok, Err, refl, sym, ap, ◌∙◌, arith, length-append, false, nat_lt, nat_eq}, specs.Int.{from_le_bytes, w32}, proofs.lemmas.List.{length-map, map-append}, proofs.lemmas.Bool.Decides.nat_tests}
 use Rattle.tally_base.{specs.declared.fault.Fault.TheVariants.{RecordLimit, TruncatedRecord}, specs.declared.header.RecordType.RecordType}
-use Rattle.ptu_definitions.{specs.declared.records.KindCounts.KindCounts, specs.Words.{words_of, rest_of}, specs.Fours.numbers, specs.Layouts.meaning_of, specs.Kinds.counts_of, specs.Counted.{counted, records_of, record_limit}, specs.Shown.Shows, proofs.WordsLemmas.{words_of-append, rest_of-append, length-words_of, length-rest_of, length-words_of-append}}
+use Rattle.ptu_definitions.{specs.declared.records.KindCounts.KindCounts, specs.Words.{words_of, rest_of, numbers, counted, records_of, record_limit}, specs.Layouts.meaning_of, specs.Kinds.counts_of, specs.Headers.Shows, proofs.WordsLemmas.{words_of-append, rest_of-append, length-words_of, length-rest_of, length-words_of-append, rest_of-four}, specs.Prefixes.listed}
 use Rattle.record_layout.{specs.Sums.sum_of, specs.Counting.AreCounts, proofs.KindLemmas.counts_of-append}
+use Rattle.std.{proofs.Common.{◌≡◌, ◌+◌, ◌-◌, ◌*◌, ◌<◌, ◌≤◌, ℕ, List, [], ◌++◌, length, map, Ok, Err, refl, sym, ap, ◌∙◌, arith, length-append, false, nat_lt, nat_eq, ◌∷◌, take, drop, get_or, take-append-drop, append_assoc, Option, None, Some, MatchOption}, specs.Int.{from_le_bytes, w32}, proofs.lemmas.List.{length-map, map-append}, proofs.lemmas.Bool.Decides.nat_tests}
 
 module _ (record_type : RecordType) (carried : List ℕ) (counts : KindCounts) (bytes : List ℕ) (h : AreCounts record_type carried counts bytes) where
   -- each word is counted
@@ -24,7 +24,8 @@ module _ (record_type : RecordType) (carried : List ℕ) (counts : KindCounts) (
   words-fit piece fits = omega (arith, h.few, records-counted, carried-short, bytes-taken, length-words_of (bytes ++ piece), length-append bytes piece)
 
   -- a piece that there is no room for
-  pub words-pass : (piece : List ℕ) → 4 * (record_limit - counts.records) + 3 - length carried < length piece → record_limit < length (words_of (bytes ++ piece))
+  pub words-pass : (piece : List ℕ) → 4 * (record_limit - counts.records) + 3 - length carried < length piece
+      → record_limit < length (words_of (bytes ++ piece))
   words-pass piece passes = omega (arith, h.few, records-counted, carried-short, bytes-taken, length-words_of (bytes ++ piece), length-append bytes piece)
 
   -- a piece is counted with what was carried
@@ -62,7 +63,8 @@ unfolding records_of
 AreCounts-none record_type = record { rest = refl; kinds = refl; few = omega arith }
 
 -- the counts of two lists of words, one behind the other
-pub counts_of-both : (record_type : RecordType) (first others : List (List ℕ)) (words : List ℕ) (counts more : KindCounts) → counts ≡ counts_of (map (meaning_of record_type) (numbers first)) → more ≡ counts_of (map (meaning_of record_type) (numbers others))
+pub counts_of-both : (record_type : RecordType) (first others : List (List ℕ)) (words : List ℕ) (counts more : KindCounts)
+    → counts ≡ counts_of (map (meaning_of record_type) (numbers first)) → more ≡ counts_of (map (meaning_of record_type) (numbers others))
     → numbers (first ++ others) ≡ words → sum_of counts more ≡ counts_of (map (meaning_of record_type) words)
 counts_of-both record_type first others words counts more of_first of_others are =
     let meaning = meaning_of record_type in
@@ -73,10 +75,43 @@ counts_of-both record_type first others words counts more of_first of_others are
 pub words-more : (bytes more : List ℕ) → record_limit < length (words_of bytes) → record_limit < length (words_of (bytes ++ more))
 words-more bytes more many = omega (arith, length-words_of-append bytes more)
 
-pub counted-limit : (record_type : RecordType) (bytes : List ℕ) → record_limit < length (words_of bytes) → Err (RecordLimit record_limit) ≡ counted record_type bytes
+pub counted-limit : (record_type : RecordType) (bytes : List ℕ) → record_limit < length (words_of bytes)
+    → Err (RecordLimit record_limit) ≡ counted record_type bytes
 unfolding counted
 counted-limit record_type bytes many = grind (arith, nat_tests)
 
 -- too many words are refused, whatever comes behind them
-pub counted-shows : (record_type : RecordType) (bytes : List ℕ) → record_limit < length (words_of bytes) → Shows (counted record_type) bytes (Err (RecordLimit record_limit))
+pub counted-shows : (record_type : RecordType) (bytes : List ℕ) → record_limit < length (words_of bytes)
+    → Shows (counted record_type) bytes (Err (RecordLimit record_limit))
 counted-shows record_type bytes many = λ more. sym (counted-limit record_type (bytes ++ more) (words-more bytes more many))
+
+-- A begun word, and a piece behind it.
+
+pub none_of : (xs : List ℕ) → length xs ≡ 0 → xs ≡ []
+none_of [] none = refl
+none_of (x ∷ xs) none = absurd (omega arith)
+
+-- a value in a slice of its own
+pub slice-listed : {X : Type 0} (o : Option X) (xs : List X) → MatchOption o (xs ≡ []) (λ x. xs ≡ x ∷ []) → xs ≡ listed o
+slice-listed None xs is = is
+slice-listed (Some x) xs is = is
+
+-- the only word of a list
+pub only-word : (words : List (List ℕ)) (d : List ℕ) → length words ≡ 1 → words ≡ get_or words 0 d ∷ []
+only-word [] d one = absurd (omega arith)
+only-word (w ∷ []) d one = refl
+only-word (w ∷ v ∷ words) d one = absurd (omega arith)
+
+module _ (begun piece : List ℕ) (n : ℕ) (four : length (begun ++ take n piece) ≡ 4) where
+  parted : begun ++ piece ≡ (begun ++ take n piece) ++ drop n piece
+  parted = ap (λ l. begun ++ l) (sym (take-append-drop n piece)) ∙ sym (append_assoc begun (take n piece) (drop n piece))
+
+  -- the word that a piece completes comes first
+  pub words-completed : words_of (begun ++ piece) ≡ words_of (begun ++ take n piece) ++ words_of (drop n piece)
+  words-completed =
+      ap words_of parted ∙ words_of-append (begun ++ take n piece) (drop n piece)
+      ∙ ap (λ l. words_of (begun ++ take n piece) ++ words_of (l ++ drop n piece)) (rest_of-four (begun ++ take n piece) four)
+
+  pub rest-completed : rest_of (begun ++ piece) ≡ rest_of (drop n piece)
+  rest-completed = ap rest_of parted ∙ rest_of-append (begun ++ take n piece) (drop n piece)
+      ∙ ap (λ l. rest_of (l ++ drop n piece)) (rest_of-four (begun ++ take n piece) four)

@@ -1,6 +1,6 @@
 -- How many of some words are of each kind.
 use Rattle.std.{proofs.Common.{◌≡◌, ◌+◌, ◌-◌, ◌<◌, ◌≤◌, ℕ, zero, suc, get_or, take, List, [], ◌∷◌, ◌++◌, Bool, cond, length, map, refl, sym, ap, ◌∙◌, arith, count_by}, specs.Int.{from_le_bytes, w32}, proofs.lemmas.List.{length-append, length-map}, proofs.lemmas.List.Sums.sum_by-append}
-use Rattle.ptu_definitions.{specs.declared.records.Raw.Raw, specs.declared.records.Raw.TheVariants.{Photon, Marker, Wrap, Reserved}, specs.Fours.numbers, specs.Kinds.{is_photon, is_marker, is_wrap, is_reserved, counts_of}}
+use Rattle.ptu_definitions.{specs.declared.records.Raw.Raw, specs.declared.records.Raw.TheVariants.{Photon, Marker, Wrap, Reserved}, specs.Words.numbers, specs.Kinds.{is_photon, is_marker, is_wrap, is_reserved, counts_of}}
 use Rattle.record_layout.specs.Sums.{IsSplit, sum_of}
 
 count_by-append : {X : Type 0} (p : X → Bool) (xs ys : List X) → count_by p (xs ++ ys) ≡ count_by p xs + count_by p ys
@@ -10,10 +10,12 @@ count_by-cons : {X : Type 0} (p : X → Bool) (x : X) (xs : List X) → count_by
 count_by-cons p x xs = let e = count_by-append p (x ∷ []) xs in omega (arith, e)
 
 -- one element more
-pub count-more : {X : Type 0} (p : X → Bool) (xs : List X) (i : ℕ) (d : X) → i < length xs → count_by p (take (i + 1) xs) ≡ count_by p (take i xs) + cond (p (get_or xs i d)) 1 0
+pub count-more : {X : Type 0} (p : X → Bool) (xs : List X) (i : ℕ) (d : X) → i < length xs
+    → count_by p (take (i + 1) xs) ≡ count_by p (take i xs) + cond (p (get_or xs i d)) 1 0
 count-more p xs i d lt = let e : i + 1 ≡ suc i = omega arith in rw e (one-more p xs i d lt)
   where
-    one-more : {X : Type 0} (p : X → Bool) (xs : List X) (i : ℕ) (d : X) → i < length xs → count_by p (take (suc i) xs) ≡ count_by p (take i xs) + cond (p (get_or xs i d)) 1 0
+    one-more : {X : Type 0} (p : X → Bool) (xs : List X) (i : ℕ) (d : X) → i < length xs
+        → count_by p (take (suc i) xs) ≡ count_by p (take i xs) + cond (p (get_or xs i d)) 1 0
     one-more p [] i d lt = absurd (omega (arith, lt))
     one-more p (x ∷ xs) zero d lt = omega (arith, count_by-cons p x [])
     one-more p (x ∷ xs) (suc i) d lt =
@@ -33,7 +35,8 @@ count_by-meanings : (p : Raw → Bool) (meaning : ℕ → Raw) (words : List (Li
     → count_by (λ bytes. p (meaning (from_le_bytes w32 bytes))) words ≡ count_by p (map meaning (numbers words))
 count_by-meanings p meaning [] = refl
 count_by-meanings p meaning (bytes ∷ words) =
-    count_by-cons _ bytes words ∙ ap (λ n. cond (p (meaning (from_le_bytes w32 bytes))) 1 0 + n) (count_by-meanings p meaning words) ∙ sym (count_by-cons p _ (map meaning (numbers words)))
+    count_by-cons _ bytes words ∙ ap (λ n. cond (p (meaning (from_le_bytes w32 bytes))) 1 0 + n) (count_by-meanings p meaning words)
+    ∙ sym (count_by-cons p _ (map meaning (numbers words)))
 
 pub length-meanings : (meaning : ℕ → Raw) (words : List (List ℕ)) → length (map meaning (numbers words)) ≡ length words
 length-meanings meaning words = length-map (numbers words) meaning ∙ length-map words (from_le_bytes w32)
@@ -45,17 +48,40 @@ module _ (meaning : ℕ → Raw) (words : List (List ℕ)) (photons markers wrap
     (wraps_are : wraps ≡ count_by (λ bytes. is_wrap (meaning (from_le_bytes w32 bytes))) words) where
   others : photons + markers + wraps + count_by is_reserved (map meaning (numbers words)) ≡ length words
   others =
-      rw (photons_are, markers_are, wraps_are, count_by-meanings is_photon meaning words, count_by-meanings is_marker meaning words, count_by-meanings is_wrap meaning words)
+      rw (
+        photons_are,
+        markers_are,
+        wraps_are,
+        count_by-meanings is_photon meaning words,
+        count_by-meanings is_marker meaning words,
+        count_by-meanings is_wrap meaning words,
+      )
       (counts_of-split (map meaning (numbers words)) ∙ length-meanings meaning words)
 
   pub others-fit : photons + markers + wraps ≤ length words
   others-fit = let h = others in omega (arith, h)
 
-  pub counts_of-three : record { records = length words; photons = photons; markers = markers; wraps = wraps; reserved = length words - (photons + markers + wraps) } ≡ counts_of (map meaning (numbers words))
+  pub counts_of-three : record {
+    records = length words;
+    photons = photons;
+    markers = markers;
+    wraps =
+        wraps;
+    reserved = length words - (photons + markers + wraps);
+  } ≡ counts_of (map meaning (numbers words))
   counts_of-three =
       let h = others in
       let rest : length words - (photons + markers + wraps) ≡ count_by is_reserved (map meaning (numbers words)) = omega (arith, h) in
-      rw (rest, photons_are, markers_are, wraps_are, count_by-meanings is_photon meaning words, count_by-meanings is_marker meaning words, count_by-meanings is_wrap meaning words, ← length-meanings meaning words) refl
+      rw (
+        rest,
+        photons_are,
+        markers_are,
+        wraps_are,
+        count_by-meanings is_photon meaning words,
+        count_by-meanings is_marker meaning words,
+        count_by-meanings is_wrap meaning words,
+        ← length-meanings meaning words,
+      ) refl
 
 -- the counts of records and of more behind them
 pub counts_of-append : (records more : List Raw) → counts_of (records ++ more) ≡ sum_of (counts_of records) (counts_of more)

@@ -1,8 +1,6 @@
-pub mod BegunLemmas
 mod KindLemmas
-mod CodeLemmas
 mod RowLemmas
-mod Growing
+pub mod Growing
 mod Rows
 pub mod Chosen
 pub mod Added

@@ -1,8 +1,16 @@
 -- What a counter stands for.
-use Rattle.std.specs.Prelude.{ℕ, ◌≡◌, ◌+◌, ◌-◌, ◌*◌, ◌<◌, ◌≤◌, List, Bool, true, false, length}
 use Rattle.tally_base.specs.declared.header.RecordType.{RecordType}
-use Rattle.ptu_definitions.{specs.declared.records.KindCounts.KindCounts, specs.Words.{words_of, rest_of}, specs.Kinds.counts_of, specs.Counted.{records_of, record_limit}}
-use Rattle.record_layout.{specs.Begun.begun_in, specs.declared.counter.Counter.Counter}
+use Rattle.ptu_definitions.{specs.declared.records.KindCounts.KindCounts, specs.Words.{words_of, rest_of, records_of, record_limit}, specs.Kinds.counts_of}
+use Rattle.record_layout.{specs.declared.counter.Counter.Counter, specs.declared.begun.BegunWord.BegunWord}
+use Rattle.std.specs.Prelude.{ℕ, ◌≡◌, ◌+◌, ◌-◌, ◌*◌, ◌<◌, ◌≤◌, List, Bool, true, false, length}
+
+-- The bytes of a begun word.
+
+-- the bytes that it begins with, 0 to 3
+abbrev pub begun_in : BegunWord → List ℕ
+begun_in word = word.bytes.items
+
+-- What a counter stands for.
 
 -- the counts of the whole words of these bytes, and what is left over
 pub record AreCounts (record_type : RecordType) (carried : List ℕ) (counts : KindCounts) (bytes : List ℕ) : Type 0 where

@@ -11,26 +11,12 @@ pub pico_t3-few : (word n : ℕ) → 65536 * n ≡ amount (pico_t3 word) → n �
 unfolding pico_t3
 pico_t3-few word n = grind (arith, common_steps, nat_tests)
 
-old_t2-few : (word n : ℕ) → 33552000 * n ≡ amount (hydra_t2 true word) → n ≤ 2 ^ 25
-unfolding hydra_t2
-old_t2-few word n = grind (arith, common_steps, nat_tests)
-
-new_t2-few : (word n : ℕ) → 33554432 * n ≡ amount (hydra_t2 false word) → n ≤ 2 ^ 25
-unfolding hydra_t2
-new_t2-few word n = grind (arith, common_steps, nat_tests)
-
-old_t3-few : (word n : ℕ) → 1024 * n ≡ amount (hydra_t3 true word) → n ≤ 2 ^ 25
-unfolding hydra_t3
-old_t3-few word n = grind (arith, common_steps, nat_tests)
-
-new_t3-few : (word n : ℕ) → 1024 * n ≡ amount (hydra_t3 false word) → n ≤ 2 ^ 25
-unfolding hydra_t3
-new_t3-few word n = grind (arith, common_steps, nat_tests)
-
 pub hydra_t2-few : (old : Bool) (word n : ℕ) → hydra_t2_unit old * n ≡ amount (hydra_t2 old word) → n ≤ 2 ^ 25
-hydra_t2-few true word n = old_t2-few word n
-hydra_t2-few false word n = new_t2-few word n
+unfolding hydra_t2
+hydra_t2-few true word n = grind (arith, common_steps, nat_tests)
+hydra_t2-few false word n = grind (arith, common_steps, nat_tests)
 
 pub hydra_t3-few : (old : Bool) (word n : ℕ) → 1024 * n ≡ amount (hydra_t3 old word) → n ≤ 2 ^ 25
-hydra_t3-few true word n = old_t3-few word n
-hydra_t3-few false word n = new_t3-few word n
+unfolding hydra_t3
+hydra_t3-few true word n = grind (arith, common_steps, nat_tests)
+hydra_t3-few false word n = grind (arith, common_steps, nat_tests)

@@ -1,6 +1,6 @@
 -- Records that stay, put close together.
-use Rattle.std.{specs.Prelude.{ℕ, ◌+◌, ◌*◌, ◌≡◌, Bool, List, length, map, take, nat_lt, slice_index}, specs.List.{filter, range_with_len}}
 use Rattle.record_layout.{specs.InColumns.{code_in, dtime_in}, specs.declared.columns.Columns.Columns, specs.declared.close.Close.Close}
+use Rattle.std.{specs.Prelude.{ℕ, ◌/◌, ◌%◌, ◌^◌, ◌==◌, ◌++◌, ◌-◌, Bool, List, length, map, slice_index, replicate, ◌+◌, ◌*◌, ◌≡◌, take, nat_lt}, specs.List.{filter, range_with_len}}
 
 -- whether the code of the record at a place is below this one
 abbrev pub stays : ℕ → Columns → ℕ → Bool
@@ -31,3 +31,21 @@ place_at close i = slice_index close.places i
 -- the time, where each wrap adds a unit to a base
 abbrev pub time_at : ℕ → ℕ → Close → ℕ → ℕ
 time_at base unit close i = base + unit * slice_index close.sums i + slice_index close.times i
+
+-- Lanes chosen by the bits of a number.
+
+-- whether the bit at a place is set
+unfoldable pub has_bit : ℕ → ℕ → Bool
+has_bit bits i = bits / 2 ^ i % 2 == 1
+
+-- the places of the lowest eight bits that are set
+unfoldable pub bits_in : ℕ → List ℕ
+bits_in bits = filter (has_bit bits) (range_with_len 0 8)
+
+-- the lanes at these places
+abbrev pub lanes_by : List ℕ → ℕ → List ℕ
+lanes_by lanes bits = map (λ i. slice_index lanes i) (bits_in bits)
+
+-- eight places, with 0 behind these
+abbrev pub lanes_in : ℕ → List ℕ
+lanes_in bits = bits_in bits ++ replicate (8 - length (bits_in bits)) 0

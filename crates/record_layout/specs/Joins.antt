@@ -1,5 +1,5 @@
 -- What the fields of a word say in each layout.
-use Rattle.std.specs.Prelude.{◌+◌, ◌-◌, ◌==◌, nat_lt, nat_le, Bool, if◌then◌else◌}
+use Rattle.std.specs.Prelude.{◌+◌, ◌-◌, ◌==◌, nat_lt, nat_le, Bool, if◌then◌else◌, ℕ, ◌/◌, ◌^◌, bit_and}
 use Rattle.ptu_definitions.{specs.declared.records.Raw.Raw, specs.declared.records.Raw.TheVariants.{Photon, Reserved}, specs.Layouts.{bits, pico_t2_special, pico_t3_special, hydra_t2_special, hydra_t3_special}}
 use Rattle.record_layout.specs.declared.fields.Fields.{Fields}
 
@@ -26,3 +26,12 @@ abbrev pub joined_hydra_t3 : Bool → Fields → Raw
 joined_hydra_t3 old fields =
     if nat_lt fields.top 64 then Photon fields.top fields.time fields.dtime
     else hydra_t3_special old (fields.top - 64) fields.time
+
+-- The fields of a word, by the shifts and masks of a layout.
+
+abbrev pub fields_in : ℕ → ℕ → ℕ → ℕ → ℕ → Fields
+fields_in top_shift dtime_shift dtime_mask time_mask word = record {
+  top = word / 2 ^ top_shift;
+  dtime = bit_and (word / 2 ^ dtime_shift) dtime_mask;
+  time = bit_and word time_mask;
+}

@@ -1,11 +1,8 @@
-pub mod Parts
 pub mod Joins
 pub mod JoinLaws
-pub mod Begun
 pub mod Sums
 pub mod Counting
 pub mod Rowed
 pub mod InColumns
-pub mod Chosen
 pub mod InClose
 pub mod FewWraps

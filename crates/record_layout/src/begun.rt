@@ -1,6 +1,7 @@
 // The bytes of a word that one piece begins and a later one completes.
 ghost use Rattle.std.specs.Prelude.{◌≡◌, ◌+◌, ◌*◌, ◌<◌, ◌++◌, ◌∷◌, [], length};
 ghost use Rattle.arrayvec.specs.ArrayVec.{array_vec_len};
+ghost use Rattle.ptu_definitions.{specs.Words.{numbers, words_of, rest_of}, specs.Prefixes.listed};
 
 use arrayvec::ArrayVec;
 use tally_base::put_text;
@@ -14,8 +15,7 @@ pub struct BegunWord {
 }
 
 impl BegunWord {
-    ghost use Rattle.ptu_definitions.{specs.Fours.numbers, specs.Prefixes.listed, specs.Words.{words_of, rest_of}};
-    ghost use Rattle.record_layout.specs.Begun.{begun_in};
+    ghost use Rattle.record_layout.specs.Counting.{begun_in};
 
     /// No byte.
     pub fn new() -> BegunWord

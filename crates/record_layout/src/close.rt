@@ -1,6 +1,6 @@
 // Records put close together.
-ghost use Rattle.std.{specs.Prelude.{◌≡◌, ◌+◌, ◌%◌, ◌^◌, ◌<◌, ◌≤◌, ◌++◌, ℕ, length, take, nat_lt, slice_index}, specs.Simd.Lanes.{chunk}};
-ghost use Rattle.record_layout.specs.{Chosen.{has_bit, bits_in, lanes_in, lanes_by}, InColumns.code_in};
+ghost use Rattle.std.{specs.Prelude.{◌≡◌, ◌+◌, ◌%◌, ◌^◌, ◌<◌, ◌≤◌, ◌++◌, ℕ, length, take, nat_lt, slice_index}, specs.Simd.Lanes.chunk};
+ghost use Rattle.record_layout.{specs.InClose.{has_bit, bits_in, lanes_in, lanes_by}, specs.InColumns.code_in};
 
 use crate::columns::{Columns, code_in, dtime_in};
 use crate::layout::RecordLayout;

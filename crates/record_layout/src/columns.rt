@@ -1,6 +1,6 @@
 // The records of a few words, by their parts.
 ghost use Rattle.std.{specs.Prelude.{◌≡◌, ◌*◌, ◌^◌, ◌<◌, ◌≤◌, ℕ, [], true, nat_lt, if◌then◌else◌, length, map, slice_index, slice_index_or}, specs.Int.{from_le_bytes, w32}};
-ghost use Rattle.ptu_definitions.{specs.Fours.numbers, specs.Kinds.counts_of};
+ghost use Rattle.ptu_definitions.{specs.Words.numbers, specs.Kinds.counts_of};
 ghost use Rattle.record_layout.{specs.Sums.IsSplit, specs.InColumns.{joined, code_in, dtime_in}};
 
 use crate::layout::RecordLayout;
@@ -78,17 +78,17 @@ impl Columns {
         sum
     }
 
-    /// True only where no time of the 64 records falls, from this one on. The sign of each difference tells it.
+    /// True only where no time of the 64 records falls, from this one on. The sign of each difference tells it, and a
+    /// first time from 2^63 on counts as one that falls.
     #[inline(always)]
     pub fn rises<R: RecordLayout>(&self, base: u64, low: u64) -> bool
         requires base { base ≤ 2 ^ 62 }
-        requires low { low < 2 ^ 63 }
         requires sums { (i : ℕ) → i < 64 → slice_index self.now.sums i ≤ 2 ^ 31 }
         ensures rises { result ≡ true → Rises low (time_in base R.UNIT self.now) 64 }
         ensures few { (i : ℕ) → i < 64 → slice_index self.now.times i < 2 ^ 32 }
     {
         let mut last = low;
-        let mut falls = 0u64;
+        let mut falls = low;
         for i in 0..64usize {
             let time = base + R::unit() * self.sums[i] as u64 + self.times[i] as u64;
             falls |= time.wrapping_sub(last);

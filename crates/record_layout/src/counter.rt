@@ -1,6 +1,7 @@
 // Counts the records of bytes that come in pieces.
 ghost use Rattle.std.specs.Prelude.{◌≡◌, ◌+◌, ◌<◌, ◌≤◌, ◌++◌, ◌↔◌, [], List, ℕ, length, true, false, IsErr, IfErr, Err, OnOk, OnErr};
-ghost use Rattle.tally_base.{specs.declared.header.RecordType.RecordType, specs.Limits.record_limit};
+ghost use Rattle.tally_base.{specs.declared.header.RecordType.RecordType, specs.Limits.record_limit, specs.Faults.is_outside};
+ghost use Rattle.ptu_definitions.{specs.Words.{words_of, counted}, specs.Headers.Shows};
 ghost use Rattle.record_layout.specs.Sums.{IsSplit};
 
 use crate::begun::BegunWord;
@@ -26,8 +27,6 @@ pub struct Counter {
 }
 
 impl Counter {
-    ghost use Rattle.ptu_definitions.{specs.Words.words_of, specs.Counted.counted, specs.Shown.Shows};
-    ghost use Rattle.tally_base.specs.Faults.{is_outside};
     ghost use Rattle.record_layout.specs.Counting.{HasCounted, was_refused, room};
 
     /// A counter that was given no bytes.

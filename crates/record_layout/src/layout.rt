@@ -2,7 +2,7 @@
 ghost use Rattle.std.specs.Prelude.{◌≡◌, ◌*◌, ◌^◌, ◌<◌, ◌≤◌, ℕ};
 ghost use Rattle.tally_base.specs.declared.header.Mode.{Mode};
 ghost use Rattle.ptu_definitions.{specs.declared.records.Raw.Raw, specs.Times.amount};
-ghost use Rattle.record_layout.{specs.declared.fields.Fields.Fields, specs.Parts.fields_in, specs.Rowed.raw_of};
+ghost use Rattle.record_layout.{specs.declared.fields.Fields.Fields, specs.Joins.fields_in, specs.Rowed.raw_of};
 
 use crate::fields::Fields;
 use crate::row::Row;

@@ -1,10 +1,42 @@
 -- One word more in a block.
-use Rattle.std.{proofs.Common.{rules}, proofs.Common.{◌≡◌, ◌+◌, ◌<◌, ◌≤◌, ℕ, List, [], ◌∷◌, ◌++◌, Bool, true, false, length, map, get_or, refl, sym, ap, ◌∙◌, add-zero, append-nil, append_assoc, arith, ◌&&◌, nat_le, count_by}, specs.Int.{from_le_bytes, w32}, proofs.lemmas.Bool.cases_Bool, proofs.lemmas.List.Sums.{get_or-le-sum_by, sum_by-cons}, proofs.lemmas.List.Elements.filter-append, proofs.lemmas.List.map_push}
-use Rattle.tally_base.{specs.declared.event.Event.Event, specs.declared.header.Mode.Mode, specs.Events.{stops_reserved}, specs.Limits.wrap_limit}
-use Rattle.ptu_definitions.{specs.declared.records.Raw.Raw, specs.Kinds.is_reserved, specs.Times.{event_of, amount}, specs.Fitting.Fits, specs.Fours.numbers, specs.Streams.{Reading}}
-use Rattle.abs_time.specs.Placing.{base_of, IsClock}
-use Rattle.record_layout.{specs.declared.row.Row.Row, specs.Rowed.raw_of}
-use Rattle.record_stream.{specs.Blocks.{chosen, Adds, IsInLine, greatest_with}, specs.Rows.{ordered_below, greatest_with_row}, specs.Walking.{how_of, greatest_of, clock_in, AddsBehind, Gathers}, specs.declared.walk.Walk.Walk, proofs.Adding.{adds-push, clock-push, in_line-push}, proofs.RowEvents.{greatest-row, on_time-row}}
+use Rattle.std.{proofs.Common.{rules, ◌≡◌, ◌+◌, ◌<◌, ◌≤◌, ℕ, List, [], ◌∷◌, ◌++◌, Bool, true, false, length, map, get_or, refl, sym, ap, ◌∙◌, add-zero, append-nil, append_assoc, arith, ◌&&◌, nat_le, count_by, nat_lt, ◌==◌, if◌then◌else◌, ◌^◌, take, length-take-le, subst, zero, suc, All, length-append, ◌⊎◌, ⊎_elim, not, IsTrue, max}, specs.Int.{from_le_bytes, w32}, proofs.lemmas.Bool.{cases_Bool, cases_lt, leb-true}, proofs.lemmas.List.Sums.{get_or-le-sum_by, sum_by-cons}, proofs.lemmas.List.Elements.{filter-append, All-from_recursion}, proofs.lemmas.List.{map_push, map-append, get_or_append_left}, specs.List.AllByRecursion, proofs.lemmas.Grind.get_or_at_push}
+use Rattle.tally_base.{specs.declared.event.Event.Event, specs.declared.header.Mode.Mode, specs.Events.{stops_reserved, is_ordered}, specs.Limits.wrap_limit, specs.Columns.{event_by, rows}, specs.Tally.{moves_floor, floor_after, InOrder}, proofs.BlockRows.more_rows, proofs.Floors.floor-more}
+use Rattle.ptu_definitions.{specs.declared.records.Raw.Raw, specs.Kinds.is_reserved, specs.Times.{event_of, amount}, specs.Layouts.Fits, specs.Words.numbers, specs.Streams.Reading, specs.declared.records.Raw.TheVariants.{Wrap, Reserved}, specs.Settled.ordered, proofs.WordsLemmas.meaning-fits, specs.Kept.{Marked, floor_of}}
+use Rattle.abs_time.{specs.Placing.{base_of, placed_by, IsClock, LeadsOn, mode_of}, specs.Floors.orders_markers, proofs.Floors.{moves_by, moved_floor-push}}
+use Rattle.record_layout.{specs.declared.row.Row.Row, specs.Rowed.raw_of, specs.InColumns.IsRow}
+use Rattle.record_stream.{specs.Blocks.{chosen, Adds, IsInLine, greatest_with, IsOnTime, on_time}, specs.Rows.{ordered_below, greatest_with_row, gathered_below, event_below}, specs.Walking.{how_of, greatest_of, clock_in, AddsBehind, Gathers, LetsPass}, specs.declared.walk.Walk.Walk, proofs.Steps.{adds-push, clock-push, in_line-push, places-push}, proofs.Wraps.{more_at, amount-small}}
+
+-- The event of a record, by its code.
+
+module _ (place base : ℕ) (row : Row) where
+  skipped : (raw : Raw) → ◌≡◌ {A = List Event} (event_of place base (if row.code == 512 then Wrap row.amount else Reserved)) []
+  skipped raw = by_case (row.code == 512)
+    where
+      by_case : (b : _) → ◌≡◌ {A = List Event} (event_of place base (if b then Wrap row.amount else Reserved)) []
+      by_case true = refl
+      by_case false = refl
+
+  -- the event in its row, if it is one
+  pub event-row : event_of place base (raw_of row) ≡ (if nat_lt row.code 512 then event_by place row.code row.dtime (base + row.time) ∷ [] else [])
+  event-row = search (rules, arith, cases_lt)
+
+  -- the greatest time with it
+  pub greatest-row : (mode : Mode) (top : ℕ) → greatest_with mode top (event_of place base (raw_of row)) ≡ greatest_with_row (ordered_below mode) top base row
+  greatest-row mode top = search (rules, arith, event-row, cases_lt)
+
+  -- those in order alone
+  ordered-row : (mode : Mode) → ordered mode (event_of place base (raw_of row)) ≡ event_below (ordered_below mode) place base row
+  ordered-row mode = search (rules, arith, event-row, cases_lt)
+
+  pub chosen-row : (only : Bool) (mode : Mode) → event_below (gathered_below only mode) place base row ≡ chosen only mode (event_of place base (raw_of row))
+  chosen-row only mode = search (rules, arith, event-row, ordered-row)
+
+  -- It is not late where the greatest time does not fall.
+  pub on_time-row : (mode : Mode) (top : ℕ) → nat_le top (greatest_with_row (ordered_below mode) top base row) ≡ true
+      → IsOnTime mode top (event_of place base (raw_of row))
+  on_time-row mode top on = search (rules, arith, event-row, leb-true, cases_lt)
+
+-- One word more in a block.
 
 -- counting by a test of what words mean, over their bytes
 count_by-meanings : (p : Raw → Bool) (meaning : ℕ → Raw) (words : List (List ℕ))
@@ -20,7 +52,8 @@ and_false : (a b : Bool) → (b ≡ true → a ≡ false) → (a && b) ≡ false
 and_false a b unless = search (rules, arith)
 
 -- no word is refused as reserved
-pub none-reserved : (how : Reading) (meaning : ℕ → Raw) (words : List (List ℕ)) (i : ℕ) (d : List ℕ) (w : ℕ) → meaning ≡ how.meaning → i < length words → w ≡ from_le_bytes w32 (get_or words i d)
+pub none-reserved : (how : Reading) (meaning : ℕ → Raw) (words : List (List ℕ)) (i : ℕ) (d : List ℕ) (w : ℕ)
+    → meaning ≡ how.meaning → i < length words → w ≡ from_le_bytes w32 (get_or words i d)
     → (stops_reserved how.policy.reserved ≡ true → count_by is_reserved (map meaning (numbers words)) ≡ 0)
     → (is_reserved (how.meaning w) && stops_reserved how.policy.reserved) ≡ false
 none-reserved how meaning words i d w same lt is none = search (rules, arith, and_false, none-at, count_by-meanings)
@@ -38,9 +71,11 @@ module _ (how : Reading) (low base top base' top' n : ℕ) (in_order in_order' :
   in_line-more w means fits few line sure =
       let two = both in_order (nat_le top top') (sym in_order_is ∙ sure) in
       let on = on_time-row (n + 1) base row how.mode top (rw top_is at two.1) in
-      rw (top_is, events_are, ← (greatest-row (n + 1) base row how.mode top)) (in_line-push how.mode low top (n + 1) base es (raw_of row) (line two.0) (rw means fits) few on)
+      rw (top_is, events_are, ← (greatest-row (n + 1) base row how.mode top))
+      (in_line-push how.mode low top (n + 1) base es (raw_of row) (line two.0) (rw means fits) few on)
 
-  pub adds-more : (next : ℕ) (before ws : List ℕ) (w : ℕ) → next ≡ n + 1 → raw_of row ≡ how.meaning w → row.amount ≡ amount (how.meaning w) → n < how.policy.records → base + row.amount ≤ wrap_limit
+  pub adds-more : (next : ℕ) (before ws : List ℕ) (w : ℕ) → next ≡ n + 1 → raw_of row ≡ how.meaning w
+      → row.amount ≡ amount (how.meaning w) → n < how.policy.records → base + row.amount ≤ wrap_limit
       → (is_reserved (how.meaning w) && stops_reserved how.policy.reserved) ≡ false → (in_order ≡ true → Adds how n base top before ws es)
       → in_order' ≡ true → Adds how next base' top' before (ws ++ w ∷ []) es'
   adds-more next before ws w counted means amounts room few go adds sure =
@@ -61,7 +96,8 @@ module _ (how : Reading) (low base top base' top' n : ℕ) (in_order in_order' :
       let greatest : top' ≡ greatest_with how.mode top (event_of (n + 1) base (raw_of row)) = top_is ∙ sym (greatest-row (n + 1) base row how.mode top) in
       let pushed = clock-push how.mode n base top (records ++ map how.meaning ws) (raw_of row) (clock two.0) on in
       let all : (records ++ map how.meaning ws) ++ raw_of row ∷ [] ≡ records ++ map how.meaning (ws ++ w ∷ []) =
-      append_assoc records (map how.meaning ws) (raw_of row ∷ []) ∙ ap (λ (r : Raw). records ++ (map how.meaning ws ++ r ∷ [])) means ∙ ap (λ l. records ++ l) (sym (map_push how.meaning ws w)) in
+      append_assoc records (map how.meaning ws) (raw_of row ∷ []) ∙ ap (λ (r : Raw). records ++ (map how.meaning ws ++ r ∷ [])) means
+      ∙ ap (λ l. records ++ l) (sym (map_push how.meaning ws w)) in
       rw (counted, sum, greatest, ← all) pushed
 
 -- All events of a list, or those in order alone.
@@ -73,6 +109,124 @@ pub gathers-none : (walk : Walk) (words : List (List ℕ)) (only : Bool) (sum gr
 gathers-none walk words only sum greatest es no_words none sum_is low greatest_is = search (rules, arith, append-nil, add-zero)
 
 -- where all events are gathered
-pub gathers-all : (walk : Walk) (words : List (List ℕ)) (in_order : Bool) (sum greatest : ℕ) (es : List Event) → Gathers walk words false in_order sum greatest es → in_order ≡ true
+pub gathers-all : (walk : Walk) (words : List (List ℕ)) (in_order : Bool) (sum greatest : ℕ) (es : List Event)
+    → Gathers walk words false in_order sum greatest es → in_order ≡ true
     → IsInLine (how_of walk).mode (greatest_of walk) greatest es × AddsBehind walk words sum greatest es
 gathers-all walk words in_order sum greatest es g sure = search (rules, arith)
+
+-- where none is late they lead the clock on
+pub gathers-lead : {walk : Walk} {words : List (List ℕ)} {only in_order : Bool} {sum greatest : ℕ} {es : List Event} (n : ℕ)
+    → Gathers walk words only in_order sum greatest es → in_order ≡ true → n ≡ placed_by (clock_in walk) + length words
+    → ∥ ((more : List Raw) × LeadsOn (clock_in walk) n sum greatest more) ∥₁
+gathers-lead {walk = walk} {words = words} n g sure count = ∣ (map (how_of walk).meaning (numbers words), rw count (g.leads sure)) ∣₁
+
+-- What is gathered of one word more.
+
+module _ (walk : Walk) (words : List (List ℕ)) (meaning : ℕ → Raw) (same : meaning ≡ (how_of walk).meaning) (passes : LetsPass walk meaning words)
+    (only : Bool) (i : ℕ) (lt : i < length words) (row : Row) (is : IsRow meaning row (from_le_bytes w32 (get_or words i []))) where
+  w : ℕ
+  w = from_le_bytes w32 (get_or words i [])
+
+  amounts : row.amount ≡ amount ((how_of walk).meaning w)
+  unfolding w
+  amounts = is.amounts ∙ ap (λ (f : ℕ → Raw). amount (f w)) same
+
+  means : raw_of row ≡ (how_of walk).meaning w
+  unfolding w
+  means = is.raw ∙ ap (λ (f : ℕ → Raw). f w) same
+
+  pub small : row.amount < 2 ^ 50
+  small = rw amounts (amount-small walk.record_type w)
+
+  -- one word more
+  pub gathers-row : (in_order in_order' : Bool) (base base' top top' : ℕ) (es es' : List Event) → base + row.amount ≤ wrap_limit → base' ≡ base + row.amount
+      → top' ≡ greatest_with_row (ordered_below (how_of walk).mode) top base row → in_order' ≡ (in_order && nat_le top top')
+      → es' ≡ es ++ event_below (gathered_below only (how_of walk).mode) (placed_by (clock_in walk) + i + 1) base row
+      → Gathers walk (take i words) only in_order base top es → Gathers walk (take (i + 1) words) only in_order' base' top' es'
+  unfolding w
+  gathers-row in_order in_order' base base' top top' es es' few base_is top_is in_order_is es_are old =
+      let how = how_of walk in
+      let n = placed_by (clock_in walk) + i in
+      let below : base ≤ wrap_limit = omega (arith, few) in
+      let more = event_of (n + 1) base (raw_of row) in
+      let came = old.came ++ more in
+      let chosen_is : es' ≡ chosen only how.mode came =
+      es_are ∙ ap (λ l. es ++ l) (chosen-row (n + 1) base row only how.mode)
+      ∙ ap (λ l. l ++ chosen only how.mode more) old.chosen ∙ sym (chosen-append only how.mode old.came more) in
+      let count : length (take i words) ≡ i = length-take-le i words (omega (arith, lt)) in
+      let next : length (take (i + 1) words) ≡ i + 1 = length-take-le (i + 1) words (omega (arith, lt)) in
+      let room : n < how.policy.records = omega (arith, passes.room, walk.few_placed, lt) in
+      let go = none-reserved how meaning words i [] w same lt refl passes.reserved in
+      let places = places-push (placed_by (clock_in walk)) n base old.came (raw_of row) (rw count at old.places) in
+      record {
+        limit = omega (arith, few, base_is);
+        came = came;
+        chosen = chosen_is;
+        places = record { rises = places.rises; last = omega (arith, places.last, next) };
+        in_line = in_line-more how (greatest_of walk) base top base' top' n in_order in_order' old.came came row base_is top_is in_order_is refl w means
+            (meaning-fits walk.record_type w) below old.in_line;
+        leads = λ sure records h.
+            more_at (λ l. IsClock (mode_of (clock_in walk)) (placed_by (clock_in walk) + length (take (i + 1) words)) base' top' (records ++ map how.meaning l))
+            [] words i [] w lt refl
+            (subst (λ m. IsClock m (placed_by (clock_in walk) + length (take (i + 1) words)) base' top' (records ++ map how.meaning (numbers (take i words) ++ w ∷ []))) (sym walk.same_mode)
+            (leads-more how (greatest_of walk) base top base' top' n in_order in_order' old.came came row base_is top_is in_order_is refl
+            (placed_by (clock_in walk) + length (take (i + 1) words)) records (numbers (take i words)) w (omega (arith, next)) means amounts (λ o. subst (λ m. IsClock m n base top (records ++ map how.meaning (numbers (take i words)))) walk.same_mode (rw count at (old.leads o records h))) sure));
+        adds = λ sure before h.
+            more_at (λ l. Adds how (placed_by (clock_in walk) + length (take (i + 1) words)) base' top' before l came) before words i [] w lt refl
+            (adds-more how (greatest_of walk) base top base' top' n in_order in_order' old.came came row base_is top_is in_order_is refl
+            (placed_by (clock_in walk) + length (take (i + 1) words)) before (before ++ numbers (take i words)) w (omega (arith, next)) means amounts room few go (λ o. rw count at (old.adds o before h)) sure);
+      }
+
+-- The events of a block, one by one.
+
+all-last : {X : Type 0} (P : X → Type 0) (xs : List X) (x : X) → All P (xs ++ x ∷ []) → P x
+all-last P xs x all = subst P (get_or_at_push xs x).1 (all (length xs) x (omega (arith, length-append xs (x ∷ []))))
+
+all-front : {X : Type 0} (P : X → Type 0) (xs : List X) (x : X) → All P (xs ++ x ∷ []) → All P xs
+all-front P xs x all = λ k d lt. subst P (get_or_append_left xs (x ∷ []) d k lt) (all k d (omega (arith, lt, length-append xs (x ∷ []))))
+
+pub last_or : (i n : ℕ) → i < suc n → (i ≡ n) ⊎ (i < n)
+last_or i n lt = grind (arith, lt)
+
+-- what holds of all rows holds of each
+pub all-rows : {X : Type 0} (P : X → Type 0) (f : ℕ → X) (n i : ℕ) → i < n → All P (rows f n) → P (f i)
+all-rows P f zero i lt all = absurd (omega (arith, lt))
+all-rows P f (suc n) i lt all =
+    ⊎_elim
+    (λ (is : i ≡ n). rw is (all-last P (rows f n) (f n) all))
+    (λ (below : i < n). all-rows P f n i below (all-front P (rows f n) (f n) all))
+    (last_or i n lt)
+
+pub each-rows : (P : Event → Type 0) (f : ℕ → Event) (n i : ℕ) → i < n → AllByRecursion P (rows f n) → P (f i)
+each-rows P f n i lt all = all-rows P f n i lt (All-from_recursion P (rows f n) all)
+
+pub on_time-rows : (l : Marked) (f : ℕ → Event) (i : ℕ) → (l ++ on_time (rows f i)) ++ (f i, false) ∷ [] ≡ l ++ on_time (rows f (i + 1))
+on_time-rows l f i = search (rules, arith, append_assoc, more_rows, map-append)
+
+pub not_late : (b : Bool) (x y : ℕ) → (if b && not false then x else y) ≡ (if b then x else y)
+not_late b x y = search (rules, arith)
+
+ordered-true : (b : Bool) → IsTrue (b && not false) → IsTrue b
+ordered-true b is = search (rules, arith)
+
+-- an event in order moves the floor
+pub ordered-moves : (mode : Mode) (e : Event) → IsTrue (is_ordered mode e && not false) → IsTrue (moves_floor (orders_markers mode) e)
+ordered-moves mode e is = rw (moves_by mode e) (ordered-true (is_ordered mode e) is)
+
+-- and so does one event more
+pub floor-step : (mode mode' : Mode) (low floor now : ℕ) (f : ℕ → Event) (i : ℕ) (e : Event)
+    → mode' ≡ mode → e ≡ f i → floor ≡ floor_after (orders_markers mode) low (rows f i)
+    → now ≡ (if is_ordered mode' e && not false then e.time else floor) → now ≡ floor_after (orders_markers mode) low (rows f (i + 1))
+floor-step mode mode' low floor now f i e mode_is e_is floor_is moved = search (rules, arith, not_late, floor-more, moves_by)
+
+-- the greatest time with a block
+pub floor_of-block : (mode : Mode) (l : Marked) (es : List Event) (first now : ℕ) → now ≡ max first (floor_of mode l) → InOrder (orders_markers mode) now es
+    → floor_after (orders_markers mode) now es ≡ max first (floor_of mode (l ++ on_time es))
+floor_of-block mode l [] first now is all = rw (append-nil l) is
+floor_of-block mode l (e ∷ es) first now is all =
+    let strict = orders_markers mode in
+    let next : (if moves_floor strict e then e.time else now) ≡ max first (floor_of mode (l ++ (e, false) ∷ [])) =
+    ap (λ b. if b then e.time else now) (moves_by mode e) ∙ sym (not_late (is_ordered mode e) e.time now)
+    ∙ moved_floor-push mode first now l e false is (λ o. all.1 (ordered-moves mode e o)) in
+    floor_of-block mode (l ++ (e, false) ∷ []) es first (if moves_floor strict e then e.time else now) next all.2
+    ∙ ap (λ m. max first (floor_of mode m)) (append_assoc l ((e, false) ∷ []) (on_time es))

@@ -1,9 +1,9 @@
 -- What ends a stream.
 use Rattle.std.{proofs.Common.{rules}, proofs.Common.{◌≡◌, ◌≢◌, ℕ, List, [], ◌++◌, Bool, true, false, None, Some, Ok, Err, length, refl, sym, ⊎_elim, arith, ◌==◌, if◌then◌else◌}, proofs.lemmas.Bool.eqb-true, specs.declared.option.Option.Option}
-use Rattle.ptu_definitions.{specs.declared.records.Summary.Summary, specs.Words.{words_of, rest_of}, specs.Streams.{Reading, refusals, record_refusal, streamed, given, events_in, last_in}, specs.Shown.Shows, specs.Kept.{floor_of}, specs.Times.events, proofs.DeliveredLaws.{delivered-0, delivered-none}, proofs.StreamLemmas.{given-clear, floor_of-marked}}
+use Rattle.ptu_definitions.{specs.declared.records.Summary.Summary, specs.Words.{words_of, rest_of}, specs.Streams.{Reading, refusals, record_refusal, streamed, given, events_in, last_in}, specs.Headers.Shows, specs.Kept.floor_of, specs.Times.events, proofs.DeliveredLaws.{delivered-0, delivered-none}, proofs.StreamLemmas.{given-clear, floor_of-marked}}
 use Rattle.tally_base.{specs.declared.fault.Fault.Fault, specs.declared.fault.Fault.TheVariants.{TruncatedRecord, WriteFault}}
 use Rattle.abs_time.{specs.declared.clock.Clock.Clock, specs.Placing.mode_of as clock_mode, specs.Placing.{greatest_by, HasPlaced}}
-use Rattle.record_stream.{specs.declared.taker.EventTaker.Ghosts, specs.Feeding.{IsAt, GaveOn, BrokeOn, Fed}, specs.Keeping.{Settles, HasCome}, specs.SoFar.{eventless, so_far}, specs.OneMore.with_marks, proofs.Summaries.summary-end, specs.Standing.Stands, proofs.Fours.refused-bytes}
+use Rattle.record_stream.{specs.declared.taker.EventTaker.Ghosts, specs.Feeding.{IsAt, GaveOn, BrokeOn, Fed}, specs.Keeping.{Settles, HasCome}, specs.OneMore.{eventless, so_far, with_marks}, proofs.Summaries.summary-end, specs.Standing.Stands, proofs.Wraps.refused-bytes}
 use Rattle.settle.{specs.Standing.{last_time, HasSettled}, specs.declared.settle.Settle.Settle}
 
 pub unrefused : (how : Reading) (words : List ℕ) → refusals how words ≡ [] → record_refusal how words ≡ None
@@ -26,7 +26,8 @@ unfolding streamed
 streamed-cut how clock sum count carried bytes some is h = search (rules, arith, unrefused)
 
 -- a refused stream shows its refusal, whatever comes behind
-pub streamed-shown : (how : Reading) (bytes : List ℕ) (fault : Fault) → record_refusal how (words_of bytes) ≡ Some fault → Shows (streamed how) bytes (Err fault)
+pub streamed-shown : (how : Reading) (bytes : List ℕ) (fault : Fault)
+    → record_refusal how (words_of bytes) ≡ Some fault → Shows (streamed how) bytes (Err fault)
 streamed-shown how bytes fault h = λ more. sym (streamed-refused how (bytes ++ more) fault (refused-bytes how bytes more fault h))
 
 -- and so does a piece that is refused

@@ -1,37 +1,37 @@
 -- Events in order, of which none is late, and those that are let go with them.
-use Rattle.std.{proofs.Common.{rules}, proofs.Common.{◌≡◌, ◌≢◌, ◌+◌, ◌<◌, ◌≤◌, ℕ, zero, suc, List, [], ◌∷◌, ◌++◌, Bool, true, false, None, Some, length, map, max, refl, sym, ap, subst, ◌∙◌, append_assoc, append-nil, arith, length-append, ◌⊎◌, ⊎_elim, ◌&&◌, not, is_some, nat_lt, IfSome, IsTrue, if◌then◌else◌}, specs.Option.option_to_list, specs.List.{All, list_any}, specs.declared.option.Option.Option, proofs.lemmas.Bool.ne_eqb, proofs.lemmas.Bool.Decides.nat_tests, proofs.lemmas.List.Elements.filter-append}
-use Rattle.tally_base.{specs.declared.event.Event.Event, specs.declared.header.Mode.Mode, specs.Events.is_ordered, specs.Tally.moves_floor, specs.Columns.rows, specs.Floors.{floor_after, InOrder}, proofs.Floors.{order-at, order-parts}, proofs.BlockRows.rows-split}
-use Rattle.ptu_definitions.{specs.Kept.{Marked, floor_of, greatest, is_late}, specs.Settled.{delivered, is_overtaken, not_marked, ordered, put_in, settles}, specs.Streams.{Reading, events_in}, specs.Times.events, proofs.DeliveredLaws.{delivered-append, delivered_after, delivered_after-ordered, not_marked-append, not_marked-false}, proofs.StreamLemmas.{greatest-push, later}}
-use Rattle.abs_time.{specs.Placing.IsSmall, specs.Floors.{orders_markers, moved_floor}, proofs.Floors.{moves_by, moved_floor-push}}
-use Rattle.record_stream.{specs.Blocks.{on_time, IsInLine, PlacesRise}, specs.Keeping.{CanWait, HasCome}, specs.LettingGo.{LetsGo, IsDelivered}, proofs.Adding.{greatest-on_time, on_time-push, in_line-event}, proofs.Eaches.not_late, proofs.Placed.not_late as not_late_by, proofs.Settles.{ordered-on, that_goes, those_waiting, count_going, count_waiting}}
+use Rattle.std.{proofs.Common.{rules}, proofs.Common.{◌≡◌, ◌≢◌, ◌+◌, ◌<◌, ◌≤◌, ℕ, zero, suc, List, [], ◌∷◌, ◌++◌, Bool, true, false, None, Some, length, map, refl, sym, ap, subst, ◌∙◌, append_assoc, append-nil, arith, length-append, ⊎_elim, ◌&&◌, not, is_some, nat_lt, IfSome, IsTrue, if◌then◌else◌}, specs.Option.option_to_list, specs.List.{All, list_any}, specs.declared.option.Option.Option, proofs.lemmas.Bool.ne_eqb, proofs.lemmas.Bool.Decides.nat_tests, proofs.lemmas.List.map-append, proofs.lemmas.List.Elements.filter-append}
+use Rattle.tally_base.{specs.declared.event.Event.Event, specs.declared.header.Mode.Mode, specs.Events.is_ordered, specs.Tally.{moves_floor, floor_after, InOrder}, specs.Columns.rows, proofs.Floors.{order-at, order-parts}, proofs.BlockRows.rows-split}
+use Rattle.ptu_definitions.{specs.Kept.{Marked, floor_of, greatest, is_late}, specs.Settled.{delivered, is_overtaken, not_marked, ordered, put_in, settles}, specs.Streams.{Reading, events_in}, specs.Times.events, proofs.DeliveredLaws.{delivered-append, delivered_after, delivered_after-ordered, not_marked-append, not_marked-false}, proofs.StreamLemmas.later}
+use Rattle.abs_time.{specs.Placing.IsSmall, specs.Floors.orders_markers, proofs.Floors.moves_by}
+use Rattle.record_stream.{specs.Blocks.{on_time, IsInLine, PlacesRise}, specs.Keeping.{CanWait, HasCome}, specs.LettingGo.{LetsGo, IsDelivered}, proofs.Steps.{on_time-push, in_line-event}, proofs.Gathering.{not_late, last_or, floor_of-block}, proofs.Placed.not_late as not_late_by, proofs.Settles.{ordered-on, that_goes, those_waiting, count_going, count_waiting}}
 use Rattle.settle.{specs.Settling.told, specs.Standing.{HasSettled, kept_back, next_place, last_time, reach_of, was_popped}, specs.declared.settle.Settle.Settle, specs.Passing.place_after}
 
 -- The greatest time of events in order.
-on_true : (mode : Mode) (top : ℕ) (e : Event) → (IsTrue (moves_floor (orders_markers mode) e) → top ≤ e.time) → IsTrue (is_ordered mode e) → top ≤ e.time
-on_true mode top e on is = on (rw (moves_by mode e) is)
+greatest-is : (mode : Mode) (es : List Event) → greatest mode es ≡ floor_of mode (on_time es)
+greatest-is mode [] = refl
+greatest-is mode (e ∷ es) = search (rules, arith, not_late, greatest-is mode es)
 
-greatest-step : (mode : Mode) (before : List Event) (e : Event) → (IsTrue (moves_floor (orders_markers mode) e) → greatest mode before ≤ e.time)
-    → greatest mode (before ++ e ∷ []) ≡ (if moves_floor (orders_markers mode) e then e.time else greatest mode before)
-greatest-step mode before e on = search (rules, arith, greatest-push, greatest-on_time, on_true, moves_by)
+floor-line : (mode : Mode) (l : Marked) (es : List Event) → InOrder (orders_markers mode) (floor_of mode l) es
+    → floor_of mode (l ++ on_time es) ≡ floor_after (orders_markers mode) (floor_of mode l) es
+floor-line mode l es line = let is = floor_of-block mode l es 0 (floor_of mode l) (omega arith) line in omega (arith, is)
 
-greatest-line : (mode : Mode) (before es : List Event) → InOrder (orders_markers mode) (greatest mode before) es → greatest mode (before ++ es) ≡ floor_after (orders_markers mode) (greatest mode before) es
-greatest-line mode before [] line = ap (greatest mode) (append-nil before)
-greatest-line mode before (e ∷ es) line =
-    let step = greatest-step mode before e line.1 in
-    ap (greatest mode) (sym (append_assoc before (e ∷ []) es))
-    ∙ greatest-line mode (before ++ e ∷ []) es (subst (λ t. InOrder (orders_markers mode) t es) (sym step) line.2)
-    ∙ ap (λ t. floor_after (orders_markers mode) t es) step
+greatest-line : (mode : Mode) (before es : List Event) → InOrder (orders_markers mode) (greatest mode before) es
+    → greatest mode (before ++ es) ≡ floor_after (orders_markers mode) (greatest mode before) es
+greatest-line mode before es line = search (rules, arith, greatest-is, map-append, floor-line)
 
 -- none that comes behind them is late
-pub early : (k : ℕ) (mode : Mode) (before es : List Event) (e : Event) → InOrder (orders_markers mode) (greatest mode before) es → floor_after (orders_markers mode) (greatest mode before) es ≤ e.time → is_ordered mode e ≡ true
+pub early : (k : ℕ) (mode : Mode) (before es : List Event) (e : Event) → InOrder (orders_markers mode) (greatest mode before) es
+    → floor_after (orders_markers mode) (greatest mode before) es ≤ e.time → is_ordered mode e ≡ true
     → is_overtaken k (ordered mode (before ++ es)) e ≡ false
 early k mode before es e line time on =
     let top = greatest-line mode before es line in
     let below : nat_lt e.time (greatest mode (before ++ es)) ≡ false = grind (arith, nat_tests, top, time) in
-    let late : is_late mode (before ++ es) e ≡ false = ap (λ b. b && list_any (λ (x : Event). is_ordered mode x && nat_lt e.time x.time) (before ++ es)) on ∙ later mode (before ++ es) e.time ∙ below in
+    let late : is_late mode (before ++ es) e ≡ false =
+    ap (λ b. b && list_any (λ (x : Event). is_ordered mode x && nat_lt e.time x.time) (before ++ es)) on ∙ later mode (before ++ es) e.time ∙ below in
     sym (ap (λ b. b && is_overtaken k (ordered mode (before ++ es)) e) on) ∙ not_late_by _ k mode (before ++ es) e refl late
 
-pub early-row : (k : ℕ) (mode : Mode) (before : List Event) (f : ℕ → Event) (n i : ℕ) (top : ℕ) (e : Event) → i < n → top ≡ greatest mode before → InOrder (orders_markers mode) top (rows f n) → e ≡ f i → is_ordered mode e ≡ true
+pub early-row : (k : ℕ) (mode : Mode) (before : List Event) (f : ℕ → Event) (n i : ℕ) (top : ℕ) (e : Event) → i < n
+    → top ≡ greatest mode before → InOrder (orders_markers mode) top (rows f n) → e ≡ f i → is_ordered mode e ≡ true
     → is_overtaken k (ordered mode (before ++ rows f i)) e ≡ false
 early-row k mode before f n i top e lt top_is line is on =
     let strict = orders_markers mode in
@@ -40,29 +40,10 @@ early-row k mode before f n i top e lt top_is line is on =
     let front = (order-parts strict top (rows f i) split.0 (subst (λ l. InOrder strict top l) split.1 line)).0 in
     let here : is_ordered mode (f i) ≡ true = subst (λ x. is_ordered mode x ≡ true) is on in
     let moves : IsTrue (moves_floor strict (f i)) = rw (moves_by mode (f i)) here in
-    let below : floor_after strict top (rows f i) ≤ e.time = subst (λ (x : Event). floor_after strict top (rows f i) ≤ x.time) (sym is) ((order-at strict top f n i lt line).1 moves) in
-    early k mode before (rows f i) e (subst (λ t. InOrder strict t (rows f i)) top_is front) (subst (λ t. floor_after strict t (rows f i) ≤ e.time) top_is below) on
-
--- and that of what is delivered of them
-floor-step : (mode : Mode) (l : Marked) (e : Event) → (IsTrue (moves_floor (orders_markers mode) e) → floor_of mode l ≤ e.time)
-    → floor_of mode (l ++ (e, false) ∷ []) ≡ (if moves_floor (orders_markers mode) e then e.time else floor_of mode l)
-floor-step mode l e on =
-    let step : moved_floor mode (floor_of mode l) e false ≡ max 0 (floor_of mode (l ++ (e, false) ∷ [])) =
-    moved_floor-push mode 0 (floor_of mode l) l e false (omega arith) (λ is. on_true mode (floor_of mode l) e on (plain-true (is_ordered mode e) is)) in
-    let flat : floor_of mode (l ++ (e, false) ∷ []) ≡ moved_floor mode (floor_of mode l) e false = omega (arith, step) in
-    flat ∙ not_late (is_ordered mode e) e.time (floor_of mode l) ∙ ap (λ b. if b then e.time else floor_of mode l) (sym (moves_by mode e))
-  where
-    plain-true : (b : Bool) → IsTrue (b && not false) → IsTrue b
-    plain-true true is = refl
-    plain-true false is = is
-
-floor-line : (mode : Mode) (l : Marked) (es : List Event) → InOrder (orders_markers mode) (floor_of mode l) es → floor_of mode (l ++ on_time es) ≡ floor_after (orders_markers mode) (floor_of mode l) es
-floor-line mode l [] line = ap (floor_of mode) (append-nil l)
-floor-line mode l (e ∷ es) line =
-    let step = floor-step mode l e line.1 in
-    ap (floor_of mode) (sym (append_assoc l ((e, false) ∷ []) (on_time es)))
-    ∙ floor-line mode (l ++ (e, false) ∷ []) es (subst (λ t. InOrder (orders_markers mode) t es) (sym step) line.2)
-    ∙ ap (λ t. floor_after (orders_markers mode) t es) step
+    let below : floor_after strict top (rows f i) ≤ e.time =
+    subst (λ (x : Event). floor_after strict top (rows f i) ≤ x.time) (sym is) ((order-at strict top f n i lt line).1 moves) in
+    early k mode before (rows f i) e (subst (λ t. InOrder strict t (rows f i)) top_is front)
+    (subst (λ t. floor_after strict t (rows f i) ≤ e.time) top_is below) on
 
 -- The places of the rows of a block.
 pub place-push : (low : ℕ) (es : List Event) (e : Event) → place_after low (es ++ e ∷ []) ≡ e.place
@@ -84,22 +65,24 @@ places-at low f (suc n) i lt all =
     (λ (is : i ≡ n). rw is (places-last low (rows f n) (f n) all))
     (λ (below : i < n). places-at low f n i below (places-front low (rows f n) (f n) all))
     (last_or i n lt)
-  where
-    last_or : (i n : ℕ) → i < suc n → (i ≡ n) ⊎ (i < n)
-    last_or i n lt = grind (arith, lt)
 
 -- One event more.
 module _ (mode : Mode) (low : ℕ) (from old new : Settle) (came went : List Event) (e : Event) (l : LetsGo mode low from old came went) where
-  module _ (went' : List Event) (on : is_ordered mode e ≡ true) (small : IsSmall mode e) (place : next_place new ≡ e.place + 1) (reach : reach_of new ≡ reach_of old) (unpopped : was_popped new ≡ false) where
-    lets_none : went' ≡ went ++ [] → All (CanWait mode) (kept_back new) → length (kept_back new) ≤ length (kept_back old) + 1 → last_time new ≡ last_time old → LetsGo mode low from new (came ++ e ∷ []) went'
+  module _ (went' : List Event) (on : is_ordered mode e ≡ true) (small : IsSmall mode e)
+      (place : next_place new ≡ e.place + 1) (reach : reach_of new ≡ reach_of old) (unpopped : was_popped new ≡ false) where
+    lets_none : went' ≡ went ++ [] → All (CanWait mode) (kept_back new) → length (kept_back new) ≤ length (kept_back old) + 1
+        → last_time new ≡ last_time old → LetsGo mode low from new (came ++ e ∷ []) went'
     lets_none outs fit few same = search (rules, arith, append-nil, place-push, length-append)
 
-    lets_some : (x : Event) → went' ≡ went ++ x ∷ [] → CanWait mode x → All (CanWait mode) (kept_back new) → length (kept_back new) ≤ length (kept_back old) → last_time new ≡ x.time → last_time old ≤ x.time
+    lets_some : (x : Event) → went' ≡ went ++ x ∷ [] → CanWait mode x → All (CanWait mode) (kept_back new)
+        → length (kept_back new) ≤ length (kept_back old) → last_time new ≡ x.time → last_time old ≤ x.time
         → LetsGo mode low from new (came ++ e ∷ []) went'
     lets_some x outs goes fit few time rises =
-        let moved : (if is_ordered mode x then x.time else last_time old) ≡ last_time new = ap (λ b. if b then x.time else last_time old) goes.ordered ∙ sym time in
+        let moved : (if is_ordered mode x then x.time else last_time old) ≡ last_time new =
+        ap (λ b. if b then x.time else last_time old) goes.ordered ∙ sym time in
         record {
-          line = rw outs (subst (λ t. IsInLine mode (last_time from) t (went ++ x ∷ [])) moved (in_line-event mode (last_time from) (last_time old) went x l.line goes.small.in_time goes.small.kind (λ is. rises)));
+          line = rw outs (subst (λ t. IsInLine mode (last_time from) t (went ++ x ∷ [])) moved
+              (in_line-event mode (last_time from) (last_time old) went x l.line goes.small.in_time goes.small.kind (λ is. rises)));
           fit = fit;
           reach = reach ∙ l.reach;
           unpopped = unpopped;
@@ -116,27 +99,33 @@ module _ (mode : Mode) (low : ℕ) (from old new : Settle) (came went : List Eve
     lets_on None true more outs emits left kept time same rises = search (rules, arith, lets_none)
     lets_on None false more outs emits left kept time same rises =
         let waits : CanWait mode e = record { small = small; ordered = on } in
-        lets_none outs (those_waiting (CanWait mode) None (kept_back old) (kept_back new) e (kept refl) waits l.fit) (omega (arith, count_waiting None (kept_back old) (kept_back new) e (kept refl))) (same refl)
+        lets_none outs (those_waiting (CanWait mode) None (kept_back old) (kept_back new) e (kept refl) waits l.fit)
+        (omega (arith, count_waiting None (kept_back old) (kept_back new) e (kept refl))) (same refl)
     lets_on (Some x) true more outs emits left kept time same rises = let h : true ≡ false = emits in cc
     lets_on (Some x) false more outs emits left kept time same rises =
         let waits : CanWait mode e = record { small = small; ordered = on } in
-        lets_some x outs (that_goes (CanWait mode) (Some x) x (kept_back old) (kept_back new) e refl (kept refl) waits l.fit) (those_waiting (CanWait mode) (Some x) (kept_back old) (kept_back new) e (kept refl) waits l.fit)
+        lets_some x outs (that_goes (CanWait mode) (Some x) x (kept_back old) (kept_back new) e refl (kept refl) waits l.fit)
+        (those_waiting (CanWait mode) (Some x) (kept_back old) (kept_back new) e (kept refl) waits l.fit)
         (omega (arith, count_going (Some x) x (kept_back old) (kept_back new) e refl (kept refl))) time rises
 
 -- the events of these words
 abbrev came_before : Reading → List ℕ → List Event
 came_before how words = events (map how.meaning words)
 
-module _ (how : Reading) (old new : Settle) (words : List ℕ) (came went : List Event) (e : Event) (some : how.policy.settle ≢ 0) (d : IsDelivered how old words came went) where
+module _ (how : Reading) (old new : Settle) (words : List ℕ) (came went : List Event)
+    (e : Event) (some : how.policy.settle ≢ 0) (d : IsDelivered how old words came went) where
   ordered-more : ordered how.mode (came_before how words ++ (came ++ e ∷ [])) ≡ ordered how.mode (came_before how words ++ came) ++ ordered how.mode (e ∷ [])
   ordered-more = search (rules, arith, append_assoc, came_before, filter-append)
 
-  delivered-more : (went' more : List Event) → went' ≡ went ++ more → delivered_after how.policy.settle how.mode (came_before how words ++ came) (e ∷ []) ≡ on_time more
+  delivered-more : (went' more : List Event) → went' ≡ went ++ more
+      → delivered_after how.policy.settle how.mode (came_before how words ++ came) (e ∷ []) ≡ on_time more
       → delivered how.policy.settle how.mode (came_before how words ++ (came ++ e ∷ [])) ≡ events_in how words ++ on_time went'
   delivered-more went' more outs is = search (rules, arith, append_assoc, came_before, delivered-append, delivered_after, on_time-push)
 
-  pub delivers_on : (went' : List Event) (o : Option Event) (late : Bool) (reach : ℕ) → reach ≡ how.policy.settle → is_ordered how.mode e ≡ true → went' ≡ went ++ option_to_list o
-      → is_overtaken how.policy.settle (ordered how.mode (came_before how words ++ came)) e ≡ false → late ≡ is_overtaken reach (ordered how.mode (came_before how words ++ came)) e
+  pub delivers_on : (went' : List Event) (o : Option Event) (late : Bool) (reach : ℕ)
+      → reach ≡ how.policy.settle → is_ordered how.mode e ≡ true → went' ≡ went ++ option_to_list o
+      → is_overtaken how.policy.settle (ordered how.mode (came_before how words ++ came)) e ≡ false
+      → late ≡ is_overtaken reach (ordered how.mode (came_before how words ++ came)) e
       → settles reach (ordered how.mode (came_before how words ++ came)) e ≡ told e late o
       → HasSettled new (ordered how.mode (came_before how words ++ came) ++ e ∷ []) ((not_marked (events_in how words) ++ went) ++ option_to_list o)
       → IsDelivered how new words (came ++ e ∷ []) went'
@@ -146,13 +135,15 @@ module _ (how : Reading) (old new : Settle) (words : List ℕ) (came went : List
       delivered_after-ordered how.policy.settle how.mode (came_before how words ++ came) e (ne_eqb how.policy.settle 0 some) on ∙ ap (λ k. settles k (ordered how.mode (came_before how words ++ came)) e) (sym same) ∙ tells ∙ ap (λ b. told e b o) off in
       record {
         settled =
-            subst (λ p. HasSettled new p (not_marked (events_in how words) ++ went')) (sym (ordered-more ∙ ap (λ l. ordered how.mode (came_before how words ++ came) ++ l) (ordered-on how.mode e on)))
+            subst (λ p. HasSettled new p (not_marked (events_in how words) ++ went'))
+            (sym (ordered-more ∙ ap (λ l. ordered how.mode (came_before how words ++ came) ++ l) (ordered-on how.mode e on)))
             (subst (λ g. HasSettled new (ordered how.mode (came_before how words ++ came) ++ e ∷ []) g) (append_assoc (not_marked (events_in how words)) went (option_to_list o) ∙ ap (λ l. not_marked (events_in how words) ++ l) (sym outs)) settled);
         delivers = delivered-more went' (option_to_list o) outs adds;
       }
 
 -- Behind the words of a block.
-module _ (how : Reading) (settle : Settle) (words now : List ℕ) (came went : List Event) (adds : events (map how.meaning now) ≡ events (map how.meaning words) ++ came) (d : IsDelivered how settle words came went) where
+module _ (how : Reading) (settle : Settle) (words now : List ℕ) (came went : List Event)
+    (adds : events (map how.meaning now) ≡ events (map how.meaning words) ++ came) (d : IsDelivered how settle words came went) where
   pub block_delivers : events_in how now ≡ events_in how words ++ on_time went
   block_delivers = ap (delivered how.policy.settle how.mode) adds ∙ d.delivers
 
@@ -164,5 +155,6 @@ module _ (how : Reading) (settle : Settle) (words now : List ℕ) (came went : L
         settled = subst (λ p. HasSettled settle p (not_marked (events_in how now))) (sym (ap (ordered how.mode) adds)) (subst (λ g. HasSettled settle (ordered how.mode (events (map how.meaning words) ++ came)) g) (sym gone) d.settled);
         greatest =
             sym line.greatest ∙ ap (λ t. floor_after strict t went) come.greatest
-            ∙ sym (ap (floor_of how.mode) block_delivers ∙ floor-line how.mode (events_in how words) went (subst (λ t. InOrder strict t went) come.greatest line.in_order));
+            ∙ sym (ap (floor_of how.mode) block_delivers
+            ∙ floor-line how.mode (events_in how words) went (subst (λ t. InOrder strict t went) come.greatest line.in_order));
       }

@@ -1,7 +1,7 @@
 -- Events in order behind all that are kept back, and those that are let go with them.
 use Rattle.std.{proofs.Common.{rules}, proofs.Common.{◌≡◌, ◌≢◌, ◌+◌, ◌-◌, ◌<◌, ◌≤◌, ℕ, suc, List, [], ◌∷◌, ◌++◌, true, false, cond, drop, length, map, refl, sym, ap, subst, ◌∙◌, append_assoc, append-nil, arith, length-append, if◌then◌else◌}, specs.List.{All, AllByRecursion}, specs.List.Sorted.IsNonDecreasingBy, proofs.Math.Seq.drop-append_seam, proofs.lemmas.Bool.ne_eqb, proofs.lemmas.List.Elements.{All-tail, All-from_recursion, filter-append, recursion_from_All}}
-use Rattle.tally_base.{specs.declared.event.Event.Event, specs.declared.header.Mode.Mode, specs.Events.is_ordered, specs.Tally.moves_floor, specs.Columns.rows, specs.Floors.{floor_after, InOrder}, proofs.Lower.order-lower, proofs.Floors.{order-append, order-parts}, proofs.BlockRows.{length-rows, rows-split}}
-use Rattle.ptu_definitions.{specs.Fitting.KindFits, specs.Kept.mark, specs.Prefixes.each_after, specs.Settled.{not_marked, ordered, Rises, settles}, specs.Streams.{Reading, events_in}, specs.Times.events, proofs.DeliveredLaws.{delivered-append, delivered_after}, proofs.SettledLemmas.IsNonDecreasingBy-Rises, proofs.SettlingLemmas.each-weaker}
+use Rattle.tally_base.{specs.declared.event.Event.Event, specs.declared.header.Mode.Mode, specs.Events.is_ordered, specs.Tally.{moves_floor, floor_after, InOrder}, specs.Columns.rows, proofs.Floors.{order-lower, order-append, order-parts}, proofs.BlockRows.{length-rows, rows-split}}
+use Rattle.ptu_definitions.{specs.Layouts.KindFits, specs.Kept.mark, specs.Prefixes.each_after, specs.Settled.{not_marked, ordered, Rises, settles}, specs.Streams.{Reading, events_in}, specs.Times.events, proofs.DeliveredLaws.{delivered-append, delivered_after}, proofs.SettledLemmas.IsNonDecreasingBy-Rises, proofs.SettlingLemmas.each-weaker}
 use Rattle.abs_time.{specs.Placing.placed_by, specs.Floors.orders_markers, proofs.Floors.moves_by}
 use Rattle.record_stream.{specs.Blocks.{on_time, AllFit, PlacesRise}, specs.Keeping.{CanWait, IsKeeping}, specs.LettingGo.{AreOrdered, ComesNext, IsFull, LetsGo, IsDelivered}, specs.Walking.{how_of, greatest_of, clock_in}, specs.declared.walk.Walk.Walk, proofs.LettingGo.place-push}
 use Rattle.settle.{specs.Passing.{ComesBehind, ComesOn, HasPassed, next_after, place_after, time_after}, specs.Standing.{HasSettled, kept_back, next_place, last_time, reach_of, was_popped}, specs.declared.settle.Settle.Settle}
@@ -23,7 +23,8 @@ each-parts P (x ∷ xs) ys all = let rest = each-parts P xs ys all.1 in ((all.0,
 moves-on : (mode : Mode) (e : Event) → is_ordered mode e ≡ true → moves_floor (orders_markers mode) e ≡ true
 moves-on mode e on = moves_by mode e ∙ on
 
-line-on : (mode : Mode) (t : ℕ) (e : Event) (es : List Event) → is_ordered mode e ≡ true → InOrder (orders_markers mode) t (e ∷ es) → (t ≤ e.time) × InOrder (orders_markers mode) e.time es
+line-on : (mode : Mode) (t : ℕ) (e : Event) (es : List Event) → is_ordered mode e ≡ true
+    → InOrder (orders_markers mode) t (e ∷ es) → (t ≤ e.time) × InOrder (orders_markers mode) e.time es
 line-on mode t e es on line =
     let moves = moves-on mode e on in
     (line.1 moves, subst (λ b. InOrder (orders_markers mode) (if b then e.time else t) es) moves line.2)
@@ -32,18 +33,21 @@ floor-all : (mode : Mode) (t : ℕ) (es : List Event) → AreOrdered mode es →
 floor-all mode t [] all = refl
 floor-all mode t (e ∷ es) all = search (rules, arith, mode, moves-on, floor-all mode e.time es all.1)
 
-comes-line : (mode : Mode) (next low t : ℕ) (es : List Event) → next ≤ low + 1 → PlacesRise low es → InOrder (orders_markers mode) t es → AreOrdered mode es → ComesOn next t es
+comes-line : (mode : Mode) (next low t : ℕ) (es : List Event) → next ≤ low + 1 → PlacesRise low es
+    → InOrder (orders_markers mode) t es → AreOrdered mode es → ComesOn next t es
 comes-line mode next low t [] below places line all = tt
 comes-line mode next low t (e ∷ es) below places line all =
     let h : low < e.place = places.0 in
     let step = line-on mode t e es all.0 line in
     (omega (arith, below, h), step.0, comes-line mode (e.place + 1) e.place e.time es (omega arith) places.1 step.1 all.1)
 
-line-waiting : (mode : Mode) (t : ℕ) (w : List Event) → All (λ (x : Event). t ≤ x.time) w → IsNonDecreasingBy (λ (x : Event). x.time) w → All (CanWait mode) w → InOrder (orders_markers mode) t w
+line-waiting : (mode : Mode) (t : ℕ) (w : List Event) → All (λ (x : Event). t ≤ x.time) w
+    → IsNonDecreasingBy (λ (x : Event). x.time) w → All (CanWait mode) w → InOrder (orders_markers mode) t w
 line-waiting mode t [] low up fit = tt
 line-waiting mode t (x ∷ w) low up fit =
     let here : CanWait mode x = fit 0 x (omega arith) in
-    let rest = line-waiting mode x.time w (λ k d lt. up 0 (suc k) d (omega arith) (omega (arith, lt))) (λ i j d le lt. up (suc i) (suc j) d (omega (arith, le)) (omega (arith, lt))) (All-tail (CanWait mode) x w fit) in
+    let rest = line-waiting mode x.time w (λ k d lt. up 0 (suc k) d (omega arith) (omega (arith, lt)))
+    (λ i j d le lt. up (suc i) (suc j) d (omega (arith, le)) (omega (arith, lt))) (All-tail (CanWait mode) x w fit) in
     (here.small.in_time, (λ _. low 0 x (omega arith)), subst (λ b. InOrder (orders_markers mode) (if b then x.time else t) w) (sym (moves-on mode x here.ordered)) rest)
 
 rises-line : (mode : Mode) (t : ℕ) (es : List Event) → InOrder (orders_markers mode) t es → AreOrdered mode es → Rises t es
@@ -54,7 +58,8 @@ low-rises : (t : ℕ) (es : List Event) → Rises t es → AllByRecursion (λ (x
 low-rises t [] up = tt
 low-rises t (e ∷ es) up = search (rules, arith, each-weaker, low-rises e.time es up.1)
 
-wait-line : (mode : Mode) (t : ℕ) (es : List Event) → InOrder (orders_markers mode) t es → AllByRecursion (λ (e : Event). KindFits mode e.kind) es → AreOrdered mode es → AllByRecursion (CanWait mode) es
+wait-line : (mode : Mode) (t : ℕ) (es : List Event) → InOrder (orders_markers mode) t es
+    → AllByRecursion (λ (e : Event). KindFits mode e.kind) es → AreOrdered mode es → AllByRecursion (CanWait mode) es
 wait-line mode t [] line fit all = tt
 wait-line mode t (e ∷ es) line fit all = search (rules, arith, mode, line, wait-line mode e.time es (line-on mode t e es all.0 line).1 fit.1 all.1)
 
@@ -67,7 +72,8 @@ time-push t [] e = refl
 time-push t (x ∷ es) e = time-push x.time es e
 
 -- Of all that are kept back and all that came, the first go and the last stay.
-pub joins : (w came gone rest front back : List Event) → w ≡ gone ++ rest → came ≡ front ++ back → (0 < length rest → length front ≡ 0) → w ++ came ≡ (gone ++ front) ++ (rest ++ back)
+pub joins : (w came gone rest front back : List Event) → w ≡ gone ++ rest → came ≡ front ++ back
+    → (0 < length rest → length front ≡ 0) → w ++ came ≡ (gone ++ front) ++ (rest ++ back)
 joins w came gone [] front back held parts one = ap (λ l. l ++ came) (held ∙ append-nil gone) ∙ ap (λ l. gone ++ l) parts ∙ sym (append_assoc gone front back)
 joins w came gone (x ∷ rest) [] back held parts one = search (rules, arith, append_assoc, append-nil)
 joins w came gone (x ∷ rest) (y ∷ front) back held parts one = let h : suc (length front) ≡ 0 = one (omega arith) in absurd (omega (arith, h))
@@ -79,7 +85,8 @@ rows-parts f from n within =
     ap (drop from) split.1 ∙ ap (λ k. drop k (rows f from ++ split.0)) (sym (length-rows f from)) ∙ drop-append_seam (rows f from) split.0 in
     split.1 ∙ ap (λ l. rows f from ++ l) (sym back)
 
-pub block-joins : (f : ℕ → Event) (from n : ℕ) (w gone rest went stay : List Event) → w ≡ gone ++ rest → went ≡ gone ++ rows f from → stay ≡ rest ++ drop from (rows f n) → from ≤ n → (0 < length rest → from ≡ 0)
+pub block-joins : (f : ℕ → Event) (from n : ℕ) (w gone rest went stay : List Event) → w ≡ gone ++ rest
+    → went ≡ gone ++ rows f from → stay ≡ rest ++ drop from (rows f n) → from ≤ n → (0 < length rest → from ≡ 0)
     → w ++ rows f n ≡ went ++ stay
 block-joins f from n w gone rest went stay held goes stays within one = search (rules, arith, joins, rows-parts, length-rows)
 
@@ -94,7 +101,8 @@ next-behind next place (e ∷ x ∷ es) some = next-behind (e.place + 1) e.place
 pub place-rows : (place : ℕ) (f : ℕ → Event) (n : ℕ) → 0 < n → place_after place (rows f n) ≡ (f (n - 1)).place
 place-rows place f n some = search (rules, arith, some, place-push)
 
-module _ (walk : Walk) (from : Settle) (came went stay : List Event) (settles : (how_of walk).policy.settle ≢ 0) (keeps : IsKeeping walk from) (is_full : IsFull walk from) (next : ComesNext walk came)
+module _ (walk : Walk) (from : Settle) (came went stay : List Event) (settles : (how_of walk).policy.settle ≢ 0)
+    (keeps : IsKeeping walk from) (is_full : IsFull walk from) (next : ComesNext walk came)
     (joined : kept_back from ++ came ≡ went ++ stay) where
   abbrev pub mode : Mode
   mode = (how_of walk).mode
@@ -160,7 +168,8 @@ module _ (walk : Walk) (from : Settle) (came went stay : List Event) (settles : 
       (order-lower strict (floor_after strict (last_time from) (kept_back from)) top came held-last line)))
 
   stay-rises : Rises (time_after (last_time from) went) stay
-  stay-rises = subst (λ t. Rises t stay) (floor-all mode (last_time from) went (are_ordered went went-waiting)) (rises-line mode (floor_after (orders_markers mode) (last_time from) went) stay whole.1 (are_ordered stay stay-waiting))
+  stay-rises = subst (λ t. Rises t stay) (floor-all mode (last_time from) went (are_ordered went went-waiting))
+      (rises-line mode (floor_after (orders_markers mode) (last_time from) went) stay whole.1 (are_ordered stay stay-waiting))
 
   -- what stays is in order behind what goes
   pub stays-low : All (λ (x : Event). time_after (last_time from) went ≤ x.time) stay
@@ -169,7 +178,8 @@ module _ (walk : Walk) (from : Settle) (came went stay : List Event) (settles : 
   pub stays-rising : IsNonDecreasingBy (λ (x : Event). x.time) stay
   stays-rising = IsNonDecreasingBy-Rises (time_after (last_time from) went) stay stay-rises
 
-  pub comes_behind : (time place : ℕ) → time ≡ time_after (last_time from) went → place + 1 ≡ next_after (next_place from) came → ComesBehind from came went stay time place
+  pub comes_behind : (time place : ℕ) → time ≡ time_after (last_time from) went
+      → place + 1 ≡ next_after (next_place from) came → ComesBehind from came went stay time place
   comes_behind time place time_is place_is = record {
     unpopped = keeps.unpopped;
     some = omega (arith, keeps.reach, settles);
@@ -186,12 +196,14 @@ module _ (walk : Walk) (from : Settle) (came went stay : List Event) (settles : 
   pub lets_passed : (new : Settle) → kept_back new ≡ stay → length stay ≡ length (kept_back from) → last_time new ≡ time_after (last_time from) went → next_place new ≡ place_after low came + 1 → reach_of new ≡ reach_of from → was_popped new ≡ false
       → LetsGo mode low from new came went
   lets_passed new kept as_many time place reach unpopped =
-      let count : length (kept_back from) + length came ≡ length went + length stay = sym (length-append (kept_back from) came) ∙ ap length joined ∙ length-append went stay in
+      let count : length (kept_back from) + length came ≡ length went + length stay =
+      sym (length-append (kept_back from) came) ∙ ap length joined ∙ length-append went stay in
       record {
         line = record {
           in_order = whole.0;
           greatest = floor-all mode (last_time from) went (are_ordered went went-waiting) ∙ sym time;
-          fit = All-from_recursion (λ (e : Event). KindFits mode e.kind) went (each-weaker (CanWait mode) (λ (e : Event). KindFits mode e.kind) went (λ x c. c.small.kind) went-waiting);
+          fit = All-from_recursion (λ (e : Event). KindFits mode e.kind) went
+              (each-weaker (CanWait mode) (λ (e : Event). KindFits mode e.kind) went (λ x c. c.small.kind) went-waiting);
         };
         fit = subst (λ l. All (CanWait mode) l) (sym kept) (All-from_recursion (CanWait mode) stay stay-waiting);
         reach = reach;
@@ -202,12 +214,14 @@ module _ (walk : Walk) (from : Settle) (came went stay : List Event) (settles : 
       }
 
 -- What is delivered then.
-pub delivers_passed : (how : Reading) (from new : Settle) (words : List ℕ) (came went : List Event) → how.policy.settle ≢ 0 → reach_of from ≡ how.policy.settle → AreOrdered how.mode came
+pub delivers_passed : (how : Reading) (from new : Settle) (words : List ℕ) (came went : List Event)
+    → how.policy.settle ≢ 0 → reach_of from ≡ how.policy.settle → AreOrdered how.mode came
     → HasPassed from new (ordered how.mode (events (map how.meaning words))) (not_marked (events_in how words)) came went → IsDelivered how new words came went
 delivers_passed how from new words came went some reach all p =
     let before = events (map how.meaning words) in
     let k = how.policy.settle in
-    let parts : ordered how.mode (before ++ came) ≡ ordered how.mode before ++ came = filter-append (λ (x : Event). is_ordered how.mode x) before came ∙ ap (λ l. ordered how.mode before ++ l) (ordered-same how.mode came all) in
+    let parts : ordered how.mode (before ++ came) ≡ ordered how.mode before ++ came =
+    filter-append (λ (x : Event). is_ordered how.mode x) before came ∙ ap (λ l. ordered how.mode before ++ l) (ordered-same how.mode came all) in
     let after : delivered_after k how.mode before came ≡ on_time went =
     ap (λ b. cond b (each_after (mark how.mode) before came) (each_after (settles k) (ordered how.mode before) (ordered how.mode came))) (ne_eqb k 0 some)
     ∙ ap (each_after (settles k) (ordered how.mode before)) (ordered-same how.mode came all)

@@ -3,10 +3,7 @@ use Rattle.std.{proofs.Common.{rules}, proofs.Common.{◌≡◌, ◌+◌, ◌≤
 use Rattle.tally_base.{specs.declared.event.Event.Event, specs.declared.fault.Fault.Fault, specs.declared.fault.Fault.TheVariants.WriteFault, specs.FaultCounts.{FailsOnce, Rose}}
 use Rattle.ptu_definitions.{specs.Kept.Marked, specs.Settled.{delivered_last, in_time, last_of, marked_as, ordered}, specs.Streams.{Reading, last_in}, specs.Times.events, proofs.DeliveredLaws.delivered_last-0, proofs.SettlingLemmas.waits-is}
 use Rattle.settle.{specs.Standing.{kept_back, reach_of, was_popped}, specs.declared.settle.Settle.Settle}
-use Rattle.record_stream.{specs.Ending.{GaveFirst, BrokeFirst}, specs.Feeding.Follows, specs.Keeping.{CanWait, Settles}, specs.OneMore.{with_event, with_marks}, specs.Walking.{how_of, given_by, records_of, summary_in, Notes, KeepsPlace}, specs.declared.taker.EventTaker.Ghosts, specs.declared.walk.Walk.Walk, proofs.Lasts.some-settle, proofs.Summaries.with_marks-append}
-
-marked_one : (front : List Event) (e : Event) (l : Marked) → (l ++ marked_as false front) ++ (e, false) ∷ [] ≡ l ++ marked_as false (front ++ e ∷ [])
-marked_one front e l = append_assoc l (marked_as false front) ((e, false) ∷ []) ∙ ap (λ m. l ++ m) (sym (map-append (λ (x : Event). (x, false)) front (e ∷ [])))
+use Rattle.record_stream.{specs.Ending.{GaveFirst, BrokeFirst}, specs.Feeding.Follows, specs.Keeping.{CanWait, Settles}, specs.OneMore.{with_event, with_marks}, specs.Walking.{how_of, given_by, records_of, summary_in, Notes, KeepsPlace}, specs.declared.taker.EventTaker.Ghosts, specs.declared.walk.Walk.Walk, proofs.Steps.on_time-push, proofs.Lasts.some-settle, proofs.Summaries.with_marks-append}
 
 -- all that is left begins with the event that is taken out
 pub parts_one : (all front left rest : List Event) (e : Event) → all ≡ front ++ left → left ≡ e ∷ rest → all ≡ (front ++ e ∷ []) ++ rest
@@ -16,8 +13,10 @@ module _ {T : Type 0} (g : Ghosts T) (walk : Walk) (start : T) (all : List Event
   pub gave_none : (last : ℕ) → given_by walk + length all ≤ records_of walk → Follows g (how_of walk).mode (given_by walk) last start → All (CanWait (how_of walk).mode) all → g.same start start → GaveFirst g walk start all walk start all last
   gave_none last room follows fit same = search (rules, arith, append-nil)
 
-  pub broke_one : {X : Type 0} (r : Result X Fault) (now : Walk) (taker new : T) (left rest : List Event) (last : ℕ) (e : Event) → GaveFirst g walk start all now taker left last → left ≡ e ∷ rest
-      → OnErr r ((s : T) (l : Marked) → g.got s taker l → g.broke s new (l ++ (e, false) ∷ [])) → IfErr r (λ fault. fault ≡ WriteFault) → FailsOnce (g.faults taker) (g.faults new) r
+  pub broke_one : {X : Type 0} (r : Result X Fault) (now : Walk) (taker new : T) (left rest : List Event) (last : ℕ) (e : Event)
+      → GaveFirst g walk start all now taker left last → left ≡ e ∷ rest
+      → OnErr r ((s : T) (l : Marked) → g.got s taker l → g.broke s new (l ++ (e, false) ∷ []))
+      → IfErr r (λ fault. fault ≡ WriteFault) → FailsOnce (g.faults taker) (g.faults new) r
       → IfErr r (λ fault. (fault ≡ WriteFault) × BrokeFirst g start new (marked_as false all))
   broke_one (Ok x) now taker new left rest last e h is breaks fault cause = tt
   broke_one (Err y) now taker new left rest last e h is breaks fault cause = (
@@ -27,13 +26,15 @@ module _ {T : Type 0} (g : Ghosts T) (walk : Walk) (start : T) (all : List Event
       back = marked_as false rest;
       some = omega (arith, length-map {B = Event × Bool} (h.front ++ e ∷ []) (λ (x : Event). (x, false)), length-append h.front (e ∷ []));
       adds = ap (marked_as false) (parts_one all h.front left rest e h.adds is) ∙ map-append (λ (x : Event). (x, false)) (h.front ++ e ∷ []) rest;
-      broken = λ s l got. subst (λ m. g.broke s new m) (marked_one h.front e l) (breaks s (l ++ marked_as false h.front) (h.follows s l got));
+      broken = λ s l got. subst (λ m. g.broke s new m) (on_time-push h.front (e ∷ []) l) (breaks s (l ++ marked_as false h.front) (h.follows s l got));
       rose = subst (λ n. Rose n (g.faults new)) h.kept cause.once;
     },
   )
 
-  pub gave_one : {X : Type 0} (x : X) (now next : Walk) (taker new : T) (left rest : List Event) (last low : ℕ) (e : Event) → GaveFirst g walk start all now taker left last → left ≡ e ∷ rest
-      → ((s : T) (l : Marked) → g.got s taker l → g.got s new (l ++ (e, false) ∷ [])) → Notes now next e false → KeepsPlace now next → Follows g (how_of now).mode (given_by next) low new
+  pub gave_one : {X : Type 0} (x : X) (now next : Walk) (taker new : T) (left rest : List Event) (last low : ℕ) (e : Event)
+      → GaveFirst g walk start all now taker left last → left ≡ e ∷ rest
+      → ((s : T) (l : Marked) → g.got s taker l → g.got s new (l ++ (e, false) ∷ []))
+      → Notes now next e false → KeepsPlace now next → Follows g (how_of now).mode (given_by next) low new
       → g.faults new ≡ g.faults taker → g.same start new → GaveFirst g walk start all next new rest low
   gave_one x now next taker new left rest last low e h is gives notes place follows kept same =
       let count : length left ≡ suc (length rest) = ap length is in
@@ -41,7 +42,7 @@ module _ {T : Type 0} (g : Ghosts T) (walk : Walk) (start : T) (all : List Event
       record {
         front = h.front ++ e ∷ [];
         adds = parts_one all h.front left rest e h.adds is;
-        follows = λ s l got. subst (λ m. g.got s new m) (marked_one h.front e l) (gives s (l ++ marked_as false h.front) (h.follows s l got));
+        follows = λ s l got. subst (λ m. g.got s new m) (on_time-push h.front (e ∷ []) l) (gives s (l ++ marked_as false h.front) (h.follows s l got));
         summary = notes.summary ∙ ap (λ (s : _). with_event s e false) h.summary ∙ sym (ap (with_marks (summary_in walk)) (map-append (λ (x : Event). (x, false)) h.front (e ∷ [])) ∙ with_marks-append (summary_in walk) (marked_as false h.front) ((e, false) ∷ []));
         same_how = place.same_how ∙ h.same_how;
         room = omega (arith, h.room, count, notes.given, place.same_records);
@@ -54,8 +55,10 @@ module _ {T : Type 0} (g : Ghosts T) (walk : Walk) (start : T) (all : List Event
       }
 
 -- What is kept back is what is delivered at the end.
-rest_pick : (how : Reading) (settle : Settle) (words : List ℕ) (b : Bool) → (how.policy.settle == 0) ≡ b → reach_of settle ≡ how.policy.settle → was_popped settle ≡ false → Settles how settle words
-    → marked_as false (kept_back settle) ≡ cond b [] (marked_as false (last_of how.policy.settle (in_time how.policy.settle (ordered how.mode (events (map how.meaning words))))))
+rest_pick : (how : Reading) (settle : Settle) (words : List ℕ) (b : Bool) → (how.policy.settle == 0) ≡ b
+    → reach_of settle ≡ how.policy.settle → was_popped settle ≡ false → Settles how settle words
+    → marked_as false (kept_back settle) ≡ cond b []
+    (marked_as false (last_of how.policy.settle (in_time how.policy.settle (ordered how.mode (events (map how.meaning words))))))
 rest_pick how settle words true is reach still come =
     let zero : how.policy.settle ≡ 0 = eqb-true how.policy.settle 0 is in
     let none : length (kept_back settle) ≤ 0 = omega (arith, settle.few, reach, zero) in
@@ -66,7 +69,8 @@ rest_pick how settle words true is reach still come =
     nothing (x ∷ l) h = absurd (omega arith)
 rest_pick how settle words false is reach still come = search (rules, arith, some-settle, waits-is)
 
-pub rest-is : (how : Reading) (settle : Settle) (words : List ℕ) → reach_of settle ≡ how.policy.settle → was_popped settle ≡ false → Settles how settle words → marked_as false (kept_back settle) ≡ last_in how words
+pub rest-is : (how : Reading) (settle : Settle) (words : List ℕ) → reach_of settle ≡ how.policy.settle
+    → was_popped settle ≡ false → Settles how settle words → marked_as false (kept_back settle) ≡ last_in how words
 unfolding delivered_last
 rest-is how settle words reach still come = rest_pick how settle words (how.policy.settle == 0) refl reach still come
 

@@ -1,13 +1,14 @@
 -- One word more.
-use Rattle.std.{proofs.Common.{rules}, proofs.Common.{◌≡◌, ◌+◌, ◌<◌, ℕ, List, [], ◌∷◌, ◌++◌, Bool, false, None, Some, Ok, Err, OnOk, OnErr, IfOk, IfErr, length, map, refl, sym, ap, subst, ◌∙◌, inr, ⊎_elim, append-nil, arith, length-append, ◌&&◌}, specs.declared.result.Result.Result, proofs.lemmas.List.map-append}
-use Rattle.tally_base.{specs.declared.event.Event.Event, specs.declared.fault.Fault.Fault, specs.declared.fault.Fault.TheVariants.WriteFault, specs.FaultCounts.FailsOnce, specs.Events.stops_reserved}
-use Rattle.ptu_definitions.{specs.declared.records.Summary.Summary, specs.declared.records.Raw.Raw, specs.Kept.Marked, specs.Streams.{Reading, refusal, refusals, record_refusal, given}, proofs.StreamLemmas.{fresh, events_in-push, clear-push, refused-push, given-clear, given-refused}, specs.Kinds.is_reserved}
-use Rattle.abs_time.{specs.declared.clock.Clock.Clock, specs.declared.clock.Placed.Placed, specs.Placing.{HasPlaced, place_answer}}
-use Rattle.record_stream.{specs.Recorded.IsPlaced, specs.Walking.{how_of, summary_in, clock_in, Gave}, proofs.Placed.{refusal-ok, refusal-err}, specs.declared.taker.EventTaker.Ghosts, specs.Feeding.{IsAt, Fed}, specs.OneMore.{with_raw, with_marks}, specs.Keeping.{tells, refused_for}, specs.Settling.{Told, Untold, BrokeAt}, specs.SoFar.so_far, specs.declared.walk.Walk.Walk, proofs.Summaries.{so_far-push, so_far-records}}
-use Rattle.settle.specs.declared.settle.Settle.{Settle}
+use Rattle.std.{proofs.Common.{rules, ◌≡◌, ◌+◌, ◌<◌, ℕ, List, [], ◌∷◌, ◌++◌, Bool, false, None, Some, Ok, Err, OnOk, OnErr, IfOk, IfErr, length, map, refl, sym, ap, subst, ◌∙◌, inr, append-nil, add-zero, arith, length-append, ◌&&◌, ◌≤◌, true, is_err, ◌^◌, max, append_assoc, IsTrue, if◌then◌else◌}, specs.declared.result.Result.Result, proofs.lemmas.List.{map-append, map_push}, proofs.lemmas.List.Elements.All-push}
+use Rattle.tally_base.{specs.declared.event.Event.Event, specs.declared.fault.Fault.Fault, specs.declared.fault.Fault.TheVariants.WriteFault, specs.FaultCounts.{FailsOnce, Rose}, specs.Events.{stops_reserved, is_ordered}, specs.declared.header.Mode.Mode, specs.Tally.floor_after, proofs.Floors.{floor-lower, floor-push, order-push}, specs.declared.event.EventKind.TheVariants.{Photon as PhotonEvent, Marker as MarkerEvent}, specs.declared.header.Mode.TheVariants.{T2, T3}, specs.Limits.{time_limit, wrap_limit}}
+use Rattle.ptu_definitions.{specs.declared.records.Summary.Summary, specs.declared.records.Raw.Raw, specs.Kept.{Marked, ordered_time}, specs.Streams.{Reading, refusal, refusals, record_refusal, given, events_in}, proofs.StreamLemmas.{fresh, events_in-push, clear-push, refused-push, given-clear, given-refused, events-push}, specs.Kinds.{is_reserved, counts_of}, specs.declared.records.KindCounts.KindCounts, specs.declared.records.Raw.TheVariants.{Photon, Marker, Wrap, Reserved}, specs.Times.{event_after, event_of, events, amount}, specs.Layouts.{Fits, KindFits}}
+use Rattle.abs_time.{specs.declared.clock.Clock.Clock, specs.declared.clock.Placed.Placed, specs.Placing.{HasPlaced, place_answer, mode_of, placed_by, base_of, greatest_by, IsClock, against}, specs.Floors.orders_markers, specs.declared.clock.Placed.TheVariants.{Event as InOrderPlaced, Wrap as WrapPlaced, Reserved as ReservedPlaced}, proofs.ClockLemmas.{IsClock-photon, IsClock-marker, IsClock-wrap, IsClock-reserved, answer-photon, answer-marker, answer-wrap, answer-reserved}, proofs.Floors.moves_by}
+use Rattle.record_stream.{specs.Rows.{IsPlaced, refused_late}, specs.Walking.{how_of, given_by, summary_in, clock_in, Gave, IsBehind, KeepsPlace}, proofs.Placed.{refusal-ok, refusal-err, event_in, marks_of, refused_by, refused-plain, fresh-plain, skipped-refusal, skipped-fresh, IsEarly, comes, refused-early}, specs.declared.taker.EventTaker.Ghosts, specs.Feeding.{IsAt, GaveOn, BrokeOn, Fed}, specs.OneMore.{with_raw, with_marks, so_far, with_block}, specs.declared.walk.Walk.Walk, proofs.Summaries.{so_far-push, so_far-records, so_far-more}, specs.Blocks.{on_time, Adds, BrokeAmong, greatest_with, IsOnTime, IsInLine, PlacesRise, RisesWithin}}
+use Rattle.settle.specs.Passing.{place_after}
 
 -- as many records as words
-pub records-is : (how : Reading) (clock : Clock) (sum : Summary) (count : ℕ) (ws : List ℕ) → IsAt how clock sum count ws → sum.records ≡ length (map how.meaning ws)
+pub records-is : (how : Reading) (clock : Clock) (sum : Summary) (count : ℕ) (ws : List ℕ)
+    → IsAt how clock sum count ws → sum.records ≡ length (map how.meaning ws)
 records-is how clock sum count ws h = ap (λ (s : Summary). s.records) h.summary ∙ so_far-records how ws
 
 -- what the clock's answer says of a word
@@ -25,67 +26,233 @@ word_placed old new ws w n raw (Ok p) is room means go answers clock sum = recor
   summary = sum ∙ ap (with_raw (summary_in old)) means;
 }
 
-at-push : (how : Reading) (clock clock' : Clock) (sum sum' : Summary) (count count' : ℕ) (ws : List ℕ) (w : ℕ) (marks : Marked) → IsAt how clock sum count ws → refusal how ws w ≡ None
-    → HasPlaced clock' (map how.meaning ws ++ how.meaning w ∷ []) → fresh how ws (how.meaning w) ≡ marks → sum' ≡ with_marks (with_raw sum (how.meaning w)) marks → count' ≡ count + length marks
-    → IsAt how clock' sum' count' (ws ++ w ∷ [])
-at-push how clock clock' sum sum' count count' ws w marks h none placed is sums counts = record {
-  clear = clear-push how ws w h.clear none;
-  placed = rw map-append placed;
-  summary = sums ∙ ap (λ s. with_marks (with_raw s (how.meaning w)) marks) h.summary ∙ ap (with_marks (with_raw (so_far how ws) (how.meaning w))) (sym is) ∙ sym (so_far-push how ws w);
-  counted = counts ∙ rw (events_in-push, length-append, is, h.counted) refl;
+-- a word that is refused
+pub refused_fed : {T : Type 0} (g : Ghosts T) (X : Type 0) (how : Reading) (t : T) (ws : List ℕ) (w : ℕ) (fault : Fault)
+    → refusals how ws ≡ [] → refusal how ws w ≡ Some fault → Fed g {X = X} how t t ws (ws ++ w ∷ []) (Err fault)
+refused_fed g X how t ws w fault clear some = search (rules, arith, refused-push, given-refused, given-clear, append-nil)
+
+-- A word whose record was placed, which is not refused and adds these events.
+module _ {old mid : Walk} {ws : List ℕ} {w : ℕ} {p : Placed} (marks : Marked)
+    (placed : IsPlaced old mid ws w p) (same_how : how_of mid ≡ how_of old) (h : IsBehind old ws)
+    (none : refusal (how_of old) ws w ≡ None) (is : fresh (how_of old) ws ((how_of old).meaning w) ≡ marks) where
+  -- where it leads
+  pub word_at : (new : Walk) → KeepsPlace mid new → given_by mid ≡ given_by old → summary_in new ≡ with_marks (summary_in mid) marks
+      → given_by new ≡ given_by mid + length marks → IsBehind new (ws ++ w ∷ [])
+  word_at new place same_given sums counts =
+      let how = how_of old in
+      subst (λ x. IsAt x (clock_in new) (summary_in new) (given_by new) (ws ++ w ∷ [])) (sym (place.same_how ∙ same_how)) (record {
+        clear = clear-push how ws w h.clear none;
+        placed = rw (place.same_clock, map-append) placed.clock;
+        summary =
+            sums ∙ ap (λ s. with_marks s marks) placed.summary ∙ ap (λ s. with_marks (with_raw s (how.meaning w)) marks) h.summary
+            ∙ ap (with_marks (with_raw (so_far how ws) (how.meaning w))) (sym is) ∙ sym (so_far-push how ws w);
+        counted = counts ∙ rw (events_in-push, length-append, is, same_given, h.counted) refl;
+      })
+
+  given-more : given (how_of old) (ws ++ w ∷ []) ≡ given (how_of old) ws ++ marks
+  given-more = search (rules, arith, given-clear, clear-push, none, events_in-push, is)
+
+  module _ {T : Type 0} (g : Ghosts T) {t u : T} where
+    -- what was given with it
+    pub word_gave : ((start : T) (l : Marked) → g.got start t l → g.got start u (l ++ marks)) → g.faults u ≡ g.faults t
+        → (record_refusal (how_of old) (ws ++ w ∷ []) ≡ None) × GaveOn g (how_of old) t u ws (ws ++ w ∷ [])
+    word_gave got kept = (rw (clear-push (how_of old) ws w h.clear none) refl, record { more = marks; adds = given-more; follows = got; kept = kept })
+
+    -- or broke the taker
+    pub word_broke : 0 < length marks → ((start : T) (l : Marked) → g.got start t l → g.broke start u (l ++ marks))
+        → Rose (g.faults t) (g.faults u) → BrokeOn g (how_of old) t u ws (ws ++ w ∷ [])
+    word_broke some broken rose = record { front = marks; back = []; some = some; adds = rw append-nil given-more; broken = broken; rose = rose }
+
+module _ {T : Type 0} (g : Ghosts T) {old mid : Walk} {ws : List ℕ} {w : ℕ} {p : Placed} (placed : IsPlaced old mid ws w p)
+    (same_how : how_of mid ≡ how_of old) (same_given : given_by mid ≡ given_by old) (h : IsBehind old ws) where
+  -- a word with no event
+  pub skipped_word : (t : T) → event_in p ≡ [] → IsBehind mid (ws ++ w ∷ []) × Fed g {X = Unit {0}} (how_of old) t t ws (ws ++ w ∷ []) (Ok tt)
+  skipped_word t no_event =
+      let how = how_of old in
+      let none = placed.refusal ∙ skipped-refusal how (map how.meaning ws) (how.meaning w) p placed.answer no_event in
+      let is = skipped-fresh how ws (how.meaning w) p placed.answer no_event in
+      let place : KeepsPlace mid mid = record { same_how = refl; same_records = refl; same_clock = refl; few_given = omega arith } in (
+        word_at [] placed same_how h none is mid place same_given refl (sym (add-zero (given_by mid))),
+        word_gave [] placed same_how h none is g (λ start l got. rw append-nil got) refl,
+      )
+
+  -- a word whose event was given, or broke the taker, where no event is put in its place
+  module _ (new : Walk) (t u : T) (e : Event) (late : Bool) (plain : (how_of old).policy.settle ≡ 0) (passes : refused_by (how_of old) p ≡ None)
+      (marks_are : marks_of p ≡ (e, late) ∷ []) (place : KeepsPlace mid new) where
+    none : refusal (how_of old) ws w ≡ None
+    none = placed.refusal ∙ refused-plain (how_of old) (map (how_of old).meaning ws) ((how_of old).meaning w) p plain placed.answer ∙ passes
+
+    is : fresh (how_of old) ws ((how_of old).meaning w) ≡ (e, late) ∷ []
+    is = fresh-plain (how_of old) ws ((how_of old).meaning w) p plain placed.answer ∙ marks_are
+
+    pub plain_word : {X : Type 0} (r : Result X Fault) → OnOk r (Gave g mid new t u e late)
+        → OnErr r ((start : T) (l : Marked) → g.got start t l → g.broke start u (l ++ (e, late) ∷ [])) → IfErr r (λ fault. fault ≡ WriteFault)
+        → FailsOnce (g.faults t) (g.faults u) r → OnOk r (IsBehind new (ws ++ w ∷ [])) × Fed g (how_of old) t u ws (ws ++ w ∷ []) r
+    plain_word (Ok y) gave broken fault cause = (
+      word_at ((e, late) ∷ []) placed same_how h none is new place same_given gave.noted.summary gave.noted.given,
+      word_gave ((e, late) ∷ []) placed same_how h none is g gave.got cause.kept,
+    )
+    plain_word (Err y) gave broken fault cause =
+        (tt, inr (fault, word_broke ((e, late) ∷ []) placed same_how h none is g (omega arith) broken cause.once))
+
+-- A block that is given to a taker.
+
+pub ok_of : {X E P : Type 0} (r : Result X E) → is_err r ≡ false → OnOk r P → P
+ok_of r is p = search (rules, arith)
+
+pub err_of : {X E P : Type 0} (r : Result X E) → is_err r ≡ true → OnErr r P → P
+err_of r is p = search (rules, arith)
+
+pub length-on_time : (es : List Event) → length (on_time es) ≡ length es
+length-on_time [] = refl
+length-on_time (e ∷ es) = omega (arith, length-on_time es)
+
+-- where the stream stands behind a block
+pub block_at : {how : Reading} {clock clock' : Clock} {sum sum' : Summary} {count count' n base top : ℕ} {before : List ℕ} {came : List Event} {k : KindCounts}
+    (ws : List ℕ) (es : List Event) → IsAt how clock sum count before → Adds how n base top before (before ++ ws) came
+    → events_in how (before ++ ws) ≡ events_in how before ++ on_time es
+    → mode_of clock' ≡ how.mode → placed_by clock' ≡ n → base_of clock' ≡ base → greatest_by clock' ≡ top
+    → sum' ≡ with_block sum k es → k ≡ counts_of (map how.meaning ws) → count' ≡ count + length es
+    → IsAt how clock' sum' count' (before ++ ws)
+block_at {how = how} {before = before} {k = k} ws es h a delivers mode placed based greatest sums kinds counts = record {
+  clear = a.clear;
+  placed = rw (mode, placed, based, greatest) a.clock;
+  summary =
+      sums ∙ ap (λ s. with_block s k es) h.summary ∙ ap (λ k. with_block (so_far how before) k es) kinds
+      ∙ sym (so_far-more how before ws es delivers);
+  counted = omega (arith, counts, h.counted, ap length delivers, length-append (events_in how before) (on_time es), length-on_time es);
 }
 
--- where a word leads whose record was placed
-pub placed_at : (how how' : Reading) (clock clock' clock'' : Clock) (sum sum1 sum' : Summary) (count count' : ℕ) (ws : List ℕ) (w : ℕ) (marks : Marked)
-    → how' ≡ how → clock'' ≡ clock' → IsAt how clock sum count ws → refusal how ws w ≡ None → HasPlaced clock' (map how.meaning ws ++ how.meaning w ∷ []) → fresh how ws (how.meaning w) ≡ marks
-    → sum1 ≡ with_raw sum (how.meaning w) → sum' ≡ with_marks sum1 marks → count' ≡ count + length marks → IsAt how' clock'' sum' count' (ws ++ w ∷ [])
-placed_at how how' clock clock' clock'' sum sum1 sum' count count' ws w marks same_how same_clock h none placed is sums sums' counts =
-    rw (same_how, same_clock) (at-push how clock clock' sum sum' count count' ws w marks h none placed is (sums' ∙ ap (λ s. with_marks s marks) sums) counts)
+pub floors_below : (mode : Mode) (low floor top : ℕ) (es : List Event) → low ≤ floor
+    → floor_after (orders_markers mode) floor es ≡ top → floor_after (orders_markers mode) low es ≤ top
+floors_below mode low floor top es below is = omega (arith, floor-lower (orders_markers mode) low floor es below, is)
 
-module _ {T : Type 0} (g : Ghosts T) where
-  -- a word that is refused
-  pub refused_fed : (X : Type 0) (how : Reading) (t : T) (ws : List ℕ) (w : ℕ) (fault : Fault) → refusals how ws ≡ [] → refusal how ws w ≡ Some fault → Fed g {X = X} how t t ws (ws ++ w ∷ []) (Err fault)
-  refused_fed X how t ws w fault clear some = search (rules, arith, refused-push, given-refused, given-clear, append-nil)
+module _ {how : Reading} {n base top : ℕ} {before now : List ℕ} {came : List Event} (es : List Event) (clear : refusals how before ≡ [])
+    (a : Adds how n base top before now came) (delivers : events_in how now ≡ events_in how before ++ on_time es) where
+  given-block : given how now ≡ given how before ++ on_time es
+  given-block = given-clear how now a.clear ∙ delivers ∙ ap (λ l. l ++ on_time es) (sym (given-clear how before clear))
 
-  given-more : (how : Reading) (ws : List ℕ) (w : ℕ) (marks : Marked) → refusals how ws ≡ [] → refusal how ws w ≡ None → fresh how ws (how.meaning w) ≡ marks → given how (ws ++ w ∷ []) ≡ given how ws ++ marks
-  given-more how ws w marks clear none is = search (rules, arith, given-clear, clear-push, events_in-push)
+  module _ {T : Type 0} (g : Ghosts T) {old new : T} where
+    -- what was given of the words
+    pub block_fed : ((start : T) (l : Marked) → g.got start old l → g.got start new (l ++ on_time es)) → g.faults new ≡ g.faults old
+        → (record_refusal how now ≡ None) × GaveOn g how old new before now
+    block_fed got kept = (rw a.clear refl, record { more = on_time es; adds = given-block; follows = got; kept = kept })
 
-  unrefused : (how : Reading) (ws : List ℕ) → refusals how ws ≡ [] → record_refusal how ws ≡ None
-  unrefused how ws clear = rw clear refl
+    -- or broke the taker
+    pub block_broke : BrokeAmong g.got g.broke old new es → Rose (g.faults old) (g.faults new) → BrokeOn g how old new before now
+    block_broke b rose = search (rules, arith, length-on_time, given-block, map-append)
 
-  -- a word with no event
-  pub skipped_fed : {X : Type 0} (how : Reading) (t : T) (ws : List ℕ) (w : ℕ) (x : X) → refusals how ws ≡ [] → refusal how ws w ≡ None → fresh how ws (how.meaning w) ≡ [] → Fed g how t t ws (ws ++ w ∷ []) (Ok x)
-  skipped_fed how t ws w x clear none is = search (rules, arith, unrefused, clear-push, given-more, append-nil)
+-- One word more of which none is refused and no event is late.
 
-  -- a word whose event was given, or broke the taker
-  pub give_fed : {X : Type 0} (how : Reading) (walk next : Walk) (old new : T) (ws : List ℕ) (w : ℕ) (e : Event) (late : Bool) (r : Result X Fault) → refusals how ws ≡ [] → refusal how ws w ≡ None
-      → fresh how ws (how.meaning w) ≡ (e, late) ∷ [] → OnOk r (Gave g walk next old new e late) → OnErr r ((start : T) (l : Marked) → g.got start old l → g.broke start new (l ++ (e, late) ∷ []))
-      → IfErr r (λ fault. fault ≡ WriteFault) → FailsOnce (g.faults old) (g.faults new) r → Fed g how old new ws (ws ++ w ∷ []) r
-  give_fed how walk next old new ws w e late (Ok x) clear none is gave broke fault cause =
-      (unrefused how (ws ++ w ∷ []) (clear-push how ws w clear none), record { more = (e, late) ∷ []; adds = given-more how ws w _ clear none is; follows = gave.got; kept = cause.kept })
-  give_fed how walk next old new ws w e late (Err y) clear none is gave broke fault cause =
-      inr (fault, record { front = (e, late) ∷ []; back = []; some = omega arith; adds = given-more how ws w _ clear none is; broken = broke; rose = cause.once })
+-- an event that is not late
+against-on_time : (mode : Mode) (top : ℕ) (e : Event) → (IsTrue (is_ordered mode e) → top ≤ e.time) → against mode top e ≡ InOrderPlaced e
+against-on_time mode top e on = search (rules, arith)
 
-  -- a word whose event was told of, or refused
-  pub told_fed : {X : Type 0} (how : Reading) (old new : Walk) (from settle : Settle) (t now : T) (ws : List ℕ) (w : ℕ) (pushed given : List Event) (e : Event) (top : ℕ) (r : Result X Fault) → refusals how ws ≡ []
-      → refusal how ws w ≡ refused_for how pushed e top → fresh how ws (how.meaning w) ≡ tells how.policy.settle how.mode pushed e
-      → OnOk r (Told g how old new from settle t now pushed given e top) → IfErr r (Untold g how t now pushed e top) → Fed g how t now ws (ws ++ w ∷ []) r
-  told_fed how old new from settle t now ws w pushed given e top (Ok x) clear refused is told untold =
-      let none = refused ∙ told.unrefused in
-      (unrefused how (ws ++ w ∷ []) (clear-push how ws w clear none), record { more = tells how.policy.settle how.mode pushed e; adds = given-more how ws w _ clear none is; follows = told.got; kept = told.kept })
-  told_fed {X} how old new from settle t now ws w pushed given e top (Err fault) clear refused is told untold =
-      ⊎_elim
-      (λ (q : (refused_for how pushed e top ≡ Some fault) × (now ≡ t)). rw q.1 (refused_fed X how t ws w fault clear (refused ∙ q.0)))
-      (λ (q : (fault ≡ WriteFault) × BrokeAt g how t now pushed e top).
-      inr (
-        q.0,
-        record {
-          front = tells how.policy.settle how.mode pushed e;
-          back = [];
-          some = q.1.some;
-          adds = rw append-nil (given-more how ws w _ clear (refused ∙ q.1.unrefused) is);
-          broken = q.1.broken;
-          rose = q.1.rose;
-        },
-      ))
-      untold
+-- and the greatest time with it
+pub greatest-on_time : (mode : Mode) (top : ℕ) (e : Event) → (IsTrue (is_ordered mode e) → top ≤ e.time)
+    → max top (ordered_time mode e) ≡ (if is_ordered mode e then e.time else top)
+greatest-on_time mode top e on = search (rules, arith)
+
+-- the clock with a record more, of which no event is late
+pub clock-push : (mode : Mode) (n base top : ℕ) (records : List Raw) (raw : Raw)
+    → IsClock mode n base top records → IsOnTime mode top (event_of (n + 1) base raw)
+    → IsClock mode (n + 1) (base + amount raw) (greatest_with mode top (event_of (n + 1) base raw)) (records ++ raw ∷ [])
+clock-push mode n base top records (Photon input time dtime) clock on =
+    let e : Event = record { place = n + 1; kind = PhotonEvent input dtime; time = base + time } in
+    rw add-zero (subst (λ t. IsClock mode (n + 1) base t (records ++ Photon input time dtime ∷ []))
+    (greatest-on_time mode top e on) (IsClock-photon mode n base top input time dtime records clock))
+clock-push mode n base top records (Marker bits time) clock on =
+    let e : Event = record { place = n + 1; kind = MarkerEvent bits; time = base + time } in
+    rw add-zero (subst (λ t. IsClock mode (n + 1) base t (records ++ Marker bits time ∷ []))
+    (greatest-on_time mode top e on) (IsClock-marker mode n base top bits time records clock))
+clock-push mode n base top records (Wrap ticks) clock on = IsClock-wrap mode n base top ticks records clock
+clock-push mode n base top records Reserved clock on = rw add-zero (IsClock-reserved mode n base top records clock)
+
+pub on_time-push : (es more : List Event) (l : Marked) → (l ++ on_time es) ++ on_time more ≡ l ++ on_time (es ++ more)
+on_time-push es more l = append_assoc l (on_time es) (on_time more) ∙ ap (λ m. l ++ m) (sym (map-append (λ (e : Event). (e, false)) es more))
+
+module _ (how : Reading) (n base top : ℕ) (before ws : List ℕ) (w : ℕ) (es : List Event)
+    (a : Adds how n base top before ws es) (room : n < how.policy.records) where
+  adds-placed : (raw : Raw) (p : Placed) → raw ≡ how.meaning w → (is_reserved raw && stops_reserved how.policy.reserved) ≡ false
+      → Ok p ≡ place_answer how.mode (map how.meaning ws) raw → IsEarly p → event_in p ≡ event_of (n + 1) base raw
+      → marks_of p ≡ on_time (event_of (n + 1) base raw) → IsOnTime how.mode top (event_of (n + 1) base raw)
+      → Adds how (n + 1) (base + amount raw) (greatest_with how.mode top (event_of (n + 1) base raw)) before (ws ++ w ∷ []) (es ++ event_of (n + 1) base raw)
+  adds-placed raw p means go answers early is marks on =
+      let more = event_of (n + 1) base raw in
+      let fresh_is : how.policy.settle ≡ 0 → fresh how ws (how.meaning w) ≡ on_time more =
+      λ plain. ap (fresh how ws) (sym means) ∙ fresh-plain how ws raw p plain (sym answers) ∙ marks in
+      let late : refused_late how (map how.meaning ws) (how.meaning w) ≡ None =
+      ap (refused_late how (map how.meaning ws)) (sym means) ∙ refused-early how (map how.meaning ws) raw p early (sym answers) in
+      let comes_is : event_after (map how.meaning ws) (how.meaning w) ≡ more =
+      ap (event_after (map how.meaning ws)) (sym means) ∙ (comes how.mode (map how.meaning ws) raw p (sym answers)).0 ∙ is in
+      record {
+        clear = clear-push how ws w a.clear (refusal-ok how ws w n raw p a.clock.placed room means go (sym answers) ∙ late);
+        clock =
+            subst (λ l. IsClock how.mode (n + 1) (base + amount raw) (greatest_with how.mode top more) l)
+            (ap (λ (r : Raw). map how.meaning ws ++ r ∷ []) means ∙ sym (map_push how.meaning ws w))
+            (clock-push how.mode n base top (map how.meaning ws) raw a.clock on);
+        came =
+            ap events (map-append how.meaning ws (w ∷ [])) ∙ events-push (map how.meaning ws) (how.meaning w)
+            ∙ ap (λ l. events (map how.meaning ws) ++ l) comes_is
+            ∙ ap (λ l. l ++ more) a.came ∙ append_assoc (events (map how.meaning before)) es more;
+        delivers = λ plain. events_in-push how ws w ∙ ap (λ m. events_in how ws ++ m) (fresh_is plain)
+            ∙ ap (λ l. l ++ on_time more) (a.delivers plain) ∙ on_time-push es more (events_in how before);
+      }
+
+  -- a word that is not refused and no late event
+  pub adds-push : (raw : Raw) → raw ≡ how.meaning w → (is_reserved raw && stops_reserved how.policy.reserved) ≡ false
+      → base + amount raw ≤ wrap_limit → IsOnTime how.mode top (event_of (n + 1) base raw)
+      → Adds how (n + 1) (base + amount raw) (greatest_with how.mode top (event_of (n + 1) base raw)) before (ws ++ w ∷ []) (es ++ event_of (n + 1) base raw)
+  adds-push (Photon input time dtime) means go few on =
+      let e : Event = record { place = n + 1; kind = PhotonEvent input dtime; time = base + time } in
+      adds-placed (Photon input time dtime) (InOrderPlaced e) means go
+      (ap Ok (sym (against-on_time how.mode top e on)) ∙ answer-photon how.mode n base top input time dtime (map how.meaning ws) a.clock) tt refl refl on
+  adds-push (Marker bits time) means go few on =
+      let e : Event = record { place = n + 1; kind = MarkerEvent bits; time = base + time } in
+      adds-placed (Marker bits time) (InOrderPlaced e) means go
+      (ap Ok (sym (against-on_time how.mode top e on)) ∙ answer-marker how.mode n base top bits time (map how.meaning ws) a.clock) tt refl refl on
+  adds-push (Wrap ticks) means go few on = adds-placed (Wrap ticks) WrapPlaced means go
+      (answer-wrap how.mode n base top ticks (map how.meaning ws) (omega (arith, few)) (omega (arith, few)) a.clock) tt refl refl on
+  adds-push Reserved means go few on = adds-placed Reserved ReservedPlaced means go (answer-reserved how.mode (map how.meaning ws)) tt refl refl on
+
+-- the events stay in line
+pub in_line-event : (mode : Mode) (low top : ℕ) (es : List Event) (e : Event) → IsInLine mode low top es → e.time ≤ time_limit → KindFits mode e.kind
+    → (IsTrue (is_ordered mode e) → top ≤ e.time) → IsInLine mode low (if is_ordered mode e then e.time else top) (es ++ e ∷ [])
+in_line-event mode low top es e line time kind on =
+    let strict = orders_markers mode in
+    record {
+      in_order = order-push strict low es e line.in_order time (λ moves. rw line.greatest (on (rw (moves_by mode e) at moves)));
+      greatest = floor-push strict low es e ∙ rw (moves_by mode e, line.greatest) refl;
+      fit = All-push (λ (e : Event). KindFits mode e.kind) es e line.fit kind;
+    }
+
+pub in_line-push : (mode : Mode) (low top place base : ℕ) (es : List Event) (raw : Raw) → IsInLine mode low top es → Fits mode raw → base ≤ wrap_limit
+    → IsOnTime mode top (event_of place base raw) → IsInLine mode low (greatest_with mode top (event_of place base raw)) (es ++ event_of place base raw)
+in_line-push mode low top place base es (Photon input time dtime) line fits few on =
+    in_line-event mode low top es (record { place = place; kind = PhotonEvent input dtime; time = base + time }) line (let h =
+    fits.0 in omega (arith, few, h)) fits.1 on
+in_line-push mode low top place base es (Marker bits time) line fits few on =
+    in_line-event mode low top es (record { place = place; kind = MarkerEvent bits; time = base + time }) line (let h : time < 2 ^ 28 =
+    fits in omega (arith, few, h)) (marker-fits mode bits) on
+  where
+    marker-fits : (mode : Mode) (bits : ℕ) → KindFits mode (MarkerEvent bits)
+    marker-fits T2 bits = tt
+    marker-fits T3 bits = tt
+in_line-push mode low top place base es (Wrap ticks) line fits few on = rw append-nil line
+in_line-push mode low top place base es Reserved line fits few on = rw append-nil line
+
+-- and at places that rise
+places-event : (low last : ℕ) (es : List Event) (e : Event) → PlacesRise low es → place_after low es ≤ last
+    → last < e.place → PlacesRise low (es ++ e ∷ []) × (place_after low (es ++ e ∷ []) ≡ e.place)
+places-event low last [] e rise most next = ((omega (arith, most, next), tt), refl)
+places-event low last (x ∷ es) e rise most next = let rest = places-event x.place last es e rise.1 most next in ((rise.0, rest.0), rest.1)
+
+pub places-push : (low n base : ℕ) (es : List Event) (raw : Raw) → RisesWithin low n es → RisesWithin low (n + 1) (es ++ event_of (n + 1) base raw)
+places-push low n base es (Photon input time dtime) within =
+    let r = places-event low n es (record { place = n + 1; kind = PhotonEvent input dtime; time = base + time }) within.rises within.last (omega arith) in
+    record { rises = r.0; last = omega (arith, r.1) }
+places-push low n base es (Marker bits time) within =
+    let r = places-event low n es (record { place = n + 1; kind = MarkerEvent bits; time = base + time }) within.rises within.last (omega arith) in
+    record { rises = r.0; last = omega (arith, r.1) }
+places-push low n base es (Wrap ticks) within = rw append-nil (record { rises = within.rises; last = omega (arith, within.last) })
+places-push low n base es Reserved within = rw append-nil (record { rises = within.rises; last = omega (arith, within.last) })

@@ -2,7 +2,7 @@
 use Rattle.std.{proofs.Common.{◌≡◌, ◌+◌, ◌-◌, ◌<◌, ℕ, suc, List, [], ◌∷◌, ◌++◌, Bool, true, false, Some, None, cond, length, map, refl, sym, ap, ◌∙◌, arith, length-append, add-zero, zero-add, count_by, if◌then◌else◌}, specs.declared.option.Option.Option, proofs.lemmas.List.map-append, proofs.lemmas.List.Sums.{sum_by-append, sum_by_push}}
 use Rattle.tally_base.{specs.declared.event.Event.Event, specs.Columns.rows, proofs.BlockRows.{rows-first, rows-last}}
 use Rattle.ptu_definitions.{specs.declared.records.KindCounts.KindCounts, specs.declared.records.Raw.Raw, specs.declared.records.Raw.TheVariants.{Photon, Marker, Wrap, Reserved}, specs.declared.records.Summary.Summary, specs.Kinds.{counts_of, is_photon, is_marker, is_wrap, is_reserved}, specs.Kept.Marked, specs.Prefixes.{first, last_after}, specs.Settled.{delivered, delivered_last, kept_by, late_by, not_marked, those_marked}, specs.Streams.{Reading, events_in, last_in, summary, time_of}, specs.Times.events, proofs.DeliveredLaws.{delivered-kept, delivered-late, delivered_last-late}, proofs.StreamLemmas.{events_in-push, fresh}}
-use Rattle.record_stream.{specs.OneMore.{with_raw, with_event, with_marks, with_block, first_with, last_with, or_time}, specs.SoFar.{eventless, so_far}, specs.Summing.time_if, specs.Blocks.on_time}
+use Rattle.record_stream.{specs.OneMore.{with_raw, with_event, with_marks, with_block, first_with, last_with, or_time, eventless, so_far, time_if}, specs.Blocks.on_time}
 
 pub with_marks-append : (s : Summary) (a b : Marked) → with_marks s (a ++ b) ≡ with_marks (with_marks s a) b
 with_marks-append s [] b = refl
@@ -46,7 +46,8 @@ eventless-push records (Wrap amount) = simp (length-append, count_by-push, add-z
 eventless-push records Reserved = simp (length-append, count_by-push, add-zero)
 
 -- One word more.
-pub so_far-push : (how : Reading) (ws : List ℕ) (w : ℕ) → so_far how (ws ++ w ∷ []) ≡ with_marks (with_raw (so_far how ws) (how.meaning w)) (fresh how ws (how.meaning w))
+pub so_far-push : (how : Reading) (ws : List ℕ) (w : ℕ)
+    → so_far how (ws ++ w ∷ []) ≡ with_marks (with_raw (so_far how ws) (how.meaning w)) (fresh how ws (how.meaning w))
 unfolding so_far
 so_far-push how ws w =
     let records : List Raw = map how.meaning ws in
@@ -96,7 +97,8 @@ so_far-more how words more es is =
     ∙ ap (λ l. with_marks (eventless l) (events_in how words ++ on_time es)) (map-append how.meaning words more)
     ∙ ap (λ s. with_marks s (events_in how words ++ on_time es)) (eventless-more rs qs)
     ∙ kinds-marks (eventless rs) k (events_in how words ++ on_time es)
-    ∙ ap (λ s. with_kinds s k) (with_marks-append (eventless rs) (events_in how words) (on_time es) ∙ on_time-marks (with_marks (eventless rs) (events_in how words)) es)
+    ∙ ap (λ s. with_kinds s k)
+    (with_marks-append (eventless rs) (events_in how words) (on_time es) ∙ on_time-marks (with_marks (eventless rs) (events_in how words)) es)
 
 -- the first and the last of the rows of a block
 pub first-rows : (kept : Bool) (time : ℕ) (f : ℕ → Event) (n : ℕ) → 0 < n → Some (if kept then time else (f 0).time) ≡ first_with (time_if kept time) (rows f n)
@@ -143,7 +145,8 @@ one_more (Some t) e l = refl
 with_marks-is : (s : Summary) (l : Marked) → with_marks s l ≡ with_lists s (those_marked l) (not_marked l)
 unfolding last_time
 with_marks-is s [] = rw (add-zero s.late, none_more s.first) refl
-with_marks-is s ((e, true) ∷ l) = with_marks-is (with_event s e true) l ∙ (let n : (s.late + 1) + length (those_marked l) ≡ s.late + suc (length (those_marked l)) = omega arith in rw n refl)
+with_marks-is s ((e, true) ∷ l) =
+    with_marks-is (with_event s e true) l ∙ (let n : (s.late + 1) + length (those_marked l) ≡ s.late + suc (length (those_marked l)) = omega arith in rw n refl)
 with_marks-is s ((e, false) ∷ l) = with_marks-is (with_event s e false) l ∙ rw (one_more s.first e (not_marked l)) refl
 
 pub summary-end : (how : Reading) (words : List ℕ) → with_marks (so_far how words) (last_in how words) ≡ summary how words

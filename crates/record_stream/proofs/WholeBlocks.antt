@@ -4,14 +4,15 @@ use Rattle.ptu_definitions.{specs.declared.records.Raw.Raw, specs.Times.amount}
 use Rattle.tally_base.{specs.declared.event.Event.Event, specs.declared.header.Mode.Mode, specs.declared.header.Mode.TheVariants.{T2, T3}, specs.Columns.event_by, specs.Limits.wrap_limit}
 use Rattle.abs_time.specs.Placing.{placed_by, base_of}
 use Rattle.record_layout.{specs.declared.row.Row.Row, specs.declared.columns.Columns.Columns, specs.Rowed.raw_of, specs.InColumns.{HasRows, IsRow, row_at, code_in, dtime_in, wraps_at, sum_to, HasSums, time_in, before, Rises}, specs.declared.close.Close.Close, specs.InClose.{stays, staying, HasStayed, code_at, dtime_at, place_at, time_at}, proofs.Chosen.{place-more, place-below, map-places, at-stayed}, proofs.Added.sum-more}
-use Rattle.record_stream.{specs.Whole.{close_event, last_below}, specs.Rows.{ordered_below, gathered_below, event_below, greatest_with_row}, specs.Walking.{how_of, greatest_of, clock_in, Gathers, LetsPass}, specs.declared.walk.Walk.Walk, proofs.Gathering.gathers-none, proofs.Gathered.{small, gathers-row}}
+use Rattle.record_stream.{specs.Whole.{close_event, last_below}, specs.Rows.{ordered_below, gathered_below, event_below, greatest_with_row}, specs.Walking.{how_of, greatest_of, clock_in, Gathers, LetsPass}, specs.declared.walk.Walk.Walk, proofs.Gathering.{gathers-none, small, gathers-row}}
 
 -- the last time of some records whose code is below this one, or else a lower time
 pub last_in : ℕ → (ℕ → ℕ) → (ℕ → ℕ) → ℕ → List ℕ → ℕ
 last_in ordered codes times low [] = low
 last_in ordered codes times low (k ∷ ks) = last_in ordered codes times (if nat_lt (codes k) ordered then times k else low) ks
 
-pub last-more : (ordered : ℕ) (codes times : ℕ → ℕ) (low : ℕ) (ks : List ℕ) (k : ℕ) → last_in ordered codes times low (ks ++ k ∷ []) ≡ (if nat_lt (codes k) ordered then times k else last_in ordered codes times low ks)
+pub last-more : (ordered : ℕ) (codes times : ℕ → ℕ) (low : ℕ) (ks : List ℕ) (k : ℕ)
+    → last_in ordered codes times low (ks ++ k ∷ []) ≡ (if nat_lt (codes k) ordered then times k else last_in ordered codes times low ks)
 unfolding last_in
 last-more ordered codes times low [] k = refl
 last-more ordered codes times low (x ∷ ks) k = last-more ordered codes times (if nat_lt (codes x) ordered then times x else low) ks k
@@ -100,7 +101,8 @@ module _ (walk : Walk) (words : List (List ℕ)) (meaning : ℕ → Raw) (same :
   unfolding base_at
   value n lt few =
       let is = their-row n lt in
-      let none : unit * wraps_at columns n ≡ 0 = is.amounts ∙ ap amount (sym is.raw) ∙ event-amount (row n) (omega (arith, few, below-few only (how_of walk).mode)) in
+      let none : unit * wraps_at columns n ≡ 0 =
+      is.amounts ∙ ap amount (sym is.raw) ∙ event-amount (row n) (omega (arith, few, below-few only (how_of walk).mode)) in
       let all : slice_index columns.sums n ≡ sum_to (wraps_at columns) n + wraps_at columns n = sums n lt ∙ sum-more (wraps_at columns) n in
       ap (λ s. start + unit * s + slice_index columns.times n) all ∙ omega (arith, none)
 
@@ -126,19 +128,23 @@ module _ (walk : Walk) (words : List (List ℕ)) (meaning : ℕ → Raw) (same :
   top-rises : (n : ℕ) → n < 64 → sure ≡ true → nat_le (top_at n) (top_at (suc n)) ≡ true
   top-rises n lt is =
       ⊎_elim
-      (λ (yes : nat_lt (code n) ordered ≡ true). le-leb (top_at n) (top_at (suc n)) (omega (arith, top-of-event n lt yes, top-low is n (omega (arith, lt)), rises is n lt)))
+      (λ (yes : nat_lt (code n) ordered ≡ true). le-leb (top_at n) (top_at (suc n))
+      (omega (arith, top-of-event n lt yes, top-low is n (omega (arith, lt)), rises is n lt)))
       (λ (no : nat_lt (code n) ordered ≡ false). le-leb (top_at n) (top_at (suc n)) (omega (arith, top-more n false no)))
       (cases_Bool (nat_lt (code n) ordered))
 
   one-event : (n : ℕ) → n < 64 → (b : Bool) → nat_lt (code n) below ≡ b
-      → ◌≡◌ {A = List Event} (map event (cond b (n ∷ []) [])) (cond b (event_by (placed_by (clock_in walk) + n + 1) (code n) (dtime_in (slice_index columns.marks n)) (base_at n + (row n).time) ∷ []) [])
-  one-event n lt true is = ap (λ t. event_by (placed_by (clock_in walk) + n + 1) (code n) (dtime_in (slice_index columns.marks n)) t ∷ []) (value n lt (ltb-true (code n) below is))
+      → ◌≡◌ {A = List Event} (map event (cond b (n ∷ []) []))
+      (cond b (event_by (placed_by (clock_in walk) + n + 1) (code n) (dtime_in (slice_index columns.marks n)) (base_at n + (row n).time) ∷ []) [])
+  one-event n lt true is =
+      ap (λ t. event_by (placed_by (clock_in walk) + n + 1) (code n) (dtime_in (slice_index columns.marks n)) t ∷ []) (value n lt (ltb-true (code n) below is))
   one-event n lt false is = refl
 
   events-more : (n : ℕ) → n < 64 → events_at (n + 1) ≡ events_at n ++ event_below below (placed_by (clock_in walk) + n + 1) (base_at n) (row n)
   unfolding events_at staying
   events-more n lt =
-      ap (map event) (place-more (stays below columns) n) ∙ map-append event (filter (stays below columns) (range_with_len 0 n)) (cond (nat_lt (code n) below) (n ∷ []) [])
+      ap (map event) (place-more (stays below columns) n)
+      ∙ map-append event (filter (stays below columns) (range_with_len 0 n)) (cond (nat_lt (code n) below) (n ∷ []) [])
       ∙ ap (λ l. map event (filter (stays below columns) (range_with_len 0 n)) ++ l) (one-event n lt (nat_lt (code n) below) refl)
 
   none-yet : Gathers walk (take 0 words) only true (base_at 0) (top_at 0) (events_at 0)
@@ -155,7 +161,8 @@ module _ (walk : Walk) (words : List (List ℕ)) (meaning : ℕ → Raw) (same :
       let one = small walk words meaning same passes only n (omega (arith, whole, le)) (row n) (their-row n lt) in
       let few : base_at n + (row n).amount ≤ wrap_limit = omega (arith, base-few n (omega (arith, le)), one, passes.base, le) in
       let base_is : base_at (suc n) ≡ base_at n + (row n).amount = ap base_at (sym next) ∙ base-more n in
-      let events_are : events_at (suc n) ≡ events_at n ++ event_below below (placed_by (clock_in walk) + n + 1) (base_at n) (row n) = ap events_at (sym next) ∙ events-more n lt in
+      let events_are : events_at (suc n) ≡ events_at n ++ event_below below (placed_by (clock_in walk) + n + 1) (base_at n) (row n) =
+      ap events_at (sym next) ∙ events-more n lt in
       subst (λ k. Gathers walk (take k words) only sure (base_at (suc n)) (top_at (suc n)) (events_at (suc n))) next
       (gathers-row walk words meaning same passes only n (omega (arith, whole, le)) (row n) (their-row n lt) sure sure (base_at n) (base_at (suc n)) (top_at n) (top_at (suc n)) (events_at n) (events_at (suc n))
       few base_is (top-more n (nat_lt (code n) ordered) refl) (unless sure (nat_le (top_at n) (top_at (suc n))) (top-rises n lt)) events_are (gathers-upto n (omega (arith, le))))
@@ -168,7 +175,8 @@ module _ (walk : Walk) (words : List (List ℕ)) (meaning : ℕ → Raw) (same :
       → top_at (suc n) ≡ last_in ordered code time low (staying below columns n ++ cond b (n ∷ []) [])
   last-step n lt true is so_far =
       let test = nat_lt (code n) ordered in
-      top-more n test refl ∙ ap (λ t. cond test t (top_at n)) (sym (value n lt (ltb-true (code n) below is))) ∙ ap (λ t. cond test (time n) t) so_far ∙ sym (last-more ordered code time low (staying below columns n) n)
+      top-more n test refl ∙ ap (λ t. cond test t (top_at n)) (sym (value n lt (ltb-true (code n) below is)))
+      ∙ ap (λ t. cond test (time n) t) so_far ∙ sym (last-more ordered code time low (staying below columns n) n)
   last-step n lt false is so_far =
       let no : nat_lt (code n) ordered ≡ false = le-ltb (code n) ordered (omega (arith, ltb-false (code n) below is, ordered-below only (how_of walk).mode)) in
       top-more n false no ∙ so_far ∙ ap (last_in ordered code time low) (sym (append-nil (staying below columns n)))
@@ -181,10 +189,12 @@ module _ (walk : Walk) (words : List (List ℕ)) (meaning : ℕ → Raw) (same :
   top-is zero le = top-none
   top-is (suc n) le =
       let next : n + 1 ≡ suc n = omega arith in
-      last-step n (omega (arith, le)) (nat_lt (code n) below) refl (top-is n (omega (arith, le))) ∙ ap (last_in ordered code time low) (sym (their-staying n) ∙ ap (staying below columns) next)
+      last-step n (omega (arith, le)) (nat_lt (code n) below) refl (top-is n (omega (arith, le)))
+      ∙ ap (last_in ordered code time low) (sym (their-staying n) ∙ ap (staying below columns) next)
 
   -- What is put close together.
-  module _ (n : ℕ) (le : n ≤ 64) (close : Close) (len : ℕ) (has : HasStayed below columns n close len) (few_placed : placed_by (clock_in walk) + 100 ≤ 2 ^ 64) (fits : (i : ℕ) → i < 64 → time i < 2 ^ 64) where
+  module _ (n : ℕ) (le : n ≤ 64) (close : Close) (len : ℕ) (has : HasStayed below columns n close len)
+      (few_placed : placed_by (clock_in walk) + 100 ≤ 2 ^ 64) (fits : (i : ℕ) → i < 64 → time i < 2 ^ 64) where
     abbrev ks : List ℕ
     ks = staying below columns n
 
@@ -229,7 +239,8 @@ module _ (walk : Walk) (words : List (List ℕ)) (meaning : ℕ → Raw) (same :
         ap (λ k. map f (range_with_len 0 k)) has.count
         ∙ map-places f event ks 0 (λ j lt. ap f (omega arith) ∙ event-same j (omega (arith, lt, has.count)))
 
-    last-places : (m : ℕ) → m ≤ len → last_below ordered low (code_at close) (λ i. time_at start unit close i % 2 ^ 64) m ≡ last_in ordered code time low (take m ks)
+    last-places : (m : ℕ) → m ≤ len
+        → last_below ordered low (code_at close) (λ i. time_at start unit close i % 2 ^ 64) m ≡ last_in ordered code time low (take m ks)
     unfolding last_below last_in at
     last-places zero few = refl
     last-places (suc m) few =
@@ -238,7 +249,8 @@ module _ (walk : Walk) (words : List (List ℕ)) (meaning : ℕ → Raw) (same :
         let test : nat_lt (code_at close m) ordered ≡ nat_lt (code (get_or ks m 0)) ordered = ap (λ x. nat_lt (code_in x) ordered) (mark-same m lt) in
         let rest = last-places m (omega (arith, few)) in
         ap (λ t. cond t (time_at start unit close m % 2 ^ 64) (last_below ordered low (code_at close) (λ i. time_at start unit close i % 2 ^ 64) m)) test
-        ∙ ap (λ x. cond (nat_lt (code (get_or ks m 0)) ordered) x (last_below ordered low (code_at close) (λ i. time_at start unit close i % 2 ^ 64) m)) (time-same m lt)
+        ∙ ap (λ x. cond (nat_lt (code (get_or ks m 0)) ordered) x (last_below ordered low (code_at close) (λ i. time_at start unit close i % 2 ^ 64) m))
+        (time-same m lt)
         ∙ ap (λ x. cond (nat_lt (code (get_or ks m 0)) ordered) (time (get_or ks m 0)) x) rest
         ∙ sym (last-more ordered code time low (take m ks) (get_or ks m 0))
         ∙ ap (last_in ordered code time low) (sym (take_more ks m 0 (omega (arith, lt, has.count))) ∙ ap (λ k. take k ks) next)
@@ -247,7 +259,8 @@ module _ (walk : Walk) (words : List (List ℕ)) (meaning : ℕ → Raw) (same :
     last-is = last-places len (omega arith) ∙ ap (last_in ordered code time low) (take_all len ks (omega (arith, has.count))) ∙ sym (top-is n le)
 
     pub gathers-close : (sum top : ℕ) (es : List Event) → take n words ≡ words → sum ≡ start + unit * sum_to (wraps_at columns) n
-        → top ≡ last_below ordered low (code_at close) (λ i. time_at start unit close i % 2 ^ 64) len → es ≡ map (close_event (placed_by (clock_in walk) + 1) start unit close) (range_with_len 0 len)
+        → top ≡ last_below ordered low (code_at close) (λ i. time_at start unit close i % 2 ^ 64) len
+        → es ≡ map (close_event (placed_by (clock_in walk) + 1) start unit close) (range_with_len 0 len)
         → Gathers walk words only sure sum top es
     unfolding base_at
     gathers-close sum top es all sum_is top_is es_are =

@@ -1,7 +1,7 @@
 -- What words add of which none is refused and no event is late.
 use Rattle.std.specs.Prelude.{ℕ, ◌≡◌, ◌<◌, ◌≤◌, IsTrue, true, false, Bool, List, [], ◌∷◌, ◌++◌, All, length, map, if◌then◌else◌}
-use Rattle.tally_base.{specs.declared.event.Event.Event, specs.declared.header.Mode.Mode, specs.Events.is_ordered, specs.Floors.{floor_after, InOrder}}
-use Rattle.ptu_definitions.{specs.Kept.Marked, specs.Fitting.KindFits, specs.Settled.ordered, specs.Streams.{Reading, refusals, events_in}, specs.Times.events}
+use Rattle.tally_base.{specs.declared.event.Event.Event, specs.declared.header.Mode.Mode, specs.Events.is_ordered, specs.Tally.{floor_after, InOrder}}
+use Rattle.ptu_definitions.{specs.Kept.Marked, specs.Layouts.KindFits, specs.Settled.ordered, specs.Streams.{Reading, refusals, events_in}, specs.Times.events}
 use Rattle.abs_time.{specs.Placing.IsClock, specs.Floors.orders_markers}
 use Rattle.settle.specs.Passing.{place_after}
 

@@ -1,9 +1,9 @@
 -- What a taker is given by words that come behind others.
-use Rattle.std.specs.Prelude.{ℕ, ◌≡◌, ◌<◌, ◌≤◌, List, [], ◌++◌, length, map, None, Some, Result, Ok, Err, ◌⊎◌}
+use Rattle.std.specs.Prelude.{ℕ, ◌≡◌, ◌<◌, ◌≤◌, List, [], ◌++◌, length, map, None, Some, Result, Ok, Err, OnOk, ◌⊎◌}
 use Rattle.ptu_definitions.{specs.declared.records.Summary.Summary, specs.Kept.Marked, specs.Words.words_of, specs.Streams.{Reading, refusals, record_refusal, given, events_in}}
 use Rattle.tally_base.{specs.declared.fault.Fault.Fault, specs.declared.fault.Fault.TheVariants.WriteFault, specs.declared.header.Mode.Mode, specs.FaultCounts.Rose}
 use Rattle.abs_time.{specs.declared.clock.Clock.Clock, specs.Placing.HasPlaced}
-use Rattle.record_stream.{specs.SoFar.so_far, specs.declared.taker.EventTaker.Ghosts}
+use Rattle.record_stream.{specs.OneMore.so_far, specs.declared.taker.EventTaker.Ghosts}
 
 -- Where a stream stands that took these words and refused none.
 pub record IsAt (how : Reading) (clock : Clock) (sum : Summary) (count : ℕ) (words : List ℕ) : Type 0 where
@@ -40,6 +40,11 @@ module _ {T : Type 0} (g : Ghosts T) where
   Fed how old new words now (Ok x) = (record_refusal how now ≡ None) × GaveOn how old new words now
   Fed how old new words now (Err fault) =
       ((record_refusal how now ≡ Some fault) × GaveOn how old new words now) ⊎ ((fault ≡ WriteFault) × BrokeOn how old new words now)
+
+  -- What taking more words did behind any where it stood, by its answer.
+  pub record Delivers {X : Type 0} (how : Reading) (stood stands : List ℕ → Type 0) (old new : T) (more : List ℕ) (answer : Result X Fault) : Type 0 where
+    pub at : (before : List ℕ) → stood before → OnOk answer (stands (before ++ more))
+    pub fed : (before : List ℕ) → stood before → Fed how old new before (before ++ more) answer
 
   -- The same of the words of bytes behind which a piece came.
   abbrev pub FedPiece : {X : Type 0} → Reading → T → T → List ℕ → List ℕ → Result X Fault → Type 0

@@ -1,6 +1,6 @@
 -- What events in order let go, none of them late.
 use Rattle.std.{specs.Prelude.{ℕ, ◌≡◌, ◌+◌, ◌≤◌, true, false, List, ◌++◌, length, map}, specs.List.{All, AllByRecursion}}
-use Rattle.tally_base.{specs.declared.event.Event.Event, specs.declared.header.Mode.Mode, specs.Events.is_ordered, specs.Floors.InOrder}
+use Rattle.tally_base.{specs.declared.event.Event.Event, specs.declared.header.Mode.Mode, specs.Events.is_ordered, specs.Tally.InOrder}
 use Rattle.ptu_definitions.{specs.Settled.{delivered, not_marked, ordered}, specs.Streams.{Reading, events_in}, specs.Times.events}
 use Rattle.abs_time.{specs.Placing.placed_by, specs.Floors.orders_markers}
 use Rattle.record_stream.{specs.Blocks.{on_time, AllFit, IsInLine, PlacesRise}, specs.Keeping.CanWait, specs.Walking.{how_of, greatest_of, clock_in}, specs.declared.walk.Walk.Walk}

@@ -1,7 +1,8 @@
 -- A summary with one more record, and with its event.
-use Rattle.std.{specs.Prelude.{ℕ, ◌+◌, Bool, true, false, List, [], ◌∷◌, None, Some}, specs.declared.option.Option.Option}
+use Rattle.std.{specs.Prelude.{ℕ, ◌+◌, Bool, true, false, List, [], ◌∷◌, None, Some, length, map, count_by}, specs.declared.option.Option.Option}
 use Rattle.tally_base.specs.declared.event.Event.{Event}
-use Rattle.ptu_definitions.{specs.declared.records.Summary.Summary, specs.declared.records.KindCounts.KindCounts, specs.declared.records.Raw.Raw, specs.declared.records.Raw.TheVariants.{Photon, Marker, Wrap, Reserved}, specs.Kept.Marked}
+use Rattle.ptu_definitions.{specs.declared.records.Summary.Summary, specs.declared.records.KindCounts.KindCounts, specs.declared.records.Raw.Raw, specs.declared.records.Raw.TheVariants.{Photon, Marker, Wrap, Reserved}, specs.Kept.Marked, specs.Kinds.{is_photon, is_marker, is_wrap, is_reserved}, specs.Streams.{Reading, events_in}}
+use Rattle.record_stream.specs.declared.count.Sums.{Sums}
 
 abbrev pub with_raw : Summary → Raw → Summary
 with_raw s (Photon input time dtime) = record s { records = s.records + 1; photons = s.photons + 1 }
@@ -41,4 +42,41 @@ with_block s k es = record {
   late = s.late;
   first = first_with s.first es;
   last = last_with s.last es;
+}
+
+-- The summary of the words so far.
+
+-- the summary of these records, with no event
+abbrev pub eventless : List Raw → Summary
+eventless records = record {
+  records = length records;
+  photons = count_by is_photon records;
+  markers = count_by is_marker records;
+  wraps = count_by is_wrap records;
+  reserved = count_by is_reserved records;
+  late = 0;
+  first = None;
+  last = None;
+}
+
+-- The summary of these words, with the events that are delivered so far.
+unfoldable pub so_far : Reading → List ℕ → Summary
+so_far how words = with_marks (eventless (map how.meaning words)) (events_in how words)
+
+-- The summary that sums stand for.
+
+abbrev pub time_if : Bool → ℕ → Option ℕ
+time_if true time = Some time
+time_if false time = None
+
+abbrev pub summed : Sums → Summary
+summed s = record {
+  records = s.records;
+  photons = s.photons;
+  markers = s.markers;
+  wraps = s.wraps;
+  reserved = s.reserved;
+  late = s.late;
+  first = time_if s.kept s.first;
+  last = time_if s.kept s.last;
 }

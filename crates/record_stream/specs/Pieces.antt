@@ -1,7 +1,7 @@
 -- What feeding a piece to a stream of records leaves.
 use Rattle.std.specs.Prelude.{ℕ, ◌≡◌, ◌+◌, ◌*◌, ◌≤◌, List, [], ◌++◌, length, None}
 use Rattle.tally_base.specs.declared.header.Mode.{Mode}
-use Rattle.ptu_definitions.specs.Counted.{record_limit}
+use Rattle.ptu_definitions.specs.Words.{record_limit}
 use Rattle.record_stream.{specs.declared.stream.RecordStream.RecordStream, specs.Standing.{how_of, given_by, greatest_of, refused_with, bytes_in, HasStreamed}}
 
 -- A stream was given a piece, whatever it answered: it is read as before, and stands for the bytes with the piece behind them. It never takes more than the greatest number of records and a begun one.

@@ -1,8 +1,10 @@
 -- What is known of a record by its code.
-use Rattle.std.specs.Prelude.{ℕ, ◌≡◌, ◌+◌, ◌≤◌, ◌&&◌, Bool, true, false, nat_lt, nat_le, List, [], ◌∷◌, if◌then◌else◌}
-use Rattle.tally_base.{specs.declared.event.Event.Event, specs.declared.header.Mode.Mode, specs.declared.header.Mode.TheVariants.{T2, T3}, specs.Columns.event_by}
+use Rattle.std.{specs.Prelude.{ℕ, ◌≡◌, ◌+◌, ◌≤◌, ◌&&◌, Bool, true, false, nat_lt, nat_le, List, [], ◌∷◌, if◌then◌else◌, ◌++◌, map, None, Ok}, specs.declared.option.Option.Option}
+use Rattle.tally_base.{specs.declared.event.Event.Event, specs.declared.header.Mode.Mode, specs.declared.header.Mode.TheVariants.{T2, T3}, specs.Columns.event_by, specs.declared.fault.Fault.Fault, specs.Events.stops_late}
 use Rattle.record_layout.specs.declared.row.Row.{Row}
-use Rattle.record_stream.specs.declared.blocks.Ahead.{Ahead}
+use Rattle.record_stream.{specs.declared.blocks.Ahead.Ahead, specs.OneMore.with_raw, specs.Walking.{how_of, given_by, records_of, summary_in, clock_in}, specs.declared.walk.Walk.Walk}
+use Rattle.ptu_definitions.{specs.declared.records.Raw.Raw, specs.Streams.{Reading, refusal, late_refusal}, specs.Times.{event_after, events}}
+use Rattle.abs_time.{specs.declared.clock.Placed.Placed, specs.Placing.{HasPlaced, IsNext, Moves, place_answer, greatest_by, placed_by}}
 
 -- the codes below this one are those of events in order
 abbrev pub ordered_below : Mode → ℕ
@@ -29,3 +31,30 @@ gathered_below true mode = ordered_below mode
 -- the event of a record, if its code is below this one
 abbrev pub event_below : ℕ → ℕ → ℕ → Row → List Event
 event_below below place base row = if nat_lt row.code below then event_by place row.code row.dtime (base + row.time) ∷ [] else []
+
+-- A word whose record was counted and placed.
+
+-- a record is refused for nothing but, perhaps, that its event is late
+abbrev pub refused_late : Reading → List Raw → Raw → Option Fault
+refused_late how before raw =
+    if stops_late how.policy.order then late_refusal how.policy.settle how.mode (events before) (event_after before raw) else None
+
+-- Behind these words it is refused for nothing else, and this is what it is.
+pub record IsPlaced (old new : Walk) (words : List ℕ) (word : ℕ) (placed : Placed) : Type 0 where
+  pub refusal : refusal (how_of old) words word ≡ refused_late (how_of old) (map (how_of old).meaning words) ((how_of old).meaning word)
+  pub answer : place_answer (how_of old).mode (map (how_of old).meaning words) ((how_of old).meaning word) ≡ Ok placed
+  pub clock : HasPlaced (clock_in new) (map (how_of old).meaning words ++ (how_of old).meaning word ∷ [])
+  pub summary : summary_in new ≡ with_raw (summary_in old) ((how_of old).meaning word)
+
+-- One record more was counted and placed.
+pub record CountsOne (old new : Walk) (placed : Placed) : Type 0 where
+  pub counted : records_of new ≡ records_of old + 1
+  pub next : IsNext (placed_by (clock_in old)) (placed_by (clock_in new)) placed
+  pub moves : Moves (how_of old).mode (greatest_by (clock_in old)) (greatest_by (clock_in new)) placed
+
+-- It reads as before and has given no event more.
+pub record KeepsGiven (old new : Walk) : Type 0 where
+  pub same_how : how_of new ≡ how_of old
+  pub same_given : given_by new ≡ given_by old
+  pub more_records : records_of old ≤ records_of new
+  pub more_placed : placed_by (clock_in old) ≤ placed_by (clock_in new)

@@ -4,7 +4,7 @@ use Rattle.tally_base.{specs.declared.event.Event.Event, specs.declared.fault.Fa
 use Rattle.ptu_definitions.{specs.Kept.{Marked, floor_of}, specs.Settled.{ordered, not_marked}, specs.Streams.Reading}
 use Rattle.abs_time.specs.Placing.{placed_by, IsSmall}
 use Rattle.settle.{specs.Standing.{HasSettled, kept_back, next_place, last_time}, specs.declared.settle.Settle.Settle}
-use Rattle.record_stream.{specs.Feeding.Follows, specs.Keeping.{HasCome, IsKeeping, tells, refused_for}, specs.OneMore.with_marks, specs.Walking.{how_of, given_by, records_of, clock_in, summary_in, IsBehind}, specs.declared.taker.EventTaker.Ghosts, specs.declared.walk.Walk.Walk}
+use Rattle.record_stream.{specs.Feeding.Follows, specs.Keeping.{HasCome, IsKeeping, tells, refused_for}, specs.OneMore.with_marks, specs.Walking.{how_of, given_by, records_of, clock_in, summary_in, IsBehind, Stays}, specs.declared.taker.EventTaker.Ghosts, specs.declared.walk.Walk.Walk}
 
 -- It took these words and refused none, and the events in order of these came.
 pub record IsSettledBehind (walk : Walk) (settle : Settle) (words : List ℕ) : Type 0 where
@@ -29,17 +29,10 @@ module _ {T : Type 0} (g : Ghosts T) where
     pub keeps : IsKeeping walk settle
     pub follows : IsFollowedBy walk settle taker
 
-  -- The walk took so many words more and refused none, and the taker is no further on.
-  pub record SettlesOn (old new : Walk) (settle : Settle) (taker : T) (more : ℕ) : Type 0 where
-    pub follows : Follows g (how_of old).mode (given_by new) (last_time settle) taker
-    pub counted : records_of new ≡ records_of old + more
-
-  -- Whatever is answered, the walk reads as before, what is kept back is in step with it, the taker keeps what a call leaves as it is, and the count of faults doesn't fall.
+  -- Whatever is answered, how the walk reads and how the taker is stay, and what is kept back is in step with the walk.
   pub record StaysKept (old new : Walk) (settle : Settle) (taker now : T) : Type 0 where
-    pub same_how : how_of new ≡ how_of old
+    pub stays : Stays g old new taker now
     pub keeps : IsKeeping new settle
-    pub later : g.faults taker ≤ g.faults now
-    pub same : g.same taker now
 
   -- Behind these events in order one more came, and what it adds was given.
   pub record Told (how : Reading) (old new : Walk) (from settle : Settle) (taker now : T) (before given : List Event) (e : Event) (latest : ℕ) : Type 0 where

@@ -2,10 +2,10 @@
 use Rattle.std.{specs.Prelude.{ℕ, ◌≡◌, ◌≢◌, ◌+◌, ◌*◌, ◌≤◌, ◌==◌, List, length, None, Some, if◌then◌else◌}, specs.declared.option.Option.Option}
 use Rattle.ptu_definitions.{specs.declared.records.Summary.Summary, specs.Streams.{Reading, reading, record_refusal, given}, specs.Kept.Marked, specs.Words.{words_of, rest_of}}
 use Rattle.tally_base.{specs.declared.fault.Fault.Fault, specs.declared.fault.Fault.TheVariants.WriteFault, specs.declared.event.Event.Event}
-use Rattle.record_layout.specs.Begun.{begun_in}
+use Rattle.record_layout.specs.Counting.{begun_in}
 use Rattle.abs_time.{specs.declared.clock.Clock.Clock, specs.Placing.greatest_by}
 use Rattle.settle.{specs.Standing.{kept_back, last_time}, specs.declared.settle.Settle.Settle}
-use Rattle.record_stream.{specs.Feeding.Follows, specs.Keeping.StandsAt, specs.declared.taker.EventTaker.Ghosts, specs.Summing.summed, specs.declared.stream.RecordStream.RecordStream}
+use Rattle.record_stream.{specs.Feeding.Follows, specs.Keeping.StandsAt, specs.declared.taker.EventTaker.Ghosts, specs.OneMore.summed, specs.declared.stream.RecordStream.RecordStream}
 
 abbrev pub how_of : RecordStream → Reading
 how_of stream = reading stream.walk.record_type stream.walk.policy

@@ -1,9 +1,9 @@
 -- How far a walk is.
 use Rattle.std.specs.Prelude.{ℕ, Bool, true, not, IsTrue, ◌&&◌, ◌≡◌, ◌+◌, ◌^◌, ◌<◌, ◌≤◌, List, [], ◌∷◌, ◌++◌, length, map, count_by}
 use Rattle.tally_base.{specs.declared.event.Event.Event, specs.Columns.{count, sorted}, specs.declared.block.Block.Block, specs.Events.{is_ordered, stops_reserved}, specs.Limits.wrap_limit}
-use Rattle.ptu_definitions.{specs.declared.records.{Raw.Raw, Summary.Summary}, specs.Kept.Marked, specs.Kinds.is_reserved, specs.Streams.{Reading, reading}, specs.Fours.numbers}
+use Rattle.ptu_definitions.{specs.declared.records.Raw.Raw, specs.declared.records.Summary.Summary, specs.Kept.Marked, specs.Kinds.is_reserved, specs.Streams.{Reading, reading}, specs.Words.numbers}
 use Rattle.abs_time.{specs.declared.clock.Clock.Clock, specs.Placing.{base_of, greatest_by, placed_by, IsSmall, LeadsOn}, specs.Floors.moved_floor}
-use Rattle.record_stream.{specs.Blocks.chosen as chosen_of, specs.Blocks.{Adds, IsInLine, RisesWithin}, specs.Feeding.{IsAt, Follows}, specs.declared.taker.EventTaker.Ghosts, specs.OneMore.with_event, specs.Summing.summed, specs.declared.walk.Walk.Walk}
+use Rattle.record_stream.{specs.Blocks.{chosen as chosen_of, Adds, IsInLine, RisesWithin}, specs.Feeding.{IsAt, Follows, GaveOn}, specs.declared.taker.EventTaker.Ghosts, specs.OneMore.{with_event, summed}, specs.declared.walk.Walk.Walk}
 
 abbrev pub how_of : Walk → Reading
 how_of walk = reading walk.record_type walk.policy
@@ -77,9 +77,9 @@ module _ {T : Type 0} (g : Ghosts T) where
   abbrev pub IsFollowed : Walk → T → Type 0
   IsFollowed walk taker = Follows g (how_of walk).mode (given_by walk) (greatest_of walk) taker
 
-  -- The walk took so many words more and refused none, and the taker is no further on.
-  pub record WalksOn (old new : Walk) (taker : T) (more : ℕ) : Type 0 where
-    pub follows : Follows g (how_of old).mode (given_by new) (greatest_of new) taker
+  -- The walk took so many words more and refused none, and the taker is no further on than it and this time.
+  pub record WalksOn (old new : Walk) (time : ℕ) (taker : T) (more : ℕ) : Type 0 where
+    pub follows : Follows g (how_of old).mode (given_by new) time taker
     pub counted : records_of new ≡ records_of old + more
 
   -- No event is to be put in its place, and the taker is of the mode of the walk and no further on.
@@ -106,3 +106,10 @@ module _ {T : Type 0} (g : Ghosts T) where
     pub same_how : how_of new ≡ how_of old
     pub later : g.faults taker ≤ g.faults now
     pub same : g.same taker now
+
+  -- A walk took these words, so many, and refused none: it stood as the first says, and stands as the second.
+  pub record Took (stood stands : List ℕ → Type 0) (old new : Walk) (time : ℕ) (taker now : T) (words : List ℕ) (many : ℕ) : Type 0 where
+    pub goes_on : WalksOn old new time now many
+    pub stays : Stays old new taker now
+    pub at : (before : List ℕ) → stood before → stands (before ++ words)
+    pub gave : (before : List ℕ) → stood before → GaveOn g (how_of old) taker now before (before ++ words)

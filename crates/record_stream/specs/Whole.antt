@@ -1,13 +1,7 @@
 -- The records of a whole block that stay.
-use Rattle.std.specs.Prelude.{ℕ, zero, suc, ◌≡◌, ◌<◌, ◌+◌, ◌%◌, ◌^◌, List, length, nat_lt, if◌then◌else◌}
+use Rattle.std.specs.Prelude.{ℕ, zero, suc, ◌+◌, ◌%◌, ◌^◌, nat_lt, if◌then◌else◌}
 use Rattle.tally_base.{specs.declared.event.Event.Event, specs.Columns.event_by}
-use Rattle.record_stream.{specs.Walking.greatest_of, specs.declared.walk.Walk.Walk}
 use Rattle.record_layout.{specs.declared.close.Close.Close, specs.InClose.{code_at, dtime_at, place_at, time_at}}
-
--- The words are a whole block, and the greatest time so far leaves room for the sign of a difference.
-pub record IsWhole (walk : Walk) (words : List (List ℕ)) : Type 0 where
-  pub many : length words ≡ 64
-  pub low : greatest_of walk < 2 ^ 63
 
 -- the event of a record, where the first of the columns has this place
 abbrev pub close_event : ℕ → ℕ → ℕ → Close → ℕ → Event

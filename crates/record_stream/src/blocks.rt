@@ -1,10 +1,10 @@
 // The words of a piece in blocks, without a branch on what each record is.
 ghost use Rattle.std.specs.Prelude.{◌≡◌, ◌+◌, ◌*◌, ◌^◌, ◌<◌, ◌≤◌, ◌++◌, ◌∷◌, ◌&&◌, [], List, ℕ, length, map, count_by, true, false, nat_lt, nat_le, if◌then◌else◌, OnOk, OnErr, IfErr};
 ghost use Rattle.tally_base.{specs.declared.header.Mode.Mode, specs.declared.fault.Fault.TheVariants.WriteFault, specs.FaultCounts.FailsOnce, specs.Events.stops_reserved, specs.Limits.wrap_limit, specs.Columns.{count, sorted, gathered, written}};
-ghost use Rattle.ptu_definitions.{specs.Fours.numbers, specs.Kinds.{is_reserved, counts_of}, specs.Kept.Marked, specs.Times.event_of};
+ghost use Rattle.ptu_definitions.{specs.Words.numbers, specs.Kinds.{is_reserved, counts_of}, specs.Kept.Marked, specs.Times.event_of};
 ghost use Rattle.abs_time.specs.Placing.{base_of, placed_by};
 ghost use Rattle.record_layout.{specs.InColumns.HasRows, specs.Rowed.raw_of};
-ghost use Rattle.record_stream.{specs.Blocks.{on_time, BrokeAmong}, specs.Rows.{ordered_below, gathered_below, event_below, GoesBy}, specs.Feeding.Fed, specs.Walking.{how_of, given_by, greatest_of, records_of, summary_in, clock_in, IsBehind, Gathers, IsBlank, IsReady, LetsPass, WalksOn, Stays}};
+ghost use Rattle.record_stream.{specs.Blocks.{on_time, BrokeAmong}, specs.Rows.{ordered_below, gathered_below, event_below, GoesBy}, specs.Feeding.Delivers, specs.Walking.{how_of, given_by, greatest_of, records_of, summary_in, clock_in, IsBehind, Gathers, IsBlank, IsReady, LetsPass, WalksOn, Stays}};
 
 use crate::count::{add_block, stops_reserved};
 use crate::taker::EventTaker;
@@ -100,7 +100,7 @@ pub(crate) fn gather<R: RecordLayout>(
     ensures few { result.len ≤ length words.now }
     ensures blank { IsBlank block.new }
 {
-    if words.len() != BLOCK_SIZE || walk.clock.greatest() >= 1 << 63 {
+    if words.len() != BLOCK_SIZE {
         return gather_each::<R>(walk, words, columns, only_ordered, block);
     }
     let ahead = gather_whole::<R>(walk, words, columns, close, only_ordered, block);
@@ -159,13 +159,10 @@ fn take_block<R: RecordLayout, S: EventTaker>(
     requires few { length words.now ≤ BLOCK_SIZE }
     requires meaning { R.meaning ≡ (how_of walk.old).meaning }
     requires ready { IsReady S.EventTaker walk.old taker.old }
-    ensures at { (before : List ℕ) → IsBehind walk.old before
-        → OnOk result (IsBehind walk.new (before ++ numbers words.now)) }
-    ensures fed { (before : List ℕ) → IsBehind walk.old before
-        → Fed S.EventTaker (how_of walk.old) taker.old taker.new before
-        (before ++ numbers words.now) result }
-    ensures goes_on { OnOk result
-        (WalksOn S.EventTaker walk.old walk.new taker.new (length words.now)) }
+    ensures delivers { Delivers S.EventTaker (how_of walk.old) (IsBehind walk.old)
+        (IsBehind walk.new) taker.old taker.new (numbers words.now) result }
+    ensures goes_on { OnOk result (WalksOn S.EventTaker walk.old walk.new
+        (greatest_of walk.new) taker.new (length words.now)) }
     ensures stays { Stays S.EventTaker walk.old walk.new taker.old taker.new }
 {
     columns.fill::<R>(words);
@@ -198,13 +195,10 @@ pub(crate) fn take_words<R: RecordLayout, S: EventTaker>(
 ) -> Result<(), Fault>
     requires meaning { R.meaning ≡ (how_of walk.old).meaning }
     requires ready { IsReady S.EventTaker walk.old taker.old }
-    ensures at { (before : List ℕ) → IsBehind walk.old before
-        → OnOk result (IsBehind walk.new (before ++ numbers words.now)) }
-    ensures fed { (before : List ℕ) → IsBehind walk.old before
-        → Fed S.EventTaker (how_of walk.old) taker.old taker.new before
-        (before ++ numbers words.now) result }
-    ensures goes_on { OnOk result
-        (WalksOn S.EventTaker walk.old walk.new taker.new (length words.now)) }
+    ensures delivers { Delivers S.EventTaker (how_of walk.old) (IsBehind walk.old)
+        (IsBehind walk.new) taker.old taker.new (numbers words.now) result }
+    ensures goes_on { OnOk result (WalksOn S.EventTaker walk.old walk.new
+        (greatest_of walk.new) taker.new (length words.now)) }
     ensures stays { Stays S.EventTaker walk.old walk.new taker.old taker.new }
 {
     if words.len() < 2 {

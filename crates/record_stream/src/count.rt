@@ -2,8 +2,8 @@
 ghost use Rattle.std.specs.Prelude.{◌≡◌, ◌+◌, ◌<◌, ◌≤◌, ◌&&◌, if◌then◌else◌};
 ghost use Rattle.tally_base.{specs.Events.{stops_late, stops_reserved}, specs.Limits.record_limit, specs.Columns.gathered};
 ghost use Rattle.ptu_definitions.specs.Kinds.{is_reserved};
-ghost use Rattle.record_stream.{specs.OneMore.{with_raw, with_event, with_block}, specs.Summing.{time_if, summed}};
 ghost use Rattle.record_layout.specs.Sums.{IsSplit};
+ghost use Rattle.record_stream.specs.OneMore.{with_raw, with_event, with_block, time_if, summed};
 
 use ptu_definitions::{KindCounts, Raw, Summary};
 use tally_base::{Block, Event, OnReserved, Order};
@@ -25,7 +25,7 @@ pub struct Sums {
 }
 
 impl Sums {
-    ghost use Rattle.record_stream.specs.Summing.{summed};
+    ghost use Rattle.record_stream.specs.OneMore.{summed};
 
     /// The summary of what was counted.
     pub(crate) fn summary(&self) -> Summary

@@ -1,10 +1,10 @@
 // The records of a stream whose events are put in their places.
 ghost use Rattle.std.specs.Prelude.{◌≡◌, ◌≢◌, ◌+◌, ◌<◌, ◌≤◌, ◌++◌, ◌∷◌, [], List, ℕ, false, length, OnOk, IfErr};
 ghost use Rattle.tally_base.{specs.declared.fault.Fault.TheVariants.WriteFault, specs.FaultCounts.FailsOnce, specs.Events.is_ordered};
-ghost use Rattle.ptu_definitions.{specs.Fours.numbers, specs.Kept.Marked, specs.Settled.marked_as};
+ghost use Rattle.ptu_definitions.{specs.Words.numbers, specs.Kept.Marked, specs.Settled.marked_as};
 ghost use Rattle.abs_time.specs.Placing.{IsSmall, placed_by};
 ghost use Rattle.settle.specs.Standing.{HasSettled, kept_back, last_time};
-ghost use Rattle.record_stream.{specs.Feeding.{Follows, Fed}, specs.Keeping.{CanWait, IsKeeping, HasCome}, specs.Settling.{IsSettledBehind, IsFollowedBy, IsReady, ComesUp, SettlesOn, StaysKept, Tells}, specs.Ending.BrokeFirst, specs.OneMore.with_marks, specs.Walking.{how_of, given_by, records_of, clock_in, summary_in, IsBehind, KeepsPlace, Stays}};
+ghost use Rattle.record_stream.{specs.Feeding.{Follows, Delivers}, specs.Keeping.{CanWait, IsKeeping, HasCome}, specs.Settling.{IsSettledBehind, IsFollowedBy, IsReady, ComesUp, StaysKept, Tells}, specs.Ending.BrokeFirst, specs.OneMore.with_marks, specs.Walking.{how_of, given_by, records_of, clock_in, summary_in, IsBehind, KeepsPlace, WalksOn, Stays}};
 
 use crate::count::stops_late;
 use crate::taker::EventTaker;
@@ -64,13 +64,11 @@ fn settle_word<R: RecordLayout, S: EventTaker>(
 ) -> Result<(), Fault>
     requires meaning { R.meaning ≡ (how_of walk.old).meaning }
     requires ready { IsReady S.EventTaker walk.old settle.old taker.old }
-    ensures at { (words : List ℕ) → IsSettledBehind walk.old settle.old words
-        → OnOk result (IsSettledBehind walk.new settle.new (words ++ word ∷ [])) }
-    ensures fed { (words : List ℕ) → IsSettledBehind walk.old settle.old words
-        → Fed S.EventTaker (how_of walk.old) taker.old taker.new words
-        (words ++ word ∷ []) result }
-    ensures goes_on { OnOk result
-        (SettlesOn S.EventTaker walk.old walk.new settle.new taker.new 1) }
+    ensures delivers { Delivers S.EventTaker (how_of walk.old)
+        (IsSettledBehind walk.old settle.old) (IsSettledBehind walk.new settle.new)
+        taker.old taker.new (word ∷ []) result }
+    ensures goes_on { OnOk result (WalksOn S.EventTaker walk.old walk.new
+        (last_time settle.new) taker.new 1) }
     ensures stays { StaysKept S.EventTaker walk.old walk.new settle.new taker.old taker.new }
 {
     match walk.place_next::<R>(word)? {
@@ -89,13 +87,11 @@ pub(crate) fn settle_words<R: RecordLayout, S: EventTaker>(
 ) -> Result<(), Fault>
     requires meaning { R.meaning ≡ (how_of walk.old).meaning }
     requires ready { IsReady S.EventTaker walk.old settle.old taker.old }
-    ensures at { (before : List ℕ) → IsSettledBehind walk.old settle.old before
-        → OnOk result (IsSettledBehind walk.new settle.new (before ++ numbers words.now)) }
-    ensures fed { (before : List ℕ) → IsSettledBehind walk.old settle.old before
-        → Fed S.EventTaker (how_of walk.old) taker.old taker.new before
-        (before ++ numbers words.now) result }
-    ensures goes_on { OnOk result
-        (SettlesOn S.EventTaker walk.old walk.new settle.new taker.new (length words.now)) }
+    ensures delivers { Delivers S.EventTaker (how_of walk.old)
+        (IsSettledBehind walk.old settle.old) (IsSettledBehind walk.new settle.new)
+        taker.old taker.new (numbers words.now) result }
+    ensures goes_on { OnOk result (WalksOn S.EventTaker walk.old walk.new
+        (last_time settle.new) taker.new (length words.now)) }
     ensures stays { StaysKept S.EventTaker walk.old walk.new settle.new taker.old taker.new }
 {
     for word in words {

@@ -1,9 +1,9 @@
 // The words of a piece in blocks, where events are put in their places.
 ghost use Rattle.std.{specs.Prelude.{◌≡◌, ◌≢◌, ◌+◌, ◌<◌, ◌≤◌, ◌++◌, [], List, ℕ, false, length, OnOk}, specs.Option.{option_to_list}};
-ghost use Rattle.tally_base.{specs.declared.event.Event.Event, specs.declared.fault.Fault.TheVariants.WriteFault, specs.FaultCounts.FailsOnce, specs.Columns.{count, sorted, gathered, written}, specs.Floors.InOrder};
-ghost use Rattle.ptu_definitions.specs.Fours.{numbers};
+ghost use Rattle.tally_base.{specs.declared.event.Event.Event, specs.declared.fault.Fault.TheVariants.WriteFault, specs.FaultCounts.FailsOnce, specs.Columns.{count, sorted, gathered, written}, specs.Tally.InOrder};
+ghost use Rattle.ptu_definitions.specs.Words.{numbers};
 ghost use Rattle.abs_time.{specs.Placing.placed_by, specs.Floors.orders_markers};
-ghost use Rattle.record_stream.{specs.Blocks.{on_time, AllFit, PlacesRise}, specs.Feeding.{Follows, Fed}, specs.Keeping.IsKeeping, specs.LettingGo.{LetsGo, IsDelivered}, specs.Settling.{IsSettledBehind, IsReady, SettlesOn, StaysKept}, specs.Walking.{how_of, given_by, greatest_of, records_of, clock_in, summary_in, IsBlank}};
+ghost use Rattle.record_stream.{specs.Blocks.{on_time, AllFit, PlacesRise}, specs.Feeding.{Follows, Delivers}, specs.Keeping.IsKeeping, specs.LettingGo.{LetsGo, IsDelivered}, specs.Settling.{IsSettledBehind, IsReady, StaysKept}, specs.Walking.{how_of, given_by, greatest_of, records_of, clock_in, summary_in, WalksOn, IsBlank}};
 ghost use Rattle.settle.specs.Standing.{last_time};
 
 use crate::blocks::{EARLY_ENOUGH, gather};
@@ -56,13 +56,11 @@ fn settle_block<R: RecordLayout, S: EventTaker>(
     requires few { length words.now ≤ BLOCK_SIZE }
     requires meaning { R.meaning ≡ (how_of walk.old).meaning }
     requires ready { IsReady S.EventTaker walk.old settle.old taker.old }
-    ensures at { (before : List ℕ) → IsSettledBehind walk.old settle.old before
-        → OnOk result (IsSettledBehind walk.new settle.new (before ++ numbers words.now)) }
-    ensures fed { (before : List ℕ) → IsSettledBehind walk.old settle.old before
-        → Fed S.EventTaker (how_of walk.old) taker.old taker.new before
-        (before ++ numbers words.now) result }
-    ensures goes_on { OnOk result
-        (SettlesOn S.EventTaker walk.old walk.new settle.new taker.new (length words.now)) }
+    ensures delivers { Delivers S.EventTaker (how_of walk.old)
+        (IsSettledBehind walk.old settle.old) (IsSettledBehind walk.new settle.new)
+        taker.old taker.new (numbers words.now) result }
+    ensures goes_on { OnOk result (WalksOn S.EventTaker walk.old walk.new
+        (last_time settle.new) taker.new (length words.now)) }
     ensures stays { StaysKept S.EventTaker walk.old walk.new settle.new taker.old taker.new }
 {
     room.columns.fill::<R>(words);
@@ -104,13 +102,11 @@ pub(crate) fn settle_blocks<R: RecordLayout, S: EventTaker>(
 ) -> Result<(), Fault>
     requires meaning { R.meaning ≡ (how_of walk.old).meaning }
     requires ready { IsReady S.EventTaker walk.old settle.old taker.old }
-    ensures at { (before : List ℕ) → IsSettledBehind walk.old settle.old before
-        → OnOk result (IsSettledBehind walk.new settle.new (before ++ numbers words.now)) }
-    ensures fed { (before : List ℕ) → IsSettledBehind walk.old settle.old before
-        → Fed S.EventTaker (how_of walk.old) taker.old taker.new before
-        (before ++ numbers words.now) result }
-    ensures goes_on { OnOk result
-        (SettlesOn S.EventTaker walk.old walk.new settle.new taker.new (length words.now)) }
+    ensures delivers { Delivers S.EventTaker (how_of walk.old)
+        (IsSettledBehind walk.old settle.old) (IsSettledBehind walk.new settle.new)
+        taker.old taker.new (numbers words.now) result }
+    ensures goes_on { OnOk result (WalksOn S.EventTaker walk.old walk.new
+        (last_time settle.new) taker.new (length words.now)) }
     ensures stays { StaysKept S.EventTaker walk.old walk.new settle.new taker.old taker.new }
 {
     if words.len() < 2 {

@@ -1,8 +1,9 @@
 // A stream of records that comes in pieces.
-ghost use Rattle.std.{specs.Prelude.{◌≡◌, ◌+◌, ◌*◌, ◌<◌, ◌≤◌, ◌++◌, ◌∷◌, [], List, ℕ, length, None, Some, OnOk, OnErr, IfErr, ◌≢◌}, proofs.Props.{props}};
+ghost use Rattle.std.{specs.Prelude.{◌≡◌, ◌+◌, ◌*◌, ◌<◌, ◌≤◌, ◌++◌, ◌∷◌, [], List, ℕ, length, None, Some, OnOk, OnErr, IfErr, ◌≢◌, ◌&&◌, not, IsTrue, if◌then◌else◌, Err, false}, proofs.Props.props};
+ghost use Rattle.abs_time.{proofs.Floors.kind_fits-prop, specs.Placing.IsSmall};
+ghost use Rattle.tally_base.{specs.Limits.record_limit, specs.declared.fault.Fault.Fault, specs.declared.fault.Fault.TheVariants.WriteFault, specs.FaultCounts.{FailsOnce, Rose}, specs.Events.is_ordered, specs.Faults.{is_outside, fault_in}};
+ghost use Rattle.ptu_definitions.{specs.Kept.Marked, specs.Streams.{reading, streamed}, specs.Layouts.Fits, specs.Words.numbers, specs.Headers.Shows};
 ghost use Rattle.record_stream.specs.Keeping.{IsKeeping};
-ghost use Rattle.abs_time.proofs.Props.{kind_fits-prop};
-ghost use Rattle.tally_base.specs.Limits.{record_limit};
 
 use crate::blocks::take_words;
 use crate::count::Sums;
@@ -36,11 +37,7 @@ pub struct RecordStream {
 }
 
 impl RecordStream {
-    ghost use Rattle.std.specs.Prelude.{◌&&◌, not, IsTrue, if◌then◌else◌, Err, false};
-    ghost use Rattle.tally_base.{specs.declared.fault.Fault.Fault, specs.declared.fault.Fault.TheVariants.WriteFault, specs.FaultCounts.{FailsOnce, Rose}, specs.Events.is_ordered, specs.Faults.{is_outside, fault_in}};
-    ghost use Rattle.ptu_definitions.{specs.Kept.Marked, specs.Streams.{reading, streamed}, specs.Fitting.Fits, specs.Fours.numbers, specs.Shown.Shows};
-    ghost use Rattle.abs_time.specs.Placing.{IsSmall};
-    ghost use Rattle.record_stream.{specs.OneMore.with_event, specs.Feeding.{Follows, Fed, FedPiece}, specs.Standing.{how_of, given_by, greatest_of, refused_with, carried_by, kept_back_by, records_of, bytes_in, summary_in, clock_in, IsBehind, CarriesOn, HasStreamed, IsFollowed, StreamsOn, Stays}, specs.Ending.Ended};
+    ghost use Rattle.record_stream.{specs.OneMore.with_event, specs.Feeding.{Follows, Delivers, FedPiece}, specs.Standing.{how_of, given_by, greatest_of, refused_with, carried_by, kept_back_by, records_of, bytes_in, summary_in, clock_in, IsBehind, CarriesOn, HasStreamed, IsFollowed, StreamsOn, Stays}, specs.Ending.Ended};
 
     /// The stream of a file of this type, which was given no bytes. The greatest number of records is 1
     /// to 2^40, and at most 64 events may overtake one.
@@ -120,11 +117,8 @@ impl RecordStream {
     ) -> Result<(), Fault>
         requires meaning { R.meaning ≡ (how_of self.old).meaning }
         requires follows { IsFollowed S.EventTaker self.old taker.old }
-        ensures at { (before : List ℕ) → IsBehind self.old before
-            → OnOk result (IsBehind self.new (before ++ numbers words.now)) }
-        ensures fed { (before : List ℕ) → IsBehind self.old before
-            → Fed S.EventTaker (how_of self.old) taker.old taker.new before
-            (before ++ numbers words.now) result }
+        ensures delivers { Delivers S.EventTaker (how_of self.old) (IsBehind self.old)
+            (IsBehind self.new) taker.old taker.new (numbers words.now) result }
         ensures goes_on { OnOk result
             (StreamsOn S.EventTaker self.old self.new taker.new (4 * length words.now)) }
         ensures carried { carried_by self.new ≡ carried_by self.old }

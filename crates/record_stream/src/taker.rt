@@ -1,7 +1,7 @@
 // What events are given to.
 ghost use Rattle.std.specs.Prelude.{◌≡◌, ℕ, ◌+◌, ◌<◌, ◌≤◌, ◌&&◌, not, IsTrue, [], ◌∷◌, ◌++◌, length, OnOk, OnErr, max};
-ghost use Rattle.tally_base.{specs.declared.header.Mode.Mode, specs.FaultCounts.FailsOnce, specs.Events.is_ordered, specs.Limits.{record_limit, time_limit}, specs.Columns.{sorted, gathered}, specs.Floors.{floor_after, InOrder}};
-ghost use Rattle.ptu_definitions.{specs.Fitting.KindFits, specs.Kept.{Marked, floor_of}};
+ghost use Rattle.tally_base.{specs.declared.header.Mode.Mode, specs.FaultCounts.FailsOnce, specs.Events.is_ordered, specs.Limits.{record_limit, time_limit}, specs.Columns.{sorted, gathered}, specs.Tally.{floor_after, InOrder}};
+ghost use Rattle.ptu_definitions.{specs.Layouts.KindFits, specs.Kept.{Marked, floor_of}};
 ghost use Rattle.abs_time.specs.Floors.{moved_floor, orders_markers};
 ghost use Rattle.record_stream.specs.Blocks.{on_time, AllFit, BrokeAmong};
 

@@ -1,7 +1,8 @@
 // The records of a stream, one behind the other.
-ghost use Rattle.std.specs.Prelude.{◌≡◌, ◌+◌, ◌*◌, ◌<◌, ◌≤◌, ◌++◌, ◌∷◌, [], List, ℕ, length, Some, OnOk, OnErr, IfOk, IfErr};
-ghost use Rattle.abs_time.{specs.Placing.mode_of as clock_mode, specs.Placing.placed_by};
-ghost use Rattle.tally_base.{specs.RecordTypes.mode_of, specs.Limits.record_limit};
+ghost use Rattle.std.specs.Prelude.{◌≡◌, ◌+◌, ◌*◌, ◌<◌, ◌≤◌, ◌++◌, ◌∷◌, [], List, ℕ, length, Some, OnOk, OnErr, IfOk, IfErr, ◌&&◌, not, IsTrue};
+ghost use Rattle.abs_time.{specs.Placing.{mode_of as clock_mode, placed_by, IsSmall}, specs.Floors.moved_floor};
+ghost use Rattle.tally_base.{specs.RecordTypes.mode_of, specs.Limits.record_limit, specs.declared.fault.Fault.TheVariants.WriteFault, specs.FaultCounts.FailsOnce, specs.Events.is_ordered};
+ghost use Rattle.ptu_definitions.{specs.Kept.Marked, specs.Layouts.Fits, specs.Words.numbers, specs.Streams.refusal};
 
 use crate::count::{Sums, add_event, add_raw, stops_at, stops_late};
 use crate::taker::EventTaker;
@@ -28,11 +29,7 @@ pub struct Walk {
 }
 
 impl Walk {
-    ghost use Rattle.std.specs.Prelude.{◌&&◌, not, IsTrue};
-    ghost use Rattle.tally_base.{specs.declared.fault.Fault.TheVariants.WriteFault, specs.FaultCounts.FailsOnce, specs.Events.is_ordered};
-    ghost use Rattle.ptu_definitions.{specs.Kept.Marked, specs.Fitting.Fits, specs.Fours.numbers, specs.Streams.refusal};
-    ghost use Rattle.abs_time.{specs.Placing.IsSmall, specs.Floors.moved_floor};
-    ghost use Rattle.record_stream.{specs.OneMore.with_event, specs.Feeding.{Follows, Fed}, specs.Walking.{how_of, given_by, greatest_of, records_of, KeepsPlace, IsBehind, IsReady, CanGive, Gave, WalksOn, Stays}, specs.Recorded.{IsPlaced, CountsOne, KeepsGiven}};
+    ghost use Rattle.record_stream.{specs.OneMore.with_event, specs.Feeding.{Follows, Delivers}, specs.Walking.{how_of, given_by, greatest_of, records_of, KeepsPlace, IsBehind, IsReady, CanGive, Gave, WalksOn, Stays}, specs.Rows.{IsPlaced, CountsOne, KeepsGiven}};
 
     /// What a word means.
     #[inline(always)]
@@ -80,13 +77,10 @@ impl Walk {
     ) -> Result<(), Fault>
         requires meaning { R.meaning ≡ (how_of self.old).meaning }
         requires ready { IsReady S.EventTaker self.old taker.old }
-        ensures at { (words : List ℕ) → IsBehind self.old words
-            → OnOk result (IsBehind self.new (words ++ word ∷ [])) }
-        ensures fed { (words : List ℕ) → IsBehind self.old words
-            → Fed S.EventTaker (how_of self.old) taker.old taker.new words
-            (words ++ word ∷ []) result }
-        ensures goes_on { OnOk result
-            (WalksOn S.EventTaker self.old self.new taker.new 1) }
+        ensures delivers { Delivers S.EventTaker (how_of self.old) (IsBehind self.old)
+            (IsBehind self.new) taker.old taker.new (word ∷ []) result }
+        ensures goes_on { OnOk result (WalksOn S.EventTaker self.old self.new
+            (greatest_of self.new) taker.new 1) }
         ensures stays { Stays S.EventTaker self.old self.new taker.old taker.new }
     {
         match self.place_next::<R>(word)? {
@@ -139,13 +133,10 @@ impl Walk {
     ) -> Result<(), Fault>
         requires meaning { R.meaning ≡ (how_of self.old).meaning }
         requires ready { IsReady S.EventTaker self.old taker.old }
-        ensures at { (before : List ℕ) → IsBehind self.old before
-            → OnOk result (IsBehind self.new (before ++ numbers words.now)) }
-        ensures fed { (before : List ℕ) → IsBehind self.old before
-            → Fed S.EventTaker (how_of self.old) taker.old taker.new before
-            (before ++ numbers words.now) result }
-        ensures goes_on { OnOk result
-            (WalksOn S.EventTaker self.old self.new taker.new (length words.now)) }
+        ensures delivers { Delivers S.EventTaker (how_of self.old) (IsBehind self.old)
+            (IsBehind self.new) taker.old taker.new (numbers words.now) result }
+        ensures goes_on { OnOk result (WalksOn S.EventTaker self.old self.new
+            (greatest_of self.new) taker.new (length words.now)) }
         ensures stays { Stays S.EventTaker self.old self.new taker.old taker.new }
     {
         // A copy, whose fields the loop keeps in registers. After a refusal no field is read again.

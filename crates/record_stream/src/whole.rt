@@ -2,7 +2,7 @@
 ghost use Rattle.std.{specs.Prelude.{◌≡◌, ◌%◌, ◌^◌, ◌<◌, ◌≤◌, ℕ, length, map}, specs.List.{range_with_len}};
 ghost use Rattle.tally_base.specs.Columns.{count, sorted, written};
 ghost use Rattle.record_layout.{specs.InColumns.HasRows, specs.InClose.{code_at, time_at}};
-ghost use Rattle.record_stream.{specs.Whole.{IsWhole, close_event, last_below}, specs.Walking.{how_of, Gathers, IsBlank, LetsPass}};
+ghost use Rattle.record_stream.{specs.Whole.{close_event, last_below}, specs.Walking.{how_of, Gathers, IsBlank, LetsPass}};
 
 use crate::blocks::{Ahead, gathered_below, ordered_below};
 use crate::walk::Walk;
@@ -44,7 +44,8 @@ fn last_time<R: RecordLayout>(close: &Close, len: usize, ordered: u16, base: u64
 }
 
 /// The same as `gather` of a whole block, several records at once. It may also say that an event is late where none
-/// is: behind a time that is longer than a wrap, at or behind a marker of T2 out of order, or at a reserved record.
+/// is: if the last one is at 2^63 or later, behind a time that is longer than a wrap, at or behind a marker of T2 out of
+/// order, or at a reserved record.
 #[inline(never)]
 pub(crate) fn gather_whole<R: RecordLayout>(
     walk: &Walk,
@@ -56,7 +57,7 @@ pub(crate) fn gather_whole<R: RecordLayout>(
 ) -> Ahead
     requires meaning { R.meaning ≡ (how_of walk.now).meaning }
     requires rows { HasRows R.meaning R.UNIT columns.old words.now }
-    requires whole { IsWhole walk.now words.now }
+    requires whole { length words.now ≡ BLOCK_SIZE }
     requires passes { LetsPass walk.now R.meaning words.now }
     ensures gathers { Gathers walk.now words.now only_ordered result.in_order result.base
         result.greatest (written block.new result.len) }

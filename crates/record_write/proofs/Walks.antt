@@ -1,7 +1,7 @@
 -- An induction over the words of photons: wrap by wrap, and photon by photon.
-use Rattle.std.{proofs.Common.{◌≡◌, ◌+◌, ◌-◌, ◌*◌, ◌/◌, ◌%◌, ◌^◌, ◌<◌, ◌≤◌, ℕ, zero, suc, Bool, true, false, List, [], ◌∷◌, ◌++◌, length, map, replicate, refl, ap, ◌∙◌, arith, append_assoc, append-nil, ◌==◌, if◌then◌else◌}, specs.List.AllByRecursion, proofs.lemmas.Nat.mod_below, proofs.lemmas.Bool.eqb-true, proofs.lemmas.List.map_push, proofs.lemmas.List.Sums.sum_by_push}
-use Rattle.tally_base.{specs.declared.event.Event.Event, specs.declared.event.EventKind.EventKind, specs.declared.event.EventKind.TheVariants.Photon as PhotonEvent, specs.declared.event.EventKind.TheVariants.Marker as MarkerEvent, specs.declared.header.Mode.Mode, specs.declared.header.Mode.TheVariants.{T2, T3}, specs.Events.is_photon_kind}
-use Rattle.ptu_definitions.{specs.declared.records.Raw.Raw, specs.declared.records.Raw.TheVariants.{Photon, Wrap}, specs.Fitting.KindFits, specs.Kept.{greatest, ordered_time}, specs.Prefixes.each_after, specs.Settled.Rises, specs.Times.{amount, base, events}, proofs.PrefixLemmas.last_after-push, proofs.StreamLemmas.{events-push, greatest-push}}
+use Rattle.std.{proofs.Common.{◌≡◌, ◌+◌, ◌-◌, ◌*◌, ◌/◌, ◌%◌, ◌^◌, ◌<◌, ◌≤◌, ℕ, zero, suc, Bool, true, false, List, [], ◌∷◌, ◌++◌, length, map, replicate, refl, ap, ◌∙◌, arith, append_assoc, append-nil, ◌==◌, if◌then◌else◌, rules}, specs.List.AllByRecursion, proofs.lemmas.Nat.mod_below, proofs.lemmas.Bool.eqb-true, proofs.lemmas.List.map_push, proofs.lemmas.List.Sums.sum_by_push}
+use Rattle.tally_base.{specs.declared.event.Event.Event, specs.declared.event.EventKind.EventKind, specs.declared.event.EventKind.TheVariants.Photon as PhotonEvent, specs.declared.event.EventKind.TheVariants.Marker as MarkerEvent, specs.declared.header.Mode.Mode, specs.Events.is_photon_kind}
+use Rattle.ptu_definitions.{specs.declared.records.Raw.Raw, specs.declared.records.Raw.TheVariants.{Photon}, specs.Layouts.KindFits, specs.Kept.{greatest, ordered_time}, specs.Prefixes.each_after, specs.Settled.Rises, specs.Times.{amount, base, events}, proofs.PrefixLemmas.last_after-push, proofs.StreamLemmas.{events-push, greatest-push}}
 use Rattle.record_write.{specs.Picked.{unit_of, wrap_word, wraps, photon_word, own_word, time_or_none, last_time, photon_words, is_too_late, IsPhotonOf, meaning_in}, proofs.Meanings.{wrap-meaning, photon-meaning, units-lead, unit-time, unit-in-time, unit-some}}
 
 abbrev pub records_of : Mode → List ℕ → List Raw
@@ -16,7 +16,8 @@ pub record Walks (mode : Mode) (C : List ℕ → List ℕ → List Event → Typ
   pub wrap : (before : List ℕ) (units : ℕ) (words : List ℕ) (photons : List Event) → 0 < units → units < unit_of mode
       → base (records_of mode before) + unit_of mode * units ≤ 2 ^ 62
       → C (before ++ wrap_word units ∷ []) words photons → C before (wrap_word units ∷ words) photons
-  pub photon : (before : List ℕ) (e : Event) (input dtime : ℕ) (words : List ℕ) (photons : List Event) → e.kind ≡ PhotonEvent input dtime → KindFits mode (PhotonEvent input dtime)
+  pub photon : (before : List ℕ) (e : Event) (input dtime : ℕ) (words : List ℕ) (photons : List Event)
+      → e.kind ≡ PhotonEvent input dtime → KindFits mode (PhotonEvent input dtime)
       → base (records_of mode before) + e.time % unit_of mode ≡ e.time → greatest mode (events (records_of mode before)) ≤ e.time
       → C (before ++ photon_word mode input dtime e.time ∷ []) words photons → C before (photon_word mode input dtime e.time ∷ words) (e ∷ photons)
 
@@ -25,25 +26,15 @@ pub record IsAt (mode : Mode) (before : List ℕ) (sum top : ℕ) : Type 0 where
   pub base : base (records_of mode before) ≡ sum
   pub greatest : greatest mode (events (records_of mode before)) ≤ top
 
-pub at-wrap : (mode : Mode) (before : List ℕ) (sum top units : ℕ) → IsAt mode before sum top → 0 < units → units < unit_of mode → IsAt mode (before ++ wrap_word units ∷ []) (sum + unit_of mode * units) top
-at-wrap mode before sum top units is some few =
-    let raw = wrap-meaning mode units some few in
-    let records = records_of mode before in
-    let more : base (records ++ Wrap (unit_of mode * units) ∷ []) ≡ base records + unit_of mode * units = sum_by_push amount records (Wrap (unit_of mode * units)) in
-    let same : events (records ++ Wrap (unit_of mode * units) ∷ []) ≡ events records = events-push records (Wrap (unit_of mode * units)) ∙ append-nil (events records) in
-    let is_base = is.base in
-    let low = is.greatest in
-    let pushed : records_of mode (before ++ wrap_word units ∷ []) ≡ records ++ Wrap (unit_of mode * units) ∷ [] = map_push (meaning_in mode) before (wrap_word units) ∙ ap (λ r. records ++ r ∷ []) raw in
-    record {
-      base = rw pushed (more ∙ ap (λ n. n + unit_of mode * units) is_base);
-      greatest = rw (pushed, same) low;
-    }
+pub at-wrap : (mode : Mode) (before : List ℕ) (sum top units : ℕ) → IsAt mode before sum top → 0 < units
+    → units < unit_of mode → IsAt mode (before ++ wrap_word units ∷ []) (sum + unit_of mode * units) top
+at-wrap mode before sum top units is some few = search (rules, arith, wrap-meaning, sum_by_push, events-push, append-nil, map_push)
 
 ordered-photon : (mode : Mode) (place input dtime time : ℕ) → ordered_time mode (record { place = place; kind = PhotonEvent input dtime; time = time }) ≡ time
-ordered-photon T2 place input dtime time = refl
-ordered-photon T3 place input dtime time = refl
+ordered-photon mode place input dtime time = search (rules, arith)
 
-pub at-photon : (mode : Mode) (before : List ℕ) (sum top input dtime time : ℕ) → IsAt mode before sum top → KindFits mode (PhotonEvent input dtime) → sum + time % unit_of mode ≡ time → top ≤ time
+pub at-photon : (mode : Mode) (before : List ℕ) (sum top input dtime time : ℕ) → IsAt mode before sum top
+    → KindFits mode (PhotonEvent input dtime) → sum + time % unit_of mode ≡ time → top ≤ time
     → IsAt mode (before ++ photon_word mode input dtime time ∷ []) sum time
 at-photon mode before sum top input dtime time is fits here late =
     let raw = photon-meaning mode input dtime time fits in
@@ -54,39 +45,42 @@ at-photon mode before sum top input dtime time is fits here late =
     let low = is.greatest in
     let at : base records + time % unit_of mode ≡ time = ap (λ n. n + time % unit_of mode) is_base ∙ here in
     let next = events-push records photon in
-    let top_is = greatest-push mode (events records) (record { place = length records + 1; kind = PhotonEvent input dtime; time = base records + time % unit_of mode }) in
-    let pushed : records_of mode (before ++ photon_word mode input dtime time ∷ []) ≡ records ++ photon ∷ [] = map_push (meaning_in mode) before (photon_word mode input dtime time) ∙ ap (λ r. records ++ r ∷ []) raw in
+    let top_is = greatest-push mode (events records)
+    (record { place = length records + 1; kind = PhotonEvent input dtime; time = base records + time % unit_of mode }) in
+    let pushed : records_of mode (before ++ photon_word mode input dtime time ∷ []) ≡ records ++ photon ∷ [] =
+    map_push (meaning_in mode) before (photon_word mode input dtime time) ∙ ap (λ r. records ++ r ∷ []) raw in
     record {
       base = rw pushed (more ∙ omega (arith, is_base));
       greatest = rw (pushed, next, top_is, ordered-photon mode) (omega (arith, low, at, late));
     }
 
 -- so many wraps of as many units each
-copies : (mode : Mode) (C : List ℕ → List ℕ → List Event → Type 0) → Walks mode C → (count units : ℕ) (before more : List ℕ) (photons : List Event) (sum top : ℕ) → 0 < units → units < unit_of mode → IsAt mode before sum top
+copies : (mode : Mode) (C : List ℕ → List ℕ → List Event → Type 0) → Walks mode C
+    → (count units : ℕ) (before more : List ℕ) (photons : List Event) (sum top : ℕ) → 0 < units → units < unit_of mode → IsAt mode before sum top
     → sum + count * (unit_of mode * units) ≤ 2 ^ 62 → ((longer : List ℕ) → IsAt mode longer (sum + count * (unit_of mode * units)) top → C longer more photons)
     → C before (replicate count (wrap_word units) ++ more) photons
-copies mode C walks zero units before more photons sum top some few is room go = go before (let same : sum + 0 * (unit_of mode * units) ≡ sum = omega arith in rw same is)
+copies mode C walks zero units before more photons sum top some few is room go = search (rules, arith)
 copies mode C walks (suc n) units before more photons sum top some few is room go =
     let step = unit_of mode * units in
     let all : (sum + step) + n * step ≡ sum + suc n * step = omega arith in
     let is_base = is.base in
     walks.wrap before units (replicate n (wrap_word units) ++ more) photons some few (omega (arith, is_base, room))
-    (copies mode C walks n units (before ++ wrap_word units ∷ []) more photons (sum + step) top some few (at-wrap mode before sum top units is some few) (omega (arith, all, room)) (rw all go))
+    (copies mode C walks n units (before ++ wrap_word units ∷ []) more photons (sum + step) top some few
+    (at-wrap mode before sum top units is some few) (omega (arith, all, room)) (rw all go))
 
 one_left : (mode : Mode) (C : List ℕ → List ℕ → List Event → Type 0) → Walks mode C → (left : ℕ) (none : Bool) (before more : List ℕ) (photons : List Event) (sum top : ℕ) → (left == 0) ≡ none → left < unit_of mode → IsAt mode before sum top
     → sum + unit_of mode * left ≤ 2 ^ 62 → ((longer : List ℕ) → IsAt mode longer (sum + unit_of mode * left) top → C longer more photons)
     → C before ((if none then [] else wrap_word left ∷ []) ++ more) photons
-one_left mode C walks left true before more photons sum top none few is room go =
-    let zero_left : left ≡ 0 = eqb-true left 0 none in
-    let same : sum + unit_of mode * left ≡ sum = rw zero_left (omega arith) in
-    go before (rw same is)
+one_left mode C walks left true before more photons sum top none few is room go = search (rules, arith, eqb-true)
 one_left mode C walks zero false before more photons sum top none few is room go = cc
 one_left mode C walks (suc n) false before more photons sum top none few is room go =
     let is_base = is.base in
-    walks.wrap before (suc n) more photons (omega arith) few (omega (arith, is_base, room)) (go (before ++ wrap_word (suc n) ∷ []) (at-wrap mode before sum top (suc n) is (omega arith) few))
+    walks.wrap before (suc n) more photons (omega arith) few (omega (arith, is_base, room))
+    (go (before ++ wrap_word (suc n) ∷ []) (at-wrap mode before sum top (suc n) is (omega arith) few))
 
 -- the wraps of so many units
-all-wraps : (mode : Mode) (C : List ℕ → List ℕ → List Event → Type 0) → Walks mode C → (most units : ℕ) (before more : List ℕ) (photons : List Event) (sum top : ℕ) → 0 < most → most < unit_of mode → IsAt mode before sum top
+all-wraps : (mode : Mode) (C : List ℕ → List ℕ → List Event → Type 0) → Walks mode C
+    → (most units : ℕ) (before more : List ℕ) (photons : List Event) (sum top : ℕ) → 0 < most → most < unit_of mode → IsAt mode before sum top
     → sum + units * unit_of mode ≤ 2 ^ 62 → ((longer : List ℕ) → IsAt mode longer (sum + units * unit_of mode) top → C longer more photons)
     → C before (wraps most units ++ more) photons
 all-wraps mode C walks most units before more photons sum top some few is room go =
@@ -112,8 +106,10 @@ own mode C walks (PhotonEvent input dtime) before more e photons sum top same ph
     walks.photon before e input dtime more photons same fits (ap (λ n. n + e.time % unit_of mode) is_base ∙ here) (omega (arith, low, late))
     (go (before ++ photon_word mode input dtime e.time ∷ []) (at-photon mode before sum top input dtime e.time is fits here late))
 
-pub walk : (mode : Mode) (C : List ℕ → List ℕ → List Event → Type 0) → Walks mode C → (behind : List Event) (last : ℕ) (before : List ℕ) (photons : List Event) → last_time behind ≡ last
-    → IsAt mode before (last / unit_of mode * unit_of mode) last → Rises last photons → AllByRecursion (IsPhotonOf mode) photons → AllByRecursion (λ e. is_too_late mode e.time ≡ false) photons
+pub walk : (mode : Mode) (C : List ℕ → List ℕ → List Event → Type 0) → Walks mode C
+    → (behind : List Event) (last : ℕ) (before : List ℕ) (photons : List Event) → last_time behind ≡ last
+    → IsAt mode before (last / unit_of mode * unit_of mode) last → Rises last photons
+    → AllByRecursion (IsPhotonOf mode) photons → AllByRecursion (λ e. is_too_late mode e.time ≡ false) photons
     → C before (each_after (photon_words mode) behind photons) photons
 walk mode C walks behind last before [] is_last is rises are soon = walks.none before
 walk mode C walks behind last before (e ∷ photons) is_last is rises are soon =

@@ -1,8 +1,8 @@
 // Writes photons one after another.
-ghost use Rattle.std.{specs.Prelude.{◌≡◌, ◌≤◌, ◌↔◌, ◌++◌, ◌∷◌, [], List, Err, true, false, OnOk, OnErr, IfErr}, specs.Io.KnownBytes.{Appends}};
+ghost use Rattle.std.{specs.Prelude.{◌≡◌, ◌≤◌, ◌↔◌, ◌++◌, ◌∷◌, [], List, Err, true, false, OnOk, OnErr, IfErr}, specs.Io.KnownBytes.Appends};
 ghost use Rattle.tally_base.{specs.declared.event.Event.Event, specs.declared.fault.Fault.TheVariants.{PickTime, WriteFault}, specs.Events.is_photon, specs.FaultCounts.FailsOnce};
 ghost use Rattle.bench_io.specs.Sinks.{AppendsShort};
-ghost use Rattle.ptu_definitions.specs.Fitting.{KindFits};
+ghost use Rattle.ptu_definitions.specs.Layouts.{KindFits};
 ghost use Rattle.short_file.specs.ShortFiles.{bytes_in, short_header};
 ghost use Rattle.record_write.{specs.Picked.is_too_late, specs.Writing.{PutsOrCuts, WritesOrCuts, PickCause}};
 

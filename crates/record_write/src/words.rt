@@ -1,7 +1,7 @@
 // The words of photons, put into a block on the way to a sink.
 ghost use Rattle.std.specs.Prelude.{◌≡◌, ◌-◌, ◌/◌, ◌<◌, ◌≤◌, ◌∷◌, [], replicate, OnOk, OnErr};
 ghost use Rattle.tally_base.{specs.declared.event.EventKind.TheVariants.{Photon}, specs.FaultCounts.FailsOnce};
-ghost use Rattle.ptu_definitions.specs.Fitting.{KindFits};
+ghost use Rattle.ptu_definitions.specs.Layouts.{KindFits};
 ghost use Rattle.record_write.{specs.Picked.{is_too_late, unit_of, wraps, photon_word, words_behind}, specs.Writing.{PutsWords, CutsWords}};
 
 use bench_io::{Block, Sink};

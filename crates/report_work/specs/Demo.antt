@@ -1,9 +1,9 @@
 -- What `demo` counts, and its report.
 use Rattle.std.specs.Prelude.{ℕ, List, [], ◌∷◌, codes}
 use Rattle.tally_base.{specs.declared.event.Order.TheVariants.Drop, specs.declared.event.OnReserved.TheVariants.Skip, specs.Settings.PartSettings.{TraceSettings, StartStopSettings, CoincidenceSettings, CorrelationSettings}}
-use Rattle.ptu_definitions.{specs.Counted.record_limit, specs.Streams.{Reading, summary}}
+use Rattle.ptu_definitions.{specs.Words.record_limit, specs.Streams.{Reading, summary}}
 use Rattle.plan_text.specs.Plan.{PlanView, parts_of}
-use Rattle.gate_plan.{specs.Shifting.sorting, specs.Histories.history, specs.Plans.reading_by}
+use Rattle.gate_plan.{specs.Shifting.sorting, specs.Histories.{history, reading_by}}
 use Rattle.table_out.specs.Report.{report, with_events}
 use Rattle.ptu_made.{specs.Generator.made_words, specs.Records.made_header}
 

@@ -1,4 +1,3 @@
 pub mod Reports
-pub mod RunPieces
 pub mod RunLaws
 pub mod Demo

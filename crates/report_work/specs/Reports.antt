@@ -1,11 +1,12 @@
 -- What running a plan over a file reports.
-use Rattle.std.{specs.Prelude.{ℕ, ◌≡◌, List, None, Result, Ok, Err}, specs.declared.option.Option.Option}
+use Rattle.std.{specs.Prelude.{ℕ, ◌≡◌, List, None, Result, Ok, Err, ◌<◌, [], length}, specs.declared.option.Option.Option}
 use Rattle.tally_base.{specs.declared.fault.Fault.Fault, specs.declared.header.Header.Header, specs.RecordTypes.mode_of, specs.Faults.fault_in}
-use Rattle.ptu_definitions.{specs.declared.records.Summary.Summary, specs.Headers.header_answer, specs.Words.words_of, specs.Streams.streamed}
+use Rattle.ptu_definitions.{specs.declared.records.Summary.Summary, specs.Headers.header_answer, specs.Words.words_of, specs.Streams.{streamed, record_refusal}}
 use Rattle.plan_text.{specs.Plan.{PlanView, parts_of}, specs.Fits.fits}
-use Rattle.gate_plan.{specs.Shifting.sorting, specs.Histories.history, specs.Plans.reading_by}
+use Rattle.gate_plan.{specs.Shifting.sorting, specs.Histories.{history, reading_by}}
 use Rattle.table_out.specs.Report.{report, with_events}
-use Rattle.command_work.{specs.Outcomes.{Outcome, refused, written, MayChange}, specs.Behaviours.{Work, AreRead, IsHeaded}}
+use Rattle.command_work.{specs.Outcomes.{Outcome, refused, written, MayChange}, specs.Behaviours.{Work, AreRead, IsHeaded}, specs.Tellings.{Telling, unless_declined}}
+use Rattle.tally_engine.{specs.declared.engine.Engine.Engine, specs.Engine.{HasFed, header_of, refused_by, IsFor}}
 
 -- the report of the records behind a header, where none is refused
 abbrev pub report_of : PlanView → Header → List ℕ → Result Summary Fault → Result (List ℕ) Fault
@@ -39,3 +40,33 @@ reporting plan = record {
   goes_on = λ bytes. MayChange (fault_in (file_report plan bytes));
   good = IsHeaded (λ header behind. (fits (mode_of header.record_type) plan ≡ Ok (tt {0})) × AreRead (reading_by plan header) behind);
 }
+
+-- What is made of the bytes after a header, where a plan's tables count.
+
+-- The name and the parts of a blank ledger are those of its type, and it has some parts.
+pub record IsLedger (name parts its_name its_parts : ℕ) : Type 0 where
+  pub same_name : name ≡ its_name
+  pub same_parts : parts ≡ its_parts
+  pub some : 0 < parts
+
+-- the report at their end
+abbrev pub reports : PlanView → Header → Telling
+reports plan header = record {
+  text = λ bytes. [];
+  ends = λ bytes. report_outcome (report_of plan header bytes (streamed (reading_by plan header) bytes));
+  refuses = λ bytes. record_refusal (reading_by plan header) (words_of bytes);
+}
+
+-- where the plan's parts suit the file
+abbrev pub reports_by : PlanView → Header → Telling
+reports_by plan header = unless_declined (fault_in (fits (mode_of header.record_type) plan)) (reports plan header)
+
+-- Memory may be wanting after a header: the plan has a table, and its parts suit the file.
+abbrev pub MayWant : PlanView → Header → Type 0
+MayWant plan header = (0 < length (parts_of plan)) × (fits (mode_of header.record_type) plan ≡ Ok (tt {0}))
+
+-- An engine of the plan was given these bytes and refused none.
+pub record CountsBy (plan : PlanView) (engine : Engine) (bytes : List ℕ) : Type 0 where
+  pub is : IsFor engine plan (header_of engine)
+  pub going : refused_by engine ≡ None
+  pub fed : HasFed engine bytes

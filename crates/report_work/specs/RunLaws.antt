@@ -1,17 +1,17 @@
 -- What holds of the report of bytes that grow.
-use Rattle.std.{proofs.Common.{◌≡◌, ◌∙◌, ℕ, List, [], ◌++◌, None, Some, Ok, Err, refl, sym, ap, Result}, specs.declared.option.Option.Option}
-use Rattle.tally_base.{specs.declared.fault.Fault.Fault, specs.declared.header.Header.Header, specs.RecordTypes.mode_of, specs.Faults.{is_outside, fault_in}}
+use Rattle.std.{proofs.Common.{◌≡◌, ◌∙◌, ℕ, List, [], ◌++◌, None, Ok, Err, refl, sym, ap, Result}, specs.declared.option.Option.Option}
+use Rattle.tally_base.{specs.declared.fault.Fault.Fault, specs.declared.header.Header.Header, specs.RecordTypes.mode_of, specs.Faults.{fault_in}}
 use Rattle.bench_io.specs.Sinks.{AppendsShort}
 use Rattle.ptu_definitions.{specs.declared.records.Summary.Summary, specs.Headers.header_answer, specs.Streams.{record_refusal, streamed}, specs.Words.words_of, proofs.Firsts.{record_refusal-inside, streamed-inside}}
 use Rattle.plan_text.{specs.Plan.PlanView, specs.Fits.fits}
 use Rattle.record_stream.proofs.Lasts.{streamed-shown, streamed-clear}
 use Rattle.tally_engine.{specs.declared.engine.Engine.Engine, specs.Engine.header_of}
-use Rattle.gate_plan.specs.Plans.{reading_by}
-use Rattle.command_work.{specs.Outcomes.{Outcome, MayChange}, specs.Behaviours.{AtEnd, ForTables}, specs.Endings.{Cuts, WantsBehind}, specs.Tellings.{IsText, Suits, headed_end, headed_text, HeadedGoes, unless_declined}, proofs.TellingLaws.{AppendsShort-none, fits-law}, proofs.Streams.streamed-open}
-use Rattle.report_work.{specs.Reports.{report_of, if_fits, report_behind, file_report, report_outcome, reporting}, specs.RunPieces.{reports, reports_by, MayWant, CountsBy}}
+use Rattle.gate_plan.specs.Histories.{reading_by}
+use Rattle.command_work.{specs.Outcomes.MayChange, specs.Behaviours.{AtEnd, ForTables}, specs.Endings.{Cuts, WantsBehind}, specs.Tellings.{IsText, Suits}, proofs.RestEnds.{AppendsShort-none, fits-law, ends-headed, text-headed, goes-headed, ends-fit, text-fit, goes-fit, streamed-open}}
+use Rattle.report_work.specs.Reports.{report_of, if_fits, report_behind, file_report, report_outcome, reporting, reports, reports_by, MayWant, CountsBy}
 
 module _ (plan : PlanView) (header : Header) (bytes : List ℕ) where
-  ends-fault : (r : Result Summary Fault) → (report_outcome (report_of plan header bytes r)).fault ≡ fault_in r
+  pub ends-fault : (r : Result Summary Fault) → (report_outcome (report_of plan header bytes r)).fault ≡ fault_in r
   ends-fault (Ok summary) = refl
   ends-fault (Err fault) = refl
 
@@ -36,36 +36,22 @@ cuts old new (Ok text) short = (refl, short)
 cuts old new (Err fault) short = absurd (AppendsShort-none old new short)
 
 module _ (plan : PlanView) where
-  ends : (answer : Result (Header × List ℕ) Fault) → report_outcome (report_behind plan answer) ≡ headed_end (reports_by plan) answer
-  ends (Err fault) = refl
-  ends (Ok found) = by (fits (mode_of found.0.record_type) plan)
-    where
-      by : (r : Result (Unit {0}) Fault) → report_outcome (if_fits plan found.0 found.1 r) ≡ (unless_declined (fault_in r) (reports plan found.0)).ends found.1
-      by (Ok done) = refl
-      by (Err fault) = refl
-
-  text : (answer : Result (Header × List ℕ) Fault) → [] ≡ headed_text (reports_by plan) answer
-  text (Err fault) = refl
-  text (Ok found) = by (fault_in (fits (mode_of found.0.record_type) plan))
-    where
-      by : (declined : Option Fault) → [] ≡ (unless_declined declined (reports plan found.0)).text found.1
-      by None = refl
-      by (Some fault) = refl
-
-  goes : (answer : Result (Header × List ℕ) Fault) → HeadedGoes (reports_by plan) answer → MayChange (fault_in (report_behind plan answer))
-  goes (Err fault) h = h
-  goes (Ok found) h = by (fits (mode_of found.0.record_type) plan) h
-    where
-      by : (r : Result (Unit {0}) Fault) → (unless_declined (fault_in r) (reports plan found.0)).refuses found.1 ≡ None → MayChange (fault_in (if_fits plan found.0 found.1 r))
-      by (Ok done) h = report_of-open plan found.0 found.1 (streamed (reading_by plan found.0) found.1) (streamed-open (reading_by plan found.0) found.1 h)
-      by (Err fault) h = cc
-
   pub reporting-suits : Suits (reporting plan) AtEnd (WantsBehind ForTables plan) (reports_by plan) (MayWant plan)
   reporting-suits = record {
-    ends = λ bytes. ends (header_answer bytes);
-    text = λ bytes. text (header_answer bytes);
+    ends = λ bytes.
+        ends-headed (reports_by plan) (λ r. report_outcome (report_behind plan r))
+        (λ header behind. ends-fit (reports plan header) behind (λ r. report_outcome (if_fits plan header behind r)) refl (λ fault. refl)
+        (fits (mode_of header.record_type) plan)) (λ fault. refl) (header_answer bytes);
+    text = λ bytes.
+        text-headed (reports_by plan) (λ r. [])
+        (λ header behind. text-fit (reports plan header) behind (λ r. []) refl (λ fault. refl) (fits (mode_of header.record_type) plan))
+        (λ fault. refl) (header_answer bytes);
     cuts = λ bytes old new. cuts old new (file_report plan bytes);
-    goes = λ bytes. goes (header_answer bytes);
+    goes = λ bytes.
+        goes-headed (reports_by plan) (λ r. MayChange (fault_in (report_behind plan r)))
+        (λ header behind. goes-fit (reports plan header) behind (λ r. MayChange (fault_in (if_fits plan header behind r)))
+        (λ h. report_of-open plan header behind (streamed (reading_by plan header) behind) (streamed-open (reading_by plan header) behind h))
+        (fits (mode_of header.record_type) plan)) (λ fault h. h) (header_answer bytes);
     wanting = λ bytes behind header answer wants few. record { tables = wants.0; header = header; behind = behind; answer = answer; suits = wants.1; few = few };
     is = λ header. fits-law (mode_of header.record_type) plan (reports-law plan header);
   }

@@ -1,9 +1,9 @@
 // Counts the records of a file by a plan.
 ghost use Rattle.std.specs.Prelude.{◌≡◌, ◌+◌, ◌*◌, ◌<◌, ◌≤◌, List, ℕ, length, ◌++◌, None, OnOk};
 ghost use Rattle.tally_base.specs.Faults.{fault_in};
-ghost use Rattle.ptu_definitions.{specs.Counted.record_limit, specs.Streams.record_refusal, specs.Words.words_of};
+ghost use Rattle.ptu_definitions.{specs.Words.{record_limit, words_of}, specs.Streams.record_refusal};
 ghost use Rattle.tally_engine.specs.Engine.{HasFed, SameEngine, Finishes, reading_of, refused_by, bytes_fed};
-ghost use Rattle.report_work.specs.RunPieces.{IsLedger};
+ghost use Rattle.report_work.specs.Reports.{IsLedger};
 
 use bench_io::Sink;
 use command_work::{Job, Reader};
@@ -50,7 +50,7 @@ impl<'p> Reader for RunReader<'p> {
     ghost use Rattle.std.specs.Prelude.{◌-◌};
     ghost use Rattle.plan_text.specs.Reading.{plan_view};
     ghost use Rattle.tally_engine.specs.Engine.{header_of};
-    ghost use Rattle.report_work.{specs.RunPieces.{reports, CountsBy}, specs.RunLaws.{reports-law, counts-clear}};
+    ghost use Rattle.report_work.{specs.Reports.{reports, CountsBy}, specs.RunLaws.{reports-law, counts-clear}};
 
     ghost tells = { λ r. reports (plan_view r.plan.now) (header_of r.engine) };
 
@@ -83,7 +83,7 @@ pub(crate) struct RunJob<'p> {
 impl<'p> Job for RunJob<'p> {
     ghost use Rattle.plan_text.specs.Reading.{plan_view};
     ghost use Rattle.command_work.{specs.Behaviours.{AtEnd, ForTables}, specs.Endings.WantsBehind};
-    ghost use Rattle.report_work.{specs.Reports.reporting, specs.RunPieces.{reports_by, MayWant}, specs.RunLaws.reporting-suits};
+    ghost use Rattle.report_work.{specs.Reports.{reporting, reports_by, MayWant}, specs.RunLaws.reporting-suits};
 
     type Reader = RunReader<'p>;
 

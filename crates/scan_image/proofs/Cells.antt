@@ -12,9 +12,11 @@ same_place width x₁ y₁ x₂ y₂ column row = ap (λ y. y * width + x₁) ro
 
 -- Two cells are one where their columns and their rows are.
 pub same_cell : (width x₁ y₁ x₂ y₂ : ℕ) → x₁ < width → x₂ < width → eqb (y₁ * width + x₁) (y₂ * width + x₂) ≡ (eqb x₁ x₂ && eqb y₁ y₂)
-same_cell width x₁ y₁ x₂ y₂ in₁ in₂ = grind (arith, common_steps, same_column width x₁ y₁ x₂ y₂ in₁ in₂, same_row width x₁ y₁ x₂ y₂ in₁ in₂, same_place width x₁ y₁ x₂ y₂)
+same_cell width x₁ y₁ x₂ y₂ in₁ in₂ =
+    grind (arith, common_steps, same_column width x₁ y₁ x₂ y₂ in₁ in₂, same_row width x₁ y₁ x₂ y₂ in₁ in₂, same_place width x₁ y₁ x₂ y₂)
 
-pub one_raised : (cells : List ℕ) (k n v count more : ℕ) (test : Bool) → k < length cells → v ≡ get_or cells k v → get_or cells n 0 ≡ count → eqb k n ≡ test → get_or (set cells k (v + more)) n 0 ≡ count + cond test more 0
+pub one_raised : (cells : List ℕ) (k n v count more : ℕ) (test : Bool) → k < length cells → v ≡ get_or cells k v
+    → get_or cells n 0 ≡ count → eqb k n ≡ test → get_or (set cells k (v + more)) n 0 ≡ count + cond test more 0
 one_raised cells k n v count more test inside read was is = grind (arith, common_steps)
 
 -- where the cells are counts, and the count of one place rises by one, the cells are the new counts once its cell does

@@ -2,4 +2,3 @@ pub mod Rows
 pub mod Cells
 pub mod Counts
 pub mod Totals
-pub mod Steps

@@ -1,9 +1,8 @@
 -- Each photon of the group counts once.
-use Rattle.std.{proofs.Common.{◌≡◌, ◌∙◌, ℕ, ◌+◌, ◌-◌, ◌/◌, ◌<◌, Bool, true, false, ◌&&◌, cond, eqb, ltb, List, [], ◌∷◌, ◌++◌, refl, ap, sym, subst, append_assoc, arith, None, Some, is_none, sum_by, option_and_then}, specs.declared.option.Option.Option, specs.List.range_with_len, proofs.lemmas.Grind.common_steps, proofs.lemmas.List.append-nil, proofs.lemmas.List.Sums.sum_by_push}
-use Rattle.tally_base.{proofs.Sums.{sum_same, sum_plus, sum_none, in_range}, specs.declared.event.Event.Event, specs.declared.event.EventKind.EventKind, specs.declared.event.EventKind.TheVariants.{Photon, Marker}, specs.Events.{is_photon, is_photon_kind, is_in}, specs.Settings.ImageView, specs.Tally.History}
-use Rattle.marker_map.{specs.Marks.Mark, specs.Places.{line_of, row_of, column_in, runs_back, within, place_of}}
-use Rattle.tcspc_hist.specs.Totals.{photons_of_group}
-use Rattle.scan_image.{specs.ImageCounts.{markers, is_at, in_cell, count_outside}, specs.Totals.in_all_cells, specs.Pushed.one_if, proofs.Counts.{met-photon, met-marker}}
+use Rattle.std.{proofs.Common.{◌≡◌, ◌∙◌, ℕ, ◌+◌, ◌-◌, ◌<◌, Bool, ◌&&◌, cond, eqb, ltb, List, [], ◌∷◌, ◌++◌, refl, ap, sym, subst, append_assoc, arith, None, Some, is_none, sum_by, rules}, specs.declared.option.Option.Option, specs.List.range_with_len, proofs.lemmas.List.append-nil, proofs.lemmas.List.Sums.sum_by_push}
+use Rattle.tally_base.{proofs.Sums.{sum_same, sum_plus, sum_none, in_range}, specs.declared.event.Event.Event, specs.declared.event.EventKind.EventKind, specs.declared.event.EventKind.TheVariants.{Photon, Marker}, specs.Events.{is_photon, is_photon_kind, is_in}, specs.Settings.ImageView, specs.Tally.{History, photons_of_group}}
+use Rattle.marker_map.specs.Places.{Mark, column_in, place_of}
+use Rattle.scan_image.{specs.ImageCounts.{markers, is_at, in_cell, count_outside, in_all_cells}, specs.Pushed.one_if, proofs.Counts.{met-photon, met-marker}}
 
 -- a place is inside the image
 abbrev pub Inside : ImageView → Option (ℕ × ℕ) → Type 0
@@ -11,27 +10,21 @@ Inside set None = Unit {0}
 Inside set (Some place) = (place.0 < set.width) × (place.1 < set.height)
 
 turned : (width steps : ℕ) (back : Bool) → steps < width → cond back (width - 1 - steps) steps < width
-turned width steps true low = omega (arith, low)
-turned width steps false low = low
+turned width steps back low = search (rules, arith)
 
-tested : (set : ImageView) (steps row : ℕ) (test : Bool) → (ltb steps set.width && ltb row set.height) ≡ test → Inside set (cond test (Some (column_in set row steps, row)) None)
-tested set steps row true is = (turned set.width steps (runs_back set row) (grind (arith, common_steps)), grind (arith, common_steps))
-tested set steps row false is = tt
-
-inside-by : (set : ImageView) (time : ℕ) (row : Option ℕ) (line : Option Mark) → Inside set (option_and_then (λ line. option_and_then (within set ((time - line.time) / set.dwell)) row) line)
-inside-by set time row None = tt
-inside-by set time None (Some line) = tt
-inside-by set time (Some row) (Some line) = tested set ((time - line.time) / set.dwell) row _ refl
+tested : (set : ImageView) (steps row : ℕ) (test : Bool) → (ltb steps set.width && ltb row set.height) ≡ test
+    → Inside set (cond test (Some (column_in set row steps, row)) None)
+tested set steps row test is = search (rules, arith, turned)
 
 pub place-inside : (set : ImageView) (time : ℕ) (ms : List Mark) → Inside set (place_of set time ms)
-place-inside set time ms = inside-by set time (row_of set ms) (line_of set ms)
+place-inside set time ms = search (rules, arith, tested)
 
 -- a sum over the pixels of an image
 abbrev pub over_pixels : ImageView → (ℕ → ℕ → ℕ) → ℕ
 over_pixels set f = sum_by (λ y. sum_by (λ x. f x y) (range_with_len 0 set.width)) (range_with_len 0 set.height)
 
 pub pixels-agree : (set : ImageView) (f g : ℕ → ℕ → ℕ) → ((x y : ℕ) → f x y ≡ g x y) → over_pixels set f ≡ over_pixels set g
-pixels-agree set f g same = sum_same (λ y. sum_by (λ x. f x y) (range_with_len 0 set.width)) (λ y. sum_by (λ x. g x y) (range_with_len 0 set.width)) (λ y. sum_same (λ x. f x y) (λ x. g x y) (λ x. same x y) (range_with_len 0 set.width)) (range_with_len 0 set.height)
+pixels-agree set f g same = search (rules, arith, sum_same)
 
 pub pixels-plus : (set : ImageView) (f g : ℕ → ℕ → ℕ) → over_pixels set (λ x y. f x y + g x y) ≡ over_pixels set f + over_pixels set g
 pixels-plus set f g =
@@ -39,26 +32,30 @@ pixels-plus set f g =
     ∙ sum_plus (λ y. sum_by (λ x. f x y) (range_with_len 0 set.width)) (λ y. sum_by (λ x. g x y) (range_with_len 0 set.width)) (range_with_len 0 set.height)
 
 pub pixels-none : (set : ImageView) → over_pixels set (λ x y. 0) ≡ 0
-pixels-none set = sum_same (λ y. sum_by (λ x. 0) (range_with_len 0 set.width)) (λ y. 0) (λ y. sum_none (range_with_len 0 set.width)) (range_with_len 0 set.height) ∙ sum_none (range_with_len 0 set.height)
+pixels-none set = search (rules, arith, sum_same, sum_none)
 
 both : (a b : Bool) (n : ℕ) → cond (a && b) n 0 ≡ cond a (cond b n 0) 0
-both true b n = refl
-both false b n = refl
+both a b n = search (rules, arith)
 
 -- A pixel of the image is met once.
 pub met-count : (set : ImageView) (place : ℕ × ℕ) (n : ℕ) → Inside set (Some place) → over_pixels set (λ x y. cond (is_at x y (Some place)) n 0) ≡ n
 met-count set place n inside =
     let row : (y : ℕ) → sum_by (λ x. cond (is_at x y (Some place)) n 0) (range_with_len 0 set.width) ≡ cond (eqb place.1 y) n 0 =
-    λ y. sum_same (λ x. cond (is_at x y (Some place)) n 0) (λ x. cond (eqb place.0 x) (cond (eqb place.1 y) n 0) 0) (λ x. both (eqb place.0 x) (eqb place.1 y) n) (range_with_len 0 set.width)
+    λ y. sum_same (λ x. cond (is_at x y (Some place)) n 0) (λ x. cond (eqb place.0 x) (cond (eqb place.1 y) n 0) 0)
+    (λ x. both (eqb place.0 x) (eqb place.1 y) n) (range_with_len 0 set.width)
     ∙ in_range place.0 0 set.width (cond (eqb place.1 y) n 0) (omega arith) (omega (arith, inside.0)) in
-    sum_same (λ y. sum_by (λ x. cond (is_at x y (Some place)) n 0) (range_with_len 0 set.width)) (λ y. cond (eqb place.1 y) n 0) row (range_with_len 0 set.height)
+    sum_same (λ y. sum_by (λ x. cond (is_at x y (Some place)) n 0) (range_with_len 0 set.width))
+    (λ y. cond (eqb place.1 y) n 0) row (range_with_len 0 set.height)
     ∙ in_range place.1 0 set.height n (omega arith) (omega (arith, inside.1))
 
-pub cells-more : (set : ImageView) (h later : History) (more : ℕ → ℕ → ℕ) → ((x y : ℕ) → in_cell set x y later ≡ in_cell set x y h + more x y) → in_all_cells set later ≡ in_all_cells set h + over_pixels set more
-cells-more set h later more is = pixels-agree set (λ x y. in_cell set x y later) (λ x y. in_cell set x y h + more x y) is ∙ pixels-plus set (λ x y. in_cell set x y h) more
+pub cells-more : (set : ImageView) (h later : History) (more : ℕ → ℕ → ℕ)
+    → ((x y : ℕ) → in_cell set x y later ≡ in_cell set x y h + more x y) → in_all_cells set later ≡ in_all_cells set h + over_pixels set more
+cells-more set h later more is =
+    pixels-agree set (λ x y. in_cell set x y later) (λ x y. in_cell set x y h + more x y) is ∙ pixels-plus set (λ x y. in_cell set x y h) more
 
 -- A place is met in one pixel, and no place in none.
-met-once : (set : ImageView) (place : Option (ℕ × ℕ)) (n : ℕ) → Inside set place → over_pixels set (λ x y. cond (is_at x y place) n 0) + cond (is_none place) n 0 ≡ n
+met-once : (set : ImageView) (place : Option (ℕ × ℕ)) (n : ℕ) → Inside set place
+    → over_pixels set (λ x y. cond (is_at x y place) n 0) + cond (is_none place) n 0 ≡ n
 met-once set None n inside = omega (arith, pixels-none set)
 met-once set (Some place) n inside = omega (arith, met-count set place n inside)
 
@@ -70,18 +67,18 @@ total-push : (set : ImageView) (h : History) (x : Event × ℕ) (kind : EventKin
 total-push set h x (Photon input dtime) kind so_far =
     let place = place_of set x.0.time (markers h) in
     let more = cond (is_in x.1 set.group) 1 0 in
-    let cells = cells-more set h (h ++ x ∷ []) (λ column row. cond (is_at column row place) more 0) (λ column row. met-photon set (λ place dtime. is_at column row place) h x place input dtime more kind refl refl) in
-    let outside = met-photon set (λ place dtime. is_none place) h x place input dtime more kind refl refl in
+    let cells = cells-more set h (h ++ x ∷ []) (λ column row. cond (is_at column row place) more 0)
+    (λ column row. met-photon set (λ place dtime. is_at column row place) h x place input dtime more kind refl refl) in
     let once = met-once set place more (place-inside set x.0.time (markers h)) in
     let photons = sum_by_push (λ x. one_if (is_photon x.0 && is_in x.1 set.group)) h x in
     let here : one_if (is_photon x.0 && is_in x.1 set.group) ≡ more = ap (λ kind. one_if (is_photon_kind kind && is_in x.1 set.group)) kind in
-    omega (arith, so_far, cells, outside, once, photons, here)
+    omega (arith, so_far, cells, met-photon set (λ place dtime. is_none place) h x place input dtime more kind refl refl, once, photons, here)
 total-push set h x (Marker bits) kind so_far =
-    let cells = pixels-agree set (λ x' y. in_cell set x' y (h ++ x ∷ [])) (λ x' y. in_cell set x' y h) (λ column row. met-marker set (λ place dtime. is_at column row place) h x bits kind) in
+    let cells = pixels-agree set (λ x' y. in_cell set x' y (h ++ x ∷ [])) (λ x' y. in_cell set x' y h)
+    (λ column row. met-marker set (λ place dtime. is_at column row place) h x bits kind) in
     let outside = met-marker set (λ place dtime. is_none place) h x bits kind in
     let photons = sum_by_push (λ x. one_if (is_photon x.0 && is_in x.1 set.group)) h x in
-    let here : one_if (is_photon x.0 && is_in x.1 set.group) ≡ 0 = ap (λ kind. one_if (is_photon_kind kind && is_in x.1 set.group)) kind in
-    omega (arith, so_far, cells, outside, photons, here)
+    search (rules, arith)
 
 pub by-pushes : (P : History → Type 0) → ((h : History) (x : Event × ℕ) → P h → P (h ++ x ∷ [])) → (front rest : History) → P front → P (front ++ rest)
 by-pushes P step front [] so_far = subst P (sym (append-nil front)) so_far

@@ -1,8 +1,21 @@
--- Counts and lines behind the events of a block.
-use Rattle.std.specs.Prelude.{◌≡◌, ℕ, ◌+◌, ◌<◌, ◌≤◌, ◌++◌, true, List, length}
-use Rattle.tally_base.{specs.declared.settings.ImageSet.ImageSet, specs.Settings.ImageView, specs.Tally.History, specs.declared.block.Block.Block, specs.Columns.{count, code_at, time_at, item, rows, gathered, IsSorted}, specs.Floors.floor_after, specs.Limits.record_limit}
-use Rattle.marker_map.{specs.declared.lines.Lines.Lines, specs.declared.strip.Strip.Strip, specs.Lines.{Saw, image_of, markers_given, line_start}, specs.Marks.Mark, specs.Places.place_of, specs.Strips.{place_on, width_of, height_of}}
-use Rattle.scan_image.{specs.Counted.HowMany, specs.ImageCounts.{markers, count_met}}
+-- The counts of an image, and counts and lines behind the events of a block.
+use Rattle.std.specs.Prelude.{◌≡◌, ℕ, ◌+◌, ◌*◌, ◌<◌, Bool, List, Option, is_none, slice_index, if◌then◌else◌, ◌≤◌, ◌++◌, true, length}
+use Rattle.tally_base.{specs.Settings.ImageView, specs.declared.settings.ImageSet.ImageSet, specs.Tally.{History, floor_after}, specs.declared.block.Block.Block, specs.Columns.{count, code_at, time_at, item, rows, gathered, IsSorted}, specs.Limits.record_limit}
+use Rattle.marker_map.{specs.declared.lines.Lines.Lines, specs.declared.strip.Strip.Strip, specs.Lines.{Saw, image_of, markers_given, line_start}, specs.Places.{Mark, place_of}, specs.Strips.{place_on, width_of, height_of}}
+use Rattle.scan_image.specs.ImageCounts.{is_at, markers, count_met}
+
+-- how many photons have a place, or none, and a dtime that pass a test
+abbrev pub HowMany : Type 0
+HowMany = (Option (ℕ × ℕ) → ℕ → Bool) → ℕ
+
+-- with so many more of one place and dtime
+abbrev pub with_photon : HowMany → Option (ℕ × ℕ) → ℕ → ℕ → HowMany
+with_photon many place dtime more = λ test. many test + (if test place dtime then more else 0)
+
+-- Each of these cells says how many have their place there.
+pub record Counted (set : ImageView) (cells : List ℕ) (outside : ℕ) (many : HowMany) : Type 0 where
+  pub each : (x y : ℕ) → x < set.width → y < set.height → slice_index cells (y * set.width + x) ≡ many (λ place dtime. is_at x y place)
+  pub rest : outside ≡ many (λ place dtime. is_none place)
 
 -- The counts are over these events, and the lines saw their markers.
 pub record IsBehind (over : HowMany → Type 0) (set : ImageView) (lines : Lines) (h : History) : Type 0 where

@@ -1,8 +1,8 @@
--- The counts of an image over the events that it is given.
-use Rattle.std.{specs.Prelude.{ℕ, Bool, false, ◌&&◌, ◌==◌, List, Option, None, Some, is_none, length, take, count_by, filter_map}, specs.List.{range_with_len, slice_get}, specs.Option.option_map_or}
+-- The counts of an image over the events that it is given, and their sum.
+use Rattle.std.{specs.Prelude.{ℕ, Bool, false, ◌&&◌, ◌==◌, List, Option, None, Some, is_none, length, take, count_by, filter_map, sum_by}, specs.List.{range_with_len, slice_get}, specs.Option.option_map_or}
 use Rattle.tally_base.{specs.declared.event.Event.Event, specs.declared.event.EventKind.EventKind, specs.declared.event.EventKind.TheVariants.{Photon, Marker}, specs.Events.is_in, specs.Settings.ImageView, specs.Tally.History}
 use Rattle.tcspc_hist.specs.HistogramCounts.{dtime_passes}
-use Rattle.marker_map.{specs.Marks.{Mark, mark}, specs.Places.place_of}
+use Rattle.marker_map.specs.Places.{Mark, mark, place_of}
 
 abbrev pub mark_at : ℕ → EventKind → Option Mark
 mark_at time (Photon input dtime) = None
@@ -39,3 +39,7 @@ in_cell set x y h = count_placed set (is_at x y) h
 -- how many photons of the group have no place
 abbrev pub count_outside : ImageView → History → ℕ
 count_outside set h = count_placed set is_none h
+
+-- the sum over all cells, row by row
+abbrev pub in_all_cells : ImageView → History → ℕ
+in_all_cells set h = sum_by (λ y. sum_by (λ x. in_cell set x y h) (range_with_len 0 set.width)) (range_with_len 0 set.height)

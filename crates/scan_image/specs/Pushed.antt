@@ -5,25 +5,17 @@ use Rattle.scan_image.specs.ImageCounts.{count_behind}
 
 -- one number more
 pub sum-range-push : (f : ℕ → ℕ) (a n : ℕ) → sum_by f (range_with_len a (suc n)) ≡ sum_by f (range_with_len a n) + f (a + n)
-sum-range-push f a zero =
-    let one = sum_by-cons f a [] in
-    let here : a + 0 ≡ a = omega arith in
-    omega (arith, one, ap f here)
+sum-range-push f a zero = let here : a + 0 ≡ a = omega arith in omega (arith, sum_by-cons f a [], ap f here)
 sum-range-push f a (suc n) =
-    let more = sum-range-push f (a + 1) n in
     let here : a + 1 + n ≡ a + suc n = omega arith in
-    let left = sum_by-cons f a (range_with_len (a + 1) (suc n)) in
-    let right = sum_by-cons f a (range_with_len (a + 1) n) in
-    omega (arith, more, ap f here, left, right)
+    omega (arith, sum-range-push f (a + 1) n, ap f here, sum_by-cons f a (range_with_len (a + 1) (suc n)), sum_by-cons f a (range_with_len (a + 1) n))
 
 pub sum-range-agree : (f g : ℕ → ℕ) (a n : ℕ) → ((i : ℕ) → a ≤ i → i < a + n → f i ≡ g i) → sum_by f (range_with_len a n) ≡ sum_by g (range_with_len a n)
 sum-range-agree f g a zero same = refl
 sum-range-agree f g a (suc n) same =
     let more = sum-range-agree f g (a + 1) n (λ i low high. same i (omega arith) (omega arith)) in
-    let here = same a (omega arith) (omega arith) in
-    let left = sum_by-cons f a (range_with_len (a + 1) n) in
-    let right = sum_by-cons g a (range_with_len (a + 1) n) in
-    omega (arith, more, here, left, right)
+    let rest = range_with_len (a + 1) n in
+    omega (arith, more, same a (omega arith) (omega arith), sum_by-cons f a rest, sum_by-cons g a rest)
 
 get-before : {X : Type 0} (xs ys : List X) (i : ℕ) → i < length xs → slice_get (xs ++ ys) i ≡ slice_get xs i
 get-before [] ys i within = absurd (omega arith)

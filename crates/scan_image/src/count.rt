@@ -1,6 +1,6 @@
 // The photons of a block, counted by their places.
 ghost use Rattle.std.specs.Prelude.{◌≡◌, ◌+◌, ◌≤◌, true, length};
-ghost use Rattle.tally_base.{specs.Settings.image_view, specs.Limits.record_limit, specs.Columns.{count, gathered, events_in, IsSorted}, specs.Floors.InOrder};
+ghost use Rattle.tally_base.{specs.Settings.image_view, specs.Limits.record_limit, specs.Columns.{count, gathered, events_in, IsSorted}, specs.Tally.InOrder};
 ghost use Rattle.marker_map.{specs.Lines.{image_of, line_start}, specs.Strips.start_of};
 ghost use Rattle.scan_image.specs.Behind.{CountsMore, CountsOn, CountsOnStrip, IsOfSize, ComesFrom, StopsAt, HasRoom, Gained, LinesHaveRoom, LinesGoOn};
 

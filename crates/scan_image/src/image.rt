@@ -1,6 +1,6 @@
 // An image of a scan.
-ghost use Rattle.std.specs.Prelude.{◌≡◌, ◌+◌, ◌*◌, ◌<◌, ◌≤◌, vec_len, sum};
-ghost use Rattle.tally_base.{specs.Settings.image_view, specs.Tally.History, specs.Limits.record_limit};
+ghost use Rattle.std.specs.Prelude.{◌≡◌, ◌+◌, ◌*◌, ◌<◌, ◌≤◌, vec_len, length, sum, IfOk, [], false};
+ghost use Rattle.tally_base.{specs.Settings.image_view, specs.Tally.History, specs.Limits.record_limit, specs.Settings.PartSettings.ImageSettings};
 ghost use Rattle.marker_map.specs.Lines.{image_of, markers_given, line_start};
 
 use crate::count::count_block;
@@ -31,8 +31,6 @@ pub struct Image {
 }
 
 impl Image {
-    ghost use Rattle.std.specs.Prelude.{IfOk, [], false};
-    ghost use Rattle.tally_base.{specs.Settings.PartSettings.ImageSettings};
     ghost use Rattle.scan_image.{specs.ImageCounts.{in_cell, count_outside}, specs.Image.{Holds, set_of}};
 
     /// An image of no events, with all the memory that it ever takes, or `AllocError` where it is wanting.
@@ -84,8 +82,7 @@ impl Image {
 }
 
 impl Tally for Image {
-    ghost use Rattle.std.specs.Prelude.{length};
-    ghost use Rattle.scan_image.{specs.Image.{Holds, set_of, settings}, specs.Laws.{taken_is, floor_is, within_bound, marker_groups}};
+    ghost use Rattle.scan_image.specs.Image.{Holds, set_of, settings, within_bound, marker_groups};
 
     ghost holds = { Holds };
 
@@ -103,9 +100,9 @@ impl Tally for Image {
 
     ghost same_set = { λ old new. set_of new ≡ set_of old };
 
-    ghost taken_is = { taken_is };
+    ghost taken_is = { λ t h is. is.taken };
 
-    ghost floor_is = { floor_is };
+    ghost floor_is = { λ t h is. is.floor };
 
     ghost within = { within_bound };
 

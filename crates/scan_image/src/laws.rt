@@ -1,8 +1,7 @@
 // Laws of the definitions, each as the contract of a function that does nothing.
 ghost use Rattle.std.specs.Prelude.{◌≡◌, ◌+◌};
-ghost use Rattle.tally_base.{specs.Settings.ImageView, specs.Tally.History};
-ghost use Rattle.scan_image.{specs.ImageCounts.count_outside, specs.Totals.in_all_cells};
-ghost use Rattle.tcspc_hist.specs.Totals.{photons_of_group};
+ghost use Rattle.tally_base.{specs.Settings.ImageView, specs.Tally.{History, photons_of_group}};
+ghost use Rattle.scan_image.specs.ImageCounts.{count_outside, in_all_cells};
 
 /// Each photon of the group counts once, in a cell or outside the image.
 pub fn each_photon_counts_once()

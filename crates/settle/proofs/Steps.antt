@@ -1,33 +1,24 @@
 -- One event more.
-use Rattle.std.{proofs.Common.{◌≡◌, ◌+◌, ◌-◌, ◌<◌, ◌≤◌, ℕ, suc, Some, get_or, List, [], ◌∷◌, ◌++◌, Bool, true, false, cond, length, refl, sym, ap, subst, ◌∙◌, append-nil, arith, nat_lt, slice_get}, specs.List.{All, AllByRecursion, AllWithin, remove}, proofs.lemmas.List.Elements.{All-from_recursion, recursion_from_All}, specs.List.Sorted.IsNonDecreasingBy, proofs.lemmas.List.get_or_default, proofs.lemmas.Bool.{ltb-true, ltb-false}}
+use Rattle.std.{proofs.Common.{◌≡◌, ◌+◌, ◌-◌, ◌<◌, ◌≤◌, ℕ, suc, Some, get_or, List, [], ◌∷◌, ◌++◌, Bool, true, false, cond, length, refl, sym, ap, subst, ◌∙◌, append-nil, arith, nat_lt, slice_get, rules}, specs.List.{All, AllByRecursion, AllWithin, remove}, proofs.lemmas.List.Elements.{All-from_recursion, recursion_from_All}, specs.List.Sorted.IsNonDecreasingBy, proofs.lemmas.List.get_or_default, proofs.lemmas.Bool.{ltb-true, ltb-false}}
 use Rattle.tally_base.specs.declared.event.Event.{Event}
-use Rattle.ptu_definitions.{specs.Settled.{is_overtaken, not_overtaken, put_in, in_time, settles}, specs.Settling.IsOpen, proofs.SettledLemmas.{length-put_in, put_in-rising}, proofs.SettlingLemmas.{each-put_in, each-weaker, is_late, is_not_late, joined-late, joined-put, joined-give, open-none, open-late, open-wait, open-emit, settled-is, settles-late, settles-more}}
+use Rattle.ptu_definitions.{specs.Settled.{is_overtaken, not_overtaken, put_in, in_time, settles, IsOpen}, proofs.SettledLemmas.{length-put_in, put_in-rising}, proofs.SettlingLemmas.{each-put_in, each-weaker, is_late, is_not_late, joined-late, joined-put, joined-give, open-none, open-late, open-wait, open-emit, settled-is, settles-late, settles-more}}
 use Rattle.settle.{specs.Settling.{Precedes, IsInOrder}, specs.Standing.IsSettled}
 
 -- order by time and place stays
 in_order-pick : (b : Bool) (e x : Event) (xs : List Event) (next : ℕ) → nat_lt e.time x.time ≡ b → next ≤ e.place → x.place < next → AllByRecursion (λ y. Precedes x y) xs → IsInOrder xs → IsInOrder (put_in e xs) → IsInOrder (cond b (e ∷ x ∷ xs) (x ∷ put_in e xs))
-in_order-pick true e x xs next is above at before up rest =
-    let h : e.time < x.time = ltb-true e.time x.time is in (
-      (
-        record { in_time = omega arith; ties = λ same. absurd (omega arith) },
-        each-weaker (λ y. Precedes x y) (λ y. Precedes e y) xs
-            (λ y p. let le : x.time ≤ y.time = p.in_time in record { in_time = omega arith; ties = λ same. absurd (omega arith) }) before,
-      ),
-      (before, up),
-    )
-in_order-pick false e x xs next is above at before up rest =
-    let h : x.time ≤ e.time = ltb-false e.time x.time is in
-    (each-put_in (λ y. Precedes x y) e xs (record { in_time = h; ties = λ same. omega arith }) before, rest)
+in_order-pick true e x xs next is above at before up rest = search (rules, arith, ltb-true, each-weaker)
+in_order-pick false e x xs next is above at before up rest = search (rules, arith, ltb-false, each-put_in)
 
-pub in_order-put_in : (e : Event) (xs : List Event) (next : ℕ) → next ≤ e.place → AllByRecursion (λ x. x.place < next) xs → IsInOrder xs → IsInOrder (put_in e xs)
+pub in_order-put_in : (e : Event) (xs : List Event) (next : ℕ) → next ≤ e.place
+    → AllByRecursion (λ x. x.place < next) xs → IsInOrder xs → IsInOrder (put_in e xs)
 in_order-put_in e [] next above all up = (tt, tt)
-in_order-put_in e (x ∷ xs) next above all up =
-    in_order-pick (nat_lt e.time x.time) e x xs next refl above all.0 up.0 up.1 (in_order-put_in e xs next above all.1 up.1)
+in_order-put_in e (x ∷ xs) next above all up = search (rules, arith, in_order-pick, in_order-put_in e xs next above all.1 up.1)
 
 places-later : (next now : ℕ) (xs : List Event) → next ≤ now → AllByRecursion (λ x. x.place < next) xs → AllByRecursion (λ x. x.place < now + 1) xs
 places-later next now xs h all = each-weaker (λ x. x.place < next) (λ x. x.place < now + 1) xs (λ x lt. omega arith) all
 
-places-put_in : (e : Event) (next : ℕ) (xs : List Event) → next ≤ e.place → AllByRecursion (λ x. x.place < next) xs → AllByRecursion (λ x. x.place < e.place + 1) (put_in e xs)
+places-put_in : (e : Event) (next : ℕ) (xs : List Event) → next ≤ e.place
+    → AllByRecursion (λ x. x.place < next) xs → AllByRecursion (λ x. x.place < e.place + 1) (put_in e xs)
 places-put_in e next xs h all = each-put_in (λ x. x.place < e.place + 1) e xs (omega arith) (places-later next e.place xs h all)
 
 -- Nothing pushed.
@@ -36,9 +27,7 @@ unfolding in_time not_overtaken
 in_time-none k = refl
 
 pub settled-none : (k : ℕ) (w : List Event) → w ≡ [] → IsSettled k false w 0 0 [] []
-settled-none k w is =
-    let P : List Event → Type 0 = λ l. IsSettled k false l 0 0 [] [] in
-    subst P (sym is) (record { joined = sym (in_time-none k); in_order = tt; places = tt; unpopped = λ _. open-none k })
+settled-none k w is = search (rules, arith, in_time-none, open-none)
 
 -- What a push leaves.
 pub settled-late : (k : ℕ) (popped : Bool) (w : List Event) (last next : ℕ) (es g : List Event) (e : Event) → IsSettled k popped w last next es g → popped ≡ false → e.time < last → next ≤ e.place → IsSettled k popped w last (e.place + 1) (es ++ e ∷ []) (g ++ [])
@@ -68,7 +57,7 @@ settled-emit k popped w rest last next es g e x settled still in_time above full
     let now : IsOpen k es g w last = settled.unpopped still in
     let late : is_overtaken k es e ≡ false = is_not_late k es g w last e now (omega arith) in_time in
     let order : IsInOrder (x ∷ rest) = subst IsInOrder (sym is) (in_order-put_in e w next above settled.places settled.in_order) in
-    let places : AllByRecursion (λ y. y.place < e.place + 1) (x ∷ rest) = subst (AllByRecursion (λ y. y.place < e.place + 1)) (sym is) (places-put_in e next w above settled.places) in
+    let places : AllByRecursion (λ y. y.place < e.place + 1) (x ∷ rest) = search (rules, arith, places-put_in) in
     record {
       joined = joined-give k (es ++ e ∷ []) g (put_in e w) rest x (sym is) (joined-put k es g w last e late now in_time settled.joined);
       in_order = order.1;
@@ -76,17 +65,21 @@ settled-emit k popped w rest last next es g e x settled still in_time above full
       unpopped = λ _. open-emit k es g w rest last e x now in_time full (sym is);
     }
 
-pub answers-late : (k : ℕ) (popped : Bool) (w : List Event) (last place : ℕ) (es g : List Event) (e : Event) → IsSettled k popped w last place es g → popped ≡ false → e.time < last → true ≡ is_overtaken k es e
+pub answers-late : (k : ℕ) (popped : Bool) (w : List Event) (last place : ℕ) (es g : List Event) (e : Event)
+    → IsSettled k popped w last place es g → popped ≡ false → e.time < last → true ≡ is_overtaken k es e
 answers-late k popped w last place es g e settled still early = sym (is_late k es g w last e (settled.unpopped still) early)
 
-pub answers-in_time : (k : ℕ) (popped : Bool) (w : List Event) (last place : ℕ) (es g : List Event) (e : Event) → IsSettled k popped w last place es g → popped ≡ false → length w ≤ k → last ≤ e.time → false ≡ is_overtaken k es e
+pub answers-in_time : (k : ℕ) (popped : Bool) (w : List Event) (last place : ℕ) (es g : List Event) (e : Event)
+    → IsSettled k popped w last place es g → popped ≡ false → length w ≤ k → last ≤ e.time → false ≡ is_overtaken k es e
 answers-in_time k popped w last place es g e settled still few in_time = sym (is_not_late k es g w last e (settled.unpopped still) few in_time)
 
 -- What a push tells.
-pub tells-late : (k : ℕ) (popped : Bool) (w : List Event) (last place : ℕ) (es g : List Event) (e : Event) → IsSettled k popped w last place es g → popped ≡ false → e.time < last → settles k es e ≡ (e, true) ∷ []
+pub tells-late : (k : ℕ) (popped : Bool) (w : List Event) (last place : ℕ) (es g : List Event) (e : Event)
+    → IsSettled k popped w last place es g → popped ≡ false → e.time < last → settles k es e ≡ (e, true) ∷ []
 tells-late k popped w last place es g e settled still early = settles-late k es e (is_late k es g w last e (settled.unpopped still) early)
 
-pub tells-none : (k : ℕ) (popped : Bool) (w : List Event) (last place : ℕ) (es g : List Event) (e : Event) → IsSettled k popped w last place es g → popped ≡ false → last ≤ e.time → length w < k → settles k es e ≡ []
+pub tells-none : (k : ℕ) (popped : Bool) (w : List Event) (last place : ℕ) (es g : List Event) (e : Event)
+    → IsSettled k popped w last place es g → popped ≡ false → last ≤ e.time → length w < k → settles k es e ≡ []
 tells-none k popped w last place es g e settled still in_time few =
     let now : IsOpen k es g w last = settled.unpopped still in
     let late : is_overtaken k es e ≡ false = is_not_late k es g w last e now (omega arith) in_time in
@@ -103,28 +96,33 @@ tells-one k popped w rest last place es g e x settled still in_time full as_many
     (joined-give k (es ++ e ∷ []) g (put_in e w) rest x (sym is) (joined-put k es g w last e late now in_time settled.joined)))
 
 -- the event emitted is the least
-pub least_one : (k : ℕ) (popped : Bool) (w rest : List Event) (last next : ℕ) (es g : List Event) (e x : Event) → IsSettled k popped w last next es g → next ≤ e.place → x ∷ rest ≡ put_in e w → AllByRecursion (λ y. Precedes x y) rest
-least_one k popped w rest last next es g e x settled above is =
-    let order : IsInOrder (x ∷ rest) = subst IsInOrder (sym is) (in_order-put_in e w next above settled.places settled.in_order) in order.0
+pub least_one : (k : ℕ) (popped : Bool) (w rest : List Event) (last next : ℕ) (es g : List Event) (e x : Event)
+    → IsSettled k popped w last next es g → next ≤ e.place → x ∷ rest ≡ put_in e w → AllByRecursion (λ y. Precedes x y) rest
+least_one k popped w rest last next es g e x settled above is = search (rules, arith, in_order-put_in)
 
 -- in rising times all before one that is no later are no later
-pub all_before : (xs : List Event) (at t : ℕ) (z : Event) → IsNonDecreasingBy (λ (x : Event). x.time) xs → 0 < at → at ≤ length xs → (get_or xs (at - 1) z).time ≤ t → AllWithin (λ (x : Event). x.time ≤ t) xs 0 at
+pub all_before : (xs : List Event) (at t : ℕ) (z : Event) → IsNonDecreasingBy (λ (x : Event). x.time) xs
+    → 0 < at → at ≤ length xs → (get_or xs (at - 1) z).time ≤ t → AllWithin (λ (x : Event). x.time ≤ t) xs 0 at
 all_before xs at t z up pos within last = λ k d low high.
     let same : (get_or xs (at - 1) d).time ≡ (get_or xs (at - 1) z).time = ap (λ (x : Event). x.time) (get_or_default xs (at - 1) d z (omega arith)) in
     let le : (get_or xs k d).time ≤ (get_or xs (at - 1) d).time = up k (at - 1) d (omega arith) (omega arith) in
     omega arith
 
 -- Nothing that waits is before the last event emitted or popped.
-pub low-put_in : (t : ℕ) (e : Event) (xs new : List Event) → t ≤ e.time → new ≡ put_in e xs → All (λ (x : Event). t ≤ x.time) xs → All (λ (x : Event). t ≤ x.time) new
-low-put_in t e xs new h is all = rw is (All-from_recursion (λ (x : Event). t ≤ x.time) (put_in e xs) (each-put_in (λ (x : Event). t ≤ x.time) e xs h (recursion_from_All (λ (x : Event). t ≤ x.time) xs all)))
+pub low-put_in : (t : ℕ) (e : Event) (xs new : List Event) → t ≤ e.time → new ≡ put_in e xs
+    → All (λ (x : Event). t ≤ x.time) xs → All (λ (x : Event). t ≤ x.time) new
+low-put_in t e xs new h is all = rw is (All-from_recursion (λ (x : Event). t ≤ x.time) (put_in e xs)
+    (each-put_in (λ (x : Event). t ≤ x.time) e xs h (recursion_from_All (λ (x : Event). t ≤ x.time) xs all)))
 
-pub low-rest : (e : Event) (xs : List Event) (x : Event) (rest : List Event) → IsNonDecreasingBy (λ (x : Event). x.time) xs → x ∷ rest ≡ put_in e xs → All (λ (y : Event). x.time ≤ y.time) rest
+pub low-rest : (e : Event) (xs : List Event) (x : Event) (rest : List Event)
+    → IsNonDecreasingBy (λ (x : Event). x.time) xs → x ∷ rest ≡ put_in e xs → All (λ (y : Event). x.time ≤ y.time) rest
 low-rest e xs x rest up is =
     let P : List Event → Type 0 = λ l. IsNonDecreasingBy (λ (x : Event). x.time) l in
     let all : P (x ∷ rest) = subst P (sym is) (put_in-rising e xs up) in
     λ k d h. all 0 (suc k) d (omega arith) (omega arith)
 
-pub low-pop : (xs new : List Event) (x : Event) → IsNonDecreasingBy (λ (x : Event). x.time) xs → Some x ≡ slice_get xs 0 → new ≡ remove xs 0 → All (λ (y : Event). x.time ≤ y.time) new
+pub low-pop : (xs new : List Event) (x : Event) → IsNonDecreasingBy (λ (x : Event). x.time) xs
+    → Some x ≡ slice_get xs 0 → new ≡ remove xs 0 → All (λ (y : Event). x.time ≤ y.time) new
 low-pop [] new x up first rest = cc
 low-pop (z ∷ xs) new x up first rest =
     let same : x ≡ z = cc in

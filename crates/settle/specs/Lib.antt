@@ -1,4 +1,3 @@
 pub mod Settling
 pub mod Standing
 pub mod Passing
-pub mod Pushing

@@ -1,2 +1,1 @@
 pub mod ShortFiles
-pub mod TimedEvents

@@ -1,6 +1,6 @@
 -- A file of a header of two tags and of words.
 use Rattle.std.{specs.Prelude.{ℕ, ◌-◌, List, [], ◌∷◌, ◌++◌, None, length, codes, replicate}, specs.Int.{to_le_bytes, w32, w64}}
-use Rattle.tally_base.{specs.declared.header.Header.Header, specs.declared.header.Mode.Mode, specs.declared.header.Mode.TheVariants.{T2, T3}, specs.declared.header.RecordType.RecordType, specs.declared.header.RecordType.TheVariants.{HydraHarp2T2, HydraHarp2T3}, specs.RecordTypes.code_of}
+use Rattle.tally_base.{specs.declared.header.Header.Header, specs.declared.header.Mode.Mode, specs.declared.header.Mode.TheVariants.{T2, T3}, specs.declared.header.RecordType.RecordType, specs.declared.header.RecordType.TheVariants.{HydraHarp2T2, HydraHarp2T3}, specs.RecordTypes.code_of, specs.declared.event.EventKind.EventKind, specs.declared.event.Event.Event}
 use Rattle.ptu_definitions.specs.Fields.{int8}
 
 -- the record type that is written in each mode
@@ -34,3 +34,13 @@ short_file mode words = short_header mode ++ bytes_in words
 -- the fields of its header
 abbrev pub short_fields : Mode → Header
 short_fields mode = record { record_type = short_type mode; count = None; global = None; resolution = None; version = codes "1.0.00" ++ (0 ∷ 0 ∷ []) }
+
+-- Events without their places in a file.
+
+-- the kind and the time of an event
+pub record Timed : Type 0 where
+  pub kind : EventKind
+  pub time : ℕ
+
+abbrev pub timed : Event → Timed
+timed e = record { kind = e.kind; time = e.time }

@@ -8,4 +8,3 @@ pub mod Correlation
 pub mod Cube
 pub mod Fold
 pub mod Report
-pub mod Puts

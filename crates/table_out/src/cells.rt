@@ -2,7 +2,7 @@
 ghost use Rattle.std.specs.Prelude.{◌≡◌, ◌<◌, ◌≤◌, true, length, OnOk, OnErr, codes, decimal};
 ghost use Rattle.tally_base.{specs.FaultCounts.{FailsOnce}, specs.Tally.{History}};
 ghost use Rattle.list_out.specs.Lines.{line};
-ghost use Rattle.table_out.{specs.Printed.{cell_line, pair_line, row_lines, cell_lines, first_line}, specs.Puts.{PutsText, CutsText}, specs.Report.{printed, part_text}};
+ghost use Rattle.table_out.{specs.Printed.{cell_line, pair_line, row_lines, cell_lines, first_line}, specs.Report.{PutsText, CutsText, printed, part_text}};
 
 use arrayvec::ArrayVec;
 use bench_io::{Block, Sink};

@@ -3,28 +3,19 @@ ghost use Rattle.std.{specs.Prelude.{◌≡◌, ◌+◌, ◌≤◌, true, List, 
 ghost use Rattle.bench_io.specs.Sinks.{AppendsShort};
 ghost use Rattle.tally_base.specs.FaultCounts.{FailsOnce};
 ghost use Rattle.plan_parts.specs.Parts.{settings_in, AllClosed};
-ghost use Rattle.table_out.{specs.Report.{Table, EachHolds, printed, same_kind, part_text, parts_text, report_of}, specs.Puts.{PutsText, CutsText}};
+ghost use Rattle.table_out.specs.Report.{Table, EachHolds, printed, same_kind, part_text, parts_text, report_of, PutsText, CutsText};
 
 use crate::cells::{Prints, put_table};
 use crate::report_head::report_head;
 use bench_io::{Block, Sink};
-use plan_parts::{Part, Results};
+use plan_parts::{Part, Results, in_part};
 use tally_base::{Failed, Fault, Tally};
 
 /// The name of a table's kind.
 fn word(part: &Part) -> &'static str
     ensures { result.now ≡ (printed (⟦<Part as Tally>⟧.settings part.now)).word }
 {
-    match part {
-        Part::Hist(table) => table.word(),
-        Part::Trace(table) => table.word(),
-        Part::StartStop(table) => table.word(),
-        Part::Coincidence(table) => table.word(),
-        Part::Image(table) => table.word(),
-        Part::Correlation(table) => table.word(),
-        Part::Cube(table) => table.word(),
-        Part::Fold(table) => table.word(),
-    }
+    in_part!(part, table => table.word())
 }
 
 /// Whether two tables are of one kind.
@@ -60,16 +51,7 @@ fn put_part<O: Sink>(number: u64, part: &Part, block: &mut Block, out: &mut O) -
         (O.written out.old) (O.written out.new) block.old) }
     ensures cause { FailsOnce (O.faults out.old) (O.faults out.new) result }
 {
-    match part {
-        Part::Hist(table) => put_table(number, table, block, out),
-        Part::Trace(table) => put_table(number, table, block, out),
-        Part::StartStop(table) => put_table(number, table, block, out),
-        Part::Coincidence(table) => put_table(number, table, block, out),
-        Part::Image(table) => put_table(number, table, block, out),
-        Part::Correlation(table) => put_table(number, table, block, out),
-        Part::Cube(table) => put_table(number, table, block, out),
-        Part::Fold(table) => put_table(number, table, block, out),
-    }
+    in_part!(part, table => put_table(number, table, block, out))
 }
 
 /// Puts the lines of all tables.

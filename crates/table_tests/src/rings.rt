@@ -3,7 +3,7 @@ ghost use Rattle.std.{specs.Prelude.{◌≡◌, ◌<◌, IfOk, length}, specs.Li
 
 use crate::given::holds;
 use lag_ring::{
-    Entry, LagRing, PairCells, RowCells, Side, few_lag_sums, lag_sums, put_weights, total_weight,
+    Entry, LagRing, PairCells, RowCells, Side, byte_lag_sums, put_side, spots_of, total_weight,
 };
 use std::alloc::Global;
 use std::marker::Brand;
@@ -238,7 +238,7 @@ fn sums_of_two() -> [[u32; 5]; 2] {
             b: 0,
         },
     ];
-    put_weights(&mut window, Side::First, 64, 100, &earlier);
+    put_side(&mut window, Side::First, 64, 100, &earlier);
     let later = [
         Entry {
             index: 100,
@@ -251,8 +251,9 @@ fn sums_of_two() -> [[u32; 5]; 2] {
             b: 2,
         },
     ];
-    let many = lag_sums(&window, Side::Second, 100, 0, &later);
-    let few = few_lag_sums(&window, Side::Second, 100, 48, &later);
+    let spots = spots_of(Side::Second, 100, &later);
+    let many = byte_lag_sums::<64>(&window, 3, 0, &spots);
+    let few = byte_lag_sums::<16>(&window, 3, 48, &spots);
     [
         [many[63], many[60], many[54], many[51], many[50]],
         [few[15], few[12], few[6], few[3], few[2]],

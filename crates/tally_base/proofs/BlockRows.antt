@@ -1,6 +1,6 @@
 -- One row more.
-use Rattle.std.{proofs.Common.{◌≡◌, ◌∙◌, ℕ, zero, suc, ◌+◌, ◌-◌, ◌^◌, ◌%◌, ◌<◌, ◌≤◌, List, [], ◌∷◌, ◌++◌, length, get_or, set, ap, refl, arith, length-append, append_assoc, append-nil, ◌⊎◌, ⊎_elim}, proofs.lemmas.Grind.common_steps, proofs.lemmas.List.get_or-set_same, proofs.lemmas.Bool.Decides.nat_tests}
-use Rattle.tally_base.{specs.declared.event.Event.Event, specs.declared.event.EventKind.EventKind, specs.declared.event.EventKind.TheVariants.{Photon, Marker}, specs.Codes.{code_of, dtime_of, kind_of, joined, code_in, dtime_in, IsByte}, specs.Columns.{row, rows, event_at, gathered}, specs.declared.block.Block.Block}
+use Rattle.std.{proofs.Common.{◌≡◌, ◌∙◌, ℕ, zero, suc, ◌+◌, ◌-◌, ◌^◌, ◌<◌, ◌≤◌, List, [], ◌∷◌, ◌++◌, length, get_or, set, ap, refl, arith, length-append, append_assoc, append-nil, ◌⊎◌, ⊎_elim, rules}, proofs.lemmas.Grind.common_steps, proofs.lemmas.List.get_or-set_same}
+use Rattle.tally_base.{specs.declared.event.Event.Event, specs.declared.event.EventKind.EventKind, specs.Codes.{code_of, dtime_of, kind_of, joined, code_in, dtime_in, IsByte}, specs.Columns.{row, rows, event_at, gathered}, specs.declared.block.Block.Block}
 
 pub length-rows : {A : Type 0} (f : ℕ → A) (n : ℕ) → length (rows f n) ≡ n
 length-rows f zero = refl
@@ -15,8 +15,7 @@ same-rows f g zero same = refl
 same-rows f g (suc n) same = rw (same-rows f g n (λ i lt. same i (omega (arith, lt))), same n (omega arith)) refl
 
 pub kind-again : (kind : EventKind) → IsByte kind → kind_of (code_of kind) (dtime_of kind) ≡ kind
-kind-again (Photon input dtime) byte = grind (arith, nat_tests)
-kind-again (Marker bits) byte = let e : (256 + bits) % 256 ≡ bits = omega (arith, byte) in grind (arith, nat_tests, e)
+kind-again kind byte = search (rules, arith)
 
 pub more_rows : {A : Type 0} (f : ℕ → A) (n : ℕ) → rows f (n + 1) ≡ rows f n ++ f n ∷ []
 more_rows f n = let e : n + 1 ≡ suc n = omega arith in rw e refl
@@ -40,27 +39,20 @@ kind-joined code dtime few = rw (code-again code dtime few, dtime-again code dti
 -- the rows before one that is written
 pub rows-before : (places times marks : List ℕ) (n place time mark : ℕ)
     → rows (row (set places n place) (set times n time) (set marks n mark)) n ≡ rows (row places times marks) n
-rows-before places times marks n place time mark =
-    same-rows (row (set places n place) (set times n time) (set marks n mark)) (row places times marks) n (λ i lt. rw (other places n i place lt, other times n i time lt, other marks n i mark lt) refl)
+rows-before places times marks n place time mark = search (rules, arith, same-rows, other)
 
 -- with the row that is written
 pub rows-written : (places times marks : List ℕ) (n place time mark code dtime : ℕ)
     → n < length places → n < length times → n < length marks → mark ≡ joined code dtime → code < 2 ^ 16
     → rows (row (set places n place) (set times n time) (set marks n mark)) (n + 1)
     ≡ rows (row places times marks) n ++ record { place = place; kind = kind_of code dtime; time = time } ∷ []
-rows-written places times marks n place time mark code dtime in1 in2 in3 is few =
-    let f = row (set places n place) (set times n time) (set marks n mark) in
-    let old = rows-before places times marks n place time mark in
-    let new : f n ≡ record { place = place; kind = kind_of code dtime; time = time } = rw (here places n place in1, here times n time in2, here marks n mark in3, is, kind-joined code dtime few) refl in
-    more_rows f n ∙ rw (old, new) refl
+rows-written places times marks n place time mark code dtime in1 in2 in3 is few = search (rules, arith, rows-before, here, kind-joined, more_rows)
 
 pub rows-push : (places times marks : List ℕ) (n place time mark code dtime : ℕ) (e : Event)
     → n < length places → n < length times → n < length marks → mark ≡ joined code dtime → code < 2 ^ 16
     → IsByte e.kind → place ≡ e.place → time ≡ e.time → code ≡ code_of e.kind → dtime ≡ dtime_of e.kind
     → rows (row (set places n place) (set times n time) (set marks n mark)) (n + 1) ≡ rows (row places times marks) n ++ e ∷ []
-rows-push places times marks n place time mark code dtime e in1 in2 in3 is few byte p t c d =
-    let new : record { place = place; kind = kind_of code dtime; time = time } ≡ e = rw (p, t, c, d, kind-again e.kind byte) refl in
-    rows-written places times marks n place time mark code dtime in1 in2 in3 is few ∙ rw new refl
+rows-push places times marks n place time mark code dtime e in1 in2 in3 is few byte p t c d = search (rules, arith, kind-again, rows-written)
 
 -- the rows up to one, and those behind it
 pub rows-split : {A : Type 0} (f : ℕ → A) (i n : ℕ) → i ≤ n → (back : List A) × (rows f n ≡ rows f i ++ back)

@@ -1,13 +1,6 @@
 pub mod Reasons
 pub mod Rows
-pub mod Shares
 pub mod BlockRows
 pub mod Floors
-pub mod Props
-pub mod Greatest
-pub mod Back
-pub mod Slices
 pub mod Sorted
-pub mod Lower
-pub mod Markers
 pub mod Sums

@@ -1,5 +1,5 @@
 -- Sums over numbers, and what is counted by a number: in a range and behind it is all.
-use Rattle.std.{proofs.Common.{◌≡◌, ◌∙◌, ℕ, zero, suc, ◌+◌, ◌<◌, ◌≤◌, Bool, true, false, ◌&&◌, cond, eqb, leb, List, [], ◌∷◌, refl, ap, arith}, specs.List.{count_by, sum_by, range_with_len}, proofs.lemmas.Grind.common_steps, proofs.lemmas.Bool.Decides.nat_tests, proofs.lemmas.List.Sums.sum_by-cons}
+use Rattle.std.{proofs.Common.{rules, ◌≡◌, ◌∙◌, ℕ, zero, suc, ◌+◌, ◌<◌, ◌≤◌, Bool, true, false, ◌&&◌, cond, eqb, leb, List, [], ◌∷◌, refl, ap, arith, ltb, ◌++◌, length, take, drop, ◌*◌, ◌/◌, ◌%◌, sym}, specs.List.{count_by, sum_by, range_with_len}, proofs.lemmas.Grind.common_steps, proofs.lemmas.Bool.Decides.nat_tests, proofs.lemmas.List.Sums.sum_by-cons, proofs.Math.Nat.{div-eq_of_lt-le, div-add-mod, lt_of_mul-lt-mul_left, mul-le-mul_left, mul-le-mul_right, mul-lt-mul_of_pos_right, lt-mul-div-succ, mul-div-le, mod-lt}}
 
 pub sum_same : {X : Type 0} (f g : X → ℕ) → ((x : X) → f x ≡ g x) → (xs : List X) → sum_by f xs ≡ sum_by g xs
 sum_same f g same [] = refl
@@ -21,41 +21,22 @@ pub count_none : {X : Type 0} (p : X → Bool) → ((x : X) → p x ≡ false) �
 count_none p none xs = count_same p (λ x. false) none xs ∙ sum_none xs
 
 -- each that passes the last test passes one of the first two, and none passes both
-pub count_parts : {X : Type 0} (p q r : X → Bool) → ((x : X) → cond (p x) 1 0 + cond (q x) 1 0 ≡ cond (r x) 1 0) → (xs : List X) → count_by p xs + count_by q xs ≡ count_by r xs
+pub count_parts : {X : Type 0} (p q r : X → Bool) → ((x : X) → cond (p x) 1 0 + cond (q x) 1 0 ≡ cond (r x) 1 0)
+    → (xs : List X) → count_by p xs + count_by q xs ≡ count_by r xs
 count_parts p q r parts [] = refl
-count_parts p q r parts (x ∷ xs) =
-    omega (arith, parts x, count_parts p q r parts xs, sum_by-cons (λ x. cond (p x) 1 0) x xs, sum_by-cons (λ x. cond (q x) 1 0) x xs, sum_by-cons (λ x. cond (r x) 1 0) x xs)
+count_parts p q r parts (x ∷ xs) = search (rules, arith, parts, sum_by-cons, count_parts p q r parts xs)
 
 -- a number is met once in a range that it is in, and in no other
-before_range : (a start n count : ℕ) → a < start → sum_by (λ i. cond (eqb a i) count 0) (range_with_len start n) ≡ 0
-before_range a start zero count before = refl
-before_range a start (suc n) count before =
-    let more = before_range a (start + 1) n count (omega arith) in
-    let here : cond (eqb a start) count 0 ≡ 0 = grind (arith, common_steps) in
-    omega (arith, more, here, sum_by-cons (λ i. cond (eqb a i) count 0) start (range_with_len (start + 1) n))
+met : (a start n count : ℕ) → sum_by (λ i. cond (eqb a i) count 0) (range_with_len start n) ≡ cond (leb start a && ltb a (start + n)) count 0
+met a start zero count = grind (arith, common_steps, nat_tests)
+met a start (suc n) count =
+    grind (arith, common_steps, nat_tests, met a (start + 1) n count, sum_by-cons (λ i. cond (eqb a i) count 0) start (range_with_len (start + 1) n))
 
 pub behind_range : (a start n count : ℕ) → start + n ≤ a → sum_by (λ i. cond (eqb a i) count 0) (range_with_len start n) ≡ 0
-behind_range a start zero count behind = refl
-behind_range a start (suc n) count behind =
-    let more = behind_range a (start + 1) n count (omega (arith, behind)) in
-    let here : cond (eqb a start) count 0 ≡ 0 = grind (arith, common_steps, behind) in
-    omega (arith, more, here, sum_by-cons (λ i. cond (eqb a i) count 0) start (range_with_len (start + 1) n))
-
-met : (a start n count : ℕ) (first : Bool) → eqb a start ≡ first → start ≤ a → (start + 1 ≤ a → sum_by (λ i. cond (eqb a i) count 0) (range_with_len (start + 1) n) ≡ count) → sum_by (λ i. cond (eqb a i) count 0) (range_with_len start (suc n)) ≡ count
-met a start n count true is low later =
-    let equal : a ≡ start = grind (arith, common_steps) in
-    let more = before_range a (start + 1) n count (omega arith) in
-    let here : cond (eqb a start) count 0 ≡ count = ap (λ b. cond b count 0) is in
-    omega (arith, more, here, sum_by-cons (λ i. cond (eqb a i) count 0) start (range_with_len (start + 1) n))
-met a start n count false is low later =
-    let above : start + 1 ≤ a = grind (arith, common_steps) in
-    let more = later above in
-    let here : cond (eqb a start) count 0 ≡ 0 = ap (λ b. cond b count 0) is in
-    omega (arith, more, here, sum_by-cons (λ i. cond (eqb a i) count 0) start (range_with_len (start + 1) n))
+behind_range a start n count behind = met a start n count ∙ grind (arith, common_steps, nat_tests, behind)
 
 pub in_range : (a start n count : ℕ) → start ≤ a → a < start + n → sum_by (λ i. cond (eqb a i) count 0) (range_with_len start n) ≡ count
-in_range a start zero count low high = absurd (omega arith)
-in_range a start (suc n) count low high = met a start n count (eqb a start) refl low (λ above. in_range a (start + 1) n count above (omega arith))
+in_range a start n count low high = met a start n count ∙ grind (arith, common_steps, nat_tests, low, high)
 
 in_or_behind : (a n : ℕ) (b : Bool) → leb n a ≡ b → sum_by (λ i. cond (eqb a i) 1 0) (range_with_len 0 n) + cond b 1 0 ≡ 1
 in_or_behind a n true is = let past : n ≤ a = grind (arith, nat_tests, is) in omega (arith, behind_range a 0 n 1 (omega (arith, past)))
@@ -75,3 +56,30 @@ parts p f n (x ∷ xs) =
     let split = sum_same (λ i. count_by (λ x. p x && eqb (f x) i) (x ∷ xs)) (λ i. cond (p x && eqb (f x) i) 1 0 + count_by (λ x. p x && eqb (f x) i) xs) (λ i. sum_by-cons (λ x. cond (p x && eqb (f x) i) 1 0) x xs) (range_with_len 0 n) in
     let plus = sum_plus (λ i. cond (p x && eqb (f x) i) 1 0) (λ i. count_by (λ x. p x && eqb (f x) i) xs) (range_with_len 0 n) in
     omega (arith, rest, one, split, plus, sum_by-cons (λ x. cond (p x) 1 0) x xs, sum_by-cons (λ x. cond (p x && leb n (f x)) 1 0) x xs)
+
+-- A quotient is a product by a rounded share.
+
+lower : (m w n q r a : ℕ) → w * q + r ≡ m → r ≤ w → w * a ≤ n → a * m ≤ n * (q + 1)
+lower m w n q r a parts small below =
+    let one : (w * a) * q ≤ n * q = mul-le-mul_right q below in
+    let two : a * r ≤ a * w = mul-le-mul_left a small in
+    let three : a * m ≡ a * (w * q + r) = ap (λ x. a * x) (sym parts) in
+    omega (arith, one, two, three, below)
+
+upper : (m w n q a : ℕ) → 0 < w → w * q ≤ m → n < q → n < w * (a + 1) → n * (q + 1) < (a + 1) * m
+upper m w n q a some parts few above =
+    let one : n * (w * q) ≤ n * m = mul-le-mul_left n parts in
+    let two : n * w < q * w = mul-lt-mul_of_pos_right few some in
+    let three : (n + 1) * m ≤ (w * (a + 1)) * m = mul-le-mul_right m (omega (arith, above)) in
+    lt_of_mul-lt-mul_left w (omega (arith, one, two, three))
+
+pub quotient_is : (m w n : ℕ) → 0 < w → n < m / w → n * (m / w + 1) / m ≡ n / w
+quotient_is m w n some few =
+    div-eq_of_lt-le m
+    (lower m w n (m / w) (m % w) (n / w) (div-add-mod m w) (omega (arith, mod-lt m some)) (mul-div-le n w))
+    (upper m w n (m / w) (n / w) some (mul-div-le m w) few (lt-mul-div-succ n some))
+
+-- A whole `Vec` that was lent as a slice.
+
+pub whole_slice : {X : Type 0} (xs : List X) (ys : List X) (n : ℕ) → length xs ≡ length ys → n ≡ length ys → take n (xs ++ drop (length xs) ys) ≡ xs
+whole_slice xs ys n same all = grind (arith, common_steps)

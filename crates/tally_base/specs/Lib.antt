@@ -4,11 +4,9 @@ pub mod Faults
 pub mod Events
 pub mod FaultCounts
 pub mod Limits
-pub mod Divisors
 pub mod Gates
 pub mod Settings
 pub mod Tally
 pub mod Size
 pub mod Codes
 pub mod Columns
-pub mod Floors

@@ -1,6 +1,6 @@
 -- What a contract sees of the settings of a plan: their numbers alone, so that definitions can make them.
-use Rattle.std.{specs.Prelude.{ℕ, ◌+◌, ◌-◌, ◌*◌, ◌/◌, ◌^◌, Bool, true, false, List, length}, specs.declared.option.Option.Option}
-use Rattle.tally_base.{specs.declared.settings.Group.Group, specs.declared.settings.ShiftSet.ShiftSet, specs.declared.settings.HistSet.HistSet, specs.declared.settings.TraceSet.TraceSet, specs.declared.settings.StartStopSet.StartStopSet, specs.declared.settings.CoincidenceSet.CoincidenceSet, specs.declared.settings.ImageSet.ImageSet, specs.declared.settings.CubeSet.CubeSet, specs.declared.settings.FoldSet.FoldSet, specs.declared.settings.CorrelationSet.CorrelationSet}
+use Rattle.tally_base.{specs.declared.settings.Group.Group, specs.declared.settings.ShiftSet.ShiftSet, specs.declared.settings.HistSet.HistSet, specs.declared.settings.TraceSet.TraceSet, specs.declared.settings.StartStopSet.StartStopSet, specs.declared.settings.CoincidenceSet.CoincidenceSet, specs.declared.settings.ImageSet.ImageSet, specs.declared.settings.CubeSet.CubeSet, specs.declared.settings.FoldSet.FoldSet, specs.declared.settings.CorrelationSet.CorrelationSet, specs.declared.divisor.Divisor.Divisor}
+use Rattle.std.{specs.Prelude.{ℕ, ◌+◌, ◌-◌, ◌*◌, ◌/◌, ◌^◌, Bool, true, false, List, length, ◌<◌}, specs.declared.option.Option.Option}
 
 pub record GroupView : Type 0 where
   -- bit n is set for the input n
@@ -123,11 +123,15 @@ entries (FoldSettings set) = 2 ^ length set.groups + set.window + 2
 
 -- whether the times of markers may not fall in it either
 abbrev pub is_strict : PartSettings → Bool
-is_strict (HistSettings set) = false
-is_strict (TraceSettings set) = false
-is_strict (StartStopSettings set) = false
-is_strict (CoincidenceSettings set) = false
 is_strict (ImageSettings set) = true
-is_strict (CorrelationSettings set) = false
 is_strict (CubeSettings set) = true
-is_strict (FoldSettings set) = false
+is_strict _ = false
+
+-- What a divisor divides by.
+
+abbrev pub divisor_of : Divisor → ℕ
+divisor_of d = d.by
+
+-- a number whose quotient is a product
+abbrev pub IsShort : Divisor → ℕ → Type 0
+IsShort d number = number < d.share

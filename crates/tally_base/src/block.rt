@@ -1,5 +1,5 @@
 // Events in columns.
-ghost use Rattle.std.specs.Prelude.{◌≡◌, ◌≤◌};
+ghost use Rattle.std.specs.Prelude.{◌≡◌, ◌≤◌, ◌≢◌, ◌+◌, ◌<◌, ◌++◌, ◌∷◌, ◌&&◌, [], length, ℕ, nat_lt, slice_index, if◌then◌else◌};
 ghost use Rattle.tally_base.{specs.Size.block_size, specs.Codes.{code_of, dtime_of, kind_of, joined, code_in, dtime_in, IsByte, InNoGroup}};
 
 use crate::event::{Event, EventKind, is_in};
@@ -25,8 +25,7 @@ pub struct Block {
 }
 
 impl Block {
-    ghost use Rattle.std.specs.Prelude.{◌≡◌, ◌≢◌, ◌+◌, ◌<◌, ◌++◌, ◌∷◌, ◌&&◌, [], length, ℕ, nat_lt, slice_index, if◌then◌else◌};
-    ghost use Rattle.tally_base.{specs.Events.{is_photon, is_in}, specs.Columns.{events_in, IsSorted, count, sorted, event_at, groups_at, code_at, dtime_at, time_at, item, gathered, event_by, written}, specs.Floors.floor_after};
+    ghost use Rattle.tally_base.{specs.Events.{is_photon, is_in}, specs.Columns.{events_in, IsSorted, count, sorted, event_at, groups_at, code_at, dtime_at, time_at, item, gathered, event_by, written}, specs.Tally.floor_after};
 
     /// No events.
     pub fn new() -> Block

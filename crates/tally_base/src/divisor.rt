@@ -1,5 +1,5 @@
 // Division by a number that stays the same.
-ghost use Rattle.std.specs.Prelude.{◌≡◌, ◌<◌, ◌/◌, ◌^◌};
+ghost use Rattle.std.specs.Prelude.{◌≡◌, ◌<◌, ◌/◌, ◌^◌, ℕ};
 
 /// A number to divide by, with what makes most divisions by it a product: numbers below 2^63 over the
 /// divisor take no division.
@@ -13,8 +13,7 @@ pub struct Divisor {
 }
 
 impl Divisor {
-    ghost use Rattle.std.specs.Prelude.{◌≡◌, ◌<◌, ◌/◌, ℕ};
-    ghost use Rattle.tally_base.specs.Divisors.{divisor_of, IsShort};
+    ghost use Rattle.tally_base.specs.Settings.{divisor_of, IsShort};
 
     /// Divides by this number.
     pub fn new(by: u64) -> Divisor

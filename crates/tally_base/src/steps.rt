@@ -1,4 +1,6 @@
 // A counter of steps that takes no bytes.
+ghost use Rattle.std.specs.Prelude.{◌≡◌, ◌+◌, ◌<◌};
+
 use std::marker::Model;
 use std::sync::ledger::{Blank, Book, Ledger, Share};
 
@@ -20,8 +22,6 @@ impl<L: Ledger> Model for Steps<L> {
 }
 
 impl<L: Ledger> Steps<L> {
-    ghost use Rattle.std.specs.Prelude.{◌≡◌, ◌+◌, ◌<◌};
-
     /// A counter at 0, from a ledger that nothing was written in.
     pub fn new(blank: Blank) -> Steps<L>
         requires name { blank.name ≡ L.name }

@@ -1,6 +1,6 @@
 // What every table is.
 ghost use Rattle.std.specs.Prelude.{◌≡◌, ℕ, Bool, true, false, ◌+◌, ◌<◌, ◌≤◌, [], ◌∷◌, ◌++◌, IsTrue, length, if◌then◌else◌};
-ghost use Rattle.tally_base.{specs.declared.event.Event.Event, specs.Settings.{PartSettings, entries, is_strict}, specs.Tally.{History, moves_floor, greatest_time}, specs.Limits.{record_limit, time_limit}, specs.Events.is_photon, specs.Columns.{gathered, events_in, IsSorted}, specs.Floors.{floor_after, InOrder}};
+ghost use Rattle.tally_base.{specs.declared.event.Event.Event, specs.Settings.{PartSettings, entries, is_strict}, specs.Tally.{History, moves_floor, greatest_time, floor_after, InOrder}, specs.Limits.{record_limit, time_limit}, specs.Events.is_photon, specs.Columns.{gathered, events_in, IsSorted}};
 
 use crate::block::Block;
 use crate::event::Event;

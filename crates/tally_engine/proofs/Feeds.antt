@@ -1,16 +1,17 @@
 -- What the words of a piece give to the tables.
-use Rattle.std.{proofs.Common.{◌≡◌, ◌≢◌, ℕ, false, List, [], ◌++◌, map, None, Some, Ok, Err, IfErr, OnOk, refl, sym, ap, subst, ◌∙◌, inl, inr, ⊎_elim, arith}, specs.declared.option.Option.Option, specs.declared.result.Result.Result}
-use Rattle.tally_base.{specs.declared.fault.Fault.Fault, specs.declared.fault.Fault.TheVariants.WriteFault, specs.FaultCounts.Rose, specs.Tally.History, specs.Faults.{fault_in, is_outside}}
-use Rattle.ptu_definitions.{specs.declared.records.Summary.Summary, specs.Kept.Marked, specs.Times.events, specs.Streams.{Reading, record_refusal, given, last_in}, specs.Words.words_of, proofs.StreamLemmas.given-clear, proofs.DeliveredLaws.delivered-settled, specs.Settled.not_marked}
+use Rattle.std.{proofs.Common.{◌≡◌, ◌≢◌, ℕ, false, List, [], ◌++◌, None, Some, Ok, Err, IfErr, OnOk, refl, sym, ap, subst, ◌∙◌, ⊎_elim, arith, rules, suc, ◌<◌, ◌∷◌, length, get_or, map, true, ◌≤◌, ◌+◌, ◌*◌, sum_by}, specs.declared.option.Option.Option, specs.declared.result.Result.Result}
+use Rattle.tally_base.{specs.declared.fault.Fault.Fault, specs.declared.fault.Fault.TheVariants.WriteFault, specs.FaultCounts.Rose, specs.Tally.History, specs.Faults.{fault_in, is_outside}, specs.Settings.entries}
+use Rattle.ptu_definitions.{specs.declared.records.Summary.Summary, specs.Kept.Marked, specs.Streams.{Reading, record_refusal, given, last_in}, specs.Words.words_of, proofs.StreamLemmas.given-clear, proofs.DeliveredLaws.delivered-settled, specs.Settled.not_marked}
 use Rattle.abs_time.specs.declared.clock.Clock.{Clock}
-use Rattle.record_stream.{specs.declared.taker.EventTaker.Ghosts, specs.Feeding.{GaveOn, BrokeOn, Fed}, specs.Ending.Ended, specs.Standing.Stands}
+use Rattle.record_stream.{specs.declared.taker.EventTaker.Ghosts, specs.Feeding.{GaveOn, BrokeOn, Fed}, specs.Ending.Ended, specs.Standing.Stands, proofs.Summaries.so_far-records}
 use Rattle.settle.specs.declared.settle.Settle.{Settle}
 use Rattle.gate_plan.{specs.Shifting.Sorting, specs.Histories.{with_groups, history, settled_history}, proofs.Histories.with_groups-append}
-use Rattle.plan_parts.{specs.Parts.AllHold, specs.declared.part.Part.Part}
-use Rattle.tally_engine.specs.Pieces.{Ends}
+use Rattle.plan_parts.{specs.Parts.{AllHold, settings_in, entries_in}, specs.declared.part.Part.Part, proofs.Tables.tables_within}
+use Rattle.tally_engine.{specs.Pieces.Ends, specs.declared.engine.Engine.Engine, specs.Engine.{held, bound}}
 
 -- a taker that never breaks was given all that the words call for
-pub fed_whole : {T : Type 0} (g : Ghosts T) {X : Type 0} (how : Reading) (old new : T) (words now : List ℕ) (r : Result X Fault) → g.got old old [] → ((l : Marked) → g.broke old new l → ⊥) → Fed g how old new words now r
+pub fed_whole : {T : Type 0} (g : Ghosts T) {X : Type 0} (how : Reading) (old new : T) (words now : List ℕ) (r : Result X Fault)
+    → g.got old old [] → ((l : Marked) → g.broke old new l → ⊥) → Fed g how old new words now r
     → (fault_in r ≡ record_refusal how now) × ((more : Marked) × (given how now ≡ given how words ++ more) × g.got old new more)
 fed_whole g how old new words now (Ok x) none unbroken fed = (sym fed.0, (fed.1.more, fed.1.adds, fed.1.follows old [] none))
 fed_whole g how old new words now (Err fault) none unbroken fed =
@@ -23,9 +24,7 @@ fed_whole g how old new words now (Err fault) none unbroken fed =
 pub history-given : (by : Sorting) (how : Reading) (clock : Clock) (sum : Summary) (count : ℕ) (settle : Settle) (carried : List ℕ) (refused : Option Fault) (bytes : List ℕ) → Stands how clock sum count settle carried refused bytes → refused ≡ None
     → settled_history by how (words_of bytes) ≡ with_groups by (not_marked (given how (words_of bytes)))
 unfolding settled_history
-history-given by how clock sum count settle carried None bytes h none =
-    rw (given-clear how (words_of bytes) h.1.at.clear, delivered-settled how.policy.settle how.mode (events (map how.meaning (words_of bytes)))) refl
-history-given by how clock sum count settle carried (Some fault) bytes h none = cc
+history-given by how clock sum count settle carried refused bytes h none = search (rules, arith, given-clear, delivered-settled)
 
 history-adds : (by : Sorting) (how : Reading) (before now : List ℕ) (more : Marked) → given how now ≡ given how before ++ more
     → with_groups by (not_marked (given how now)) ≡ with_groups by (not_marked (given how before)) ++ with_groups by (not_marked more)
@@ -35,25 +34,26 @@ pub at_same : {A : Type 0} (P : A → Type 0) (x y : A) → P x → x ≡ y → 
 at_same P x y h is = subst P is h
 
 pub both_on_ok : {X P Q R : Type 0} (r : Result X Fault) → (P → Q → R) → OnOk r P → OnOk r Q → OnOk r R
-both_on_ok (Ok x) f p q = f p q
-both_on_ok (Err fault) f p q = tt
+both_on_ok r f p q = search (rules, arith)
 
 on_ok : {X : Type 0} {A : Type 0} (r : Result X Fault) → ((x : X) → r ≡ Ok x → A) → OnOk r A
-on_ok (Ok x) f = f x refl
-on_ok (Err fault) f = tt
+on_ok r f = search (rules, arith)
 
 module _ (by : Sorting) (how : Reading) {X : Type 0} (r : Result X Fault) (before after : History → Type 0) (bytes piece : List ℕ) where
   -- the events of a piece behind those that were given
   counts_more : (clock clock' : Clock) (sum sum' : Summary) (count count' : ℕ) (settle settle' : Settle) (carried carried' : List ℕ) (refused' : Option Fault) → Stands how clock sum count settle carried None bytes → Stands how clock' sum' count' settle' carried' refused' (bytes ++ piece) → refused' ≡ None
-      → (more : Marked) → given how (words_of (bytes ++ piece)) ≡ given how (words_of bytes) ++ more → ((h : History) → before h → after (h ++ with_groups by (not_marked more)))
+      → (more : Marked) → given how (words_of (bytes ++ piece)) ≡ given how (words_of bytes) ++ more
+      → ((h : History) → before h → after (h ++ with_groups by (not_marked more)))
       → before (settled_history by how (words_of bytes)) → after (settled_history by how (words_of (bytes ++ piece)))
   counts_more clock clock' sum sum' count count' settle settle' carried carried' refused' stands stands' none more adds follows so_far =
       let is = history-given by how _ _ _ _ _ None bytes stands refl in
-      rw (history-given by how _ _ _ _ _ _ (bytes ++ piece) stands' none, history-adds by how (words_of bytes) (words_of (bytes ++ piece)) more adds, ← is) (follows _ so_far)
+      rw (history-given by how _ _ _ _ _ _ (bytes ++ piece) stands' none, history-adds by how (words_of bytes) (words_of (bytes ++ piece)) more adds, ← is)
+      (follows _ so_far)
 
   pub counts_on : (clock clock' : Clock) (sum sum' : Summary) (count count' : ℕ) (settle settle' : Settle) (carried carried' : List ℕ) (refused refused' : Option Fault) → Stands how clock sum count settle carried refused bytes → Stands how clock' sum' count' settle' carried' refused' (bytes ++ piece)
       → refused' ≡ fault_in r → ((fault : Fault) → refused ≡ Some fault → r ≡ Err fault)
-      → (refused ≡ None → (more : Marked) × (given how (words_of (bytes ++ piece)) ≡ given how (words_of bytes) ++ more) × ((h : History) → before h → after (h ++ with_groups by (not_marked more))))
+      → (refused ≡ None → (more : Marked) × (given how (words_of (bytes ++ piece)) ≡ given how (words_of bytes) ++ more) × ((h : History)
+      → before h → after (h ++ with_groups by (not_marked more))))
       → OnOk r (before (settled_history by how (words_of bytes)) → after (settled_history by how (words_of (bytes ++ piece))))
   counts_on clock clock' sum sum' count count' settle settle' carried carried' (Some fault) refused' stands stands' is kept fed = rw (kept fault refl) tt
   counts_on clock clock' sum sum' count count' settle settle' carried carried' None refused' stands stands' is kept fed =
@@ -63,13 +63,58 @@ module _ (by : Sorting) (how : Reading) {X : Type 0} (r : Result X Fault) (befor
 -- ## The end
 
 -- a taker that never breaks was given the rest
-pub ends_by : {T : Type 0} (g : Ghosts T) (by : Sorting) (how : Reading) (a b : T) (bytes : List ℕ) (old new : List Part) (r : Result Summary Fault) → g.got a a [] → ((l : Marked) → g.broke a b l → ⊥)
-    → (g.got a b (last_in how (words_of bytes)) → AllHold old (settled_history by how (words_of bytes)) → AllHold new (history by how (words_of bytes))) → Ended g how a b bytes r → Ends by how bytes old new r
-ends_by g by how a b bytes old new (Ok summary) none unbroken follows e = record { streams = e.streams; follows = follows (e.follows a [] none) }
-ends_by g by how a b bytes old new (Err fault) none unbroken follows (inl e) = e.0
-ends_by g by how a b bytes old new (Err fault) none unbroken follows (inr e) = absurd (unbroken e.1.front (e.1.broken a [] none))
+pub ends_by : {T : Type 0} (g : Ghosts T) (by : Sorting) (how : Reading) (a b : T) (bytes : List ℕ) (old new : List Part) (r : Result Summary Fault)
+    → g.got a a [] → ((l : Marked) → g.broke a b l → ⊥)
+    → (g.got a b (last_in how (words_of bytes)) → AllHold old (settled_history by how (words_of bytes)) → AllHold new (history by how (words_of bytes)))
+    → Ended g how a b bytes r → Ends by how bytes old new r
+ends_by g by how a b bytes old new r none unbroken follows e = search (rules, arith)
 
 -- no write fails where none is counted
-pub inside_of : {X : Type 0} (r : Result X Fault) → IfErr r (λ fault. fault ≢ WriteFault → is_outside fault ≡ false) → IfErr r (λ fault. fault ≡ WriteFault → Rose 0 0) → IfErr r (λ fault. is_outside fault ≡ false)
-inside_of (Ok x) inside cause = tt
-inside_of (Err fault) inside cause = inside (λ e. let rose = cause e in omega (arith, rose))
+pub inside_of : {X : Type 0} (r : Result X Fault) → IfErr r (λ fault. fault ≢ WriteFault → is_outside fault ≡ false)
+    → IfErr r (λ fault. fault ≡ WriteFault → Rose 0 0) → IfErr r (λ fault. is_outside fault ≡ false)
+inside_of r inside cause = search (rules, arith)
+
+-- An engine of no bytes.
+
+pub none_taken : (how : Reading) (clock : Clock) (sum : Summary) (count : ℕ) (settle : Settle) (carried : List ℕ) (refused : Option Fault) → Stands how clock sum count settle carried refused [] → refused ≡ None → 4 * sum.records + length carried ≡ 0
+none_taken how clock sum count settle carried refused stands none = search (rules, arith, so_far-records)
+
+-- What an engine of these tables keeps, with the carried bytes and the events kept back, is within its bound.
+pub kept_within : (parts : List Part) (carried waiting settle : ℕ) → carried ≤ 48 → waiting ≤ settle
+    → entries_in parts + carried + waiting ≤ 48 + settle + sum_by entries (settings_in parts)
+kept_within parts carried waiting settle few back = omega (arith, tables_within parts, few, back)
+
+-- An engine keeps no more entries than its bound.
+pub engine_within : (engine : Engine) → held engine ≤ bound engine
+engine_within engine = kept_within engine.parts.items _ _ _ (search (rules, arith)) (search (rules, arith))
+
+-- Lists of one image.
+
+-- lists that agree under f at each place have one image
+pub same_map : {X Y : Type 0} (f : X → Y) (xs ys : List X) → length ys ≡ length xs
+    → ((k : ℕ) (d : X) → k < length xs → f (get_or ys k d) ≡ f (get_or xs k d)) → map f ys ≡ map f xs
+same_map f [] [] same agree = refl
+same_map f [] (y ∷ ys) same agree = absurd (omega arith)
+same_map f (x ∷ xs) [] same agree = absurd (omega arith)
+same_map f (x ∷ xs) (y ∷ ys) same agree = rw (agree 0 x (omega arith), same_map f xs ys (omega arith) (λ k d within. agree (suc k) d (omega arith))) refl
+
+-- What a stream refused, before and behind a piece.
+
+-- what holds behind a piece that was taken
+pub where_taken : {X A : Type 0} (r : Result X Fault) (refused : Option Fault) → refused ≡ fault_in r → OnOk r A → refused ≡ None → A
+where_taken r refused is a none = search (rules, arith)
+
+pub of_faults : {X : Type 0} {P Q : Fault → Type 0} (r : Result X Fault) (refused : Option Fault)
+    → refused ≡ fault_in r → ((fault : Fault) → refused ≡ Some fault → P fault → Q fault) → IfErr r P → IfErr r Q
+of_faults r refused is follows p = search (rules, arith)
+
+pub no_write : (fault : Fault) → is_outside fault ≡ false → fault ≢ WriteFault
+no_write fault inside = λ is. let e : true ≡ false = sym (ap is_outside is) ∙ inside in cc
+
+-- what was answered had not been refused
+pub unrefused : {A : Type 0} (refused : Option Fault) (r : Result A Fault) (x : A)
+    → r ≡ Ok x → ((fault : Fault) → refused ≡ Some fault → r ≡ Err fault) → refused ≡ None
+unrefused refused r x is kept = search (rules, arith)
+
+pub not_written : (refused : Option Fault) → refused ≡ None → refused ≢ Some WriteFault
+not_written refused none = search (rules, arith)

@@ -1,4 +1,1 @@
 pub mod Feeds
-pub mod Slices
-pub mod Refusals
-pub mod Opens

@@ -4,7 +4,7 @@ use Rattle.tally_base.{specs.declared.fault.Fault.Fault, specs.declared.header.H
 use Rattle.ptu_definitions.{specs.Streams.{Reading, streamed}, specs.Words.words_of}
 use Rattle.record_stream.specs.Standing.{how_of, refused_with, carried_by, kept_back_by, bytes_in, HasStreamed}
 use Rattle.plan_text.{specs.Plan.{PlanView, parts_of}, specs.Fits.fits}
-use Rattle.gate_plan.{specs.Shifting.{Sorting, sorting}, specs.Groups.sorting_of, specs.Histories.{history, settled_history}, specs.Plans.reading_by}
+use Rattle.gate_plan.{specs.Shifting.{Sorting, sorting}, specs.Groups.sorting_of, specs.Histories.{history, settled_history, reading_by}}
 use Rattle.plan_parts.{specs.Parts.{settings_in, AllHold, AllClosed, IsWithinWork, entries_in}, specs.declared.results.Results.Results}
 use Rattle.tally_engine.specs.declared.engine.Engine.{Engine}
 

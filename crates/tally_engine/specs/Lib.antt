@@ -1,3 +1,2 @@
 pub mod Engine
 pub mod Pieces
-pub mod Same

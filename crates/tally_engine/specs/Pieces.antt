@@ -1,12 +1,44 @@
 -- What a piece of the bytes does to a stream and to the tables behind it.
-use Rattle.std.specs.Prelude.{◌≡◌, ◌≢◌, ◌+◌, ◌*◌, ◌≤◌, ℕ, List, ◌++◌, All, Result, Err, OnOk, IfErr, Ok}
-use Rattle.tally_base.{specs.declared.fault.Fault.Fault, specs.declared.fault.Fault.TheVariants.WriteFault, specs.declared.header.Mode.Mode, specs.Faults.fault_in, specs.Limits.record_limit}
-use Rattle.ptu_definitions.{specs.Shown.Shows, specs.Streams.{record_refusal, streamed, Reading}, specs.Words.words_of, specs.declared.records.Summary.Summary}
+use Rattle.tally_base.{specs.declared.fault.Fault.Fault, specs.declared.fault.Fault.TheVariants.WriteFault, specs.declared.header.Mode.Mode, specs.Faults.fault_in, specs.Limits.record_limit, specs.declared.tally.Tally.Ghosts}
+use Rattle.ptu_definitions.{specs.Headers.Shows, specs.Streams.{record_refusal, streamed, Reading}, specs.Words.words_of, specs.declared.records.Summary.Summary}
 use Rattle.record_stream.{specs.declared.stream.RecordStream.RecordStream, specs.Standing.{how_of, given_by, greatest_of, bytes_in, HasStreamed}}
 use Rattle.gate_plan.{specs.Shifting.Sorting, specs.Histories.{history, settled_history}}
 use Rattle.plan_parts.{specs.declared.part.Part.Part, specs.contracts.part.PartTally.TheImpl.ghosts, specs.Parts.AllHold}
-use Rattle.fed_parts.specs.Taker.{Standing}
-use Rattle.tally_engine.specs.Same.{SameTables}
+use Rattle.fed_parts.specs.Ahead.{Standing}
+use Rattle.std.{specs.Prelude.{◌≡◌, ◌≢◌, ◌+◌, ◌*◌, ◌≤◌, ℕ, List, ◌++◌, All, Result, Err, OnOk, IfErr, Ok, ◌<◌, length, slice_index_or, refl}, proofs.Common.◌∙◌}
+
+-- What giving events to tables leaves as it is.
+
+module _ {T : Type 0} (g : Ghosts T) where
+  -- as many tables, and the settings of each
+  pub record SameTables (old new : List T) : Type 0 where
+    pub count : length new ≡ length old
+    pub settings : (k : ℕ) (d : T) → k < length old → g.settings (slice_index_or new k d) ≡ g.settings (slice_index_or old k d)
+
+  -- the same two references, to the same tables
+  pub record SameTaker (parts parts' steps steps' : ℕ) (old new : List T) : Type 0 where
+    pub parts_name : parts' ≡ parts
+    pub steps_name : steps' ≡ steps
+    pub tables : SameTables old new
+
+  pub same_tables_none : (xs : List T) → SameTables xs xs
+  same_tables_none xs = record { count = refl; settings = λ k d h. refl }
+
+  pub same_tables_more : (xs ys zs : List T) → SameTables xs ys → SameTables ys zs → SameTables xs zs
+  same_tables_more xs ys zs p q = record {
+    count = q.count ∙ p.count;
+    settings = λ k d h. q.settings k d (rw p.count h) ∙ p.settings k d h;
+  }
+
+  pub same_taker_none : (a b : ℕ) (xs : List T) → SameTaker a a b b xs xs
+  same_taker_none a b xs = record { parts_name = refl; steps_name = refl; tables = same_tables_none xs }
+
+  pub same_taker_more : (a a' a'' b b' b'' : ℕ) (xs ys zs : List T) → SameTaker a a' b b' xs ys → SameTaker a' a'' b' b'' ys zs → SameTaker a a'' b b'' xs zs
+  same_taker_more a a' a'' b b' b'' xs ys zs p q = record {
+    parts_name = q.parts_name ∙ p.parts_name;
+    steps_name = q.steps_name ∙ p.steps_name;
+    tables = same_tables_more xs ys zs p.tables q.tables;
+  }
 
 -- Where the old tables hold the events of these words, the new ones hold those of more words.
 abbrev pub HoldOn : Sorting → Reading → List ℕ → List ℕ → List Part → List Part → Type 0

@@ -1,8 +1,10 @@
 // All tables of a plan, and the stream that feeds them.
-ghost use Rattle.std.specs.Prelude.{◌≡◌, ℕ, All, List, None, Some, false};
-ghost use Rattle.tally_base.{specs.declared.fault.Fault.Fault, specs.Faults.is_outside, specs.RecordTypes.mode_of, specs.Limits.record_limit};
+ghost use Rattle.std.specs.Prelude.{◌≡◌, ℕ, All, List, None, Some, false, ◌+◌, ◌*◌, ◌<◌, ◌≤◌, [], ◌++◌, length, Err, OnOk, IfOk, IfErr};
+ghost use Rattle.tally_base.{specs.declared.fault.Fault.Fault, specs.Faults.{is_outside, fault_in}, specs.RecordTypes.mode_of, specs.Limits.record_limit};
 ghost use Rattle.record_stream.specs.Standing.{how_of, given_by, greatest_of, refused_with, HasStreamed};
-ghost use Rattle.fed_parts.specs.Taker.{Standing};
+ghost use Rattle.fed_parts.specs.Ahead.{Standing};
+ghost use Rattle.plan_text.{specs.Reading.plan_view, specs.Bound.bound as plan_bound};
+ghost use Rattle.ptu_definitions.{specs.Headers.Shows, specs.Streams.{record_refusal, streamed}, specs.Words.words_of};
 
 use crate::part_taker::{feed_parts, finish_parts};
 use fed_parts::{close_all, open_all};
@@ -33,11 +35,7 @@ pub struct Engine {
 }
 
 impl Engine {
-    ghost use Rattle.std.specs.Prelude.{◌+◌, ◌*◌, ◌<◌, ◌≤◌, [], ◌++◌, length, Err, OnOk, IfOk, IfErr};
-    ghost use Rattle.plan_text.{specs.Reading.plan_view, specs.Bound.bound as plan_bound};
     ghost use Rattle.tally_engine.specs.Engine.{OpensAs, reading_of, refused_by, bytes_fed, HasFed, IsFor, SameEngine, Finishes, held, bound};
-    ghost use Rattle.ptu_definitions.{specs.Shown.Shows, specs.Streams.{record_refusal, streamed}, specs.Words.words_of};
-    ghost use Rattle.tally_base.specs.Faults.{fault_in};
 
     /// An engine of no bytes, for a plan and the header of a file.
     ///

@@ -1,10 +1,10 @@
 // The taker of a stream's events that gives them to every table.
-ghost use Rattle.std.{specs.Prelude.{◌≡◌, ℕ, ◌+◌, ◌*◌, ◌<◌, ◌≤◌, [], List, All, length, false, None, OnOk, IfErr}, proofs.Props.{props}};
+ghost use Rattle.std.{specs.Prelude.{◌≡◌, ℕ, ◌+◌, ◌*◌, ◌<◌, ◌≤◌, [], List, All, length, false, None, OnOk, IfErr}, proofs.Props.props};
 ghost use Rattle.record_stream.specs.Standing.{how_of, given_by, greatest_of, refused_with, bytes_in, HasStreamed};
-ghost use Rattle.tally_base.{specs.Faults.{fault_in, is_outside}, specs.Limits.record_limit, specs.Columns.{sorted, gathered}, proofs.Props.in_order-prop};
-ghost use Rattle.tally_engine.{specs.Pieces.{Ends, AnswersPiece, StaysSame, TablesFollow}, specs.Same.SameTables};
-ghost use Rattle.fed_parts.{specs.Ahead.{taken_with, floor_with}, specs.Taker.{Standing, Waits}};
+ghost use Rattle.tally_base.{specs.Faults.{fault_in, is_outside}, specs.Limits.record_limit, specs.Columns.{sorted, gathered}, proofs.Floors.in_order-prop};
+ghost use Rattle.fed_parts.specs.Ahead.{taken_with, floor_with, Standing, Waits};
 ghost use Rattle.gate_plan.specs.Groups.{sorting_of};
+ghost use Rattle.tally_engine.specs.Pieces.{Ends, AnswersPiece, StaysSame, TablesFollow, SameTables};
 
 use fed_parts::{Reached, flush_waiting, gather, give_behind};
 use gate_plan::Gates;
@@ -32,8 +32,8 @@ struct PartTaker<'g, 'p, 's, L: Ledger> {
 }
 
 impl<'g, 'p, 's, L: Ledger> EventTaker for PartTaker<'g, 'p, 's, L> {
-    ghost use Rattle.tally_engine.specs.Same.{SameTaker, same_taker_none, same_taker_more};
-    ghost use Rattle.fed_parts.specs.Taker.{Gave, gave_none};
+    ghost use Rattle.tally_engine.specs.Pieces.{SameTaker, same_taker_none, same_taker_more};
+    ghost use Rattle.fed_parts.specs.Ahead.{Gave, gave_none};
 
     ghost got = { λ s t l. Gave ⟦<Part as Tally>⟧ (sorting_of s.gates.now) (sorting_of t.gates.now) s.mode
         t.mode (taken_with s.reached (gathered s.block)) (taken_with t.reached (gathered t.block))

@@ -1,9 +1,59 @@
 -- What a block of events does to the photons of the two groups.
-use Rattle.std.{proofs.Common.{◌≡◌, ℕ, zero, suc, ◌+◌, ◌<◌, ◌≤◌, Bool, true, false, ◌&&◌, ◌||◌, cond, ltb, List, [], ◌∷◌, ◌++◌, length, map, take, refl, sym, ap, ◌∙◌, append-nil, arith, length-append, zero-add, slice_set, nat_lt, rules}, specs.List.AllByRecursion, proofs.lemmas.Bool.false≢true, proofs.lemmas.Grind.common_steps, proofs.lemmas.List.{map-append, take_more_set}, proofs.lemmas.List.Elements.filter-append}
+use Rattle.std.{proofs.Common.{◌≡◌, ℕ, zero, suc, ◌+◌, ◌<◌, ◌≤◌, Bool, true, false, ◌&&◌, ◌||◌, cond, ltb, List, [], ◌∷◌, ◌++◌, length, map, take, refl, sym, ap, ◌∙◌, append-nil, arith, length-append, zero-add, slice_set, nat_lt, rules, max, fold}, specs.List.AllByRecursion, proofs.lemmas.Bool.false≢true, proofs.lemmas.Grind.common_steps, proofs.lemmas.List.{map-append, take_more_set}, proofs.lemmas.List.Elements.filter-append, proofs.Math.Nat.div-one, proofs.lemmas.List.Sums.{length-filter, count_by-le-length}}
 use mir.Val.{bool_byte}
-use Rattle.tally_base.{specs.declared.settings.CorrelationSet.CorrelationSet, specs.Events.{is_photon, is_in}, specs.Settings.{CorrelationView, correlation_view}, specs.Tally.{History, greatest_time}, specs.Limits.record_limit, specs.declared.block.Block.Block, specs.Columns.{rows, event_at, code_at, groups_at, gathered, events_in}, specs.Floors.{floor_after, InOrder}, proofs.Back.moves_row, proofs.Greatest.greatest-rows, proofs.Floors.{order-front, order-last}, proofs.BlockRows.length-rows}
-use Rattle.lag_ring.specs.declared.ring.Entry.{Entry}
-use Rattle.tau_cascade.{specs.declared.level.Level.Level, specs.Correlation.{Given, bin, in_first, in_second, photons_of}, specs.StandsFor.StandsFor, specs.Levels.{IsBin, Chain}, specs.Bins.{raised, bin_of, photon_bins, Come, CanCome, CanGiveBlock}, proofs.Follows.{come_push, raised-none}, proofs.Gives.{bin-zero, none_before, mine-photon, few_photons}}
+use Rattle.tally_base.{specs.declared.settings.CorrelationSet.CorrelationSet, specs.Events.{is_photon, is_in}, specs.Settings.{CorrelationView, correlation_view}, specs.Tally.{History, greatest_time, floor_after, InOrder, moves_floor}, specs.Limits.record_limit, specs.declared.block.Block.Block, specs.Columns.{rows, event_at, code_at, groups_at, gathered, events_in}, proofs.Floors.{moves_row, order-front, order-last, greatest-rows}, proofs.BlockRows.length-rows}
+use Rattle.lag_ring.{specs.declared.ring.Entry.Entry, proofs.Lists.{all_both, all_filter, all_passed}, proofs.Rising.all_weaker}
+use Rattle.tau_cascade.{specs.declared.level.Level.Level, specs.Correlation.{Given, bin, in_first, in_second, photons_of}, specs.StandsFor.StandsFor, specs.Levels.{IsBin, Chain, CanEnd, Complete}, specs.Bins.{raised, bin_of, photon_bins, Come, CanCome, CanGiveBlock}, proofs.Follows.{come_push, raised-none}}
+
+-- What an event does to the photons of the two groups.
+
+abbrev later : ℕ → Given → ℕ
+later t x = cond (moves_floor false x.0) (max t x.0.time) t
+
+from_start : (t : ℕ) (h : History) → t ≤ fold later t h
+from_start t [] = omega arith
+from_start t (x ∷ h) = search (rules, arith, from_start (later t x) h)
+
+later_than : (t : ℕ) (x : Given) (h : History) → is_photon x.0 ≡ true → later t x ≤ fold later (later t x) h → x.0.time ≤ fold later (later t x) h
+later_than t x h is rest = let now : later t x ≡ max t x.0.time = rw is refl in omega (arith, now)
+
+-- no photon is after the greatest time
+in_time : (t : ℕ) (h : History) → AllByRecursion (λ x. is_photon x.0 ≡ true → x.0.time ≤ fold later t h) h
+in_time t [] = tt
+in_time t (x ∷ h) = (λ is. let rest = from_start (later t x) h in later_than t x h is rest, in_time (later t x) h)
+
+pub mine-photon : (p a b : Bool) → ((p && a) || (p && b)) ≡ true → p ≡ true
+mine-photon p a b is = search (rules, arith)
+
+-- the photons of either group are no later than an event that may be given
+none_after : (set : CorrelationView) (h : History) (time : ℕ) → greatest_time false h ≤ time → AllByRecursion (λ x. x.0.time ≤ time) (photons_of set h)
+none_after set h time after =
+    let mine : Given → Bool = λ x. in_first set x || in_second set x in
+    all_both (λ x. mine x ≡ true) (λ x. is_photon x.0 ≡ true → x.0.time ≤ greatest_time false h) (λ x. x.0.time ≤ time)
+    (λ x is before. let in_h : x.0.time ≤ greatest_time false h =
+    before (mine-photon (is_photon x.0) (is_in x.1 set.first) (is_in x.1 set.second) is) in omega arith)
+    (photons_of set h) (all_passed mine h) (all_filter (λ x. is_photon x.0 ≡ true → x.0.time ≤ greatest_time false h) mine h (in_time 0 h))
+
+pub few_photons : (set : CorrelationView) (h : History) → length (photons_of set h) ≤ length h
+few_photons set h = omega (arith, length-filter (λ x. in_first set x || in_second set x) h, count_by-le-length (λ x. in_first set x || in_second set x) h)
+
+pub bin-zero : (x : Given) → bin 0 x ≡ x.0.time
+bin-zero x = div-one x.0.time
+
+-- the same of the bins of the first level
+pub none_before : (set : CorrelationView) (h : History) (time : ℕ) → greatest_time false h ≤ time → AllByRecursion (λ x. bin 0 x ≤ time) (photons_of set h)
+none_before set h time after = search (rules, arith, all_weaker, bin-zero, none_after)
+
+-- it may be closed
+pub may_end : (closed : Bool) → closed ≡ false → (set : CorrelationSet) (ls : List Level) (count time : ℕ) (h : History) → StandsFor closed set ls count time h → count ≤ record_limit → CanEnd (correlation_view set) 0 ls (photons_of (correlation_view set) h)
+may_end closed still set ls count time h is few = search (rules, arith, false≢true, few_photons)
+
+pub end_counts : (closed : Bool) → closed ≡ false → (set : CorrelationSet) (ls ls' : List Level) (count time : ℕ) (h : History) → StandsFor closed set ls count time h → Complete (correlation_view set) 0 ls' (photons_of (correlation_view set) h) → StandsFor true set ls' count time h
+end_counts closed still set ls ls' count time h is through = record { taken = is.taken; floor = is.floor; through = through }
+
+-- What the settings of a correlation say.
+
+-- What a block of events does to the photons of the two groups.
 
 flip : (x y : Bool) → ◌≡◌ {A = ℕ} (cond (x && y) 1 0) (cond (y && x) 1 0)
 flip true true = refl
@@ -12,8 +62,10 @@ flip false true = refl
 flip false false = refl
 
 -- the weight of an event of a block
-pub weight_row : (b : Block) (i group : ℕ) → ◌≡◌ {A = ℕ} (cond (is_in (groups_at b i) group && nat_lt (code_at b i) 256) 1 0) (cond (is_photon (event_at b i) && is_in (groups_at b i) group) 1 0)
-weight_row b i group = flip (is_in (groups_at b i) group) (nat_lt (code_at b i) 256) ∙ ap (λ p. cond (p && is_in (groups_at b i) group) 1 0) (sym (moves_row false b i))
+pub weight_row : (b : Block) (i group : ℕ)
+    → ◌≡◌ {A = ℕ} (cond (is_in (groups_at b i) group && nat_lt (code_at b i) 256) 1 0) (cond (is_photon (event_at b i) && is_in (groups_at b i) group) 1 0)
+weight_row b i group =
+    flip (is_in (groups_at b i) group) (nat_lt (code_at b i) 256) ∙ ap (λ p. cond (p && is_in (groups_at b i) group) 1 0) (sym (moves_row false b i))
 
 module _ (set : CorrelationView) where
   abbrev pub mine : Given → Bool
@@ -26,7 +78,8 @@ module _ (set : CorrelationView) where
   photon_bins-push es x = search (rules, arith, photons-more, mine, map-append)
 
   -- one event more is gathered
-  pub gather_step : (bins : List Entry) (count a b : ℕ) (es : History) (x : Given) → count < length bins → take count bins ≡ photon_bins set es → a ≡ cond (in_first set x) 1 0 → b ≡ cond (in_second set x) 1 0
+  pub gather_step : (bins : List Entry) (count a b : ℕ) (es : History) (x : Given) → count < length bins
+      → take count bins ≡ photon_bins set es → a ≡ cond (in_first set x) 1 0 → b ≡ cond (in_second set x) 1 0
       → take (count + cond (mine x) 1 0) (slice_set bins count (record { index = x.0.time; a = a; b = b })) ≡ photon_bins set (es ++ x ∷ [])
   gather_step bins count a b es x inside so_far is_a is_b = grind (arith, common_steps, photon_bins-push, mine, take_more_set, append-nil)
 
@@ -34,7 +87,8 @@ module _ (set : CorrelationView) where
   bin_is x = search (rules, arith, bin-zero, zero-add)
 
   -- events in order come one after the other
-  pub come_rows : (h : History) (f : ℕ → Given) (n : ℕ) → InOrder false (greatest_time false h) (rows (λ i. (f i).0) n) → Come set 0 (photons_of set h) (photon_bins set (rows f n)) (photons_of set (rows f n))
+  pub come_rows : (h : History) (f : ℕ → Given) (n : ℕ) → InOrder false (greatest_time false h) (rows (λ i. (f i).0) n)
+      → Come set 0 (photons_of set h) (photon_bins set (rows f n)) (photons_of set (rows f n))
   come_rows h f zero order = refl
   come_rows h f (suc n) order =
       let x : Given = f n in
@@ -50,13 +104,15 @@ module _ (set : CorrelationView) where
         | true ↦ λ is.
             let photon : is_photon x.0 ≡ true = mine-photon (is_photon x.0) (is_in x.1 set.first) (is_in x.1 set.second) is in
             let late : greatest_time false (h ++ es) ≤ x.0.time = (let upto = next.1 photon in rw last upto) in
-            let all : AllByRecursion (λ y. bin 0 y ≤ x.0.time) (photons_of set h ++ photons_of set es) = rw (← filter-append mine h es) (none_before set (h ++ es) x.0.time late) in
+            let all : AllByRecursion (λ y. bin 0 y ≤ x.0.time) (photons_of set h ++ photons_of set es) =
+            rw (← filter-append mine h es) (none_before set (h ++ es) x.0.time late) in
             come_push set 0 (photon_bins set es) (bin_of set x) (photons_of set h) (photons_of set es) (x ∷ []) before (bin_is x) all
         | false ↦ λ other. rw (append-nil (photon_bins set es), append-nil (photons_of set es)) before
       ]) refl)
 
 -- the photons of a block may come to the levels
-pub block_comes : (set : CorrelationView) (ls : List Level) (b : Block) (h : History) → CanGiveBlock set ls b h → CanCome set 0 ls (map (raised 0) (photon_bins set (events_in b))) (photons_of set h) (photons_of set (events_in b))
+pub block_comes : (set : CorrelationView) (ls : List Level) (b : Block) (h : History) → CanGiveBlock set ls b h
+    → CanCome set 0 ls (map (raised 0) (photon_bins set (events_in b))) (photons_of set h) (photons_of set (events_in b))
 block_comes set ls b h can = search (rules, arith, few_photons, raised-none, come_rows)
 
 pub photons-append : (set : CorrelationView) (h es : History) → photons_of set (h ++ es) ≡ photons_of set h ++ photons_of set es
@@ -68,8 +124,10 @@ may_give_block true still set ls count time h b is few order = absurd (false≢t
 may_give_block false still set ls count time h b is few order = search (rules, arith, length-rows)
 
 -- what it stands for then
-pub block_counts : (closed : Bool) → closed ≡ false → (set : CorrelationSet) (ls ls' : List Level) (count time : ℕ) (h : History) (b : Block) → StandsFor closed set ls count time h → InOrder false time (gathered b)
-    → Chain (correlation_view set) 0 ls' (photons_of (correlation_view set) (h ++ events_in b)) → StandsFor closed set ls' (count + b.len) (floor_after false time (gathered b)) (h ++ events_in b)
+pub block_counts : (closed : Bool) → closed ≡ false → (set : CorrelationSet) (ls ls' : List Level) (count time : ℕ) (h : History) (b : Block)
+    → StandsFor closed set ls count time h → InOrder false time (gathered b)
+    → Chain (correlation_view set) 0 ls' (photons_of (correlation_view set) (h ++ events_in b))
+    → StandsFor closed set ls' (count + b.len) (floor_after false time (gathered b)) (h ++ events_in b)
 block_counts true still set ls ls' count time h b is order through = absurd (false≢true (sym still))
 block_counts false still set ls ls' count time h b is order through = search (rules, arith, length-append, length-rows, greatest-rows)
 

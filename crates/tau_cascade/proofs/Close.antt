@@ -1,28 +1,32 @@
 -- Bins that are laid close together.
 use Rattle.std.{proofs.Common.{◌≡◌, ◌∙◌, ℕ, zero, suc, ◌+◌, ◌-◌, ◌*◌, ◌<◌, ◌≤◌, true, false, eqb, ltb, cond, min, List, [], ◌∷◌, ◌++◌, length, get_or, take, drop, refl, sym, ap, arith, append_assoc, rules}, specs.List.{sum_by, AllByRecursion}, proofs.Math.Nat.{mul-le-mul, mul-le-mul_left}, proofs.lemmas.Bool.Decides.nat_tests, proofs.lemmas.List.{take-append-drop, length-drop, length-take-le, drop_more}, proofs.lemmas.List.Sums.{sum_by-append, sum_by_push}}
-use Rattle.lag_ring.{specs.declared.ring.Entry.Entry, specs.declared.window.Side.TheVariants.{First, Second}, specs.Ring.IsRising, specs.Window.{weight_at, product_at}, proofs.Rising.{all_weaker, all_push, rising_front, rising_back}, proofs.Sums.{sum_by-agree, sum_by-same, sum_by-zero}, proofs.Windows.window-before}
-use Rattle.tau_cascade.{specs.Levels.weight_before, specs.Paired.paired, specs.Laid.{laid, laid_pairs, IsBehind, IsLight}, proofs.Nexts.paired-append, proofs.Together.paired-all}
+use Rattle.lag_ring.{specs.declared.ring.Entry.Entry, specs.declared.window.Side.TheVariants.{First, Second}, specs.Ring.IsRising, specs.Bytes.{weight_at, product_at, IsLight}, proofs.Rising.{all_weaker, all_push, rising_front, rising_back}, proofs.Sums.{sum_by-agree, sum_by-same, sum_by-zero, window-before}}
+use Rattle.tau_cascade.{specs.Levels.weight_before, specs.Dense.{paired, laid, laid_pairs, IsBehind}, proofs.Nexts.paired-append, proofs.Together.paired-all}
 
 -- a bin that is laid at a place
 abbrev pub laid_at : ℕ → Entry → Entry
 laid_at place e = record { index = place; a = e.a; b = e.b }
 
 -- one bin more
-module _ (reach index place i p : ℕ) (front : List Entry) (e : Entry) (next : (rest : List Entry) → laid reach index place (front ++ rest) ≡ laid reach index place front ++ laid reach i p rest) where
+module _ (reach index place i p : ℕ) (front : List Entry) (e : Entry) (next : (rest : List Entry)
+    → laid reach index place (front ++ rest) ≡ laid reach index place front ++ laid reach i p rest) where
   pub laid_push : laid reach index place (front ++ e ∷ []) ≡ laid reach index place front ++ laid_at (p + min (e.index - i) reach) e ∷ []
   laid_push = next (e ∷ [])
 
-  pub laid_next : (rest : List Entry) → laid reach index place ((front ++ e ∷ []) ++ rest) ≡ laid reach index place (front ++ e ∷ []) ++ laid reach e.index (p + min (e.index - i) reach) rest
+  pub laid_next : (rest : List Entry)
+      → laid reach index place ((front ++ e ∷ []) ++ rest) ≡ laid reach index place (front ++ e ∷ []) ++ laid reach e.index (p + min (e.index - i) reach) rest
   laid_next rest = search (rules, arith, laid_at, append_assoc, front, laid_push)
 
-  pub weight_next : (q : ℕ) → weight_at First 32 0 q (laid reach index place (front ++ e ∷ [])) ≡ weight_at First 32 0 q (laid reach index place front) + cond (eqb (p + min (e.index - i) reach + 32) q) e.a 0
+  pub weight_next : (q : ℕ) → weight_at First 32 0 q (laid reach index place (front ++ e ∷ [])) ≡ weight_at First 32 0 q
+      (laid reach index place front) + cond (eqb (p + min (e.index - i) reach + 32) q) e.a 0
   weight_next q = search (rules, arith, laid_push, sum_by_push, front, laid_at)
 
   pub sums_next : (window : List ℕ) (from : ℕ) → sum_by (product_at Second window 0 from) (laid reach index place (front ++ e ∷ [])) ≡ sum_by (product_at Second window 0 from) (laid reach index place front) + get_or window (p + min (e.index - i) reach + from) 0 * e.b
   sums_next window from = search (rules, arith, laid_push, sum_by_push, front, laid_at)
 
 -- a bin is laid at most so far behind
-pub laid_upto : (reach index place : ℕ) (es : List Entry) (most : ℕ) → place + reach * length es ≤ most → AllByRecursion (λ e. e.index ≤ most) (laid reach index place es)
+pub laid_upto : (reach index place : ℕ) (es : List Entry) (most : ℕ) → place + reach * length es ≤ most
+    → AllByRecursion (λ e. e.index ≤ most) (laid reach index place es)
 laid_upto reach index place [] most within = tt
 laid_upto reach index place (e ∷ es) most within =
     let here : ℕ = place + min (e.index - index) reach in
@@ -30,7 +34,8 @@ laid_upto reach index place (e ∷ es) most within =
     (omega (arith, step, within), laid_upto reach e.index here es most (omega (arith, step, within)))
 
 -- bins that rise are laid one behind the other
-laid_behind : (reach index place : ℕ) (es : List Entry) → 0 < reach → AllByRecursion (λ f. index < f.index) es → IsRising es → AllByRecursion (λ f. place < f.index) (laid reach index place es)
+laid_behind : (reach index place : ℕ) (es : List Entry) → 0 < reach → AllByRecursion (λ f. index < f.index) es
+    → IsRising es → AllByRecursion (λ f. place < f.index) (laid reach index place es)
 laid_behind reach index place [] some up rising = tt
 laid_behind reach index place (e ∷ es) some up rising =
     let here : ℕ = place + min (e.index - index) reach in
@@ -71,8 +76,10 @@ module _ (reach index place : ℕ) (before beside : List Entry) (alike : Alike r
 
   pub alike_next : Alike reach e.index there (before ++ e ∷ []) (beside ++ laid_at there e ∷ [])
   alike_next = record {
-    upto = all_push (λ f. f.index ≤ e.index) before e (all_weaker (λ f. f.index ≤ index) (λ f. f.index ≤ e.index) (λ f under. omega (arith, up)) before alike.upto) (omega arith);
-    laid_upto = all_push (λ f. f.index ≤ there) beside (laid_at there e) (all_weaker (λ f. f.index ≤ place) (λ f. f.index ≤ there) (λ f under. omega arith) beside alike.laid_upto) (omega arith);
+    upto = all_push (λ f. f.index ≤ e.index) before e
+        (all_weaker (λ f. f.index ≤ index) (λ f. f.index ≤ e.index) (λ f under. omega (arith, up)) before alike.upto) (omega arith);
+    laid_upto = all_push (λ f. f.index ≤ there) beside (laid_at there e)
+        (all_weaker (λ f. f.index ≤ place) (λ f. f.index ≤ there) (λ f under. omega arith) beside alike.laid_upto) (omega arith);
     same = λ m few.
         let test : eqb (e.index + m) e.index ≡ eqb (there + m) there = grind (arith, nat_tests) in
         sum_by_push (λ (f : Entry). cond (eqb (f.index + m) e.index) f.a 0) before e
@@ -84,7 +91,8 @@ module _ (reach index place : ℕ) (before beside : List Entry) (alike : Alike r
 paired_alike : (reach index place k : ℕ) (before beside es : List Entry) → k < reach → Alike reach index place before beside → AllByRecursion (λ f. index < f.index) es → IsRising es → paired k before es ≡ paired k beside (laid reach index place es)
 paired_alike reach index place k before beside [] few alike up rising = refl
 paired_alike reach index place k before beside (e ∷ es) few alike up rising =
-    let one : weight_before k e.index before ≡ weight_before k (place + min (e.index - index) reach) beside = as_far reach index place before beside alike e up.0 k few in
+    let one : weight_before k e.index before ≡ weight_before k (place + min (e.index - index) reach) beside =
+    as_far reach index place before beside alike e up.0 k few in
     let rest = paired_alike reach e.index (place + min (e.index - index) reach) k (before ++ e ∷ []) (beside ++ laid_at (place + min (e.index - index) reach) e ∷ []) es few (alike_next reach index place before beside alike e up.0) rising.0 rising.1 in
     rw (one, rest) refl
 
@@ -93,7 +101,8 @@ paired_laid reach index place k [] few rising = refl
 paired_laid reach index place k (e ∷ es) few rising = search (rules, arith, laid_at, laid_upto, paired_alike)
 
 -- the same from a bin on
-module _ (reach i p start : ℕ) (list : List Entry) (rising : IsRising list) (next : (rest : List Entry) → laid reach 0 0 (take start list ++ rest) ≡ laid reach 0 0 (take start list) ++ laid reach i p rest) where
+module _ (reach i p start : ℕ) (list : List Entry) (rising : IsRising list) (next : (rest : List Entry)
+    → laid reach 0 0 (take start list ++ rest) ≡ laid reach 0 0 (take start list) ++ laid reach i p rest) where
   abbrev front : List Entry
   front = laid reach 0 0 (take start list)
 
@@ -103,39 +112,46 @@ module _ (reach i p start : ℕ) (list : List Entry) (rising : IsRising list) (n
   both : front ++ back ≡ laid reach 0 0 list
   both = sym (next (drop start list)) ∙ ap (laid reach 0 0) (take-append-drop start list)
 
-  pub paired_parts : (k : ℕ) → k < reach → paired k (take start list) (drop start list) ≡ paired k (laid reach 0 0 (take start list)) (laid reach i p (drop start list))
+  pub paired_parts : (k : ℕ) → k < reach
+      → paired k (take start list) (drop start list) ≡ paired k (laid reach 0 0 (take start list)) (laid reach i p (drop start list))
   paired_parts k few =
       let whole = paired_laid reach 0 0 k list few rising in
       search (rules, arith, paired_laid, rising_front, take-append-drop, paired-append, front, back, both)
 
   -- and what stands in the window are the pairs
   pub laid-paired : (window : List ℕ) → 0 < reach → length window ≡ 1408 → p + reach * length (drop start list) + 32 < 1408
-      → ((q : ℕ) → q < 1408 → get_or window q 0 ≡ weight_at First 32 0 q (laid reach 0 0 (take start list)) + weight_at First 32 0 q (laid reach i p (drop start list)))
+      → ((q : ℕ) → q < 1408
+      → get_or window q 0 ≡ weight_at First 32 0 q (laid reach 0 0 (take start list)) + weight_at First 32 0 q (laid reach i p (drop start list)))
       → (k : ℕ) → 0 < k → k < reach → k ≤ 32 → laid_pairs window (laid reach i p (drop start list)) k ≡ paired k (take start list) (drop start list)
   laid-paired window some long room has k from few upto =
       let whole : (q : ℕ) → q < length window → get_or window q 0 ≡ weight_at First 32 0 q (front ++ back) = λ q inside. has q (omega (arith, long, inside)) ∙ sym (sum_by-append (λ (f : Entry). cond (eqb (f.index + 32) (0 + q)) f.a 0) front back) in
       let up : IsRising (front ++ back) = rw both (laid_rising reach 0 0 list some rising) in
-      sum_by-agree (λ e. e.index ≤ 1375) (λ e. get_or window (e.index - 0 + (32 - k)) 0 * e.b) (λ e. weight_before k e.index (front ++ back) * e.b) back (laid_upto reach i p (drop start list) 1375 (omega (arith, room)))
+      sum_by-agree (λ e. e.index ≤ 1375) (λ e. get_or window (e.index - 0 + (32 - k)) 0 * e.b)
+      (λ e. weight_before k e.index (front ++ back) * e.b) back (laid_upto reach i p (drop start list) 1375 (omega (arith, room)))
       (λ e at. ap (λ n. n * e.b) (window-before First window 0 32 (front ++ back) whole k e.index upto (omega arith) (omega (arith, at, long))))
       ∙ sym (paired-all k (front ++ back) front back from refl up)
       ∙ sym (paired_parts k few)
 
 -- each bin of a light list is light
-pub is_light_at : (most : ℕ) (es : List Entry) (i : ℕ) (none : Entry) → i < length es → IsLight most es → ((get_or es i none).a ≤ most) × ((get_or es i none).b ≤ most)
+pub is_light_at : (most : ℕ) (es : List Entry) (i : ℕ) (none : Entry) → i < length es
+    → IsLight most es → ((get_or es i none).a ≤ most) × ((get_or es i none).b ≤ most)
 is_light_at most [] i none inside light = absurd (omega (arith, inside))
 is_light_at most (e ∷ es) zero none inside light = light.0
 is_light_at most (e ∷ es) (suc i) none inside light = is_light_at most es i none (omega (arith, inside)) light.1
 
 -- where a bin is laid there is room behind it
-pub room_at : (reach i n place now from' count room : ℕ) → i < n → now ≤ place + reach * i → place + reach * n + from' + count ≤ room → now + reach + from' + count ≤ room
+pub room_at : (reach i n place now from' count room : ℕ) → i < n → now ≤ place + reach * i
+    → place + reach * n + from' + count ≤ room → now + reach + from' + count ≤ room
 room_at reach i n place now from' count room inside upto within = search (rules, arith, mul-le-mul_left)
 
 -- all bins of a list have room
-pub all_room : (lags start : ℕ) (list : List Entry) (place : ℕ) → lags ≤ 16 → start ≤ length list → length list ≤ 80 → place ≤ 0 + (lags + 1) * length (take start list) → place + (lags + 1) * length (drop start list) + 32 < 1408
+pub all_room : (lags start : ℕ) (list : List Entry) (place : ℕ) → lags ≤ 16 → start ≤ length list → length list ≤ 80
+    → place ≤ 0 + (lags + 1) * length (take start list) → place + (lags + 1) * length (drop start list) + 32 < 1408
 all_room lags start list place few inside short upto = search (rules, arith, length-take-le, length-drop, mul-le-mul)
 
 -- the first bins have room
-pub front_room : (lags start : ℕ) (list : List Entry) → lags ≤ 16 → start ≤ length list → length list ≤ 80 → 0 + (lags + 1) * length (take start list) + 32 < 1408
+pub front_room : (lags start : ℕ) (list : List Entry) → lags ≤ 16 → start ≤ length list
+    → length list ≤ 80 → 0 + (lags + 1) * length (take start list) + 32 < 1408
 front_room lags start list few inside short = search (rules, arith, length-take-le, mul-le-mul)
 
 from_zero : (es : List Entry) → AllByRecursion (λ e. 0 ≤ e.index) es

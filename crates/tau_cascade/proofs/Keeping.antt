@@ -24,7 +24,8 @@ filter_again : (p q : Entry → Bool) → ((x : Entry) → p x ≡ true → q x 
 filter_again p q stronger [] = refl
 filter_again p q stronger (x ∷ xs) = search (rules, arith, false≢true, filter_again p q stronger xs)
 
-keep_more : (p q : Entry → Bool) → ((x : Entry) → p x ≡ true → q x ≡ true) → (es fs : List Entry) (e : Entry) → filter p ((filter q es ++ e ∷ []) ++ fs) ≡ filter p (es ++ e ∷ fs)
+keep_more : (p q : Entry → Bool) → ((x : Entry) → p x ≡ true → q x ≡ true)
+    → (es fs : List Entry) (e : Entry) → filter p ((filter q es ++ e ∷ []) ++ fs) ≡ filter p (es ++ e ∷ fs)
 keep_more p q stronger es fs e = search (rules, arith, filter-append, filter_again, append_assoc)
 
 -- the last of some entries
@@ -68,7 +69,8 @@ module _ (set : CorrelationView) (level : ℕ) (some : 0 < set.lags) where
       rw same (ring_all e es r closed xs was follow rising)
 
 -- the entries and the bins before one rise up to it
-pub split_at : (front bins : List Entry) (i : ℕ) (none : Entry) → i < length bins → front ++ bins ≡ (front ++ take i bins) ++ get_or bins i none ∷ drop (i + 1) bins
+pub split_at : (front bins : List Entry) (i : ℕ) (none : Entry) → i < length bins
+    → front ++ bins ≡ (front ++ take i bins) ++ get_or bins i none ∷ drop (i + 1) bins
 split_at front bins i none inside = search (rules, arith, drop_more, take-append-drop, append_assoc)
 
 -- what is kept of entries and of bins behind them, of which those before a place go
@@ -77,11 +79,13 @@ kept_is before start front bins left kept =
     let none : filter (λ (e : Entry). leb before e.index) (take start bins) ≡ [] = filter_none (λ e. leb before e.index) (take start bins) (all_weaker (λ e. e.index < before) (λ e. leb before e.index ≡ false) (λ e under. grind arith) (take start bins) left) in
     let all : filter (λ (e : Entry). leb before e.index) (drop start bins) ≡ drop start bins = filter_passed (λ e. leb before e.index) (drop start bins) (all_weaker (λ e. before ≤ e.index) (λ e. leb before e.index ≡ true) (λ e up. grind arith) (drop start bins) kept) in
     let parts : filter (λ (e : Entry). leb before e.index) bins ≡ drop start bins =
-    ap (filter (λ (e : Entry). leb before e.index)) (sym (take-append-drop start bins)) ∙ filter-append (λ e. leb before e.index) (take start bins) (drop start bins) ∙ rw (none, all) refl in
+    ap (filter (λ (e : Entry). leb before e.index)) (sym (take-append-drop start bins))
+    ∙ filter-append (λ e. leb before e.index) (take start bins) (drop start bins) ∙ rw (none, all) refl in
     filter-append (λ e. leb before e.index) front bins ∙ ap (λ ys. filter (λ (e : Entry). leb before e.index) front ++ ys) parts
 
 -- the next of the bins that are kept is above all that are, and has a place
-pub kept_below : (front bins : List Entry) (i : ℕ) (none : Entry) → i < length bins → IsRising (front ++ bins) → AllByRecursion (λ f. f.index < (get_or bins i none).index) (front ++ take i bins)
+pub kept_below : (front bins : List Entry) (i : ℕ) (none : Entry) → i < length bins → IsRising (front ++ bins)
+    → AllByRecursion (λ f. f.index < (get_or bins i none).index) (front ++ take i bins)
 kept_below front bins i none inside rising =
     let split = split_at front bins i none inside in
     search (rules, arith, all_below)
@@ -91,9 +95,11 @@ pub kept_from : (before start : ℕ) (bins : List Entry) (none : Entry) → 0 < 
 kept_from before start bins none some inside here kept = search (rules, arith, drop_more)
 
 -- where one is before an index, so are those before it
-pub left_behind : (before start : ℕ) (bins : List Entry) (none : Entry) → 0 < start → start ≤ length bins → IsRising bins → (get_or bins (start - 1) none).index < before → AllByRecursion (λ e. e.index < before) (take start bins)
+pub left_behind : (before start : ℕ) (bins : List Entry) (none : Entry) → 0 < start → start ≤ length bins → IsRising bins
+    → (get_or bins (start - 1) none).index < before → AllByRecursion (λ e. e.index < before) (take start bins)
 left_behind before start bins none some inside rising here =
     let one : start - 1 + 1 ≡ start = omega arith in
-    let cut : take start bins ≡ take (start - 1) bins ++ get_or bins (start - 1) none ∷ [] = subst (λ n. take n bins ≡ take (start - 1) bins ++ get_or bins (start - 1) none ∷ []) one (take_more bins (start - 1) none (omega arith)) in
+    let cut : take start bins ≡ take (start - 1) bins ++ get_or bins (start - 1) none ∷ [] =
+    subst (λ n. take n bins ≡ take (start - 1) bins ++ get_or bins (start - 1) none ∷ []) one (take_more bins (start - 1) none (omega arith)) in
     let under = kept_below [] bins (start - 1) none (omega arith) rising in
     rw cut (all_push (λ e. e.index < before) (take (start - 1) bins) (get_or bins (start - 1) none) (all_weaker (λ e. e.index < (get_or bins (start - 1) none).index) (λ e. e.index < before) (λ e up. omega arith) (take (start - 1) bins) under) here)

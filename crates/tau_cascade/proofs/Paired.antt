@@ -2,26 +2,33 @@
 use Rattle.std.{proofs.Common.{◌≡◌, ℕ, ◌+◌, ◌-◌, ◌*◌, ◌^◌, ◌<◌, ◌≤◌, true, false, ◌&&◌, cond, eqb, List, [], ◌∷◌, ◌++◌, length, get_or, refl, sym, ◌∙◌, append_assoc, append-nil, subst, arith, length-append, rules}, specs.List.{sum_by, count_by, AllByRecursion}, proofs.Math.Nat.mul-le-mul, proofs.lemmas.List.Sums.{sum_by-append, sum_by_push}}
 use Rattle.tally_base.{specs.Settings.CorrelationView, specs.Tally.History, specs.Limits.record_limit}
 use Rattle.lag_ring.{specs.declared.ring.Entry.Entry, specs.Cells.{Cells, added_at}, specs.Ring.{Ring, IsRising}, proofs.Lists.{all_front, all_back, of_some}, proofs.Rising.{all_weaker, all_push, rising_push}, proofs.Sums.{pairs-append, sum_by-agree, sum_by-same, sum_by-zero}}
-use Rattle.tau_cascade.{specs.Correlation.{bin, in_first, in_second, correlation, skipped_lags, lag_count}, specs.Work.occupied, specs.Levels.{IsBin, RingIs, CellsAre, weight_before}, specs.Paired.paired, specs.Bins.{Follow, CanShutAll}, proofs.Pairs.{correlation-le, occupied-more}}
+use Rattle.tau_cascade.{specs.Correlation.{bin, in_first, in_second, correlation, skipped_lags, lag_count}, specs.Work.occupied, specs.Levels.{IsBin, RingIs, CellsAre, weight_before}, specs.Dense.paired, specs.Bins.{Follow, CanShutAll}, proofs.Work.{correlation-le, occupied-more}}
 
 module _ (set : CorrelationView) (level : ℕ) where
   -- at each lag the bins have what the photons have
   abbrev pub Counts : List Entry → History → Type 0
-  Counts before closed = (n k : ℕ) → k ≤ set.lags → AllByRecursion (λ x. bin level x < n) closed → weight_before k n before ≡ count_by (λ x. in_first set x && eqb (bin level x + k) n) closed
+  Counts before closed = (n k : ℕ) → k ≤ set.lags → AllByRecursion (λ x. bin level x < n) closed
+      → weight_before k n before ≡ count_by (λ x. in_first set x && eqb (bin level x + k) n) closed
 
   pub ring_counts : (r : Ring) (closed : History) → RingIs set level r closed → Counts r.entries closed
   ring_counts r closed is = λ n k few before.
-      is.keeps.firsts (λ i. eqb (i + k) n) (λ i passes. all_weaker (λ y. bin level y < n) (λ y. bin level y < i + r.reach) (λ y under. let at_n : i + k ≡ n = grind arith in omega (arith, is.reach)) closed before)
+      is.keeps.firsts (λ i. eqb (i + k) n) (λ i passes. all_weaker (λ y. bin level y < n) (λ y. bin level y < i + r.reach) (λ y under. let at_n : i + k ≡ n =
+      grind arith in omega (arith, is.reach)) closed before)
 
-  one_bin : (n k m : ℕ) (xs : History) → AllByRecursion (λ x. bin level x ≡ n) xs → count_by (λ x. in_first set x && eqb (bin level x + k) m) xs ≡ cond (eqb (n + k) m) (count_by (in_first set) xs) 0
+  one_bin : (n k m : ℕ) (xs : History) → AllByRecursion (λ x. bin level x ≡ n) xs
+      → count_by (λ x. in_first set x && eqb (bin level x + k) m) xs ≡ cond (eqb (n + k) m) (count_by (in_first set) xs) 0
   one_bin n k m xs here =
-      sum_by-agree (λ x. bin level x ≡ n) (λ x. cond (in_first set x && eqb (bin level x + k) m) 1 0) (λ x. cond (in_first set x && eqb (n + k) m) 1 0) xs here (λ x is. rw is refl)
+      sum_by-agree (λ x. bin level x ≡ n) (λ x. cond (in_first set x && eqb (bin level x + k) m) 1 0)
+      (λ x. cond (in_first set x && eqb (n + k) m) 1 0) xs here (λ x is. rw is refl)
       ∙ elim (eqb (n + k) m) as (λ b. sum_by (λ x. cond (in_first set x && b) 1 0) xs ≡ cond b (count_by (in_first set) xs) 0) [
-        | true ↦ sum_by-same (λ x. cond (in_first set x && true) 1 0) (λ x. cond (in_first set x) 1 0) xs (λ x. elim (in_first set x) as (λ b. ◌≡◌ {A = ℕ} (cond (b && true) 1 0) (cond b 1 0)) [ true ↦ refl | false ↦ refl ])
-        | false ↦ sum_by-zero (λ x. bin level x ≡ n) (λ x. cond (in_first set x && false) 1 0) xs here (λ x is. elim (in_first set x) as (λ b. ◌≡◌ {A = ℕ} (cond (b && false) 1 0) 0) [ true ↦ refl | false ↦ refl ])
+        | true ↦ sum_by-same (λ x. cond (in_first set x && true) 1 0) (λ x. cond (in_first set x) 1 0) xs
+            (λ x. elim (in_first set x) as (λ b. ◌≡◌ {A = ℕ} (cond (b && true) 1 0) (cond b 1 0)) [ true ↦ refl | false ↦ refl ])
+        | false ↦ sum_by-zero (λ x. bin level x ≡ n) (λ x. cond (in_first set x && false) 1 0) xs here
+            (λ x is. elim (in_first set x) as (λ b. ◌≡◌ {A = ℕ} (cond (b && false) 1 0) 0) [ true ↦ refl | false ↦ refl ])
       ]
 
-  counts_push : (before : List Entry) (e : Entry) (closed run : History) → Counts before closed → IsBin set level e run → Counts (before ++ e ∷ []) (closed ++ run)
+  counts_push : (before : List Entry) (e : Entry) (closed run : History) → Counts before closed
+      → IsBin set level e run → Counts (before ++ e ∷ []) (closed ++ run)
   counts_push before e closed run counts is = λ n k few all.
       let front = counts n k few (all_front (λ x. bin level x < n) closed run all) in
       let here = one_bin e.index k n run is.here in
@@ -34,10 +41,13 @@ module _ (set : CorrelationView) (level : ℕ) where
   pub correlation_paired : (k : ℕ) → 0 < k → k ≤ set.lags → (es before : List Entry) (closed xs : History) → Counts before closed → Follow set level closed es xs → correlation set level k (closed ++ xs) ≡ correlation set level k closed + paired k before es
   correlation_paired k some few [] before closed xs counts follow = rw (follow, append-nil) (grind arith)
   correlation_paired k some few (e ∷ es) before closed xs counts follow =
-      let below : AllByRecursion (λ x. bin level x ≤ e.index) closed = all_weaker (λ x. bin level x < e.index) (λ x. bin level x ≤ e.index) (λ x under. omega arith) closed follow.4 in
+      let below : AllByRecursion (λ x. bin level x ≤ e.index) closed =
+      all_weaker (λ x. bin level x < e.index) (λ x. bin level x ≤ e.index) (λ x under. omega arith) closed follow.4 in
       let grown = pairs-append (in_first set) (in_second set) (bin level) k e.index closed follow.0 some below follow.3.here in
-      let one : correlation set level k (closed ++ follow.0) ≡ correlation set level k closed + weight_before k e.index before * e.b = grown ∙ rw (counts e.index k few follow.4, follow.3.b) refl in
-      let rest = correlation_paired k some few es (before ++ e ∷ []) (closed ++ follow.0) follow.1 (counts_push before e closed follow.0 counts follow.3) follow.5 in
+      let one : correlation set level k (closed ++ follow.0) ≡ correlation set level k closed + weight_before k e.index before * e.b =
+      grown ∙ rw (counts e.index k few follow.4, follow.3.b) refl in
+      let rest =
+      correlation_paired k some few es (before ++ e ∷ []) (closed ++ follow.0) follow.1 (counts_push before e closed follow.0 counts follow.3) follow.5 in
       rw (follow.2, ← append_assoc closed follow.0 follow.1) (omega (arith, rest, one))
 
   -- each closed bin is one more that is occupied
@@ -56,8 +66,10 @@ module _ (set : CorrelationView) (level : ℕ) where
       (λ n all. all_push (λ f. f.index < n) before e (bounded n (all_front (λ x. bin level x < n) closed follow.0 all)) (of_some (bin level) e.index (λ m. m < n) follow.0 follow.3.some follow.3.here (all_back (λ x. bin level x < n) closed follow.0 all)))
       follow.5)
 
-  module _ (skipped : ℕ) (is_skipped : skipped ≡ skipped_lags set level) (r : Ring) (cells : Cells) (es : List Entry) (closed xs : History) (can : CanShutAll set level r cells es closed xs) where
-    all_more : (p : ℕ) → p < set.lags - skipped → correlation set level (p + skipped + 1) (closed ++ xs) ≡ get_or cells.cells p 0 + paired (p + skipped + 1) r.entries es
+  module _ (skipped : ℕ) (is_skipped : skipped ≡ skipped_lags set level) (r : Ring) (cells : Cells)
+      (es : List Entry) (closed xs : History) (can : CanShutAll set level r cells es closed xs) where
+    all_more : (p : ℕ) → p < set.lags - skipped
+        → correlation set level (p + skipped + 1) (closed ++ xs) ≡ get_or cells.cells p 0 + paired (p + skipped + 1) r.entries es
     all_more p inside =
         let was : get_or cells.cells p 0 ≡ correlation set level (p + skipped + 1) closed = rw is_skipped (can.cells.pairs p (rw (← is_skipped) inside)) in
         rw was (correlation_paired (p + skipped + 1) (omega arith) (omega arith) es r.entries closed xs (ring_counts r closed can.ring) can.bins)
@@ -75,7 +87,8 @@ module _ (set : CorrelationView) (level : ℕ) where
     work_all = rw (is_skipped, occupied_all es closed xs can.bins) (let was = can.cells.work in grind arith)
 
     pub cells_all : (new : Cells) → ((p : ℕ) → p < set.lags - skipped → get_or new.cells p 0 ≡ get_or cells.cells p 0 + paired (p + skipped + 1) r.entries es)
-        → length new.cells ≡ length cells.cells → new.added ≤ cells.added + (set.lags - skipped) * length es → ((p : ℕ) → added_at new p ≤ added_at cells p + length es) → CellsAre set level new (closed ++ xs)
+        → length new.cells ≡ length cells.cells → new.added ≤ cells.added + (set.lags - skipped) * length es
+        → ((p : ℕ) → added_at new p ≤ added_at cells p + length es) → CellsAre set level new (closed ++ xs)
     cells_all new pairs same added each = record {
       count = same ∙ can.cells.count;
       pairs = λ p inside. rw (← is_skipped) (pairs p (rw is_skipped inside) ∙ sym (all_more p (rw is_skipped inside)));

@@ -1,8 +1,167 @@
 -- Bins that pass a level with no pair.
-use Rattle.std.{proofs.Common.{◌≡◌, ℕ, suc, ◌+◌, ◌-◌, ◌*◌, ◌/◌, ◌^◌, ◌<◌, ◌≤◌, Some, List, [], ◌∷◌, ◌++◌, length, map, take, drop, set, get_or, refl, sym, ap, ◌∙◌, subst, arith, rules}, specs.List.AllByRecursion, proofs.Math.Nat.{div-le_self}, proofs.lemmas.Nat.{shl-shr, shr-shr}, proofs.lemmas.List.{take_more, take-take, map_push, get_or-drop, get_or-take, get_or-map, drop-set, drop_more, length-map, length-drop, length-set, length-take-le}}
 use Rattle.tally_base.{specs.Settings.CorrelationView, specs.Tally.History}
-use Rattle.lag_ring.{specs.declared.ring.Entry.Entry, specs.Ring.ring, proofs.Rising.all_weaker}
-use Rattle.tau_cascade.{specs.declared.level.Level.Level, specs.Correlation.{bin, skipped_lags}, specs.Levels.IsBin, specs.Bins.{raised, lowered, merged_onto, stretch, IsSpaced, Follow, CanTake, Took}, proofs.Keeping.last_of, proofs.Paired.cells_all, proofs.Spaced.{merged-apart, spaced_front, spaced_behind, spaced_nearer, spaced_take, all_take, spaced-raised, paired-far, all_behind, ring_far}, proofs.Takes.{parts, may_shut, took}}
+use Rattle.lag_ring.{specs.declared.ring.Entry.Entry, specs.Ring.{ring, Ring, IsRising}, proofs.Rising.{all_weaker, all_push, rising_front}, proofs.Lists.{all_map, all_both, all_front, all_back}}
+use Rattle.tau_cascade.{specs.declared.level.Level.Level, specs.Correlation.{bin, skipped_lags}, specs.Levels.{IsBin, RingIs, weight_before}, specs.Bins.{raised, lowered, merged_onto, stretch, IsSpaced, Follow, CanTake, Took, merged}, proofs.Keeping.last_of, proofs.Paired.cells_all, proofs.Follows.{parts, may_shut, took}, specs.Dense.paired, proofs.Closes.ring_begun, proofs.Nexts.{none_at_lag, rising_drop, paired-append, take_parts, paired_part}, proofs.Together.from_first}
+use Rattle.std.{proofs.Common.{◌≡◌, ℕ, suc, ◌+◌, ◌-◌, ◌*◌, ◌/◌, ◌^◌, ◌<◌, ◌≤◌, Some, List, [], ◌∷◌, ◌++◌, length, map, take, drop, set, get_or, refl, sym, ap, ◌∙◌, subst, arith, rules, cond, eqb, append_assoc, zero, append-nil}, specs.List.AllByRecursion, proofs.Math.Nat.{div-le_self, div-mul-le_self}, proofs.lemmas.Nat.{shl-shr, shr-shr, le-div, pow_pos}, proofs.lemmas.List.{take_more, take-take, map_push, get_or-drop, get_or-take, get_or-map, drop-set, drop_more, length-map, length-drop, length-set, length-take-le, take-append-drop, drop-take, drop-append-le, drop-drop}, proofs.lemmas.List.Sums.sum_by-append, proofs.lemmas.Grind.common_steps}
+
+-- Bins that are further apart than the lags.
+
+-- a distance, some levels up
+shares : (i d j n : ℕ) → 0 < n → i + d ≤ j → i / n + d / n ≤ j / n
+shares i d j n some apart = le-div (i / n + d / n) j n some (omega (arith, apart, div-mul-le_self i n, div-mul-le_self d n))
+
+pub spaced-raised : (d up : ℕ) (es : List Entry) → IsSpaced d es → IsSpaced (d / 2 ^ up) (map (raised up) es)
+spaced-raised d up [] spaced = tt
+spaced-raised d up (e ∷ es) spaced = grind (arith, common_steps, all_map, all_weaker, shares, pow_pos, spaced-raised d up es spaced.1)
+
+pub spaced_nearer : (d near : ℕ) (es : List Entry) → near ≤ d → IsSpaced d es → IsSpaced near es
+spaced_nearer d near [] less spaced = tt
+spaced_nearer d near (e ∷ es) less spaced = search (rules, arith, all_weaker, spaced_nearer d near es less spaced.1)
+
+-- bins that are apart are not merged
+pub merged-apart : (d : ℕ) (e : Entry) (es : List Entry) → 0 < d → IsSpaced d (e ∷ es) → merged e es ≡ e ∷ es
+merged-apart d e [] some spaced = refl
+merged-apart d e (f ∷ fs) some spaced = search (rules, arith, merged-apart d f fs some spaced.1)
+
+-- the same behind an index before them
+pub spaced_behind : (d i : ℕ) (e : Entry) (es : List Entry) → i + d ≤ e.index → IsSpaced d (e ∷ es) → AllByRecursion (λ f. i + d ≤ f.index) (e ∷ es)
+spaced_behind d i e es first spaced = (first, all_weaker (λ f. e.index + d ≤ f.index) (λ f. i + d ≤ f.index) (λ f apart. omega arith) es spaced.0)
+
+pub all_take : (P : Entry → Type 0) (n : ℕ) (es : List Entry) → AllByRecursion P es → AllByRecursion P (take n es)
+all_take P zero es all = tt
+all_take P (suc n) [] all = tt
+all_take P (suc n) (e ∷ es) all = (all.0, all_take P n es all.1)
+
+pub spaced_take : (d n : ℕ) (es : List Entry) → IsSpaced d es → IsSpaced d (take n es)
+spaced_take d zero es spaced = tt
+spaced_take d (suc n) [] spaced = tt
+spaced_take d (suc n) (e ∷ es) spaced = (all_take (λ f. e.index + d ≤ f.index) n es spaced.0, spaced_take d n es spaced.1)
+
+pub spaced_front : (d : ℕ) (es fs : List Entry) → IsSpaced d (es ++ fs) → IsSpaced d es
+spaced_front d [] fs spaced = tt
+spaced_front d (e ∷ es) fs spaced = (all_front (λ f. e.index + d ≤ f.index) es fs spaced.0, spaced_front d es fs spaced.1)
+
+before_last : (d : ℕ) (es : List Entry) (p : Entry) → IsSpaced d (es ++ p ∷ []) → AllByRecursion (λ e. e.index + d ≤ p.index) es
+before_last d [] p spaced = tt
+before_last d (e ∷ es) p spaced = ((all_back (λ f. e.index + d ≤ f.index) es (p ∷ []) spaced.0).0, before_last d es p spaced.1)
+
+spaced_push : (d : ℕ) (es : List Entry) (f : Entry) → IsSpaced d es → AllByRecursion (λ e. e.index + d ≤ f.index) es → IsSpaced d (es ++ f ∷ [])
+spaced_push d [] f spaced all = (tt, tt)
+spaced_push d (e ∷ es) f spaced all = (all_push (λ g. e.index + d ≤ g.index) es f spaced.0 all.0, spaced_push d es f spaced.1 all.1)
+
+pub spaced_one : (d : ℕ) (es : List Entry) → IsSpaced d (take 1 es)
+spaced_one d es = search (rules, arith)
+
+-- one bin more
+pub spaced_more : (d near at' : ℕ) (bins : List Entry) (none : Entry) → 0 < at' → at' < length bins → (0 < d → IsSpaced d (take at' bins)) → near ≤ d → near ≤ (get_or bins at' none).index - (get_or bins (at' - 1) none).index → 0 < near → IsSpaced near (take (at' + 1) bins)
+spaced_more d near at' bins none some inside were less here more =
+    let f : Entry = get_or bins at' none in
+    let p : Entry = get_or bins (at' - 1) none in
+    let count : at' - 1 + 1 ≡ at' = omega arith in
+    let was : IsSpaced near (take at' bins) = spaced_nearer d near (take at' bins) less (were (omega arith)) in
+    let cut : take (at' - 1 + 1) bins ≡ take (at' - 1) bins ++ p ∷ [] = take_more bins (at' - 1) none (omega arith) in
+    let last : take at' bins ≡ take (at' - 1) bins ++ p ∷ [] = subst (λ n. take n bins ≡ take (at' - 1) bins ++ p ∷ []) count cut in
+    let apart : IsSpaced near (take (at' - 1) bins ++ p ∷ []) = rw (← last) was in
+    let below = before_last near (take (at' - 1) bins) p apart in
+    let step : p.index + near ≤ f.index = omega arith in
+    let all : AllByRecursion (λ e. e.index + near ≤ f.index) (take (at' - 1) bins ++ p ∷ []) = all_push (λ e. e.index + near ≤ f.index) (take (at' - 1) bins) p (all_weaker (λ e. e.index + near ≤ p.index) (λ e. e.index + near ≤ f.index) (λ e under. omega arith) (take (at' - 1) bins) below) step in
+    rw (take_more bins at' none inside) (spaced_push near (take at' bins) f was (rw last all))
+
+-- nothing pairs over more than the lags
+pub paired-far : (lags k : ℕ) → k ≤ lags → (before es : List Entry)
+    → AllByRecursion (λ e. AllByRecursion (λ f. f.index + lags < e.index) before) es → IsSpaced (lags + 1) es → paired k before es ≡ 0
+paired-far lags k few before [] far spaced = refl
+paired-far lags k few before (e ∷ es) far spaced =
+    let none : weight_before k e.index before ≡ 0 = none_at_lag before lags e.index k far.0 few in
+    let next : AllByRecursion (λ g. AllByRecursion (λ f. f.index + lags < g.index) (before ++ e ∷ [])) es = all_both (λ g. AllByRecursion (λ f. f.index + lags < g.index) before) (λ g. e.index + (lags + 1) ≤ g.index) (λ g. AllByRecursion (λ f. f.index + lags < g.index) (before ++ e ∷ [])) (λ g back apart. all_push (λ f. f.index + lags < g.index) before e back (omega arith)) es far.1 spaced.0 in
+    rw (none, paired-far lags k few (before ++ e ∷ []) es next spaced.1) (grind arith)
+
+-- what is out of reach of an index is out of reach of bins that are not before it
+pub all_behind : (lags i : ℕ) (before es : List Entry) → AllByRecursion (λ f. f.index + lags < i) before
+    → AllByRecursion (λ e. i ≤ e.index) es → AllByRecursion (λ e. AllByRecursion (λ f. f.index + lags < e.index) before) es
+all_behind lags i before es far from = search (rules, arith, all_weaker)
+
+-- the ring begins anew with each, and in the end has the last alone
+pub ring_far : (set : CorrelationView) (level : ℕ) → 0 < set.lags → (e : Entry) (es : List Entry) (r : Ring) (closed xs : History) → RingIs set level r closed → Follow set level closed (e ∷ es) xs → AllByRecursion (λ f. f.index + set.lags < e.index) r.entries → IsSpaced (set.lags + 1) (e ∷ es) → RingIs set level (ring (last_of e es ∷ []) r.reach) (closed ++ xs)
+ring_far set level some e [] r closed xs was follow far spaced = search (rules, arith, append-nil, ring_begun)
+ring_far set level some e (f ∷ fs) r closed xs was follow far spaced =
+    let one = ring_begun set level r e closed follow.0 some far (record { was = was; is_bin = follow.3; before = follow.4 }) in
+    let near : e.index + set.lags < f.index = omega arith in
+    rw (follow.2, ← append_assoc closed follow.0 follow.1)
+    (ring_far set level some f fs (ring (e ∷ []) r.reach) (closed ++ follow.0) follow.1 one follow.5 (near, tt) spaced.1)
+
+-- Runs of bins, one window after the other.
+
+-- bins that are out of reach add nothing
+paired_far : (k lags index : ℕ) (far near es : List Entry) → k ≤ lags → AllByRecursion (λ f. f.index + lags < index) far
+    → AllByRecursion (λ e. index ≤ e.index) es → paired k (far ++ near) es ≡ paired k near es
+paired_far k lags index far near [] few out from = refl
+paired_far k lags index far near (e ∷ es) few out from =
+    let further : AllByRecursion (λ f. f.index + lags < e.index) far =
+    all_weaker (λ f. f.index + lags < index) (λ f. f.index + lags < e.index) (λ f under. omega (arith, from.0)) far out in
+    let no : weight_before k e.index far ≡ 0 = none_at_lag far lags e.index k further few in
+    let both : weight_before k e.index (far ++ near) ≡ weight_before k e.index far + weight_before k e.index near =
+    sum_by-append (λ f. cond (eqb (f.index + k) e.index) f.a 0) far near in
+    search (rules, arith, near, append_assoc, paired_far k lags index far (near ++ e ∷ []) es few out from.1)
+
+-- the bins of a list from one place to another, behind those from a place on that are near
+module _ (list : List Entry) (from at' end' lags : ℕ) (none : Entry) (within : from ≤ at')
+    (more : at' < end') (inside : end' ≤ length list) (rising : IsRising list) where
+  abbrev pub run : List Entry
+  run = take (end' - from) (drop from list)
+
+  abbrev near : List Entry
+  near = take (at' - from) (drop from list)
+
+  abbrev here : List Entry
+  here = take (end' - at') (drop at' list)
+
+  pub run_rising : IsRising run
+  run_rising = rising_front run (drop (end' - from) (drop from list)) (rw (take-append-drop (end' - from) (drop from list)) (rising_drop list from rising))
+
+  pub run_long : length run ≡ end' - from
+  run_long = length-take-le (end' - from) (drop from list) (omega (arith, length-drop from list))
+
+  run_front : take (at' - from) run ≡ near
+  run_front = take-take (at' - from) (end' - from) (drop from list) (omega arith)
+
+  run_back : drop (at' - from) run ≡ here
+  run_back =
+      let parts : (at' - from) + (end' - at') ≡ end' - from = omega arith in
+      search (rules, arith, drop-take, drop-drop)
+
+  from_here : AllByRecursion (λ e. (get_or list at' none).index ≤ e.index) here
+  from_here = all_front (λ e. (get_or list at' none).index ≤ e.index) here (drop (end' - at') (drop at' list))
+      (rw (take-append-drop (end' - at') (drop at' list)) (from_first list at' none (omega arith) rising))
+
+  module _ (start : ℕ) (behind : start ≤ at') where
+    -- what the run adds
+    pub paired_run : AllByRecursion (λ f. f.index + lags < (get_or list at' none).index) (take from list) → (k : ℕ) → k ≤ lags
+        → paired k (take start list) (drop start (take end' list)) ≡ paired k (take start list)
+        (drop start (take at' list)) + paired k (take (at' - from) run) (drop (at' - from) run)
+    paired_run far k few =
+        let long : length (take at' list) ≡ at' = length-take-le at' list (omega arith) in
+        let parted : drop start (take end' list) ≡ drop start (take at' list) ++ here =
+        ap (drop start) (take_parts list at' end' (omega arith)) ∙ drop-append-le start (take at' list) here (omega (arith, long)) in
+        let front : take start (take at' list) ≡ take start list = take-take start at' list behind in
+        let whole : take start list ++ drop start (take at' list) ≡ take at' list = (rw front at (take-append-drop start (take at' list))) in
+        let two = paired-append k (take start list) (drop start (take at' list)) here in
+        let all : paired k (take start list) (drop start (take end' list)) ≡ paired k (take start list)
+        (drop start (take at' list)) + paired k (take at' list) here = ap (paired k (take start list)) parted ∙ (rw whole at two) in
+        let reach : paired k (take at' list) here ≡ paired k near here = ap (λ ys. paired k ys here) (take_parts list from at' within)
+        ∙ paired_far k lags (get_or list at' none).index (take from list) near here few far from_here in
+        rw (run_front, run_back) (omega (arith, all, reach))
+
+    -- and it is among what all add
+    pub paired_upto : (k : ℕ) → paired k (take start list) (drop start (take end' list)) ≤ paired k (take start list) (drop start list)
+    paired_upto k = search (rules, arith, paired_part)
+
+-- the additions of a run more
+pub runs_added : (n start at' end' before now few : ℕ) → start ≤ at' → at' ≤ end'
+    → now ≤ before + n * (at' - start) → few ≤ n * (end' - at') → now + few ≤ before + n * (end' - start)
+runs_added n start at' end' before now few behind more so_far some = search (rules, arith)
+
+-- Bins that pass a level with no pair.
 
 -- the open bin goes before those that come, and the last of them is open
 module _ (set : CorrelationView) (level : ℕ) (l : Level) (o : Entry) (es : List Entry) (closed open' xs : History) (some : 0 < length es) (can : CanTake set level l es closed open' xs) (is : l.open ≡ Some o) (lags : 0 < set.lags) (spaced : IsSpaced (set.lags + 1) (o ∷ es)) (behind : AllByRecursion (λ f. f.index + set.lags < o.index) l.ring.entries) where
@@ -13,17 +172,20 @@ module _ (set : CorrelationView) (level : ℕ) (l : Level) (o : Entry) (es : Lis
     joined : (o ∷ ss) ++ open'' ∷ [] ≡ merged_onto l.open es
     joined = moved ∙ sym alone
 
-    pub cut : (done : History) × (now : History) × (open' ++ xs ≡ done ++ now) × Follow set level closed (o ∷ ss) done × IsBin set level open'' now × AllByRecursion (λ x. bin level x < open''.index) (closed ++ done)
+    pub cut : (done : History) × (now : History) × (open' ++ xs ≡ done ++ now) × Follow set level closed
+        (o ∷ ss) done × IsBin set level open'' now × AllByRecursion (λ x. bin level x < open''.index) (closed ++ done)
     cut = parts set level l es some closed open' xs can (o ∷ ss) open'' joined
 
     shut_spaced : IsSpaced (set.lags + 1) (o ∷ ss)
     shut_spaced = spaced_front (set.lags + 1) (o ∷ ss) (open'' ∷ []) (subst (λ ys. IsSpaced (set.lags + 1) ys) (sym moved) spaced)
 
     all_out : AllByRecursion (λ e. AllByRecursion (λ f. f.index + set.lags < e.index) l.ring.entries) (o ∷ ss)
-    all_out = all_behind set.lags o.index l.ring.entries (o ∷ ss) behind (omega arith, all_weaker (λ f. o.index + (set.lags + 1) ≤ f.index) (λ f. o.index ≤ f.index) (λ f up. omega arith) ss shut_spaced.0)
+    all_out = all_behind set.lags o.index l.ring.entries (o ∷ ss) behind
+        (omega arith, all_weaker (λ f. o.index + (set.lags + 1) ≤ f.index) (λ f. o.index ≤ f.index) (λ f up. omega arith) ss shut_spaced.0)
 
     -- what the level is then
-    pub passed : (l' : Level) → l'.open ≡ Some open'' → l'.ring ≡ ring (last_of o ss ∷ []) l.ring.reach → l'.cells ≡ l.cells → (done : History) × (now : History) × Took set level l' (o ∷ ss) closed open' xs done now
+    pub passed : (l' : Level) → l'.open ≡ Some open'' → l'.ring ≡ ring (last_of o ss ∷ []) l.ring.reach
+        → l'.cells ≡ l.cells → (done : History) × (now : History) × Took set level l' (o ∷ ss) closed open' xs done now
     passed l' opened rung same =
         let whole = parts set level l es some closed open' xs can (o ∷ ss) open'' joined in
         let may = may_shut set level l es some closed open' xs can (o ∷ ss) open'' joined in
@@ -39,7 +201,8 @@ module _ (bins : List Entry) (from count up : ℕ) (o none : Entry) (place : 0 <
   behind-first : take count (drop (from - 1) written) ≡ lowered up o ∷ take (count - 1) (drop from bins)
   behind-first =
       let one : from - 1 + 1 ≡ from = omega arith in
-      let rest : drop (from - 1) written ≡ lowered up o ∷ drop from bins = drop-set bins (from - 1) (lowered up o) (omega arith) ∙ ap (λ n. lowered up o ∷ drop n bins) one in
+      let rest : drop (from - 1) written ≡ lowered up o ∷ drop from bins =
+      drop-set bins (from - 1) (lowered up o) (omega arith) ∙ ap (λ n. lowered up o ∷ drop n bins) one in
       let next : suc (count - 1) ≡ count = omega arith in
       rw rest (subst (λ n. take n (lowered up o ∷ drop from bins) ≡ lowered up o ∷ take (count - 1) (drop from bins)) next refl)
 
@@ -49,13 +212,16 @@ module _ (bins : List Entry) (from count up : ℕ) (o none : Entry) (place : 0 <
   stretch-last : stretch from count up bins ≡ map (raised up) (take (count - 1) (drop from bins)) ++ raised up (get_or bins (from + count - 1) none) ∷ []
   stretch-last =
       let long : count - 1 < length (drop from bins) = omega (arith, length-drop from bins) in
-      let more : take (count - 1 + 1) (drop from bins) ≡ take (count - 1) (drop from bins) ++ get_or (drop from bins) (count - 1) none ∷ [] = take_more (drop from bins) (count - 1) none long in
+      let more : take (count - 1 + 1) (drop from bins) ≡ take (count - 1) (drop from bins) ++ get_or (drop from bins) (count - 1) none ∷ [] =
+      take_more (drop from bins) (count - 1) none long in
       let there : from + (count - 1) ≡ from + count - 1 = omega arith in
-      let read : get_or (drop from bins) (count - 1) none ≡ get_or bins (from + count - 1) none = get_or-drop from bins (count - 1) none ∙ ap (λ n. get_or bins n none) there in
+      let read : get_or (drop from bins) (count - 1) none ≡ get_or bins (from + count - 1) none =
+      get_or-drop from bins (count - 1) none ∙ ap (λ n. get_or bins n none) there in
       search (rules, arith, map_push)
 
   -- what is closed, and the bin that is open then
-  pub moved_on : (o ∷ map (raised up) (take (count - 1) (drop from bins))) ++ raised up (get_or bins (from + count - 1) none) ∷ [] ≡ o ∷ stretch from count up bins
+  pub moved_on : (o ∷ map (raised up) (take (count - 1) (drop from bins)))
+      ++ raised up (get_or bins (from + count - 1) none) ∷ [] ≡ o ∷ stretch from count up bins
   moved_on = ap (λ ys. o ∷ ys) (sym stretch-last)
 
   last_read : (e : Entry) (es : List Entry) → last_of e es ≡ get_or (e ∷ es) (length es) none
@@ -66,13 +232,16 @@ module _ (bins : List Entry) (from count up : ℕ) (o none : Entry) (place : 0 <
   pub last_shut : last_of o (map (raised up) (take (count - 1) (drop from bins))) ≡ raised up (get_or written (from + count - 2) none)
   last_shut =
       let ss : List Entry = map (raised up) (take (count - 1) (drop from bins)) in
-      let size : length ss ≡ count - 1 = length-map (take (count - 1) (drop from bins)) (raised up) ∙ length-take-le (count - 1) (drop from bins) (omega (arith, length-drop from bins)) in
+      let size : length ss ≡ count - 1 =
+      length-map (take (count - 1) (drop from bins)) (raised up) ∙ length-take-le (count - 1) (drop from bins) (omega (arith, length-drop from bins)) in
       let long : length written ≡ length bins = length-set bins (from - 1) (lowered up o) in
-      let some' : count - 1 < length (take count (drop (from - 1) written)) = omega (arith, length-take-le count (drop (from - 1) written) (omega (arith, length-drop (from - 1) written, long))) in
+      let some' : count - 1 < length (take count (drop (from - 1) written)) =
+      omega (arith, length-take-le count (drop (from - 1) written) (omega (arith, length-drop (from - 1) written, long))) in
       let there : from - 1 + (count - 1) ≡ from + count - 2 = omega arith in
       let read : get_or (stretch (from - 1) count up written) (count - 1) none ≡ raised up (get_or written (from + count - 2) none) =
       get_or-map (raised up) (take count (drop (from - 1) written)) (count - 1) none none some'
-      ∙ ap (raised up) (get_or-take count (drop (from - 1) written) (count - 1) none (omega arith) ∙ get_or-drop (from - 1) written (count - 1) none ∙ ap (λ n. get_or written n none) there) in
+      ∙ ap (raised up) (get_or-take count (drop (from - 1) written) (count - 1) none (omega arith)
+      ∙ get_or-drop (from - 1) written (count - 1) none ∙ ap (λ n. get_or written n none) there) in
       last_read o ss ∙ ap (λ n. get_or (o ∷ ss) n none) size ∙ ap (λ ys. get_or ys (count - 1) none) (sym stretch-shift) ∙ read
 
   first_bin : take count (drop from bins) ≡ get_or bins from none ∷ take (count - 1) (drop (from + 1) bins)
@@ -80,11 +249,13 @@ module _ (bins : List Entry) (from count up : ℕ) (o none : Entry) (place : 0 <
 
   module _ (apart : ℕ) (spaced : IsSpaced apart (take count (drop from bins))) where
     -- the open bin and those that come are out of reach of one another
-    pub here_spaced : (lags : ℕ) → lags < apart / 2 ^ up → o.index + lags < (get_or bins from none).index / 2 ^ up → IsSpaced (lags + 1) (o ∷ stretch from count up bins)
+    pub here_spaced : (lags : ℕ) → lags < apart / 2 ^ up → o.index + lags < (get_or bins from none).index / 2 ^ up
+        → IsSpaced (lags + 1) (o ∷ stretch from count up bins)
     here_spaced lags far before =
         let own : IsSpaced apart (get_or bins from none ∷ take (count - 1) (drop (from + 1) bins)) = subst (λ ys. IsSpaced apart ys) first_bin spaced in
         let above = spaced_nearer (apart / 2 ^ up) (lags + 1) (map (raised up) (get_or bins from none ∷ take (count - 1) (drop (from + 1) bins))) (omega arith) (spaced-raised apart up (get_or bins from none ∷ take (count - 1) (drop (from + 1) bins)) own) in
-        let all = spaced_behind (lags + 1) o.index (raised up (get_or bins from none)) (map (raised up) (take (count - 1) (drop (from + 1) bins))) (omega arith) above in
+        let all = spaced_behind (lags + 1) o.index (raised up (get_or bins from none))
+        (map (raised up) (take (count - 1) (drop (from + 1) bins))) (omega arith) above in
         search (rules, arith, first_bin)
 
     -- and as they stand in the list
@@ -93,8 +264,10 @@ module _ (bins : List Entry) (from count up : ℕ) (o none : Entry) (place : 0 <
         let whole : IsSpaced near (take count (drop from bins)) = spaced_nearer apart near (take count (drop from bins)) less spaced in
         let own : IsSpaced near (get_or bins from none ∷ take (count - 1) (drop (from + 1) bins)) = subst (λ ys. IsSpaced near ys) first_bin whole in
         let all = spaced_behind near (o.index * 2 ^ up) (get_or bins from none) (take (count - 1) (drop (from + 1) bins)) before own in
-        let front : take (count - 1) (take count (drop from bins)) ≡ take (count - 1) (drop from bins) = take-take (count - 1) count (drop from bins) (omega arith) in
-        let above : AllByRecursion (λ f. o.index * 2 ^ up + near ≤ f.index) (take count (drop from bins)) = subst (λ ys. AllByRecursion (λ f. o.index * 2 ^ up + near ≤ f.index) ys) (sym first_bin) all in
+        let front : take (count - 1) (take count (drop from bins)) ≡ take (count - 1) (drop from bins) =
+        take-take (count - 1) count (drop from bins) (omega arith) in
+        let above : AllByRecursion (λ f. o.index * 2 ^ up + near ≤ f.index) (take count (drop from bins)) =
+        subst (λ ys. AllByRecursion (λ f. o.index * 2 ^ up + near ≤ f.index) ys) (sym first_bin) all in
         let part : AllByRecursion (λ f. o.index * 2 ^ up + near ≤ f.index) (take (count - 1) (drop from bins)) = subst (λ ys. AllByRecursion (λ f. o.index * 2 ^ up + near ≤ f.index) ys) front (all_take (λ f. o.index * 2 ^ up + near ≤ f.index) (count - 1) (take count (drop from bins)) above) in
         search (rules, arith, spaced_take, behind-first)
 

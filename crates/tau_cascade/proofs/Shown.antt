@@ -24,7 +24,8 @@ correlation-photons set level k h =
     ∙ sum_by-same (λ y. cond (mine y) (cond (is_pair set level k x y) 1 0) 0) (λ y. cond (is_pair set level k x y) 1 0) h
     (λ y. only_second (in_first set x) (in_second set y) (eqb (bin level y) (bin level x + k)) (in_first set y)) in
     let outer : (x : Given) → cond (mine x) (pairs x) 0 ≡ pairs x = λ x.
-    elim (in_first set x) as (λ a. cond (a || in_second set x) (count_by (λ y. (a && in_second set y) && eqb (bin level y) (bin level x + k)) h) 0 ≡ count_by (λ y. (a && in_second set y) && eqb (bin level y) (bin level x + k)) h)
+    elim (in_first set x) as (λ a. cond (a || in_second set x) (count_by (λ y. (a && in_second set y) && eqb (bin level y) (bin level x + k)) h) 0 ≡ count_by
+    (λ y. (a && in_second set y) && eqb (bin level y) (bin level x + k)) h)
     [ true ↦ refl | false ↦ elim (in_second set x) as (λ b. cond b (count_by (λ y. (false && in_second set y) && eqb (bin level y) (bin level x + k)) h) 0 ≡ count_by (λ y. (false && in_second set y) && eqb (bin level y) (bin level x + k)) h) [ true ↦ refl | false ↦ sym (zeros (λ y. cond ((false && in_second set y) && eqb (bin level y) (bin level x + k)) 1 0) h (λ y. refl)) ] ] in
     sum_by-same (λ x. count_by (is_pair set level k x) (photons_of set h)) pairs (photons_of set h) inner
     ∙ sum_by-filter mine pairs h
@@ -35,7 +36,8 @@ pub record Reads (set : CorrelationView) (level : ℕ) (l : Level) (closed : His
   pub ring : RingIs set level l.ring closed
   pub cells : CellsAre set level l.cells closed
 
-open_level : (set : CorrelationView) (level : ℕ) (ls : List Level) (came : History) → Chain set level ls came → (i : ℕ) (l : Level) → slice_get ls i ≡ Some l → (closed : History) × Reads set (level + i) l closed
+open_level : (set : CorrelationView) (level : ℕ) (ls : List Level) (came : History) → Chain set level ls came
+    → (i : ℕ) (l : Level) → slice_get ls i ≡ Some l → (closed : History) × Reads set (level + i) l closed
 open_level set level [] came is i l read = cc
 open_level set level (x ∷ ls) came is zero l read = let same : x ≡ l = cc in (is.0, rw (add-zero, ← same) (record { ring = is.3.ring; cells = is.3.cells }))
 open_level set level (x ∷ ls) came is (suc i) l read =
@@ -43,13 +45,15 @@ open_level set level (x ∷ ls) came is (suc i) l read =
     let rest = open_level set (suc level) ls is.0 is.4 i l read in
     (rest.0, (rw next at rest.1))
 
-done_level : (set : CorrelationView) (level : ℕ) (ls : List Level) (came : History) → Complete set level ls came → (i : ℕ) (l : Level) → slice_get ls i ≡ Some l → Reads set (level + i) l came
+done_level : (set : CorrelationView) (level : ℕ) (ls : List Level) (came : History)
+    → Complete set level ls came → (i : ℕ) (l : Level) → slice_get ls i ≡ Some l → Reads set (level + i) l came
 done_level set level [] came is i l read = cc
 done_level set level (x ∷ ls) came is zero l read = let same : x ≡ l = cc in rw (add-zero, ← same) (record { ring = is.0.ring; cells = is.0.cells })
 done_level set level (x ∷ ls) came is (suc i) l read = search (rules, arith, done_level set (suc level) ls came is.1 i l read)
 
 pub any_level : (closed : Bool) (set : CorrelationSet) (ls : List Level) (count time : ℕ) (h : History) → StandsFor closed set ls count time h → (i : ℕ) (l : Level) → slice_get ls i ≡ Some l → (came : History) × Reads (correlation_view set) i l came
-any_level true set ls count time h is i l read = (photons_of (correlation_view set) h, (rw zero-add at (done_level (correlation_view set) 0 ls (photons_of (correlation_view set) h) is.through i l read)))
+any_level true set ls count time h is i l read =
+    (photons_of (correlation_view set) h, (rw zero-add at (done_level (correlation_view set) 0 ls (photons_of (correlation_view set) h) is.through i l read)))
 any_level false set ls count time h is i l read =
     let found = open_level (correlation_view set) 0 ls (photons_of (correlation_view set) h) is.through i l read in
     (found.0, (rw zero-add at found.1))
@@ -57,21 +61,25 @@ any_level false set ls count time h is i l read =
 pub level_count : (closed : Bool) (set : CorrelationSet) (ls : List Level) (count time : ℕ) (h : History) → StandsFor closed set ls count time h → (i : ℕ) (l : Level) → slice_get ls i ≡ Some l → length l.cells.cells ≡ lag_count (correlation_view set) i
 level_count closed set ls count time h is i l read = (any_level closed set ls count time h is i l read).1.cells.count
 
-pub level_ring : (closed : Bool) (set : CorrelationSet) (ls : List Level) (count time : ℕ) (h : History) → StandsFor closed set ls count time h → (i : ℕ) (l : Level) → slice_get ls i ≡ Some l → length l.ring.entries ≤ set.lags
+pub level_ring : (closed : Bool) (set : CorrelationSet) (ls : List Level) (count time : ℕ) (h : History)
+    → StandsFor closed set ls count time h → (i : ℕ) (l : Level) → slice_get ls i ≡ Some l → length l.ring.entries ≤ set.lags
 level_ring closed set ls count time h is i l read =
     let found = any_level closed set ls count time h is i l read in
     omega (arith, found.1.ring.reach, found.1.ring.keeps.within)
 
 pub closed_cells : (closed : Bool) → closed ≡ true → (set : CorrelationSet) (ls : List Level) (count time : ℕ) (h : History) → StandsFor closed set ls count time h → (i : ℕ) (l : Level) → slice_get ls i ≡ Some l → CellsAre (correlation_view set) i l.cells (photons_of (correlation_view set) h)
 closed_cells false shut set ls count time h is i l read = absurd (false≢true shut)
-closed_cells true shut set ls count time h is i l read = (rw zero-add at (done_level (correlation_view set) 0 ls (photons_of (correlation_view set) h) is.through i l read)).cells
+closed_cells true shut set ls count time h is i l read =
+    (rw zero-add at (done_level (correlation_view set) 0 ls (photons_of (correlation_view set) h) is.through i l read)).cells
 
-read_in : {Y : Type 0} (ls : List Level) (i : ℕ) (f : Level → Y) (y : Y) (o : Option Level) → slice_get ls i ≡ o → option_map f o ≡ Some y → (l : Level) × (slice_get ls i ≡ Some l) × (f l ≡ y)
+read_in : {Y : Type 0} (ls : List Level) (i : ℕ) (f : Level → Y) (y : Y) (o : Option Level)
+    → slice_get ls i ≡ o → option_map f o ≡ Some y → (l : Level) × (slice_get ls i ≡ Some l) × (f l ≡ y)
 read_in ls i f y None is got = cc
 read_in ls i f y (Some l) is got = (l, is, cc)
 
 -- the level that is read, by what is read of it
-pub read_of : {Y : Type 0} (ls : List Level) (i : ℕ) (f : Level → Y) (y : Y) → option_map f (slice_get ls i) ≡ Some y → (l : Level) × (slice_get ls i ≡ Some l) × (f l ≡ y)
+pub read_of : {Y : Type 0} (ls : List Level) (i : ℕ) (f : Level → Y) (y : Y)
+    → option_map f (slice_get ls i) ≡ Some y → (l : Level) × (slice_get ls i ≡ Some l) × (f l ≡ y)
 read_of ls i f y read = read_in ls i f y (slice_get ls i) refl read
 
 pub shown_cells : (closed : Bool) → closed ≡ true → (set : CorrelationSet) (ls : List Level) (count time : ℕ) (h : History) → StandsFor closed set ls count time h → (i : ℕ) (cs : Cells) → option_map (λ (l : Level). l.cells) (slice_get ls i) ≡ Some cs → CellsAre (correlation_view set) i cs (photons_of (correlation_view set) h)

@@ -1,14 +1,16 @@
 -- Pairs of dense bins, lag by lag.
 use Rattle.std.{proofs.Common.{◌≡◌, ◌∙◌, ℕ, ◌+◌, ◌-◌, ◌*◌, ◌^◌, ◌<◌, ◌≤◌, true, false, ltb, List, [], ◌∷◌, ◌++◌, length, get_or, take, drop, refl, sym, ap, arith, append_assoc, rules}, specs.List.{sum_by, filter, AllByRecursion}, proofs.Math.Nat.mul-le-mul_left, proofs.lemmas.Bool.Decides.nat_tests, proofs.lemmas.List.{take-append-drop, take_more, take_all, drop_more, length-drop}, proofs.lemmas.List.Sums.{sum_by-cons, sum_by-append, sum_by-le-sum_by}}
-use Rattle.lag_ring.{specs.declared.ring.Entry.Entry, specs.declared.window.Side.TheVariants.{First, Second}, specs.Cells.{Cells, added_at}, specs.Ring.IsRising, specs.Window.{weight_of, weight_at}, proofs.Lists.{all_back, all_both}, proofs.Rising.{all_weaker, all_push, rising_back}, proofs.Sums.{sum_by-same, sum_by-agree, sum_by-filter, sum_by-zero}, proofs.Windows.{window-before, part-le}}
-use Rattle.tau_cascade.{specs.Levels.weight_before, specs.Paired.paired, specs.Dense.{window_pairs, FitsWindow, AddsOnce}, proofs.Nexts.below_bins, proofs.Visits.rising_drop}
+use Rattle.lag_ring.{specs.declared.ring.Entry.Entry, specs.declared.window.Side.TheVariants.First, specs.Cells.{Cells, added_at}, specs.Ring.IsRising, specs.Bytes.{weight_at, behind}, proofs.Lists.{all_back, all_both}, proofs.Rising.{all_weaker, all_push, rising_back}, proofs.Sums.{sum_by-agree, sum_by-zero, window-before}}
+use Rattle.tau_cascade.{specs.Levels.weight_before, specs.Dense.{paired, spot_pairs, FitsWindow, AddsOnce}, proofs.Nexts.{below_bins, rising_drop}}
 
 -- bins that aren't before an index count nowhere
-before_only : (k index : ℕ) (es fs : List Entry) → 0 < k → AllByRecursion (λ f. index ≤ f.index) fs → weight_before k index (es ++ fs) ≡ weight_before k index es
+before_only : (k index : ℕ) (es fs : List Entry) → 0 < k → AllByRecursion (λ f. index ≤ f.index) fs
+    → weight_before k index (es ++ fs) ≡ weight_before k index es
 before_only k index es fs some after = search (rules, arith, sum_by-zero, sum_by-append)
 
 -- what bins add, where all bins of a list stand before them
-pub paired-all : (k : ℕ) (all before es : List Entry) → 0 < k → before ++ es ≡ all → IsRising all → paired k before es ≡ sum_by (λ e. weight_before k e.index all * e.b) es
+pub paired-all : (k : ℕ) (all before es : List Entry) → 0 < k → before ++ es ≡ all
+    → IsRising all → paired k before es ≡ sum_by (λ e. weight_before k e.index all * e.b) es
 paired-all k all before [] some is rising = refl
 paired-all k all before (e ∷ es) some is rising =
     let parted : IsRising (before ++ e ∷ es) = rw is rising in
@@ -17,29 +19,18 @@ paired-all k all before (e ∷ es) some is rising =
     let rest = paired-all k all (before ++ e ∷ []) es some (append_assoc before (e ∷ []) es ∙ is) rising in
     rw (sum_by-cons (λ f. weight_before k f.index all * f.b) e es, here, ← rest) refl
 
--- bins without photons of the second group count nowhere
-counted : (f : Entry → ℕ) (es : List Entry) → sum_by (λ e. f e * e.b) (filter (λ e. ltb 0 e.b) es) ≡ sum_by (λ e. f e * e.b) es
-counted f es = search (rules, arith, sum_by-filter, sum_by-same)
-
--- the pairs of a window are those with the bins in it
-pub window-paired-all : (lags low start k : ℕ) (window : List ℕ) (list : List Entry) → 0 < k → k ≤ 192 → length window ≡ 1024 → IsRising list → FitsWindow lags low list (drop start list)
+-- what photons of the later bins find in a window are the pairs with the bins in it
+pub spots-paired : (lags low most start k : ℕ) (window spots : List ℕ) (list : List Entry) → 0 < k
+    → k ≤ 192 → length window ≡ 1024 → IsRising list → FitsWindow lags low most list (drop start list)
     → ((p : ℕ) → p < length window → get_or window p 0 ≡ weight_at First 192 low p list)
-    → window_pairs window low (drop start list) k ≡ paired k (take start list) (drop start list)
-window-paired-all lags low start k window list some upto long rising fits has =
-    sum_by-agree (λ e. (low ≤ e.index) × (e.index - low + 192 ≤ 1024)) (λ e. get_or window (e.index - low + (192 - k)) 0 * e.b) (λ e. weight_before k e.index list * e.b) (drop start list) fits.near
+    → ((f : ℕ → ℕ) → sum_by f spots ≡ sum_by (λ (e : Entry). f (e.index - low) * e.b) (drop start list))
+    → spot_pairs window spots k ≡ paired k (take start list) (drop start list)
+spots-paired lags low most start k window spots list some upto long rising fits has photons =
+    photons (behind window (192 - k))
+    ∙ sum_by-agree (λ e. (low ≤ e.index) × (e.index - low + 192 ≤ 1024)) (λ e. get_or window (e.index - low + (192 - k)) 0 * e.b)
+    (λ e. weight_before k e.index list * e.b) (drop start list) fits.near
     (λ e at. ap (λ n. n * e.b) (window-before First window low 192 list has k e.index upto at.0 (omega (arith, at.1, some, long))))
     ∙ sym (paired-all k list (take start list) (drop start list) some (take-append-drop start list) rising)
-
--- the same, where bins without photons of the second group are left out
-pub window-paired : (lags low start k : ℕ) (window : List ℕ) (list : List Entry) → 0 < k → k ≤ 192 → length window ≡ 1024 → IsRising list → FitsWindow lags low list (drop start list)
-    → ((p : ℕ) → p < length window → get_or window p 0 ≡ weight_at First 192 low p list)
-    → window_pairs window low (filter (λ e. ltb 0 e.b) (drop start list)) k ≡ paired k (take start list) (drop start list)
-window-paired lags low start k window list some upto long rising fits has =
-    counted (λ e. get_or window (e.index - low + (192 - k)) 0) (drop start list) ∙ window-paired-all lags low start k window list some upto long rising fits has
-
--- bins with photons of the second group have no more of them than all
-pub few_counted : (es : List Entry) → sum_by (weight_of Second) (filter (λ e. ltb 0 e.b) es) ≤ sum_by (weight_of Second) es
-few_counted es = search (rules, arith, sum_by-filter, sum_by-le-sum_by, part-le)
 
 -- no bin is behind the last
 to_last : (list : List Entry) (none : Entry) → 0 < length list → IsRising list → AllByRecursion (λ e. e.index ≤ (get_or list (length list - 1) none).index) list
@@ -52,7 +43,8 @@ to_last list none some rising =
     search (rules, arith, take_more, take_all)
 
 -- none from one on is before it
-pub from_first : (list : List Entry) (start : ℕ) (none : Entry) → start < length list → IsRising list → AllByRecursion (λ e. (get_or list start none).index ≤ e.index) (drop start list)
+pub from_first : (list : List Entry) (start : ℕ) (none : Entry) → start < length list → IsRising list
+    → AllByRecursion (λ e. (get_or list start none).index ≤ e.index) (drop start list)
 from_first list start none inside rising =
     let split : drop start list ≡ (get_or list start none) ∷ drop (start + 1) list = drop_more list start none inside in
     search (rules, arith, rising_drop, all_weaker)
@@ -68,12 +60,16 @@ module _ (list : List Entry) (start low last : ℕ) (none : Entry) (inside : sta
   pub all_near : last - low ≤ 832 → AllByRecursion (λ e. (low ≤ e.index) × (e.index - low + 192 ≤ 1024)) (drop start list)
   all_near near =
       let from : AllByRecursion (λ e. low ≤ e.index) (drop start list) = rw is_low (from_first list start none inside rising) in
-      let under : AllByRecursion (λ e. e.index ≤ last) (drop start list) = all_back (λ e. e.index ≤ last) (take start list) (drop start list) (rw (take-append-drop start list) upto) in
-      all_both (λ e. low ≤ e.index) (λ e. e.index ≤ last) (λ e. (low ≤ e.index) × (e.index - low + 192 ≤ 1024)) (λ e over below. (over, omega (arith, near))) (drop start list) from under
+      let under : AllByRecursion (λ e. e.index ≤ last) (drop start list) =
+      all_back (λ e. e.index ≤ last) (take start list) (drop start list) (rw (take-append-drop start list) upto) in
+      all_both (λ e. low ≤ e.index) (λ e. e.index ≤ last) (λ e. (low ≤ e.index) × (e.index - low + 192 ≤ 1024))
+      (λ e over below. (over, omega (arith, near))) (drop start list) from under
 
 -- the cells after one strip of lags more
-pub strip_more : (at' count n skipped : ℕ) (old cells new : List ℕ) (f : ℕ → ℕ) → ((p : ℕ) → p < at' → p < n → get_or cells p 0 ≡ get_or old p 0 + f (p + skipped + 1)) → ((p : ℕ) → at' ≤ p → get_or cells p 0 ≡ get_or old p 0)
-    → ((p : ℕ) → p < at' → get_or new p 0 ≡ get_or cells p 0) → ((i : ℕ) → i < count → get_or new (at' + i) 0 ≡ get_or cells (at' + i) 0 + f (skipped + at' + 1 + i))
+pub strip_more : (at' count n skipped : ℕ) (old cells new : List ℕ) (f : ℕ → ℕ)
+    → ((p : ℕ) → p < at' → p < n → get_or cells p 0 ≡ get_or old p 0 + f (p + skipped + 1)) → ((p : ℕ) → at' ≤ p → get_or cells p 0 ≡ get_or old p 0)
+    → ((p : ℕ) → p < at' → get_or new p 0 ≡ get_or cells p 0)
+    → ((i : ℕ) → i < count → get_or new (at' + i) 0 ≡ get_or cells (at' + i) 0 + f (skipped + at' + 1 + i))
     → (p : ℕ) → p < at' + count → p < n → get_or new p 0 ≡ get_or old p 0 + f (p + skipped + 1)
 strip_more at' count n skipped old cells new f so_far left before here p within inside =
     (elim (ltb p at') as (λ b. ltb p at' ≡ b → get_or new p 0 ≡ get_or old p 0 + f (p + skipped + 1)) [

@@ -1,7 +1,49 @@
 -- A level's additions are at most its lags times its occupied bins, and those at a lag at most its occupied bins.
-use Rattle.std.{proofs.Common.{rules, ◌≡◌, ℕ, zero, suc, ◌+◌, ◌*◌, ◌%◌, ◌<◌, ◌≤◌, take, slice_get, Bool, true, false, List, [], ◌∷◌, ◌++◌, length, map, sym, ap, ◌∙◌, refl, append_assoc, append-nil, zero-add, add-zero, Some, subst, arith}, proofs.Math.Nat.mul-le-mul_left, specs.Option.{option_map, option_map_or}, proofs.lemmas.Grind.common_steps, proofs.lemmas.List.{map-append, take_all}, proofs.lemmas.List.Sums.sum_by-cons}
 use Rattle.tally_base.{specs.declared.settings.CorrelationSet.CorrelationSet, specs.Settings.{CorrelationView, correlation_view}, specs.Tally.History}
-use Rattle.tau_cascade.{specs.declared.level.Level.Level, specs.declared.cascade.Cascade.Cascade, specs.Cascade.{Holds, set_of, spent_by, added_below}, specs.StandsFor.{StandsFor, WentThrough}, specs.Correlation.{bin, lag_count, photons_of}, specs.Work.{occupied, IsWithinLevelWork, lags_at, work_from, work}, specs.Levels.{Chain, Complete, CellsAre, spent}, proofs.Distinct.distinct-le-append}
+use Rattle.tau_cascade.{specs.declared.level.Level.Level, specs.declared.cascade.Cascade.Cascade, specs.Cascade.{Holds, set_of, spent_by, added_below}, specs.StandsFor.{StandsFor, WentThrough}, specs.Correlation.{bin, lag_count, photons_of, correlation}, specs.Work.{occupied, IsWithinLevelWork, lags_at, work_from, work, appears, distinct}, specs.Levels.{Chain, Complete, CellsAre, spent, entries_at_lags}}
+use Rattle.std.{proofs.Common.{rules, ◌≡◌, ℕ, zero, suc, ◌+◌, ◌*◌, ◌%◌, ◌<◌, ◌≤◌, take, slice_get, Bool, true, false, List, [], ◌∷◌, ◌++◌, length, map, sym, ap, ◌∙◌, refl, append_assoc, append-nil, zero-add, add-zero, Some, subst, arith, cond, ◌||◌, eqb, ◌-◌, ◌&&◌, ltb, leb}, proofs.Math.Nat.mul-le-mul_left, specs.Option.{option_map, option_map_or}, proofs.lemmas.Grind.common_steps, proofs.lemmas.List.{map-append, take_all, length-map}, proofs.lemmas.List.Sums.{sum_by-cons, sum_by-le, count_by-le-length}, specs.List.{AllByRecursion, count_by}}
+use Rattle.lag_ring.{specs.declared.ring.Entry.Entry, specs.Ring.IsRising, proofs.Between.{between, count-between}, proofs.Sums.sum_by-agree, proofs.Lists.all_map}
+
+-- How many different numbers a list has.
+
+pub appears-push : (n m : ℕ) (ns : List ℕ) → appears n (ns ++ m ∷ []) ≡ (appears n ns || eqb m n)
+appears-push n m [] = elim (eqb m n) as (λ b. (b || false) ≡ b) [ true ↦ refl | false ↦ refl ]
+appears-push n m (x ∷ ns) = search (rules, arith, appears-push n m ns)
+
+push-cases : (x m d : ℕ) (a b : Bool) → (x ≡ m → a ≡ b) → cond (a || eqb m x) 0 1 + (d + cond b 0 1) ≡ (cond a 0 1 + d) + cond (eqb x m || b) 0 1
+push-cases x m d a b same = search (rules, arith)
+
+pub distinct-push : (ns : List ℕ) (m : ℕ) → distinct (ns ++ m ∷ []) ≡ distinct ns + cond (appears m ns) 0 1
+distinct-push [] m = refl
+distinct-push (x ∷ ns) m = rw (appears-push x m ns, distinct-push ns m) (push-cases x m (distinct ns) (appears x ns) (appears m ns) (λ e. rw e refl))
+
+-- more numbers are no fewer different ones
+pub distinct-le-append : (ns ms : List ℕ) → distinct ns ≤ distinct (ns ++ ms)
+distinct-le-append ns [] = grind (arith, common_steps)
+distinct-le-append ns (m ∷ ms) = search (rules, arith, distinct-push, append_assoc, distinct-le-append (ns ++ m ∷ []) ms)
+
+appears-no : (n : ℕ) (ns : List ℕ) → AllByRecursion (λ m. m < n) ns → appears n ns ≡ false
+appears-no n [] all = refl
+appears-no n (m ∷ ns) all = rw (appears-no n ns all.1) (grind arith)
+
+distinct-again : (ns ms : List ℕ) (n : ℕ) → appears n ns ≡ true → AllByRecursion (λ m. m ≡ n) ms → distinct (ns ++ ms) ≡ distinct ns
+distinct-again ns [] n there all = grind (arith, common_steps)
+distinct-again ns (m ∷ ms) n there all =
+    let push : distinct (ns ++ m ∷ []) ≡ distinct ns = rw (distinct-push ns m, all.0, there) (omega arith) in
+    let same : (ns ++ m ∷ []) ++ ms ≡ ns ++ m ∷ ms = append_assoc ns (m ∷ []) ms in
+    sym (ap distinct same) ∙ distinct-again (ns ++ m ∷ []) ms n (rw (appears-push n m ns, there) refl) all.1 ∙ push
+
+-- one different number more, if the new ones are one that is above all
+pub distinct-late : (ns ms : List ℕ) (n : ℕ) → AllByRecursion (λ m. m < n) ns
+    → 0 < length ms → AllByRecursion (λ m. m ≡ n) ms → distinct (ns ++ ms) ≡ distinct ns + 1
+distinct-late ns [] n below some all = absurd (omega arith)
+distinct-late ns (m ∷ ms) n below some all =
+    let no : appears m ns ≡ false = rw all.0 (appears-no n ns below) in
+    let there : appears n (ns ++ m ∷ []) ≡ true = rw (appears-push n m ns, all.0) (grind (arith, common_steps)) in
+    let same : (ns ++ m ∷ []) ++ ms ≡ ns ++ m ∷ ms = append_assoc ns (m ∷ []) ms in
+    sym (ap distinct same) ∙ distinct-again (ns ++ m ∷ []) ms n there all.1 ∙ (rw (distinct-push ns m, no) refl)
+
+-- A level's additions are at most its lags times its occupied bins, and those at a lag at most its occupied bins.
 
 occupied-le : (level : ℕ) (all front back : History) → all ≡ front ++ back → occupied level front ≤ occupied level all
 occupied-le level all front back same = rw (same, map-append (bin level) front back) (distinct-le-append (map (bin level) front) (map (bin level) back))
@@ -9,21 +51,25 @@ occupied-le level all front back same = rw (same, map-append (bin level) front b
 even_lags : (set : CorrelationView) (level : ℕ) → set.lags % 2 ≡ 0 → lag_count set level ≡ lags_at set level
 even_lags set level even = grind (arith, common_steps)
 
-one_level : (set : CorrelationView) (level : ℕ) (l : Level) (all front back : History) → all ≡ front ++ back → CellsAre set level l.cells front → IsWithinLevelWork set level l.cells all
+one_level : (set : CorrelationView) (level : ℕ) (l : Level) (all front back : History)
+    → all ≡ front ++ back → CellsAre set level l.cells front → IsWithinLevelWork set level l.cells all
 one_level set level l all front back same cells =
     let fewer = occupied-le level all front back same in
     record { all = omega (arith, cells.work, mul-le-mul_left (lag_count set level) fewer); each = λ p. omega (arith, cells.each p, fewer) }
 
-level_work : (set : CorrelationView) (level : ℕ) (l : Level) (all : History) → set.lags % 2 ≡ 0 → IsWithinLevelWork set level l.cells all → l.cells.added ≤ lags_at set level * occupied level all
+level_work : (set : CorrelationView) (level : ℕ) (l : Level) (all : History) → set.lags % 2 ≡ 0
+    → IsWithinLevelWork set level l.cells all → l.cells.added ≤ lags_at set level * occupied level all
 level_work set level l all even is = rw (← even_lags set level even) is.all
 
-open_work : (set : CorrelationView) → set.lags % 2 ≡ 0 → (level : ℕ) (ls : List Level) (all came later : History) → all ≡ came ++ later → Chain set level ls came → spent ls ≤ work_from set level (length ls) all
+open_work : (set : CorrelationView) → set.lags % 2 ≡ 0 → (level : ℕ) (ls : List Level) (all came later : History)
+    → all ≡ came ++ later → Chain set level ls came → spent ls ≤ work_from set level (length ls) all
 open_work set even level [] all came later same chain = omega arith
 open_work set even level (l ∷ ls) all came later same chain =
     let split : all ≡ chain.0 ++ (chain.1 ++ later) = same ∙ ap (λ xs. xs ++ later) chain.2 ∙ append_assoc chain.0 chain.1 later in
     rw (sum_by-cons (λ (l : Level). l.cells.added) l ls) (omega (arith, level_work set level l all even (one_level set level l all chain.0 (chain.1 ++ later) split chain.3.cells), open_work set even (suc level) ls all chain.0 (chain.1 ++ later) split chain.4))
 
-shut_work : (set : CorrelationView) → set.lags % 2 ≡ 0 → (level : ℕ) (ls : List Level) (all : History) → Complete set level ls all → spent ls ≤ work_from set level (length ls) all
+shut_work : (set : CorrelationView) → set.lags % 2 ≡ 0 → (level : ℕ) (ls : List Level) (all : History)
+    → Complete set level ls all → spent ls ≤ work_from set level (length ls) all
 shut_work set even level [] all is = omega arith
 shut_work set even level (l ∷ ls) all is =
     rw (sum_by-cons (λ (l : Level). l.cells.added) l ls) (omega (arith, level_work set level l all even (one_level set level l all all [] (sym (append-nil all)) is.0.cells), shut_work set even (suc level) ls all is.1))
@@ -39,7 +85,8 @@ open_within set level (x ∷ ls) all came later same chain (suc i) l read =
     let next : suc level + i ≡ level + suc i = omega arith in
     (rw next at (open_within set (suc level) ls all chain.0 (chain.1 ++ later) split chain.4 i l read))
 
-shut_within : (set : CorrelationView) (level : ℕ) (ls : List Level) (all : History) → Complete set level ls all → (i : ℕ) (l : Level) → slice_get ls i ≡ Some l → IsWithinLevelWork set (level + i) l.cells all
+shut_within : (set : CorrelationView) (level : ℕ) (ls : List Level) (all : History) → Complete set level ls all
+    → (i : ℕ) (l : Level) → slice_get ls i ≡ Some l → IsWithinLevelWork set (level + i) l.cells all
 shut_within set level [] all is i l read = cc
 shut_within set level (x ∷ ls) all is zero l read =
     let here : x ≡ l = cc in
@@ -47,19 +94,23 @@ shut_within set level (x ∷ ls) all is zero l read =
 shut_within set level (x ∷ ls) all is (suc i) l read = search (rules, arith, shut_within set (suc level) ls all is.1 i l read)
 
 -- each level's additions are within its own work
-pub level_within : (closed : Bool) (set : CorrelationView) (ls : List Level) (xs : History) → WentThrough closed set ls xs → (i : ℕ) (l : Level) → slice_get ls i ≡ Some l → IsWithinLevelWork set i l.cells xs
+pub level_within : (closed : Bool) (set : CorrelationView) (ls : List Level) (xs : History)
+    → WentThrough closed set ls xs → (i : ℕ) (l : Level) → slice_get ls i ≡ Some l → IsWithinLevelWork set i l.cells xs
 level_within false set ls xs is i l read = (rw zero-add at (open_within set 0 ls xs xs [] (sym (append-nil xs)) is i l read))
 level_within true set ls xs is i l read = (rw zero-add at (shut_within set 0 ls xs is i l read))
 
 -- whatever events a correlation stands for, its additions are within their work
-pub spent_within : (closed : Bool) (set : CorrelationSet) (ls : List Level) (count time : ℕ) (h : History) → length ls ≡ set.levels → StandsFor closed set ls count time h → spent ls ≤ work (correlation_view set) h
+pub spent_within : (closed : Bool) (set : CorrelationSet) (ls : List Level) (count time : ℕ) (h : History)
+    → length ls ≡ set.levels → StandsFor closed set ls count time h → spent ls ≤ work (correlation_view set) h
 spent_within false set ls count time h sized is =
     let view : CorrelationView = correlation_view set in
-    subst (λ n. spent ls ≤ work_from view 0 n (photons_of view h)) sized (open_work view set.even_lags 0 ls (photons_of view h) (photons_of view h) [] (sym (append-nil (photons_of view h))) is.through)
+    subst (λ n. spent ls ≤ work_from view 0 n (photons_of view h)) sized
+    (open_work view set.even_lags 0 ls (photons_of view h) (photons_of view h) [] (sym (append-nil (photons_of view h))) is.through)
 spent_within true set ls count time h sized is = search (rules, arith, shut_work)
 
 -- one level more
-level_more : (ls : List Level) (n : ℕ) → n < length ls → spent (take (suc n) ls) ≡ spent (take n ls) + option_map_or (λ c. c.added) (option_map (λ (l : Level). l.cells) (slice_get ls n)) 0
+level_more : (ls : List Level) (n : ℕ) → n < length ls
+    → spent (take (suc n) ls) ≡ spent (take n ls) + option_map_or (λ c. c.added) (option_map (λ (l : Level). l.cells) (slice_get ls n)) 0
 level_more [] n inside = absurd (omega arith)
 level_more (l ∷ ls) zero inside = omega (arith, sum_by-cons (λ (x : Level). x.cells.added) l [])
 level_more (l ∷ ls) (suc n) inside = search (rules, arith, sum_by-cons, level_more ls n (omega arith))
@@ -74,3 +125,34 @@ all_lent t n all = cc (take_all n t.levels.items (omega arith), lent t n (omega 
 
 pub work_within : (t : Cascade) (h : History) → Holds t h → spent_by t ≤ work (correlation_view (set_of t)) h
 work_within t h is = search (rules, arith, spent_within)
+
+-- How many entries stand at the lags of a level.
+
+abbrev pub at_lags : ℕ → ℕ → ℕ → Entry → Bool
+at_lags skipped lags index e = ltb skipped (index - e.index) && leb (index - e.index) lags
+
+same-test : (skipped lags index i : ℕ) → i < index → (ltb skipped (index - i) && leb (index - i) lags) ≡ (leb (index - lags) i && ltb i (index - skipped))
+same-test skipped lags index i below = grind (arith, common_steps)
+
+-- They are at most as many as the lags, since each has an index of its own.
+pub few_at_lags : (es : List Entry) (skipped lags index : ℕ) → IsRising es
+    → AllByRecursion (λ e. e.index < index) es → entries_at_lags skipped lags index es ≤ lags - skipped
+few_at_lags es skipped lags index rising below =
+    let same : entries_at_lags skipped lags index es ≡ count_by (between (index - lags) (index - skipped)) es =
+    sum_by-agree (λ e. e.index < index) (λ e. cond (at_lags skipped lags index e) 1 0) (λ e. cond (between (index - lags) (index - skipped) e) 1 0) es below (λ e before. ap (λ b. cond b 1 0) (same-test skipped lags index e.index before)) in
+    search (rules, arith, between, count-between)
+
+-- What the pairs of a bin with the ring do to the cells of a level.
+
+-- there are no more pairs than places squared
+pub correlation-le : (set : CorrelationView) (level k : ℕ) (h : History) → correlation set level k h ≤ length h * length h
+correlation-le set level k h = search (rules, arith, sum_by-le, count_by-le-length)
+
+module _ (set : CorrelationView) (level : ℕ) where
+  -- one bin more is occupied
+  pub occupied-more : (closed xs : History) (n : ℕ) → AllByRecursion (λ y. bin level y < n) closed → 0 < length xs
+      → AllByRecursion (λ y. bin level y ≡ n) xs → occupied level (closed ++ xs) ≡ occupied level closed + 1
+  occupied-more closed xs n before some here =
+      ap distinct (map-append (bin level) closed xs)
+      ∙ distinct-late (map (bin level) closed) (map (bin level) xs) n (all_map (λ m. m < n) (bin level) closed before)
+      (rw (length-map xs) some) (all_map (λ m. m ≡ n) (bin level) xs here)

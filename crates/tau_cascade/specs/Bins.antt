@@ -1,6 +1,6 @@
 -- Bins that come to a level one after the other, and those that it closes.
 use Rattle.std.{specs.Prelude.{◌≡◌, ℕ, ◌+◌, ◌*◌, ◌/◌, ◌^◌, ◌<◌, ◌≤◌, ◌==◌, ⊤, false, Option, None, Some, List, [], ◌∷◌, ◌++◌, map, take, drop, length, sum_by, if◌then◌else◌}, specs.List.{AllByRecursion}}
-use Rattle.tally_base.{specs.Settings.CorrelationView, specs.Tally.{History, greatest_time}, specs.Limits.record_limit, specs.declared.block.Block.Block, specs.Columns.{gathered, events_in}, specs.Floors.InOrder}
+use Rattle.tally_base.{specs.Settings.CorrelationView, specs.Tally.{History, greatest_time, InOrder}, specs.Limits.record_limit, specs.declared.block.Block.Block, specs.Columns.{gathered, events_in}}
 use Rattle.lag_ring.{specs.declared.ring.Entry.Entry, specs.Ring.Ring, specs.Cells.Cells}
 use Rattle.tau_cascade.{specs.declared.level.Level.Level, specs.Correlation.{Given, bin, in_first, in_second, photons_of}, specs.Levels.{IsBin, LevelIs, RingIs, CellsAre, Chain}}
 

@@ -1,13 +1,7 @@
 -- What holds of every correlation.
 use Rattle.std.{proofs.Common.{◌≡◌, ℕ, suc, ◌+◌, ◌-◌, ◌*◌, ◌/◌, ◌%◌, ◌≤◌, Bool, true, false, cond, List, [], ◌∷◌, ◌++◌, ◌&&◌, ◌||◌, ◌∙◌, ap, subst, length, arith, rules}, specs.Prelude.{is_some}, specs.List.sum_by, proofs.Math.Logic.∥∥₁_elim, proofs.Props.props, proofs.lemmas.List.Sums.sum_by-cons}
-use Rattle.tally_base.{specs.declared.event.Event.Event, specs.Events.{is_photon, is_in}, specs.declared.settings.CorrelationSet.CorrelationSet, specs.Settings.{CorrelationView, correlation_view, entries}, specs.Tally.{History, greatest_time}, proofs.Markers.{same_length, same_greatest, same_filter}}
+use Rattle.tally_base.{specs.declared.event.Event.Event, specs.Events.{is_photon, is_in}, specs.declared.settings.CorrelationSet.CorrelationSet, specs.Settings.{CorrelationView, correlation_view, entries}, specs.Tally.History, proofs.Sorted.{same_length, same_greatest, same_filter}}
 use Rattle.tau_cascade.{specs.declared.cascade.Cascade.Cascade, specs.declared.level.Level.Level, specs.Cascade.{Holds, settings}, specs.Correlation.{in_first, in_second, lag_count, photons_of}, specs.StandsFor.{WentThrough, entries_of}, specs.Levels.{Chain, Complete, RingIs, CellsAre}}
-
-pub taken_is : (t : Cascade) (h : History) → Holds t h → t.taken ≡ length h
-taken_is t h is = is.taken
-
-pub floor_is : (t : Cascade) (h : History) → Holds t h → t.floor ≡ greatest_time false h
-floor_is t h is = is.floor
 
 level_bound : (set : CorrelationView) (level : ℕ) (l : Level) (came : History) → RingIs set level l.ring came → CellsAre set level l.cells came → entries_of l ≤ set.lags + lag_count set level + 1
 level_bound set level l came ring cells = elim (is_some l.open) as (λ b. length l.ring.entries + length l.cells.cells + cond b 1 0 ≤ set.lags + lag_count set level + 1) [ true ↦ omega (arith, ring.reach, ring.keeps.within, cells.count) | false ↦ omega (arith, ring.reach, ring.keeps.within, cells.count) ]

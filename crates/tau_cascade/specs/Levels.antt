@@ -1,7 +1,7 @@
 -- What levels stand for: photons that came to them, in order, and how far they are paired.
 use Rattle.std.{specs.Prelude.{◌≡◌, ℕ, ◌+◌, ◌-◌, ◌*◌, ◌/◌, ◌<◌, ◌≤◌, suc, ⊤, ◌==◌, ◌&&◌, nat_lt, nat_le, count_by, sum_by, Option, None, Some, List, [], ◌∷◌, ◌++◌, length, slice_index}, specs.List.{AllByRecursion}}
 use Rattle.tally_base.{specs.Settings.CorrelationView, specs.Tally.History, specs.Limits.record_limit}
-use Rattle.lag_ring.{specs.declared.ring.Entry.Entry, specs.Ring.{Ring, IsRising}, specs.Cells.{Cells, added_at}, specs.Kept.{weight_where, Weighs, Keeps}}
+use Rattle.lag_ring.{specs.declared.ring.Entry.Entry, specs.Ring.{Ring, IsRising, weight_where, Weighs, Keeps}, specs.Cells.{Cells, added_at}}
 use Rattle.tau_cascade.{specs.declared.level.Level.Level, specs.Correlation.{bin, in_first, in_second, correlation, skipped_lags, lag_count}, specs.Work.occupied}
 
 -- the first weight of the entry that stands k before the index, or 0

@@ -2,11 +2,8 @@ pub mod Correlation
 pub mod Work
 pub mod Opens
 pub mod Levels
-pub mod Paired
 pub mod Dense
-pub mod Laid
 pub mod Bins
-pub mod Coming
 pub mod StandsFor
 pub mod Cascade
 pub mod Laws

@@ -1,8 +1,8 @@
 -- Which bins are open, from the events alone.
-use Rattle.std.{specs.Prelude.{ℕ, ◌/◌, zero, suc, max, Bool, true, false, ◌&&◌, ◌==◌, nat_lt, Option, None, Some, unwrap_or, List, [], ◌∷◌, map, filter, count_by}, specs.Option.{option_map, option_and_then, option_map_or}}
+use Rattle.std.{specs.Prelude.{ℕ, ◌/◌, zero, suc, max, Bool, true, false, ◌&&◌, ◌==◌, nat_lt, Option, None, Some, unwrap_or, List, [], ◌∷◌, map, filter, count_by, ◌+◌, ◌<◌, ◌≤◌, take, drop}, specs.Option.{option_map, option_and_then, option_map_or}}
 use Rattle.tally_base.{specs.Settings.CorrelationView, specs.Tally.History}
 use Rattle.lag_ring.specs.declared.ring.Entry.{Entry}
-use Rattle.tau_cascade.specs.Correlation.{Given, bin, in_first, in_second, photons_of}
+use Rattle.tau_cascade.{specs.Correlation.{Given, bin, in_first, in_second, photons_of}, specs.declared.carry.Coming.Coming, specs.Bins.IsSpaced}
 
 -- the greatest number of a list
 abbrev pub greatest : List ℕ → Option ℕ
@@ -29,3 +29,11 @@ open_of set level xs = option_map (λ p. record {
 
 abbrev pub open_bin : CorrelationView → ℕ → History → Option Entry
 open_bin set level h = open_of set level (photons_of set h)
+
+-- Bins that come to a level from the one below it.
+
+-- They are in the list, come from no further down than there are levels, and are as far apart as is said.
+pub record IsComing (coming : Coming) (level : ℕ) (bins : List Entry) : Type 0 where
+  pub places : (coming.closed.from ≤ 128) × (coming.closed.count ≤ 64)
+  pub up : coming.levels ≤ level + 1
+  pub spaced : 0 < coming.apart → IsSpaced coming.apart (take coming.closed.count (drop coming.closed.from bins))

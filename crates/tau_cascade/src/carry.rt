@@ -1,7 +1,7 @@
 // What goes from level to level.
 ghost use Rattle.std.specs.Prelude.{◌≡◌, ◌+◌, ◌<◌, ◌≤◌, ◌∷◌, ◌++◌, length, take, drop};
 ghost use Rattle.tally_base.{specs.Settings.correlation_view, specs.Tally.History};
-ghost use Rattle.tau_cascade.{specs.Levels.{CanEnd, Chain, Complete, LevelDone, spent}, specs.Bins.{stretch, CanCome, Carries}, specs.Coming.IsComing};
+ghost use Rattle.tau_cascade.{specs.Levels.{CanEnd, Chain, Complete, LevelDone, spent}, specs.Bins.{stretch, CanCome, Carries}, specs.Opens.IsComing};
 
 use crate::bins::{FULL_BLOCK, LEVELS, LIST, RING};
 use crate::level::{Closed, Level};

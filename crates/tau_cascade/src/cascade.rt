@@ -1,6 +1,6 @@
 // A correlation over its levels.
-ghost use Rattle.std.specs.Prelude.{◌≡◌, ◌+◌, ◌<◌, ◌≤◌, [], ◌++◌, false, length, vec_len};
-ghost use Rattle.tally_base.{specs.Settings.correlation_view, specs.Tally.History, specs.Limits.record_limit, specs.Columns.{events_in, IsSorted}};
+ghost use Rattle.std.{specs.Prelude.{◌≡◌, ◌+◌, ◌<◌, ◌≤◌, [], ◌++◌, false, length, vec_len, ◌-◌, true, IfOk, None, Some, slice_index}, specs.Option.{ForSome, option_map}};
+ghost use Rattle.tally_base.{specs.Settings.correlation_view, specs.Tally.History, specs.Limits.record_limit, specs.Columns.{events_in, IsSorted}, specs.Settings.PartSettings.CorrelationSettings};
 ghost use Rattle.tau_cascade.{specs.StandsFor.{StandsFor, HasTaken}, specs.Levels.spent, specs.Bins.CanGiveBlock};
 
 use crate::bins::{LEVELS, LIST, gather, spacing};
@@ -30,8 +30,6 @@ pub struct Cascade {
 }
 
 impl Cascade {
-    ghost use Rattle.std.{specs.Prelude.{◌≡◌, ◌+◌, ◌-◌, ◌<◌, ◌≤◌, ◌++◌, true, IfOk, None, Some, length, slice_index}, specs.Option.{ForSome, option_map}};
-    ghost use Rattle.tally_base.{specs.Settings.PartSettings.CorrelationSettings, specs.Columns.{events_in, IsSorted}};
     ghost use Rattle.tau_cascade.{specs.Cascade.{Holds, cells_at, ring_at, open_at, set_of, spent_by, added_below}, specs.Correlation.{correlation, lag_count, skipped_lags, photons_of}, specs.Opens.open_bin, specs.Work.{work, IsWithinLevelWork}};
 
     /// A correlation of no events, with all the memory that it ever takes, or `AllocError` where it is
@@ -158,7 +156,7 @@ fn give_block<L: Ledger>(
 
 impl Tally for Cascade {
     ghost use Rattle.std.specs.Prelude.{◌≡◌, ◌+◌, ◌<◌, ◌≤◌, ◌++◌, [], true, false, sum_by};
-    ghost use Rattle.tau_cascade.{specs.Cascade.{Holds, set_of, settings, spent_by}, specs.StandsFor.entries_of, specs.Laws.{taken_is, floor_is, within_bound, marker_groups}};
+    ghost use Rattle.tau_cascade.{specs.Cascade.{Holds, set_of, settings, spent_by}, specs.StandsFor.entries_of, specs.Laws.{within_bound, marker_groups}};
 
     ghost holds = { Holds };
 
@@ -176,9 +174,9 @@ impl Tally for Cascade {
 
     ghost same_set = { λ old new. set_of new ≡ set_of old };
 
-    ghost taken_is = { taken_is };
+    ghost taken_is = { λ t h is. is.taken };
 
-    ghost floor_is = { floor_is };
+    ghost floor_is = { λ t h is. is.floor };
 
     ghost within = { within_bound };
 

@@ -1,11 +1,12 @@
 // Pairs of dense bins, lag by lag.
-ghost use Rattle.std.{specs.Prelude.{◌≡◌, ◌≢◌, ℕ, ◌+◌, ◌-◌, ◌^◌, ◌<◌, ◌≤◌, IfSome, IsTrue, filter, length, nat_lt, slice_index, sum_by, take, drop}, specs.List.{AllByRecursion}};
-ghost use Rattle.lag_ring.{specs.Ring.IsRising, specs.declared.window.Side.TheVariants.{First, Second}, specs.Window.{weight_of, ServesLater}, specs.Cells.Spends};
-ghost use Rattle.tau_cascade.{specs.Paired.{paired, AddsAtMost}, specs.Dense.{window_pairs, FitsWindow, SameOutside, AddsOnce, EndsFrom}};
+ghost use Rattle.std.{specs.Prelude.{◌≡◌, ◌≢◌, ℕ, ◌+◌, ◌-◌, ◌^◌, ◌<◌, ◌≤◌, IfSome, length, slice_index, take, drop}, specs.List.{AllByRecursion}};
+ghost use Rattle.lag_ring.{specs.Ring.IsRising, specs.Bytes.ServesSpots, specs.Cells.Spends};
+ghost use Rattle.tau_cascade.specs.Dense.{paired, AddsAtMost, spot_pairs, FitsWindow, SameOutside, AddsOnce, EndsFrom};
 
-use arrayvec::ArrayVec;
+use crate::laid::CLOSE_LAGS;
 use lag_ring::{
-    Entry, FEW_LAGS, LAGS, PairCells, Side, few_lag_sums, lag_sums, put_weights, total_weight,
+    Entry, MOST_SPOTS, PairCells, Side, byte_lag_sums, put_side, spots_of, total_weight,
+    weight_bound,
 };
 use std::sync::ledger::Ledger;
 use tally_base::Steps;
@@ -22,18 +23,27 @@ pub(crate) const ROOM: u64 = 832;
 /// The greatest number of lags that a window serves.
 const MOST_LAGS: u32 = 128;
 
-/// How many later bins a window serves.
-const MOST_BINS: usize = 64;
+/// How many lags are summed at once.
+const LAGS: usize = 64;
 
-/// How many pairs are to be expected at least where a window of many lags pays. To empty a window and to
-/// fill it costs as much as some hundred pairs.
-const WORTH: u64 = 512;
+/// How many pairs are to be expected at least where a window of many lags pays. To empty a window and to fill it costs as
+/// much as some hundred pairs.
+const WORTH: u64 = 192;
 
 /// How many bins are paired together at least.
 const SOME: usize = 4;
 
 /// No bin of a window has an index from here on.
 const END: u64 = 1 << 63;
+
+/// Where bins have their places in a window, and how heavy they are.
+#[derive(Clone, Copy)]
+pub(crate) struct Places {
+    /// The least index of the later ones.
+    pub(crate) low: u64,
+    /// A number that no bin has more photons of either group than.
+    pub(crate) most: u64,
+}
 
 /// Adds pairs to a cell, also where there are none: a branch on that would cost more.
 #[inline(always)]
@@ -74,54 +84,53 @@ pub(crate) fn add_sums<L: Ledger>(
     }
 }
 
-/// Pairs later bins with those in the window at the lags from `least + 1` to `least + count`, whose
-/// cells are those from `at` on.
+/// Pairs photons at some spots with what stands in the window at the lags from `least + 1` to
+/// `least + count` before them, whose cells are those from `at` on.
 #[inline(always)]
 fn pair_strip<L: Ledger>(
     cells: &mut PairCells,
     least: u32,
     at: u32,
     count: u32,
-    window: &[u32],
-    low: u64,
-    later: &[Entry],
+    most: usize,
+    window: &[u8],
+    spots: &[u16],
     steps: &mut Steps<L>,
 )
     requires inside { (count ≤ LAGS) × (at + count ≤ length cells.old.cells)
         × (least + LAGS ≤ TOP) × (at + count < 2 ^ 32) }
-    requires window { ServesLater Second PLACES TOP low window.now later.now }
+    requires window { ServesSpots most TOP window.now spots.now }
     requires fits { (i : ℕ) → i < count → slice_index cells.old.cells (at + i)
-        + window_pairs window.now low later.now (least + 1 + i) ≤ 2 ^ 80 }
+        + spot_pairs window.now spots.now (least + 1 + i) ≤ 2 ^ 80 }
     ensures cells { (i : ℕ) → i < count → slice_index cells.new.cells (at + i)
-        ≡ slice_index cells.old.cells (at + i)
-        + window_pairs window.now low later.now (least + 1 + i) }
+        ≡ slice_index cells.old.cells (at + i) + spot_pairs window.now spots.now (least + 1 + i) }
     ensures others { SameOutside at count cells.old.cells cells.new.cells }
     ensures spends { Spends cells.old cells.new steps.old steps.new count }
     ensures once { AddsOnce at count cells.old cells.new }
 {
     let from = TOP as usize - LAGS - least as usize;
-    let sums = lag_sums(window, Side::Second, low, from, later);
+    let sums = byte_lag_sums::<LAGS>(window, most, from, spots);
     add_sums(cells, at, count, &sums, steps);
 }
 
-/// Pairs later bins with those in the window, at the lags above `skipped` and up to `lags`.
+/// Pairs photons at some spots with what stands in the window before them, at the lags above `skipped` and
+/// up to `lags`.
 fn pair_window<L: Ledger>(
     cells: &mut PairCells,
     skipped: u32,
     lags: u32,
-    window: &[u32],
-    low: u64,
-    later: &[Entry],
+    most: usize,
+    window: &[u8],
+    spots: &[u16],
     steps: &mut Steps<L>,
 )
     requires lags { (skipped ≤ lags) × (lags ≤ MOST_LAGS)
         × (length cells.old.cells ≡ lags - skipped) }
-    requires window { ServesLater Second PLACES TOP low window.now later.now }
+    requires window { ServesSpots most TOP window.now spots.now }
     requires fits { (p : ℕ) → p < lags - skipped → slice_index cells.old.cells p
-        + window_pairs window.now low later.now (p + skipped + 1) ≤ 2 ^ 80 }
+        + spot_pairs window.now spots.now (p + skipped + 1) ≤ 2 ^ 80 }
     ensures cells { (p : ℕ) → p < lags - skipped → slice_index cells.new.cells p
-        ≡ slice_index cells.old.cells p
-        + window_pairs window.now low later.now (p + skipped + 1) }
+        ≡ slice_index cells.old.cells p + spot_pairs window.now spots.now (p + skipped + 1) }
     ensures spends { Spends cells.old cells.new steps.old steps.new (lags - skipped) }
     ensures each { AddsAtMost 1 cells.old cells.new }
 {
@@ -129,56 +138,8 @@ fn pair_window<L: Ledger>(
     for strip in 0..all.div_ceil(LAGS as u32) {
         let at = strip * LAGS as u32;
         let count = (all - at).min(LAGS as u32);
-        pair_strip(cells, skipped + at, at, count, window, low, later, steps);
+        pair_strip(cells, skipped + at, at, count, most, window, spots, steps);
     }
-}
-
-/// Pairs later bins with those in the window, at the lags above `skipped` and up to `lags`, which are few.
-fn pair_few<L: Ledger>(
-    cells: &mut PairCells,
-    skipped: u32,
-    lags: u32,
-    window: &[u32],
-    low: u64,
-    later: &[Entry],
-    steps: &mut Steps<L>,
-)
-    requires lags { (skipped ≤ lags) × (lags - skipped ≤ FEW_LAGS) × (lags ≤ MOST_LAGS)
-        × (length cells.old.cells ≡ lags - skipped) }
-    requires window { ServesLater Second PLACES TOP low window.now later.now }
-    requires fits { (p : ℕ) → p < lags - skipped → slice_index cells.old.cells p
-        + window_pairs window.now low later.now (p + skipped + 1) ≤ 2 ^ 80 }
-    ensures cells { (p : ℕ) → p < lags - skipped → slice_index cells.new.cells p
-        ≡ slice_index cells.old.cells p
-        + window_pairs window.now low later.now (p + skipped + 1) }
-    ensures spends { Spends cells.old cells.new steps.old steps.new (lags - skipped) }
-    ensures each { AddsAtMost 1 cells.old cells.new }
-{
-    let from = TOP as usize - FEW_LAGS - skipped as usize;
-    let sums = few_lag_sums(window, Side::Second, low, from, later);
-    add_sums(cells, 0, lags - skipped, &sums, steps);
-}
-
-/// The bins that have photons of the second group.
-fn with_second(bins: &[Entry]) -> ArrayVec<Entry, 64>
-    requires few { length bins.now ≤ MOST_BINS }
-    ensures { result.items ≡ filter (λ e. nat_lt 0 e.b) bins.now }
-{
-    let mut counted = ArrayVec::new();
-    for bin in bins {
-        if bin.b > 0 {
-            counted.push(*bin);
-        }
-    }
-    counted
-}
-
-/// Whether the photons are so few that no sum passes its lane.
-fn are_few(list: &[Entry], bins: &[Entry]) -> bool
-    ensures firsts { IsTrue result → sum_by (weight_of First) list.now < 2 ^ 16 }
-    ensures seconds { IsTrue result → sum_by (weight_of Second) bins.now < 2 ^ 16 }
-{
-    total_weight(Side::First, list) < 1 << 16 && total_weight(Side::Second, bins) < 1 << 16
 }
 
 /// Whether so many pairs are to be expected that a window pays: of `bins` at so many lags, where there
@@ -213,7 +174,7 @@ pub(crate) fn is_dense(skipped: u32, lags: u32, list: &[Entry], start: usize) ->
     if bins < SOME {
         return false;
     }
-    if lags - skipped <= FEW_LAGS as u32 {
+    if lags - skipped <= CLOSE_LAGS {
         count_near(list, start, lags) > bins / 4
     } else {
         let last = list[list.len() - 1].index;
@@ -221,79 +182,26 @@ pub(crate) fn is_dense(skipped: u32, lags: u32, list: &[Entry], start: usize) ->
     }
 }
 
-/// The least index of the bins from `start` on, where those of a list have their places in one window.
-pub(crate) fn window_from(lags: u32, list: &[Entry], start: usize) -> Option<u64>
+/// Where the bins of a list have their places, where those from `start` on and all that they reach have places
+/// in one window, and no bin has many photons.
+pub(crate) fn window_from(lags: u32, list: &[Entry], start: usize) -> Option<Places>
     requires start { start ≤ length list.now }
     requires rising { IsRising list.now }
-    ensures { IfSome result (λ low. FitsWindow lags low list.now (drop start list.now)) }
+    ensures { IfSome result
+        (λ places. FitsWindow lags places.low places.most list.now (drop start list.now)) }
 {
-    if start >= list.len() || list.len() - start > MOST_BINS || lags > MOST_LAGS {
+    if list.len() - start < 2 || lags > MOST_LAGS {
         return None;
     }
     let low = list[start].index;
     let last = list[list.len() - 1].index;
-    let bins = list.len() - start;
-    if bins > 1 && last < END && last.saturating_sub(low) <= ROOM && are_few(list, &list[start..]) {
-        Some(low)
+    let most = weight_bound(list);
+    let few = total_weight(Side::Second, &list[start..]) <= MOST_SPOTS as u64;
+    if last < END && last.saturating_sub(low) <= ROOM && most < 256 && few {
+        Some(Places { low, most })
     } else {
         None
     }
-}
-
-/// Pairs the bins of a list from `start` on with those before them over a window, at few lags.
-fn pair_few_together<L: Ledger>(
-    cells: &mut PairCells,
-    skipped: u32,
-    lags: u32,
-    list: &[Entry],
-    start: usize,
-    low: u64,
-    steps: &mut Steps<L>,
-)
-    requires lags { (skipped ≤ lags) × (lags - skipped ≤ FEW_LAGS)
-        × (length cells.old.cells ≡ lags - skipped) }
-    requires list { EndsFrom start list.now }
-    requires window { FitsWindow lags low list.now (drop start list.now) }
-    requires fits { (p : ℕ) → p < lags - skipped → slice_index cells.old.cells p
-        + paired (p + skipped + 1) (take start list.now) (drop start list.now) ≤ 2 ^ 80 }
-    ensures cells { (p : ℕ) → p < lags - skipped → slice_index cells.new.cells p
-        ≡ slice_index cells.old.cells p
-        + paired (p + skipped + 1) (take start list.now) (drop start list.now) }
-    ensures spends { Spends cells.old cells.new steps.old steps.new (lags - skipped) }
-    ensures each { AddsAtMost 1 cells.old cells.new }
-{
-    let mut window = [0; PLACES];
-    let top = u64::from(TOP);
-    put_weights(&mut window, Side::First, top, low, list);
-    pair_few(cells, skipped, lags, &window, low, &list[start..], steps);
-}
-
-/// The same for many lags: bins without photons of the second group are left out first.
-fn pair_many_together<L: Ledger>(
-    cells: &mut PairCells,
-    skipped: u32,
-    lags: u32,
-    list: &[Entry],
-    start: usize,
-    low: u64,
-    steps: &mut Steps<L>,
-)
-    requires lags { (skipped ≤ lags) × (length cells.old.cells ≡ lags - skipped) }
-    requires list { EndsFrom start list.now }
-    requires window { FitsWindow lags low list.now (drop start list.now) }
-    requires fits { (p : ℕ) → p < lags - skipped → slice_index cells.old.cells p
-        + paired (p + skipped + 1) (take start list.now) (drop start list.now) ≤ 2 ^ 80 }
-    ensures cells { (p : ℕ) → p < lags - skipped → slice_index cells.new.cells p
-        ≡ slice_index cells.old.cells p
-        + paired (p + skipped + 1) (take start list.now) (drop start list.now) }
-    ensures spends { Spends cells.old cells.new steps.old steps.new (lags - skipped) }
-    ensures each { AddsAtMost 1 cells.old cells.new }
-{
-    let mut window = [0; PLACES];
-    let top = u64::from(TOP);
-    put_weights(&mut window, Side::First, top, low, list);
-    let later = with_second(&list[start..]);
-    pair_window(cells, skipped, lags, &window, low, &later, steps);
 }
 
 /// Pairs the bins of a list from `start` on with those before them, at the lags above `skipped` and up
@@ -304,12 +212,12 @@ pub(crate) fn pair_together<L: Ledger>(
     lags: u32,
     list: &[Entry],
     start: usize,
-    low: u64,
+    places: Places,
     steps: &mut Steps<L>,
 )
     requires lags { (skipped ≤ lags) × (length cells.old.cells ≡ lags - skipped) }
     requires list { EndsFrom start list.now }
-    requires window { FitsWindow lags low list.now (drop start list.now) }
+    requires window { FitsWindow lags places.low places.most list.now (drop start list.now) }
     requires fits { (p : ℕ) → p < lags - skipped → slice_index cells.old.cells p
         + paired (p + skipped + 1) (take start list.now) (drop start list.now) ≤ 2 ^ 80 }
     ensures cells { (p : ℕ) → p < lags - skipped → slice_index cells.new.cells p
@@ -318,9 +226,17 @@ pub(crate) fn pair_together<L: Ledger>(
     ensures spends { Spends cells.old cells.new steps.old steps.new (lags - skipped) }
     ensures each { AddsAtMost 1 cells.old cells.new }
 {
-    if lags - skipped <= FEW_LAGS as u32 {
-        pair_few_together(cells, skipped, lags, list, start, low, steps);
-    } else {
-        pair_many_together(cells, skipped, lags, list, start, low, steps);
-    }
+    let mut window = [0; PLACES];
+    let top = u64::from(TOP);
+    put_side(&mut window, Side::First, top, places.low, list);
+    let spots = spots_of(Side::Second, places.low, &list[start..]);
+    pair_window(
+        cells,
+        skipped,
+        lags,
+        places.most as usize,
+        &window,
+        &spots,
+        steps,
+    );
 }

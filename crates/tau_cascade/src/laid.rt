@@ -1,16 +1,16 @@
 // Pairs of bins that are laid close together: a bin further from the one before it than the lags reach is laid
 // just out of reach, so that all have places in a short window.
 ghost use Rattle.std.specs.Prelude.{◌≡◌, ℕ, ◌+◌, ◌-◌, ◌*◌, ◌%◌, ◌^◌, ◌<◌, ◌≤◌, ◌==◌, ◌++◌, true, false, List, length, min, slice_index, sum_by, take, drop, if◌then◌else◌};
-ghost use Rattle.lag_ring.{specs.Ring.IsRising, specs.declared.window.Side.TheVariants.{First, Second}, specs.Window.{weight_at, product_at}, specs.Cells.Spends};
-ghost use Rattle.tau_cascade.{specs.Paired.{paired, AddsAtMost}, specs.Laid.{laid, laid_on, laid_pairs, IsBehind, IsLight, IsLaid}};
+ghost use Rattle.lag_ring.{specs.Ring.IsRising, specs.declared.window.Side.TheVariants.{First, Second}, specs.Bytes.{weight_at, product_at, IsLight}, specs.Cells.Spends};
+ghost use Rattle.tau_cascade.specs.Dense.{paired, AddsAtMost, laid, laid_on, laid_pairs, IsBehind, IsLaid};
 
 use crate::dense::add_sums;
-use lag_ring::{Entry, FEW_LAGS, PairCells};
+use lag_ring::{Entry, PairCells};
 use std::sync::ledger::Ledger;
 use tally_base::Steps;
 
 /// How many lags at most a window serves.
-const CLOSE_LAGS: u32 = 16;
+pub(crate) const CLOSE_LAGS: u32 = 16;
 
 /// How many bins at most a window serves.
 const CLOSE_BINS: usize = 80;
@@ -23,6 +23,9 @@ const PLACES: usize = 1408;
 
 /// How many photons of one group are too many for a bin that is laid.
 const TOO_HEAVY: u64 = 256;
+
+/// How many lags are summed at once on the first level.
+const FEW_LAGS: usize = 16;
 
 /// How many lags are summed at once on a level that leaves the first half of the lags to those below it.
 const HALF_LAGS: usize = 8;

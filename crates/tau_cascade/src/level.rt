@@ -1,6 +1,6 @@
 // One level: its open bin, the ring of its last closed bins, and its cells.
-ghost use Rattle.std.{specs.Prelude.{◌≡◌, ◌+◌, ◌<◌, ◌≤◌, ◌++◌, filter, length, nat_le, take, drop}, specs.List.{AllByRecursion}};
-ghost use Rattle.lag_ring.{specs.Ring.IsRising, specs.Ring.ring as ring_of};
+ghost use Rattle.std.{specs.Prelude.{◌≡◌, ◌+◌, ◌<◌, ◌≤◌, ◌++◌, filter, length, nat_le, take, drop, ℕ, ◌*◌, ◌/◌, ◌^◌, ◌-◌, ◌∷◌, [], IfOk, IfSome, Some, map, slice_set}, specs.List.AllByRecursion};
+ghost use Rattle.lag_ring.specs.Ring.{IsRising, ring as ring_of};
 ghost use Rattle.tally_base.{specs.Settings.correlation_view, specs.Tally.History};
 ghost use Rattle.tau_cascade.{specs.Correlation.skipped_lags, specs.Levels.{RingIs, CellsAre}};
 
@@ -77,7 +77,6 @@ fn keep_all(ring: &mut LagRing, bins: &[Entry], before: u64)
 }
 
 impl Level {
-    ghost use Rattle.std.specs.Prelude.{ℕ, ◌*◌, ◌/◌, ◌^◌, ◌-◌, ◌∷◌, ◌++◌, [], IfOk, IfSome, Some, map, slice_set};
     ghost use Rattle.tau_cascade.{specs.Levels.{LevelIs, CanFinish, Finished}, specs.Bins.{raised, lowered, stretch, IsSpaced, CanShutAll, CanTake, Takes, HoldsOfAll}};
 
     /// A level to which nothing came, or `AllocError` where memory for it is wanting.

@@ -1,11 +1,11 @@
 // Pairs of bins with those before them.
 ghost use Rattle.std.{specs.Prelude.{◌≡◌, ℕ, ◌+◌, ◌-◌, ◌*◌, ◌^◌, ◌<◌, ◌≤◌, length, take, drop, slice_index, if◌then◌else◌, ◌==◌, ◌&&◌, nat_lt, nat_le}, specs.List.{AllByRecursion}};
 ghost use Rattle.lag_ring.{specs.Ring.IsRising, specs.Cells.{Spends, added_at}};
-ghost use Rattle.tau_cascade.{specs.Levels.{weight_before, entries_at_lags}, specs.Paired.{paired, AddsAtMost}};
+ghost use Rattle.tau_cascade.{specs.Levels.{weight_before, entries_at_lags}, specs.Dense.{paired, AddsAtMost}};
 
 use crate::dense::{ROOM, is_dense, pair_together, window_from};
-use crate::laid::pair_close;
-use lag_ring::{Entry, FEW_LAGS, PairCells};
+use crate::laid::{CLOSE_LAGS, pair_close};
+use lag_ring::{Entry, PairCells};
 use std::sync::ledger::Ledger;
 use tally_base::Steps;
 
@@ -149,7 +149,7 @@ fn search_reach(bins: &[Entry], from: usize, at: usize, index: u64, lags: u32) -
     ensures place { result ≤ at }
     ensures far { AllByRecursion (λ e. e.index + lags < index) (take result bins.now) }
 {
-    if lags <= FEW_LAGS as u32 {
+    if lags <= CLOSE_LAGS {
         first_in_reach(bins, at, index, lags)
     } else {
         next_in_reach(bins, from, at, index, lags)
@@ -216,7 +216,7 @@ fn pair_run<L: Ledger>(
     ensures each { AddsAtMost (length list.now - start) cells.old cells.new }
 {
     match window_from(lags, list, start) {
-        Some(low) => pair_together(cells, skipped, lags, list, start, low, steps),
+        Some(places) => pair_together(cells, skipped, lags, list, start, places, steps),
         None => pair_each(cells, skipped, lags, list, start, steps),
     }
 }

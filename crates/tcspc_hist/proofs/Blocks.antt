@@ -1,5 +1,5 @@
 -- The counts over the rows of a block.
-use Rattle.std.{proofs.Common.{◌≡◌, ◌∙◌, ℕ, ◌+◌, ◌≤◌, Bool, true, false, ◌&&◌, cond, ◌++◌, ap, refl, arith, nat_lt, if◌then◌else◌}, proofs.lemmas.List.Sums.{sum_by-append, sum_by_push}}
+use Rattle.std.{proofs.Common.{◌≡◌, ℕ, ◌+◌, ◌≤◌, Bool, true, false, ◌&&◌, cond, ◌++◌, refl, arith, nat_lt, if◌then◌else◌, rules}, proofs.lemmas.List.Sums.{sum_by-append, sum_by_push}}
 use Rattle.tally_base.{specs.declared.event.Event.Event, specs.declared.event.EventKind.TheVariants.{Photon, Marker}, specs.Events.is_in, specs.Settings.HistView, specs.Tally.History, specs.Columns.{rows, item, code_at, dtime_at, groups_at}, specs.declared.block.Block.Block, proofs.BlockRows.more_rows}
 use Rattle.tcspc_hist.specs.HistogramCounts.{count_dtimes, dtime_passes}
 
@@ -18,11 +18,7 @@ count-append set test h m = sum_by-append (λ (x : Event × ℕ). cond (is_in x.
 
 -- one row more
 pub count-row : (set : HistView) (test : ℕ → Bool) (b : Block) (n : ℕ) → count_dtimes set test (rows (item b) (n + 1)) ≡ count_dtimes set test (rows (item b) n) + (if test (dtime_at b n) then (if is_in (groups_at b n) set.group && nat_lt (code_at b n) 256 then 1 else 0) else 0)
-count-row set test b n =
-    ap (count_dtimes set test) (more_rows (item b) n)
-    ∙ sum_by_push (λ (x : Event × ℕ). cond (is_in x.1 set.group && dtime_passes test x.0.kind) 1 0) (rows (item b) n) (item b n)
-    ∙ ap (λ k. count_dtimes set test (rows (item b) n) + k) (passes set test (is_in (groups_at b n) set.group) (nat_lt (code_at b n) 256) (code_at b n) (dtime_at b n) _)
+count-row set test b n = search (rules, arith, more_rows, sum_by_push)
 
 pub one_at_most : (b : Bool) → (if b then 1 else 0) ≤ 1
-one_at_most true = omega arith
-one_at_most false = omega arith
+one_at_most b = search (rules, arith)

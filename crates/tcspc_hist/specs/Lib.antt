@@ -1,4 +1,2 @@
 pub mod HistogramCounts
 pub mod Hist
-pub mod Laws
-pub mod Totals

@@ -1,6 +1,6 @@
 // A histogram of photons by their dtimes.
-ghost use Rattle.std.specs.Prelude.{◌≡◌, ◌+◌, ◌*◌, ◌/◌, ◌^◌, ◌<◌, ◌≤◌, ℕ, vec_len, sum, length, slice_index, nat_le, ◌==◌, if◌then◌else◌};
-ghost use Rattle.tally_base.{specs.Settings.hist_view, specs.Tally.History, specs.Limits.record_limit, specs.Columns.{gathered, events_in, IsSorted}};
+ghost use Rattle.std.specs.Prelude.{◌≡◌, ◌+◌, ◌*◌, ◌/◌, ◌^◌, ◌<◌, ◌≤◌, ℕ, vec_len, sum, length, slice_index, nat_le, ◌==◌, if◌then◌else◌, IfOk, [], false};
+ghost use Rattle.tally_base.{specs.Settings.hist_view, specs.Tally.History, specs.Limits.record_limit, specs.Columns.{gathered, events_in, IsSorted}, specs.Settings.PartSettings.HistSettings};
 ghost use Rattle.tcspc_hist.specs.HistogramCounts.{in_bin, count_over};
 
 use std::alloc::{AllocError, Global};
@@ -24,8 +24,6 @@ pub struct Hist {
 }
 
 impl Hist {
-    ghost use Rattle.std.specs.Prelude.{IfOk, [], false};
-    ghost use Rattle.tally_base.specs.Settings.PartSettings.{HistSettings};
     ghost use Rattle.tcspc_hist.specs.Hist.{Holds, set_of};
 
     /// A histogram of no events, with all the memory that it ever takes, or `AllocError` where it is wanting.
@@ -125,8 +123,7 @@ fn bin_of(width: u32, dtime: u16) -> u32
 }
 
 impl Tally for Hist {
-    ghost use Rattle.std.specs.Prelude.{◌+◌, length};
-    ghost use Rattle.tcspc_hist.{specs.Hist.{Holds, set_of, settings}, specs.Laws.{taken_is, floor_is, within_bound, marker_groups}};
+    ghost use Rattle.tcspc_hist.specs.Hist.{Holds, set_of, settings, within_bound, marker_groups};
 
     ghost holds = { Holds };
 
@@ -142,9 +139,9 @@ impl Tally for Hist {
 
     ghost same_set = { λ old new. set_of new ≡ set_of old };
 
-    ghost taken_is = { taken_is };
+    ghost taken_is = { λ t h is. is.taken };
 
-    ghost floor_is = { floor_is };
+    ghost floor_is = { λ t h is. is.floor };
 
     ghost within = { within_bound };
 

@@ -27,7 +27,8 @@ module _ (shown mid grown : List ℕ) (a b c : Option (List ℕ)) (before betwee
   }
 
 -- The text grows further.
-pub CutText-more : (shown grown all tail : List ℕ) (a b : Option (List ℕ)) (before after : ℕ) → all ≡ grown ++ tail → CutText shown grown a b before after → CutText shown all a b before after
+pub CutText-more : (shown grown all tail : List ℕ) (a b : Option (List ℕ)) (before after : ℕ)
+    → all ≡ grown ++ tail → CutText shown grown a b before after → CutText shown all a b before after
 CutText-more shown grown all tail a b before after is h = record {
   more = h.more ++ tail;
   adds = is ∙ ap (λ l. l ++ tail) h.adds ∙ append_assoc shown h.more tail;

@@ -1,7 +1,8 @@
 -- The first broken rule that is met is the least, and under it the least index.
-use Rattle.std.{proofs.Common.{◌≡◌, sym, ap, refl, ◌∙◌, ℕ, ◌+◌, ◌<◌, ◌≤◌, Bool, true, false, List, [], ◌∷◌, ◌++◌, ◌⊎◌, inl, inr, ⊎_elim, Result, Ok, Err, arith, rules}, proofs.lemmas.Result.IfErr-at_err}
+use Rattle.std.{proofs.Common.{◌≡◌, sym, ap, refl, ◌∙◌, ℕ, ◌+◌, ◌<◌, ◌≤◌, Bool, true, false, List, [], ◌∷◌, ◌++◌, ◌⊎◌, inl, inr, ⊎_elim, Result, Ok, Err, arith, rules, map}, proofs.lemmas.Result.IfErr-at_err}
 use Rattle.tally_base.{specs.declared.fault.Fault.Fault, specs.declared.fault.Fault.TheVariants.PlanRule, specs.Faults.is_outside}
-use Rattle.toml_rules.specs.Rules.{Rule, BreaksAt, BreaksFirst, IsBroken, IsLeast, Names, AllHold, RiseFrom, or_next, held_from, kept, all_kept}
+use Rattle.toml_rules.{specs.Rules.{Rule, BreaksAt, BreaksFirst, IsBroken, IsLeast, Names, AllHold, RiseFrom, or_next, held_from, kept, all_kept}, specs.Values.list_of}
+use Rattle.toml.{specs.View.{view, items_view}, specs.declared.value.Value.Value}
 
 -- what is broken stands at the first index or after it
 breaks_from : (first : ℕ) (tests : List Bool) (at : ℕ) → BreaksAt first tests at → first ≤ at
@@ -17,7 +18,8 @@ kept_nowhere make first (true ∷ tests) ok at (inr later) = kept_nowhere make (
 kept_nowhere make first (false ∷ tests) ok at b = search (rules, ok)
 
 -- where tests break, and nowhere before it
-pub breaks_first : (make : ℕ → Fault) (first : ℕ) (tests : List Bool) (fault : Fault) → held_from make first tests ≡ Err fault → (at : ℕ) × (fault ≡ make at) × BreaksFirst first tests at
+pub breaks_first : (make : ℕ → Fault) (first : ℕ) (tests : List Bool) (fault : Fault)
+    → held_from make first tests ≡ Err fault → (at : ℕ) × (fault ≡ make at) × BreaksFirst first tests at
 breaks_first make first [] fault err = search (rules, err)
 breaks_first make first (false ∷ tests) fault err = (
   first,
@@ -59,11 +61,13 @@ or_next_assoc (Err fault) b c = refl
 -- rules that are all kept are broken nowhere
 pub all_kept_nowhere : (rules : List Rule) → all_kept rules ≡ Ok tt → AllHold rules
 all_kept_nowhere [] ok n at b = b
-all_kept_nowhere (rule ∷ rules) ok n at (inl here) = kept_nowhere (PlanRule rule.number) rule.first rule.tests (or_next_ok (kept rule) (all_kept rules) ok).0 at here.1
+all_kept_nowhere (rule ∷ rules) ok n at (inl here) =
+    kept_nowhere (PlanRule rule.number) rule.first rule.tests (or_next_ok (kept rule) (all_kept rules) ok).0 at here.1
 all_kept_nowhere (rule ∷ rules) ok n at (inr later) = all_kept_nowhere rules (or_next_ok (kept rule) (all_kept rules) ok).1 n at later
 
 -- the fault that going through the rules answers, with its rule and index
-named_least : (low : ℕ) (rules : List Rule) (fault : Fault) → RiseFrom low rules → all_kept rules ≡ Err fault → (n : ℕ) × (index : ℕ) × (fault ≡ PlanRule n index) × IsLeast rules n index
+named_least : (low : ℕ) (rules : List Rule) (fault : Fault) → RiseFrom low rules
+    → all_kept rules ≡ Err fault → (n : ℕ) × (index : ℕ) × (fault ≡ PlanRule n index) × IsLeast rules n index
 named_least low [] fault rise err = search (rules, err)
 named_least low (rule ∷ rules) fault rise err =
     elim (or_next_err (kept rule) (all_kept rules) fault err) [
@@ -84,7 +88,8 @@ named_least low (rule ∷ rules) fault rise err =
             names,
             record {
               broken = inr more.broken;
-              least = λ other at b. ⊎_elim (λ same. absurd (kept_nowhere (PlanRule rule.number) rule.first rule.tests passed.0 at same.1)) (λ later. more.least other at later) b;
+              least = λ other at b. ⊎_elim (λ same. absurd (kept_nowhere (PlanRule rule.number) rule.first rule.tests passed.0 at same.1))
+                  (λ later. more.least other at later) b;
             },
           )
     ]
@@ -109,3 +114,9 @@ all_kept_inside (rule ∷ rules) fault err =
 pub all_kept_after : (first second : List Rule) → all_kept (first ++ second) ≡ or_next (all_kept first) (all_kept second)
 all_kept_after [] second = refl
 all_kept_after (rule ∷ first) second = ap (or_next (kept rule)) (all_kept_after first second) ∙ or_next_assoc (kept rule) (all_kept first) (all_kept second)
+
+-- Arrays of values as lists.
+
+pub list_of_view : (vs : List Value) → list_of (items_view vs) ≡ map view vs
+list_of_view [] = refl
+list_of_view (v ∷ vs) = ap (λ ds. view v ∷ ds) (list_of_view vs)

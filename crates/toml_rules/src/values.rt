@@ -6,7 +6,7 @@ ghost use Rattle.toml_rules.specs.Values.{list_at, is_table, may_be_tables, is_o
 use toml::{Table, Value};
 
 /// The members of the array at a key. None, where no array stands there.
-#[tactic(auto, using(crate::proofs::Lists::list_of_view))]
+#[tactic(auto, using(crate::proofs::Least::list_of_view))]
 pub fn list_at<'a>(table: &'a Value, key: &str) -> &'a [Value]
     ensures { map view result.now ≡ list_at key.now (view table.now) }
 {
@@ -75,7 +75,7 @@ pub fn truth_or(table: &Value, key: &str, default: bool) -> Option<bool>
 }
 
 /// Whether an array of tables stands at a key, or nothing at all. The array may be empty.
-#[tactic(auto, using(crate::proofs::Lists::list_of_view))]
+#[tactic(auto, using(crate::proofs::Least::list_of_view))]
 pub fn may_be_tables(table: &Value, key: &str) -> bool
     ensures { result ≡ may_be_tables (get key.now (view table.now)) }
 {

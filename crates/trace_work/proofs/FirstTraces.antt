@@ -18,7 +18,8 @@ none-behind : (n : ℕ) (lists : List (List PartSettings)) → 2 ≤ n → AreBy
 none-behind n [] behind are = refl
 none-behind n (list ∷ lists) behind are = search (rules, arith, skips-all, none-behind (n + 1) lists (omega (arith, behind)) are.1)
 
-takes : (sets : List TraceSet) (rest : List PartSettings) → first_trace rest ≡ None → first_trace (map (λ set. TraceSettings (trace_view set)) sets ++ rest) ≡ option_map trace_view (slice_get sets 0)
+takes : (sets : List TraceSet) (rest : List PartSettings) → first_trace rest ≡ None
+    → first_trace (map (λ set. TraceSettings (trace_view set)) sets ++ rest) ≡ option_map trace_view (slice_get sets 0)
 takes [] rest none = none
 takes (set ∷ sets) rest none = refl
 

@@ -8,8 +8,8 @@ use Rattle.record_stream.{specs.declared.taker.EventTaker.Ghosts, specs.Feeding.
 use Rattle.gate_plan.{specs.Shifting.Sorting, specs.Histories.{with_groups, history}, proofs.Histories.with_groups-more}
 use Rattle.long_trace.{specs.declared.trace.LongTrace.LongTrace, specs.LongTrace.{Holds, GivenMore, set_of}, specs.Texts.open_text, proofs.Rising.{RisesFrom, open-front}}
 use Rattle.trace_work.{specs.TraceOutcomes.{settled_before, words_traced}, specs.TracePieces.{WroteLast, CutLast, WritesLast, both_ended}, specs.TraceTexts.{settled-adds, settled-rises, history-rest, history-rises}}
-use Rattle.command_work.proofs.TellingLaws.{AppendsShort-none}
-use Rattle.photon_pick.proofs.Streams.{clear-from_ok}
+use Rattle.command_work.proofs.RestEnds.{AppendsShort-none}
+use Rattle.photon_pick.proofs.Ends.{clear-from_ok}
 
 with-parts : (by : Sorting) (l m : Marked) → with_groups by (not_marked (l ++ m)) ≡ with_groups by (not_marked l) ++ with_groups by (not_marked m)
 with-parts by l m = ap (with_groups by) (not_marked-append l m) ∙ with_groups-more by (not_marked l) (not_marked m)
@@ -19,7 +19,8 @@ unfolding streamed
 clear-whole how bytes none whole = rw (none, whole) refl
 
 streamed-no_write : (how : Reading) (bytes : List ℕ) (fault : Fault) → streamed how bytes ≡ Err fault → fault ≢ WriteFault
-streamed-no_write how bytes fault is e = let inside = streamed-inside how bytes fault (ap fault_in is) in let bad : is_outside WriteFault ≡ false = rw e at inside in cc
+streamed-no_write how bytes fault is e = let inside =
+    streamed-inside how bytes fault (ap fault_in is) in let bad : is_outside WriteFault ≡ false = rw e at inside in cc
 
 -- What a taker of a trace tells of the events that it was given, from a block that held nothing.
 pub record Gets (by : Sorting) (old new : LongTrace) (a b : Option (List ℕ)) (held : List ℕ) (l : Marked) : Type 0 where
@@ -29,20 +30,25 @@ pub record Gets (by : Sorting) (old new : LongTrace) (a b : Option (List ℕ)) (
 
 pub record Breaks (by : Sorting) (old : LongTrace) (a b : Option (List ℕ)) (held : List ℕ) (l : Marked) : Type 0 where
   pub lines : List ℕ
-  pub closed : (h : History) → Holds old h → open_text (trace_view (set_of old)) (h ++ with_groups by (not_marked l)) ≡ open_text (trace_view (set_of old)) h ++ lines
+  pub closed : (h : History) → Holds old h
+      → open_text (trace_view (set_of old)) (h ++ with_groups by (not_marked l)) ≡ open_text (trace_view (set_of old)) h ++ lines
   pub text : AppendsShort a b lines
   pub empty : held ≡ []
 
 -- some of the events of a longer list
-some-lines : (set : TraceView) (by : Sorting) (h all : History) (l m : Marked) (lines : List ℕ) → 0 < set.width → RisesFrom 0 all → all ≡ h ++ with_groups by (not_marked (l ++ m))
+some-lines : (set : TraceView) (by : Sorting) (h all : History) (l m : Marked) (lines : List ℕ)
+    → 0 < set.width → RisesFrom 0 all → all ≡ h ++ with_groups by (not_marked (l ++ m))
     → open_text set (h ++ with_groups by (not_marked l)) ≡ open_text set h ++ lines → (tail : List ℕ) × (open_text set all ≡ open_text set h ++ (lines ++ tail))
 some-lines set by h all l m lines some up is closed =
-    let parts : all ≡ (h ++ with_groups by (not_marked l)) ++ with_groups by (not_marked m) = is ∙ ap (λ t. h ++ t) (with-parts by l m) ∙ sym (append_assoc h (with_groups by (not_marked l)) (with_groups by (not_marked m))) in
+    let parts : all ≡ (h ++ with_groups by (not_marked l)) ++ with_groups by (not_marked m) =
+    is ∙ ap (λ t. h ++ t) (with-parts by l m) ∙ sym (append_assoc h (with_groups by (not_marked l)) (with_groups by (not_marked m))) in
     let front = open-front set (h ++ with_groups by (not_marked l)) (with_groups by (not_marked m)) some (subst (RisesFrom 0) parts up) in
     (front.0, ap (open_text set) parts ∙ front.1 ∙ ap (λ t. t ++ front.0) closed ∙ append_assoc (open_text set h) lines front.0)
 
-module _ {T : Type 0} (g : Ghosts T) (trace : T → LongTrace) (told : T → Option (List ℕ)) (held : T → List ℕ) (by : Sorting) (how : Reading) (a b : T) (c : Option (List ℕ)) (faults : ℕ)
-    (none : g.got a a []) (gets : (l : Marked) → g.got a b l → Gets by (trace a) (trace b) (told a) (told b) (held b) l) (breaks : (l : Marked) → g.broke a b l → Breaks by (trace a) (told a) (told b) (held b) l) where
+module _ {T : Type 0} (g : Ghosts T) (trace : T → LongTrace) (told : T → Option (List ℕ)) (held : T
+    → List ℕ) (by : Sorting) (how : Reading) (a b : T) (c : Option (List ℕ)) (faults : ℕ)
+    (none : g.got a a []) (gets : (l : Marked) → g.got a b l → Gets by (trace a) (trace b) (told a) (told b) (held b) l) (breaks : (l : Marked)
+    → g.broke a b l → Breaks by (trace a) (told a) (told b) (held b) l) where
   abbrev set : TraceView
   set = trace_view (set_of (trace a))
 
@@ -67,9 +73,11 @@ module _ {T : Type 0} (g : Ghosts T) (trace : T → LongTrace) (told : T → Opt
     -- What a piece wrote, where the block was flushed.
     module _ (flushed : Appends (told b) c (held b)) (still : faults ≡ g.faults b) where
       gave-wrote : GaveOn g how a b words now → WroteText (text words) (text now) (told a) c (g.faults a) faults
-      gave-wrote h = let it = gave-adds h in record { more = it.0; adds = it.1; written = Appends-flushed (told a) (told b) c it.0 (held b) it.2 flushed; kept = still ∙ h.kept }
+      gave-wrote h = let it =
+          gave-adds h in record { more = it.0; adds = it.1; written = Appends-flushed (told a) (told b) c it.0 (held b) it.2 flushed; kept = still ∙ h.kept }
 
-      pub feeds-on : {X : Type 0} (r : Result X Fault) → Fed g how a b words now r → WritesText (text words) (text now) (record_refusal how now) (told a) c (g.faults a) faults r × OnOk r (Holds (trace b) (settled_before by how now))
+      pub feeds-on : {X : Type 0} (r : Result X Fault) → Fed g how a b words now r
+          → WritesText (text words) (text now) (record_refusal how now) (told a) c (g.faults a) faults r × OnOk r (Holds (trace b) (settled_before by how now))
       feeds-on (Ok x) fed = ((fed.0, gave-wrote fed.1), gave-holds fed.1)
       feeds-on (Err fault) fed = (
         ⊎_elim
@@ -83,7 +91,8 @@ module _ {T : Type 0} (g : Ghosts T) (trace : T → LongTrace) (told : T → Opt
 
     -- What it wrote where the flush failed.
     cut-on : (X : Type 0) → GaveOn g how a b words now → AppendsShort (told b) c (held b) → Rose (g.faults b) faults → WritesText {X = X} (text words) (text now) (record_refusal how now) (told a) c (g.faults a) faults (Err WriteFault)
-    cut-on X h short rose = let it = gave-adds h in inr (refl, record { more = it.0; adds = it.1; cut = AppendsShort-flushed (told a) (told b) c it.0 (held b) it.2 short; rose = rw h.kept at rose })
+    cut-on X h short rose = let it = gave-adds h in
+        inr (refl, record { more = it.0; adds = it.1; cut = AppendsShort-flushed (told a) (told b) c it.0 (held b) it.2 short; rose = rw h.kept at rose })
 
     pub feeds-cut : {X : Type 0} (r : Result X Fault) → AppendsShort (told b) c (held b) → Rose (g.faults b) faults → Fed g how a b words now r → WritesText {X = X} (text words) (text now) (record_refusal how now) (told a) c (g.faults a) faults (Err WriteFault)
     feeds-cut {X} (Ok x) short rose fed = cut-on X fed.1 short rose
@@ -99,7 +108,8 @@ module _ {T : Type 0} (g : Ghosts T) (trace : T → LongTrace) (told : T → Opt
     abbrev all : History
     all = history by how (words_of bytes)
 
-    last-adds : (summary : Summary) (rest : GaveRest g how a b bytes summary) → (lines : List ℕ) × (open_text set all ≡ text (words_of bytes) ++ lines) × PassesOn (told a) (told b) lines (held b)
+    last-adds : (summary : Summary) (rest : GaveRest g how a b bytes summary)
+        → (lines : List ℕ) × (open_text set all ≡ text (words_of bytes) ++ lines) × PassesOn (told a) (told b) lines (held b)
     last-adds summary rest =
         let it = gets (last_in how (words_of bytes)) (rest.follows a [] none) in
         (it.lines, ap (open_text set) (history-rest by how (words_of bytes) (clear-from_ok how bytes summary rest.streams)) ∙ it.given.closed (settled_before by how (words_of bytes)) holds, it.text)
@@ -108,7 +118,8 @@ module _ {T : Type 0} (g : Ghosts T) (trace : T → LongTrace) (told : T → Opt
     last-holds summary rest = rw (history-rest by how (words_of bytes) (clear-from_ok how bytes summary rest.streams)) ((gets (last_in how (words_of bytes)) (rest.follows a [] none)).given.follows (settled_before by how (words_of bytes)) holds)
 
     -- The events were given, and the block was flushed.
-    pub ends-well : (summary : Summary) → Appends (told b) c (held b) → faults ≡ g.faults b → Ended g how a b bytes (Ok summary) → WroteLast o by how (trace a) (trace b) out out' bytes
+    pub ends-well : (summary : Summary) → Appends (told b) c (held b) → faults ≡ g.faults b
+        → Ended g how a b bytes (Ok summary) → WroteLast o by how (trace a) (trace b) out out' bytes
     ends-well summary flushed still rest =
         let it = last-adds summary rest in
         record {
@@ -121,7 +132,8 @@ module _ {T : Type 0} (g : Ghosts T) (trace : T → LongTrace) (told : T → Opt
         }
 
     -- The flush failed behind them.
-    pub ends-cut : (summary : Summary) → AppendsShort (told b) c (held b) → Rose (g.faults b) faults → Ended g how a b bytes (Ok summary) → CutLast o by how (trace a) out out' bytes
+    pub ends-cut : (summary : Summary) → AppendsShort (told b) c (held b) → Rose (g.faults b) faults
+        → Ended g how a b bytes (Ok summary) → CutLast o by how (trace a) out out' bytes
     ends-cut summary short rose rest =
         let it = last-adds summary rest in
         record {
@@ -137,11 +149,13 @@ module _ {T : Type 0} (g : Ghosts T) (trace : T → LongTrace) (told : T → Opt
     broke-last clear h =
         let it = breaks h.front (h.broken a [] none) in
         let is : all ≡ settled_before by how (words_of bytes) ++ with_groups by (not_marked (h.front ++ h.back)) = history-rest by how (words_of bytes) clear ∙ ap (λ l. settled_before by how (words_of bytes) ++ with_groups by (not_marked l)) h.adds in
-        let more = some-lines set by (settled_before by how (words_of bytes)) all h.front h.back it.lines some (history-rises by how (words_of bytes)) is (it.closed (settled_before by how (words_of bytes)) holds) in
+        let more = some-lines set by (settled_before by how (words_of bytes)) all h.front h.back it.lines some
+        (history-rises by how (words_of bytes)) is (it.closed (settled_before by how (words_of bytes)) holds) in
         (it.lines ++ more.0, more.1, AppendsShort-more (told a) (told b) it.lines more.0 it.text, it.empty)
 
     pub ends-refused : (fault : Fault) → (fault ≢ WriteFault → is_outside fault ≡ false) → record_refusal how (words_of bytes) ≡ None → held a ≡ [] → Appends (told b) c (held b) → faults ≡ g.faults b → Ended g how a b bytes (Err fault)
-        → ((is_outside fault ≡ false) × (fault_in (streamed how bytes) ≡ Some fault) × Keeps (o.written out) (o.written out') × (o.faults out' ≡ o.faults out)) ⊎ ((fault ≡ WriteFault) × CutLast o by how (trace a) out out' bytes)
+        → ((is_outside fault ≡ false) × (fault_in (streamed how bytes) ≡ Some fault) × Keeps (o.written out) (o.written out') × (o.faults out' ≡ o.faults out))
+        ⊎ ((fault ≡ WriteFault) × CutLast o by how (trace a) out out' bytes)
     ends-refused fault inside clear empty flushed still (inl r) =
         inl (inside (λ e. streamed-no_write how bytes fault r.0 e), ap fault_in r.0, rw (written, written') (Keeps-from_none (told a) c (rw (r.1, empty) at flushed)), rw (counted, counted') (still ∙ ap g.faults r.1))
     ends-refused fault inside clear empty flushed still (inr r) =
@@ -158,12 +172,15 @@ module _ {T : Type 0} (g : Ghosts T) (trace : T → LongTrace) (told : T → Opt
         )
 
     -- A flush of a block that holds nothing never fails.
-    pub ends-short : (fault : Fault) → record_refusal how (words_of bytes) ≡ None → held a ≡ [] → AppendsShort (told b) c (held b) → Ended g how a b bytes (Err fault) → ⊥
+    pub ends-short : (fault : Fault) → record_refusal how (words_of bytes) ≡ None → held a ≡ []
+        → AppendsShort (told b) c (held b) → Ended g how a b bytes (Err fault) → ⊥
     ends-short fault clear empty short (inl r) = AppendsShort-none (told b) c (rw (ap held r.1 ∙ empty) at short)
     ends-short fault clear empty short (inr r) = let it = broke-last clear r.1 in AppendsShort-none (told b) c (rw it.3 at short)
 
-    pub ends-both : (finished : Result Summary Fault) (flushed : Result (Unit {0}) Failed) → IfErr finished (λ fault. fault ≢ WriteFault → is_outside fault ≡ false) → record_refusal how (words_of bytes) ≡ None → held a ≡ []
-        → OnOk flushed (Appends (told b) c (held b)) → OnErr flushed (AppendsShort (told b) c (held b)) → FailsOnce (g.faults b) faults flushed → Ended g how a b bytes finished
+    pub ends-both : (finished : Result Summary Fault) (flushed : Result (Unit {0}) Failed)
+        → IfErr finished (λ fault. fault ≢ WriteFault → is_outside fault ≡ false) → record_refusal how (words_of bytes) ≡ None → held a ≡ []
+        → OnOk flushed (Appends (told b) c (held b)) → OnErr flushed (AppendsShort (told b) c (held b))
+        → FailsOnce (g.faults b) faults flushed → Ended g how a b bytes finished
         → WritesLast o by how (trace a) (trace b) out out' bytes (both_ended finished flushed)
     ends-both (Ok summary) (Ok done) inside clear empty flushed short cause ended = ends-well summary flushed cause.kept ended
     ends-both (Err fault) (Ok done) inside clear empty flushed short cause ended = ends-refused fault inside clear empty flushed cause.kept ended

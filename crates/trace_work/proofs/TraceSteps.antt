@@ -1,13 +1,13 @@
 -- One event more for a trace, and a block of them.
 use Rattle.std.{proofs.Common.{◌≡◌, ◌∙◌, ◌+◌, ◌≤◌, ℕ, List, [], ◌∷◌, ◌++◌, true, false, refl, ap, map, append_assoc, append-nil, arith, length, length-append, ◌&&◌, not, IsTrue, if◌then◌else◌, rules}, proofs.lemmas.List.length-map, specs.declared.option.Option.Option}
-use Rattle.tally_base.{specs.declared.event.Event.Event, specs.declared.event.EventKind.EventKind, specs.declared.header.Mode.Mode, specs.declared.header.Mode.TheVariants.{T2, T3}, specs.Events.{is_photon, is_photon_kind, is_ordered}, specs.Tally.History, specs.Floors.{floor_after, InOrder}, proofs.Lower.order-looser}
+use Rattle.tally_base.{specs.declared.event.Event.Event, specs.declared.event.EventKind.EventKind, specs.declared.header.Mode.Mode, specs.declared.header.Mode.TheVariants.{T2, T3}, specs.Events.{is_photon, is_photon_kind, is_ordered}, specs.Tally.{History, floor_after, InOrder}, proofs.Floors.order-looser}
 use Rattle.bench_io.{specs.Sinks.{AppendsShort, PassesOn}, proofs.Bytes.{PassesOn-trans, AppendsShort-passed}}
 use Rattle.ptu_definitions.{specs.Kept.Marked, specs.Settled.not_marked, proofs.DeliveredLaws.{not_marked-append, not_marked-false}}
 use Rattle.abs_time.{specs.Floors.orders_markers, proofs.Floors.moved_floor-push}
-use Rattle.record_stream.{specs.Blocks.on_time, proofs.Given.length-on_time, proofs.Eaches.floor_of-block}
-use Rattle.gate_plan.{specs.Shifting.{Sorting, shifted, shifted_kind}, specs.Taking.groups_in, specs.Histories.with_groups, proofs.Histories.with_groups-more, proofs.Shifted.{order-shifted, floor-shifted}}
-use Rattle.long_trace.{specs.declared.trace.LongTrace.LongTrace, specs.LongTrace.GivenMore, proofs.Given.GivenMore-trans}
-use Rattle.trace_work.specs.TraceLines.{Traced, TracedShort}
+use Rattle.record_stream.{specs.Blocks.on_time, proofs.Steps.length-on_time, proofs.Gathering.floor_of-block}
+use Rattle.gate_plan.{specs.Shifting.{Sorting, shifted, shifted_kind}, specs.Taking.groups_in, specs.Histories.with_groups, proofs.Histories.{with_groups-more, order-shifted, floor-shifted}}
+use Rattle.long_trace.{specs.declared.trace.LongTrace.LongTrace, specs.LongTrace.GivenMore, proofs.Steps.GivenMore-trans}
+use Rattle.trace_work.specs.TraceOutcomes.{Traced, TracedShort}
 
 photon_kind : (by : Sorting) (kind : EventKind) → is_photon_kind (shifted_kind by kind) ≡ is_photon_kind kind
 photon_kind by kind = search (rules, arith)
@@ -21,10 +21,12 @@ pub floor-late : (mode : Mode) (e : Event) (floor : ℕ) → (if is_ordered mode
 floor-late mode e floor = search (rules, arith)
 
 -- the same of a block of them that are shifted
-pub block-in_order : (mode : Mode) (by : Sorting) (low floor : ℕ) (es es' : List Event) → low ≤ floor → InOrder (orders_markers mode) floor es → es' ≡ map (shifted by) es → InOrder false low es'
+pub block-in_order : (mode : Mode) (by : Sorting) (low floor : ℕ) (es es' : List Event) → low ≤ floor
+    → InOrder (orders_markers mode) floor es → es' ≡ map (shifted by) es → InOrder false low es'
 block-in_order mode by low floor es es' below order is = search (rules, arith, order-shifted, order-looser)
 
-pub block-below : (mode : Mode) (by : Sorting) (low floor : ℕ) (es es' : List Event) → low ≤ floor → InOrder (orders_markers mode) floor es → es' ≡ map (shifted by) es
+pub block-below : (mode : Mode) (by : Sorting) (low floor : ℕ) (es es' : List Event)
+    → low ≤ floor → InOrder (orders_markers mode) floor es → es' ≡ map (shifted by) es
     → floor_after false low es' ≤ floor_after (orders_markers mode) floor es
 block-below mode by low floor es es' below order is = search (rules, arith, floor-shifted, order-looser)
 
@@ -37,18 +39,21 @@ block-length by es es' is = ap length is ∙ length-shifted
 with-late : (by : Sorting) (l : Marked) (e : Event) → with_groups by (not_marked (l ++ (e, true) ∷ [])) ≡ with_groups by (not_marked l)
 with-late by l e = ap (with_groups by) (not_marked-append l ((e, true) ∷ []) ∙ append-nil (not_marked l))
 
-with-one : (by : Sorting) (l : Marked) (e : Event) → with_groups by (not_marked (l ++ (e, false) ∷ [])) ≡ with_groups by (not_marked l) ++ (shifted by e, groups_in by e) ∷ []
+with-one : (by : Sorting) (l : Marked) (e : Event)
+    → with_groups by (not_marked (l ++ (e, false) ∷ [])) ≡ with_groups by (not_marked l) ++ (shifted by e, groups_in by e) ∷ []
 with-one by l e = ap (with_groups by) (not_marked-append l ((e, false) ∷ [])) ∙ with_groups-more by (not_marked l) (e ∷ [])
 
 with-block : (by : Sorting) (l : Marked) (es : List Event) → with_groups by (not_marked (l ++ on_time es)) ≡ with_groups by (not_marked l) ++ with_groups by es
 with-block by l es = search (rules, arith, not_marked-append, not_marked-false, with_groups-more)
 
-module _ (start old : LongTrace) (by by' : Sorting) (mode mode' : Mode) (taken taken' floor floor' faults faults' : ℕ) (a b : Option (List ℕ)) (held held' : List ℕ) (l : Marked) where
+module _ (start old : LongTrace) (by by' : Sorting) (mode mode' : Mode)
+    (taken taken' floor floor' faults faults' : ℕ) (a b : Option (List ℕ)) (held held' : List ℕ) (l : Marked) where
   abbrev So_far : Type 0
   So_far = Traced start old by by' mode mode' taken taken' floor floor' faults faults' a b held held' l
 
   -- a late event is passed over
-  pub Traced-late : (e : Event) → So_far → Traced start old by by' mode mode' taken (taken' + 1) floor (if is_ordered mode' e && not true then e.time else floor') faults faults' a b held held' (l ++ (e, true) ∷ [])
+  pub Traced-late : (e : Event) → So_far → Traced start old by by' mode mode' taken (taken' + 1) floor
+      (if is_ordered mode' e && not true then e.time else floor') faults faults' a b held held' (l ++ (e, true) ∷ [])
   Traced-late e h = search (rules, arith, length-append, moved_floor-push, with-late)
 
   module _ (now : LongTrace) (c : Option (List ℕ)) (held'' : List ℕ) where
@@ -62,16 +67,20 @@ module _ (start old : LongTrace) (by by' : Sorting) (mode mode' : Mode) (taken t
     }
 
     pub TracedShort-one : (e : Event) (lines : List ℕ) → So_far → GivenMore old now ((shifted by' e, groups_in by' e) ∷ []) lines → AppendsShort b c (held' ++ lines) → held'' ≡ [] → TracedShort start by a c held held'' (l ++ (e, false) ∷ [])
-    TracedShort-one e lines h given cut none = short (l ++ (e, false) ∷ []) ((shifted by e, groups_in by e) ∷ []) lines (with-one by l e) h (rw h.same_sorting at given) cut none
+    TracedShort-one e lines h given cut none =
+        short (l ++ (e, false) ∷ []) ((shifted by e, groups_in by e) ∷ []) lines (with-one by l e) h (rw h.same_sorting at given) cut none
 
-    pub TracedShort-block : (es : List Event) (lines : List ℕ) → So_far → GivenMore old now (with_groups by' es) lines → AppendsShort b c (held' ++ lines) → held'' ≡ [] → TracedShort start by a c held held'' (l ++ on_time es)
+    pub TracedShort-block : (es : List Event) (lines : List ℕ) → So_far → GivenMore old now (with_groups by' es) lines
+        → AppendsShort b c (held' ++ lines) → held'' ≡ [] → TracedShort start by a c held held'' (l ++ on_time es)
     TracedShort-block es lines h given cut none = short (l ++ on_time es) (with_groups by es) lines (with-block by l es) h (rw h.same_sorting at given) cut none
 
     module _ (faults'' : ℕ) where
       -- one event more
-      pub Traced-one : (e : Event) (lines : List ℕ) → So_far → GivenMore old now ((shifted by' e, groups_in by' e) ∷ []) lines → PassesOn b c (held' ++ lines) held'' → faults'' ≡ faults'
+      pub Traced-one : (e : Event) (lines : List ℕ) → So_far → GivenMore old now ((shifted by' e, groups_in by' e) ∷ []) lines
+          → PassesOn b c (held' ++ lines) held'' → faults'' ≡ faults'
           → (IsTrue (is_ordered mode' e && not false) → floor' ≤ e.time)
-          → Traced start now by by' mode mode' taken (taken' + 1) floor (if is_ordered mode' e && not false then e.time else floor') faults faults'' a c held held'' (l ++ (e, false) ∷ [])
+          → Traced start now by by' mode mode' taken (taken' + 1) floor
+          (if is_ordered mode' e && not false then e.time else floor') faults faults'' a c held held'' (l ++ (e, false) ∷ [])
       Traced-one e lines h given put still order = record {
         same_sorting = h.same_sorting;
         same_mode = h.same_mode;
@@ -79,12 +88,14 @@ module _ (start old : LongTrace) (by by' : Sorting) (mode mode' : Mode) (taken t
         moved = rw h.same_mode (moved_floor-push mode floor floor' l e false h.moved (rw h.same_mode at order));
         kept = still ∙ h.kept;
         lines = h.lines ++ lines;
-        given = rw (with-one by l e) (GivenMore-trans start old now (with_groups by (not_marked l)) ((shifted by e, groups_in by e) ∷ []) h.lines lines h.given (rw h.same_sorting at given));
+        given = rw (with-one by l e) (GivenMore-trans start old now (with_groups by (not_marked l))
+            ((shifted by e, groups_in by e) ∷ []) h.lines lines h.given (rw h.same_sorting at given));
         text = rw (← append_assoc held h.lines lines) (PassesOn-trans a b c (held ++ h.lines) held' lines held'' h.text put);
       }
 
       -- a block of them
-      pub Traced-block : (es : List Event) (lines : List ℕ) (next last : ℕ) → So_far → GivenMore old now (with_groups by' es) lines → PassesOn b c (held' ++ lines) held'' → faults'' ≡ faults'
+      pub Traced-block : (es : List Event) (lines : List ℕ) (next last : ℕ) → So_far
+          → GivenMore old now (with_groups by' es) lines → PassesOn b c (held' ++ lines) held'' → faults'' ≡ faults'
           → InOrder (orders_markers mode') floor' es → next ≡ taken' + length es → last ≡ floor_after (orders_markers mode') floor' es
           → Traced start now by by' mode mode' taken next floor last faults faults'' a c held held'' (l ++ on_time es)
       Traced-block es lines next last h given put still in_order counted moves = record {
@@ -94,6 +105,7 @@ module _ (start old : LongTrace) (by by' : Sorting) (mode mode' : Mode) (taken t
         moved = moves ∙ floor_of-block mode' l es floor floor' (rw h.same_mode h.moved) in_order ∙ rw h.same_mode refl;
         kept = still ∙ h.kept;
         lines = h.lines ++ lines;
-        given = rw (with-block by l es) (GivenMore-trans start old now (with_groups by (not_marked l)) (with_groups by es) h.lines lines h.given (rw h.same_sorting at given));
+        given = rw (with-block by l es)
+            (GivenMore-trans start old now (with_groups by (not_marked l)) (with_groups by es) h.lines lines h.given (rw h.same_sorting at given));
         text = rw (← append_assoc held h.lines lines) (PassesOn-trans a b c (held ++ h.lines) held' lines held'' h.text put);
       }

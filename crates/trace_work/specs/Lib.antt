@@ -1,6 +1,5 @@
 pub mod TraceOutcomes
 pub mod TraceOrder
 pub mod TraceTexts
-pub mod TraceLines
 pub mod TracePieces
 pub mod TraceLaws

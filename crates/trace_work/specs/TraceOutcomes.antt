@@ -1,11 +1,12 @@
 -- What `trace` ends with over the bytes of a file.
-use Rattle.std.{specs.Prelude.{ℕ, ◌≡◌, List, [], ◌∷◌, None, Some, Result, Ok, Err}, specs.declared.option.Option.Option}
-use Rattle.tally_base.{specs.declared.fault.Fault.Fault, specs.declared.fault.Fault.TheVariants.NoTrace, specs.declared.header.Header.Header, specs.RecordTypes.mode_of, specs.Settings.{PartSettings, TraceView}, specs.Settings.PartSettings.TraceSettings, specs.Tally.History}
-use Rattle.ptu_definitions.{specs.declared.records.Summary.Summary, specs.Headers.header_answer, specs.Words.words_of, specs.Streams.{Reading, unrefused_after, streamed}}
+use Rattle.std.{specs.Prelude.{ℕ, ◌≡◌, List, [], ◌∷◌, None, Some, Result, Ok, Err, ◌+◌, max, ◌++◌, length, refl}, specs.declared.option.Option.Option, proofs.Common.{append-nil, arith}}
+use Rattle.tally_base.{specs.declared.fault.Fault.Fault, specs.declared.fault.Fault.TheVariants.NoTrace, specs.declared.header.Header.Header, specs.RecordTypes.mode_of, specs.Settings.{PartSettings, TraceView, trace_view}, specs.Settings.PartSettings.TraceSettings, specs.Tally.History, specs.declared.header.Mode.Mode}
+use Rattle.ptu_definitions.{specs.declared.records.Summary.Summary, specs.Headers.header_answer, specs.Words.words_of, specs.Streams.{Reading, unrefused_after, streamed}, specs.Kept.{Marked, floor_of}, specs.Settled.not_marked}
 use Rattle.plan_text.{specs.Plan.{PlanView, parts_of}, specs.Fits.fits}
-use Rattle.gate_plan.{specs.Shifting.{Sorting, sorting}, specs.Histories.{history, settled_history}, specs.Plans.reading_by}
-use Rattle.long_trace.specs.Texts.{open_text, whole_text}
+use Rattle.gate_plan.{specs.Shifting.{Sorting, sorting}, specs.Histories.{history, settled_history, reading_by, with_groups}}
+use Rattle.long_trace.{specs.Texts.{open_text, whole_text}, specs.declared.trace.LongTrace.LongTrace, specs.LongTrace.{Holds, GivenMore, set_of}, proofs.Steps.GivenMore-nil}
 use Rattle.command_work.{specs.Outcomes.{Outcome, refused, written, MayChange}, specs.Behaviours.{Work, AreRead, IsHeaded}}
+use Rattle.bench_io.{specs.Sinks.{AppendsShort, PassesOn}, proofs.Bytes.PassesOn-held}
 
 -- the first trace of some tables
 abbrev pub first_trace : List PartSettings → Option TraceView
@@ -82,4 +83,36 @@ tracing plan = record {
   outcome = trace_outcome plan;
   goes_on = λ bytes. MayChange (trace_outcome plan bytes).fault;
   good = IsHeaded (λ header behind. (fits (mode_of header.record_type) plan ≡ Ok (tt {0})) × AreRead (reading_by plan header) behind);
+}
+
+-- The lines of a trace on their way to a sink.
+
+-- The trace was given those of the events that aren't marked late, each with its groups, and the lines of the bins that they closed were put behind what a block held, for a sink of which no write failed.
+pub record Traced (start now : LongTrace) (by by' : Sorting) (mode mode' : Mode) (taken taken' floor floor' faults faults' : ℕ) (old new : Option (List ℕ)) (held held' : List ℕ) (l : Marked) : Type 0 where
+  pub same_sorting : by' ≡ by
+  pub same_mode : mode' ≡ mode
+  pub counted : taken' ≡ taken + length l
+  pub moved : floor' ≡ max floor (floor_of mode l)
+  pub kept : faults' ≡ faults
+  pub lines : List ℕ
+  pub given : GivenMore start now (with_groups by (not_marked l)) lines
+  pub text : PassesOn old new (held ++ lines) held'
+
+-- They were cut short, and the block holds none.
+pub record TracedShort (start : LongTrace) (by : Sorting) (old new : Option (List ℕ)) (held held' : List ℕ) (l : Marked) : Type 0 where
+  pub lines : List ℕ
+  pub closed : (h : History) → Holds start h → open_text (trace_view (set_of start)) (h ++ with_groups by (not_marked l)) ≡ open_text (trace_view (set_of start)) h ++ lines
+  pub text : AppendsShort old new (held ++ lines)
+  pub empty : held' ≡ []
+
+pub traced_none : (trace : LongTrace) (by : Sorting) (mode : Mode) (taken floor faults : ℕ) (old : Option (List ℕ)) (held : List ℕ) → Traced trace trace by by mode mode taken taken floor floor faults faults old old held held []
+traced_none trace by mode taken floor faults old held = record {
+  same_sorting = refl;
+  same_mode = refl;
+  counted = omega arith;
+  moved = omega arith;
+  kept = refl;
+  lines = [];
+  given = GivenMore-nil trace;
+  text = rw (append-nil held) (PassesOn-held old held);
 }

@@ -4,7 +4,7 @@ use Rattle.tally_base.{specs.declared.fault.Fault.Fault, specs.declared.fault.Fa
 use Rattle.bench_io.{specs.Sinks.AppendsShort, specs.declared.sink.Sink.Ghosts}
 use Rattle.ptu_definitions.{specs.Words.words_of, specs.Streams.{Reading, record_refusal, streamed}}
 use Rattle.plan_text.{specs.Plan.PlanView, specs.Fits.fits}
-use Rattle.gate_plan.{specs.Shifting.{Sorting, sorting}, specs.Histories.history, specs.Plans.reading_by}
+use Rattle.gate_plan.{specs.Shifting.{Sorting, sorting}, specs.Histories.{history, reading_by}}
 use Rattle.record_stream.{specs.declared.stream.RecordStream.RecordStream, specs.Standing.{how_of, given_by, greatest_of, refused_with, HasStreamed}}
 use Rattle.long_trace.{specs.declared.trace.LongTrace.LongTrace, specs.LongTrace.{Holds, set_of, taken_of, floor_of, is_going}, specs.Texts.open_text}
 use Rattle.command_work.specs.Tellings.{Telling, WritesPiece, WritesEnd, unless_declined}

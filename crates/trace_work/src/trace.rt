@@ -1,7 +1,7 @@
 // The trace of a plan, written while the file is read.
 ghost use Rattle.std.specs.Prelude.{◌≡◌, ◌<◌, ◌≤◌, ℕ, List, true, OnOk, None, Some};
 ghost use Rattle.tally_base.specs.Settings.{trace_view};
-ghost use Rattle.ptu_definitions.{specs.Counted.record_limit};
+ghost use Rattle.ptu_definitions.specs.Words.{record_limit};
 ghost use Rattle.plan_text.specs.Reading.{plan_view};
 ghost use Rattle.record_stream.{specs.Standing.{how_of, refused_with, HasStreamed}, specs.Pieces.{TakesOn, StaysOpen, Begins}};
 ghost use Rattle.gate_plan.specs.Groups.{sorting_of};
@@ -39,7 +39,7 @@ struct TraceLines<'g, 't, 'o, O: Sink> {
 
 impl<'g, 't, 'o, O: Sink> EventTaker for TraceLines<'g, 't, 'o, O> {
     ghost use Rattle.std.{specs.Prelude.{refl}, proofs.Common.{◌∙◌}};
-    ghost use Rattle.trace_work.specs.TraceLines.{Traced, TracedShort, traced_none};
+    ghost use Rattle.trace_work.specs.TraceOutcomes.{Traced, TracedShort, traced_none};
 
     ghost got = { λ s t l. Traced s.trace.now t.trace.now (sorting_of s.gates.now) (sorting_of t.gates.now)
         s.mode t.mode s.taken t.taken s.floor t.floor (O.faults s.out.now) (O.faults t.out.now)

@@ -1,4 +1,5 @@
 // Runs of rows over files in memory.
+
 use crate::rows::{Room, Row};
 use bench_io::{Inputs, MemoryFile, MemoryInputs, MemorySink};
 use ptu_cli::{FileInputs, ptu_main};

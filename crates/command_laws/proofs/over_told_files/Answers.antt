@@ -4,7 +4,7 @@ use Rattle.bench_io.specs.Inputs.{File, InputState}
 use Rattle.plan_text.specs.Plan.{PlanView}
 use Rattle.command_words.specs.Commands.{Request}
 use Rattle.ptu_cli.{specs.Runs.{Around, Runs}, specs.Behaviours.behaviour}
-use Rattle.command_work.{specs.Behaviours.{Work, Writing, Behaviour, NoCommand, Alone, OnFile, ByPlan}, specs.Endings.{FileOf, AreItsFiles, HasPlan, Reaches, StopsIn, LeavesUnread, WantsForPlan, RunsOut, TakesData, Asks}, proofs.Answers.told-are-its}
+use Rattle.command_work.{specs.Behaviours.{Work, Writing, Behaviour, NoCommand, Alone, OnFile, ByPlan}, specs.Endings.{FileOf, AreItsFiles, HasPlan, Reaches, StopsIn, LeavesUnread, WantsForPlan, RunsOut, TakesData, Asks}, proofs.Told.told-are-its}
 use Rattle.command_laws.specs.ToldFiles.{BeginsWith, IsGoodPlan, ReachesBy, StopsBy, LeavesBy, WantsForPlanBy, RunsOutBy, TakesBy, AsksBy, OverToldFiles}
 use Rattle.command_laws.proofs.over_told_files.Goals as goal
 
@@ -14,10 +14,12 @@ use Rattle.command_laws.proofs.over_told_files.Goals as goal
 begins : (after : InputState) (slot : Slot) (file : File) → FileOf after slot file → after.opened slot ≡ true → BeginsWith file (after.given slot).bytes
 begins after slot file may opened = let is = may opened in record { more = is.2.more; parts = is.1 ∙ ap (λ (l : List ℕ). Some l) is.2.parts }
 
-good-plan : (after : InputState) (lacks : PlanView → Option Fault) (view : PlanView) (plan_file : File) → FileOf after Plan plan_file → HasPlan after lacks view → IsGoodPlan plan_file lacks view
+good-plan : (after : InputState) (lacks : PlanView → Option Fault) (view : PlanView) (plan_file : File)
+    → FileOf after Plan plan_file → HasPlan after lacks view → IsGoodPlan plan_file lacks view
 good-plan after lacks view plan_file may has = (has.is_plan plan_file may, has.whole)
 
-reaches : (does : Behaviour) (after : InputState) (plan_file data_file : File) (slot : Slot) → AreItsFiles does after plan_file data_file → Reaches does after slot → ReachesBy does plan_file slot
+reaches : (does : Behaviour) (after : InputState) (plan_file data_file : File) (slot : Slot)
+    → AreItsFiles does after plan_file data_file → Reaches does after slot → ReachesBy does plan_file slot
 reaches does after plan_file data_file slot may h = search (rules, arith, good-plan)
 
 stops : (writing : Writing (List ℕ → List ℕ)) (work : Work) (after : InputState) (data_file : File) (old new : Option (List ℕ)) → FileOf after Data data_file → after.opened Data ≡ true → StopsIn writing work after old new → StopsBy writing work data_file (after.given Data).bytes old new
@@ -35,7 +37,8 @@ leaves (ByPlan plan file writing memory lacks work) after plan_file data_file Da
 wants-plan : (after : InputState) (plan_file : File) → FileOf after Plan plan_file → WantsForPlan after → WantsForPlanBy plan_file after
 wants-plan after plan_file may h2 = search (rules, arith, append-nil)
 
-runs-out : (does : Behaviour) (after : InputState) (plan_file data_file : File) (old new : Option (List ℕ)) → AreItsFiles does after plan_file data_file → RunsOut does after old new → RunsOutBy does plan_file data_file after old new
+runs-out : (does : Behaviour) (after : InputState) (plan_file data_file : File) (old new : Option (List ℕ))
+    → AreItsFiles does after plan_file data_file → RunsOut does after old new → RunsOutBy does plan_file data_file after old new
 runs-out NoCommand after plan_file data_file old new may h = h
 runs-out (Alone end) after plan_file data_file old new may h = h
 runs-out (OnFile file writing work) after plan_file data_file old new may h = h
@@ -47,10 +50,12 @@ runs-out (ByPlan plan file writing memory lacks work) after plan_file data_file 
   ],
 )
 
-takes : (work : Work) (after : InputState) (data_file : File) → FileOf after Data data_file → after.opened Data ≡ true → TakesData work after → TakesBy work data_file (after.given Data).bytes
+takes : (work : Work) (after : InputState) (data_file : File) → FileOf after Data data_file
+    → after.opened Data ≡ true → TakesData work after → TakesBy work data_file (after.given Data).bytes
 takes work after data_file may opened h = search (rules, arith, begins)
 
-asks : (does : Behaviour) (before after : InputState) (plan_file data_file : File) → AreItsFiles does after plan_file data_file → Asks does before after → AsksBy does plan_file data_file before after
+asks : (does : Behaviour) (before after : InputState) (plan_file data_file : File)
+    → AreItsFiles does after plan_file data_file → Asks does before after → AsksBy does plan_file data_file before after
 asks NoCommand before after plan_file data_file may h = h
 asks (Alone end) before after plan_file data_file may h = h
 asks (OnFile file writing work) before after plan_file data_file may h = (h.0, λ opened. takes work after data_file may opened (h.1 opened))

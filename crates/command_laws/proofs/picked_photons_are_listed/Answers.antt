@@ -1,4 +1,4 @@
-use Rattle.command_laws.proofs.PickedFiles.{listed-picked}
+use Rattle.command_laws.proofs.Proved.{listed-picked}
 use Rattle.command_laws.proofs.picked_photons_are_listed.Goals as goal
 
 pub returns : goal.returns

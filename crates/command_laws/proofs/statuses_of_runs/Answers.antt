@@ -3,8 +3,8 @@ use Rattle.tally_base.{specs.declared.fault.Fault.Fault, specs.declared.slot.Slo
 use Rattle.bench_io.specs.Inputs.{File}
 use Rattle.ptu_cli.{specs.Runs.{Around, Runs}, specs.Behaviours.behaviour, proofs.Complete.some-files}
 use Rattle.command_words.specs.Commands.{Request}
-use Rattle.command_work.{specs.Endings.{outcome, Reaches, RunsOut}, specs.Outcomes.status, specs.Behaviours.{Behaviour, NoCommand, Alone, OnFile, ByPlan}}
-use Rattle.command_laws.{specs.Causes.{MayCallFor, MayEndWith}, specs.CommandCases.{CommandCases, IsIn, cases, BadWords, Writes, ReadsHeader, ReadsRecords, ReadsByPlan}, proofs.CaseShapes.MeetsCases, proofs.Causes.{IsNoCommand, no-command, may-call}, proofs.Proved.told}
+use Rattle.command_work.{specs.Endings.{outcome, Reaches, RunsOut}, specs.Outcomes.{status, IsIn}, specs.Behaviours.{Behaviour}}
+use Rattle.command_laws.{specs.Causes.{MayCallFor, MayEndWith}, specs.CommandCases.{CommandCases, cases}, proofs.CaseShapes.MeetsCases, proofs.Causes.{IsNoCommand, no-command, may-call}, proofs.Proved.told}
 use Rattle.command_laws.proofs.statuses_of_runs.Goals as goal
 
 -- the statuses that the runs of each command end with, by its shape
@@ -22,7 +22,8 @@ ends-in request run result h = elim (cases_lt result 2) [
 ]
   where
     by : (2 ≤ result → 5 < result) → IsIn 2 5 result ⊎ OfFiles request result
-    by further = inr (Some (run.after.given Plan).bytes, Some (run.after.given Data).bytes, (h.answered further _ _ (some-files (behaviour request) run.after)).0)
+    by further =
+        inr (Some (run.after.given Plan).bytes, Some (run.after.given Data).bytes, (h.answered further _ _ (some-files (behaviour request) run.after)).0)
 
 -- without want of memory
 no-memory : (result : ℕ) → IsIn 2 5 result → (result ≡ 5 → ⊥) → IsIn 2 4 result
@@ -34,13 +35,9 @@ record Outside (does : Behaviour) (run : Around) (result : ℕ) : Type 0 where
   unread : result ≡ 3 → (slot : Slot) × Reaches does run.after slot
   memory : result ≡ 5 → RunsOut does run.after run.out_before run.out_after
 
-outside-in : (does : Behaviour) (shape : CommandCases) (run : Around) (result : ℕ) → MeetsCases does shape → (IsNoCommand shape → ⊥) → Outside does run result → IsIn 2 5 result → MayEndWith shape result
-outside-in NoCommand BadWords run result told real h few = absurd (real tt)
-outside-in (Alone end) (Writes text) run result told real h few = search (rules, arith, cases_eq)
-outside-in (OnFile file writing work) ReadsHeader run result told real h few = inr (inl (no-memory result few (λ five. h.memory five)))
-outside-in (OnFile file writing work) (ReadsRecords further records) run result told real h few = inr (inl (no-memory result few (λ five. h.memory five)))
-outside-in (ByPlan plan_name file writing memory lacks work) (ReadsByPlan further need records) run result told real h few = search (rules, arith)
-outside-in does other run result told real h few = absurd told
+outside-in : (does : Behaviour) (shape : CommandCases) (run : Around) (result : ℕ) → MeetsCases does shape
+    → (IsNoCommand shape → ⊥) → Outside does run result → IsIn 2 5 result → MayEndWith shape result
+outside-in does shape run result told real h few = search (rules, arith, cases_eq, no-memory, told)
 
 no-fault : (does : Behaviour) (shape : CommandCases) → MeetsCases does shape → (IsNoCommand shape → ⊥) → MayEndWith shape 0
 no-fault does shape told real = search (rules, arith, told)

@@ -8,7 +8,8 @@ pair_inside-requires-clause-both g c =
     let none : Bin = record { weights = record { index = 0; a = 0; b = 0 }; both = 0 } in
     ∥∥₁_elim c.requires.stands (hlevel props) (λ w.
     let was = c.loop-bin.invariant.ring w.0 w.1 w.2 in
-    let next = next_keep (coincidence_view c.args.set.now) c.loop-bin.ring c.args.bins.now c.loop-bin.bin-index none (w.0 ++ was.0) was.1 c.loop-bin-test.true was.3 in
+    let next =
+    next_keep (coincidence_view c.args.set.now) c.loop-bin.ring c.args.bins.now c.loop-bin.bin-index none (w.0 ++ was.0) was.1 c.loop-bin-test.true was.3 in
     both_fit (coincidence_view c.args.set.now) c.loop-bin.ring _ (w.0 ++ was.0) next.0 next.3)
 
 pub pair_inside-requires-clause-fits : goal.pair_inside-requires-clause-fits
@@ -23,7 +24,8 @@ keep-requires g c =
     record {
       stands = ∥∥₁_map c.requires.stands (λ w.
           let was = c.loop-bin.invariant.ring w.0 w.1 w.2 in
-          let next = next_keep (coincidence_view c.args.set.now) c.loop-bin.ring c.args.bins.now c.loop-bin.bin-index none (w.0 ++ was.0) was.1 c.loop-bin-test.true was.3 in
+          let next = next_keep (coincidence_view c.args.set.now) c.loop-bin.ring c.args.bins.now c.loop-bin.bin-index none
+          (w.0 ++ was.0) was.1 c.loop-bin-test.true was.3 in
           (w.0 ++ was.0, next.0, next.3));
     }
 
@@ -34,10 +36,12 @@ loop-bin-preserved g c =
     record {
       ring = λ closed xs can.
           let was = inv.ring closed xs can in
-          let next = next_keep (coincidence_view c.args.set.now) c.loop-bin.ring c.args.bins.now c.loop-bin.bin-index none (closed ++ was.0) was.1 c.loop-bin-test.true was.3 in
+          let next = next_keep (coincidence_view c.args.set.now) c.loop-bin.ring c.args.bins.now c.loop-bin.bin-index none
+          (closed ++ was.0) was.1 c.loop-bin-test.true was.3 in
           (was.0 ++ next.0, next.1, three_runs xs was.0 next.0 next.1 was.1 was.2 next.2, rw (← append_assoc closed was.0 next.0) (next.4 c.keep.new.ring (c.keep.ensures.ring (closed ++ was.0) next.0 next.3)));
       cells = λ at inside.
-          let more = sum_by_more (λ bin. bin_pairs (coincidence_view c.args.set.now) at bin []) c.args.bins.now c.loop-bin.bin-index none c.loop-bin-test.true in
+          let more =
+          sum_by_more (λ bin. bin_pairs (coincidence_view c.args.set.now) at bin []) c.args.bins.now c.loop-bin.bin-index none c.loop-bin-test.true in
           omega (arith, more, inv.cells at inside, c.pair_inside.ensures.cells at inside);
       same = omega (arith, inv.same, c.pair_inside.ensures.spends.same);
       added = omega (arith, inv.added, c.pair_inside.ensures.spends.added);

@@ -9,7 +9,8 @@ shut-requires g c =
     record {
       stands = ∥∥₁_map c.requires.stands (λ w.
           let was = c.loop-bin.invariant.so_far w.0 w.1 w.2 in
-          let next = next_shut (coincidence_view c.args.set.now) c.loop-bin.ring c.args.bins.now c.loop-bin.bin-index none (w.0 ++ was.0) was.1 c.loop-bin-test.true c.loop-bin.cells was.3 in
+          let next = next_shut (coincidence_view c.args.set.now) c.loop-bin.ring c.args.bins.now c.loop-bin.bin-index none
+          (w.0 ++ was.0) was.1 c.loop-bin-test.true c.loop-bin.cells was.3 in
           (w.0 ++ was.0, next.0, next.3));
     }
 
@@ -19,7 +20,8 @@ loop-bin-preserved g c =
     record {
       so_far = λ closed xs can.
           let was = c.loop-bin.invariant.so_far closed xs can in
-          let next = next_shut (coincidence_view c.args.set.now) c.loop-bin.ring c.args.bins.now c.loop-bin.bin-index none (closed ++ was.0) was.1 c.loop-bin-test.true c.loop-bin.cells was.3 in
+          let next = next_shut (coincidence_view c.args.set.now) c.loop-bin.ring c.args.bins.now c.loop-bin.bin-index none
+          (closed ++ was.0) was.1 c.loop-bin-test.true c.loop-bin.cells was.3 in
           (was.0 ++ next.0, next.1, three_runs xs was.0 next.0 next.1 was.1 was.2 next.2, rw (← append_assoc closed was.0 next.0) (next.4 c.shut.new.ring c.shut.new.cells (c.shut.ensures.ring (closed ++ was.0) next.0 next.3.keep) (c.shut.ensures.cells (closed ++ was.0) next.0 next.3)));
       steps = omega (arith, c.loop-bin.invariant.steps, c.shut.ensures.steps);
     }

@@ -1,7 +1,7 @@
 use Rattle.std.{proofs.Common.{◌∙◌, ◌++◌, arith}, proofs.Props.props, proofs.Math.Logic.{∥∥₁_map, ∥∥₁_elim}}
 use Rattle.tally_base.specs.Settings.{coincidence_view}
-use Rattle.lag_ring.proofs.Spots.{light-at}
-use Rattle.coincidence.{proofs.Chain.{all_fit, all_cells, bins_rising, bins_above}, proofs.Together.shut_parts, proofs.WindowPairs.rising_join}
+use Rattle.lag_ring.proofs.Sums.{light-at}
+use Rattle.coincidence.{proofs.Together.{all_fit, all_cells, bins_rising, bins_above, shut_parts}, proofs.LagPairs.rising_join}
 use Rattle.coincidence.proofs.closing.shut_together.Goals as goal
 
 pub pair_lags-requires-clause-photons : goal.pair_lags-requires-clause-photons
@@ -30,7 +30,8 @@ returns-clause-ring g c = λ closed xs can. c.keep_all.ensures.ring closed xs ca
 
 pub returns-clause-cells : goal.returns-clause-cells
 returns-clause-cells g c = λ closed xs can.
-    all_cells (coincidence_view c.args.set.now) c.args.ring.now c.args.cells.now c.args.bins.now closed xs can c.args.set.now.some_reach.0 c.requires.window.0 c.keep_all.new.cells c.requires.some.0
+    all_cells (coincidence_view c.args.set.now) c.args.ring.now c.args.cells.now c.args.bins.now closed
+    xs can c.args.set.now.some_reach.0 c.requires.window.0 c.keep_all.new.cells c.requires.some.0
     (λ at inside. omega (arith, shut_parts (coincidence_view c.args.set.now) c.args.ring.now c.args.cells.now c.args.bins.now closed xs can c.args.later.now c.requires.entries at, c.pair_lags.ensures.cells at inside, c.keep_all.ensures.cells at inside))
     (c.keep_all.ensures.spends.same ∙ c.pair_lags.ensures.spends.same)
     (omega (arith, c.pair_lags.ensures.spends.added, c.keep_all.ensures.spends.added))

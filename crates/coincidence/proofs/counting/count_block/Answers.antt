@@ -1,5 +1,5 @@
 use Rattle.std.{proofs.Common.{◌≡◌, ◌∙◌, ◌+◌, ◌<◌, ◌++◌, true, false, length, ap, rules, arith, append_assoc, nat_lt}, proofs.lemmas.Bool.Decides.{nat_tests}}
-use Rattle.tally_base.{specs.Events.is_in, specs.Settings.startstop_view, specs.Tally.moves_floor, specs.Columns.{item, event_at, rows, code_at, groups_at, time_at}, specs.Floors.floor_after, proofs.Back.moves_row, proofs.BlockRows.more_rows, proofs.Floors.{floor-more, order-at}}
+use Rattle.tally_base.{specs.Events.is_in, specs.Settings.startstop_view, specs.Tally.{moves_floor, floor_after}, specs.Columns.{item, event_at, rows, code_at, groups_at, time_at}, proofs.Floors.{moves_row, floor-more, order-at}, proofs.BlockRows.more_rows}
 use Rattle.coincidence.{specs.Starts.since_in, proofs.Blocks.{photon_step, marker_step, in_group, later, kept_floor}, proofs.counting.count_block.Goals.{then-code-lt256, else-code-lt256}}
 use Rattle.coincidence.proofs.counting.count_block.Goals as goal
 
@@ -44,8 +44,10 @@ loop-at-preserved c =
           let marker : nat_lt code 256 ≡ false = grind (arith, nat_tests, w.if-code-lt256.false, c.code.ensures) in
           let stays = moves_row false b at ∙ marker in
           rw (w.cells-is, w.last-is, w.over-is) (record {
-            counted = λ h is. rw (more_rows (item b) at, ← append_assoc) (marker_step set c.loop-at.cells c.loop-at.over last (h ++ rows (item b) at) (item b at) stays (inv.counted h is));
+            counted = λ h is. rw (more_rows (item b) at, ← append_assoc)
+                (marker_step set c.loop-at.cells c.loop-at.over last (h ++ rows (item b) at) (item b at) stays (inv.counted h is));
             few = omega (arith, inv.few);
-            begun = rw moved (kept_floor (moves_floor false (event_at b at)) stays time (floor_after false low (rows (event_at b) at)) (since_in last) inv.begun);
+            begun = rw moved
+                (kept_floor (moves_floor false (event_at b at)) stays time (floor_after false low (rows (event_at b) at)) (since_in last) inv.begun);
           })
     ]

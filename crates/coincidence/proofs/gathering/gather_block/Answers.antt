@@ -1,6 +1,6 @@
 use Rattle.std.{proofs.Common.{◌≡◌, ◌<◌, [], ◌∷◌, ◌++◌, append-nil, rules, arith}, proofs.Math.Logic.{∥∥₁_map}}
 use Rattle.tally_base.{specs.Settings.coincidence_view, specs.Columns.{item, rows}}
-use Rattle.coincidence.{specs.Pairing.pairing_of, specs.Pairs.photons_of_groups, proofs.GatherRows.{gathered_none, gathered_same, gather_row, gathered_more}, proofs.gathering.gather_block.Goals.{then-first-second, else-first-second}}
+use Rattle.coincidence.{specs.Pairing.pairing_of, specs.Pairs.photons_of_groups, proofs.Together.{gathered_none, gathered_same, gather_row, gathered_more}, proofs.gathering.gather_block.Goals.{then-first-second, else-first-second}}
 use Rattle.coincidence.proofs.gathering.gather_block.Goals as goal
 
 pub gather_bin-open-requires-clause-stands : goal.gather_bin-open-requires-clause-stands
@@ -18,7 +18,8 @@ pub loop-at-init : goal.loop-at-init
 loop-at-init c =
     let set = coincidence_view c.args.set.now in
     record {
-      came = λ ring cells h can. rw (append-nil h) (gathered_none set c.args.waiting c.args.bins.now.items can.was.0 can.was.1 (photons_of_groups set h) c.requires.empty.0 can.was.2 can.was.3.opened);
+      came = λ ring cells h can. rw (append-nil h)
+          (gathered_none set c.args.waiting c.args.bins.now.items can.was.0 can.was.1 (photons_of_groups set h) c.requires.empty.0 can.was.2 can.was.3.opened);
       few = omega (arith, c.requires.empty.1);
     }
 

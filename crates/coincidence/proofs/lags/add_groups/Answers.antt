@@ -1,6 +1,6 @@
 use Rattle.std.proofs.Common.{◌≡◌, ◌<◌, ◌+◌, ◌/◌, ℕ, arith}
 use Rattle.tally_base.specs.Settings.{coincidence_view, coincidence_cells}
-use Rattle.coincidence.{specs.Pairing.shifted_by, specs.Closing.strip_pairs, proofs.Visits.{shifted_inside, one_fits}, proofs.WindowPairs.{range-more, range-le, strip-term}}
+use Rattle.coincidence.{specs.Pairing.shifted_by, specs.Closing.strip_pairs, proofs.Visits.{shifted_inside, one_fits}, proofs.LagPairs.{range-more, range-le, strip-term}}
 use Rattle.coincidence.proofs.lags.add_groups.Goals as goal
 
 pub add_pairs-requires-clause-sum : goal.add_pairs-requires-clause-sum
@@ -10,7 +10,8 @@ add_pairs-requires-clause-sum g c =
     let least = c.args.least in
     let cell : ℕ = c.shifted-shifted.result / c.args.set.width in
     let lag : c.shifted-shifted.result ≡ shifted_by c.args.direction c.args.set.reach (least + 1 + i) = rw c.from.ensures at c.shifted-shifted.ensures in
-    let inside : cell < coincidence_cells set = rw lag (shifted_inside c.args.direction c.args.set.reach (least + 1 + i) c.args.set.width c.args.set.some_width.0 (omega arith)) in
+    let inside : cell < coincidence_cells set =
+    rw lag (shifted_inside c.args.direction c.args.set.reach (least + 1 + i) c.args.set.width c.args.set.some_width.0 (omega arith)) in
     let term = strip-term c.args.direction set cell least i c.shifted-shifted.result c.from-pairs.result c.args.sums.now lag c.from-pairs.ensures in
     let f : ℕ → ℕ = strip_pairs c.args.direction set cell least c.args.sums.now in
     one_fits _ _ _ cell (omega (arith, c.loop-i.invariant.cells cell inside, range-more f (least + 1) i, range-le f (least + 1) (i + 1) c.args.count (omega arith), term, c.requires.fits cell inside))

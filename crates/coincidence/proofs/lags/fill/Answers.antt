@@ -1,6 +1,6 @@
 use Rattle.std.proofs.Common.{◌<◌, ◌+◌, ◌^◌, eqb, cond, length, arith}
 use Rattle.lag_ring.{specs.declared.ring.Entry.Entry, proofs.Lists.all_back}
-use Rattle.coincidence.proofs.WindowPairs.{three-sums}
+use Rattle.coincidence.proofs.LagPairs.{three-sums}
 use Rattle.coincidence.proofs.lags.fill.Goals as goal
 
 pub put_bytes-requires-clause-fit : goal.put_bytes-requires-clause-fit
@@ -10,7 +10,8 @@ put_bytes-requires-clause-fit c = (
 )
 
 pub put_bytes-requires-2-clause-early : goal.put_bytes-requires-2-clause-early
-put_bytes-requires-2-clause-early c = all_back (λ (e : Entry). e.index + c.args.top < 2 ^ 64) c.slices.result.0.now c.slices.result.1.now (rw c.slices.ensures.entries c.requires.early)
+put_bytes-requires-2-clause-early c =
+    all_back (λ (e : Entry). e.index + c.args.top < 2 ^ 64) c.slices.result.0.now c.slices.result.1.now (rw c.slices.ensures.entries c.requires.early)
 
 pub put_bytes-requires-2-clause-fit : goal.put_bytes-requires-2-clause-fit
 put_bytes-requires-2-clause-fit c =

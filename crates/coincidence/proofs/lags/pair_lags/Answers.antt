@@ -13,7 +13,8 @@ pair_over-requires-clause-empty g c = (λ p inside. get_or-replicate 1024 p 0 0 
 pub pair_over-requires-then-are_near-2-clause-opens : goal.pair_over-requires-then-are_near-2-clause-opens
 pair_over-requires-then-are_near-2-clause-opens g c =
     let near =
-    all_weaker (λ (e : Entry). (c.args.low ≤ e.index) × (e.index - c.args.low < 1024)) (λ (e : Entry). (c.args.low ≤ e.index) × (e.index - c.args.low + 4096 ≤ 5120)) (λ e is. (is.0, omega (arith, is.1))) c.args.later.now
+    all_weaker (λ (e : Entry). (c.args.low ≤ e.index) × (e.index - c.args.low < 1024))
+    (λ (e : Entry). (c.args.low ≤ e.index) × (e.index - c.args.low + 4096 ≤ 5120)) (λ e is. (is.0, omega (arith, is.1))) c.args.later.now
     (c.are_near-else-set-le-SHORT.ensures c.if-are_near-2.true) in
     (record { lags = (c.requires.photons.0.reach, omega arith, refl); wide = omega arith; near = near }, record { lags = (c.requires.photons.0.reach, omega arith, refl); wide = omega arith; near = near })
 

@@ -1,29 +1,31 @@
 use Rattle.std.{proofs.Common.{◌≡◌, ◌≤◌, ◌+◌, ◌-◌, ◌++◌, ◌*◌, ℕ, length, arith}, specs.List.{sum_by}}
 use Rattle.tally_base.specs.Settings.{coincidence_view}
-use Rattle.lag_ring.{specs.declared.ring.Entry.Entry, specs.Window.weight_of, proofs.Rising.all_weaker}
-use Rattle.coincidence.{specs.Closing.{earlier_side, later_side}, proofs.WindowPairs.{window-lags, few_later}}
+use Rattle.lag_ring.{specs.declared.ring.Entry.Entry, specs.Bytes.weight_of, proofs.Rising.all_weaker}
+use Rattle.coincidence.{specs.Closing.{earlier_side, later_side}, proofs.LagPairs.{window-lags, few_later}}
 use Rattle.coincidence.proofs.lags.pair_side.Goals as goal
 
 pub spots_of-spots-requires-clause-few : goal.spots_of-spots-requires-clause-few
-spots_of-spots-requires-clause-few g c = rw c.requires.photons.2 (few_later c.args.direction (coincidence_view c.args.set) c.args.most c.args.low c.args.ring.now.entries c.args.later.now c.requires.photons.0)
+spots_of-spots-requires-clause-few g c = rw c.requires.photons.2 (few_later c.args.direction
+    (coincidence_view c.args.set) c.args.places.most c.args.places.low c.args.ring.now.entries c.args.later.now c.requires.photons.0)
 
 pub pair_window-requires-clause-window : goal.pair_window-requires-clause-window
 pair_window-requires-clause-window g c = record {
   weighed = c.requires.photons.0.weighed;
-  light = λ p inside. omega (arith, c.requires.has p inside, c.requires.photons.1 (earlier_side c.args.direction) c.args.top p);
+  light = λ p inside. omega (arith, c.requires.has p inside, c.requires.photons.1 (earlier_side c.args.direction) c.args.places.top p);
   few = rw c.deref.ensures.0 (omega (arith, c.spots_of-spots.ensures.few));
   near =
-      let last : ℕ = length c.args.window.now - c.args.top in
-      let spots = c.spots_of-spots.ensures.within last (all_weaker (λ (e : Entry). (c.args.low ≤ e.index) × (e.index - c.args.low + c.args.top ≤ length c.args.window.now)) (λ (e : Entry). e.index - c.args.low ≤ last) (λ e is. omega (arith, is.1)) c.args.later.now c.requires.opens.near) in
-      all_weaker (λ s. s ≤ last) (λ s. s + c.args.top ≤ length c.args.window.now) (λ s is. omega (arith, is, c.requires.opens.wide)) c.deref.result.now (rw c.deref.ensures.0 spots);
+      let last : ℕ = length c.args.window.now - c.args.places.top in
+      let spots = c.spots_of-spots.ensures.within last (all_weaker (λ (e : Entry). (c.args.places.low ≤ e.index) × (e.index - c.args.places.low + c.args.places.top ≤ length c.args.window.now)) (λ (e : Entry). e.index - c.args.places.low ≤ last) (λ e is. omega (arith, is.1)) c.args.later.now c.requires.opens.near) in
+      all_weaker (λ s. s ≤ last) (λ s. s + c.args.places.top ≤ length c.args.window.now)
+      (λ s is. omega (arith, is, c.requires.opens.wide)) c.deref.result.now (rw c.deref.ensures.0 spots);
 }
 
 pub pair_window-requires-clause-fits : goal.pair_window-requires-clause-fits
 pair_window-requires-clause-fits g c = λ at inside.
-    let photons : (f : ℕ → ℕ) → sum_by f c.spots_of-spots.result.items ≡ sum_by (λ (e : Entry). f (e.index - c.args.low) * weight_of (later_side c.args.direction) e) c.args.later.now = λ f. rw c.requires.photons.2 at (c.spots_of-spots.ensures.sums f) in
-    rw (c.deref.ensures.0, window-lags c.args.direction (coincidence_view c.args.set) at c.args.top c.args.low c.args.window.now c.spots_of-spots.result.items (c.args.ring.now.entries ++ c.args.later.now) c.args.later.now c.requires.opens.lags.0 c.requires.has c.requires.opens.near photons) (c.requires.fits at inside)
+    let photons : (f : ℕ → ℕ) → sum_by f c.spots_of-spots.result.items ≡ sum_by (λ (e : Entry). f (e.index - c.args.places.low) * weight_of (later_side c.args.direction) e) c.args.later.now = λ f. rw c.requires.photons.2 at (c.spots_of-spots.ensures.sums f) in
+    rw (c.deref.ensures.0, window-lags c.args.direction (coincidence_view c.args.set) at c.args.places.top c.args.places.low c.args.window.now c.spots_of-spots.result.items (c.args.ring.now.entries ++ c.args.later.now) c.args.later.now c.requires.opens.lags.0 c.requires.has c.requires.opens.near photons) (c.requires.fits at inside)
 
 pub returns-clause-cells : goal.returns-clause-cells
 returns-clause-cells g c = λ at inside.
-    let photons : (f : ℕ → ℕ) → sum_by f c.spots_of-spots.result.items ≡ sum_by (λ (e : Entry). f (e.index - c.args.low) * weight_of (later_side c.args.direction) e) c.args.later.now = λ f. rw c.requires.photons.2 at (c.spots_of-spots.ensures.sums f) in
-    rw (c.deref.ensures.0, window-lags c.args.direction (coincidence_view c.args.set) at c.args.top c.args.low c.args.window.now c.spots_of-spots.result.items (c.args.ring.now.entries ++ c.args.later.now) c.args.later.now c.requires.opens.lags.0 c.requires.has c.requires.opens.near photons) at (c.pair_window.ensures.cells at inside)
+    let photons : (f : ℕ → ℕ) → sum_by f c.spots_of-spots.result.items ≡ sum_by (λ (e : Entry). f (e.index - c.args.places.low) * weight_of (later_side c.args.direction) e) c.args.later.now = λ f. rw c.requires.photons.2 at (c.spots_of-spots.ensures.sums f) in
+    rw (c.deref.ensures.0, window-lags c.args.direction (coincidence_view c.args.set) at c.args.places.top c.args.places.low c.args.window.now c.spots_of-spots.result.items (c.args.ring.now.entries ++ c.args.later.now) c.args.later.now c.requires.opens.lags.0 c.requires.has c.requires.opens.near photons) at (c.pair_window.ensures.cells at inside)

@@ -1,6 +1,6 @@
 use Rattle.std.proofs.Common.{◌≡◌, ◌<◌, ◌+◌, ◌*◌, ℕ, min, arith}
 use Rattle.tally_base.specs.Settings.{coincidence_view}
-use Rattle.coincidence.{specs.Closing.window_pairs, proofs.WindowPairs.{range-le, range-strip}}
+use Rattle.coincidence.{specs.Closing.window_pairs, proofs.LagPairs.{range-le, range-strip}}
 use Rattle.coincidence.proofs.lags.pair_window.Goals as goal
 
 pub pair_strip-requires-clause-fits : goal.pair_strip-requires-clause-fits

@@ -1,4 +1,4 @@
-use Rattle.coincidence.specs.CoincidenceLaws.{few_bins}
+use Rattle.coincidence.specs.Coincidence.{few_bins}
 use Rattle.coincidence.proofs.laws.few_bins.Goals as goal
 
 pub returns : goal.returns

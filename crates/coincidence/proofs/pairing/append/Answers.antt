@@ -8,10 +8,12 @@ pub pair-requires-clause-after : goal.pair-requires-clause-after
 pair-requires-clause-after g c = ∥∥₁_elim c.requires.stands (AllByRecursion-prop (λ (e : Entry). e.index < c.args.bin.now.weights.index) (λ e. hlevel props) _) (λ w. before (coincidence_view c.args.set.now) c.args.ring.now c.args.bin.now w.0 w.1 w.2.keep)
 
 pub pair-requires-clause-both : goal.pair-requires-clause-both
-pair-requires-clause-both g c = ∥∥₁_elim c.requires.stands (hlevel props) (λ w. both_fit (coincidence_view c.args.set.now) c.args.ring.now c.args.bin.now w.0 w.1 w.2.keep)
+pair-requires-clause-both g c =
+    ∥∥₁_elim c.requires.stands (hlevel props) (λ w. both_fit (coincidence_view c.args.set.now) c.args.ring.now c.args.bin.now w.0 w.1 w.2.keep)
 
 pub pair-requires-clause-fits : goal.pair-requires-clause-fits
-pair-requires-clause-fits g c = ∥∥₁_elim c.requires.stands (hlevel props) (λ w. may_fit (coincidence_view c.args.set.now) c.args.ring.now c.args.cells.now c.args.bin.now w.0 w.1 w.2)
+pair-requires-clause-fits g c =
+    ∥∥₁_elim c.requires.stands (hlevel props) (λ w. may_fit (coincidence_view c.args.set.now) c.args.ring.now c.args.cells.now c.args.bin.now w.0 w.1 w.2)
 
 pub returns-clause-cells : goal.returns-clause-cells
 returns-clause-cells g c = search (rules, arith, cells_shut)

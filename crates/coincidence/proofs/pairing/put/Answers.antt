@@ -1,6 +1,6 @@
 use Rattle.std.{proofs.Common.{refl}, proofs.Math.Logic.{∥∥₁_map}}
 use Rattle.tally_base.specs.Settings.{coincidence_view}
-use Rattle.coincidence.{specs.Pairing.pairing_of, proofs.Puts.{can_shut, joins, moved_on}}
+use Rattle.coincidence.{specs.Pairing.pairing_of, proofs.Visits.{can_shut, joins, moved_on}}
 use Rattle.coincidence.proofs.pairing.put.Goals as goal
 
 pub shut-requires : goal.shut-requires
@@ -17,8 +17,10 @@ returns-then-open-bin g c = record {
 pub returns-else-open-bin : goal.returns-else-open-bin
 returns-else-open-bin g c = record {
   follows = λ closed open' xs can.
-      let may = can_shut (coincidence_view c.args.set.now) (pairing_of c.args.waiting c.args.ring.now c.args.cells.now) c.in-Some.open c.args.bin c.in-Some.is closed open' xs can in
-      let after = moved_on (coincidence_view c.args.set.now) (pairing_of c.args.waiting c.args.ring.now c.args.cells.now) c.in-Some.open c.args.bin c.in-Some.is closed open' xs can c.if-open-bin.false in
+      let may = can_shut (coincidence_view c.args.set.now)
+      (pairing_of c.args.waiting c.args.ring.now c.args.cells.now) c.in-Some.open c.args.bin c.in-Some.is closed open' xs can in
+      let after = moved_on (coincidence_view c.args.set.now)
+      (pairing_of c.args.waiting c.args.ring.now c.args.cells.now) c.in-Some.open c.args.bin c.in-Some.is closed open' xs can c.if-open-bin.false in
       (_, xs, refl, record { opened = (can.is, after); ring = c.shut.ensures.ring closed open' may.keep; cells = c.shut.ensures.cells closed open' may });
   steps = c.shut.ensures.steps;
 }

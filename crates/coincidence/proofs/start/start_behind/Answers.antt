@@ -1,4 +1,4 @@
-use Rattle.coincidence.proofs.Ends.{behind_is}
+use Rattle.coincidence.proofs.Blocks.{behind_is}
 use Rattle.coincidence.proofs.start.start_behind.Goals as goal
 
 pub returns-clause-value : goal.returns-clause-value

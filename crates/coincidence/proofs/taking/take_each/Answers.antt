@@ -35,7 +35,8 @@ loop-at-preserved g c =
           })
       | else-first-second w ↦
           rw (w.pairing-is, w.steps-is, w.open-is) (record {
-            came = λ h can. came_same set now b h at c.has_photon-first.result c.has_photon-second.result c.has_photon-first.ensures c.has_photon-second.ensures w.if-first-second.false (inv.came h can);
+            came = λ h can. came_same set now b h at c.has_photon-first.result c.has_photon-second.result
+                c.has_photon-first.ensures c.has_photon-second.ensures w.if-first-second.false (inv.came h can);
             steps = inv.steps;
           })
     ]

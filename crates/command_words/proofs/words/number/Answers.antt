@@ -49,7 +49,8 @@ three : (a b c : Bool) → a ≡ true → b ≡ true → c ≡ true → (a && b 
 three a b c x y z = rw (x, y, z) refl
 
 -- what parsing a word of digits answers is the number, where it is no greater than `most`
-number-parsed : (E : Type 0) (most : ℕ) (word : List ℕ) (value : ℕ) → ParsesUnsigned {E = E} 64 10 word (Ok value) → 0 < length word → length word ≤ 20 → all_ascii_digits word ≡ true → value ≤ most → Some value ≡ number_in most word
+number-parsed : (E : Type 0) (most : ℕ) (word : List ℕ) (value : ℕ) → ParsesUnsigned {E = E} 64 10 word (Ok value)
+    → 0 < length word → length word ≤ 20 → all_ascii_digits word ≡ true → value ≤ most → Some value ≡ number_in most word
 unfolding number_in
 number-parsed E most word value parses some few digits low =
     let same : value ≡ digits_value 10 word = (parse_digits own {E = E} 64 word (Ok value) parses digits).1 in
@@ -58,12 +59,14 @@ number-parsed E most word value parses some few digits low =
     let small : nat_le (digits_value 10 word) most ≡ true = grind (arith, nat_tests) in
     ap (λ (n : ℕ). Some n) same ∙ sym (both (is_numeral word) _ (digits_value 10 word) (three _ _ _ size room digits) small)
 
-number-great : (E : Type 0) (most : ℕ) (word : List ℕ) (value : ℕ) → ParsesUnsigned {E = E} 64 10 word (Ok value) → all_ascii_digits word ≡ true → most < value → number_in most word ≡ None
+number-great : (E : Type 0) (most : ℕ) (word : List ℕ) (value : ℕ) → ParsesUnsigned {E = E} 64 10 word (Ok value)
+    → all_ascii_digits word ≡ true → most < value → number_in most word ≡ None
 number-great E most word value parses digits above =
     let same : value ≡ digits_value 10 word = (parse_digits own {E = E} 64 word (Ok value) parses digits).1 in
     great most word (omega arith)
 
-number-unparsed : (E : Type 0) (most : ℕ) (word : List ℕ) (error : E) → ParsesUnsigned {E = E} 64 10 word (Err error) → 0 < length word → all_ascii_digits word ≡ true → most < 2 ^ 64 → number_in most word ≡ None
+number-unparsed : (E : Type 0) (most : ℕ) (word : List ℕ) (error : E) → ParsesUnsigned {E = E} 64 10 word (Err error)
+    → 0 < length word → all_ascii_digits word ≡ true → most < 2 ^ 64 → number_in most word ≡ None
 number-unparsed E most word error parses some digits fits =
     let not_both : ¬ ((0 < length word) × (digits_value 10 word < 2 ^ 64)) = parse_digits own {E = E} 64 word (Err error) parses digits in
     great most word (above not_both)
@@ -77,7 +80,8 @@ returns-then-is_empty-clause-value c =
     elim c.then-is_empty.branch [
       | then-is_empty-via-then-is_empty w ↦ sym (number-empty c.args.most c.args.word.now (let is = w.if-is_empty.true in grind (arith, nat_tests)))
       | then-is_empty-via-else-is_empty+then-word-gt20 w ↦ sym (number-long c.args.most c.args.word.now w.if-word-gt20.true)
-      | then-is_empty-via-else-is_empty+else-word-gt20+then-not-are_digits w ↦ sym (number-other c.args.most c.args.word.now (ap all_ascii_digits (sym w.as_bytes.ensures.value) ∙ sym w.are_digits.ensures ∙ w.if-not-are_digits.true))
+      | then-is_empty-via-else-is_empty+else-word-gt20+then-not-are_digits w ↦ sym
+          (number-other c.args.most c.args.word.now (ap all_ascii_digits (sym w.as_bytes.ensures.value) ∙ sym w.are_digits.ensures ∙ w.if-not-are_digits.true))
     ]
 
 pub returns-then-value-most-clause-value : goal.returns-then-value-most-clause-value

@@ -1,7 +1,7 @@
 use Rattle.std.{proofs.Common.{arith, [], ◌++◌, Ok, Err, take, refl, sym, ap, ◌∙◌, append-nil, inr, rules}, proofs.lemmas.List.length-take, proofs.lemmas.Slice.between_is}
 use Rattle.tally_base.{specs.declared.slot.Slot.TheVariants.Data, proofs.Reasons.HasReason-inside}
-use Rattle.bench_io.{proofs.Givens.{Consumes-nil, Consumes-kept, Consumes-trans}, proofs.States.OnlyReads-refl}
-use Rattle.command_work.{proofs.Pieces.{IsCut-nil, some_used}, specs.Outcomes.IsCut, proofs.Told.{Says-shown, reads-on, fails-on}, proofs.Few.{stops-unread, stops-piece}, proofs.Once.{Rose-kept, quiet-none, quiet-inside, once-refl, once-read, once-unread}}
+use Rattle.bench_io.proofs.States.{Consumes-nil, Consumes-kept, Consumes-trans, OnlyReads-refl}
+use Rattle.command_work.{proofs.Pieces.{IsCut-nil, some_used, stops-unread, stops-piece}, specs.Outcomes.IsCut, proofs.Told.{Says-shown, reads-on, fails-on}, proofs.Once.{Rose-kept, quiet-none, quiet-inside, once-refl, once-read, once-unread}}
 use Rattle.ptu_definitions.specs.Headers.{header_answer}
 use Rattle.command_work.proofs.data.read_header.Goals as goal
 
@@ -49,24 +49,29 @@ pieces-init g c = record { reads = OnlyReads-refl _ _; taken = ([], Consumes-nil
 pub returns-in_default-clause-stops : goal.returns-in_default-clause-stops
 returns-in_default-clause-stops g c =
     let so_far = c.pieces.invariant.taken in
-    stops-unread IsCut so_far.0 _ _ _ (Consumes-kept _ _ _ so_far.0 so_far.1 c.in_default.ensures.gives) so_far.3 (fails-on _ _ _ c.pieces.invariant.unended c.in_default.ensures.gives)
+    stops-unread IsCut so_far.0 _ _ _ (Consumes-kept _ _ _ so_far.0 so_far.1 c.in_default.ensures.gives) so_far.3
+    (fails-on _ _ _ c.pieces.invariant.unended c.in_default.ensures.gives)
 
 pub returns-then-len-eq0-clause-stops : goal.returns-then-len-eq0-clause-stops
 returns-then-len-eq0-clause-stops g c =
     let so_far = c.pieces.invariant.taken in
-    stops-piece IsCut so_far.0 c.in-Ok.len c.read.new.into _ _ _ (Consumes-trans _ _ _ so_far.0 (take c.in-Ok.len c.read.new.into) so_far.1 c.in-Ok.ensures.gives.0) so_far.3
+    stops-piece IsCut so_far.0 c.in-Ok.len c.read.new.into _ _ _
+    (Consumes-trans _ _ _ so_far.0 (take c.in-Ok.len c.read.new.into) so_far.1 c.in-Ok.ensures.gives.0) so_far.3
     (omega (arith, c.requires.small, c.pieces.auto.buffer, c.read.auto.into)) c.finish.ensures.inside tt
 
 pub returns-in-Done-clause-stops : goal.returns-in-Done-clause-stops
 returns-in-Done-clause-stops g c =
     let so_far = c.pieces.invariant.taken in
-    stops-piece IsCut so_far.0 c.in-Ok.len c.read.new.into _ _ _ (Consumes-trans _ _ _ so_far.0 (take c.in-Ok.len c.read.new.into) so_far.1 c.in-Ok.ensures.gives.0) so_far.3
-    (omega (arith, c.requires.small, c.pieces.auto.buffer, c.read.auto.into)) tt (reads-on _ _ _ _ _ c.pieces.invariant.unended c.in-Ok.ensures.gives c.if-len-eq0.false)
+    stops-piece IsCut so_far.0 c.in-Ok.len c.read.new.into _ _ _
+    (Consumes-trans _ _ _ so_far.0 (take c.in-Ok.len c.read.new.into) so_far.1 c.in-Ok.ensures.gives.0) so_far.3
+    (omega (arith, c.requires.small, c.pieces.auto.buffer, c.read.auto.into)) tt
+    (reads-on _ _ _ _ _ c.pieces.invariant.unended c.in-Ok.ensures.gives c.if-len-eq0.false)
 
 pub returns-in-Refused-clause-stops : goal.returns-in-Refused-clause-stops
 returns-in-Refused-clause-stops g c =
     let so_far = c.pieces.invariant.taken in
-    stops-piece IsCut so_far.0 c.in-Ok.len c.read.new.into _ _ _ (Consumes-trans _ _ _ so_far.0 (take c.in-Ok.len c.read.new.into) so_far.1 c.in-Ok.ensures.gives.0) so_far.3
+    stops-piece IsCut so_far.0 c.in-Ok.len c.read.new.into _ _ _
+    (Consumes-trans _ _ _ so_far.0 (take c.in-Ok.len c.read.new.into) so_far.1 c.in-Ok.ensures.gives.0) so_far.3
     (omega (arith, c.requires.small, c.pieces.auto.buffer, c.read.auto.into)) c.in-Refused.ensures.inside tt
 
 pub returns-in_default-clause-once : goal.returns-in_default-clause-once
@@ -76,10 +81,12 @@ pub returns-then-len-eq0-clause-once : goal.returns-then-len-eq0-clause-once
 returns-then-len-eq0-clause-once g c = search (rules, arith, once-read, quiet-inside)
 
 pub returns-in-Done-clause-once : goal.returns-in-Done-clause-once
-returns-in-Done-clause-once g c = once-read Data _ _ _ _ quiet-none c.pieces.invariant.once c.read.ensures.keeps_other c.read.ensures.opens_none c.in-Ok.ensures.cause.kept
+returns-in-Done-clause-once g c =
+    once-read Data _ _ _ _ quiet-none c.pieces.invariant.once c.read.ensures.keeps_other c.read.ensures.opens_none c.in-Ok.ensures.cause.kept
 
 pub returns-in-Refused-clause-once : goal.returns-in-Refused-clause-once
-returns-in-Refused-clause-once g c = once-read Data _ _ _ _ (quiet-inside c.in-Refused.fault c.in-Refused.ensures.inside) c.pieces.invariant.once c.read.ensures.keeps_other c.read.ensures.opens_none c.in-Ok.ensures.cause.kept
+returns-in-Refused-clause-once g c = once-read Data _ _ _ _ (quiet-inside c.in-Refused.fault c.in-Refused.ensures.inside)
+    c.pieces.invariant.once c.read.ensures.keeps_other c.read.ensures.opens_none c.in-Ok.ensures.cause.kept
 
 pub returns-in_default-clause-reason : goal.returns-in_default-clause-reason
 returns-in_default-clause-reason g c = (refl, Rose-kept _ _ _ (c.pieces.invariant.once.reads Data) c.in_default.ensures.cause.once)

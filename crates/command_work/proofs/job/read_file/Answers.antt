@@ -1,17 +1,19 @@
 use Rattle.std.{proofs.Common.{arith, ◌≡◌, ◌∙◌, ◌<◌, ℕ, List, [], ◌++◌, None, Some, Ok, Err, refl, sym, ap, subst, inl, inr, ⊎_elim, append_assoc, append-nil, length, ◌⊎◌, true, Result, IsErrAnd, rules}, proofs.lemmas.Result.{err_from_is_err_and, IfErr-weaker}, specs.declared.option.Option.Option}
 use Rattle.tally_base.{specs.declared.fault.Fault.Fault, specs.declared.slot.Slot.TheVariants.Data, specs.declared.header.Header.Header, specs.Faults.{is_outside, fault_in}, proofs.Reasons.{HasReason-follows, HasReason-with}}
-use Rattle.bench_io.{specs.Given.{Given, Consumes}, specs.Inputs.InputState, proofs.Givens.Consumes-trans, proofs.Bytes.AppendsShort-same}
+use Rattle.bench_io.{specs.Given.{Given, Consumes}, specs.Inputs.InputState, proofs.States.Consumes-trans, proofs.Bytes.AppendsShort-same}
 use Rattle.ptu_definitions.specs.Headers.{header_answer}
-use Rattle.command_work.{specs.Endings.{span, Span}, proofs.Pieces.{few_behind, ShowsHeader}, specs.Told.{Says, SaysNoEnd}, specs.Once.InputsOnce, specs.Outcomes.{Outcome, IsCut}, specs.Behaviours.{piece_limit, Work, Writing}, specs.Works.{AnswersWork, ReadsWork, CutsWork, WantsWork, TakesFew, LeavesWork}, specs.Pieces.{ReadReason, StopsSoon}, specs.Tellings.{Telling, HeadedGoes, Suits}, specs.Rests.{EndsText, ReadsText, CutsText, WantsMemory, ReadsRest}, proofs.Once.{Rose-kept, out-unwritten, once-behind}, proofs.Few.{few-map, few-behind}, proofs.Fronts.still}
+use Rattle.command_work.{specs.Endings.{span, Span}, proofs.Pieces.{few_behind, ShowsHeader, few-map, few-behind, still}, specs.Outcomes.{Says, SaysNoEnd, InputsOnce, Outcome, IsCut}, specs.Behaviours.{piece_limit, Work, Writing}, specs.Works.{AnswersWork, ReadsWork, CutsWork, WantsWork, TakesFew, LeavesWork}, specs.Pieces.{ReadReason, StopsSoon}, specs.Tellings.{Telling, HeadedGoes, Suits}, specs.Rests.{EndsText, ReadsText, CutsText, WantsMemory, ReadsRest}, proofs.Once.{Rose-kept, out-unwritten, once-behind}}
 use Rattle.command_work.proofs.job.read_file.Goals as goal
 
 -- a header, and what reading all data after it leaves
-module _ (work : Work) (writing : Writing (List ℕ → List ℕ)) (wanting : List ℕ → Type 0) (tells : Header → Telling) (wants : Header → Type 0) (suits : Suits work writing wanting tells wants) where
+module _ (work : Work) (writing : Writing (List ℕ → List ℕ)) (wanting : List ℕ → Type 0) (tells : Header
+    → Telling) (wants : Header → Type 0) (suits : Suits work writing wanting tells wants) where
   -- the header is cut
   cut-goes : (bytes : List ℕ) → IsCut bytes → work.goes_on bytes
   cut-goes bytes cut = suits.goes bytes (subst (HeadedGoes tells) (sym cut) refl)
 
-  module _ (start : InputState) (at : Span) (front behind : List ℕ) (header : Header) (shows : ShowsHeader front header behind) (took : Consumes (start.given Data) (at.before.given Data) front) where
+  module _ (start : InputState) (at : Span) (front behind : List ℕ) (header : Header)
+      (shows : ShowsHeader front header behind) (took : Consumes (start.given Data) (at.before.given Data) front) where
     abbrev t : Telling
     t = tells header
 
@@ -24,7 +26,8 @@ module _ (work : Work) (writing : Writing (List ℕ → List ℕ)) (wanting : Li
     ends-is : (more left : List ℕ) → work.outcome ((front ++ more) ++ left) ≡ t.ends ((behind ++ more) ++ left)
     ends-is more left = search (rules, arith, append_assoc)
 
-    answers : (r : Result (Unit {0}) Fault) → IsErrAnd r (λ fault. is_outside fault ≡ true) ⊎ EndsText t [] behind (wants header) at (fault_in r) → AnswersWork work (start.given Data) (at.after.given Data) at.old at.new r
+    answers : (r : Result (Unit {0}) Fault) → IsErrAnd r (λ fault. is_outside fault ≡ true) ⊎ EndsText t [] behind (wants header) at (fault_in r)
+        → AnswersWork work (start.given Data) (at.after.given Data) at.old at.new r
     answers r (inl outside) = inl outside
     answers r (inr h) = inr (record {
       taken = front ++ h.taken;
@@ -37,7 +40,8 @@ module _ (work : Work) (writing : Writing (List ℕ → List ℕ)) (wanting : Li
     goes : (more : List ℕ) → t.refuses (behind ++ more) ≡ None → work.goes_on (front ++ more)
     goes more none = suits.goes (front ++ more) (subst (HeadedGoes tells) (sym (shows more)) none)
 
-    reads : SaysNoEnd (start.given Data) (at.before.given Data) → ReadsText t [] behind (wants header) at → ReadsWork writing work (start.given Data) (at.after.given Data) at.old at.new
+    reads : SaysNoEnd (start.given Data) (at.before.given Data) → ReadsText t [] behind (wants header) at
+        → ReadsWork writing work (start.given Data) (at.after.given Data) at.old at.new
     reads on h = search (rules, arith, taken)
 
     cuts : CutsText t [] behind (wants header) at → CutsWork writing work (start.given Data) (at.after.given Data) at.old at.new
@@ -54,7 +58,8 @@ module _ (work : Work) (writing : Writing (List ℕ → List ℕ)) (wanting : Li
       keeps = h.keeps;
       taken = front;
       consumes = subst (λ (now : Given). Consumes (start.given Data) now front) (sym h.same) took;
-      wants = suits.wanting front behind header (ap header_answer (sym (append-nil front)) ∙ shows [] ∙ ap (λ l. Ok (header, l)) (append-nil behind)) h.wants few;
+      wants = suits.wanting front behind header
+          (ap header_answer (sym (append-nil front)) ∙ shows [] ∙ ap (λ l. Ok (header, l)) (append-nil behind)) h.wants few;
     }
 
     -- the rest was read
@@ -67,8 +72,10 @@ module _ (work : Work) (writing : Writing (List ℕ → List ℕ)) (wanting : Li
           rest.reason;
       once = record { inputs = once-behind _ _ _ _ once rest.once.inputs; out = rest.once.out };
       few = ⊎_elim
-          (λ (same : at.after.given Data ≡ at.before.given Data). subst (λ (left : Given). TakesFew work.goes_on (start.given Data) left) (sym same) (few-map IsCut work.goes_on _ _ cut-goes few))
-          (λ (h : TakesFew (λ more. t.refuses (behind ++ more) ≡ None) (at.before.given Data) (at.after.given Data)). few-behind _ work.goes_on front _ _ _ took goes h)
+          (λ (same : at.after.given Data ≡ at.before.given Data). subst
+          (λ (left : Given). TakesFew work.goes_on (start.given Data) left) (sym same) (few-map IsCut work.goes_on _ _ cut-goes few))
+          (λ (h : TakesFew (λ more. t.refuses (behind ++ more) ≡ None) (at.before.given Data) (at.after.given Data)).
+          few-behind _ work.goes_on front _ _ _ took goes h)
           rest.few;
     }
 
@@ -80,7 +87,8 @@ module _ (work : Work) (writing : Writing (List ℕ → List ℕ)) (wanting : Li
     unheaded front fault took (inl outside) = inl outside
     unheaded front fault took (inr says) = search (rules, arith, taken)
 
-    cut-reads : (front : List ℕ) → Consumes (before.given Data) (after.given Data) front → IsCut front → SaysNoEnd (before.given Data) (after.given Data) → ReadsWork writing work (before.given Data) (after.given Data) a a
+    cut-reads : (front : List ℕ) → Consumes (before.given Data) (after.given Data) front → IsCut front
+        → SaysNoEnd (before.given Data) (after.given Data) → ReadsWork writing work (before.given Data) (after.given Data) a a
     cut-reads front took cut on = search (rules, arith, taken)
 
     -- there is no header
@@ -88,7 +96,8 @@ module _ (work : Work) (writing : Writing (List ℕ → List ℕ)) (wanting : Li
         → LeavesWork writing wanting work unwritten (Err fault)
     leaves-unheaded front fault took answer reason once stops = record {
       answer = unheaded front fault took answer;
-      reason = HasReason-follows _ _ _ _ _ _ _ _ fault (λ slot no. no) (λ slot h. (h.0.0, h.0.1, cut-reads h.1.0 h.1.1 h.1.2 h.1.3)) (λ no. absurd no) (λ no. absurd no)
+      reason = HasReason-follows _ _ _ _ _ _ _ _ fault (λ slot no. no)
+          (λ slot h. (h.0.0, h.0.1, cut-reads h.1.0 h.1.1 h.1.2 h.1.3)) (λ no. absurd no) (λ no. absurd no)
           (HasReason-with _ _ _ _ _ fault stops.unread reason);
       once = record { inputs = once; out = out-unwritten _ _ _ fault _ reason };
       few = few-map IsCut work.goes_on _ _ cut-goes stops.few;
@@ -98,12 +107,15 @@ pub returns-in_err-found-clause-leaves : goal.returns-in_err-found-clause-leaves
 returns-in_err-found-clause-leaves g c =
     let front = c.in_err-found.ensures.answer in
     let p = err_from_is_err_and c.from_residual.result c.from_residual.ensures.1 in
-    rw (p.1, p.2) (leaves-unheaded _ _ _ _ _ (g.met.J.Job.law c.args.job.now) _ _ _ _ front.0 c.in_err-found.field-0.0 front.1 front.2 c.in_err-found.ensures.reason c.in_err-found.ensures.once c.in_err-found.ensures.stops)
+    rw (p.1, p.2) (leaves-unheaded _ _ _ _ _ (g.met.J.Job.law c.args.job.now) _ _ _ _ front.0 c.in_err-found.field-0.0
+    front.1 front.2 c.in_err-found.ensures.reason c.in_err-found.ensures.once c.in_err-found.ensures.stops)
 
 pub returns-clause-leaves : goal.returns-clause-leaves
 returns-clause-leaves g c =
     let front = c.in_ok-found.ensures.answer in
     let found = c.in_ok-found.found in
     let part = c.in_ok-found.ensures.part in
-    leaves-rest _ _ _ _ _ (g.met.J.Job.law c.args.job.now) _ (span g.I.Inputs g.O.Sink c.read_header.new.inputs c.read_after.new.inputs c.args.out.now c.read_after.new.out) front.0 _ found.header front.2 front.1 c.read_after.result
-    (few_behind c.read_header.new.buffer found.used found.len 8192 (omega arith) part.ended part.order part.within) c.in_ok-found.ensures.once c.in_ok-found.ensures.stops.few c.in_ok-found.ensures.stops.done c.read_after.ensures.rest
+    leaves-rest _ _ _ _ _ (g.met.J.Job.law c.args.job.now) _ (span g.I.Inputs g.O.Sink c.read_header.new.inputs
+    c.read_after.new.inputs c.args.out.now c.read_after.new.out) front.0 _ found.header front.2 front.1 c.read_after.result
+    (few_behind c.read_header.new.buffer found.used found.len 8192 (omega arith) part.ended part.order part.within)
+    c.in_ok-found.ensures.once c.in_ok-found.ensures.stops.few c.in_ok-found.ensures.stops.done c.read_after.ensures.rest

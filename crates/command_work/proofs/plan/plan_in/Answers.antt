@@ -1,7 +1,7 @@
 use Rattle.std.{proofs.Common.{◌+◌, rules, None, take, arith, sym, ap, ◌∙◌}, proofs.lemmas.Result.{err_from_is_err_and}, proofs.lemmas.List.length-take-le}
 use Rattle.tally_base.specs.declared.slot.Slot.TheVariants.{Plan as PlanSlot}
 use Rattle.plan_text.specs.Reading.{text_limit}
-use Rattle.command_work.{proofs.Plans.{uses-read, plan_told, plan-reasons, plan-quiet, ended_short}, proofs.Told.{all-taken, none-ended}, proofs.Once.{quiet-none, once-refl, once-none, once-behind, once-opened, once-unopened}}
+use Rattle.command_work.{proofs.PlanTold.{uses-read, plan_told, plan-reasons, plan-quiet, ended_short}, proofs.Told.{all-taken, none-ended}, proofs.Once.{quiet-none, once-refl, once-none, once-behind, once-opened, once-unopened}}
 use Rattle.command_work.proofs.plan.plan_in.Goals as goal
 
 pub returns-in-Err-clause-uses : goal.returns-in-Err-clause-uses
@@ -17,7 +17,8 @@ pub returns-clause-answer : goal.returns-clause-answer
 returns-clause-answer g c =
     let after = g.I.Inputs.state c.read_text.new.inputs in
     plan_told after ((g.I.Inputs.state c.open.new.self).given PlanSlot) (take c.in_ok-len.len c.read_text.new.text) c.read_plan.result c.in-Ok.ensures.given (ap (λ f. f PlanSlot) c.read_text.ensures.reads.opens_none.opened ∙ c.in-Ok.ensures.opened) c.in_ok-len.ensures.filled.taken
-    (ended_short (text_limit + 1) c.in_ok-len.len c.read_text.new.text (after.given PlanSlot) (Prim.search rules) c.in_ok-len.ensures.filled.room c.in_ok-len.ensures.filled.ended)
+    (ended_short (text_limit + 1) c.in_ok-len.len c.read_text.new.text (after.given PlanSlot)
+    (Prim.search rules) c.in_ok-len.ensures.filled.room c.in_ok-len.ensures.filled.ended)
     c.read_plan.ensures.answer
 
 pub returns-clause-reason : goal.returns-clause-reason
@@ -36,12 +37,14 @@ pub returns-clause-takes : goal.returns-clause-takes
 returns-clause-takes g c = search (rules, arith, length-take-le, all-taken)
 
 pub returns-in-Err-clause-once : goal.returns-in-Err-clause-once
-returns-in-Err-clause-once g c = once-unopened PlanSlot _ _ _ (once-refl _ None quiet-none) c.in-Err.ensures.keeps_other c.open.ensures.reads c.in-Err.ensures.cause.once
+returns-in-Err-clause-once g c =
+    once-unopened PlanSlot _ _ _ (once-refl _ None quiet-none) c.in-Err.ensures.keeps_other c.open.ensures.reads c.in-Err.ensures.cause.once
 
 pub returns-in_err-len-clause-once : goal.returns-in_err-len-clause-once
 returns-in_err-len-clause-once g c =
     let p = err_from_is_err_and c.from_residual.result c.from_residual.ensures.1 in
-    rw (p.1, p.2) (once-behind _ _ _ _ (once-opened PlanSlot _ _ _ (once-refl _ None quiet-none) c.in-Ok.ensures.keeps_other c.open.ensures.reads c.in-Ok.ensures.cause.kept) c.in_err-len.ensures.once)
+    rw (p.1, p.2) (once-behind _ _ _ _ (once-opened PlanSlot _ _ _
+    (once-refl _ None quiet-none) c.in-Ok.ensures.keeps_other c.open.ensures.reads c.in-Ok.ensures.cause.kept) c.in_err-len.ensures.once)
 
 pub returns-clause-once : goal.returns-clause-once
 returns-clause-once g c = once-none _ _ _ (plan-quiet c.read_plan.result c.read_plan.ensures.inside) (once-behind _ _ _ None (once-opened PlanSlot _ _ _ (once-refl _ None quiet-none) c.in-Ok.ensures.keeps_other c.open.ensures.reads c.in-Ok.ensures.cause.kept) c.in_ok-len.ensures.once)

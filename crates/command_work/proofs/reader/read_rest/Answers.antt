@@ -15,7 +15,8 @@ pieces-preserved g c =
     let inv = c.pieces.invariant in
     let taken = inv.so_far.0 in
     record {
-      reads = OnlyReads-trans _ _ _ _ inv.reads (record { keeps = c.read.ensures.keeps; keeps_other = c.read.ensures.keeps_other; opens_none = c.read.ensures.opens_none });
+      reads = OnlyReads-trans _ _ _ _ inv.reads
+          (record { keeps = c.read.ensures.keeps; keeps_other = c.read.ensures.keeps_other; opens_none = c.read.ensures.opens_none });
       same = c.piece.ensures.same ∙ inv.same;
       so_far = (
         taken ++ take c.in-Ok.len c.read.new.into,
@@ -24,7 +25,8 @@ pieces-preserved g c =
               rw (← append_assoc bytes taken (take c.in-Ok.len c.read.new.into)) (c.in_ok-piece.ensures.takes (bytes ++ taken) at.0),
               so-piece ⊥ at.1 (record { other = c.read.ensures.keeps_other; none = c.read.ensures.opens_none }) c.in-Ok.len c.read.new.into
                   (omega (arith, c.requires.ready.small, c.pieces.auto.buffer, c.read.auto.into)) c.in-Ok.ensures.gives.0 c.in-Ok.ensures.cause.kept _ _
-                  (reads-on _ _ _ _ _ at.1.unended c.in-Ok.ensures.gives c.if-len-eq0.false) (rw inv.same at (c.in_ok-piece.ensures.writes (bytes ++ taken) at.0)),
+                  (reads-on _ _ _ _ _ at.1.unended c.in-Ok.ensures.gives c.if-len-eq0.false)
+                  (rw inv.same at (c.in_ok-piece.ensures.writes (bytes ++ taken) at.0)),
             ),
       );
     }
@@ -32,14 +34,16 @@ pieces-preserved g c =
 pub returns-in_default-clause-rest : goal.returns-in_default-clause-rest
 returns-in_default-clause-rest g c = λ bytes h.
     let at = c.pieces.invariant.so_far.1 bytes h in
-    rest-unread ⊥ at.1 (record { other = c.read.ensures.keeps_other; none = c.read.ensures.opens_none }) c.in_default.ensures.gives c.in_default.ensures.cause.once
+    rest-unread ⊥ at.1
+    (record { other = c.read.ensures.keeps_other; none = c.read.ensures.opens_none }) c.in_default.ensures.gives c.in_default.ensures.cause.once
 
 pub returns-then-len-eq0-clause-rest : goal.returns-then-len-eq0-clause-rest
 returns-then-len-eq0-clause-rest g c = λ bytes h.
     let inv = c.pieces.invariant in
     let at = inv.so_far.1 bytes h in
     rest-end ⊥ at.1 (record { other = c.read.ensures.keeps_other; none = c.read.ensures.opens_none }) c.in-Ok.len c.read.new.into
-    (omega (arith, c.requires.ready.small, c.pieces.auto.buffer, c.read.auto.into)) c.in-Ok.ensures.gives.0 c.in-Ok.ensures.cause.kept _ _ c.end.result (rw c.if-len-eq0.true refl)
+    (omega (arith, c.requires.ready.small, c.pieces.auto.buffer, c.read.auto.into)) c.in-Ok.ensures.gives.0 c.in-Ok.ensures.cause.kept _ _ c.end.result
+    (rw c.if-len-eq0.true refl)
     (c.in-Ok.ensures.gives.1.1 (inr (c.if-len-eq0.true, omega (arith, c.requires.ready.room, c.pieces.auto.buffer, c.read.auto.into))))
     (rw inv.same at (c.end.ensures (bytes ++ inv.so_far.0) at.0))
 
@@ -50,7 +54,8 @@ returns-in_err-piece-clause-rest g c = λ bytes h.
     let p = err_from_is_err_and c.from_residual.result c.from_residual.ensures.1 in
     rw (p.1, p.2)
     (rest-piece ⊥ at.1 (record { other = c.read.ensures.keeps_other; none = c.read.ensures.opens_none }) c.in-Ok.len c.read.new.into
-    (omega (arith, c.requires.ready.small, c.pieces.auto.buffer, c.read.auto.into)) c.in-Ok.ensures.gives.0 c.in-Ok.ensures.cause.kept _ _ c.in_err-piece.field-0.0
+    (omega (arith, c.requires.ready.small, c.pieces.auto.buffer, c.read.auto.into))
+    c.in-Ok.ensures.gives.0 c.in-Ok.ensures.cause.kept _ _ c.in_err-piece.field-0.0
     (rw inv.same at (c.in_err-piece.ensures.writes (bytes ++ inv.so_far.0) at.0)))
 
 pub piece-requires : goal.piece-requires

@@ -2,7 +2,7 @@ use Rattle.std.{proofs.Common.{ℕ, List, refl, sym, ap, ◌∙◌, subst, inl},
 use Rattle.tally_base.specs.declared.slot.Slot.TheVariants.{Data}
 use Rattle.bench_io.{specs.Inputs.{File, IsOpened}, proofs.Bytes.{Appends-nil, Keeps-from_none}}
 use Rattle.plan_text.specs.Reading.{plan_view}
-use Rattle.command_work.{specs.Endings.{Span, HasCauses}, proofs.PlanTold.{has-plan, has-later, none-lacking, names-later, takes-later, answers-unplanned, unplanned-causes, answers-lacking, lacking-causes, plan-answers, plan-causes, plan-files}, proofs.WorkTold.few-told, proofs.Once.{Rose-kept, quiet-inside, out-inside, out-unwritten, once-none, once-behind, once-opened, once-unopened}}
+use Rattle.command_work.{specs.Endings.{Span, HasCauses}, proofs.PlanTold.{has-plan, has-later, none-lacking, names-later, takes-later, answers-unplanned, unplanned-causes, answers-lacking, lacking-causes, plan-answers, plan-causes, plan-files}, proofs.Told.few-told, proofs.Once.{Rose-kept, quiet-inside, out-inside, out-unwritten, once-none, once-behind, once-opened, once-unopened}}
 use Rattle.command_work.proofs.work.by_plan.Goals as goal
 
 pub returns-in_err-plan : goal.returns-in_err-plan
@@ -14,11 +14,13 @@ returns-in_err-plan g c =
     let fault = c.in_err-plan.field-0.0 in
     let p = err_from_is_err_and c.from_residual.result c.from_residual.ensures.1 in
     rw (p.1, p.2) (record {
-      answer = answers-unplanned c.args.plan_name.now c.args.data_name.now (does.writing it) does.memory (does.lacking it) (does.work it) after fault _ c.in_err-plan.ensures.answer;
+      answer = answers-unplanned c.args.plan_name.now c.args.data_name.now (does.writing it) does.memory
+          (does.lacking it) (does.work it) after fault _ c.in_err-plan.ensures.answer;
       causes = unplanned-causes c.args.plan_name.now c.args.data_name.now (does.writing it) does.memory (does.lacking it) (does.work it) before after _ _ fault c.plan_of.ensures.uses.keeps_other (c.requires.first Data) c.in_err-plan.ensures.reason;
       asks = (c.plan_of.ensures.takes, λ asked. let same = c.plan_of.ensures.uses.keeps_other.asked in let first = c.requires.first Data in cc, g.met.I.Inputs.asked_first c.plan_of.new.inputs Data);
       once = record { inputs = c.in_err-plan.ensures.once; out = out-unwritten _ _ _ fault _ c.in_err-plan.ensures.reason };
-      files = plan-files c.args.plan_name.now c.args.data_name.now (does.writing it) does.memory (does.lacking it) (does.work it) before after c.plan_of.ensures.names
+      files = plan-files c.args.plan_name.now c.args.data_name.now (does.writing it) does.memory
+          (does.lacking it) (does.work it) before after c.plan_of.ensures.names
           (λ opened.
           let asked = g.met.I.Inputs.asked_first c.plan_of.new.inputs Data opened in
           let same = c.plan_of.ensures.uses.keeps_other.asked in
@@ -35,10 +37,12 @@ returns-in-Some g c =
     let does = g.W.PlanWork in
     record {
       answer = answers-lacking c.args.plan_name.now c.args.data_name.now (does.writing it) does.memory (does.lacking it) (does.work it) after c.in_ok-plan.plan c.in-Some.fault _ c.in_ok-plan.ensures.answer (sym c.in-Some.ensures.answer);
-      causes = lacking-causes c.args.plan_name.now c.args.data_name.now (does.writing it) does.memory (does.lacking it) (does.work it) _ c.in-Some.fault c.in-Some.ensures.inside;
+      causes = lacking-causes c.args.plan_name.now c.args.data_name.now (does.writing it) does.memory
+          (does.lacking it) (does.work it) _ c.in-Some.fault c.in-Some.ensures.inside;
       asks = (c.plan_of.ensures.takes, λ asked. let same = c.plan_of.ensures.uses.keeps_other.asked in let first = c.requires.first Data in cc, g.met.I.Inputs.asked_first c.plan_of.new.inputs Data);
       once = record { inputs = once-none _ _ _ (quiet-inside c.in-Some.fault c.in-Some.ensures.inside) c.in_ok-plan.ensures.once; out = out-inside c.in-Some.fault _ _ c.in-Some.ensures.inside refl };
-      files = plan-files c.args.plan_name.now c.args.data_name.now (does.writing it) does.memory (does.lacking it) (does.work it) before after c.plan_of.ensures.names
+      files = plan-files c.args.plan_name.now c.args.data_name.now (does.writing it) does.memory
+          (does.lacking it) (does.work it) before after c.plan_of.ensures.names
           (λ opened.
           let asked = g.met.I.Inputs.asked_first c.plan_of.new.inputs Data opened in
           let same = c.plan_of.ensures.uses.keeps_other.asked in
@@ -92,8 +96,10 @@ returns-in-Ok g c =
     let it = c.args.work.now in
     let does = g.W.PlanWork in
     let view = plan_view c.in_ok-plan.plan in
-    let has_read = has-plan planned (does.lacking it) c.in_ok-plan.plan c.in_ok-plan.ensures.answer (none-lacking _ c.lacks.result c.lacks.ensures.answer c.in_default.not-Some) in
-    let has = has-later opened after (does.lacking it) view c.read.ensures.reads.keeps_other (has-later planned opened (does.lacking it) view c.open.ensures.keeps_other has_read) in
+    let has_read = has-plan planned (does.lacking it) c.in_ok-plan.plan c.in_ok-plan.ensures.answer
+    (none-lacking _ c.lacks.result c.lacks.ensures.answer c.in_default.not-Some) in
+    let has = has-later opened after (does.lacking it) view c.read.ensures.reads.keeps_other
+    (has-later planned opened (does.lacking it) view c.open.ensures.keeps_other has_read) in
     let is_open = ap (λ f. f Data) c.read.ensures.reads.opens_none.opened ∙ c.in-Ok.ensures.opened in
     let span : Span = record {
       before = opened;
@@ -104,7 +110,8 @@ returns-in-Ok g c =
       faults_after = g.O.Sink.faults c.read.new.out;
     } in
     record {
-      answer = plan-answers c.args.plan_name.now c.args.data_name.now (does.writing it) does.memory (does.lacking it) (does.work it) after view _ _ _ c.read.result has c.in-Ok.ensures.given is_open c.read.ensures.leaves.answer;
+      answer = plan-answers c.args.plan_name.now c.args.data_name.now (does.writing it) does.memory (does.lacking it)
+          (does.work it) after view _ _ _ c.read.result has c.in-Ok.ensures.given is_open c.read.ensures.leaves.answer;
       causes = IfErr-weaker c.read.result _ _
           (λ fault h. plan-causes c.args.plan_name.now c.args.data_name.now (does.writing it) does.memory (does.lacking it) (does.work it) view before span fault has c.in-Ok.ensures.given is_open
           (once-opened Data before planned opened c.in_ok-plan.ensures.once c.open.ensures.keeps_other c.open.ensures.reads c.in-Ok.ensures.cause.kept) h)
@@ -115,11 +122,13 @@ returns-in-Ok g c =
         g.met.I.Inputs.asked_first c.read.new.inputs Data,
       );
       once = record {
-        inputs = once-behind before opened _ _ (once-opened Data before planned opened c.in_ok-plan.ensures.once c.open.ensures.keeps_other c.open.ensures.reads c.in-Ok.ensures.cause.kept) c.read.ensures.leaves.once.inputs;
+        inputs = once-behind before opened _ _ (once-opened Data before planned opened c.in_ok-plan.ensures.once
+            c.open.ensures.keeps_other c.open.ensures.reads c.in-Ok.ensures.cause.kept) c.read.ensures.leaves.once.inputs;
         out = c.read.ensures.leaves.once.out;
       };
       files = plan-files c.args.plan_name.now c.args.data_name.now (does.writing it) does.memory (does.lacking it) (does.work it) before after
-          (names-later before opened after c.args.plan_name.now (names-later before planned opened c.args.plan_name.now c.plan_of.ensures.names c.open.ensures.keeps_other) c.read.ensures.reads.keeps_other)
+          (names-later before opened after c.args.plan_name.now
+          (names-later before planned opened c.args.plan_name.now c.plan_of.ensures.names c.open.ensures.keeps_other) c.read.ensures.reads.keeps_other)
           (λ was. subst (λ (told : Option (List ℕ)). IsOpened (before.contents c.args.data_name.now) told) (sym (ap (λ f. f Data) c.read.ensures.reads.opens_none.told))
           (subst (λ (contents : Option File). IsOpened contents (opened.told Data)) (ap (λ f. f c.args.data_name.now) c.plan_of.ensures.uses.keeps.contents) c.in-Ok.ensures.file))
           (g.met.I.Inputs.agrees c.read.new.inputs);

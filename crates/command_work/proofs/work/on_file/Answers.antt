@@ -1,7 +1,7 @@
 use Rattle.std.{proofs.Common.{ℕ, List, None, refl, sym, ap, ◌∙◌, subst, inl}, specs.declared.option.Option.Option, proofs.lemmas.Result.IfErr-weaker}
 use Rattle.tally_base.specs.declared.slot.Slot.TheVariants.{Plan, Data}
 use Rattle.bench_io.{specs.Inputs.IsOpened, proofs.Bytes.{Appends-nil, Keeps-from_none}}
-use Rattle.command_work.{specs.Endings.{Span, HasCauses}, proofs.WorkTold.{told-is-its, file-answers, file-causes, few-told}, proofs.Once.{quiet-none, once-refl, once-behind, once-opened, once-unopened}}
+use Rattle.command_work.{specs.Endings.{Span, HasCauses}, proofs.Told.{told-is-its, file-answers, file-causes, few-told}, proofs.Once.{quiet-none, once-refl, once-behind, once-opened, once-unopened}}
 use Rattle.command_work.proofs.work.on_file.Goals as goal
 
 pub returns-in-Err : goal.returns-in-Err
@@ -52,6 +52,7 @@ returns-in-Ok g c =
         out = c.read.ensures.leaves.once.out;
       };
       files = λ file. told-is-its (before.contents c.args.file.now) after Data file
-          (λ o. subst (λ (told : Option (List ℕ)). IsOpened (before.contents c.args.file.now) told) (sym (ap (λ f. f Data) c.read.ensures.reads.opens_none.told)) c.in-Ok.ensures.file)
+          (λ o. subst (λ (told : Option (List ℕ)). IsOpened (before.contents c.args.file.now) told)
+          (sym (ap (λ f. f Data) c.read.ensures.reads.opens_none.told)) c.in-Ok.ensures.file)
           (g.met.I.Inputs.agrees c.read.new.inputs Data);
     }

@@ -21,7 +21,8 @@ loop-at-preserved c =
       | then-time-own w ↦
           let lt : time < set.origin = rw is_time at w.if-time-own.true in
           rw (w.cells-is, w.bin-is, w.rest-is) (record {
-            each = λ n inside. omega (arith, inv.each n inside, bin-row set n b at, early_none set.origin time (one_at set b at) ((time - set.origin) / set.width == n) lt);
+            each = λ n inside. omega
+                (arith, inv.each n inside, bin-row set n b at, early_none set.origin time (one_at set b at) ((time - set.origin) / set.width == n) lt);
             early = omega (arith, inv.early, before, early_one set.origin time (one_at set b at) lt, is_more);
             late = omega (arith, inv.late, beyond, early_none set.origin time (one_at set b at) (nat_le set.bins ((time - set.origin) / set.width)) lt);
             few = omega (arith, inv.few, is_more, one);
@@ -33,12 +34,14 @@ loop-at-preserved c =
           let put = w.put.ensures in
           rw (w.cells-is, w.bin-is, w.rest-is) (record {
             each = λ n inside.
-                let added : (if w.of-bin.result.index == n then more else 0) ≡ (if (time - set.origin) / set.width == n then one_at set b at else 0) = rw (is_bin, is_more) refl in
+                let added : (if w.of-bin.result.index == n then more else 0) ≡ (if (time - set.origin) / set.width == n then one_at set b at else 0) =
+                rw (is_bin, is_more) refl in
                 let here : n < length c.loop-at.cells = omega (arith, same, inside) in
                 omega (arith, put.cells n here, inv.each n inside, bin-row set n b at, late_one set.origin time (one_at set b at) ((time - set.origin) / set.width == n) le, added);
             early = omega (arith, inv.early, before, late_none set.origin time (one_at set b at) le);
             late =
-                let added : (if nat_le (length c.loop-at.cells) w.of-bin.result.index then more else 0) ≡ (if nat_le set.bins ((time - set.origin) / set.width) then one_at set b at else 0) = rw (same, is_bin, is_more) refl in
+                let added : (if nat_le (length c.loop-at.cells) w.of-bin.result.index then more else 0) ≡
+                (if nat_le set.bins ((time - set.origin) / set.width) then one_at set b at else 0) = rw (same, is_bin, is_more) refl in
                 omega (arith, put.rest, inv.late, beyond, late_one set.origin time (one_at set b at) (nat_le set.bins ((time - set.origin) / set.width)) le, added);
             few = omega (arith, put.sum, inv.few, is_more, one);
             edge = w.of-bin.ensures.low;

@@ -1,7 +1,7 @@
 use Rattle.std.proofs.Common.{rules, arith, ◌<◌, length}
 use Rattle.tally_base.specs.Columns.{gathered, events_in}
 use Rattle.plan_parts.specs.contracts.part.PartTally.TheImpl.{ghosts}
-use Rattle.fed_parts.{proofs.OneByOne.{given_more, left_more}, specs.Tables.HasTaken}
+use Rattle.fed_parts.{proofs.OneByOne.{given_more, left_more}, specs.Give.HasTaken}
 use Rattle.fed_parts.proofs.give.give_all.Goals as goal
 
 pub loop-part-preserved : goal.loop-part-preserved

@@ -1,7 +1,7 @@
 use Rattle.std.proofs.Common.{ℕ, ◌≡◌, ◌<◌, ◌≤◌, get_or}
 use Rattle.tally_base.specs.Columns.{gathered, events_in}
 use Rattle.plan_parts.{specs.contracts.part.PartTally.TheImpl.ghosts, specs.declared.part.Part.Part}
-use Rattle.fed_parts.specs.Tables.{HasTaken}
+use Rattle.fed_parts.specs.Give.{HasTaken}
 use Rattle.fed_parts.proofs.give.give_all.Given as goal
 
 abbrev pub invariant-loop-part : goal.invariant-loop-part

@@ -2,11 +2,12 @@ use Rattle.std.proofs.Common.{refl}
 use Rattle.tally_base.specs.Columns.{gathered}
 use Rattle.gate_plan.specs.Groups.{sorting_of}
 use Rattle.plan_parts.specs.contracts.part.PartTally.TheImpl.{ghosts}
-use Rattle.fed_parts.{proofs.Aheads.at_none, proofs.Takes.{moves_all, moves_none}}
+use Rattle.fed_parts.{proofs.OneByOne.at_none, proofs.Takes.{moves_all, moves_none}}
 use Rattle.fed_parts.proofs.give.make_room.Goals as goal
 
 pub returns-then-len-eq-BLOCK_SIZE-clause-moves : goal.returns-then-len-eq-BLOCK_SIZE-clause-moves
-returns-then-len-eq-BLOCK_SIZE-clause-moves g c = λ k d within. moves_all ghosts (sorting_of c.args.gates.now) (gathered c.args.block.now) (gathered c.flush.new.block) _ _ c.flush.ensures.given.empty (c.flush.ensures.took k d within)
+returns-then-len-eq-BLOCK_SIZE-clause-moves g c = λ k d within. moves_all ghosts (sorting_of c.args.gates.now)
+    (gathered c.args.block.now) (gathered c.flush.new.block) _ _ c.flush.ensures.given.empty (c.flush.ensures.took k d within)
 
 pub returns-then-len-eq-BLOCK_SIZE-clause-stands : goal.returns-then-len-eq-BLOCK_SIZE-clause-stands
 returns-then-len-eq-BLOCK_SIZE-clause-stands g c = at_none c.args.mode c.flush.new.reached c.flush.new.block _ _ c.flush.ensures.given

@@ -1,34 +1,24 @@
-use Rattle.std.proofs.Common.{◌≡◌, ◌∙◌, ap, arith, length, ◌<◌, rules, List, [], ◌++◌, sym, append-nil, length-append}
-use Rattle.tally_base.{specs.Columns.gathered, specs.Floors.floor_after, specs.declared.event.Event.Event, specs.declared.tally.Tally.Ghosts, specs.Settings.is_strict, proofs.Floors.{floor-append, order-parts}}
+use Rattle.std.proofs.Common.{◌≡◌, ◌∙◌, ap, arith, length, ◌<◌, rules, List, [], ◌++◌, append-nil, length-append}
+use Rattle.tally_base.{specs.Columns.gathered, specs.Tally.floor_after, specs.declared.event.Event.Event, specs.declared.tally.Tally.Ghosts, proofs.Floors.{floor-append, order-parts}}
 use Rattle.gate_plan.{specs.Groups.sorting_of, specs.Shifting.Sorting, specs.Histories.with_groups}
 use Rattle.abs_time.specs.Floors.{orders_markers}
 use Rattle.plan_parts.specs.contracts.part.PartTally.TheImpl.{ghosts}
-use Rattle.fed_parts.{specs.Give.Moves, specs.Tables.{MayTake, HasTaken}}
+use Rattle.fed_parts.specs.Give.{Moves, MayTake, HasTaken}
 use Rattle.fed_parts.proofs.waiting.give_behind.Goals as goal
 
 -- a block more for all tables, behind events that wait
 module _ {T : Type 0} (g : Ghosts T) where
   can_parts : (es more : List Event) (t : T) → MayTake g (es ++ more) t → MayTake g es t
-  can_parts es more t can = record { open' = can.open'; room = omega (arith, can.room, length-append es more); in_order = (order-parts (is_strict (g.settings t)) (g.floor t) es more can.in_order).0 }
+  can_parts es more t can = search (rules, arith, length-append, order-parts)
 
   -- the rest, once the front was given
   can_rest : (es more : List Event) (given : _) (old new : T) → MayTake g (es ++ more) old → HasTaken g es given old new → MayTake g more new
-  can_rest es more given old new can took = record {
-    open' = took.still_open;
-    room = omega (arith, can.room, took.count, length-append es more);
-    in_order = rw (took.same_settings, took.moved) (order-parts (is_strict (g.settings old)) (g.floor old) es more can.in_order).1;
-  }
+  can_rest es more given old new can took = search (rules, arith, length-append, order-parts)
 
   -- what waited was given, and then the block
-  moves_two : (by : Sorting) (es more none : List Event) (old mid new : T) → none ≡ [] → HasTaken g es (with_groups by es) old mid → HasTaken g more (with_groups by more) mid new → Moves g by es none more old new
-  moves_two by es more none old mid new empty first second = rw empty (record {
-    follows = λ h held. (h ++ with_groups by more, sym (append-nil (h ++ with_groups by more)), second.follows h (rw held.1 (first.follows held.0 held.2)));
-    still_open = second.still_open;
-    count = omega (arith, first.count, second.count, length-append es more);
-    moved = second.moved ∙ rw (first.same_settings, first.moved) (sym (floor-append (is_strict (g.settings old)) (g.floor old) es more));
-    in_order = tt;
-    same_settings = second.same_settings ∙ first.same_settings;
-  })
+  moves_two : (by : Sorting) (es more none : List Event) (old mid new : T) → none ≡ [] → HasTaken g es (with_groups by es) old mid
+      → HasTaken g more (with_groups by more) mid new → Moves g by es none more old new
+  moves_two by es more none old mid new empty first second = search (rules, arith, append-nil, length-append, floor-append)
 
 pub flush_waiting-requires : goal.flush_waiting-requires
 flush_waiting-requires g c = record {
@@ -57,7 +47,8 @@ returns g c =
     record {
       moves = λ k d within.
           let inside : k < length c.flush_waiting.new.parts = omega (arith, same, within) in
-          moves_two ghosts (sorting_of c.args.gates.now) (gathered c.args.block.now) (gathered c.args.more.now) (gathered c.flush_waiting.new.block) _ _ _ given.empty (waiting.took k d within) (c.flush.ensures.took k d inside);
+          moves_two ghosts (sorting_of c.args.gates.now) (gathered c.args.block.now) (gathered c.args.more.now)
+          (gathered c.flush_waiting.new.block) _ _ _ given.empty (waiting.took k d within) (c.flush.ensures.took k d inside);
       given = record {
         empty = given.empty;
         taken = omega (arith, c.flush.ensures.given.taken, given.taken);

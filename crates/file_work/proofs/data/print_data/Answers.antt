@@ -1,8 +1,8 @@
 use Rattle.std.proofs.Common.{◌≡◌, length, rules, ◌++◌, [], take, refl, sym, ap, ◌∙◌, append-nil, arith, inr}
-use Rattle.bench_io.{proofs.Bytes.{Appends-nil, Appends-same}, proofs.Givens.{Consumes-nil, Consumes-kept, Consumes-trans}, proofs.States.{OnlyReads-refl, OnlyReads-trans}}
+use Rattle.bench_io.{proofs.Bytes.{Appends-nil, Appends-same}, proofs.States.{Consumes-nil, Consumes-kept, Consumes-trans, OnlyReads-refl, OnlyReads-trans}}
 use Rattle.list_out.{specs.HeaderText.header_text, proofs.StepTexts.header_text-nil}
-use Rattle.command_work.{proofs.Pieces.IsCut-nil, specs.Outcomes.IsCut, proofs.Told.{Says-at_end, Says-shown, reads-on, fails-on}, proofs.Few.{few-none, few-piece}, proofs.Once.{quiet-none, quiet-write, quiet-inside, out-inside, once-refl, once-read, once-unread, Rose-kept}}
-use Rattle.file_work.{proofs.HeaderEnds.{text-appended, text-cut, outcome-done, outcome-refused, outcome-ended}, specs.FileOutcomes.header_outcome}
+use Rattle.command_work.{proofs.Pieces.{IsCut-nil, few-none, few-piece}, specs.Outcomes.IsCut, proofs.Told.{Says-at_end, Says-shown, reads-on, fails-on}, proofs.Once.{quiet-none, quiet-write, quiet-inside, out-inside, once-refl, once-read, once-unread, Rose-kept}}
+use Rattle.file_work.{proofs.Ends.{text-appended, text-cut, outcome-done, outcome-refused, outcome-ended}, specs.FileOutcomes.header_outcome}
 use Rattle.tally_base.specs.declared.slot.Slot.TheVariants.{Data}
 use Rattle.file_work.proofs.data.print_data.Goals as goal
 
@@ -37,7 +37,8 @@ pieces-preserved g c =
     let piece = take c.in-Ok.len c.read.new.into in
     let leaves = rw c.in-Ok-More.field-0-is at (c.in-Ok-More.ensures.leaves so_far.0 so_far.2) in
     record {
-      reads = OnlyReads-trans _ _ _ _ c.pieces.invariant.reads (record { keeps = c.read.ensures.keeps; keeps_other = c.read.ensures.keeps_other; opens_none = c.read.ensures.opens_none });
+      reads = OnlyReads-trans _ _ _ _ c.pieces.invariant.reads
+          (record { keeps = c.read.ensures.keeps; keeps_other = c.read.ensures.keeps_other; opens_none = c.read.ensures.opens_none });
       once = once-read Data _ _ _ _ quiet-none c.pieces.invariant.once c.read.ensures.keeps_other c.read.ensures.opens_none c.in-Ok.ensures.cause.kept;
       taken = (
         so_far.0 ++ piece,
@@ -89,7 +90,8 @@ returns-in-Ok-Refused-clause-answer g c =
       consumes = Consumes-trans _ _ _ so_far.0 piece so_far.1 c.in-Ok.ensures.gives.0;
       text = header_text (so_far.0 ++ piece);
       written = text-appended so_far.0 piece _ _ _ so_far.3 (c.in-Ok-Refused.ensures.text so_far.0 so_far.2);
-      says = Says-shown header_outcome (so_far.0 ++ piece) _ _ (λ more. outcome-refused (so_far.0 ++ piece) more c.in-Ok-Refused.fault (rw c.in-Ok-Refused.field-0-is at (c.in-Ok-Refused.ensures.leaves so_far.0 so_far.2)));
+      says = Says-shown header_outcome (so_far.0 ++ piece) _ _ (λ more. outcome-refused (so_far.0 ++ piece) more c.in-Ok-Refused.fault
+          (rw c.in-Ok-Refused.field-0-is at (c.in-Ok-Refused.ensures.leaves so_far.0 so_far.2)));
     })
 
 pub returns-in_default-clause-few : goal.returns-in_default-clause-few

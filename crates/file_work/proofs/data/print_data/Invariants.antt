@@ -3,8 +3,8 @@ use Rattle.tally_base.specs.declared.slot.Slot.TheVariants.{Data}
 use Rattle.bench_io.{specs.Given.Consumes, specs.Inputs.OnlyReads}
 use Rattle.ptu_header.specs.Reading.{bytes_taken, is_open}
 use Rattle.list_out.specs.HeaderText.{header_text}
-use Rattle.command_work.{specs.Told.SaysNoEnd, specs.Outcomes.IsCut, specs.Once.InputsOnce}
-use Rattle.file_work.specs.HeaderPrints.{Prints}
+use Rattle.command_work.specs.Outcomes.{SaysNoEnd, IsCut, InputsOnce}
+use Rattle.file_work.specs.BodyPieces.{Prints}
 use Rattle.file_work.proofs.data.print_data.Given as goal
 
 -- the text of the bytes that were taken is written
@@ -15,7 +15,8 @@ invariant-pieces g l =
     record {
       reads : OnlyReads Data (state l.initial.inputs) (state l.inputs);
       once : InputsOnce (state l.initial.inputs) (state l.inputs) None;
-      taken : (taken : List ℕ) × Consumes ((state l.initial.inputs).given Data) ((state l.inputs).given Data) taken × Prints l.printer taken × Appends (written l.initial.out) (written l.out) (header_text taken) × IsCut taken;
+      taken : (taken : List ℕ) × Consumes ((state l.initial.inputs).given Data) ((state l.inputs).given Data) taken × Prints l.printer taken × Appends
+          (written l.initial.out) (written l.out) (header_text taken) × IsCut taken;
       unended : SaysNoEnd ((state l.initial.inputs).given Data) ((state l.inputs).given Data);
       is_open : is_open l.printer.reader ≡ true;
       kept : g.O.Sink.faults l.out ≡ g.O.Sink.faults l.initial.out;

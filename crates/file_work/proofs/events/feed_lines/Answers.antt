@@ -1,5 +1,5 @@
 use Rattle.file_work.{specs.EventLines.listed_none, proofs.EventSteps.{writes_on, writes_cut}}
-use Rattle.command_work.proofs.Streams.{stays-open}
+use Rattle.command_work.proofs.RestEnds.{stays-open}
 use Rattle.file_work.proofs.events.feed_lines.Goals as goal
 
 pub returns-in-Ok-clause-writes : goal.returns-in-Ok-clause-writes

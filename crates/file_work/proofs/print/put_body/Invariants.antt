@@ -1,6 +1,6 @@
 use Rattle.std.proofs.Common.{◌≡◌, ◌++◌, List, ℕ, take}
 use Rattle.ptu_tag.specs.declared.kind.TagKind.{TagKind}
-use Rattle.list_out.specs.Body.{HasPut}
+use Rattle.list_out.specs.Lines.{HasPut}
 use Rattle.file_work.specs.BodyPieces.{PutsBody}
 use Rattle.file_work.proofs.print.put_body.Given as goal
 
@@ -10,6 +10,7 @@ invariant-loop-byte g l =
     let written = g.O.Sink.written in
     record {
       taken : (kind : TagKind) (part : List ℕ) → HasPut l.fn.text kind part → HasPut l.text kind (part ++ take l.byte-index l.bytes);
-      all : (kind : TagKind) (part : List ℕ) → HasPut l.fn.text kind part → PutsBody kind part (take l.byte-index l.bytes) (written l.initial.out) (written l.out) l.fn.block l.block;
+      all : (kind : TagKind) (part : List ℕ) → HasPut l.fn.text kind part
+          → PutsBody kind part (take l.byte-index l.bytes) (written l.initial.out) (written l.out) l.fn.block l.block;
       kept : g.O.Sink.faults l.out ≡ g.O.Sink.faults l.initial.out;
     }

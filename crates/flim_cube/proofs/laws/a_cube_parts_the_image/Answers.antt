@@ -1,14 +1,13 @@
-use Rattle.std.{proofs.Common.{◌≡◌, ◌∙◌, ℕ, ◌+◌, ◌/◌, ◌<◌, ◌≤◌, Bool, true, false, ◌&&◌, cond, eqb, ltb, [], ◌∷◌, ◌++◌, refl, arith, None, Some, sum_by, nat_le}, specs.declared.option.Option.Option, specs.List.range_with_len, proofs.lemmas.Grind.common_steps, proofs.lemmas.Bool.Decides.nat_tests}
+use Rattle.std.{proofs.Common.{◌≡◌, ◌∙◌, ℕ, ◌+◌, ◌/◌, Bool, true, false, ◌&&◌, cond, eqb, ltb, [], ◌∷◌, ◌++◌, refl, arith, None, Some, sum_by, nat_le, rules}, specs.declared.option.Option.Option, specs.List.range_with_len, proofs.lemmas.Grind.common_steps, proofs.lemmas.Bool.Decides.nat_tests}
 use Rattle.tally_base.{proofs.Sums.{sum_same, sum_plus, sum_none, in_range, behind_range}, specs.declared.event.Event.Event, specs.declared.event.EventKind.EventKind, specs.declared.event.EventKind.TheVariants.{Photon, Marker}, specs.Events.is_in, specs.Settings.CubeView, specs.Tally.History}
 use Rattle.marker_map.specs.Places.{place_of}
-use Rattle.scan_image.{specs.ImageCounts.{markers, is_at, in_cell}, specs.Totals.in_all_cells, proofs.Counts.{met-photon, met-marker}, proofs.Totals.{Inside, place-inside, by-pushes, over_pixels, pixels-agree, pixels-plus, pixels-none, met-count, cells-more}}
-use Rattle.flim_cube.{specs.CubeCounts.{is_in_cell, is_over, count_over, in_cell as in_bin}, specs.Totals.{in_pixel, in_whole_cube}}
+use Rattle.scan_image.{specs.ImageCounts.{markers, is_at, in_cell, in_all_cells}, proofs.Counts.{met-photon, met-marker}, proofs.Totals.{Inside, place-inside, by-pushes, over_pixels, pixels-agree, pixels-plus, pixels-none, met-count, cells-more}}
+use Rattle.flim_cube.specs.CubeCounts.{is_in_cell, is_over, count_over, in_cell as in_bin, in_pixel, in_whole_cube}
 use Rattle.flim_cube.proofs.laws.a_cube_parts_the_image.Goals as goal
 
 -- the bins of a cube and what is past them add up to the image
 met-bin : (bins bin more : ℕ) (inside : Bool) → ltb bin bins ≡ inside → sum_by (λ b. cond (eqb bin b) more 0) (range_with_len 0 bins) ≡ cond inside more 0
-met-bin bins bin more true is = in_range bin 0 bins more (omega arith) (let low : bin < bins = grind (arith, common_steps, is) in omega (arith, low))
-met-bin bins bin more false is = behind_range bin 0 bins more (let high : bins ≤ bin = grind (arith, common_steps, is) in omega (arith, high))
+met-bin bins bin more inside is = search (rules, arith, in_range, behind_range)
 
 -- A bin is met once in a pixel, unless it is behind the last.
 met-bins : (bins bin more : ℕ) (at : Bool) → sum_by (λ b. cond (at && eqb bin b) more 0) (range_with_len 0 bins) ≡ cond at (cond (ltb bin bins) more 0) 0
@@ -25,7 +24,8 @@ Total set h = in_whole_cube set h + count_over set h ≡ in_all_cells set.image 
 -- A photon adds to a bin or past the last what it adds to the image.
 parts : (set : CubeView) (place : Option (ℕ × ℕ)) (bin more : ℕ) → Inside set.image place → over_pixels set.image (λ x y. cond (is_at x y place) (cond (ltb bin set.dbins) more 0) 0) + cond (is_over set.dbins place bin) more 0 ≡ over_pixels set.image (λ x y. cond (is_at x y place) more 0)
 parts set None bin more inside = omega (arith, pixels-none set.image)
-parts set (Some place) bin more inside = omega (arith, met-count set.image place (cond (ltb bin set.dbins) more 0) inside, met-count set.image place more inside, in-or-over set.dbins bin more)
+parts set (Some place) bin more inside =
+    omega (arith, met-count set.image place (cond (ltb bin set.dbins) more 0) inside, met-count set.image place more inside, in-or-over set.dbins bin more)
 
 whole-more : (set : CubeView) (h later : History) (more : ℕ → ℕ → ℕ → ℕ) → ((x y b : ℕ) → in_bin set x y b later ≡ in_bin set x y b h + more x y b) → in_whole_cube set later ≡ in_whole_cube set h + over_pixels set.image (λ x y. sum_by (λ b. more x y b) (range_with_len 0 set.dbins))
 whole-more set h later more is =
@@ -40,7 +40,8 @@ total-push set h x (Photon input dtime) kind so_far =
     let whole = whole-more set h (h ++ x ∷ []) (λ column row b. cond (is_in_cell column row b place bin) more 0) (λ column row b. met-photon set.image (λ place dtime. is_in_cell column row b place (dtime / set.dwidth)) h x place input dtime more kind refl refl) in
     let bins = pixels-agree set.image (λ column row. sum_by (λ b. cond (is_in_cell column row b place bin) more 0) (range_with_len 0 set.dbins)) (λ column row. cond (is_at column row place) (cond (ltb bin set.dbins) more 0) 0) (λ column row. met-bins set.dbins bin more (is_at column row place)) in
     let over = met-photon set.image (λ place dtime. is_over set.dbins place (dtime / set.dwidth)) h x place input dtime more kind refl refl in
-    let image = cells-more set.image h (h ++ x ∷ []) (λ column row. cond (is_at column row place) more 0) (λ column row. met-photon set.image (λ place dtime. is_at column row place) h x place input dtime more kind refl refl) in
+    let image = cells-more set.image h (h ++ x ∷ []) (λ column row. cond (is_at column row place) more 0)
+    (λ column row. met-photon set.image (λ place dtime. is_at column row place) h x place input dtime more kind refl refl) in
     let part = parts set place bin more (place-inside set.image x.0.time (markers h)) in
     omega (arith, so_far, whole, bins, over, image, part)
 total-push set h x (Marker bits) kind so_far =
@@ -50,10 +51,7 @@ total-push set h x (Marker bits) kind so_far =
     omega (arith, so_far, whole, over, image)
 
 total-none : (set : CubeView) → Total set []
-total-none set =
-    let whole = pixels-agree set.image (λ x y. sum_by (λ b. 0) (range_with_len 0 set.dbins)) (λ x y. 0) (λ x y. sum_none (range_with_len 0 set.dbins)) in
-    let none = pixels-none set.image in
-    omega (arith, whole, none)
+total-none set = search (rules, arith, pixels-agree, sum_none, pixels-none)
 
 total : (set : CubeView) (h : History) → Total set h
 total set h = by-pushes (Total set) (λ h x. total-push set h x x.0.kind refl) [] h (total-none set)

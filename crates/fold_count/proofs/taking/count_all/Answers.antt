@@ -1,6 +1,6 @@
 use Rattle.std.proofs.Common.{◌+◌, ◌≤◌, length, arith}
 use Rattle.tally_base.specs.Settings.{fold_view}
-use Rattle.fold_count.{specs.Folded.{as_met, front_of}, proofs.Nested.sets_joined, proofs.Settled.counts_all, proofs.Sound.sound_later}
+use Rattle.fold_count.{specs.Folded.{as_met, front_of}, proofs.Nested.{sets_joined, sound_later}, proofs.Settled.counts_all}
 use Rattle.fold_count.proofs.taking.count_all.Goals as goal
 
 pub settle-requires-clause-held : goal.settle-requires-clause-held

@@ -1,7 +1,7 @@
 use Rattle.std.proofs.Common.{◌≡◌, ◌+◌, ◌-◌, ◌<◌, ◌≤◌, [], ◌∷◌, ◌++◌, filter, length, refl, ap, subst, rules, arith, nat_le}
 use Rattle.tally_base.specs.Settings.{fold_view}
 use Rattle.lag_ring.{specs.declared.ring.Entry.Entry, specs.Ring.Ring}
-use Rattle.fold_count.{specs.Folded.{Parted, as_met, front_of}, proofs.Nested.{joined_none, sets_joined}, proofs.Settled.parted_later, proofs.Sound.sound_later}
+use Rattle.fold_count.{specs.Folded.{Parted, as_met, front_of}, proofs.Nested.{joined_none, sets_joined, sound_later}, proofs.Settled.parted_later}
 use Rattle.fold_count.proofs.taking.open_at.Goals as goal
 
 pub settle-requires-clause-held : goal.settle-requires-clause-held

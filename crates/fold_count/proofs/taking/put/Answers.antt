@@ -12,5 +12,6 @@ returns-clause-follows c = λ h x any time met is.
     let set = fold_view c.args.set.now in
     let here = c.open_at-here.result in
     let put : Entry = record { index = here.index; a = here.a + 1; b = bit_or here.b c.args.met } in
-    parted_photon set c.open_at-here.new.cells c.open_at-here.new.ring.entries here put (front_of set here) h x refl any (time ∙ sym c.open_at-here.ensures.time) refl refl
+    parted_photon set c.open_at-here.new.cells c.open_at-here.new.ring.entries here put
+    (front_of set here) h x refl any (time ∙ sym c.open_at-here.ensures.time) refl refl
     (ap (bit_or here.b) (sym met)) c.open_at-here.ensures.sound.above (c.open_at-here.ensures.follows h is)

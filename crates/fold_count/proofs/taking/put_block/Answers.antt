@@ -1,5 +1,5 @@
 use Rattle.std.proofs.Common.{◌<◌, ◌++◌, false, rules, arith, append_assoc}
-use Rattle.tally_base.{specs.Columns.{item, event_at, rows}, specs.Floors.floor_after, proofs.BlockRows.more_rows, proofs.Floors.{floor-more, order-at}}
+use Rattle.tally_base.{specs.Columns.{item, event_at, rows}, specs.Tally.floor_after, proofs.BlockRows.more_rows, proofs.Floors.{floor-more, order-at}}
 use Rattle.fold_count.proofs.taking.put_block.Goals as goal
 
 pub put_event-last-requires-clause-in_time : goal.put_event-last-requires-clause-in_time

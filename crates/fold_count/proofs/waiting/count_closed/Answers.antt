@@ -7,7 +7,8 @@ pub count_front-requires-clause-inside : goal.count_front-requires-clause-inside
 count_front-requires-clause-inside c = search (rules, arith, all_front)
 
 pub count_front-requires-2-clause-inside : goal.count_front-requires-2-clause-inside
-count_front-requires-2-clause-inside c = rw c.count_front.ensures.same (all_back (λ e. e.b < length c.args.cells.now) c.slices.result.0.now c.slices.result.1.now (rw c.slices.ensures.entries c.requires.inside))
+count_front-requires-2-clause-inside c = rw c.count_front.ensures.same
+    (all_back (λ e. e.b < length c.args.cells.now) c.slices.result.0.now c.slices.result.1.now (rw c.slices.ensures.entries c.requires.inside))
 
 pub count_front-requires-clause-rising : goal.count_front-requires-clause-rising
 count_front-requires-clause-rising c = rising_front c.slices.result.0.now c.slices.result.1.now (rw c.slices.ensures.entries c.slices.ensures.rising)

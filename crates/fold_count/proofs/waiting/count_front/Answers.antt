@@ -7,7 +7,8 @@ pub returns-then-bin-before-clause-cells : goal.returns-then-bin-before-clause-c
 returns-then-bin-before-clause-cells c = λ s inside.
     let none : Entry = record { index = 0; a = 0; b = 0 } in
     c.loop-bin.invariant.cells s inside
-    ∙ ap (λ n. slice_index c.args.cells.now s + n) (all_before (λ e. e.b == s) c.args.before c.args.bins.now c.loop-bin.bin-index none c.requires.rising c.loop-bin-test.true c.if-bin-before.true)
+    ∙ ap (λ n. slice_index c.args.cells.now s + n)
+    (all_before (λ e. e.b == s) c.args.before c.args.bins.now c.loop-bin.bin-index none c.requires.rising c.loop-bin-test.true c.if-bin-before.true)
 
 pub returns-then-bin-before-clause-sum : goal.returns-then-bin-before-clause-sum
 returns-then-bin-before-clause-sum c =

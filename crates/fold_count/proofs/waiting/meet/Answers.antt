@@ -25,6 +25,7 @@ back-preserved c =
     let put = c.set_b.ensures.set e c.visit-bin.ensures.entry in
     record {
       few = omega (arith, c.back.invariant.few);
-      entries = ap (λ (r : Ring). r.entries) put ∙ ap (λ (es : List Entry). slice_set es (c.back.at - 1) (join groups e)) c.back.invariant.entries ∙ partly_next c.back.at groups bins e some at;
+      entries = ap (λ (r : Ring). r.entries) put ∙ ap (λ (es : List Entry). slice_set es (c.back.at - 1) (join groups e)) c.back.invariant.entries
+          ∙ partly_next c.back.at groups bins e some at;
       reach = ap (λ (r : Ring). r.reach) put ∙ c.back.invariant.reach;
     }

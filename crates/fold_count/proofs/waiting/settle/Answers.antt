@@ -25,14 +25,16 @@ pub push-requires-clause-above : goal.push-requires-clause-above
 push-requires-clause-above c =
     let bin = c.args.bin.now in
     let bins = c.args.ring.now.entries in
-    rw (c.retire.ensures.kept, c.meet.ensures.met) (below_kept c.args.before bin.index (joined bin.b bins) (below_joined bin.b bin.index bins c.requires.held.above))
+    rw (c.retire.ensures.kept, c.meet.ensures.met)
+    (below_kept c.args.before bin.index (joined bin.b bins) (below_joined bin.b bin.index bins c.requires.held.above))
 
 pub push-requires-clause-room : goal.push-requires-clause-room
 push-requires-clause-room c =
     let bin = c.args.bin.now in
     let bins = c.args.ring.now.entries in
     let rising = rw (c.retire.ensures.kept, c.meet.ensures.met) at c.retire.ensures.rising in
-    let few = room_left c.args.before bin.index c.args.ring.now.reach (joined bin.b bins) rising (below_joined bin.b bin.index bins c.requires.held.above) c.if-bin-before.false c.requires.near in
+    let few = room_left c.args.before bin.index c.args.ring.now.reach (joined bin.b bins) rising
+    (below_joined bin.b bin.index bins c.requires.held.above) c.if-bin-before.false c.requires.near in
     rw (c.retire.ensures.kept, c.meet.ensures.met) (omega (arith, few))
 
 pub returns-then-bin-before-clause-cells : goal.returns-then-bin-before-clause-cells
@@ -42,7 +44,8 @@ pub returns-then-bin-before-clause-kept : goal.returns-then-bin-before-clause-ke
 returns-then-bin-before-clause-kept c =
     let bin = c.args.bin.now in
     let bins = c.args.ring.now.entries in
-    rw (c.retire.ensures.kept, c.meet.ensures.met) (ap (λ es. ring_of es c.args.ring.now.reach) (kept_short c.args.before (joined bin.b bins) bin c.if-bin-before.true))
+    rw (c.retire.ensures.kept, c.meet.ensures.met)
+    (ap (λ es. ring_of es c.args.ring.now.reach) (kept_short c.args.before (joined bin.b bins) bin c.if-bin-before.true))
 
 pub returns-then-bin-before-clause-within : goal.returns-then-bin-before-clause-within
 returns-then-bin-before-clause-within c =
@@ -56,7 +59,8 @@ returns-then-bin-before-clause-sum c =
     let bin = c.args.bin.now in
     let bins = c.args.ring.now.entries in
     let counted = rw c.meet.ensures.met at c.count_closed.ensures.sum in
-    rw (c.retire.ensures.kept, c.meet.ensures.met) (omega (arith, c.count_bin.ensures.sum, counted, photons_kept c.args.before (joined bin.b bins), photons_joined bin.b bins, photons_push bins bin))
+    rw (c.retire.ensures.kept, c.meet.ensures.met)
+    (omega (arith, c.count_bin.ensures.sum, counted, photons_kept c.args.before (joined bin.b bins), photons_joined bin.b bins, photons_push bins bin))
 
 pub returns-else-bin-before-clause-cells : goal.returns-else-bin-before-clause-cells
 returns-else-bin-before-clause-cells c = search (rules, arith, of_late)
@@ -65,15 +69,18 @@ pub returns-else-bin-before-clause-kept : goal.returns-else-bin-before-clause-ke
 returns-else-bin-before-clause-kept c =
     let bin = c.args.bin.now in
     let bins = c.args.ring.now.entries in
-    rw (c.push.ensures.pushed, c.retire.ensures.kept, c.meet.ensures.met) (ap (λ es. ring_of es c.args.ring.now.reach) (kept_long c.args.before (joined bin.b bins) bin c.if-bin-before.false))
+    rw (c.push.ensures.pushed, c.retire.ensures.kept, c.meet.ensures.met)
+    (ap (λ es. ring_of es c.args.ring.now.reach) (kept_long c.args.before (joined bin.b bins) bin c.if-bin-before.false))
 
 pub returns-else-bin-before-clause-within : goal.returns-else-bin-before-clause-within
 returns-else-bin-before-clause-within c =
     let bin = c.args.bin.now in
     let bins = c.args.ring.now.entries in
     let rising = rw (c.retire.ensures.kept, c.meet.ensures.met) at c.retire.ensures.rising in
-    let few = room_left c.args.before bin.index c.args.ring.now.reach (joined bin.b bins) rising (below_joined bin.b bin.index bins c.requires.held.above) c.if-bin-before.false c.requires.near in
-    rw (c.push.ensures.pushed, c.retire.ensures.kept, c.meet.ensures.met) (omega (arith, few, length-append (filter (λ e. nat_le c.args.before e.index) (joined bin.b bins)) (bin ∷ [])))
+    let few = room_left c.args.before bin.index c.args.ring.now.reach (joined bin.b bins) rising
+    (below_joined bin.b bin.index bins c.requires.held.above) c.if-bin-before.false c.requires.near in
+    rw (c.push.ensures.pushed, c.retire.ensures.kept, c.meet.ensures.met)
+    (omega (arith, few, length-append (filter (λ e. nat_le c.args.before e.index) (joined bin.b bins)) (bin ∷ [])))
 
 pub returns-else-bin-before-clause-sum : goal.returns-else-bin-before-clause-sum
 returns-else-bin-before-clause-sum c =

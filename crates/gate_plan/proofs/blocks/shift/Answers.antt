@@ -1,5 +1,5 @@
 use Rattle.tally_base.specs.Columns.{gathered}
-use Rattle.gate_plan.{specs.Groups.sorting_of, proofs.Shifted.same_events}
+use Rattle.gate_plan.{specs.Groups.sorting_of, proofs.Histories.same_events}
 use Rattle.gate_plan.proofs.blocks.shift.Goals as goal
 
 pub returns-else-has_shifts-clause-shifted : goal.returns-else-has_shifts-clause-shifted

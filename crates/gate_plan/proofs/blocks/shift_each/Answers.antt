@@ -1,6 +1,6 @@
 use Rattle.std.proofs.Common.{◌≡◌, ◌∙◌, rules, arith, refl, ap}
 use Rattle.tally_base.{specs.Codes.kind_of, specs.Columns.{event_at, code_at}}
-use Rattle.gate_plan.{specs.Groups.sorting_of, specs.Shifting.shifted, proofs.Shifted.{shifted_rows, shifted_more, left_behind}}
+use Rattle.gate_plan.{specs.Groups.sorting_of, specs.Shifting.shifted, proofs.Histories.{shifted_rows, shifted_more, left_behind}}
 use Rattle.gate_plan.proofs.blocks.shift_each.Goals as goal
 
 pub loop-at-preserved : goal.loop-at-preserved
@@ -12,7 +12,8 @@ loop-at-preserved c =
     let at = c.loop-at.at in
     let e = event_at now at in
     let set = c.set_dtime.ensures in
-    let kind : kind_of (code_at now at) c.dtime_behind-dtime.result ≡ (shifted by e).kind = (rw (c.code.ensures, c.dtime.ensures) at c.dtime_behind-dtime.ensures) e refl in
+    let kind : kind_of (code_at now at) c.dtime_behind-dtime.result ≡ (shifted by e).kind =
+    (rw (c.code.ensures, c.dtime.ensures) at c.dtime_behind-dtime.ensures) e refl in
     let here : event_at c.set_dtime.new.self at ≡ shifted by e = set.there ∙ ap (λ kind. record { place = e.place; kind = kind; time = e.time }) kind in
     record {
       same_count = set.count ∙ inv.same_count;

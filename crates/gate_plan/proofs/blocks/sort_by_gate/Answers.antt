@@ -1,5 +1,5 @@
 use Rattle.std.proofs.Common.{rules, arith}
-use Rattle.gate_plan.{proofs.Sorts.{sorted_rows, set_more}}
+use Rattle.gate_plan.proofs.Histories.{sorted_rows, set_more}
 use Rattle.gate_plan.proofs.blocks.sort_by_gate.Goals as goal
 
 pub loop-at-preserved : goal.loop-at-preserved

@@ -9,5 +9,6 @@ invariant-groups l = record {
   few : length l.groups ≤ 64;
   room : length l.gated.items ≤ l.place;
   gates : gates_in l.gated.items ++ all_gates (map group_view (drop l.group-index l.groups)) ≡ all_gates (map group_view l.groups);
-  rest : (input dtime : ℕ) → gated_sum l.gated.items input dtime + 2 ^ l.place * bits_of (map (takes_gated input dtime) (map group_view (drop l.group-index l.groups))) ≡ gated_bits (map group_view l.groups) input dtime;
+  rest : (input dtime : ℕ) → gated_sum l.gated.items input dtime + 2 ^ l.place * bits_of
+      (map (takes_gated input dtime) (map group_view (drop l.group-index l.groups))) ≡ gated_bits (map group_view l.groups) input dtime;
 }

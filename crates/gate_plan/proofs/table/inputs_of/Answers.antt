@@ -14,7 +14,8 @@ side i = grind arith
 no_such : (inputs i : ℕ) → inputs < 2 ^ 65 → 256 ≤ i → is_among inputs i ≡ false
 no_such inputs i few past = rw (bit_at_above inputs 65 i few (omega (arith, past))) (grind (arith, nat_tests))
 
-has_all : (has : List Bool) (inputs : ℕ) → length has ≡ 256 → inputs < 2 ^ 65 → ((i : ℕ) → i < 256 → get_or has i false ≡ is_among inputs i) → (i : ℕ) → get_or has i false ≡ is_among inputs i
+has_all : (has : List Bool) (inputs : ℕ) → length has ≡ 256 → inputs < 2 ^ 65
+    → ((i : ℕ) → i < 256 → get_or has i false ≡ is_among inputs i) → (i : ℕ) → get_or has i false ≡ is_among inputs i
 has_all has inputs all few filled i = search (rules, arith, beyond, no_such)
 
 last_or : (i n : ℕ) → i < n + 1 → (i ≡ n) ⊎ (i < n)
@@ -23,7 +24,8 @@ last_or i n lt = grind (arith, lt)
 other : (xs : List Bool) (n i : ℕ) (v : Bool) → i < n → get_or (set xs n v) i false ≡ get_or xs i false
 other xs n i v lt = grind (arith, common_steps)
 
-filled_on : (has : List Bool) (at : ℕ) (v : Bool) (f : ℕ → Bool) → at < length has → ((i : ℕ) → i < at → get_or has i false ≡ f i) → v ≡ f at → (i : ℕ) → i < at + 1 → get_or (set has at v) i false ≡ f i
+filled_on : (has : List Bool) (at : ℕ) (v : Bool) (f : ℕ → Bool) → at < length has
+    → ((i : ℕ) → i < at → get_or has i false ≡ f i) → v ≡ f at → (i : ℕ) → i < at + 1 → get_or (set has at v) i false ≡ f i
 filled_on has at v f inside were is i below = search (rules, arith, get_or-set_same, other)
 
 pub loop-input-preserved : goal.loop-input-preserved

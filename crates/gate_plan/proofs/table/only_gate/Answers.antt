@@ -1,4 +1,4 @@
-use Rattle.gate_plan.proofs.AllGates.{two_groups}
+use Rattle.gate_plan.proofs.Parts.{two_groups}
 use Rattle.gate_plan.proofs.table.only_gate.Goals as goal
 
 pub returns-in_default-3-clause-one : goal.returns-in_default-3-clause-one

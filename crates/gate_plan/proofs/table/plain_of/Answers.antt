@@ -1,5 +1,5 @@
 use Rattle.std.proofs.Common.{arith}
-use Rattle.gate_plan.{specs.Parting.takes_plainly, proofs.Bits.{bits_kept, below_next, added_most}}
+use Rattle.gate_plan.{specs.Parting.takes_plainly, proofs.Parts.{bits_kept, below_next, added_most}}
 use Rattle.gate_plan.proofs.table.plain_of.Goals as goal
 
 pub groups-preserved : goal.groups-preserved

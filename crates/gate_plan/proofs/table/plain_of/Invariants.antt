@@ -8,5 +8,6 @@ invariant-groups l = record {
   place : l.place ≡ l.group-index;
   few : length l.groups ≤ 64;
   below : l.bits < 2 ^ l.place;
-  rest : l.bits + 2 ^ l.place * bits_of (map (takes_plainly l.input) (map group_view (drop l.group-index l.groups))) ≡ plain_bits (map group_view l.groups) l.input;
+  rest : l.bits + 2 ^ l.place * bits_of (map (takes_plainly l.input) (map group_view (drop l.group-index l.groups))) ≡ plain_bits
+      (map group_view l.groups) l.input;
 }

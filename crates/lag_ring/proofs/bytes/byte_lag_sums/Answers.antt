@@ -1,5 +1,5 @@
 use Rattle.std.{proofs.Common.{◌≡◌, ◌∙◌, ◌+◌, ◌*◌, ◌/◌, ◌<◌, ◌≤◌, ℕ, List, [], ◌++◌, length, sym, ap, arith, rules, append_assoc}, specs.List.{sum_by, AllByRecursion}, specs.Slice.Iter.chunks_rest, proofs.Math.Nat.{mul-div-le, mul-le-mul_left}, proofs.lemmas.List.get_or-replicate, proofs.lemmas.List.Sums.sum_by-append}
-use Rattle.lag_ring.{specs.Bytes.behind, proofs.Lists.{all_front, all_back}, proofs.Spots.behind-le}
+use Rattle.lag_ring.{specs.Bytes.behind, proofs.Lists.{all_front, all_back}, proofs.Sums.behind-le}
 use Rattle.lag_ring.proofs.bytes.byte_lag_sums.Goals as goal
 
 some-per : (most : ℕ) → 0 < most → most ≤ 255 → 0 < 255 / most
@@ -14,33 +14,46 @@ inside-part : (P : ℕ → Type 0) (done part rest all left : List ℕ) → done
 inside-part P done part rest all left is parts holds = all_front P part rest (rw parts at (all_back P done left (rw (sym is) at holds)))
 
 pub loop-part-init : goal.loop-part-init
-loop-part-init c = (search rules, tt, search rules, [], search rules, λ q inside. get_or-replicate 256 q 0 0 inside)
+loop-part-init g c = (search rules, tt, search rules, [], search rules, λ q inside. get_or-replicate g.row.N q 0 0 inside)
 
-pub byte_sums-bytes-requires-clause-fits : goal.byte_sums-bytes-requires-clause-fits
-byte_sums-bytes-requires-clause-fits c = λ q lag.
+pub byte_sums-bytes-requires : goal.byte_sums-bytes-requires
+byte_sums-bytes-requires g c =
     let inv = c.loop-part.invariant in
     let steps = c.in-Some.ensures.steps in
     let most : ℕ = c.args.most in
     let part = c.in-Some.part.now in
-    let inside = inside-part (λ s. s + c.args.from + 256 ≤ length c.args.window.now) inv.3 part (chunks_rest c.next.new.self) c.args.spots.now (chunks_rest c.loop-part.part-iterator) inv.4 steps.1.0 c.requires.inside in
+    let inside = inside-part (λ s. s + c.args.from + g.row.N ≤ length c.args.window.now) inv.3 part
+    (chunks_rest c.next.new.self) c.args.spots.now (chunks_rest c.loop-part.part-iterator) inv.4 steps.1.0 c.requires.inside in
     let few : length part ≤ 255 / most = omega (arith, steps.1.1, inv.2) in
-    let all : most * length part ≤ most * (255 / most) = mul-le-mul_left most few in
-    omega (arith, behind-le c.args.window.now most c.args.from q part lag c.requires.light inside, all, mul-div-le 255 most)
+    let all : most * length part ≤ most * (255 / most) = mul-le-mul_left most few in (
+      omega (arith, c.requires.lags),
+      (
+        c.requires.lags,
+        (
+          λ q lag. omega (arith, behind-le g.row.N c.args.window.now most c.args.from q part lag c.requires.light inside, all, mul-div-le 255 most),
+          inside,
+        ),
+      ),
+    )
 
 pub add_wide-requires : goal.add_wide-requires
-add_wide-requires c = record {
-  fits = λ q lag.
-      let inv = c.loop-part.invariant in
-      let steps = c.in-Some.ensures.steps in
-      let most : ℕ = c.args.most in
-      let f : ℕ → ℕ = behind c.args.window.now (c.args.from + q) in
-      let parts = three f inv.3 c.in-Some.part.now (chunks_rest c.next.new.self) c.args.spots.now (chunks_rest c.loop-part.part-iterator) inv.4 steps.1.0 in
-      let few : most * length c.args.spots.now ≤ most * 65536 = mul-le-mul_left most c.requires.few in
-      omega (arith, parts, few, c.requires.most.1, behind-le c.args.window.now most c.args.from q c.args.spots.now lag c.requires.light c.requires.inside, inv.5 q lag, c.byte_sums-bytes.ensures.sums q lag);
-}
+add_wide-requires g c = (
+  omega (arith, c.requires.lags),
+  (
+    omega (arith, c.requires.lags),
+    λ q lag.
+        let inv = c.loop-part.invariant in
+        let steps = c.in-Some.ensures.steps in
+        let most : ℕ = c.args.most in
+        let f : ℕ → ℕ = behind c.args.window.now (c.args.from + q) in
+        let parts = three f inv.3 c.in-Some.part.now (chunks_rest c.next.new.self) c.args.spots.now (chunks_rest c.loop-part.part-iterator) inv.4 steps.1.0 in
+        let few : most * length c.args.spots.now ≤ most * 65536 = mul-le-mul_left most c.requires.few in
+        omega (arith, parts, few, c.requires.most.1, behind-le g.row.N c.args.window.now most c.args.from q c.args.spots.now lag c.requires.light c.requires.inside, inv.5 q lag, c.byte_sums-bytes.ensures.sums q lag),
+  ),
+)
 
 pub loop-part-preserved : goal.loop-part-preserved
-loop-part-preserved c =
+loop-part-preserved g c =
     let inv = c.loop-part.invariant in
     let steps = c.in-Some.ensures.steps in
     let part = c.in-Some.part.now in (

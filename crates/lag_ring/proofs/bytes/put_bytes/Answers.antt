@@ -8,13 +8,15 @@ none = record { index = 0; a = 0; b = 0 }
 pub put_entry-requires-clause-first : goal.put_entry-requires-clause-first
 put_entry-requires-clause-first c = λ p inside.
     let within : p < length c.args.firsts.now = omega (arith, inside, c.loop-entry.invariant.first) in
-    let more = sum_by_more_le (λ (e : Entry). cond (eqb (e.index + c.args.top) (c.args.low + p)) e.a 0) c.args.entries.now c.loop-entry.entry-index none c.loop-entry-test.true in
+    let more = sum_by_more_le
+    (λ (e : Entry). cond (eqb (e.index + c.args.top) (c.args.low + p)) e.a 0) c.args.entries.now c.loop-entry.entry-index none c.loop-entry-test.true in
     omega (arith, c.loop-entry.invariant.have.0 p within, more, c.requires.fit.0 p within)
 
 pub put_entry-requires-clause-second : goal.put_entry-requires-clause-second
 put_entry-requires-clause-second c = λ p inside.
     let within : p < length c.args.seconds.now = omega (arith, inside, c.loop-entry.invariant.first, c.requires.sized) in
-    let more = sum_by_more_le (λ (e : Entry). cond (eqb (e.index + c.args.top) (c.args.low + p)) e.b 0) c.args.entries.now c.loop-entry.entry-index none c.loop-entry-test.true in
+    let more = sum_by_more_le
+    (λ (e : Entry). cond (eqb (e.index + c.args.top) (c.args.low + p)) e.b 0) c.args.entries.now c.loop-entry.entry-index none c.loop-entry-test.true in
     omega (arith, c.loop-entry.invariant.have.1 p within, more, c.requires.fit.1 p within)
 
 pub loop-entry-preserved : goal.loop-entry-preserved
@@ -24,10 +26,12 @@ loop-entry-preserved c =
     record {
       have = (
         λ p inside.
-            let more = sum_by_more (λ (e : Entry). cond (eqb (e.index + c.args.top) (c.args.low + p)) e.a 0) c.args.entries.now c.loop-entry.entry-index none c.loop-entry-test.true in
+            let more = sum_by_more (λ (e : Entry). cond (eqb (e.index + c.args.top) (c.args.low + p)) e.a 0)
+            c.args.entries.now c.loop-entry.entry-index none c.loop-entry-test.true in
             omega (arith, more, inv.have.0 p inside, one.firsts p (omega (arith, inside, inv.first))),
         λ p inside.
-            let more = sum_by_more (λ (e : Entry). cond (eqb (e.index + c.args.top) (c.args.low + p)) e.b 0) c.args.entries.now c.loop-entry.entry-index none c.loop-entry-test.true in
+            let more = sum_by_more (λ (e : Entry). cond (eqb (e.index + c.args.top) (c.args.low + p)) e.b 0)
+            c.args.entries.now c.loop-entry.entry-index none c.loop-entry-test.true in
             omega (arith, more, inv.have.1 p inside, one.seconds p (omega (arith, inside, inv.first, c.requires.sized))),
       );
       first = one.same.0 ∙ inv.first;

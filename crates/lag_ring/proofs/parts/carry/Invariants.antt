@@ -1,5 +1,5 @@
 use Rattle.std.proofs.Common.{◌≡◌, ℕ, ◌^◌, ◌<◌, length, get_or}
-use Rattle.lag_ring.specs.Parts.{part_sum}
+use Rattle.lag_ring.specs.Cells.{part_sum}
 use Rattle.lag_ring.proofs.parts.carry.Given as goal
 
 abbrev pub invariant-loop-c : goal.invariant-loop-c

@@ -1,5 +1,5 @@
 use Rattle.std.{proofs.Common.{◌≡◌, ◌∙◌, ◌+◌, ◌-◌, ◌^◌, ◌<◌, ℕ, bit_or, get_or, length, set, rules, arith}, proofs.lemmas.Nat.{le_or_l, le_or_r}, proofs.lemmas.List.{get_or-set_same}}
-use Rattle.lag_ring.proofs.{Places.downwards_more, Wholes.{small-all, small-set}}
+use Rattle.lag_ring.{proofs.Between.downwards_more, proofs.Wholes.{small-all, small-set}}
 use Rattle.lag_ring.proofs.rows.add_row_downwards.Goals as goal
 
 pub loop-q-init : goal.loop-q-init

@@ -1,5 +1,5 @@
 use Rattle.std.{proofs.Common.{◌≡◌, length, ◌∙◌, arith}, proofs.lemmas.List.{length-map}}
-use Rattle.ptu_definitions.specs.Fours.{numbers}
+use Rattle.ptu_definitions.specs.Words.{numbers}
 use Rattle.lane_decode.proofs.BlockLemmas.{by_places, all_written}
 use Rattle.lane_decode.proofs.block.decode_eight.Goals as goal
 

@@ -1,5 +1,5 @@
 use Rattle.std.proofs.Common.{◌≡◌, length, map, take}
-use Rattle.ptu_definitions.specs.Fours.{numbers}
+use Rattle.ptu_definitions.specs.Words.{numbers}
 use Rattle.lane_decode.proofs.block.decode_plainly.Given as goal
 
 abbrev pub invariant-loop-i : goal.invariant-loop-i

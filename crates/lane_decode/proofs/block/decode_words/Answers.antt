@@ -8,5 +8,6 @@ loop-eight-preserved g c = record {
   so_far =
       eight-more g.R.RecordLayout.meaning c.loop-eight.rest.now c.in-Some.eight.now c.in-Some.behind.now _ _ _ c.loop-eight.invariant.so_far
       (rw (c.in-Some.ensures.cases.0, c.in-Some.ensures.cases.1) (take-append-drop 8 c.loop-eight.rest.now))
-      (take-put_mid c.loop-eight.at _ c.loop-eight.out c.decode_eight.new.out _ (omega arith) (omega arith) ∙ ap (λ more. take c.loop-eight.at c.loop-eight.out ++ more) c.decode_eight.ensures);
+      (take-put_mid c.loop-eight.at _ c.loop-eight.out c.decode_eight.new.out _ (omega arith) (omega arith)
+      ∙ ap (λ more. take c.loop-eight.at c.loop-eight.out ++ more) c.decode_eight.ensures);
 }

@@ -1,5 +1,5 @@
 use Rattle.std.{proofs.Common.{[], ap, arith}, proofs.lemmas.Simd.{pick_l_whole}}
-use Rattle.ptu_definitions.specs.Fours.{numbers}
+use Rattle.ptu_definitions.specs.Words.{numbers}
 use Rattle.lane_decode.proofs.lanes.numbers_of.Goals as goal
 
 pub returns : goal.returns

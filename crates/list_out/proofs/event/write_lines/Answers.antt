@@ -1,6 +1,6 @@
-use Rattle.std.{proofs.Common.{◌≡◌, ◌<◌, ◌≤◌, append-nil, rules, arith}, proofs.Math.ListN.{drop_of_length-le}}
-use Rattle.tally_base.{specs.Columns.{event_at, gathered}, specs.Size.block_size}
-use Rattle.list_out.proofs.BlockTexts.{lines, one-before}
+use Rattle.std.{proofs.Common.{◌≡◌, ◌≤◌, append-nil, rules, arith}, proofs.Math.ListN.{drop_of_length-le}}
+use Rattle.tally_base.{specs.Columns.{gathered}, specs.Size.block_size}
+use Rattle.list_out.proofs.Rows.{lines, one-before}
 use Rattle.list_out.proofs.event.write_lines.Goals as goal
 
 pub back-init : goal.back-init
@@ -16,18 +16,7 @@ back-init c =
     }
 
 pub back-preserved : goal.back-preserved
-back-preserved c =
-    let b = c.args.block.now in
-    let inv = c.back.invariant in
-    let some : 0 < c.back.at = search (rules, arith) in
-    record {
-      few = omega (arith, inv.few);
-      room = omega (arith, inv.room, some, c.write_event-start.ensures.few);
-      inside = omega (arith, inv.inside, c.write_event-start.ensures.inside);
-      whole = one-before (event_at b) c.back.at c.event.result _ _ _ some c.event.ensures c.write_event-start.ensures.written inv.whole;
-    }
+back-preserved c = search (rules, arith, one-before)
 
 pub returns-clause-written : goal.returns-clause-written
-returns-clause-written c =
-    let zero : c.back.at ≡ 0 = search (rules, arith) in
-    rw zero at c.back.invariant.whole
+returns-clause-written c = search (rules, arith)

@@ -1,6 +1,6 @@
 use Rattle.std.proofs.Common.{◌≡◌, ◌*◌, ◌≤◌, ◌++◌, drop}
 use Rattle.tally_base.specs.Columns.{event_at, rows, count, gathered}
-use Rattle.list_out.proofs.BlockTexts.{lines}
+use Rattle.list_out.proofs.Rows.{lines}
 use Rattle.list_out.proofs.event.write_lines.Given as goal
 
 abbrev pub invariant-back : goal.invariant-back

@@ -1,5 +1,5 @@
 use Rattle.std.proofs.Common.{◌≡◌, ◌∙◌, ◌<◌, ◌≤◌, [], ◌∷◌, false, max, refl, sym, ap, rules, arith, nat_lt, if◌then◌else◌}
-use Rattle.tally_base.{specs.Events.{is_photon, is_in}, specs.Settings.trace_view, specs.Columns.{item, event_at, groups_at, code_at, time_at, rows}, specs.Floors.floor_after, proofs.Back.moves_row, proofs.Floors.{order-at, floor-more}, proofs.BlockRows.{length-rows, more_rows}}
+use Rattle.tally_base.{specs.Events.{is_photon, is_in}, specs.Settings.trace_view, specs.Columns.{item, event_at, groups_at, code_at, time_at, rows}, specs.Tally.floor_after, proofs.Floors.{moves_row, order-at, floor-more}, proofs.BlockRows.{length-rows, more_rows}}
 use Rattle.count_trace.proofs.Blocks.{count-row, one_at, one_at_most}
 use Rattle.long_trace.{specs.States.CanCount, proofs.BinSteps.{some-photon, other-way, low-next, CountsOn-trans}}
 use Rattle.long_trace.proofs.counting.count_block.Goals as goal
@@ -14,7 +14,8 @@ count_at-requires c =
     let most = one_at_most (trace_view c.args.set.now) b at in
     let next = order-at false c.args.floor (event_at b) b.len at inside c.requires.in_order in
     let order : 0 < c.photons_in-more.result → c.loop-at.bin.bin.low ≤ max c.time.result c.args.set.now.origin = λ some.
-    let photon = moves_row false b at ∙ some-photon (is_in (groups_at b at) c.args.set.now.group) (nat_lt (code_at b at) 256) c.photons_in-more.result c.photons_in-more.ensures some in
+    let photon = moves_row false b at
+    ∙ some-photon (is_in (groups_at b at) c.args.set.now.group) (nat_lt (code_at b at) 256) c.photons_in-more.result c.photons_in-more.ensures some in
     let later = next.1 photon in
     omega (arith, inv.low, later, c.time.ensures) in
     let can : CanCount c.args.set.now c.loop-at.early c.loop-at.bin c.time.result c.photons_in-more.result = record {
@@ -39,14 +40,16 @@ loop-at-preserved c =
     record {
       step = c.count_at.ensures.step;
       low =
-          let below = low-next (is_in (groups_at b at) set.group) (nat_lt (code_at b at) 256) c.photons_in-more.result c.loop-at.bin.bin.low c.count_at.new.newest.bin.low floor (time_at b at) set.origin c.photons_in-more.ensures
+          let below = low-next (is_in (groups_at b at) set.group) (nat_lt (code_at b at) 256) c.photons_in-more.result
+          c.loop-at.bin.bin.low c.count_at.new.newest.bin.low floor (time_at b at) set.origin c.photons_in-more.ensures
           (λ is. next.1 (photon ∙ is)) inv.low (λ some. rw c.time.ensures at (added.low some)) (λ none. ap (λ newest. newest.bin.low) (added.same none)) in
           rw (floor-more false c.args.floor (event_at b) at, photon) below;
       few = omega (arith, inv.few, added.few, most, c.photons_in-more.ensures);
       filled = omega (arith, inv.filled, added.filled, most, c.photons_in-more.ensures);
       room = omega (arith, inv.room, c.count_at.ensures.len);
       before =
-          let more : (if nat_lt c.time.result set.origin then c.photons_in-more.result else 0) ≡ (if nat_lt (time_at b at) set.origin then one_at set b at else 0) = rw (c.time.ensures, c.photons_in-more.ensures) refl in
+          let more : (if nat_lt c.time.result set.origin then c.photons_in-more.result else 0) ≡
+          (if nat_lt (time_at b at) set.origin then one_at set b at else 0) = rw (c.time.ensures, c.photons_in-more.ensures) refl in
           omega (arith, inv.before, added.before, more, count-row set (λ time. nat_lt time set.origin) b at);
       counts =
           rw (more_rows (item b) at)

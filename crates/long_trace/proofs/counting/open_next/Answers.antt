@@ -11,5 +11,6 @@ returns-clause-counts g c = λ e groups is_time group.
     let above = later_bin set.origin newest.bin.index set.width newest.bin.low c.args.time c.args.set.now.some_width.0 c.requires.step.edge c.requires.later in
     let later : newest.bin.index < next = omega (arith, above, c.of-bin.ensures.index) in
     let begun : set.origin ≤ e.time = omega (arith, is_time, c.requires.step.edge, c.requires.later) in
-    CountsOn-next set (state_of newest c.args.closed.now) (e, groups) c.args.lines.now.items c.put_bin.new.lines.items next c.close.new.self.frequencies c.close.new.self.many (binned-is set (e, groups) group begun)
+    CountsOn-next set (state_of newest c.args.closed.now) (e, groups) c.args.lines.now.items c.put_bin.new.lines.items
+    next c.close.new.self.frequencies c.close.new.self.many (binned-is set (e, groups) group begun)
     (ap (λ t. (t - set.origin) / set.width) is_time ∙ sym c.of-bin.ensures.index) later c.close.ensures.frequencies c.close.ensures.many c.put_bin.ensures.items

@@ -18,7 +18,8 @@ returns-in_err-put_frequencies-clause-short g c =
     let newest = c.args.newest.now in
     let last = bin_line newest.bin.index newest.count in
     let before = before_line c.args.before in
-    let put = put-as _ _ c.new-block.result (last ++ before) c.as_slice.result.now _ c.new-block.ensures (c.as_slice.ensures.value ∙ c.last_lines.ensures) c.in_ok-put.ensures.all in
+    let put = put-as _ _ c.new-block.result (last ++ before) c.as_slice.result.now _ c.new-block.ensures
+    (c.as_slice.ensures.value ∙ c.last_lines.ensures) c.in_ok-put.ensures.all in
     let e = err_from_is_err_and c.from_residual-in_err-put_frequencies.result c.from_residual-in_err-put_frequencies.ensures.1 in
     rw e.1 (λ all is many.
     AppendsShort-same _ _ _ _ (end-same last before (frequencies_text all) (above_line (above all)))
@@ -30,11 +31,13 @@ returns-in_err-put-2-clause-short g c =
     let newest = c.args.newest.now in
     let last = bin_line newest.bin.index newest.count in
     let before = before_line c.args.before in
-    let put = put-as _ _ c.new-block.result (last ++ before) c.as_slice.result.now _ c.new-block.ensures (c.as_slice.ensures.value ∙ c.last_lines.ensures) c.in_ok-put.ensures.all in
+    let put = put-as _ _ c.new-block.result (last ++ before) c.as_slice.result.now _ c.new-block.ensures
+    (c.as_slice.ensures.value ∙ c.last_lines.ensures) c.in_ok-put.ensures.all in
     let e = err_from_is_err_and c.from_residual-in_err-put-2.result c.from_residual-in_err-put-2.ensures.1 in
     rw e.1 (λ all is many.
     let line : c.as_slice-2.result.now ≡ above_line (above all) = c.as_slice-2.ensures.value ∙ c.above_line.ensures ∙ ap above_line many in
-    AppendsShort-same _ _ _ _ (ap (λ l. ((last ++ before) ++ frequencies_text all) ++ l) line ∙ end-same last before (frequencies_text all) (above_line (above all)))
+    AppendsShort-same _ _ _ _
+    (ap (λ l. ((last ++ before) ++ frequencies_text all) ++ l) line ∙ end-same last before (frequencies_text all) (above_line (above all)))
     (AppendsShort-passed _ _ _ ((last ++ before) ++ frequencies_text all) c.put_frequencies.new.block c.as_slice-2.result.now
     (PassesOn-trans _ _ _ (last ++ before) c.put.new.self (frequencies_text all) c.put_frequencies.new.block put (c.in_ok-put_frequencies.ensures.all all is))
     c.in_err-put-2.ensures.short))
@@ -44,7 +47,8 @@ returns-clause-all g c =
     let newest = c.args.newest.now in
     let last = bin_line newest.bin.index newest.count in
     let before = before_line c.args.before in
-    let put = put-as _ _ c.new-block.result (last ++ before) c.as_slice.result.now _ c.new-block.ensures (c.as_slice.ensures.value ∙ c.last_lines.ensures) c.in_ok-put.ensures.all in
+    let put = put-as _ _ c.new-block.result (last ++ before) c.as_slice.result.now _ c.new-block.ensures
+    (c.as_slice.ensures.value ∙ c.last_lines.ensures) c.in_ok-put.ensures.all in
     on_ok_weaker c.flush.result
     (λ flushed. λ all is many.
     let line : c.as_slice-2.result.now ≡ above_line (above all) = c.as_slice-2.ensures.value ∙ c.above_line.ensures ∙ ap above_line many in
@@ -61,11 +65,13 @@ returns-clause-short g c =
     let newest = c.args.newest.now in
     let last = bin_line newest.bin.index newest.count in
     let before = before_line c.args.before in
-    let put = put-as _ _ c.new-block.result (last ++ before) c.as_slice.result.now _ c.new-block.ensures (c.as_slice.ensures.value ∙ c.last_lines.ensures) c.in_ok-put.ensures.all in
+    let put = put-as _ _ c.new-block.result (last ++ before) c.as_slice.result.now _ c.new-block.ensures
+    (c.as_slice.ensures.value ∙ c.last_lines.ensures) c.in_ok-put.ensures.all in
     on_err_weaker c.flush.result
     (λ cut. λ all is many.
     let line : c.as_slice-2.result.now ≡ above_line (above all) = c.as_slice-2.ensures.value ∙ c.above_line.ensures ∙ ap above_line many in
-    AppendsShort-same _ _ _ _ (ap (λ l. ((last ++ before) ++ frequencies_text all) ++ l) line ∙ end-same last before (frequencies_text all) (above_line (above all)))
+    AppendsShort-same _ _ _ _
+    (ap (λ l. ((last ++ before) ++ frequencies_text all) ++ l) line ∙ end-same last before (frequencies_text all) (above_line (above all)))
     (AppendsShort-flushed _ _ _ _ c.put-2.new.self
     (PassesOn-trans _ _ _ ((last ++ before) ++ frequencies_text all) c.put_frequencies.new.block c.as_slice-2.result.now c.put-2.new.self
     (PassesOn-trans _ _ _ (last ++ before) c.put.new.self (frequencies_text all) c.put_frequencies.new.block put (c.in_ok-put_frequencies.ensures.all all is))

@@ -19,4 +19,5 @@ returns-in_err-put-clause-short g c =
     rw e.1 (λ all is. next-cut all n c.as_slice.result.now _ _ _ c.args.block.now c.loop-count.block inside (c.as_slice.ensures.value ∙ c.frequency_line-line.ensures ∙ ap (frequency_line n) (is n inside)) (c.loop-count.invariant.put all is) c.in_err-put.ensures.short)
 
 pub returns-clause-all : goal.returns-clause-all
-returns-clause-all g c = λ all is. all-put all c.loop-count.count _ _ c.args.block.now c.loop-count.block (search (rules, arith)) (c.loop-count.invariant.put all is)
+returns-clause-all g c =
+    λ all is. all-put all c.loop-count.count _ _ c.args.block.now c.loop-count.block (search (rules, arith)) (c.loop-count.invariant.put all is)

@@ -35,7 +35,8 @@ one-more set h x inside is =
 grows : (set : TraceView) (h more : History) → Spans set h → Spans set (h ++ more)
 grows set h [] is = rw (append-nil h) is
 grows set h (x ∷ more) is =
-    let next : Spans set (h ++ x ∷ []) = elim (cases_Bool (is_binned set x)) [ inl inside ↦ one-more set h x inside is | inr outside ↦ none-more set h x outside is ] in
+    let next : Spans set (h ++ x ∷ []) =
+    elim (cases_Bool (is_binned set x)) [ inl inside ↦ one-more set h x inside is | inr outside ↦ none-more set h x outside is ] in
     rw (← append_assoc h (x ∷ []) more) (grows set (h ++ x ∷ []) more next)
 
 spans : (set : TraceView) (h : History) → Spans set h

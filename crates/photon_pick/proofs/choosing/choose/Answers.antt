@@ -1,7 +1,7 @@
 use Rattle.std.{proofs.Common.{◌≡◌, ◌+◌, ◌<◌, ◌≤◌, ℕ, Bool, true, false, length, sym, rules, arith, if◌then◌else◌, ◌∙◌, List, [], ◌∷◌, ◌++◌, ap, refl, get_or, set, append-nil, ◌⊎◌, inr, slice_index}, specs.List.filter, proofs.lemmas.Grind.common_steps, proofs.lemmas.List.get_or-set_same, proofs.lemmas.List.Elements.filter-append}
 use Rattle.tally_base.{specs.Columns.{event_at, rows}, specs.declared.event.Event.Event, specs.declared.block.Block.Block, proofs.BlockRows.{same-rows, more_rows}}
 use Rattle.gate_plan.specs.Groups.{sorting_of}
-use Rattle.photon_pick.{specs.Chosen.is_chosen, specs.Places.events_at}
+use Rattle.photon_pick.{specs.Chosen.is_chosen, specs.Giving.events_at}
 use Rattle.photon_pick.proofs.choosing.choose.Goals as goal
 
 -- one place more among those that are chosen
@@ -15,7 +15,8 @@ before b places n at = search (rules, arith, same-rows, other)
 one-more : (p : Event → Bool) (xs : List Event) (e : Event) → filter p (xs ++ e ∷ []) ≡ filter p xs ++ filter p (e ∷ [])
 one-more p xs e = filter-append p xs (e ∷ [])
 
-chosen-more : (p : Event → Bool) (b : Block) (places : List ℕ) (n at : ℕ) (test : Bool) → n < length places → events_at b places n ≡ filter p (rows (event_at b) at) → p (event_at b at) ≡ test
+chosen-more : (p : Event → Bool) (b : Block) (places : List ℕ) (n at : ℕ) (test : Bool)
+    → n < length places → events_at b places n ≡ filter p (rows (event_at b) at) → p (event_at b at) ≡ test
     → events_at b (set places n at) (n + (if test then 1 else 0)) ≡ filter p (rows (event_at b) (at + 1))
 chosen-more p b places n at true inside are is =
     let here : event_at b (slice_index (set places n at) n) ≡ event_at b at = ap (event_at b) (get_or-set_same places n at 0 inside) in

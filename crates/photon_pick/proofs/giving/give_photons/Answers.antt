@@ -1,7 +1,7 @@
 use Rattle.std.{proofs.Common.{◌≡◌, ◌<◌, ◌≤◌, ℕ, Bool, true, false, ◌∷◌, Err, ap, sym, subst, refl, rules, arith, ⊎_elim, slice_index, ◌∙◌, ◌+◌, List, [], ◌++◌, append_assoc, append-nil, inl, inr}, proofs.lemmas.Result.err_from_is_err_and, proofs.lemmas.List.Elements.filter-append}
-use Rattle.tally_base.{specs.declared.event.Event.Event, specs.Events.is_photon, specs.Columns.{event_at, rows}, specs.Floors.{floor_after, InOrder}, proofs.BlockRows.{more_rows, rows-split}, proofs.Floors.{order-at, floor-push, floor-append, order-parts}, specs.declared.fault.Fault.Fault, specs.declared.fault.Fault.TheVariants.{PickTime, WriteFault}, specs.FaultCounts.Rose}
-use Rattle.ptu_definitions.{specs.Fitting.KindFits, proofs.PrefixLemmas.each_after-append}
-use Rattle.record_stream.proofs.Eaches.{all-rows}
+use Rattle.tally_base.{specs.declared.event.Event.Event, specs.Events.is_photon, specs.Columns.{event_at, rows}, specs.Tally.{floor_after, InOrder}, proofs.BlockRows.{more_rows, rows-split}, proofs.Floors.{order-at, floor-push, floor-append, order-parts}, specs.declared.fault.Fault.Fault, specs.declared.fault.Fault.TheVariants.{PickTime, WriteFault}, specs.FaultCounts.Rose}
+use Rattle.ptu_definitions.{specs.Layouts.KindFits, proofs.PrefixLemmas.each_after-append}
+use Rattle.record_stream.proofs.Gathering.{all-rows}
 use Rattle.record_write.{specs.Picked.{is_too_late, photon_words}, specs.Picker.{mode_of, last_by, is_going, HasPicked}, specs.Writing.{PutsWords, CutsWords}, proofs.Puts.{puts-more, cuts-behind}}
 use Rattle.photon_pick.{specs.Giving.{pen, Gave, Pen, Stopped, words_behind}, specs.Late.too_late}
 use Rattle.photon_pick.proofs.giving.give_photons.Goals as goal
@@ -9,11 +9,13 @@ use Rattle.photon_pick.proofs.giving.give_photons.Goals as goal
 -- one photon more for a picker
 
 -- the words of one photon more
-words-more : (p : Pen) (behind ps : List Event) (e : Event) → words_behind p behind (ps ++ e ∷ []) ≡ words_behind p behind ps ++ photon_words (mode_of p.picker) (behind ++ ps) e
+words-more : (p : Pen) (behind ps : List Event) (e : Event)
+    → words_behind p behind (ps ++ e ∷ []) ≡ words_behind p behind ps ++ photon_words (mode_of p.picker) (behind ++ ps) e
 words-more p behind ps e = search (rules, arith, each_after-append, append-nil)
 
 module _ (p q : Pen) (ps : List Event) (e : Event) (gave : Gave p q ps) where
-  Gave-more : (r : Pen) → is_too_late (mode_of q.picker) e.time ≡ false → ((behind : List Event) → HasPicked q.picker behind → HasPicked r.picker (behind ++ e ∷ []))
+  Gave-more : (r : Pen) → is_too_late (mode_of q.picker) e.time ≡ false
+      → ((behind : List Event) → HasPicked q.picker behind → HasPicked r.picker (behind ++ e ∷ []))
       → ((behind : List Event) → HasPicked q.picker behind → PutsWords q.written r.written q.held r.held (photon_words (mode_of q.picker) behind e))
       → mode_of r.picker ≡ mode_of q.picker → is_going r.picker ≡ true → last_by r.picker ≡ e.time → r.faults ≡ q.faults → Gave p r (ps ++ e ∷ [])
   Gave-more r soon picks puts mode going last still = record {
@@ -32,7 +34,8 @@ module _ (p q : Pen) (ps : List Event) (e : Event) (gave : Gave p q ps) where
   }
 
   module _ (r : Pen) (all back : List Event) (are : all ≡ ps ++ e ∷ back) (fault : Fault) where
-    Stopped-late : is_too_late (mode_of q.picker) e.time ≡ true → fault ≡ PickTime e.place → r.faults ≡ q.faults → r.written ≡ q.written → r.held ≡ q.held → Stopped p r all fault
+    Stopped-late : is_too_late (mode_of q.picker) e.time ≡ true → fault ≡ PickTime e.place
+        → r.faults ≡ q.faults → r.written ≡ q.written → r.held ≡ q.held → Stopped p r all fault
     Stopped-late late is still written held = record {
       front = ps;
       e = e;
@@ -48,7 +51,8 @@ module _ (p q : Pen) (ps : List Event) (e : Event) (gave : Gave p q ps) where
     }
 
     Stopped-cut : is_too_late (mode_of q.picker) e.time ≡ false → fault ≡ WriteFault → Rose q.faults r.faults
-        → ((behind : List Event) → HasPicked q.picker behind → CutsWords q.written r.written q.held r.held (photon_words (mode_of q.picker) behind e)) → Stopped p r all fault
+        → ((behind : List Event) → HasPicked q.picker behind → CutsWords q.written r.written q.held r.held (photon_words (mode_of q.picker) behind e))
+        → Stopped p r all fault
     Stopped-cut soon is rose cuts = record {
       front = ps;
       e = e;
@@ -90,7 +94,8 @@ put-requires g c =
     let within : c.loop-k.k < c.args.many = search (rules, arith) in
     let can = c.requires.can in
     let fits = all-rows (λ e. KindFits (mode_of c.args.picker.now) e.kind) f c.args.many c.loop-k.k within can.fit in
-    let order : floor_after true (last_by c.args.picker.now) (rows f c.loop-k.k) ≤ (f c.loop-k.k).time = (order-at true (last_by c.args.picker.now) f c.args.many c.loop-k.k within can.in_order).1 refl in
+    let order : floor_after true (last_by c.args.picker.now) (rows f c.loop-k.k) ≤ (f c.loop-k.k).time =
+    (order-at true (last_by c.args.picker.now) f c.args.many c.loop-k.k within can.in_order).1 refl in
     record {
       next = rw c.event.ensures (record {
         going = c.loop-k.invariant.gave.going;

@@ -3,11 +3,12 @@ use Rattle.tally_base.{specs.declared.fault.Fault.Fault, specs.Faults.fault_in}
 use Rattle.gate_plan.specs.Groups.{sorting_of}
 use Rattle.record_stream.{specs.declared.stream.RecordStream.RecordStream, specs.Standing.{how_of, refused_with, bytes_in}}
 use Rattle.record_write.specs.declared.picker.Picker.{Picker}
-use Rattle.photon_pick.{specs.declared.taker.Picks.Picks, specs.Chosen.is_chosen, specs.Taking.{stand, took_none}, specs.Texts.answer_by, specs.Pieces.{IsNoFurther, GoesOn}, proofs.Feeds.{feeds-on, feeds-cut}}
+use Rattle.photon_pick.{specs.declared.taker.Picks.Picks, specs.Chosen.is_chosen, specs.Giving.{stand, took_none}, specs.Texts.answer_by, specs.Pieces.{IsNoFurther, GoesOn}, proofs.Feeds.{feeds-on, feeds-cut}}
 use Rattle.photon_pick.proofs.piece.feed_picks.Goals as goal
 
 goes-on : (old new : RecordStream) (picker : Picker) (piece : List ℕ) (kept : Option Fault) (r : Result (Unit {0}) Fault) → refused_with new ≡ fault_in r
-    → OnOk r (bytes_in new ≡ bytes_in old + length piece) → (kept ≡ None → OnOk r (IsNoFurther new picker)) → OnOk (answer_by kept r) (GoesOn old new picker piece)
+    → OnOk r (bytes_in new ≡ bytes_in old + length piece) → (kept ≡ None → OnOk r (IsNoFurther new picker))
+    → OnOk (answer_by kept r) (GoesOn old new picker piece)
 goes-on old new picker piece kept r refused counted behind = search (rules, arith)
 
 pub returns-in-Ok-clause-writes : goal.returns-in-Ok-clause-writes
@@ -20,7 +21,8 @@ returns-in-Ok-clause-writes g c = λ bytes h has.
 pub returns-in-Err-clause-writes : goal.returns-in-Err-clause-writes
 returns-in-Err-clause-writes g c = λ bytes h has.
     let picks = c.args.picks.now in (
-      feeds-cut _ _ _ (λ (t : Picks g.row.O.Denot g.O.Sink). stand (is_chosen (sorting_of t.gates.now) t.group) t.picker.now t.mode t.taken t.floor (g.O.Sink.faults t.out.now) (g.O.Sink.written t.out.now) t.block t.fault)
+      feeds-cut _ _ _ (λ (t : Picks g.row.O.Denot g.O.Sink). stand (is_chosen (sorting_of t.gates.now) t.group) t.picker.now t.mode t.taken t.floor
+          (g.O.Sink.faults t.out.now) (g.O.Sink.written t.out.now) t.block t.fault)
           (is_chosen (sorting_of picks.gates.now) picks.group) (how_of c.args.stream.now) refl c.requires.begins.same_mode c.requires.begins.empty _ _ (took_none _) (λ l is. is) (λ l is. is c.requires.unrefused) _ _ has c.feed-fed.result c.in-Err.ensures.short c.in-Err.ensures.cause.once (c.feed-fed.ensures.fed c.requires.going bytes h),
       tt,
     )

@@ -15,5 +15,6 @@ items-preserved c =
       room = omega (arith, c.push.ensures.len, inv.room);
       count = rw c.push.ensures.items (omega (arith, inv.count, length-append c.items.numbers.items (number ∷ [])));
       rise = rw c.push.ensures.items (numbers_further c.items.low 0 c.items.numbers.items number inv.rise range.0 most);
-      rest = rw c.push.ensures.items (numbers_kept c.items.numbers.items c.args.most c.items.low c.items.item-index number _ c.item-item.result _ c.items-test.true c.item-item.is c.in-Some.ensures.number inv.rest);
+      rest = rw c.push.ensures.items (numbers_kept c.items.numbers.items c.args.most c.items.low c.items.item-index
+          number _ c.item-item.result _ c.items-test.true c.item-item.is c.in-Some.ensures.number inv.rest);
     }

@@ -9,5 +9,6 @@ invariant-items l = record {
   room : array_vec_len l.numbers ≡ l.item-index;
   count : length l.numbers.items ≡ l.item-index;
   rise : NumbersTo l.low 0 l.numbers.items;
-  rest : option_map (λ more. l.numbers.items ++ more) (numbers_from l.most l.low (map view (drop l.item-index l.items))) ≡ numbers_from l.most 1 (map view l.items);
+  rest : option_map (λ more. l.numbers.items ++ more)
+      (numbers_from l.most l.low (map view (drop l.item-index l.items))) ≡ numbers_from l.most 1 (map view l.items);
 }

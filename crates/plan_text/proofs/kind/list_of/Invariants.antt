@@ -9,5 +9,6 @@ invariant-items g l = record {
   room : array_vec_len l.found ≤ l.item-index;
   few : length l.items ≤ g.row.N;
   groups : length (groups (view l.document)) ≤ 64;
-  so_far : map g.K.PlanKind.settings l.found.items ++ filter_map (g.K.PlanKind.kind.read (view l.document)) (map view (drop l.item-index l.items)) ≡ filter_map (g.K.PlanKind.kind.read (view l.document)) (map view l.items);
+  so_far : map g.K.PlanKind.settings l.found.items ++ filter_map (g.K.PlanKind.kind.read (view l.document))
+      (map view (drop l.item-index l.items)) ≡ filter_map (g.K.PlanKind.kind.read (view l.document)) (map view l.items);
 }

@@ -39,7 +39,8 @@ rest_of [] = []
 rest_of (part ∷ parts) = parts
 
 -- the list of a kind before those of later kinds
-first_same : (n : ℕ) (xs ys us vs : List PartSettings) → AreAt n xs → AreAt n ys → AreFrom (n + 1) us → AreFrom (n + 1) vs → xs ++ us ≡ ys ++ vs → (xs ≡ ys) × (us ≡ vs)
+first_same : (n : ℕ) (xs ys us vs : List PartSettings) → AreAt n xs → AreAt n ys
+    → AreFrom (n + 1) us → AreFrom (n + 1) vs → xs ++ us ≡ ys ++ vs → (xs ≡ ys) × (us ≡ vs)
 first_same n [] [] us vs x_at y_at u_from v_from same = (refl, same)
 first_same n [] (y ∷ ys) us vs x_at y_at u_from v_from same = absurd (not_later n y (ys ++ vs) us y_at.0 u_from same)
 first_same n (x ∷ xs) [] us vs x_at y_at u_from v_from same = absurd (not_later n x (xs ++ us) vs x_at.0 v_from (sym same))
@@ -48,7 +49,8 @@ first_same n (x ∷ xs) (y ∷ ys) us vs x_at y_at u_from v_from same =
     let first : x ≡ y = ap (first_or x) same in
     (rw (first, here) refl, later)
 
-lists_same : (n : ℕ) (one other : List (List PartSettings)) → AreByKinds n one → AreByKinds n other → length one ≡ length other → joined one ≡ joined other → one ≡ other
+lists_same : (n : ℕ) (one other : List (List PartSettings)) → AreByKinds n one
+    → AreByKinds n other → length one ≡ length other → joined one ≡ joined other → one ≡ other
 lists_same n [] [] a b long same = refl
 lists_same n [] (ys ∷ other) a b long same = absurd (omega (arith, long))
 lists_same n (xs ∷ one) [] a b long same = absurd (omega (arith, long))

@@ -9,5 +9,6 @@ abbrev pub invariant-items : goal.invariant-items
 invariant-items l = record {
   room : array_vec_len l.found ≤ l.item-index;
   few : length l.items ≤ 64;
-  so_far : map group_view l.found.items ++ filter_map (group (view l.document)) (map view (drop l.item-index l.items)) ≡ filter_map (group (view l.document)) (map view l.items);
+  so_far : map group_view l.found.items
+      ++ filter_map (group (view l.document)) (map view (drop l.item-index l.items)) ≡ filter_map (group (view l.document)) (map view l.items);
 }

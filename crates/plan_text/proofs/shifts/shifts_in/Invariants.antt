@@ -9,5 +9,6 @@ abbrev pub invariant-items : goal.invariant-items
 invariant-items l = record {
   room : array_vec_len l.found ≤ l.item-index;
   few : length l.items ≤ 65;
-  so_far : map shift_view l.found.items ++ filter_map (λ set. set) (shifts_from l.period l.low (map view (drop l.item-index l.items))) ≡ filter_map (λ set. set) (shifts_from l.period 0 (map view l.items));
+  so_far : map shift_view l.found.items ++ filter_map (λ set. set)
+      (shifts_from l.period l.low (map view (drop l.item-index l.items))) ≡ filter_map (λ set. set) (shifts_from l.period 0 (map view l.items));
 }

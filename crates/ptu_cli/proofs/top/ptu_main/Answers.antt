@@ -2,7 +2,7 @@ use Rattle.std.proofs.Common.{◌≡◌, None, Some, refl, sym, ap, ◌∙◌, a
 use Rattle.tally_base.{specs.declared.fault.Fault.TheVariants.Usage, specs.Faults.status_of}
 use Rattle.bench_io.proofs.Bytes.{Appends-nil, Keeps-from_none}
 use Rattle.command_work.specs.Endings.{HasCauses}
-use Rattle.ptu_cli.{specs.Requests.{request_in, behaviour_of}, proofs.Complete.{bad-words, ends-answered, ok-answered, ok-ends, inside-ends, completes_as, good-its}, proofs.Asked.tells_as, proofs.ByStatus.{opening-from_status, reading-from_status, writing-from_status, memory-from_status}}
+use Rattle.ptu_cli.{specs.Behaviours.{request_in, behaviour_of}, proofs.Complete.{bad-words, ends-answered, ok-answered, ok-ends, inside-ends, completes_as, good-its}, proofs.Asked.{tells_as, opening-from_status, reading-from_status, writing-from_status, memory-from_status}}
 use Rattle.ptu_cli.proofs.top.ptu_main.Goals as goal
 
 pub returns-in-Err : goal.returns-in-Err
@@ -47,6 +47,7 @@ returns-in-Ok g c =
       asks = does.asks;
       once = (None, refl, (Keeps-from_none _ _ (Appends-nil _), refl), (does.once.inputs, does.once.out));
       complete = λ quiet. ok-ends (behaviour_of c.args.words.now) _ _ _ does.answer;
-      good = λ plan_file data_file may good quiet. good-its request _ _ plan_file data_file (ok-ends (behaviour_of c.args.words.now) _ _ _ does.answer) may good;
+      good = λ plan_file data_file may good quiet. good-its request _ _ plan_file data_file
+          (ok-ends (behaviour_of c.args.words.now) _ _ _ does.answer) may good;
       files = does.files;
     }

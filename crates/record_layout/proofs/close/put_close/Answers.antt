@@ -1,6 +1,6 @@
 use Rattle.std.{proofs.Common.{◌≡◌, ◌+◌, ◌*◌, ◌/◌, ◌-◌, ◌<◌, ◌≤◌, ◌++◌, [], ◌∷◌, ℕ, suc, List, true, false, length, map, take, drop, get_or, replicate, refl, ap, ◌∙◌, arith, w32}, specs.List.{range_with_len}, proofs.lemmas.List.FromFn.{get_or-map-range_with_len}, proofs.lemmas.Simd.{SwzOk-from_below, swz_l, length-swz_l, put_chunk_is, length-put_chunk}, proofs.Math.Seq.{take-append-add}, proofs.lemmas.List.{take-append-le, length-take-le, length-drop}}
 use lib.Lanes.{put_chunk, all_below}
-use Rattle.record_layout.{specs.Chosen.{has_bit, bits_in, lanes_in, lanes_by}, proofs.Chosen.{each, below-all, few-bits}, specs.declared.close.TheConstants.{LANES}}
+use Rattle.record_layout.{specs.InClose.{has_bit, bits_in, lanes_in, lanes_by}, proofs.Chosen.{each, below-all, few-bits}, specs.declared.close.TheConstants.LANES}
 use borrow.Rule.Slice.PartMut.{mid_of}
 use Rattle.record_layout.proofs.close.put_close.Goals as goal
 
@@ -39,10 +39,12 @@ module _ (bits : ℕ) (lt : bits < 256) where
 pub swizzle-close : goal.swizzle-close
 swizzle-close c =
     let bits = c.args.bits in
-    rw (row_is bits c.requires.bits) (SwzOk-from_below w32 8 1 8 0 (lanes_in bits) refl (omega (arith, lanes-long bits c.requires.bits)) (below-all 8 (lanes_in bits) (lanes-below bits c.requires.bits)))
+    rw (row_is bits c.requires.bits) (SwzOk-from_below w32 8 1 8 0 (lanes_in bits) refl
+    (omega (arith, lanes-long bits c.requires.bits)) (below-all 8 (lanes_in bits) (lanes-below bits c.requires.bits)))
 
 -- what is put into the middle of a list
-put-taken : (xs ys zs ws ks : List ℕ) (n : ℕ) → length xs ≡ n → length ks ≤ length ys → take (length ks) ys ≡ ws → take (n + length ks) (xs ++ (ys ++ zs)) ≡ xs ++ ws
+put-taken : (xs ys zs ws ks : List ℕ) (n : ℕ) → length xs ≡ n → length ks ≤ length ys
+    → take (length ks) ys ≡ ws → take (n + length ks) (xs ++ (ys ++ zs)) ≡ xs ++ ws
 put-taken xs ys zs ws ks n long few is =
     rw (← long) (take-append-add xs (ys ++ zs) (length ks) ∙ ap (λ l. xs ++ l) (take-append-le (length ks) ys zs few ∙ is))
 

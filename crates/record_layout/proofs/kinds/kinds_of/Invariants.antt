@@ -1,5 +1,5 @@
 use Rattle.std.proofs.Common.{◌≡◌, ◌+◌, length, map}
-use Rattle.ptu_definitions.{specs.Fours.numbers, specs.Kinds.counts_of}
+use Rattle.ptu_definitions.{specs.Words.numbers, specs.Kinds.counts_of}
 use Rattle.record_layout.specs.Sums.{IsSplit, sum_of}
 use Rattle.record_layout.proofs.kinds.kinds_of.Given as goal
 

@@ -1,70 +1,33 @@
-use Rattle.std.{proofs.Common.{◌≡◌, ◌++◌, [], ℕ, List, refl, ap, sym, subst, ◌∙◌, Err, append_assoc, append-nil, arith}, specs.Int.{from_le_bytes, w32}, proofs.lemmas.List.map-append, proofs.lemmas.Result.err_from_is_err_and}
-use Rattle.ptu_definitions.{specs.Fours.numbers, specs.Streams.Reading}
-use Rattle.record_stream.{specs.Feeding.{GaveOn, Fed}, specs.Walking.{how_of, IsBehind}, proofs.Feeds.{GaveOn-refl, GaveOn-trans, Fed-trans, Fed-more}}
+use Rattle.std.{proofs.Common.{arith, rules, ◌++◌, [], refl, length, length-append, ◌≡◌, ℕ, ◌∙◌}, specs.Int.{from_le_bytes, w32}, proofs.lemmas.List.map-append, proofs.lemmas.Result.err_from_is_err_and}
+use Rattle.ptu_definitions.specs.Words.{numbers}
+use Rattle.record_stream.{proofs.Feeds.{took-none, took-more, took-last, took-stop}, proofs.Wraps.{parted, parted-numbers, both-numbers}}
 use Rattle.record_stream.proofs.blocks.take_words.Goals as goal
 
-parted : (words seen rest front back : List ℕ) → words ≡ seen ++ rest → rest ≡ front ++ back → words ≡ (seen ++ front) ++ back
-parted words seen rest front back is parts = is ∙ ap (λ l. seen ++ l) parts ∙ sym (append_assoc seen front back)
-
-numbers-parts : (rest front back : List (List ℕ)) → rest ≡ front ++ back → numbers rest ≡ numbers front ++ numbers back
-numbers-parts rest front back is = ap numbers is ∙ map-append (from_le_bytes w32) front back
-
 pub many-init : goal.many-init
-many-init g c = record {
-  how = refl;
-  counted = refl;
-  follows = c.requires.ready.follows;
-  so_far = λ before h. ([], refl, rw append-nil h, GaveOn-refl g.S.EventTaker _ _ before (before ++ []) (append-nil before));
-  later = omega arith;
-  same = g.met.S.EventTaker.same_none _;
-}
-
-pub returns-in_err-take_block-clause-fed : goal.returns-in_err-take_block-clause-fed
-returns-in_err-take_block-clause-fed g c = λ before h.
-    let s = g.S.EventTaker in
-    let how = how_of c.args.walk.now in
-    let inv = c.many.invariant in
-    let o = inv.so_far before h in
-    let front = numbers c.split_at.result.0.now in
-    let back = numbers c.split_at.result.1.now in
-    let whole = parted (numbers c.args.words.now) o.0 (numbers c.many.rest.now) front back o.1 (numbers-parts c.many.rest.now c.split_at.result.0.now c.split_at.result.1.now c.split_at.ensures.by_index.0) in
-    let fed = rw inv.how at (c.in_err-take_block.ensures.fed (before ++ o.0) o.2) in
-    let p = err_from_is_err_and c.from_residual.result c.from_residual.ensures.1 in
-    let all : ((before ++ o.0) ++ front) ++ back ≡ before ++ numbers c.args.words.now = ap (λ l. l ++ back) (append_assoc before o.0 front) ∙ append_assoc before (o.0 ++ front) back ∙ ap (λ l. before ++ l) (sym whole) in
-    rw (p.1, p.2)
-    (subst (λ l. Fed s {X = Unit {0}} how c.args.taker.now c.take_block.new.taker before l (Err c.in_err-take_block.field-0.0)) all
-    (Fed-more s (Unit {0}) how _ _ before _ back _ (Fed-trans s {X = Unit {0}} how _ c.many.taker _ before (before ++ o.0) _ (Err c.in_err-take_block.field-0.0) o.3 fed)))
+many-init g c = ([], refl, took-none g.S.EventTaker _ _ _ _ c.requires.ready.follows (g.met.S.EventTaker.same_none _))
 
 pub many-preserved : goal.many-preserved
 many-preserved g c =
-    let s = g.S.EventTaker in
-    let how = how_of c.args.walk.now in
     let inv = c.many.invariant in
-    record {
-      how = c.take_block.ensures.stays.same_how ∙ inv.how;
-      counted = omega (arith, inv.counted, c.in_ok-take_block.ensures.goes_on.counted, c.split_at.ensures.back_len, c.split_at.ensures.front_len);
-      follows = rw (ap (λ (h : Reading). h.mode) inv.how) at c.in_ok-take_block.ensures.goes_on.follows;
-      so_far = λ before h.
-          let o = inv.so_far before h in
-          let front = numbers c.split_at.result.0.now in
-          let back = numbers c.split_at.result.1.now in
-          let fed = rw inv.how at (c.in_ok-take_block.ensures.fed (before ++ o.0) o.2) in (
-            o.0 ++ front,
-            parted (numbers c.args.words.now) o.0 (numbers c.many.rest.now) front back o.1 (numbers-parts c.many.rest.now c.split_at.result.0.now c.split_at.result.1.now c.split_at.ensures.by_index.0),
-            subst (IsBehind c.take_block.new.walk) (append_assoc before o.0 front) (c.in_ok-take_block.ensures.at (before ++ o.0) o.2),
-            subst (λ l. GaveOn s how c.args.taker.now c.take_block.new.taker before l) (append_assoc before o.0 front) (GaveOn-trans s how _ c.many.taker _ before (before ++ o.0) _ o.3 fed.1),
-          );
-      later = omega (arith, inv.later, c.take_block.ensures.stays.later);
-      same = g.met.S.EventTaker.same_more _ _ _ inv.same c.take_block.ensures.stays.same;
-    }
+    let front = c.split_at.result.0.now in
+    let back = c.split_at.result.1.now in (
+      inv.0 ++ front,
+      parted c.args.words.now inv.0 c.many.rest.now front back inv.1 c.split_at.ensures.by_index.0,
+      took-more g.S.EventTaker inv.2 (numbers (inv.0 ++ front)) (length (inv.0 ++ front))
+          (map-append (from_le_bytes w32) inv.0 front) (length-append inv.0 front)
+          c.in_ok-take_block.ensures.delivers c.in_ok-take_block.ensures.goes_on c.take_block.ensures.stays
+          (g.met.S.EventTaker.same_more _ _ _ inv.2.stays.same c.take_block.ensures.stays.same),
+    )
 
-pub returns-clause-fed : goal.returns-clause-fed
-returns-clause-fed g c = λ before h.
-    let s = g.S.EventTaker in
-    let how = how_of c.args.walk.now in
+pub returns-in_err-take_block-clause-delivers : goal.returns-in_err-take_block-clause-delivers
+returns-in_err-take_block-clause-delivers g c =
     let inv = c.many.invariant in
-    let o = inv.so_far before h in
-    let fed = rw inv.how at (c.take_block-2.ensures.fed (before ++ o.0) o.2) in
-    let all : (before ++ o.0) ++ numbers c.many.rest.now ≡ before ++ numbers c.args.words.now = append_assoc before o.0 (numbers c.many.rest.now) ∙ ap (λ l. before ++ l) (sym o.1) in
-    subst (λ l. Fed s how c.args.taker.now c.take_block-2.new.taker before l c.take_block-2.result) all
-    (Fed-trans s how _ c.many.taker _ before (before ++ o.0) _ c.take_block-2.result o.3 fed)
+    let back = c.split_at.result.1.now in
+    let p = err_from_is_err_and c.from_residual.result c.from_residual.ensures.1 in
+    rw (p.1, p.2)
+    (took-stop g.S.EventTaker inv.2 (numbers back) (numbers c.args.words.now)
+    (parted-numbers c.args.words.now inv.0 c.many.rest.now c.split_at.result.0.now back inv.1 c.split_at.ensures.by_index.0)
+    c.in_err-take_block.ensures.delivers)
+
+pub returns-clause-delivers : goal.returns-clause-delivers
+returns-clause-delivers g c = search (rules, arith, took-last, both-numbers)

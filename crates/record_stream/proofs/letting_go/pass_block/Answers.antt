@@ -7,10 +7,12 @@ use Rattle.record_stream.{specs.Walking.{how_of, clock_in}, proofs.Passed.{block
 use Rattle.record_stream.proofs.letting_go.pass_block.Goals as goal
 
 -- what is written behind no events
-goes_is : (out : Block) (pushed went gone front : List Event) → gathered out ≡ [] → pushed ≡ gathered out ++ gone → went ≡ pushed ++ front → went ≡ gone ++ front
+goes_is : (out : Block) (pushed went gone front : List Event) → gathered out ≡ []
+    → pushed ≡ gathered out ++ gone → went ≡ pushed ++ front → went ≡ gone ++ front
 goes_is out pushed went gone front blank is more = more ∙ ap (λ l. l ++ front) (is ∙ ap (λ l. l ++ gone) blank)
 
-stays_is : (cleared waiting items stay rest back : List Event) → cleared ≡ [] → waiting ≡ cleared ++ rest → items ≡ waiting ++ back → stay ≡ items → stay ≡ rest ++ back
+stays_is : (cleared waiting items stay rest back : List Event) → cleared ≡ []
+    → waiting ≡ cleared ++ rest → items ≡ waiting ++ back → stay ≡ items → stay ≡ rest ++ back
 stays_is cleared waiting items stay rest back none is more same = same ∙ more ∙ ap (λ l. l ++ back) (is ∙ ap (λ l. l ++ rest) none)
 
 -- As many as come go, and as many as were kept back stay: the first of both together, and the last.
@@ -23,7 +25,8 @@ record IsCut (b went : Block) (s : Settle) (stay : List Event) (len : ℕ) : Typ
 module _ (b out went : Block) (s : Settle) (len held least : ℕ) (pushed waiting all gone rest cleared items stay : List Event) (blank : gathered out ≡ [])
     (first : pushed ≡ gathered out ++ gone) (more : gathered went ≡ pushed ++ rows (event_at b) (len - least))
     (none : cleared ≡ []) (left : waiting ≡ cleared ++ rest) (back : items ≡ waiting ++ drop (len - least) (gathered b)) (same : stay ≡ items)
-    (whole : all ≡ kept_back s) (parts : all ≡ gone ++ rest) (front_len : length gone ≡ len - (len - least)) (count : len ≡ b.len) (held_is : held ≡ length (kept_back s)) (least_is : least ≡ min len held) where
+    (whole : all ≡ kept_back s) (parts : all ≡ gone ++ rest) (front_len : length gone ≡ len - (len - least))
+    (count : len ≡ b.len) (held_is : held ≡ length (kept_back s)) (least_is : least ≡ min len held) where
   went_is : gathered went ≡ gone ++ rows (event_at b) (len - least)
   went_is = goes_is out pushed (gathered went) gone (rows (event_at b) (len - least)) blank first more
 
@@ -73,7 +76,8 @@ pass-requires c =
     c.waiting.ensures.value c.split_at.ensures.by_index.0 c.split_at.ensures.front_len c.len-len.ensures.count c.held.ensures.value c.min.ensures in
     record {
       as_many = cuts.as_many;
-      low = rw (cuts.last c.time.result some c.time.ensures) (stays-low walk s (gathered b) went c.as_slice.result.now c.requires.settles c.requires.keeps c.requires.full c.requires.comes cuts.joined);
+      low = rw (cuts.last c.time.result some c.time.ensures)
+          (stays-low walk s (gathered b) went c.as_slice.result.now c.requires.settles c.requires.keeps c.requires.full c.requires.comes cuts.joined);
       rising = stays-rising walk s (gathered b) went c.as_slice.result.now c.requires.settles c.requires.keeps c.requires.full c.requires.comes cuts.joined;
     }
 
@@ -96,14 +100,18 @@ returns c =
     record {
       lets_go =
           let place = place_is b (placed_by (clock_in walk)) c.len-len.result c.event.result some c.len-len.ensures.count c.event.ensures in
-          lets_passed walk s (gathered b) went stay c.requires.settles c.requires.keeps c.requires.full comes cuts.joined c.pass.new.self c.pass.ensures.waits cuts.as_many
+          lets_passed walk s
+          (gathered b) went stay c.requires.settles c.requires.keeps c.requires.full comes cuts.joined c.pass.new.self c.pass.ensures.waits cuts.as_many
           (c.pass.ensures.time ∙ time) (stands.place ∙ ap (λ n. n + 1) place) stands.same_reach (stands.same_popped ∙ c.requires.keeps.unpopped);
       delivers = λ words h.
           let low = placed_by (clock_in walk) in
           let place = place_is b low c.len-len.result c.event.result some c.len-len.ensures.count c.event.ensures in
-          let next : c.event.result.place + 1 ≡ next_after (next_place s) (gathered b) = ap (λ n. n + 1) place ∙ sym (next-behind (next_place s) low (gathered b) (omega (arith, some, length-rows (event_at b) b.len))) in
-          let behind = comes_behind walk s (gathered b) went stay c.requires.settles c.requires.keeps c.requires.full comes cuts.joined c.time.result c.event.result.place time next in
-          let passed = c.pass.ensures.passed (ordered how.mode (events (map how.meaning words))) (not_marked (events_in how words)) (gathered b) went h.come.settled behind in
+          let next : c.event.result.place + 1 ≡ next_after (next_place s) (gathered b) =
+          ap (λ n. n + 1) place ∙ sym (next-behind (next_place s) low (gathered b) (omega (arith, some, length-rows (event_at b) b.len))) in
+          let behind = comes_behind walk s
+          (gathered b) went stay c.requires.settles c.requires.keeps c.requires.full comes cuts.joined c.time.result c.event.result.place time next in
+          let passed = c.pass.ensures.passed (ordered how.mode (events (map how.meaning words)))
+          (not_marked (events_in how words)) (gathered b) went h.come.settled behind in
           delivers_passed how s c.pass.new.self words (gathered b) went c.requires.settles c.requires.keeps.reach comes.ordered passed;
       unsorted = search rules;
     }

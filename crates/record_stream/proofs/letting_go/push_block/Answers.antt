@@ -1,8 +1,8 @@
 use Rattle.std.proofs.Common.{◌≡◌, ◌+◌, ◌<◌, ◌++◌, [], ◌∷◌, true, map, ap, sym, subst, ◌∙◌, arith, rules}
 use Rattle.tally_base.{specs.declared.event.Event.Event, specs.Events.is_ordered, specs.Columns.{event_at, gathered, rows}, proofs.Floors.order-at, proofs.BlockRows.{length-rows, more_rows}}
-use Rattle.ptu_definitions.{specs.Fitting.KindFits, specs.Kept.greatest, specs.Settled.{not_marked, ordered}, specs.Streams.events_in, specs.Times.events}
+use Rattle.ptu_definitions.{specs.Layouts.KindFits, specs.Kept.greatest, specs.Settled.{not_marked, ordered}, specs.Streams.events_in, specs.Times.events}
 use Rattle.abs_time.{specs.Placing.{IsSmall, placed_by}, specs.Floors.orders_markers}
-use Rattle.record_stream.{specs.LettingGo.{LetsGo, IsDelivered}, specs.Walking.{how_of, greatest_of, clock_in}, proofs.Eaches.{all-rows, each-rows}, proofs.LettingGo.{early-row, places-at, lets_on, delivers_on}}
+use Rattle.record_stream.{specs.LettingGo.{LetsGo, IsDelivered}, specs.Walking.{how_of, greatest_of, clock_in}, proofs.Gathering.{all-rows, each-rows}, proofs.LettingGo.{early-row, places-at, lets_on, delivers_on}}
 use Rattle.record_stream.proofs.letting_go.push_block.Goals as goal
 
 pub push-settled-requires-clause-behind : goal.push-settled-requires-clause-behind
@@ -44,11 +44,14 @@ loop-at-preserved c =
           let d = inv.delivers words h in
           let pushed = ordered how.mode (events (map how.meaning words) ++ rows f i) in
           let given = not_marked (events_in how words) ++ went in
-          let top_is : greatest_of walk ≡ greatest how.mode (events (map how.meaning words)) = h.behind.placed.greatest ∙ ap (λ m. greatest m (events (map how.meaning words))) walk.same_mode in
+          let top_is : greatest_of walk ≡ greatest how.mode (events (map how.meaning words)) =
+          h.behind.placed.greatest ∙ ap (λ m. greatest m (events (map how.meaning words))) walk.same_mode in
           let tells = push.pushed pushed given d.settled in
-          let first = early-row how.policy.settle how.mode (events (map how.meaning words)) f b.len i (greatest_of walk) e within top_is c.requires.comes.in_order is on in
+          let first = early-row how.policy.settle how.mode (events (map how.meaning words)) f b.len i
+          (greatest_of walk) e within top_is c.requires.comes.in_order is on in
           subst (λ l. IsDelivered how new words l went') grown
-          (delivers_on how old new words (rows f i) went e c.requires.settles d went' o late old.reach (inv.lets_go.reach ∙ c.requires.keeps.reach) on c.push_some.ensures.more first tells.overtaken tells.tells tells.settled);
+          (delivers_on how old new words (rows f i) went e c.requires.settles d went' o late old.reach
+          (inv.lets_go.reach ∙ c.requires.keeps.reach) on c.push_some.ensures.more first tells.overtaken tells.tells tells.settled);
       unsorted = c.push_some.ensures.unsorted ∙ inv.unsorted;
     }
 

@@ -7,6 +7,7 @@ use Rattle.record_stream.proofs.letting_go.push_block.Given as goal
 abbrev pub invariant-loop-at : goal.invariant-loop-at
 invariant-loop-at l = record {
   lets_go : LetsGo (how_of l.walk).mode (placed_by (clock_in l.walk)) l.fn.settle l.settle (rows (event_at l.block) l.at) (gathered l.out);
-  delivers : (words : List ℕ) → IsSettledBehind l.walk l.fn.settle words → IsDelivered (how_of l.walk) l.settle words (rows (event_at l.block) l.at) (gathered l.out);
+  delivers : (words : List ℕ) → IsSettledBehind l.walk l.fn.settle words
+      → IsDelivered (how_of l.walk) l.settle words (rows (event_at l.block) l.at) (gathered l.out);
   unsorted : sorted l.out ≡ 0;
 }

@@ -13,7 +13,8 @@ loop-event-preserved g c =
     let low = last_time c.pop.new.self in
     let rises : last_time c.loop-event.settle ≤ c.in-Some.event.time = c.in-Some.ensures.moves.rises in
     let time : low ≡ c.in-Some.event.time = c.in-Some.ensures.moves.time in
-    let bound = floor-most (how_of c.loop-event.walk).mode (s.floor c.loop-event.taker) low c.in-Some.event (omega (arith, inv.low, rises, time)) (omega (arith, time)) in
+    let bound = floor-most (how_of c.loop-event.walk).mode (s.floor c.loop-event.taker) low c.in-Some.event
+    (omega (arith, inv.low, rises, time)) (omega (arith, time)) in
     gave_one s c.args.walk.now c.args.taker.now (kept_back c.args.settle.now) (tt {0}) c.loop-event.walk c.give_event.new.self c.loop-event.taker c.give_event.new.taker (kept_back c.loop-event.settle) (kept_back c.pop.new.self) (last_time c.loop-event.settle) low c.in-Some.event
     inv c.in-Some.ensures.least c.in_ok-give_event.ensures.gave.got c.in_ok-give_event.ensures.gave.noted c.give_event.ensures.keeps (c.in_ok-give_event.ensures.gave.follows low bound) c.in_ok-give_event.ensures.cause.kept (g.met.S.EventTaker.same_more _ _ _ inv.same c.give_event.ensures.same)
 

@@ -1,12 +1,10 @@
-use Rattle.std.{proofs.Common.{refl, ◌≡◌, ◌≢◌, ◌+◌, ℕ, List, [], ◌∷◌, ◌++◌, None, Ok, Err, OnOk, length, map, sym, ap, subst, ◌∙◌, add-zero}, proofs.lemmas.Result.err_from_is_err_and, specs.declared.result.Result.Result}
-use Rattle.abs_time.{specs.declared.clock.Placed.TheVariants.{Event as InOrder, Late}, specs.declared.clock.Placed.Placed}
-use Rattle.tally_base.{specs.declared.event.Event.Event, specs.declared.fault.Fault.Fault}
-use Rattle.ptu_definitions.{specs.Settled.{ordered, not_marked}, specs.Streams.{Reading, refusal, events_in}, specs.Times.events, proofs.StreamLemmas.fresh}
+use Rattle.std.{proofs.Common.{refl, ◌≡◌, ◌≢◌, ℕ, List, [], ◌∷◌, ◌++◌, Some, Ok, Err, OnOk, map, subst, sym, ◌∙◌, inr, ⊎_elim}, proofs.lemmas.Result.err_from_is_err_and, specs.declared.result.Result.Result}
+use Rattle.abs_time.{specs.declared.clock.Placed.Placed}
+use Rattle.tally_base.{specs.declared.event.Event.Event, specs.declared.fault.Fault.Fault, specs.declared.fault.Fault.TheVariants.WriteFault}
+use Rattle.ptu_definitions.{specs.Settled.{ordered, not_marked}, specs.Kept.Marked, specs.Streams.{Reading, refusal, events_in}, specs.Times.events, proofs.StreamLemmas.fresh}
 use Rattle.settle.specs.declared.settle.Settle.{Settle}
-use Rattle.record_stream.{specs.Walking.{how_of, given_by, summary_in, clock_in, KeepsPlace}, proofs.Placed.{skipped-event, event_in, top_in, comes, refused-placed, fresh-placed, skipped-refusal, skipped-fresh}, proofs.Steps.{refused_fed, placed_at, told_fed, skipped_fed}, specs.Feeding.Fed, specs.Keeping.{HasCome, tells, refused_for}, specs.Recorded.IsPlaced, specs.Settling.{IsSettledBehind, Tells, Told, Untold}, specs.declared.taker.EventTaker.Ghosts, specs.declared.walk.Walk.Walk, proofs.Settles.{come_event, come_none}}
+use Rattle.record_stream.{specs.Walking.{how_of, given_by, KeepsPlace}, proofs.Feeds.delivers-both, proofs.Placed.{skipped-event, event_in, top_in, comes, refused-placed, fresh-placed, skipped-fresh}, proofs.Steps.{refused_fed, word_at, word_gave, word_broke, skipped_word}, specs.Feeding.Fed, specs.Keeping.{HasCome, tells, refused_for}, specs.Rows.IsPlaced, specs.Settling.{IsSettledBehind, BrokeAt, Tells, Told, Untold}, specs.declared.taker.EventTaker.Ghosts, specs.declared.walk.Walk.Walk, proofs.Settles.{come_event, come_none}}
 use Rattle.record_stream.proofs.settled.settle_word.Goals as goal
-
--- one word more where events are put in their places
 
 -- the events in order of these words
 abbrev came_in : Reading → List ℕ → List Event
@@ -16,104 +14,78 @@ came_in how ws = ordered how.mode (events (map how.meaning ws))
 abbrev gone_in : Reading → List ℕ → List Event
 gone_in how ws = not_marked (events_in how ws)
 
-module _ (old mid : Walk) (ws : List ℕ) (w : ℕ) (p : Placed) (placed : IsPlaced old mid ws w p) (same_how : how_of mid ≡ how_of old) where
-  module _ (e : Event) (is : event_in p ≡ e ∷ []) where
+-- One word more where events are put in their places.
+module _ {T : Type 0} (g : Ghosts T) {old mid : Walk} {ws : List ℕ} {w : ℕ} {p : Placed} (settle settle' : Settle) (t : T)
+    (placed : IsPlaced old mid ws w p) (same_how : how_of mid ≡ how_of old) (same_given : given_by mid ≡ given_by old)
+    (b : IsSettledBehind old settle ws) where
+  module _ (new : Walk) (now : T) (e : Event) (is : event_in p ≡ e ∷ []) (some : (how_of old).policy.settle ≢ 0) (place : KeepsPlace mid new) where
+    marks : Marked
+    marks = tells (how_of old).policy.settle (how_of old).mode (came_in (how_of old) ws) e
+
     refuses : refusal (how_of old) ws w ≡ refused_for (how_of old) (came_in (how_of old) ws) e (top_in p)
     refuses = placed.refusal ∙ refused-placed (how_of old) (map (how_of old).meaning ws) ((how_of old).meaning w) p e placed.answer is
 
-    adds : (how_of old).policy.settle ≢ 0 → fresh (how_of old) ws ((how_of old).meaning w) ≡ tells (how_of old).policy.settle (how_of old).mode (came_in (how_of old) ws) e
-    adds some = fresh-placed (how_of old) ws ((how_of old).meaning w) p e some placed.answer is
+    adds : fresh (how_of old) ws ((how_of old).meaning w) ≡ marks
+    unfolding marks
+    adds = fresh-placed (how_of old) ws ((how_of old).meaning w) p e some placed.answer is
 
-    word_at : {T X : Type 0} (g : Ghosts T) (r : Result X Fault) (new : Walk) (settle settle' : Settle) (t now : T) → (how_of old).policy.settle ≢ 0 → given_by mid ≡ given_by old → KeepsPlace mid new → IsSettledBehind old settle ws
-        → Tells g mid new settle settle' t now (came_in (how_of old) ws) (gone_in (how_of old) ws) e (top_in p) r → OnOk r (IsSettledBehind new settle' (ws ++ w ∷ []))
-    word_at g (Ok x) new settle settle' t now some same_given place b told_mid =
+    told_word : {X : Type 0} (r : Result X Fault) → Tells g mid new settle settle' t now (came_in (how_of old) ws) (gone_in (how_of old) ws) e (top_in p) r
+        → OnOk r (IsSettledBehind new settle' (ws ++ w ∷ [])) × Fed g (how_of old) t now ws (ws ++ w ∷ []) r
+    unfolding marks
+    told_word (Ok x) told_mid =
         let how = how_of old in
         let told = subst (λ h. Told g h mid new settle settle' t now (came_in how ws) (gone_in how ws) e (top_in p)) same_how told_mid in
-        let came = (comes how.mode (map how.meaning ws) (how.meaning w) p placed.answer).0 ∙ is in
-        record {
-          behind =
-              placed_at how (how_of new) (clock_in old) (clock_in mid) (clock_in new) (summary_in old) (summary_in mid) (summary_in new) (given_by old) (given_by new) ws w (tells how.policy.settle how.mode (came_in how ws) e)
-              (place.same_how ∙ same_how) place.same_clock b.behind (refuses ∙ told.unrefused) placed.clock (adds some) placed.summary told.summary (told.counted ∙ ap (λ n. n + length (tells how.policy.settle how.mode (came_in how ws) e)) same_given);
-          come = subst (λ h. HasCome h settle' (ws ++ w ∷ [])) (sym (place.same_how ∙ same_how)) (come_event how settle settle' ws w e b.come came (adds some) told.settled told.greatest);
-        }
-    word_at g (Err y) new settle settle' t now some same_given place b told_mid = tt
+        let none = refuses ∙ told.unrefused in
+        let came = (comes how.mode (map how.meaning ws) (how.meaning w) p placed.answer).0 ∙ is in (
+          record {
+            behind = word_at marks placed same_how b.behind none adds new place same_given told.summary told.counted;
+            come = subst (λ h. HasCome h settle' (ws ++ w ∷ [])) (sym (place.same_how ∙ same_how))
+                (come_event how settle settle' ws w e b.come came adds told.settled told.greatest);
+          },
+          word_gave marks placed same_how b.behind none adds g told.got told.kept,
+        )
+    told_word {X} (Err y) untold_mid =
+        let how = how_of old in (
+          tt,
+          ⊎_elim
+              (λ (q : (refused_for how (came_in how ws) e (top_in p) ≡ Some y) × (now ≡ t)).
+              rw q.1 (refused_fed g X how t ws w y b.behind.clear (refuses ∙ q.0)))
+              (λ (q : (y ≡ WriteFault) × BrokeAt g how t now (came_in how ws) e (top_in p)).
+              inr (q.0, word_broke marks placed same_how b.behind (refuses ∙ q.1.unrefused) adds g q.1.some q.1.broken q.1.rose))
+              (subst (λ h. Untold g h t now (came_in how ws) e (top_in p) y) same_how untold_mid),
+        )
 
-    word_fed : {T X : Type 0} (g : Ghosts T) (r : Result X Fault) (new : Walk) (settle settle' : Settle) (t now : T) → (how_of old).policy.settle ≢ 0 → IsSettledBehind old settle ws
-        → Tells g mid new settle settle' t now (came_in (how_of old) ws) (gone_in (how_of old) ws) e (top_in p) r
-        → Fed g (how_of old) t now ws (ws ++ w ∷ []) r
-    word_fed g (Ok x) new settle settle' t now some b told =
-        let how = how_of old in
-        told_fed g how mid new settle settle' t now ws w (came_in how ws) (gone_in how ws) e (top_in p) (Ok x) b.behind.clear refuses (adds some)
-        (subst (λ h. Told g h mid new settle settle' t now (came_in how ws) (gone_in how ws) e (top_in p)) same_how told) tt
-    word_fed {X} g (Err y) new settle settle' t now some b untold =
-        let how = how_of old in
-        told_fed g {X = X} how mid new settle settle' t now ws w (came_in how ws) (gone_in how ws) e (top_in p) (Err y) b.behind.clear refuses (adds some) tt
-        (subst (λ h. Untold g h t now (came_in how ws) e (top_in p) y) same_how untold)
+  skip_word : event_in p ≡ [] → IsSettledBehind mid settle (ws ++ w ∷ []) × Fed g {X = Unit {0}} (how_of old) t t ws (ws ++ w ∷ []) (Ok tt)
+  skip_word none =
+      let how = how_of old in
+      let came = (comes how.mode (map how.meaning ws) (how.meaning w) p placed.answer).0 ∙ none in
+      let skipped = skipped_word g placed same_how same_given b.behind t none in
+      let come = come_none how settle ws w b.come came (skipped-fresh how ws (how.meaning w) p placed.answer none) in
+      (record { behind = skipped.0; come = subst (λ h. HasCome h settle (ws ++ w ∷ [])) (sym same_how) come }, skipped.1)
 
-  -- a word with no event
-  module _ (none : event_in p ≡ []) where
-    passes : refusal (how_of old) ws w ≡ None
-    passes = placed.refusal ∙ skipped-refusal (how_of old) (map (how_of old).meaning ws) ((how_of old).meaning w) p placed.answer none
-
-    empty : fresh (how_of old) ws ((how_of old).meaning w) ≡ []
-    empty = skipped-fresh (how_of old) ws ((how_of old).meaning w) p placed.answer none
-
-    skip_at : (settle : Settle) → given_by mid ≡ given_by old → IsSettledBehind old settle ws → IsSettledBehind mid settle (ws ++ w ∷ [])
-    skip_at settle same_given b =
-        let how = how_of old in
-        let came = (comes how.mode (map how.meaning ws) (how.meaning w) p placed.answer).0 ∙ none in
-        record {
-          behind =
-              placed_at how (how_of mid) (clock_in old) (clock_in mid) (clock_in mid) (summary_in old) (summary_in mid) (summary_in mid) (given_by old) (given_by mid) ws w [] same_how refl b.behind passes placed.clock empty placed.summary refl
-              (same_given ∙ sym (add-zero (given_by old)));
-          come = subst (λ h. HasCome h settle (ws ++ w ∷ [])) (sym same_how) (come_none how settle ws w b.come came empty);
-        }
-
-    skip_fed : {T X : Type 0} (g : Ghosts T) (settle : Settle) (t : T) (x : X) → IsSettledBehind old settle ws → Fed g (how_of old) t t ws (ws ++ w ∷ []) (Ok x)
-    skip_fed g settle t x b = skipped_fed g (how_of old) t ws w x b.behind.clear passes empty
-
-pub returns-in_err-event-clause-fed : goal.returns-in_err-event-clause-fed
-returns-in_err-event-clause-fed g c = λ words h.
-    let how = how_of c.args.walk.now in
+pub returns-in_err-event-clause-delivers : goal.returns-in_err-event-clause-delivers
+returns-in_err-event-clause-delivers g c = delivers-both g.S.EventTaker (λ words h.
     let p = err_from_is_err_and c.from_residual.result c.from_residual.ensures.1 in
-    rw (p.1, p.2) (refused_fed g.S.EventTaker (Unit {0}) how _ words c.args.word _ h.behind.clear (c.in_err-event.ensures.refused words h.behind))
+    rw (p.1, p.2)
+    (tt, refused_fed g.S.EventTaker (Unit {0}) (how_of c.args.walk.now) _ words c.args.word _ h.behind.clear (c.in_err-event.ensures.refused words h.behind)))
 
-pub returns-in-Event-clause-at : goal.returns-in-Event-clause-at
-returns-in-Event-clause-at g c = λ words h.
+pub returns-in-Event-clause-delivers : goal.returns-in-Event-clause-delivers
+returns-in-Event-clause-delivers g c = delivers-both g.S.EventTaker (λ words h.
     let how = how_of c.args.walk.now in
-    let e = c.in-Event.event in
-    let placed = rw c.in-Event.is at (c.in_ok-event.ensures.placed words h.behind) in
-    word_at _ _ _ _ (InOrder e) placed c.place_next.ensures.keeps.same_how e refl g.S.EventTaker c.settle_event.result c.settle_event.new.walk _ c.settle_event.new.settle c.args.taker.now c.settle_event.new.taker
-    c.requires.ready.settles c.place_next.ensures.keeps.same_given c.settle_event.ensures.place h (c.settle_event.ensures.answers (came_in how words) (gone_in how words) h.come.settled)
+    told_word g.S.EventTaker _ _ _ (rw c.in-Event.is at (c.in_ok-event.ensures.placed words h.behind))
+    c.place_next.ensures.keeps.same_how c.place_next.ensures.keeps.same_given h _ _ c.in-Event.event refl
+    c.requires.ready.settles c.settle_event.ensures.place c.settle_event.result
+    (c.settle_event.ensures.answers (came_in how words) (gone_in how words) h.come.settled))
 
-pub returns-in-Event-clause-fed : goal.returns-in-Event-clause-fed
-returns-in-Event-clause-fed g c = λ words h.
+pub returns-in-Late-clause-delivers : goal.returns-in-Late-clause-delivers
+returns-in-Late-clause-delivers g c = delivers-both g.S.EventTaker (λ words h.
     let how = how_of c.args.walk.now in
-    let e = c.in-Event.event in
-    let placed = rw c.in-Event.is at (c.in_ok-event.ensures.placed words h.behind) in
-    word_fed _ _ _ _ (InOrder e) placed c.place_next.ensures.keeps.same_how e refl g.S.EventTaker c.settle_event.result c.settle_event.new.walk _ c.settle_event.new.settle c.args.taker.now c.settle_event.new.taker
-    c.requires.ready.settles h (c.settle_event.ensures.answers (came_in how words) (gone_in how words) h.come.settled)
+    told_word g.S.EventTaker _ _ _ (rw c.in-Late.is at (c.in_ok-event.ensures.placed words h.behind))
+    c.place_next.ensures.keeps.same_how c.place_next.ensures.keeps.same_given h _ _ c.in-Late.event refl
+    c.requires.ready.settles c.settle_event-in-Late.ensures.place c.settle_event-in-Late.result
+    (c.settle_event-in-Late.ensures.answers (came_in how words) (gone_in how words) h.come.settled))
 
-pub returns-in-Late-clause-at : goal.returns-in-Late-clause-at
-returns-in-Late-clause-at g c = λ words h.
-    let how = how_of c.args.walk.now in
-    let e = c.in-Late.event in
-    let placed = rw c.in-Late.is at (c.in_ok-event.ensures.placed words h.behind) in
-    word_at _ _ _ _ (Late e c.in-Late.before) placed c.place_next.ensures.keeps.same_how e refl g.S.EventTaker c.settle_event-in-Late.result c.settle_event-in-Late.new.walk _ c.settle_event-in-Late.new.settle c.args.taker.now c.settle_event-in-Late.new.taker
-    c.requires.ready.settles c.place_next.ensures.keeps.same_given c.settle_event-in-Late.ensures.place h (c.settle_event-in-Late.ensures.answers (came_in how words) (gone_in how words) h.come.settled)
-
-pub returns-in-Late-clause-fed : goal.returns-in-Late-clause-fed
-returns-in-Late-clause-fed g c = λ words h.
-    let how = how_of c.args.walk.now in
-    let e = c.in-Late.event in
-    let placed = rw c.in-Late.is at (c.in_ok-event.ensures.placed words h.behind) in
-    word_fed _ _ _ _ (Late e c.in-Late.before) placed c.place_next.ensures.keeps.same_how e refl g.S.EventTaker c.settle_event-in-Late.result c.settle_event-in-Late.new.walk _ c.settle_event-in-Late.new.settle c.args.taker.now c.settle_event-in-Late.new.taker
-    c.requires.ready.settles h (c.settle_event-in-Late.ensures.answers (came_in how words) (gone_in how words) h.come.settled)
-
-pub returns-in-Wrap-clause-at : goal.returns-in-Wrap-clause-at
-returns-in-Wrap-clause-at g c = λ words h.
-    skip_at c.args.walk.now c.place_next.new.self words c.args.word _ (c.in_ok-event.ensures.placed words h.behind) c.place_next.ensures.keeps.same_how (skipped-event _ c.in-Wrap.is) c.args.settle.now c.place_next.ensures.keeps.same_given h
-
-pub returns-in-Wrap-clause-fed : goal.returns-in-Wrap-clause-fed
-returns-in-Wrap-clause-fed g c = λ words h.
-    skip_fed c.args.walk.now c.place_next.new.self words c.args.word _ (c.in_ok-event.ensures.placed words h.behind) c.place_next.ensures.keeps.same_how (skipped-event _ c.in-Wrap.is) g.S.EventTaker c.args.settle.now c.args.taker.now (tt {0}) h
+pub returns-in-Wrap-clause-delivers : goal.returns-in-Wrap-clause-delivers
+returns-in-Wrap-clause-delivers g c = delivers-both g.S.EventTaker (λ words h.
+    skip_word g.S.EventTaker _ c.args.settle.now _ (c.in_ok-event.ensures.placed words h.behind)
+    c.place_next.ensures.keeps.same_how c.place_next.ensures.keeps.same_given h (skipped-event _ c.in-Wrap.is))

@@ -13,15 +13,17 @@ few-stay below columns n = few-staying (stays below columns) n
 first-rows : {X : Type 0} (f g : ℕ → X) (m n : ℕ) → n ≤ m → rows f m ≡ map g (range_with_len 0 m) → rows f n ≡ map g (range_with_len 0 n)
 first-rows f g m n le is =
     let split = rows-split f n m le in
-    sym (take-append_seam (rows f n) split.0) ∙ ap (λ k. take k (rows f n ++ split.0)) (length-rows f n) ∙ ap (take n) (sym split.1 ∙ is) ∙ take-map-range_with_len g 0 m n le
+    sym (take-append_seam (rows f n) split.0) ∙ ap (λ k. take k (rows f n ++ split.0)) (length-rows f n)
+    ∙ ap (take n) (sym split.1 ∙ is) ∙ take-map-range_with_len g 0 m n le
 
-few-sums : (columns : Columns) → ((i : ℕ) → i < 64 → wraps_at columns i ≤ 2 ^ 25) → ((i : ℕ) → i < 64 → slice_index columns.sums i ≡ sum_to (wraps_at columns) (i + 1)) → (i : ℕ) → i < 64 → slice_index columns.sums i ≤ 2 ^ 31
+few-sums : (columns : Columns) → ((i : ℕ) → i < 64 → wraps_at columns i ≤ 2 ^ 25)
+    → ((i : ℕ) → i < 64 → slice_index columns.sums i ≡ sum_to (wraps_at columns) (i + 1)) → (i : ℕ) → i < 64 → slice_index columns.sums i ≤ 2 ^ 31
 few-sums columns few sums i lt = omega (arith, sums i lt, sum-few (wraps_at columns) (2 ^ 25) (i + 1) (λ k less. few k (omega (arith, less, lt))), lt)
 
 pub rises-in_order-requires-clause-sums : goal.rises-in_order-requires-clause-sums
 rises-in_order-requires-clause-sums g c =
     let few : (i : ℕ) → i < 64 → wraps_at c.add_up-wraps.new.self i ≤ 2 ^ 25 = λ i lt.
-    let is = c.requires.rows i (omega (arith, c.requires.whole.many, lt)) in
+    let is = c.requires.rows i (omega (arith, c.requires.whole, lt)) in
     let some = g.met.R.RecordLayout.wraps_few (from_le_bytes w32 (get_or c.args.words.now i [])) (wraps_at c.args.columns.now i) is.amounts in
     omega (arith, some, ap (λ l. get_or l i 0) c.add_up-wraps.ensures.wraps) in
     few-sums c.add_up-wraps.new.self few c.add_up-wraps.ensures.sums
@@ -34,8 +36,9 @@ last_time-requires g c = omega (arith, c.fill-len.ensures.count, few-stay c.gath
 
 pub returns-clause-kept : goal.returns-clause-kept
 returns-clause-kept g c = (
-  omega (arith, c.fill-len.ensures.count, few-stay c.gathered_below-below.result c.add_up-wraps.new.self 64, c.requires.whole.many),
-  λ i lt. subst (λ r. IsRow g.R.RecordLayout.meaning r (from_le_bytes w32 (get_or c.args.words.now i []))) (sym (c.add_up-wraps.ensures.same g.R.RecordLayout.UNIT i)) (c.requires.rows i lt),
+  omega (arith, c.fill-len.ensures.count, few-stay c.gathered_below-below.result c.add_up-wraps.new.self 64, c.requires.whole),
+  λ i lt. subst (λ r. IsRow g.R.RecordLayout.meaning r (from_le_bytes w32 (get_or c.args.words.now i [])))
+      (sym (c.add_up-wraps.ensures.same g.R.RecordLayout.UNIT i)) (c.requires.rows i lt),
 )
 
 pub returns-clause-gathers : goal.returns-clause-gathers
@@ -49,15 +52,19 @@ returns-clause-gathers g c =
     let close = c.fill-len.new.self in
     let len = c.fill-len.result in
     let sure = c.rises-in_order.result in
-    let whole = c.requires.whole.many in
+    let whole = c.requires.whole in
     let start = base_of (clock_in walk) in
     let rows : HasRows meaning unit columns words = λ i lt.
     subst (λ r. IsRow meaning r (from_le_bytes w32 (get_or words i []))) (sym (c.add_up-wraps.ensures.same unit i)) (c.requires.rows i lt) in
     let rises : sure ≡ true → Rises (greatest_of walk) (time_in start unit columns) 64 = λ is.
-    subst (λ b. Rises (greatest_of walk) (time_in b unit columns) 64) c.base-base.ensures.value (subst (λ l. Rises l (time_in c.base-base.result unit columns) 64) c.greatest-low.ensures (c.rises-in_order.ensures.rises is)) in
-    let ordered_is : c.ordered_below-ordered.result ≡ ordered_below (how_of walk).mode = c.ordered_below-ordered.ensures ∙ ap ordered_below (c.mode.ensures ∙ walk.same_mode) in
-    let below_is : c.gathered_below-below.result ≡ gathered_below only (how_of walk).mode = c.gathered_below-below.ensures ∙ ap (gathered_below only) (c.mode-2.ensures ∙ walk.same_mode) in
-    let has : HasStayed (gathered_below only (how_of walk).mode) columns 64 close len = subst (λ b. HasStayed b columns 64 close len) below_is c.fill-len.ensures in
+    subst (λ b. Rises (greatest_of walk) (time_in b unit columns) 64) c.base-base.ensures.value
+    (subst (λ l. Rises l (time_in c.base-base.result unit columns) 64) c.greatest-low.ensures (c.rises-in_order.ensures.rises is)) in
+    let ordered_is : c.ordered_below-ordered.result ≡ ordered_below (how_of walk).mode =
+    c.ordered_below-ordered.ensures ∙ ap ordered_below (c.mode.ensures ∙ walk.same_mode) in
+    let below_is : c.gathered_below-below.result ≡ gathered_below only (how_of walk).mode =
+    c.gathered_below-below.ensures ∙ ap (gathered_below only) (c.mode-2.ensures ∙ walk.same_mode) in
+    let has : HasStayed (gathered_below only (how_of walk).mode) columns 64 close len =
+    subst (λ b. HasStayed b columns 64 close len) below_is c.fill-len.ensures in
     let few_placed : placed_by (clock_in walk) + 100 ≤ 2 ^ 64 = omega (arith, walk.few_placed, walk.few, walk.limit) in
     let few : (i : ℕ) → i < 64 → wraps_at columns i ≤ 2 ^ 25 = λ i lt.
     let is = c.requires.rows i (omega (arith, whole, lt)) in
@@ -71,18 +78,24 @@ returns-clause-gathers g c =
     omega (arith, product, time_few, few-sums columns few c.add_up-wraps.ensures.sums i lt, c.requires.passes.base) in
     let wraps : c.from.result ≡ sum_to (wraps_at columns) 64 = c.from.ensures ∙ c.add_up-wraps.ensures.value in
     let sum_is : c.base-base.result + c.unit.result * c.from.result ≡ start + unit * sum_to (wraps_at columns) 64 =
-    ap (λ b. b + c.unit.result * c.from.result) c.base-base.ensures.value ∙ ap (λ u. start + u * c.from.result) c.unit.ensures ∙ ap (λ w. start + unit * w) wraps in
-    let top_is : c.last_time.result ≡ last_below (ordered_below (how_of walk).mode) (greatest_of walk) (code_at close) (λ i. time_at start unit close i % 2 ^ 64) len =
+    ap (λ b. b + c.unit.result * c.from.result) c.base-base.ensures.value
+    ∙ ap (λ u. start + u * c.from.result) c.unit.ensures ∙ ap (λ w. start + unit * w) wraps in
+    let top_is : c.last_time.result ≡ last_below (ordered_below (how_of walk).mode)
+    (greatest_of walk) (code_at close) (λ i. time_at start unit close i % 2 ^ 64) len =
     c.last_time.ensures ∙ ap (λ o. last_below o c.greatest-low.result (code_at close) (λ i. time_at c.base-base.result unit close i % 2 ^ 64) len) ordered_is
-    ∙ ap (λ l. last_below (ordered_below (how_of walk).mode) l (code_at close) (λ i. time_at c.base-base.result unit close i % 2 ^ 64) len) c.greatest-low.ensures
-    ∙ ap (λ b. last_below (ordered_below (how_of walk).mode) (greatest_of walk) (code_at close) (λ i. time_at b unit close i % 2 ^ 64) len) c.base-base.ensures.value in
+    ∙ ap (λ l. last_below (ordered_below (how_of walk).mode) l (code_at close) (λ i. time_at c.base-base.result unit close i % 2 ^ 64) len)
+    c.greatest-low.ensures
+    ∙ ap (λ b. last_below (ordered_below (how_of walk).mode) (greatest_of walk) (code_at close) (λ i. time_at b unit close i % 2 ^ 64) len)
+    c.base-base.ensures.value in
     let len_few : len ≤ 64 = omega (arith, has.count, few-stay (gathered_below only (how_of walk).mode) columns 64) in
     let es_are : written c.write_rows.new.block len ≡ map (close_event (placed_by (clock_in walk) + 1) start unit close) (range_with_len 0 len) =
     first-rows (event_at c.write_rows.new.block) (close_event (c.placed.result + 1) c.base-base.result unit close) 64 len len_few c.write_rows.ensures.events
     ∙ ap (λ p. map (close_event (p + 1) c.base-base.result unit close) (range_with_len 0 len)) c.placed.ensures.value
     ∙ ap (λ b. map (close_event (placed_by (clock_in walk) + 1) b unit close) (range_with_len 0 len)) c.base-base.ensures.value in
-    gathers-close walk words meaning c.requires.meaning c.requires.passes only unit columns rows whole c.add_up-wraps.ensures.sums sure rises 64 (omega arith) close len has few_placed fits
-    (c.base-base.result + c.unit.result * c.from.result) c.last_time.result (written c.write_rows.new.block len) (take_all 64 words (omega (arith, whole))) sum_is top_is es_are
+    gathers-close walk words meaning c.requires.meaning c.requires.passes only unit columns rows whole c.add_up-wraps.ensures.sums sure rises 64
+    (omega arith) close len has few_placed fits
+    (c.base-base.result + c.unit.result * c.from.result) c.last_time.result
+    (written c.write_rows.new.block len) (take_all 64 words (omega (arith, whole))) sum_is top_is es_are
 
 pub returns-clause-blank : goal.returns-clause-blank
 returns-clause-blank g c = record {

@@ -7,7 +7,8 @@ same_event : (p p' c c' d d' t t' : ℕ) → p ≡ p' → c ≡ c' → d ≡ d' 
 same_event p p' c c' d d' t t' ps cs ds ts = rw (ps, cs, ds, ts) refl
 
 -- one event more
-one-more : (f : ℕ → Event) (i : ℕ) (old new : List Event) (e : Event) → new ≡ old ++ e ∷ [] → e ≡ f i → old ≡ map f (range_with_len 0 i) → new ≡ map f (range_with_len 0 (i + 1))
+one-more : (f : ℕ → Event) (i : ℕ) (old new : List Event) (e : Event) → new ≡ old ++ e ∷ []
+    → e ≡ f i → old ≡ map f (range_with_len 0 i) → new ≡ map f (range_with_len 0 (i + 1))
 one-more f i old new e put is so_far = rw (put, is, so_far) (sym (map-range_with_len_more f 0 i i (omega arith)))
 
 pub loop-i-preserved : goal.loop-i-preserved
@@ -17,9 +18,11 @@ loop-i-preserved g c =
     let f = close_event c.args.first c.args.base g.R.RecordLayout.UNIT c.args.close.now in
     let place = (c.args.first + c.place.result) % 2 ^ 64 in
     let is : event_by place c.code.result c.dtime.result c.time-time.result ≡ f i =
-    same_event place _ c.code.result _ c.dtime.result _ c.time-time.result _ (ap (λ (k : ℕ). (c.args.first + k) % 2 ^ 64) c.place.ensures) c.code.ensures c.dtime.ensures c.time-time.ensures in
+    same_event place _ c.code.result _ c.dtime.result _ c.time-time.result _
+    (ap (λ (k : ℕ). (c.args.first + k) % 2 ^ 64) c.place.ensures) c.code.ensures c.dtime.ensures c.time-time.ensures in
     record {
-      events = one-more f i (written c.loop-i.block i) (written c.write.new.self (i + 1)) (event_by place c.code.result c.dtime.result c.time-time.result) c.write.ensures.more is inv.events;
+      events = one-more f i (written c.loop-i.block i) (written c.write.new.self (i + 1))
+          (event_by place c.code.result c.dtime.result c.time-time.result) c.write.ensures.more is inv.events;
       count = c.write.ensures.count ∙ inv.count;
       unsorted = c.write.ensures.unsorted ∙ inv.unsorted;
     }

@@ -5,7 +5,8 @@ use Rattle.record_write.proofs.words.put_photon.Goals as goal
 pub returns-in_err-put_wraps-clause-cut : goal.returns-in_err-put_wraps-clause-cut
 returns-in_err-put_wraps-clause-cut g c =
     let e = err_from_is_err_and c.from_residual.result c.from_residual.ensures.1 in
-    rw e.1 (cuts-units _ _ c.args.block.now _ c.args.mode c.args.before c.args.input c.args.dtime c.args.time _ _ c.most_of.ensures.value c.units_between-units.ensures c.in_err-put_wraps.ensures.cut)
+    rw e.1 (cuts-units _ _ c.args.block.now _ c.args.mode c.args.before c.args.input c.args.dtime
+    c.args.time _ _ c.most_of.ensures.value c.units_between-units.ensures c.in_err-put_wraps.ensures.cut)
 
 pub returns-clause-all : goal.returns-clause-all
 returns-clause-all g c = on_ok_weaker c.put_word.result

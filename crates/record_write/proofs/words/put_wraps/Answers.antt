@@ -12,8 +12,10 @@ returns-then-rest-eq0-clause-all g c = puts-even _ _ c.args.block.now _ c.args.m
 
 pub returns-clause-all : goal.returns-clause-all
 returns-clause-all g c = on_ok_weaker c.put_word.result
-    (λ p. puts-odd _ _ _ c.args.block.now c.put_copies.new.block _ c.args.most c.args.units _ _ refl refl c.if-rest-eq0.false c.in_ok-put_copies.ensures.all p) c.put_word.ensures.all
+    (λ p. puts-odd _ _ _ c.args.block.now c.put_copies.new.block _ c.args.most c.args.units _ _ refl refl c.if-rest-eq0.false c.in_ok-put_copies.ensures.all p)
+    c.put_word.ensures.all
 
 pub returns-clause-cut : goal.returns-clause-cut
 returns-clause-cut g c = on_err_weaker c.put_word.result
-    (λ p. cuts-odd _ _ _ c.args.block.now c.put_copies.new.block _ c.args.most c.args.units _ _ refl refl c.if-rest-eq0.false c.in_ok-put_copies.ensures.all p) c.put_word.ensures.cut
+    (λ p. cuts-odd _ _ _ c.args.block.now c.put_copies.new.block _ c.args.most c.args.units _ _ refl refl c.if-rest-eq0.false c.in_ok-put_copies.ensures.all p)
+    c.put_word.ensures.cut

@@ -2,8 +2,8 @@ use Rattle.std.{proofs.Common.{◌≡◌, refl, ap, ◌∙◌, inl}, proofs.lemm
 use Rattle.tally_base.specs.declared.slot.Slot.TheVariants.{Data}
 use Rattle.bench_io.proofs.Bytes.{Appends-nil, Keeps-from_none}
 use Rattle.plan_text.specs.Reading.{plan_view}
-use Rattle.report_work.{specs.Demo.demo_plan, proofs.Demos.{demo-view, plan-wanted, ends-demo, demo-causes}}
-use Rattle.command_work.{specs.Endings.HasCauses, proofs.Answers.alone-answers}
+use Rattle.report_work.{specs.Demo.demo_plan, proofs.Reports.{demo-view, plan-wanted, ends-demo, demo-causes}}
+use Rattle.command_work.{specs.Endings.HasCauses, proofs.Told.alone-answers}
 use Rattle.report_work.proofs.made.demo.Goals as goal
 
 pub returns-in_err-plan-clause-answer : goal.returns-in_err-plan-clause-answer
@@ -29,7 +29,8 @@ pub returns-clause-answer : goal.returns-clause-answer
 returns-clause-answer g c = λ state.
     let view : plan_view c.in_ok-plan.plan ≡ demo_plan = demo-view c.in_ok-plan.plan c.in_ok-plan.ensures.answer in
     let told = ap (λ f. f Data) c.read_file.ensures.reads.opens_none.told ∙ c.made_data-made.ensures.told in
-    alone-answers _ state _ _ _ (ends-demo c.args.seed c.args.count (plan_view c.in_ok-plan.plan) c.requires view c.read_file.new.inputs _ _ _ c.read_file.result c.made_data-made.ensures.given told c.read_file.ensures.leaves.answer)
+    alone-answers _ state _ _ _ (ends-demo c.args.seed c.args.count (plan_view c.in_ok-plan.plan) c.requires view
+    c.read_file.new.inputs _ _ _ c.read_file.result c.made_data-made.ensures.given told c.read_file.ensures.leaves.answer)
 
 pub returns-clause-causes : goal.returns-clause-causes
 returns-clause-causes g c = λ state.

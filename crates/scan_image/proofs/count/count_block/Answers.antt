@@ -1,42 +1,26 @@
-use Rattle.std.{proofs.Common.{◌≡◌, ◌∙◌, ◌<◌, ◌≤◌, ◌%◌, [], ◌∷◌, ◌++◌, true, false, List, sym, ap, subst, rules, arith, append_assoc, nat_lt, if◌then◌else◌, ℕ, zero, suc, ◌+◌, refl, ◌⊎◌, ⊎_elim}, proofs.lemmas.Bool.Decides.nat_tests}
-use Rattle.tally_base.{specs.declared.event.EventKind.TheVariants.{Photon, Marker}, specs.Settings.image_view, specs.Columns.{item, event_at, rows, code_at, dtime_at, time_at}, proofs.BlockRows.{length-rows, more_rows}, proofs.Floors.{floor-more, order-at}, specs.declared.event.Event.Event, specs.Floors.{floor_after, InOrder}}
-use Rattle.marker_map.{specs.Lines.{Saw, line_start}, specs.Marks.{Mark, mark}}
-use Rattle.scan_image.{specs.Behind.IsBehind, proofs.Steps.marker_step}
+use Rattle.std.{proofs.Common.{◌≡◌, ◌∙◌, ◌<◌, ◌≤◌, ◌%◌, [], ◌∷◌, ◌++◌, true, false, List, ap, subst, rules, arith, append_assoc, nat_lt, if◌then◌else◌, ℕ, refl}, proofs.lemmas.Bool.Decides.nat_tests, proofs.lemmas.Grind.common_steps}
+use Rattle.tally_base.{specs.declared.event.EventKind.TheVariants.{Photon, Marker}, specs.Settings.image_view, specs.Columns.{item, event_at, rows, code_at, dtime_at, time_at}, proofs.BlockRows.{length-rows, more_rows, rows-split}, proofs.Floors.{floor-more, floor-append, order-at, order-parts}, specs.declared.event.Event.Event, specs.Tally.{floor_after, InOrder}}
+use Rattle.marker_map.{specs.Lines.{Saw, line_start}, specs.Places.{Mark, mark}}
+use Rattle.scan_image.{specs.Behind.IsBehind, proofs.Counts.marker_step}
 use Rattle.scan_image.proofs.count.count_block.Goals as goal
 
--- events that come in order, and later ones
-last_or : (i j : ℕ) → i ≤ suc j → (i ≡ suc j) ⊎ (i ≤ j)
-last_or i j few = grind (arith, few)
-
--- the time so far is at most that of each event to come
-floor-below : (floor : ℕ) (f : ℕ → Event) (n i j : ℕ) → i ≤ j → j < n → InOrder true floor (rows f n) → floor_after true floor (rows f i) ≤ (f j).time
-floor-below floor f n i zero low lt all = let e : i ≡ zero = omega (arith, low) in rw e ((order-at true floor f n zero lt all).1 refl)
-floor-below floor f n i (suc j) low lt all =
-    ⊎_elim
-    (λ (is : i ≡ suc j). rw is ((order-at true floor f n (suc j) lt all).1 refl))
-    (λ (less : i ≤ j).
-    let e : j + 1 ≡ suc j = omega arith in
-    let before : floor_after true floor (rows f i) ≤ (f j).time = floor-below floor f n i j less (omega (arith, lt)) all in
-    let moved : floor_after true floor (rows f (suc j)) ≡ (f j).time = ap (λ n. floor_after true floor (rows f n)) (ap (λ n. n) (sym_e j e)) ∙ floor-more true floor f j in
-    let next : floor_after true floor (rows f (suc j)) ≤ (f (suc j)).time = (order-at true floor f n (suc j) lt all).1 refl in
-    omega (arith, before, moved, next))
-    (last_or i j low)
-  where
-    sym_e : (j : ℕ) → j + 1 ≡ suc j → suc j ≡ j + 1
-    sym_e j e = omega (arith, e)
-
 -- the time so far only rises
-floor-rises : (floor : ℕ) (f : ℕ → Event) (n i : ℕ) → i ≤ n → InOrder true floor (rows f n) → floor_after true floor (rows f i) ≤ floor_after true floor (rows f n)
-floor-rises floor f zero i low all = let e : i ≡ zero = omega (arith, low) in rw e (omega arith)
-floor-rises floor f (suc j) i low all =
-    ⊎_elim
-    (λ (is : i ≡ suc j). rw is (omega arith))
-    (λ (less : i ≤ j).
-    let e : suc j ≡ j + 1 = omega arith in
-    let moved : floor_after true floor (rows f (suc j)) ≡ (f j).time = ap (λ n. floor_after true floor (rows f n)) e ∙ floor-more true floor f j in
-    let before : floor_after true floor (rows f i) ≤ (f j).time = floor-below floor f (suc j) i j less (omega arith) all in
-    omega (arith, before, moved))
-    (last_or i j low)
+rises : (floor : ℕ) (es : List Event) → InOrder true floor es → floor ≤ floor_after true floor es
+rises floor [] all = omega arith
+rises floor (e ∷ es) all = let h : floor ≤ e.time = all.1 refl in omega (arith, h, rises e.time es all.2)
+
+floor-rises : (floor : ℕ) (f : ℕ → Event) (n i : ℕ) → i ≤ n → InOrder true floor (rows f n)
+    → floor_after true floor (rows f i) ≤ floor_after true floor (rows f n)
+floor-rises floor f n i low all =
+    let split = rows-split f i n low in
+    rw (split.1, floor-append) (rises _ split.0 (order-parts true floor (rows f i) split.0 (rw split.1 at all)).1)
+
+-- and is at most that of each event to come
+floor-below : (floor : ℕ) (f : ℕ → Event) (n i j : ℕ) → i ≤ j → j < n → InOrder true floor (rows f n) → floor_after true floor (rows f i) ≤ (f j).time
+floor-below floor f n i j low lt all =
+    let split = rows-split f j n (omega (arith, lt)) in
+    let next : floor_after true floor (rows f j) ≤ (f j).time = (order-at true floor f n j lt all).1 refl in
+    omega (arith, next, floor-rises floor f j i low (order-parts true floor (rows f j) split.0 (rw split.1 at all)).0)
 
 pub count_run-at-requires-clause-places : goal.count_run-at-requires-clause-places
 count_run-at-requires-clause-places g c = (
@@ -63,11 +47,14 @@ runs-preserved g c =
     let marker : nat_lt code 256 ≡ false = grind (arith, nat_tests, run.stops.2 within) in
     let kind : (item b at).0.kind ≡ Marker (code % 256) = ap (λ t. if t then Photon code (dtime_at b at) else Marker (code % 256)) marker in
     let lines' = c.marker.new.self in
-    let saw : (ms : List Mark) → Saw c.runs.lines ms → Saw lines' (ms ++ mark (code % 256) time ∷ []) = λ ms is. rw (c.time.ensures, c.code.ensures) at (c.marker.ensures.follows ms is) in
+    let saw : (ms : List Mark) → Saw c.runs.lines ms → Saw lines' (ms ++ mark (code % 256) time ∷ []) =
+    λ ms is. rw (c.time.ensures, c.code.ensures) at (c.marker.ensures.follows ms is) in
     let moved = floor-more true low (event_at b) at in
-    let in_time : line_start c.runs.lines ≤ time = omega (arith, inv.before, floor-below low (event_at b) b.len c.runs.from at run.stops.0 within c.requires.in_order) in
+    let in_time : line_start c.runs.lines ≤ time =
+    omega (arith, inv.before, floor-below low (event_at b) b.len c.runs.from at run.stops.0 within c.requires.in_order) in
     record {
-      counted = λ h is. rw (more_rows (item b) at, ← append_assoc) (marker_step over set c.runs.lines lines' (h ++ rows (item b) at) (item b at) (code % 256) kind saw (run.follows h (inv.counted h is)));
+      counted = λ h is. rw (more_rows (item b) at, ← append_assoc)
+          (marker_step over set c.runs.lines lines' (h ++ rows (item b) at) (item b at) (code % 256) kind saw (run.follows h (inv.counted h is)));
       fit = run.fit;
       within = omega (arith, within);
       few = omega (arith, inv.few, run.few);
@@ -83,14 +70,8 @@ returns-then-at-len-clause-follows g c = λ h is.
     let run = c.count_run-at in
     let len : c.min-len.result ≡ b.len = search (rules, arith) in
     let end : run.result ≡ b.len = omega (arith, len, run.ensures.stops.1, c.if-at-len.true) in
-    subst (λ n. IsBehind (p.over c.args.pixels.now run.new.counts) (image_view (p.image c.args.pixels.now)) c.runs.lines (h ++ rows (item b) n)) end (run.ensures.follows h (c.runs.invariant.counted h is))
+    subst (λ n. IsBehind (p.over c.args.pixels.now run.new.counts) (image_view (p.image c.args.pixels.now)) c.runs.lines (h ++ rows (item b) n)) end
+    (run.ensures.follows h (c.runs.invariant.counted h is))
 
 pub returns-then-at-len-clause-lines : goal.returns-then-at-len-clause-lines
-returns-then-at-len-clause-lines g c =
-    let b = c.args.block.now in
-    let inv = c.runs.invariant in
-    record {
-      of_set = inv.of_set ∙ sym c.requires.lines.of_set;
-      few = omega (arith, inv.few_markers, inv.within, length-rows (event_at b) b.len);
-      begun = omega (arith, inv.before, floor-rises (line_start c.args.lines.now) (event_at b) b.len c.runs.from inv.within c.requires.in_order);
-    }
+returns-then-at-len-clause-lines g c = grind (arith, common_steps, length-rows, floor-rises)

@@ -1,5 +1,5 @@
 use Rattle.std.proofs.Common.{◌≡◌, ◌≤◌, ◌+◌, ◌-◌, ◌++◌, true}
-use Rattle.tally_base.{specs.Settings.image_view, specs.Tally.History, specs.Columns.{count, item, event_at, rows}, specs.Floors.floor_after}
+use Rattle.tally_base.{specs.Settings.image_view, specs.Tally.{History, floor_after}, specs.Columns.{count, item, event_at, rows}}
 use Rattle.marker_map.specs.Lines.{image_of, markers_given, line_start}
 use Rattle.scan_image.specs.Behind.{IsBehind}
 use Rattle.scan_image.proofs.count.count_block.Given as goal
@@ -9,7 +9,8 @@ invariant-runs g l =
     let p = g.P.Pixels in
     let set = image_view (p.image l.pixels) in
     record {
-      counted : (h : History) → IsBehind (p.over l.pixels l.fn.counts) set l.fn.lines h → IsBehind (p.over l.pixels l.counts) set l.lines (h ++ rows (item l.block) l.from);
+      counted : (h : History) → IsBehind (p.over l.pixels l.fn.counts) set l.fn.lines h
+          → IsBehind (p.over l.pixels l.counts) set l.lines (h ++ rows (item l.block) l.from);
       within : l.from ≤ count l.block;
       fit : p.fits l.pixels l.counts;
       few : p.total l.counts ≤ p.total l.fn.counts + l.from;

@@ -1,14 +1,11 @@
-use Rattle.std.{proofs.Common.{◌++◌, ◌≡◌, ◌∙◌, ◌<◌, ◌%◌, true, List, cond, sym, ap, subst, rules, arith, append_assoc, nat_lt, if◌then◌else◌}, proofs.lemmas.Bool.Decides.nat_tests}
-use Rattle.tally_base.{specs.declared.event.EventKind.TheVariants.{Photon, Marker}, specs.Events.is_in, specs.declared.settings.ImageSet.ImageSet, specs.Settings.image_view, specs.Columns.{item, rows, code_at, dtime_at, groups_at, time_at}, proofs.BlockRows.more_rows}
-use Rattle.marker_map.{specs.declared.lines.Lines.Lines, specs.Lines.{Saw, image_of}, specs.Marks.Mark, specs.Places.place_of}
-use Rattle.scan_image.{specs.Behind.{IsBehind, IsStripOf}, specs.Counted.{HowMany, with_photon}, proofs.Steps.{photon_step, only_group, few_more}}
+use Rattle.std.{proofs.Common.{◌++◌, ◌≡◌, ◌∙◌, ◌%◌, true, List, cond, sym, ap, subst, rules, arith, append_assoc, nat_lt, if◌then◌else◌}, proofs.lemmas.Bool.Decides.nat_tests}
+use Rattle.tally_base.{specs.declared.event.EventKind.TheVariants.{Photon, Marker}, specs.Events.is_in, specs.Settings.image_view, specs.Columns.{item, rows, code_at, dtime_at, groups_at, time_at}, proofs.BlockRows.more_rows}
+use Rattle.marker_map.{specs.declared.lines.Lines.Lines, specs.Lines.{Saw, image_of}, specs.Places.{Mark, place_of}}
+use Rattle.scan_image.{specs.Behind.{IsBehind, IsStripOf, HowMany, with_photon}, proofs.Counts.{photon_step, only_group, few_more}}
 use Rattle.scan_image.proofs.count.count_on.Goals as goal
 
 pub place-place-requires : goal.place-place-requires
-place-place-requires g c =
-    let b = c.args.block.now in
-    let within : c.loop-at.at < b.len = search (rules, arith) in
-    rw c.time.ensures (c.requires.places.2 c.loop-at.at (omega arith) within)
+place-place-requires g c = omega arith
 
 pub loop-at-preserved : goal.loop-at-preserved
 loop-at-preserved g c =
@@ -21,8 +18,7 @@ loop-at-preserved g c =
     let photon : nat_lt code 256 ≡ true = grind (arith, nat_tests, c.code.ensures) in
     let kind : (item b at).0.kind ≡ Photon code (dtime_at b at) = ap (λ t. if t then Photon code (dtime_at b at) else Marker (code % 256)) photon in
     let more = c.photons_in-more.result in
-    let own : ImageSet = c.image.result.now in
-    let of_group : more ≡ cond (is_in (groups_at b at) set.group) 1 0 = c.photons_in-more.ensures ∙ only_group (is_in (groups_at b at) own.group) (nat_lt code 256) photon ∙ ap (λ (set : ImageSet). cond (is_in (groups_at b at) set.group) 1 0) c.image.ensures in
+    let of_group : more ≡ cond (is_in (groups_at b at) set.group) 1 0 = search (rules, arith, only_group) in
     let place = c.place-place.result in
     let found : (lines : Lines) → IsStripOf lines c.args.strip.now → image_of lines ≡ set → (ms : List Mark) → Saw lines ms → place_of set (time_at b at) ms ≡ place = λ lines strip of_set ms saw. sym (ap (λ image. place_of image (time_at b at) ms) of_set) ∙ (sym (strip ms saw (time_at b at)) ∙ sym (rw c.time.ensures at c.place-place.ensures.value)) in
     let before = p.over c.args.pixels.now c.loop-at.counts in
@@ -40,4 +36,5 @@ returns-clause-follows g c = λ lines strip of_set h is.
     let b = c.args.block.now in
     let len : c.min-len.result ≡ b.len = search (rules, arith) in
     let end : c.loop-at.at ≡ c.min-len.result = omega (arith, len, c.requires.places.1, c.loop-at-test.false, c.loop-at.auto.at-end) in
-    subst (λ n. IsBehind (p.over c.args.pixels.now c.loop-at.counts) (image_view (p.image c.args.pixels.now)) lines (h ++ rows (item b) n)) end (c.loop-at.invariant.counted lines strip of_set h is)
+    subst (λ n. IsBehind (p.over c.args.pixels.now c.loop-at.counts) (image_view (p.image c.args.pixels.now)) lines (h ++ rows (item b) n)) end
+    (c.loop-at.invariant.counted lines strip of_set h is)

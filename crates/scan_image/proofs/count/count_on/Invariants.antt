@@ -9,7 +9,8 @@ invariant-loop-at g l =
     let p = g.P.Pixels in
     let set = image_view (p.image l.pixels) in
     record {
-      counted : (lines : Lines) → IsStripOf lines l.strip → image_of lines ≡ set → CountsOn (p.over l.pixels l.fn.counts) (p.over l.pixels l.counts) set lines l.block l.from l.at;
+      counted : (lines : Lines) → IsStripOf lines l.strip → image_of lines ≡ set
+          → CountsOn (p.over l.pixels l.fn.counts) (p.over l.pixels l.counts) set lines l.block l.from l.at;
       fit : p.fits l.pixels l.counts;
       few : p.total l.counts + l.from ≤ p.total l.fn.counts + l.at;
     }

@@ -8,7 +8,8 @@ returns-in_err-put_row-clause-short g c =
     let e = err_from_is_err_and c.from_residual.result c.from_residual.ensures.1 in
     let t = c.args.table.now in
     let text : ℕ → History → List ℕ = λ row. texts_of ((printed (g.T.Tally.settings t)).cell row) ((printed (g.T.Tally.settings t)).columns row) in
-    rw e.1 (cuts-next (g.T.Tally.holds t) text c.loop-row.row (printed (g.T.Tally.settings t)).rows _ _ _ c.args.block.now c.loop-row.block (search rules) c.loop-row.invariant.put c.in_err-put_row.ensures.short)
+    rw e.1 (cuts-next (g.T.Tally.holds t) text c.loop-row.row (printed (g.T.Tally.settings t)).rows _ _ _ c.args.block.now c.loop-row.block
+    (search rules) c.loop-row.invariant.put c.in_err-put_row.ensures.short)
 
 pub loop-row-preserved : goal.loop-row-preserved
 loop-row-preserved g c =

@@ -1,9 +1,10 @@
 use Rattle.std.proofs.Common.{◌≡◌}
-use Rattle.table_out.{specs.Puts.PutsText, specs.Printed.rows_of, specs.Report.printed}
+use Rattle.table_out.{specs.Report.{PutsText, printed}, specs.Printed.rows_of}
 use Rattle.table_out.proofs.cells.put_rows.Given as goal
 
 abbrev pub invariant-loop-row : goal.invariant-loop-row
 invariant-loop-row g l = record {
-  put : PutsText (g.T.Tally.holds l.table) (rows_of (printed (g.T.Tally.settings l.table)).cell (printed (g.T.Tally.settings l.table)).columns l.row) (g.O.Sink.written l.initial.out) (g.O.Sink.written l.out) l.initial.block l.block;
+  put : PutsText (g.T.Tally.holds l.table) (rows_of (printed (g.T.Tally.settings l.table)).cell (printed (g.T.Tally.settings l.table)).columns l.row)
+      (g.O.Sink.written l.initial.out) (g.O.Sink.written l.out) l.initial.block l.block;
   kept : g.O.Sink.faults l.out ≡ g.O.Sink.faults l.initial.out;
 }

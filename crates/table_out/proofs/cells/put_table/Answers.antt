@@ -12,7 +12,8 @@ returns-in_err-put-clause-short g c =
     let it = printed (g.T.Tally.settings t) in
     let rows = rows_of it.cell it.columns it.rows in
     let first : History → List ℕ = λ h. first_line it number in
-    let short = cuts-piece holds first c.as_slice.result.now _ _ c.args.block.now (λ h is. c.as_slice.ensures.value ∙ c.first_line.ensures) c.in_err-put.ensures.short in
+    let short = cuts-piece holds first c.as_slice.result.now _ _ c.args.block.now
+    (λ h is. c.as_slice.ensures.value ∙ c.first_line.ensures) c.in_err-put.ensures.short in
     rw e.1 (cuts-front holds first (table_lines it number) _ _ c.args.block.now
     (λ h. (rows h ++ it.rest h, append_assoc (first_line it number) (rows h) (it.rest h))) short)
 
@@ -25,7 +26,8 @@ returns-in_err-put_rows-clause-short g c =
     let it = printed (g.T.Tally.settings t) in
     let rows = rows_of it.cell it.columns it.rows in
     let first : History → List ℕ = λ h. first_line it number in
-    let put = puts-piece holds first c.as_slice.result.now _ _ c.args.block.now _ (λ h is. c.as_slice.ensures.value ∙ c.first_line.ensures) c.in_ok-put.ensures.all in
+    let put =
+    puts-piece holds first c.as_slice.result.now _ _ c.args.block.now _ (λ h is. c.as_slice.ensures.value ∙ c.first_line.ensures) c.in_ok-put.ensures.all in
     let short = cuts-behind holds first rows _ _ _ c.args.block.now _ put c.in_err-put_rows.ensures.short in
     rw e.1 (cuts-front holds (λ h. first h ++ rows h) (table_lines it number) _ _ c.args.block.now (λ h. (it.rest h, refl)) short)
 
@@ -37,7 +39,8 @@ returns-clause-all g c =
     let it = printed (g.T.Tally.settings t) in
     let rows = rows_of it.cell it.columns it.rows in
     let first : History → List ℕ = λ h. first_line it number in
-    let put = puts-piece holds first c.as_slice.result.now _ _ c.args.block.now _ (λ h is. c.as_slice.ensures.value ∙ c.first_line.ensures) c.in_ok-put.ensures.all in
+    let put =
+    puts-piece holds first c.as_slice.result.now _ _ c.args.block.now _ (λ h is. c.as_slice.ensures.value ∙ c.first_line.ensures) c.in_ok-put.ensures.all in
     let so_far = puts-more holds first rows _ _ _ c.args.block.now _ c.put_rows.new.block put c.in_ok-put_rows.ensures.all in
     on_ok_weaker c.put-2.result (λ put-2. puts-more holds (λ h. first h ++ rows h) it.rest _ _ _ c.args.block.now c.put_rows.new.block _ so_far (puts-piece holds it.rest c.as_slice-2.result.now _ _ c.put_rows.new.block _ (λ h is. c.as_slice-2.ensures.value ∙ c.rest_lines.ensures h is) put-2)) c.put-2.ensures.all
 
@@ -49,6 +52,7 @@ returns-clause-short g c =
     let it = printed (g.T.Tally.settings t) in
     let rows = rows_of it.cell it.columns it.rows in
     let first : History → List ℕ = λ h. first_line it number in
-    let put = puts-piece holds first c.as_slice.result.now _ _ c.args.block.now _ (λ h is. c.as_slice.ensures.value ∙ c.first_line.ensures) c.in_ok-put.ensures.all in
+    let put =
+    puts-piece holds first c.as_slice.result.now _ _ c.args.block.now _ (λ h is. c.as_slice.ensures.value ∙ c.first_line.ensures) c.in_ok-put.ensures.all in
     let so_far = puts-more holds first rows _ _ _ c.args.block.now _ c.put_rows.new.block put c.in_ok-put_rows.ensures.all in
     on_err_weaker c.put-2.result (λ put-2. cuts-behind holds (λ h. first h ++ rows h) it.rest _ _ _ c.args.block.now c.put_rows.new.block so_far (cuts-piece holds it.rest c.as_slice-2.result.now _ _ c.put_rows.new.block (λ h is. c.as_slice-2.ensures.value ∙ c.rest_lines.ensures h is) put-2)) c.put-2.ensures.short

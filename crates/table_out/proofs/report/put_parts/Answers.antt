@@ -1,5 +1,5 @@
 use Rattle.std.{proofs.Common.{rules, ◌∙◌}, proofs.lemmas.Result.err_from_is_err_and}
-use Rattle.table_out.proofs.Tables.{first_texts-all, puts-part, cuts-part}
+use Rattle.table_out.proofs.Putting.{first_texts-all, puts-part, cuts-part}
 use Rattle.table_out.proofs.report.put_parts.Goals as goal
 
 pub returns-in_err-put_part-clause-short : goal.returns-in_err-put_part-clause-short
@@ -14,4 +14,5 @@ loop-place-preserved g c = record {
 }
 
 pub returns-clause-all : goal.returns-clause-all
-returns-clause-all g c = λ tables each. rw (first_texts-all c.args.parts.now tables c.loop-place.place (search rules) each) at (c.loop-place.invariant.put tables each)
+returns-clause-all g c =
+    λ tables each. rw (first_texts-all c.args.parts.now tables c.loop-place.place (search rules) each) at (c.loop-place.invariant.put tables each)

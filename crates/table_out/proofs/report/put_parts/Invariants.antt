@@ -1,5 +1,5 @@
 use Rattle.std.proofs.Common.{◌≡◌}
-use Rattle.table_out.{specs.Report.EachHolds, specs.Puts.PutsText, proofs.Tables.first_texts}
+use Rattle.table_out.{specs.Report.{EachHolds, PutsText}, proofs.Putting.first_texts}
 use Rattle.table_out.proofs.report.put_parts.Given as goal
 
 abbrev pub invariant-loop-place : goal.invariant-loop-place

@@ -16,7 +16,8 @@ returns-in_err-put_parts-clause-short g c =
     let results = c.args.results.now in
     let holds = EachHolds results.parts.items in
     let head : List Table → List ℕ = λ tables. head_text results.header results.summary in
-    let first = puts-piece holds head c.as_slice.result.now _ _ c.new-block.result _ (λ tables is. c.as_slice.ensures.value ∙ c.report_head-head.ensures) c.in_ok-put.ensures.all in
+    let first = puts-piece holds head c.as_slice.result.now _ _ c.new-block.result _
+    (λ tables is. c.as_slice.ensures.value ∙ c.report_head-head.ensures) c.in_ok-put.ensures.all in
     let short = cuts-behind holds head parts_text _ _ _ c.new-block.result _ first (rw c.deref.ensures.value at c.in_err-put_parts.ensures.short) in
     rw e.1 (λ tables is. rw (report-text results.header results.summary tables) (rw c.new-block.ensures at (short tables is)))
 
@@ -25,15 +26,21 @@ returns-clause-text g c =
     let results = c.args.results.now in
     let holds = EachHolds results.parts.items in
     let head : List Table → List ℕ = λ tables. head_text results.header results.summary in
-    let first = puts-piece holds head c.as_slice.result.now _ _ c.new-block.result _ (λ tables is. c.as_slice.ensures.value ∙ c.report_head-head.ensures) c.in_ok-put.ensures.all in
-    let both = puts-more holds head parts_text _ _ _ c.new-block.result _ c.put_parts.new.block first (rw c.deref.ensures.value at c.in_ok-put_parts.ensures.all) in
-    on_ok_weaker c.flush.result (λ flushed tables is. rw (report-text results.header results.summary tables) (Appends-flushed _ _ _ _ _ (rw c.new-block.ensures at (both tables is)) flushed)) c.flush.ensures.all
+    let first = puts-piece holds head c.as_slice.result.now _ _ c.new-block.result _
+    (λ tables is. c.as_slice.ensures.value ∙ c.report_head-head.ensures) c.in_ok-put.ensures.all in
+    let both =
+    puts-more holds head parts_text _ _ _ c.new-block.result _ c.put_parts.new.block first (rw c.deref.ensures.value at c.in_ok-put_parts.ensures.all) in
+    on_ok_weaker c.flush.result (λ flushed tables is. rw (report-text results.header results.summary tables)
+    (Appends-flushed _ _ _ _ _ (rw c.new-block.ensures at (both tables is)) flushed)) c.flush.ensures.all
 
 pub returns-clause-short : goal.returns-clause-short
 returns-clause-short g c =
     let results = c.args.results.now in
     let holds = EachHolds results.parts.items in
     let head : List Table → List ℕ = λ tables. head_text results.header results.summary in
-    let first = puts-piece holds head c.as_slice.result.now _ _ c.new-block.result _ (λ tables is. c.as_slice.ensures.value ∙ c.report_head-head.ensures) c.in_ok-put.ensures.all in
-    let both = puts-more holds head parts_text _ _ _ c.new-block.result _ c.put_parts.new.block first (rw c.deref.ensures.value at c.in_ok-put_parts.ensures.all) in
-    on_err_weaker c.flush.result (λ cut tables is. rw (report-text results.header results.summary tables) (AppendsShort-flushed _ _ _ _ _ (rw c.new-block.ensures at (both tables is)) cut)) c.flush.ensures.short
+    let first = puts-piece holds head c.as_slice.result.now _ _ c.new-block.result _
+    (λ tables is. c.as_slice.ensures.value ∙ c.report_head-head.ensures) c.in_ok-put.ensures.all in
+    let both =
+    puts-more holds head parts_text _ _ _ c.new-block.result _ c.put_parts.new.block first (rw c.deref.ensures.value at c.in_ok-put_parts.ensures.all) in
+    on_err_weaker c.flush.result (λ cut tables is. rw (report-text results.header results.summary tables)
+    (AppendsShort-flushed _ _ _ _ _ (rw c.new-block.ensures at (both tables is)) cut)) c.flush.ensures.short

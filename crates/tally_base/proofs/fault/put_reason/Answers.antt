@@ -23,4 +23,5 @@ pub returns-in-TruncatedRecord-clause-items : goal.returns-in-TruncatedRecord-cl
 returns-in-TruncatedRecord-clause-items c = rw c.in-TruncatedRecord.is c.put_around-in-TruncatedRecord.ensures.items
 
 pub returns-in-NoGroup-clause-items : goal.returns-in-NoGroup-clause-items
-returns-in-NoGroup-clause-items c = rw c.in-NoGroup.is (c.put_around-in-NoGroup.ensures.items ∙ ap (λ xs. c.args.into.now.items ++ (codes "plan has no group " ++ xs)) (append-nil (decimal c.in-NoGroup.group)))
+returns-in-NoGroup-clause-items c = rw c.in-NoGroup.is
+    (c.put_around-in-NoGroup.ensures.items ∙ ap (λ xs. c.args.into.now.items ++ (codes "plan has no group " ++ xs)) (append-nil (decimal c.in-NoGroup.group)))

@@ -1,4 +1,4 @@
-use Rattle.tally_engine.proofs.Opens.{engine_within}
+use Rattle.tally_engine.proofs.Feeds.{engine_within}
 use Rattle.tally_engine.proofs.laws.engine_within.Goals as goal
 
 pub returns : goal.returns

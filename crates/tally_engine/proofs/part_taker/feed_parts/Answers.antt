@@ -5,7 +5,7 @@ use Rattle.record_stream.specs.Standing.{how_of, given_by, greatest_of}
 use Rattle.gate_plan.{specs.Groups.sorting_of, specs.Shifting.Sorting, specs.Histories.{settled_history, with_groups}}
 use Rattle.plan_parts.{specs.contracts.part.PartTally.TheImpl.ghosts, specs.declared.part.Part.Part}
 use Rattle.tally_engine.{specs.Pieces.TablesFollow, proofs.Feeds.{fed_whole, counts_on, at_same, both_on_ok}}
-use Rattle.fed_parts.{specs.Taker.gave_none, proofs.Takes.{holding_none, holding_all, standing_took}, specs.Tables.HasTaken}
+use Rattle.fed_parts.{specs.Ahead.gave_none, proofs.Takes.{holding_none, holding_all, standing_took}, specs.Give.HasTaken}
 use Rattle.tally_engine.proofs.part_taker.feed_parts.Goals as goal
 
 pub returns-clause-answers : goal.returns-clause-answers
@@ -21,7 +21,8 @@ returns-clause-answers g c = λ bytes h.
       taken = fed.taken bytes h;
       answer = r.0;
       counts =
-          at_same (λ parts. OnOk c.feed-fed.result (all c.args.parts.now (settled_history by how (words_of bytes)) → all parts (settled_history by how (words_of (bytes ++ c.args.piece.now))))) c.flush_waiting.new.parts _
+          at_same (λ parts. OnOk c.feed-fed.result (all c.args.parts.now (settled_history by how (words_of bytes))
+          → all parts (settled_history by how (words_of (bytes ++ c.args.piece.now))))) c.flush_waiting.new.parts _
           (counts_on by how c.feed-fed.result (all c.args.parts.now) (all c.flush_waiting.new.parts) bytes c.args.piece.now _ _ _ _ _ _ _ _ _ _ _ _ h (rw fed.same_how at (fed.taken bytes h)) fed.refused (λ fault is. (fed.kept fault is).0)
           (λ none. (
             r.1.0,
@@ -41,13 +42,15 @@ returns-clause-follow g c =
     let given = given_by c.feed-fed.new.self in
     let greatest = greatest_of c.feed-fed.new.self in
     let same : length c.flush_waiting.new.parts ≡ length taker.parts.now = search rules in
-    at_same (λ parts. OnOk c.feed-fed.result (TablesFollow c.args.mode c.args.stream.now c.feed-fed.new.self parts (length c.args.piece.now))) c.flush_waiting.new.parts _
+    at_same (λ parts. OnOk c.feed-fed.result (TablesFollow c.args.mode c.args.stream.now c.feed-fed.new.self parts (length c.args.piece.now)))
+    c.flush_waiting.new.parts _
     (both_on_ok c.feed-fed.result
     (λ follows counted. record {
       standing = λ k d inside.
           let within : k < length taker.parts.now = omega (arith, same, inside) in
           let mode : taker.mode ≡ c.args.mode = follows.mode_is ∙ ap (λ (how : Reading). how.mode) fed.same_how ∙ sym c.requires.mode in
-          rw mode at (standing_took ghosts taker.mode _ _ given greatest (gathered taker.block) _ _ _ (taker.waiting k d within) (c.flush_waiting.ensures.took k d within) follows.few follows.before);
+          rw mode at (standing_took ghosts taker.mode _ _ given greatest (gathered taker.block) _ _ _
+          (taker.waiting k d within) (c.flush_waiting.ensures.took k d within) follows.few follows.before);
       counted = counted;
     })
     fed.follows fed.counted)

@@ -5,7 +5,7 @@ use Rattle.record_stream.specs.Standing.{how_of}
 use Rattle.gate_plan.{specs.Groups.sorting_of, specs.Shifting.Sorting, specs.Histories.{settled_history, with_groups}, proofs.Histories.history-ends}
 use Rattle.plan_parts.{specs.contracts.part.PartTally.TheImpl.ghosts}
 use Rattle.tally_engine.{specs.Pieces.Ends, proofs.Feeds.{at_same, ends_by, inside_of}}
-use Rattle.fed_parts.{specs.Taker.gave_none, proofs.Takes.{holding_none, holding_all}, specs.Tables.HasTaken}
+use Rattle.fed_parts.{specs.Ahead.gave_none, proofs.Takes.{holding_none, holding_all}, specs.Give.HasTaken}
 use Rattle.tally_engine.proofs.part_taker.finish_parts.Goals as goal
 
 pub returns-clause-ends : goal.returns-clause-ends
@@ -37,4 +37,4 @@ returns-clause-still_open g c =
     (search rules)
 
 pub returns-clause-inside : goal.returns-clause-inside
-returns-clause-inside g c = inside_of c.finish-finished.result (c.finish-finished.ensures.inside c.requires.going) (c.finish-finished.ensures.cause c.requires.going)
+returns-clause-inside g c = search (rules, arith, inside_of)

@@ -16,6 +16,7 @@ loop-at-preserved c =
     let long : c.loop-at.count < length (drop c.args.start c.loop-at.bins) = omega (arith, length-drop c.args.start c.loop-at.bins) in
     let written : drop c.args.start (slice_set c.loop-at.bins (c.args.start + c.loop-at.count) (record { index = x.0.time; a = c.photons_in-a.result; b = c.photons_in-b.result })) ≡ slice_set (drop c.args.start c.loop-at.bins) c.loop-at.count (record { index = x.0.time; a = c.photons_in-a.result; b = c.photons_in-b.result }) = drop-set-add c.args.start c.loop-at.bins c.loop-at.count _ in
     record {
-      bins = rw (more_rows (item b) at', c.time.ensures, more, written) (gather_step view (drop c.args.start c.loop-at.bins) c.loop-at.count _ _ (rows (item b) at') x long inv.bins is_a is_b);
+      bins = rw (more_rows (item b) at', c.time.ensures, more, written)
+          (gather_step view (drop c.args.start c.loop-at.bins) c.loop-at.count _ _ (rows (item b) at') x long inv.bins is_a is_b);
       few = (let one : c.from-count.result ≤ 1 = rw c.from-count.ensures (byte_small _) in omega (arith, inv.few, one));
     }

@@ -1,7 +1,7 @@
 use Rattle.std.{proofs.Common.{◌≡◌, ℕ, suc, ◌+◌, ◌-◌, ◌≤◌, take, drop, rules, arith}, proofs.Math.Logic.∥∥₁_map, proofs.lemmas.List.length-take}
 use Rattle.tally_base.specs.Settings.{correlation_view}
 use Rattle.lag_ring.specs.declared.ring.Entry.{Entry}
-use Rattle.tau_cascade.{specs.Bins.{stretch, IsSpaced}, proofs.Takes.{can_take, come_on, chain_took}, proofs.Passes.{here_spaced, next_spaced, raised-again, some_apart}}
+use Rattle.tau_cascade.{specs.Bins.{stretch, IsSpaced}, proofs.Follows.{can_take, come_on, chain_took}, proofs.Passes.{here_spaced, next_spaced, raised-again, some_apart}}
 use Rattle.tau_cascade.proofs.carry.+carry_all.Goals as goal
 
 abbrev none : Entry
@@ -85,7 +85,8 @@ carry_all-requires-in-None g t c κs within =
     let from = c.args.coming.closed.from in
     let count = c.args.coming.closed.count in
     let es = stretch from count c.args.coming.levels c.args.bins.now in
-    let few : c.take-closed.result.count ≤ 64 = omega (arith, c.take-closed.ensures.places.1, c.requires.comes.places, length-take (from + count - from) (drop from c.args.bins.now)) in (
+    let few : c.take-closed.result.count ≤ 64 =
+    omega (arith, c.take-closed.ensures.places.1, c.requires.comes.places, length-take (from + count - from) (drop from c.args.bins.now)) in (
       search rules,
       (
         within,
@@ -113,4 +114,5 @@ returns-in-None-clause-follows g t c = λ came xs given.
     let es = stretch from count c.args.coming.levels c.args.bins.now in
     let can = (rw c.in-Some.ensures.cases.0 at given) in
     let took = c.take-closed.ensures.follows can.chain.0 can.chain.1 xs (rw (part from count) (can_take view c.args.level _ _ es came xs can)) in
-    chain_took view c.args.level _ _ es came xs can c.take-closed.new.self _ took.0 took.1 took.2 c.carry_all-in-None.new.levels c.carry_all-in-None.ensures.follows
+    chain_took view c.args.level _ _ es came xs can c.take-closed.new.self _ took.0
+    took.1 took.2 c.carry_all-in-None.new.levels c.carry_all-in-None.ensures.follows

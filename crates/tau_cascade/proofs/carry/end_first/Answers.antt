@@ -14,11 +14,13 @@ next_come set level ls e closed open' few chain weighs after = record {
   come = goes_up set level (e ∷ []) closed open' (open', [], sym (append-nil open'), weighs, after, refl);
 }
 
-can_finish : (set : CorrelationView) (level : ℕ) (l : Level) (ls : List Level) (came : History) → (can : CanEnd set level (l ∷ ls) came) → CanFinish set level l can.chain.0 can.chain.1
+can_finish : (set : CorrelationView) (level : ℕ) (l : Level) (ls : List Level) (came : History)
+    → (can : CanEnd set level (l ∷ ls) came) → CanFinish set level l can.chain.0 can.chain.1
 can_finish set level l ls came can = record { few = omega (arith, can.few, length-append can.chain.0 can.chain.1, ap length can.chain.2); was = can.chain.3 }
 
 pub end-requires-clause-stands : goal.end-requires-clause-stands
-end-requires-clause-stands g c = ∥∥₁_map c.requires.stands (λ w. (w.1.chain.0, w.1.chain.1, can_finish (correlation_view c.args.set.now) c.args.level _ _ w.0 w.1))
+end-requires-clause-stands g c =
+    ∥∥₁_map c.requires.stands (λ w. (w.1.chain.0, w.1.chain.1, can_finish (correlation_view c.args.set.now) c.args.level _ _ w.0 w.1))
 
 pub carry_all-requires-clause-stands : goal.carry_all-requires-clause-stands
 carry_all-requires-clause-stands g c = ∥∥₁_map c.requires.stands (λ w.

@@ -9,6 +9,7 @@ loop-i-preserved g c = record {
   left = search rules;
   same = search rules;
   added = search rules;
-  once = once_more c.args.at c.loop-i.i (c.args.at + c.loop-i.i) 1 (omega arith) c.args.cells.now c.loop-i.cells c.add_some.new.cells c.loop-i.invariant.once c.add_some.ensures.once;
+  once = once_more c.args.at c.loop-i.i (c.args.at + c.loop-i.i) 1
+      (omega arith) c.args.cells.now c.loop-i.cells c.add_some.new.cells c.loop-i.invariant.once c.add_some.ensures.once;
   steps = search rules;
 }

@@ -1,5 +1,5 @@
 use Rattle.std.{proofs.Common.{◌≡◌, ◌∙◌, ℕ, ◌+◌, ◌*◌, ◌%◌, ◌≤◌, List, [], ◌∷◌, ◌++◌, eqb, length, get_or, take, drop, arith, rules}, proofs.Math.Nat.mul-le-mul_left, proofs.lemmas.List.take_more}
-use Rattle.lag_ring.{specs.declared.ring.Entry.Entry, proofs.Rising.{all_weaker, all_push}, proofs.Windows.part-le}
+use Rattle.lag_ring.{specs.declared.ring.Entry.Entry, proofs.Rising.{all_weaker, all_push}, proofs.Sums.part-le}
 use Rattle.tau_cascade.proofs.Close.{laid_next, weight_next, behind_next, behind_at, behind_whole}
 use Rattle.tau_cascade.proofs.laid.lay_all.Goals as goal
 
@@ -16,7 +16,8 @@ lay_one-laying-requires-clause-place c =
     let most : c.args.reach * (i + 1) ≤ c.args.reach * length list = mul-le-mul_left c.args.reach (omega (arith, c.loop-bin-test.true)) in
     let ring : c.args.reach * (i + 1) ≡ c.args.reach * i + c.args.reach = grind arith in (
       omega (arith, most, ring, c.loop-bin.invariant.place, c.requires.room.2, c.requires.room.0, c.loop-bin.invariant.same),
-      behind_at c.loop-bin.laying.last.index list i none c.loop-bin-test.true (c.loop-bin.invariant.after (drop i list) (behind_whole c.args.was.last.index i list c.requires.room.3)),
+      behind_at c.loop-bin.laying.last.index list i none c.loop-bin-test.true
+          (c.loop-bin.invariant.after (drop i list) (behind_whole c.args.was.last.index i list c.requires.room.3)),
     )
 
 pub lay_one-laying-requires-clause-fits : goal.lay_one-laying-requires-clause-fits

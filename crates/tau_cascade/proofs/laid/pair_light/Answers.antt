@@ -1,6 +1,6 @@
 use Rattle.std.{proofs.Common.{◌≡◌, ◌∙◌, ℕ, ◌+◌, ◌-◌, ◌<◌, ◌≤◌, length, get_or, take, drop, arith, rules}, proofs.lemmas.List.{get_or-replicate, take_rest, length-take-le, length-drop}}
-use Rattle.lag_ring.{specs.declared.window.Side.TheVariants.First, specs.Window.weight_at, proofs.Rising.all_weaker}
-use Rattle.tau_cascade.{specs.Laid.laid, proofs.Close.{laid-paired, all_room, front_room, behind_none, behind_front}}
+use Rattle.lag_ring.{specs.declared.window.Side.TheVariants.First, specs.Bytes.weight_at, proofs.Rising.all_weaker}
+use Rattle.tau_cascade.{specs.Dense.laid, proofs.Close.{laid-paired, all_room, front_room, behind_none, behind_front}}
 use Rattle.tau_cascade.proofs.laid.pair_light.Goals as goal
 
 pub lay_all-before-requires-clause-room : goal.lay_all-before-requires-clause-room
@@ -12,12 +12,14 @@ lay_all-all-requires-clause-room g c =
     rw (take_rest c.args.list.now c.args.start, c.from-reach.ensures) (
       e.light.0,
       omega (arith, c.requires.lags.1),
-      all_room c.args.lags c.args.start c.args.list.now c.lay_all-before.result.last.place c.requires.lags.1 c.requires.list.0 c.requires.list.1 (rw c.from-reach.ensures at e.last.0),
+      all_room c.args.lags c.args.start c.args.list.now c.lay_all-before.result.last.place c.requires.lags.1 c.requires.list.0 c.requires.list.1
+          (rw c.from-reach.ensures at e.last.0),
       e.after (drop c.args.start c.args.list.now) (behind_none c.args.start c.args.list.now c.requires.list.2),
     )
 
 pub lay_all-before-requires-clause-fits : goal.lay_all-before-requires-clause-fits
-lay_all-before-requires-clause-fits g c = λ p inside. omega (arith, get_or-replicate {A = ℕ} 1408 p 0 0 inside, length-take-le c.args.start c.args.list.now c.requires.list.0, c.requires.list.1)
+lay_all-before-requires-clause-fits g c =
+    λ p inside. omega (arith, get_or-replicate {A = ℕ} 1408 p 0 0 inside, length-take-le c.args.start c.args.list.now c.requires.list.0, c.requires.list.1)
 
 pub lay_all-all-requires-clause-fits : goal.lay_all-all-requires-clause-fits
 lay_all-all-requires-clause-fits g c = λ p inside.
@@ -36,7 +38,8 @@ pair_laid-requires-clause-bins g c =
       light = all_weaker (λ f. (f.a ≤ c.lay_all-all.result.heaviest) × (f.b ≤ c.lay_all-all.result.heaviest)) (λ f. (f.a ≤ 255) × (f.b ≤ 255)) (λ f light. (omega (arith, light.0, heavy), omega (arith, light.1, heavy))) (drop c.args.start c.args.list.now) (rw (take_rest c.args.list.now c.args.start) at e.last.2);
       few = omega (arith, back, c.requires.list.1);
       behind = c.lay_all-before.ensures.after (drop c.args.start c.args.list.now) (behind_none c.args.start c.args.list.now c.requires.list.2);
-      room = all_room c.args.lags c.args.start c.args.list.now c.lay_all-before.result.last.place c.requires.lags.1 c.requires.list.0 c.requires.list.1 (rw c.from-reach.ensures at c.lay_all-before.ensures.last.0);
+      room = all_room c.args.lags c.args.start c.args.list.now c.lay_all-before.result.last.place c.requires.lags.1 c.requires.list.0 c.requires.list.1
+          (rw c.from-reach.ensures at c.lay_all-before.ensures.last.0);
     })
 
 pub pair_laid-requires-clause-fits : goal.pair_laid-requires-clause-fits

@@ -1,6 +1,6 @@
 use Rattle.std.{proofs.Common.{◌≡◌, ◌∙◌, ℕ, ◌+◌, ◌-◌, ◌*◌, ◌<◌, ◌≤◌, List, [], ◌∷◌, ◌++◌, length, get_or, take, drop, sym, ap, arith, get_or-take, get_or-drop, rules}, specs.List.sum_by, proofs.Math.Nat.mul-le-mul, proofs.lemmas.List.take_more}
-use Rattle.lag_ring.{specs.declared.ring.Entry.Entry, specs.declared.window.Side.TheVariants.Second, specs.Window.product_at}
-use Rattle.tau_cascade.{specs.Laid.laid, proofs.Close.{behind_at, behind_next, behind_whole, is_light_at, laid_next, room_at, sums_next}}
+use Rattle.lag_ring.{specs.declared.ring.Entry.Entry, specs.declared.window.Side.TheVariants.Second, specs.Bytes.product_at}
+use Rattle.tau_cascade.{specs.Dense.laid, proofs.Close.{behind_at, behind_next, behind_whole, is_light_at, laid_next, room_at, sums_next}}
 use Rattle.tau_cascade.proofs.laid.sum_laid.Goals as goal
 
 abbrev none : Entry
@@ -29,7 +29,8 @@ loop-bin-preserved c =
     let part : (q : ℕ) → q < count → get_or (take (to + from + count - (to + from)) (drop (to + from) window)) q 0 ≡ get_or window (to + (from + q)) 0 =
     λ q inside.
     let place : to + from + q ≡ to + (from + q) = omega arith in
-    get_or-take (to + from + count - (to + from)) (drop (to + from) window) q 0 (omega (arith, inside)) ∙ get_or-drop (to + from) window q 0 ∙ ap (λ k. get_or window k 0) place in
+    get_or-take (to + from + count - (to + from)) (drop (to + from) window) q 0 (omega (arith, inside))
+    ∙ get_or-drop (to + from) window q 0 ∙ ap (λ k. get_or window k 0) place in
     record {
       sums = λ q inside.
           let before : ℕ = sum_by (product_at Second window 0 (from + q)) (laid c.args.reach was.index was.place (take i es)) in

@@ -7,7 +7,8 @@ abbrev none : Entry
 none = record { index = 0; a = 0; b = 0 }
 
 pub returns-then-bins-start-clause-left : goal.returns-then-bins-start-clause-left
-returns-then-bins-start-clause-left c = left_behind c.args.before c.back.start c.args.bins.now none c.back-test.true c.back.invariant.within c.requires c.if-bins-start.true
+returns-then-bins-start-clause-left c =
+    left_behind c.args.before c.back.start c.args.bins.now none c.back-test.true c.back.invariant.within c.requires c.if-bins-start.true
 
 pub back-preserved : goal.back-preserved
 back-preserved c = record {

@@ -1,6 +1,6 @@
 use Rattle.std.{proofs.Common.{◌≡◌, ◌∙◌, [], leb, drop, filter, sym, ap}, proofs.lemmas.List.{take_rest}}
 use Rattle.lag_ring.{specs.declared.ring.Entry.Entry, specs.Ring.ring}
-use Rattle.tau_cascade.{proofs.Keeping.kept_is, proofs.Visits.rising_drop}
+use Rattle.tau_cascade.{proofs.Keeping.kept_is, proofs.Nexts.rising_drop}
 use Rattle.tau_cascade.proofs.level.keep_all.Goals as goal
 
 pub refill-requires-clause-rising : goal.refill-requires-clause-rising

@@ -9,6 +9,9 @@ none = record { index = 0; a = 0; b = 0 }
 pub returns-then-saturating_sub-from-clause-far : goal.returns-then-saturating_sub-from-clause-far
 returns-then-saturating_sub-from-clause-far c =
     let bins = c.args.bins.now in
-    let here : (get_or bins (c.back.place - 1) none).index < c.args.index - c.args.lags = omega (arith, c.if-saturating_sub-from.true, c.saturating_sub.ensures, c.from.ensures) in
-    let below = left_behind (c.args.index - c.args.lags) c.back.place bins none c.back-test.true (omega (arith, c.back.invariant, c.requires.place)) c.requires.rising here in
-    all_weaker (λ (e : Entry). e.index < c.args.index - c.args.lags) (λ e. e.index + c.args.lags < c.args.index) (λ e under. omega arith) (take c.back.place bins) below
+    let here : (get_or bins (c.back.place - 1) none).index < c.args.index - c.args.lags =
+    omega (arith, c.if-saturating_sub-from.true, c.saturating_sub.ensures, c.from.ensures) in
+    let below = left_behind (c.args.index - c.args.lags) c.back.place bins none c.back-test.true
+    (omega (arith, c.back.invariant, c.requires.place)) c.requires.rising here in
+    all_weaker (λ (e : Entry). e.index < c.args.index - c.args.lags)
+    (λ e. e.index + c.args.lags < c.args.index) (λ e under. omega arith) (take c.back.place bins) below

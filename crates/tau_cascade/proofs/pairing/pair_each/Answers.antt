@@ -33,25 +33,30 @@ pair_some-requires-clause-fits g c = λ p inside.
     let k = p + c.args.skipped + 1 in
     let within : c.loop-at.at < length c.args.list.now = search (rules, arith) in
     let behind : c.args.start ≤ c.loop-at.at = search (rules, arith) in
-    let next = paired_next c.args.list.now c.search_reach-from.result c.loop-at.at c.args.lags none within c.search_reach-from.ensures.place c.requires.rising c.args.start behind c.search_reach-from.ensures.far k (omega arith) in
-    let part = paired_part c.args.list.now c.search_reach-from.result c.loop-at.at c.args.lags none within c.search_reach-from.ensures.place c.requires.rising c.args.start behind k in
+    let next = paired_next c.args.list.now c.search_reach-from.result c.loop-at.at c.args.lags none within
+    c.search_reach-from.ensures.place c.requires.rising c.args.start behind c.search_reach-from.ensures.far k (omega arith) in
+    let part = paired_part c.args.list.now c.search_reach-from.result c.loop-at.at c.args.lags
+    none within c.search_reach-from.ensures.place c.requires.rising c.args.start behind k in
     omega (arith, next, part, c.loop-at.invariant.cells p inside, c.requires.fits p inside)
 
 pub loop-at-preserved : goal.loop-at-preserved
 loop-at-preserved g c =
     let within : c.loop-at.at < length c.args.list.now = search (rules, arith) in
     let behind : c.args.start ≤ c.loop-at.at = search (rules, arith) in
-    let few = few_next c.args.list.now c.search_reach-from.result c.loop-at.at c.args.lags none within c.search_reach-from.ensures.place c.requires.rising c.args.skipped in
+    let few = few_next c.args.list.now c.search_reach-from.result c.loop-at.at c.args.lags
+    none within c.search_reach-from.ensures.place c.requires.rising c.args.skipped in
     let e = c.pair_some.ensures in
     record {
       from = omega (arith, c.search_reach-from.ensures.place);
-      far = far_next c.args.list.now c.search_reach-from.result c.loop-at.at c.args.lags none within c.search_reach-from.ensures.place c.requires.rising c.search_reach-from.ensures.far;
+      far = far_next c.args.list.now c.search_reach-from.result c.loop-at.at c.args.lags none within
+          c.search_reach-from.ensures.place c.requires.rising c.search_reach-from.ensures.far;
       cells = λ p inside.
           let k = p + c.args.skipped + 1 in
           let next = paired_next c.args.list.now c.search_reach-from.result c.loop-at.at c.args.lags none within c.search_reach-from.ensures.place c.requires.rising c.args.start behind c.search_reach-from.ensures.far k (omega arith) in
           omega (arith, next, e.cells p inside, c.loop-at.invariant.cells p inside);
       same = search rules;
-      added = (let all = added_next c.args.lags c.args.skipped c.args.start c.loop-at.at c.args.cells.now.added c.loop-at.cells.added _ behind c.loop-at.invariant.added few in omega (arith, all, e.spends.added));
+      added = (let all = added_next c.args.lags c.args.skipped c.args.start c.loop-at.at c.args.cells.now.added
+          c.loop-at.cells.added _ behind c.loop-at.invariant.added few in omega (arith, all, e.spends.added));
       each = λ p. omega (arith, e.each p, c.loop-at.invariant.each p, behind);
       steps = omega (arith, e.spends.steps, c.loop-at.invariant.steps);
     }

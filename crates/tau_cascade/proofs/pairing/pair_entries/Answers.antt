@@ -1,12 +1,13 @@
 use Rattle.std.proofs.Common.{rules, arith, ◌≡◌, ◌≤◌, ◌+◌, ◌-◌, get_or, take}
-use Rattle.tau_cascade.{specs.Levels.weight_before, proofs.Visits.{pairs_fit, cells_more, lags_more, rest_near, once_more, once_before}}
+use Rattle.tau_cascade.{specs.Levels.weight_before, proofs.Nexts.{pairs_fit, cells_more, lags_more, rest_near, once_more, once_before}}
 use Rattle.lag_ring.specs.declared.ring.Entry.{Entry}
 use Rattle.tau_cascade.proofs.pairing.pair_entries.Goals as goal
 
 pub add_at_lag-requires-clause-sum : goal.add_at_lag-requires-clause-sum
 add_at_lag-requires-clause-sum g c =
     let none : Entry = record { index = 0; a = 0; b = 0 } in
-    pairs_fit c.args.entries.now c.loop-e.e-index none c.loop-e-test.true c.args.cells.now.cells c.loop-e.cells.cells c.args.skipped c.args.lags c.args.index c.args.weight _ c.requires.after c.loop-e.invariant.cells c.requires.fits
+    pairs_fit c.args.entries.now c.loop-e.e-index none c.loop-e-test.true c.args.cells.now.cells c.loop-e.cells.cells
+    c.args.skipped c.args.lags c.args.index c.args.weight _ c.requires.after c.loop-e.invariant.cells c.requires.fits
 
 pub loop-e-preserved : goal.loop-e-preserved
 loop-e-preserved g c =
@@ -27,7 +28,8 @@ returns-then-lag-from-clause-cells g c = λ p inside.
     rw rest (c.loop-e.invariant.cells p inside)
 
 pub returns-then-lag-from-clause-each : goal.returns-then-lag-from-clause-each
-returns-then-lag-from-clause-each g c = λ p. omega (arith, c.loop-e.invariant.each p, once_before c.args.entries.now c.loop-e.e-index (p + c.args.skipped + 1) c.args.index c.requires.rising)
+returns-then-lag-from-clause-each g c =
+    λ p. omega (arith, c.loop-e.invariant.each p, once_before c.args.entries.now c.loop-e.e-index (p + c.args.skipped + 1) c.args.index c.requires.rising)
 
 pub returns-clause-each : goal.returns-clause-each
 returns-clause-each g c = search (rules, arith, once_before)

@@ -18,7 +18,8 @@ loop-at-preserved c =
       cells = λ b lt.
           let inside : b < length c.loop-at.cells = omega (arith, same, lt) in
           let row = count-row set (λ dtime. dtime / set.width == b) block at in
-          let added : (if bin == b then more else 0) ≡ (if dtime_at block at / set.width == b then (if is_in (groups_at block at) set.group && nat_lt (code_at block at) 256 then 1 else 0) else 0) = rw (is_bin, is_more) refl in
+          let added : (if bin == b then more else 0) ≡ (if dtime_at block at / set.width == b then
+          (if is_in (groups_at block at) set.group && nat_lt (code_at block at) 256 then 1 else 0) else 0) = rw (is_bin, is_more) refl in
           let put = c.put.ensures.cells b inside in
           omega (arith, put, inv.cells b lt, row, added);
       over =
@@ -26,6 +27,7 @@ loop-at-preserved c =
           let added : (if nat_le (length c.loop-at.cells) bin then more else 0) ≡ (if nat_le set.bins (dtime_at block at / set.width) then (if is_in (groups_at block at) set.group && nat_lt (code_at block at) 256 then 1 else 0) else 0) = rw (same, is_bin, is_more) refl in
           omega (arith, c.put.ensures.rest, inv.over, row, added);
       few =
-          let one : (if is_in (groups_at block at) set.group && nat_lt (code_at block at) 256 then 1 else 0) ≤ 1 = one_at_most (is_in (groups_at block at) set.group && nat_lt (code_at block at) 256) in
+          let one : (if is_in (groups_at block at) set.group && nat_lt (code_at block at) 256 then 1 else 0) ≤ 1 =
+          one_at_most (is_in (groups_at block at) set.group && nat_lt (code_at block at) 256) in
           omega (arith, c.put.ensures.sum, inv.few, is_more, one);
     }

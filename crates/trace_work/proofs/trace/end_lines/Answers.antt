@@ -1,8 +1,8 @@
 use Rattle.std.proofs.Common.{refl}
 use Rattle.record_stream.proofs.Lasts.{streamed-clear}
 use Rattle.gate_plan.specs.Groups.{sorting_of}
-use Rattle.trace_work.{specs.TraceLines.traced_none, proofs.TraceFeeds.ends-both}
-use Rattle.command_work.proofs.Streams.{not_written}
+use Rattle.trace_work.{specs.TraceOutcomes.traced_none, proofs.TraceFeeds.ends-both}
+use Rattle.command_work.proofs.RestEnds.{not_written}
 use Rattle.trace_work.proofs.trace.end_lines.Goals as goal
 
 pub returns-clause-writes : goal.returns-clause-writes

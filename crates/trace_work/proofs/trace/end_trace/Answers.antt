@@ -37,7 +37,8 @@ module _ {O : Type 0} (o : Ghosts O) (by : Sorting) (how : Reading) (trace now :
   ends-refused fault e = search (rules, arith)
 
   -- The lines of what was kept back were not all written.
-  last-refused : (old new : O) (fault : Fault) → WritesLast o by how trace now old new bytes (Err fault) → WritesEnd (traces set by how) bytes (o.written old) (o.written new) (o.faults old) (o.faults new) (Err fault)
+  last-refused : (old new : O) (fault : Fault) → WritesLast o by how trace now old new bytes (Err fault)
+      → WritesEnd (traces set by how) bytes (o.written old) (o.written new) (o.faults old) (o.faults new) (Err fault)
   last-refused old new fault (inl h) =
       let is = ends-refused fault h.1 in
       inl (
@@ -55,7 +56,8 @@ module _ {O : Type 0} (o : Ghosts O) (by : Sorting) (how : Reading) (trace now :
         h.0,
         record {
           more = h.1.more ++ front.0;
-          adds = ap (λ (end : Outcome). end.text) (ends-whole h.1.clear) ∙ front.1 ∙ ap (λ l. l ++ front.0) h.1.adds ∙ append_assoc (text (words_of bytes)) h.1.more front.0;
+          adds = ap (λ (end : Outcome). end.text) (ends-whole h.1.clear) ∙ front.1
+              ∙ ap (λ l. l ++ front.0) h.1.adds ∙ append_assoc (text (words_of bytes)) h.1.more front.0;
           cut = AppendsShort-more (o.written old) (o.written new) h.1.more front.0 h.1.cut;
           rose = h.1.rose;
         },
@@ -65,7 +67,8 @@ module _ {O : Type 0} (o : Ghosts O) (by : Sorting) (how : Reading) (trace now :
   last-ended : (old mid new : O) (r : Result (Unit {0}) Fault) → set_of now ≡ set_of trace → WroteLast o by how trace now old mid bytes
       → OnOk r (AppendsRest (o.written mid) (o.written new) (open_text (trace_view (set_of now)) all) (whole_text (trace_view (set_of now)) all))
       → OnErr r (CutsRest (o.written mid) (o.written new) (open_text (trace_view (set_of now)) all) (whole_text (trace_view (set_of now)) all))
-      → IfErr r (λ fault. fault ≡ WriteFault) → OnErr r (Rose (o.faults mid) (o.faults new)) → OnOk r (o.faults new ≡ o.faults mid) → WritesEnd (traces set by how) bytes (o.written old) (o.written new) (o.faults old) (o.faults new) r
+      → IfErr r (λ fault. fault ≡ WriteFault) → OnErr r (Rose (o.faults mid) (o.faults new)) → OnOk r (o.faults new ≡ o.faults mid)
+      → WritesEnd (traces set by how) bytes (o.written old) (o.written new) (o.faults old) (o.faults new) r
   last-ended old mid new (Ok done) same h all_of cut write rose kept =
       let rest = rw same at all_of in
       let is = ends-whole h.clear in (
@@ -83,7 +86,8 @@ module _ {O : Type 0} (o : Ghosts O) (by : Sorting) (how : Reading) (trace now :
         write,
         record {
           more = h.more ++ rest.rest;
-          adds = ap (λ (end : Outcome). end.text) (ends-whole h.clear) ∙ rest.whole ∙ ap (λ l. l ++ rest.rest) h.adds ∙ append_assoc (text (words_of bytes)) h.more rest.rest;
+          adds = ap (λ (end : Outcome). end.text) (ends-whole h.clear) ∙ rest.whole
+              ∙ ap (λ l. l ++ rest.rest) h.adds ∙ append_assoc (text (words_of bytes)) h.more rest.rest;
           cut = AppendsShort-behind (o.written old) (o.written mid) (o.written new) h.more rest.rest h.written rest.cut;
           rose = rw h.kept at rose;
         },
@@ -92,7 +96,8 @@ module _ {O : Type 0} (o : Ghosts O) (by : Sorting) (how : Reading) (trace now :
 pub returns-in_err-last_lines : goal.returns-in_err-last_lines
 returns-in_err-last_lines g c = λ bytes h holds.
     let p = err_from_is_err_and c.from_residual.result c.from_residual.ensures.1 in
-    rw p.1 (rw p.2 (last-refused g.O.Sink (sorting_of c.args.gates.now) (how_of c.args.stream) c.args.trace c.last_lines.new.trace bytes _ _ _ (c.in_err-last_lines.ensures.writes bytes h holds)))
+    rw p.1 (rw p.2 (last-refused g.O.Sink (sorting_of c.args.gates.now)
+    (how_of c.args.stream) c.args.trace c.last_lines.new.trace bytes _ _ _ (c.in_err-last_lines.ensures.writes bytes h holds)))
 
 pub returns : goal.returns
 returns g c = λ bytes h holds.

@@ -1,7 +1,7 @@
 use Rattle.std.{proofs.Common.{◌∙◌, sym, ◌≡◌, ℕ, ◌<◌, Bool, true, false, cond, List, [], ◌∷◌, get_or, refl, arith, rules}, specs.List.{count_by, filter}, proofs.lemmas.Bool.false≢true}
 use Rattle.tally_base.{specs.Settings.{coincidence_view, CoincidenceView, coincidence_cells}, specs.Tally.History}
 use Rattle.lag_ring.proofs.Sums.{sum_by-same, sum_by-filter}
-use Rattle.coincidence.{proofs.Within.work_within, specs.declared.pairing.Pairing.Pairing, specs.Pairs.{is_coincidence, coincidences, photons_of_groups}, specs.StandsFor.StandsFor, proofs.Gives.mine, proofs.Hits.{pairs_in, zeros}, proofs.Apart.pairs_apart-in}
+use Rattle.coincidence.{proofs.Visits.work_within, specs.declared.pairing.Pairing.Pairing, specs.Pairs.{is_coincidence, coincidences, photons_of_groups}, specs.StandsFor.StandsFor, proofs.Blockwise.mine, proofs.Hits.{pairs_in, zeros}, proofs.Mirror.pairs_apart-in}
 use Rattle.coincidence.proofs.coincidence.Coincidence.cell.Goals as goal
 
 -- the photons of the two groups make all the pairs

@@ -1,12 +1,15 @@
 use Rattle.std.proofs.Math.Logic.{∥∥₁_map}
 use Rattle.tally_base.specs.Settings.{coincidence_view}
-use Rattle.coincidence.{specs.Pairs.photons_of_groups, proofs.Gives.{may_end, end_counts}}
+use Rattle.coincidence.{specs.Pairs.photons_of_groups, proofs.Blockwise.{may_end, end_counts}}
 use Rattle.coincidence.proofs.coincidence.CoincidenceTally.close.Goals as goal
 
 pub end-requires : goal.end-requires
 end-requires g c =
     let t = c.args.self.now in
-    record { stands = ∥∥₁_map t.stands (λ w. (photons_of_groups (coincidence_view t.set) w.0, may_end t.closed c.requires.open (coincidence_view t.set) t.pairing t.taken t.floor w.0 w.1 t.few)) }
+    record {
+      stands = ∥∥₁_map t.stands (λ w.
+          (photons_of_groups (coincidence_view t.set) w.0, may_end t.closed c.requires.open (coincidence_view t.set) t.pairing t.taken t.floor w.0 w.1 t.few));
+    }
 
 pub invariant_of-self-clause-stands : goal.invariant_of-self-clause-stands
 invariant_of-self-clause-stands g c =

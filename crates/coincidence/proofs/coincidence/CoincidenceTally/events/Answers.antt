@@ -14,13 +14,17 @@ invariant_of-self-clause-stands g c =
     let b = c.args.block.now in
     ∥∥₁_map t.stands (λ w. (
       w.0 ++ events_in b,
-      events_count t.closed c.requires.open (coincidence_view t.set) t.pairing _ t.taken t.floor _ _ w.0 b w.1 c.requires.in_order (search rules) c.floor_after-self.ensures
-          (c.take_block.ensures.follows w.0 (may_events t.closed c.requires.open (coincidence_view t.set) t.pairing t.taken t.floor w.0 (gathered b) w.1 c.requires.room c.requires.in_order)),
+      events_count t.closed c.requires.open (coincidence_view t.set) t.pairing _ t.taken t.floor _ _ w.0 b w.1 c.requires.in_order
+          (search rules) c.floor_after-self.ensures
+          (c.take_block.ensures.follows w.0 (may_events t.closed c.requires.open
+          (coincidence_view t.set) t.pairing t.taken t.floor w.0 (gathered b) w.1 c.requires.room c.requires.in_order)),
     ))
 
 pub returns-clause-follows : goal.returns-clause-follows
 returns-clause-follows g c = λ h is.
     let t = c.args.self.now in
     let b = c.args.block.now in
-    events_count t.closed c.requires.open (coincidence_view t.set) t.pairing _ t.taken t.floor _ _ h b is c.requires.in_order (search rules) c.floor_after-self.ensures
-    (c.take_block.ensures.follows h (may_events t.closed c.requires.open (coincidence_view t.set) t.pairing t.taken t.floor h (gathered b) is c.requires.room c.requires.in_order))
+    events_count t.closed c.requires.open (coincidence_view t.set) t.pairing _ t.taken t.floor _ _ h b is c.requires.in_order
+    (search rules) c.floor_after-self.ensures
+    (c.take_block.ensures.follows h
+    (may_events t.closed c.requires.open (coincidence_view t.set) t.pairing t.taken t.floor h (gathered b) is c.requires.room c.requires.in_order))

@@ -1,5 +1,5 @@
 use Rattle.std.proofs.Common.{◌≡◌, false, length, rules, arith, length-append}
-use Rattle.tally_base.{specs.Columns.{item, events_in}, proofs.BlockRows.length-rows, proofs.Greatest.greatest_block, proofs.Lower.{order-lower, floor-lower}, proofs.Slices.whole_slice}
+use Rattle.tally_base.{specs.Columns.{item, events_in}, proofs.BlockRows.length-rows, proofs.Floors.{greatest_block, order-lower, floor-lower}, proofs.Sums.whole_slice}
 use Rattle.coincidence.proofs.start_stop.StartStopTally.events.Goals as goal
 
 pub count_block-self-requires-clause-in_order : goal.count_block-self-requires-clause-in_order

@@ -5,7 +5,8 @@ use Rattle.file_work.proofs.events.EventLinesEventTaker.take.Goals as goal
 pub returns-in_err-put-clause-broken : goal.returns-in_err-put-clause-broken
 returns-in_err-put-clause-broken g c =
     let p = err_from_is_err_and c.from_residual.result c.from_residual.ensures.1 in
-    rw p.1 (λ start l h. ListedShort-more _ _ _ _ _ _ _ _ _ _ _ _ _ _ _ _ l _ _ _ h c.format_event-text.ensures.text c.in_err-put.ensures.short c.in_err-put.ensures.empty)
+    rw p.1 (λ start l h. ListedShort-more _ _ _ _ _ _ _ _ _ _ _ _ _ _ _ _ l _ _ _ h
+    c.format_event-text.ensures.text c.in_err-put.ensures.short c.in_err-put.ensures.empty)
 
 pub returns-clause-follows : goal.returns-clause-follows
 returns-clause-follows g c = λ start l h. Listed-more _ _ _ _ _ _ _ _ _ _ _ _ _ _ _ _ _ l _ _ _ _ h c.format_event-text.ensures.text c.in_ok-put.ensures.all c.requires.in_order c.moved_floor-self.ensures c.in_ok-put.ensures.cause.kept

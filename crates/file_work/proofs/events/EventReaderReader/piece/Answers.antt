@@ -1,5 +1,5 @@
 use Rattle.std.proofs.Common.{ap}
-use Rattle.file_work.specs.EventPieces.{lists}
+use Rattle.file_work.specs.EventLines.{lists}
 use Rattle.file_work.proofs.events.EventReaderReader.piece.Goals as goal
 
 pub returns-clause-same : goal.returns-clause-same

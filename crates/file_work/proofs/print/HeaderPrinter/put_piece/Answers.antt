@@ -1,12 +1,12 @@
 use Rattle.std.{proofs.Common.{◌≡◌, ◌^◌, ◌≤◌, ◌++◌, List, ℕ, length, take, sym, ap, ◌∙◌, subst, append_assoc, arith, length-append, ◌+◌, [], Bool, drop, take-append-drop, rules}, proofs.lemmas.List.{length-take, take_all}, proofs.lemmas.Result.err_from_is_err_and, specs.declared.option.Option.Option, proofs.Math.Seq.take-add}
-use Rattle.ptu_definitions.{specs.TagFields.code_in, specs.Headers.header_answer, specs.TagList.Item, specs.Seen.{seen, seen_preamble}}
-use Rattle.list_out.{specs.HeaderText.{kind_with, body_text, head_text, bare_end, preamble_lines_of, header_text}, specs.declared.body.BodyText.BodyText, specs.Body.HasPut, proofs.Final.{header_text-grows, header_text-refused, header_text-done}, proofs.StepTexts.{header_text-same, header_text-preamble, header_text-tag, header_text-body, kind_with-is}}
+use Rattle.ptu_definitions.{specs.TagList.{code_in, Item}, specs.Headers.{header_answer, seen, seen_preamble}}
+use Rattle.list_out.{specs.HeaderText.{kind_with, body_text, head_text, bare_end, preamble_lines_of, header_text}, specs.declared.body.BodyText.BodyText, specs.Lines.HasPut, proofs.Final.{header_text-grows, header_text-refused, header_text-done}, proofs.StepTexts.{header_text-same, header_text-preamble, header_text-tag, header_text-body, kind_with-is}}
 use Rattle.command_work.{specs.Outcomes.IsCut, proofs.Pieces.whole-piece}
 use Rattle.tally_base.{specs.declared.fault.Fault.Fault, specs.declared.header.Header.Header}
 use Rattle.bench_io.{specs.Sinks.{AppendsShort, PassesOn}, proofs.Bytes.{PassesOn-trans, AppendsShort-passed, AppendsShort-more, AppendsShort-same}}
 use Rattle.ptu_tag.{specs.declared.kind.TagKind.TagKind, specs.declared.head.TagHead.TagHead}
 use Rattle.ptu_header.{specs.declared.reader.HeaderReader.HeaderReader, specs.declared.step.HeaderStep.TheVariants.{More, Preamble, Tag, Body, Done, Refused}, specs.Reading.{Steps, bytes_taken}}
-use Rattle.file_work.{specs.HeaderPrints.{Prints, PutsHeader, CutsHeader}, specs.BodyPieces.end_line, specs.declared.print.HeaderPrinter.HeaderPrinter, proofs.Printers.{no_items, last_item}}
+use Rattle.file_work.{specs.BodyPieces.{Prints, PutsHeader, CutsHeader, end_line}, specs.declared.print.HeaderPrinter.HeaderPrinter, proofs.Ends.{no_items, last_item}}
 use Rattle.file_work.proofs.print.HeaderPrinter.put_piece.Goals as goal
 
 -- what each step of a header reader does for a printer
@@ -18,8 +18,10 @@ parts : (bytes piece left : List ℕ) (used more : ℕ) → left ≡ drop used p
 parts bytes piece left used more e = search (rules, arith, append_assoc, take-add)
 
 -- more text is put
-PutsHeader-next : (bytes piece left text : List ℕ) (used more : ℕ) (a b c : Option (List ℕ)) (held now later : List ℕ) → left ≡ drop used piece → PutsHeader bytes (take used piece) a b held now
-    → header_text ((bytes ++ take used piece) ++ take more left) ≡ header_text (bytes ++ take used piece) ++ text → PassesOn b c (now ++ text) later → PutsHeader bytes (take (used + more) piece) a c held later
+PutsHeader-next : (bytes piece left text : List ℕ) (used more : ℕ) (a b c : Option (List ℕ)) (held now later : List ℕ)
+    → left ≡ drop used piece → PutsHeader bytes (take used piece) a b held now
+    → header_text ((bytes ++ take used piece) ++ take more left) ≡ header_text (bytes ++ take used piece) ++ text
+    → PassesOn b c (now ++ text) later → PutsHeader bytes (take (used + more) piece) a c held later
 PutsHeader-next bytes piece left text used more a b c held now later e h grown put = record {
   added = h.added ++ text;
   text = ap header_text (sym (parts bytes piece left used more e)) ∙ grown ∙ ap (λ l. l ++ text) h.text ∙ append_assoc (header_text bytes) h.added text;
@@ -27,43 +29,54 @@ PutsHeader-next bytes piece left text used more a b c held now later e h grown p
 }
 
 -- more text is cut
-CutsHeader-next : (bytes piece left text : List ℕ) (used more : ℕ) (a b c : Option (List ℕ)) (held now : List ℕ) → left ≡ drop used piece → PutsHeader bytes (take used piece) a b held now
-    → header_text ((bytes ++ take used piece) ++ take more left) ≡ header_text (bytes ++ take used piece) ++ text → AppendsShort b c (now ++ text) → CutsHeader bytes piece a c held
+CutsHeader-next : (bytes piece left text : List ℕ) (used more : ℕ) (a b c : Option (List ℕ)) (held now : List ℕ)
+    → left ≡ drop used piece → PutsHeader bytes (take used piece) a b held now
+    → header_text ((bytes ++ take used piece) ++ take more left) ≡ header_text (bytes ++ take used piece) ++ text
+    → AppendsShort b c (now ++ text) → CutsHeader bytes piece a c held
 CutsHeader-next bytes piece left text used more a b c held now e h grown cut =
     let front = bytes ++ take (used + more) piece in
     let behind = header_text-grows front (drop (used + more) piece) in
-    let whole : front ++ drop (used + more) piece ≡ bytes ++ piece = append_assoc bytes (take (used + more) piece) (drop (used + more) piece) ∙ ap (λ l. bytes ++ l) (take-append-drop (used + more) piece) in
+    let whole : front ++ drop (used + more) piece ≡ bytes ++ piece =
+    append_assoc bytes (take (used + more) piece) (drop (used + more) piece) ∙ ap (λ l. bytes ++ l) (take-append-drop (used + more) piece) in
     let so_far : header_text front ≡ header_text bytes ++ (h.added ++ text) =
     ap header_text (sym (parts bytes piece left used more e)) ∙ grown ∙ ap (λ l. l ++ text) h.text ∙ append_assoc (header_text bytes) h.added text in
     record {
       added = (h.added ++ text) ++ behind.0;
       text = ap header_text (sym whole) ∙ behind.1 ∙ ap (λ l. l ++ behind.0) so_far ∙ append_assoc (header_text bytes) (h.added ++ text) behind.0;
       cut = AppendsShort-same a c _ _ (append_assoc held (h.added ++ text) behind.0)
-          (AppendsShort-more a c (held ++ (h.added ++ text)) behind.0 (AppendsShort-same a c _ _ (append_assoc held h.added text) (AppendsShort-passed a b c (held ++ h.added) now text h.put cut)));
+          (AppendsShort-more a c (held ++ (h.added ++ text)) behind.0
+          (AppendsShort-same a c _ _ (append_assoc held h.added text) (AppendsShort-passed a b c (held ++ h.added) now text h.put cut)));
     }
 
 -- what is left of the piece adds nothing
-PutsHeader-end : (bytes piece left : List ℕ) (used : ℕ) (a b : Option (List ℕ)) (held now : List ℕ) → left ≡ drop used piece → PutsHeader bytes (take used piece) a b held now
+PutsHeader-end : (bytes piece left : List ℕ) (used : ℕ) (a b : Option (List ℕ)) (held now : List ℕ)
+    → left ≡ drop used piece → PutsHeader bytes (take used piece) a b held now
     → header_text ((bytes ++ take used piece) ++ left) ≡ header_text (bytes ++ take used piece) → PutsHeader bytes piece a b held now
 PutsHeader-end bytes piece left used a b held now e h same = search (rules, arith, whole-piece)
 
 -- the texts of the steps
-text-preamble : (bytes left magic version : List ℕ) (more : ℕ) (reader : HeaderReader) → Steps bytes left reader (Preamble more magic version) → length (bytes ++ take more left) ≤ 2 ^ 24
+text-preamble : (bytes left magic version : List ℕ) (more : ℕ) (reader : HeaderReader)
+    → Steps bytes left reader (Preamble more magic version) → length (bytes ++ take more left) ≤ 2 ^ 24
     → header_text (bytes ++ take more left) ≡ header_text bytes ++ preamble_lines_of magic version
 text-preamble bytes left magic version more reader s fits = search (rules, arith, header_text-preamble, length-append, length-take)
 
-text-tag : (bytes left : List ℕ) (more : ℕ) (reader : HeaderReader) (head : TagHead) (kind : TagKind) (s : Steps bytes left reader (Tag more head kind)) → length (bytes ++ take more left) ≤ 2 ^ 24
+text-tag : (bytes left : List ℕ) (more : ℕ) (reader : HeaderReader) (head : TagHead) (kind : TagKind) (s : Steps bytes left reader (Tag more head kind))
+    → length (bytes ++ take more left) ≤ 2 ^ 24
     → header_text (bytes ++ take more left) ≡ header_text bytes ++ (head_text head kind ++ bare_end s.2.0)
 text-tag bytes left more reader head kind s fits = header_text-tag bytes (take more left) s.2.0 head kind fits s.3 s.2.2 s.2.3 s.2.4
 
-text-body : (bytes left added : List ℕ) (more : ℕ) (last : Bool) (reader : HeaderReader) (s : Steps bytes left reader (Body more last)) → length (bytes ++ take more left) ≤ 2 ^ 24
-    → body_text (kind_with (code_in s.2.tag)) (s.2.part ++ take more left) ≡ body_text (kind_with (code_in s.2.tag)) s.2.part ++ added → header_text (bytes ++ take more left) ≡ header_text bytes ++ (added ++ end_line last)
+text-body : (bytes left added : List ℕ) (more : ℕ) (last : Bool) (reader : HeaderReader) (s : Steps bytes left reader (Body more last))
+    → length (bytes ++ take more left) ≤ 2 ^ 24
+    → body_text (kind_with (code_in s.2.tag)) (s.2.part ++ take more left) ≡ body_text (kind_with (code_in s.2.tag)) s.2.part ++ added
+    → header_text (bytes ++ take more left) ≡ header_text bytes ++ (added ++ end_line last)
 text-body bytes left added more last reader s fits grown = search (rules, arith, header_text-body, length-append, length-take)
 
-text-more : (bytes left : List ℕ) (reader : HeaderReader) → Steps bytes left reader More → length (bytes ++ left) ≤ 2 ^ 24 → header_text (bytes ++ left) ≡ header_text bytes
+text-more : (bytes left : List ℕ) (reader : HeaderReader) → Steps bytes left reader More
+    → length (bytes ++ left) ≤ 2 ^ 24 → header_text (bytes ++ left) ≡ header_text bytes
 text-more bytes left reader s fits = header_text-same bytes (bytes ++ left) (omega (arith, fits, length-append bytes left)) fits s.3.items s.3.preamble
 
-text-done : (bytes left : List ℕ) (used : ℕ) (header : Header) (reader : HeaderReader) → Steps bytes left reader (Done used header) → header_text (bytes ++ left) ≡ header_text bytes
+text-done : (bytes left : List ℕ) (used : ℕ) (header : Header) (reader : HeaderReader)
+    → Steps bytes left reader (Done used header) → header_text (bytes ++ left) ≡ header_text bytes
 text-done bytes left used header reader s = header_text-done bytes left header [] s.2
 
 text-refused : (bytes left : List ℕ) (fault : Fault) (reader : HeaderReader) → Steps bytes left reader (Refused fault) → length bytes ≤ bytes_taken reader → bytes_taken reader ≤ 2 ^ 24 → header_text (bytes ++ left) ≡ header_text bytes
@@ -78,11 +91,14 @@ text-refused bytes left fault reader s later limit =
     ∙ header_text-same bytes front (omega (arith, later, limit)) (omega (arith, limit, length-take n all)) items preamble
 
 -- what the printer stands for behind the steps
-Prints-preamble : (bytes left magic version : List ℕ) (more : ℕ) (reader : HeaderReader) (body : BodyText) → Steps bytes left reader (Preamble more magic version)
+Prints-preamble : (bytes left magic version : List ℕ) (more : ℕ) (reader : HeaderReader) (body : BodyText)
+    → Steps bytes left reader (Preamble more magic version)
     → bytes_taken reader ≡ length (bytes ++ take more left) → Prints (printer reader body) (bytes ++ take more left)
-Prints-preamble bytes left magic version more reader body s taken = record { read = s.1; taken = taken; body = λ items tag part shows. no_items items _ (sym shows ∙ s.5) }
+Prints-preamble bytes left magic version more reader body s taken =
+    record { read = s.1; taken = taken; body = λ items tag part shows. no_items items _ (sym shows ∙ s.5) }
 
-Prints-tag : (bytes left : List ℕ) (more : ℕ) (reader : HeaderReader) (head : TagHead) (kind : TagKind) (body : BodyText) → Steps bytes left reader (Tag more head kind)
+Prints-tag : (bytes left : List ℕ) (more : ℕ) (reader : HeaderReader) (head : TagHead) (kind : TagKind) (body : BodyText)
+    → Steps bytes left reader (Tag more head kind)
     → bytes_taken reader ≡ length (bytes ++ take more left) → HasPut body kind [] → Prints (printer reader body) (bytes ++ take more left)
 Prints-tag bytes left more reader head kind body s taken none = record {
   read = s.1;
@@ -96,21 +112,25 @@ Prints-tag bytes left more reader head kind body s taken none = record {
 }
 
 Prints-body : (bytes left : List ℕ) (more : ℕ) (last : Bool) (reader : HeaderReader) (body : BodyText) (s : Steps bytes left reader (Body more last))
-    → bytes_taken reader ≡ length (bytes ++ take more left) → HasPut body (kind_with (code_in s.2.tag)) (s.2.part ++ take more left) → Prints (printer reader body) (bytes ++ take more left)
+    → bytes_taken reader ≡ length (bytes ++ take more left) → HasPut body (kind_with (code_in s.2.tag)) (s.2.part ++ take more left)
+    → Prints (printer reader body) (bytes ++ take more left)
 Prints-body bytes left more last reader body s taken put = search (rules, arith, last_item)
 
-Prints-more : (old : HeaderPrinter) (bytes left : List ℕ) (reader : HeaderReader) → Prints old bytes → Steps bytes left reader More → bytes_taken reader ≡ length (bytes ++ left)
+Prints-more : (old : HeaderPrinter) (bytes left : List ℕ) (reader : HeaderReader)
+    → Prints old bytes → Steps bytes left reader More → bytes_taken reader ≡ length (bytes ++ left)
     → Prints (printer reader old.body) (bytes ++ left)
 Prints-more old bytes left reader h s taken = record { read = s.0; taken = taken; body = λ items tag part shows. h.body items tag part (sym s.3.items ∙ shows) }
 
 -- the text of a body and the end of its line
-PassesOn-body : (a b c : Option (List ℕ)) (held added end now later : List ℕ) → PassesOn a b (held ++ added) now → PassesOn b c (now ++ end) later → PassesOn a c (held ++ (added ++ end)) later
+PassesOn-body : (a b c : Option (List ℕ)) (held added end now later : List ℕ) → PassesOn a b (held ++ added) now
+    → PassesOn b c (now ++ end) later → PassesOn a c (held ++ (added ++ end)) later
 PassesOn-body a b c held added end now later p q = rw (← append_assoc held added end) (PassesOn-trans a b c (held ++ added) now end later p q)
 
 AppendsShort-body : (a b : Option (List ℕ)) (held added end : List ℕ) → AppendsShort a b (held ++ added) → AppendsShort a b (held ++ (added ++ end))
 AppendsShort-body a b held added end p = AppendsShort-same a b _ _ (append_assoc held added end) (AppendsShort-more a b (held ++ added) end p)
 
-AppendsShort-end : (a b c : Option (List ℕ)) (held added end now : List ℕ) → PassesOn a b (held ++ added) now → AppendsShort b c (now ++ end) → AppendsShort a c (held ++ (added ++ end))
+AppendsShort-end : (a b c : Option (List ℕ)) (held added end now : List ℕ) → PassesOn a b (held ++ added) now
+    → AppendsShort b c (now ++ end) → AppendsShort a c (held ++ (added ++ end))
 AppendsShort-end a b c held added end now p q = AppendsShort-same a c _ _ (append_assoc held added end) (AppendsShort-passed a b c (held ++ added) now end p q)
 
 pub returns-in-More-clause-leaves : goal.returns-in-More-clause-leaves
@@ -159,17 +179,20 @@ steps-preserved-in-Preamble g c =
     omega (arith, p.taken, s.0.0, c.in-Preamble.ensures.room.1, c.in-Preamble.ensures.limit, length-append front (take more left), length-take more left) in
     let next : (front : List ℕ) → Prints c.steps.self front → Prints (printer reader body) (front ++ take more left) = λ front p.
     let s = c.in-Preamble.ensures.step front p.read in
-    Prints-preamble front left c.in-Preamble.magic c.in-Preamble.version more reader body s (omega (arith, p.taken, s.0.0, c.in-Preamble.ensures.room.1, length-append front (take more left), length-take more left)) in
+    Prints-preamble front left c.in-Preamble.magic c.in-Preamble.version more reader body s
+    (omega (arith, p.taken, s.0.0, c.in-Preamble.ensures.room.1, length-append front (take more left), length-take more left)) in
     let first = c.steps.invariant.started in
     let step = c.in-Preamble.ensures.step first.0 first.1.read in
     record {
       fits = omega (arith, step.0.0, c.split_at.ensures.back_len, c.steps.invariant.fits);
       started = (first.0 ++ take more left, next first.0 first.1);
-      prints = λ bytes h. subst (Prints (printer reader body)) (parts bytes piece left c.steps.used more c.split_at.ensures.back) (next (bytes ++ take c.steps.used piece) (c.steps.invariant.prints bytes h));
+      prints = λ bytes h. subst (Prints (printer reader body)) (parts bytes piece left c.steps.used more c.split_at.ensures.back)
+          (next (bytes ++ take c.steps.used piece) (c.steps.invariant.prints bytes h));
       text = λ bytes h.
           let front = bytes ++ take c.steps.used piece in
           let p = c.steps.invariant.prints bytes h in
-          PutsHeader-next bytes piece left _ c.steps.used more _ _ _ c.args.block.now c.steps.block c.put.new.self c.split_at.ensures.back (c.steps.invariant.text bytes h)
+          PutsHeader-next bytes piece left _ c.steps.used more _ _ _ c.args.block.now c.steps.block c.put.new.self c.split_at.ensures.back
+          (c.steps.invariant.text bytes h)
           (text-preamble front left c.in-Preamble.magic c.in-Preamble.version more reader (c.in-Preamble.ensures.step front p.read) (fits front p))
           (rw (c.as_slice.ensures.value, c.preamble_lines.ensures) at c.in_ok-put-in-Preamble.ensures.all);
       taken = omega (arith, c.in-Preamble.ensures.room.1, c.steps.invariant.taken);
@@ -187,7 +210,8 @@ returns-in_err-put-in-Tag-clause-short g c =
     let p = c.steps.invariant.prints bytes h in
     let s = c.in-Tag.ensures.step front p.read in
     CutsHeader-next bytes piece left _ c.steps.used more _ _ _ c.args.block.now c.steps.block c.split_at.ensures.back (c.steps.invariant.text bytes h)
-    (text-tag front left more c.feed.new.self c.in-Tag.tag c.in-Tag.kind s (omega (arith, p.taken, s.0.0, c.in-Tag.ensures.room.1, c.in-Tag.ensures.limit, length-append front (take more left), length-take more left)))
+    (text-tag front left more c.feed.new.self c.in-Tag.tag c.in-Tag.kind s
+    (omega (arith, p.taken, s.0.0, c.in-Tag.ensures.room.1, c.in-Tag.ensures.limit, length-append front (take more left), length-take more left)))
     (rw (c.as_slice-in-Tag.ensures.value, c.tag_line.ensures s.2.0 s.2.3 s.2.4) at c.in_err-put-in-Tag.ensures.short))
 
 pub steps-preserved-in-Tag : goal.steps-preserved-in-Tag
@@ -202,18 +226,21 @@ steps-preserved-in-Tag g c =
     omega (arith, p.taken, s.0.0, c.in-Tag.ensures.room.1, c.in-Tag.ensures.limit, length-append front (take more left), length-take more left) in
     let next : (front : List ℕ) → Prints c.steps.self front → Prints (printer reader body) (front ++ take more left) = λ front p.
     let s = c.in-Tag.ensures.step front p.read in
-    Prints-tag front left more reader c.in-Tag.tag c.in-Tag.kind body s (omega (arith, p.taken, s.0.0, c.in-Tag.ensures.room.1, length-append front (take more left), length-take more left)) c.new-self.ensures in
+    Prints-tag front left more reader c.in-Tag.tag c.in-Tag.kind body s
+    (omega (arith, p.taken, s.0.0, c.in-Tag.ensures.room.1, length-append front (take more left), length-take more left)) c.new-self.ensures in
     let first = c.steps.invariant.started in
     let step = c.in-Tag.ensures.step first.0 first.1.read in
     record {
       fits = omega (arith, step.0.0, c.split_at.ensures.back_len, c.steps.invariant.fits);
       started = (first.0 ++ take more left, next first.0 first.1);
-      prints = λ bytes h. subst (Prints (printer reader body)) (parts bytes piece left c.steps.used more c.split_at.ensures.back) (next (bytes ++ take c.steps.used piece) (c.steps.invariant.prints bytes h));
+      prints = λ bytes h. subst (Prints (printer reader body)) (parts bytes piece left c.steps.used more c.split_at.ensures.back)
+          (next (bytes ++ take c.steps.used piece) (c.steps.invariant.prints bytes h));
       text = λ bytes h.
           let front = bytes ++ take c.steps.used piece in
           let p = c.steps.invariant.prints bytes h in
           let s = c.in-Tag.ensures.step front p.read in
-          PutsHeader-next bytes piece left _ c.steps.used more _ _ _ c.args.block.now c.steps.block c.put-in-Tag.new.self c.split_at.ensures.back (c.steps.invariant.text bytes h)
+          PutsHeader-next bytes piece left _ c.steps.used more _ _ _ c.args.block.now c.steps.block c.put-in-Tag.new.self c.split_at.ensures.back
+          (c.steps.invariant.text bytes h)
           (text-tag front left more reader c.in-Tag.tag c.in-Tag.kind s (fits front p))
           (rw (c.as_slice-in-Tag.ensures.value, c.tag_line.ensures s.2.0 s.2.3 s.2.4) at c.in_ok-put-in-Tag.ensures.all);
       taken = omega (arith, c.in-Tag.ensures.room.1, c.steps.invariant.taken);
@@ -230,7 +257,8 @@ returns-in-Done-clause-leaves g c = λ bytes h.
       c.in-Done.header,
       left,
       λ more.
-          ap (λ l. header_answer (l ++ more)) (sym (whole-piece bytes piece left c.steps.used c.split_at.ensures.back)) ∙ ap header_answer (append_assoc front left more) ∙ s.2 (left ++ more),
+          ap (λ l. header_answer (l ++ more)) (sym (whole-piece bytes piece left c.steps.used c.split_at.ensures.back))
+          ∙ ap header_answer (append_assoc front left more) ∙ s.2 (left ++ more),
     )
 
 pub returns-in-Done-clause-text : goal.returns-in-Done-clause-text
@@ -239,7 +267,8 @@ returns-in-Done-clause-text g c = λ bytes h.
     let left = c.split_at.result.1.now in
     let front = bytes ++ take c.steps.used piece in
     let p = c.steps.invariant.prints bytes h in
-    PutsHeader-end bytes piece left c.steps.used _ _ _ _ c.split_at.ensures.back (c.steps.invariant.text bytes h) (text-done front left c.in-Done.used c.in-Done.header c.feed.new.self (c.in-Done.ensures.step front p.read))
+    PutsHeader-end bytes piece left c.steps.used _ _ _ _ c.split_at.ensures.back (c.steps.invariant.text bytes h)
+    (text-done front left c.in-Done.used c.in-Done.header c.feed.new.self (c.in-Done.ensures.step front p.read))
 
 pub returns-in-Refused-clause-leaves : goal.returns-in-Refused-clause-leaves
 returns-in-Refused-clause-leaves g c = λ bytes h more.
@@ -270,9 +299,12 @@ returns-in_err-put_body-in-Body-clause-short g c =
     let front = bytes ++ take c.steps.used piece in
     let p = c.steps.invariant.prints bytes h in
     let s = c.in-Body.ensures.step front p.read in
-    let body = rw c.split_at-in-Body.ensures.front at (c.in_err-put_body-in-Body.ensures.short (kind_with (code_in s.2.tag)) s.2.part (p.body s.2.items s.2.tag s.2.part s.2.before_are)) in
-    CutsHeader-next bytes piece left (body.added ++ end_line c.in-Body.last) c.steps.used more _ _ _ c.args.block.now c.steps.block c.split_at.ensures.back (c.steps.invariant.text bytes h)
-    (text-body front left body.added more c.in-Body.last c.feed.new.self s (omega (arith, p.taken, s.0.0, c.in-Body.ensures.room.1, c.in-Body.ensures.limit, length-append front (take more left), length-take more left)) body.text)
+    let body = rw c.split_at-in-Body.ensures.front at
+    (c.in_err-put_body-in-Body.ensures.short (kind_with (code_in s.2.tag)) s.2.part (p.body s.2.items s.2.tag s.2.part s.2.before_are)) in
+    CutsHeader-next bytes piece left (body.added ++ end_line c.in-Body.last) c.steps.used more _ _ _ c.args.block.now c.steps.block c.split_at.ensures.back
+    (c.steps.invariant.text bytes h)
+    (text-body front left body.added more c.in-Body.last c.feed.new.self s (omega
+    (arith, p.taken, s.0.0, c.in-Body.ensures.room.1, c.in-Body.ensures.limit, length-append front (take more left), length-take more left)) body.text)
     (AppendsShort-body _ _ c.steps.block body.added (end_line c.in-Body.last) body.cut))
 
 pub returns-in_err-put_end-in-Body-clause-short : goal.returns-in_err-put_end-in-Body-clause-short
@@ -285,9 +317,12 @@ returns-in_err-put_end-in-Body-clause-short g c =
     let front = bytes ++ take c.steps.used piece in
     let p = c.steps.invariant.prints bytes h in
     let s = c.in-Body.ensures.step front p.read in
-    let body = rw c.split_at-in-Body.ensures.front at (c.in_ok-put_body-in-Body.ensures.all (kind_with (code_in s.2.tag)) s.2.part (p.body s.2.items s.2.tag s.2.part s.2.before_are)) in
-    CutsHeader-next bytes piece left (body.added ++ end_line c.in-Body.last) c.steps.used more _ _ _ c.args.block.now c.steps.block c.split_at.ensures.back (c.steps.invariant.text bytes h)
-    (text-body front left body.added more c.in-Body.last c.feed.new.self s (omega (arith, p.taken, s.0.0, c.in-Body.ensures.room.1, c.in-Body.ensures.limit, length-append front (take more left), length-take more left)) body.text)
+    let body = rw c.split_at-in-Body.ensures.front at
+    (c.in_ok-put_body-in-Body.ensures.all (kind_with (code_in s.2.tag)) s.2.part (p.body s.2.items s.2.tag s.2.part s.2.before_are)) in
+    CutsHeader-next bytes piece left (body.added ++ end_line c.in-Body.last) c.steps.used more _ _ _ c.args.block.now c.steps.block c.split_at.ensures.back
+    (c.steps.invariant.text bytes h)
+    (text-body front left body.added more c.in-Body.last c.feed.new.self s (omega
+    (arith, p.taken, s.0.0, c.in-Body.ensures.room.1, c.in-Body.ensures.limit, length-append front (take more left), length-take more left)) body.text)
     (AppendsShort-end _ _ _ c.steps.block body.added (end_line c.in-Body.last) c.put_body.new.block body.put c.in_err-put_end-in-Body.ensures.short))
 
 pub steps-preserved : goal.steps-preserved
@@ -302,22 +337,28 @@ steps-preserved g c =
     omega (arith, p.taken, s.0.0, c.in-Body.ensures.room.1, c.in-Body.ensures.limit, length-append front (take more left), length-take more left) in
     let next : (front : List ℕ) → Prints c.steps.self front → Prints (printer reader printed) (front ++ take more left) = λ front p.
     let s = c.in-Body.ensures.step front p.read in
-    Prints-body front left more c.in-Body.last reader printed s (omega (arith, p.taken, s.0.0, c.in-Body.ensures.room.1, length-append front (take more left), length-take more left))
-    (rw c.split_at-in-Body.ensures.front at (c.in_ok-put_body-in-Body.ensures.taken (kind_with (code_in s.2.tag)) s.2.part (p.body s.2.items s.2.tag s.2.part s.2.before_are))) in
+    Prints-body front left more c.in-Body.last reader printed s
+    (omega (arith, p.taken, s.0.0, c.in-Body.ensures.room.1, length-append front (take more left), length-take more left))
+    (rw c.split_at-in-Body.ensures.front at
+    (c.in_ok-put_body-in-Body.ensures.taken (kind_with (code_in s.2.tag)) s.2.part (p.body s.2.items s.2.tag s.2.part s.2.before_are))) in
     let first = c.steps.invariant.started in
     let step = c.in-Body.ensures.step first.0 first.1.read in
     record {
       fits = omega (arith, step.0.0, c.split_at.ensures.back_len, c.steps.invariant.fits);
       started = (first.0 ++ take more left, next first.0 first.1);
-      prints = λ bytes h. subst (Prints (printer reader printed)) (parts bytes piece left c.steps.used more c.split_at.ensures.back) (next (bytes ++ take c.steps.used piece) (c.steps.invariant.prints bytes h));
+      prints = λ bytes h. subst (Prints (printer reader printed)) (parts bytes piece left c.steps.used more c.split_at.ensures.back)
+          (next (bytes ++ take c.steps.used piece) (c.steps.invariant.prints bytes h));
       text = λ bytes h.
           let front = bytes ++ take c.steps.used piece in
           let p = c.steps.invariant.prints bytes h in
           let s = c.in-Body.ensures.step front p.read in
-          let body = rw c.split_at-in-Body.ensures.front at (c.in_ok-put_body-in-Body.ensures.all (kind_with (code_in s.2.tag)) s.2.part (p.body s.2.items s.2.tag s.2.part s.2.before_are)) in
-          PutsHeader-next bytes piece left (body.added ++ end_line c.in-Body.last) c.steps.used more _ _ _ c.args.block.now c.steps.block c.put_end.new.block c.split_at.ensures.back (c.steps.invariant.text bytes h)
+          let body = rw c.split_at-in-Body.ensures.front at
+          (c.in_ok-put_body-in-Body.ensures.all (kind_with (code_in s.2.tag)) s.2.part (p.body s.2.items s.2.tag s.2.part s.2.before_are)) in
+          PutsHeader-next bytes piece left (body.added ++ end_line c.in-Body.last) c.steps.used more _ _ _
+          c.args.block.now c.steps.block c.put_end.new.block c.split_at.ensures.back (c.steps.invariant.text bytes h)
           (text-body front left body.added more c.in-Body.last reader s (fits front p) body.text)
-          (PassesOn-body _ _ _ c.steps.block body.added (end_line c.in-Body.last) c.put_body.new.block c.put_end.new.block body.put c.in_ok-put_end-in-Body.ensures.all);
+          (PassesOn-body _ _ _ c.steps.block body.added
+          (end_line c.in-Body.last) c.put_body.new.block c.put_end.new.block body.put c.in_ok-put_end-in-Body.ensures.all);
       taken = omega (arith, c.in-Body.ensures.room.1, c.steps.invariant.taken);
       kept = c.in_ok-put_end-in-Body.ensures.cause.kept ∙ c.in_ok-put_body-in-Body.ensures.cause.kept ∙ c.steps.invariant.kept;
     }

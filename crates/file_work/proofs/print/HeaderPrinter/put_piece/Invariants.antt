@@ -1,6 +1,6 @@
 use Rattle.std.proofs.Common.{◌≡◌, ◌+◌, ◌-◌, ◌≤◌, ◌++◌, List, ℕ, length, take}
 use Rattle.ptu_header.specs.Reading.{bytes_taken}
-use Rattle.file_work.specs.HeaderPrints.{Prints, PutsHeader}
+use Rattle.file_work.specs.BodyPieces.{Prints, PutsHeader}
 use Rattle.file_work.proofs.print.HeaderPrinter.put_piece.Given as goal
 
 -- the text of the first `used` bytes of the piece is put

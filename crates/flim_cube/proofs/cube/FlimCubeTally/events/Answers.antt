@@ -1,23 +1,12 @@
-use Rattle.std.proofs.Common.{◌∙◌, true, arith, length-append}
-use Rattle.tally_base.{specs.Columns.{item, gathered, events_in}, proofs.BlockRows.length-rows, proofs.Greatest.greatest_block, proofs.Lower.{order-lower, floor-lower}}
-use Rattle.marker_map.specs.Lines.{line_start}
+use Rattle.std.proofs.Common.{true, rules, arith, length-append}
+use Rattle.tally_base.{specs.Columns.{item, events_in}, proofs.BlockRows.length-rows, proofs.Floors.{greatest_block, order-lower, floor-lower}}
 use Rattle.flim_cube.proofs.cube.FlimCubeTally.events.Goals as goal
 
 pub count_block-requires-clause-in_order : goal.count_block-requires-clause-in_order
-count_block-requires-clause-in_order g c = let t = c.args.self.now in order-lower true (line_start t.lines) t.floor (gathered c.args.block.now) t.begun c.requires.in_order
+count_block-requires-clause-in_order g c = search (rules, arith, order-lower)
 
 pub invariant_of-self : goal.invariant_of-self
-invariant_of-self g c =
-    let t = c.args.self.now in
-    let es = gathered c.args.block.now in
-    let e = c.count_block.ensures in
-    record {
-      sized = e.gained.fit;
-      small = omega (arith, e.gained.few, t.small, c.len.ensures.value);
-      of_set = e.lines.of_set ∙ t.of_set;
-      few_markers = omega (arith, e.lines.few, t.few_markers, c.len.ensures.value);
-      begun = rw c.floor_after-self.ensures (omega (arith, e.lines.begun, floor-lower true (line_start t.lines) t.floor es t.begun));
-    }
+invariant_of-self g c = search (rules, arith, floor-lower)
 
 pub returns-clause-follows : goal.returns-clause-follows
 returns-clause-follows g c = λ h is.

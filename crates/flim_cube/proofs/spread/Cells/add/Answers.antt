@@ -1,5 +1,5 @@
 use Rattle.std.{proofs.Common.{◌≡◌, ◌∙◌, ℕ, ◌+◌, ◌*◌, ◌<◌, length, slice_index, ap, sym, rules, arith, ◌≢◌}, proofs.lemmas.Nat.{mul-le, same_from_place}}
-use Rattle.tally_base.proofs.Slices.{whole_slice}
+use Rattle.tally_base.proofs.Sums.{whole_slice}
 use Rattle.flim_cube.{specs.Bytes.{byte_in, length_counts}, specs.Cells.counts_of, proofs.Bytes.{get_counts, low_byte, count_more, count_same, counts_set, first_row, row_behind, first_placed}}
 use Rattle.flim_cube.proofs.spread.Cells.add.Goals as goal
 
@@ -7,7 +7,8 @@ pub byte-requires : goal.byte-requires
 byte-requires c =
     let s = c.args.self.now in
     record {
-      inside = rw c.deref.ensures.value (first_placed s.size s.wide c.args.at (length s.bytes.items) s.there s.some.0 (omega (arith, c.requires.inside, length_counts s.bytes.items s.size)));
+      inside = rw c.deref.ensures.value
+          (first_placed s.size s.wide c.args.at (length s.bytes.items) s.there s.some.0 (omega (arith, c.requires.inside, length_counts s.bytes.items s.size)));
     }
 
 pub overflow_add-low : goal.overflow_add-low
@@ -22,7 +23,8 @@ pub put_byte-requires : goal.put_byte-requires
 put_byte-requires c =
     let s = c.args.self.now in
     record {
-      inside = rw c.deref_mut.ensures.value (first_placed s.size s.wide c.args.at (length s.bytes.items) s.there s.some.0 (omega (arith, c.requires.inside, length_counts s.bytes.items s.size)));
+      inside = rw c.deref_mut.ensures.value
+          (first_placed s.size s.wide c.args.at (length s.bytes.items) s.there s.some.0 (omega (arith, c.requires.inside, length_counts s.bytes.items s.size)));
     }
 
 pub invariant_of-self : goal.invariant_of-self
@@ -39,7 +41,8 @@ invariant_of-self c =
       some = s.some;
       there = rw (whole_slice new s.bytes.items s.bytes.len count all) (count ∙ s.there);
       room = s.room;
-      zeros = λ place le. rw (whole_slice new s.bytes.items s.bytes.len count all) (put.others place (λ one. omega (arith, one, le, mul-le 1 s.size s.wide s.size s.some.0 (omega arith), inside)) ∙ s.zeros place le);
+      zeros = λ place le. rw (whole_slice new s.bytes.items s.bytes.len count all)
+          (put.others place (λ one. omega (arith, one, le, mul-le 1 s.size s.wide s.size s.some.0 (omega arith), inside)) ∙ s.zeros place le);
     }
 
 pub returns-then-low-lt256 : goal.returns-then-low-lt256
@@ -55,6 +58,7 @@ returns-then-low-lt256 c =
     let put = rw c.deref_mut.ensures.value at c.put_byte.ensures in
     let low : c.from.result ≡ byte_in bytes at = c.from.ensures ∙ c.byte.ensures ∙ ap (λ bytes. byte_in bytes at) c.deref.ensures.value in
     let own : byte_in new at ≡ byte_in bytes at + c.args.more = put.own ∙ ap (λ b. b + c.args.more) low in
-    let behind : (i : ℕ) → 0 < i → byte_in new (i * size + at) ≡ byte_in bytes (i * size + at) = λ i some. put.others (i * size + at) (λ one. omega (arith, one, row_behind i size at some, inside)) in
+    let behind : (i : ℕ) → 0 < i → byte_in new (i * size + at) ≡ byte_in bytes (i * size + at) =
+    λ i some. put.others (i * size + at) (λ one. omega (arith, one, row_behind i size at some, inside)) in
     let others : (cell : ℕ) → cell < size → cell ≢ at → (i : ℕ) → byte_in new (i * size + cell) ≡ byte_in bytes (i * size + cell) = λ cell in_cell apart i. put.others (i * size + cell) (λ one. apart (same_from_place i cell 0 at size in_cell inside (one ∙ sym (first_row size at))).1) in
     rw (whole_slice new bytes s.bytes.len count all) (counts_set bytes new size at (slice_index (counts_of s) at + c.args.more) inside (count_more bytes new size at c.args.more own (λ i some le. behind i some) ∙ ap (λ n. n + c.args.more) (sym (get_counts bytes size at inside))) (λ cell in_cell apart. count_same bytes new size cell (λ i le. others cell in_cell apart i)))

@@ -6,7 +6,8 @@ pub byte-requires : goal.byte-requires
 byte-requires c =
     let s = c.args.self.now in
     record {
-      inside = rw c.deref.ensures.value (first_placed s.size s.wide c.args.at (length s.bytes.items) s.there s.some.0 (omega (arith, c.requires.inside, length_counts s.bytes.items s.size)));
+      inside = rw c.deref.ensures.value
+          (first_placed s.size s.wide c.args.at (length s.bytes.items) s.there s.some.0 (omega (arith, c.requires.inside, length_counts s.bytes.items s.size)));
     }
 
 pub returns-then-self-eq1 : goal.returns-then-self-eq1

@@ -1,4 +1,4 @@
-use Rattle.std.{proofs.Common.{◌+◌, ◌*◌, ◌<◌, length, sym, arith}, proofs.lemmas.Nat.{mul-le, row_fits}}
+use Rattle.std.{proofs.Common.{◌<◌, length, arith, rules}, proofs.lemmas.Nat.{mul-le, row_fits}}
 use Rattle.flim_cube.{specs.Bytes.length_counts, proofs.Bytes.placed}
 use Rattle.flim_cube.proofs.spread.Cells.part.Goals as goal
 
@@ -6,13 +6,12 @@ pub byte-requires : goal.byte-requires
 byte-requires c =
     let s = c.args.self.now in
     record {
-      inside = rw c.deref.ensures.value (placed s.size s.wide c.args.i c.args.at (length s.bytes.items) s.there c.if-i-self.true (omega (arith, c.requires.inside, length_counts s.bytes.items s.size)));
+      inside = rw c.deref.ensures.value (placed s.size s.wide c.args.i c.args.at (length s.bytes.items) s.there c.if-i-self.true
+          (omega (arith, c.requires.inside, length_counts s.bytes.items s.size)));
     }
 
 pub returns-else-i-self : goal.returns-else-i-self
-returns-else-i-self c =
-    let s = c.args.self.now in
-    sym (s.zeros (c.args.i * s.size + c.args.at) (omega (arith, mul-le s.wide s.size c.args.i s.size c.if-i-self.false (omega arith))))
+returns-else-i-self c = search (rules, arith, mul-le)
 
 pub overflow_add-i : goal.overflow_add-i
 overflow_add-i c =

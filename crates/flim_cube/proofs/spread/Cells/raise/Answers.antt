@@ -1,10 +1,11 @@
 use Rattle.std.{proofs.Common.{◌≡◌, ◌∙◌, ℕ, ◌+◌, ◌*◌, ◌<◌, ◌≤◌, length, slice_index, set, inl, inr, ap, sym, rules, arith, ◌≢◌}, specs.Int.{w64, from_le_bytes}, proofs.lemmas.Bool.cases_lt, proofs.lemmas.Nat.{mul-le, from_le_bytes-to_le_bytes_8}}
-use Rattle.tally_base.proofs.Slices.{whole_slice}
+use Rattle.tally_base.proofs.Sums.{whole_slice}
 use Rattle.flim_cube.{specs.Bytes.{byte_in, count_in, length_counts}, specs.Cells.counts_of, proofs.Bytes.{count_from, count_same, counts_set, other_cell}}
 use Rattle.flim_cube.proofs.spread.Cells.raise.Goals as goal
 
 pub put_bytes-requires-clause-inside : goal.put_bytes-requires-clause-inside
-put_bytes-requires-clause-inside c = omega (arith, c.requires.inside, ap length c.widen.ensures.counts, length_counts c.widen.new.self.bytes.items c.widen.new.self.size)
+put_bytes-requires-clause-inside c =
+    omega (arith, c.requires.inside, ap length c.widen.ensures.counts, length_counts c.widen.new.self.bytes.items c.widen.new.self.size)
 
 pub invariant_of-self : goal.invariant_of-self
 invariant_of-self c =
@@ -45,4 +46,5 @@ returns c =
     let is : c.whole.result + c.args.more ≡ more = ap (λ n. n + c.args.more) c.whole.ensures in
     let own : count_in new size at ≡ more = count_from new size at parts each ∙ ap (from_le_bytes w64) c.to_le_bytes-parts.ensures ∙ from_le_bytes-to_le_bytes_8 (c.whole.result + c.args.more) (omega (arith, is, c.requires.fits)) ∙ is in
     let others : (cell : ℕ) → cell < size → cell ≢ at → count_in new size cell ≡ count_in bytes size cell = λ cell in_cell apart. count_same bytes new size cell (λ i low. put.others (i * size + cell) (other_cell size i cell at in_cell apart)) in
-    rw (whole_slice new bytes s.bytes.len count all) (counts_set bytes new size at more inside own others ∙ ap (λ counts. set counts at more) c.widen.ensures.counts)
+    rw (whole_slice new bytes s.bytes.len count all)
+    (counts_set bytes new size at more inside own others ∙ ap (λ counts. set counts at more) c.widen.ensures.counts)

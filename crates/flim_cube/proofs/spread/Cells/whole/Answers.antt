@@ -7,7 +7,8 @@ returns c =
     let s = c.args.self.now in
     let at = c.args.at in
     let inside : at < s.size = omega (arith, c.requires.inside, length_counts s.bytes.items s.size) in
-    let parts : List ℕ = c.part-2.result ∷ c.part-3.result ∷ c.part-4.result ∷ c.part-5.result ∷ c.part-6.result ∷ c.part-7.result ∷ c.part-8.result ∷ c.part-9.result ∷ [] in
+    let parts : List ℕ =
+    c.part-2.result ∷ c.part-3.result ∷ c.part-4.result ∷ c.part-5.result ∷ c.part-6.result ∷ c.part-7.result ∷ c.part-8.result ∷ c.part-9.result ∷ [] in
     c.from_le_bytes-2.ensures
     ∙ sym (get_counts s.bytes.items s.size at inside ∙ count_from s.bytes.items s.size at parts (each_of_eight (λ i. byte_in s.bytes.items (i * s.size + at) ≡ slice_index parts i) (sym c.part-2.ensures) (sym c.part-3.ensures) (sym c.part-4.ensures) (sym c.part-5.ensures) (sym c.part-6.ensures) (sym c.part-7.ensures) (sym c.part-8.ensures) (sym c.part-9.ensures)))
 

@@ -7,8 +7,10 @@ returns-clause-counts c =
     let s = c.args.self.now in
     let wider = mul-le s.wide s.size c.args.wide s.size (omega (arith, c.if-wide-self.false)) (omega arith) in
     let all : length s.bytes.items ≤ c.div_ceil.result = omega (arith, s.there, c.div_ceil.ensures, wider) in
-    let same : (place : ℕ) → byte_in c.resize.new.self.items place ≡ byte_in s.bytes.items place = λ place. rw c.in-Ok.ensures.items (more_zeros s.bytes.items c.div_ceil.result _ place all) in
-    counts_same s.bytes.items c.resize.new.self.items s.size (λ cell in_cell. count_same s.bytes.items c.resize.new.self.items s.size cell (λ i low. same (i * s.size + cell)))
+    let same : (place : ℕ) → byte_in c.resize.new.self.items place ≡ byte_in s.bytes.items place =
+    λ place. rw c.in-Ok.ensures.items (more_zeros s.bytes.items c.div_ceil.result _ place all) in
+    counts_same s.bytes.items c.resize.new.self.items s.size
+    (λ cell in_cell. count_same s.bytes.items c.resize.new.self.items s.size cell (λ i low. same (i * s.size + cell)))
 
 pub invariant_of-self : goal.invariant_of-self
 invariant_of-self c =

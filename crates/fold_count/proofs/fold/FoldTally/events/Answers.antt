@@ -1,5 +1,5 @@
 use Rattle.std.proofs.Common.{rules, arith, length-append}
-use Rattle.tally_base.{proofs.BlockRows.length-rows, proofs.Greatest.greatest_block, proofs.Lower.{order-lower, floor-lower}, proofs.Slices.whole_slice}
+use Rattle.tally_base.{proofs.BlockRows.length-rows, proofs.Floors.{greatest_block, order-lower, floor-lower}, proofs.Sums.whole_slice}
 use Rattle.fold_count.proofs.Pushed.{open_counts, counts_open}
 use Rattle.fold_count.proofs.fold.FoldTally.events.Goals as goal
 

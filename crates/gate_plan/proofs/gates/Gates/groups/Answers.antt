@@ -1,5 +1,5 @@
 use Rattle.std.proofs.Common.{◌-◌, ◌∙◌, sym, map}
-use Rattle.gate_plan.{specs.Shifting.shifted, specs.Taking.takes, specs.Groups.sorting_of, proofs.Bits.bit_is, proofs.Parts.{of_shifted, of_shifted_marker}}
+use Rattle.gate_plan.{specs.Shifting.shifted, specs.Taking.takes, specs.Groups.sorting_of, proofs.Parts.{bit_is, of_shifted, of_shifted_marker}}
 use Rattle.gate_plan.proofs.gates.Gates.groups.Goals as goal
 
 pub returns-in-Photon-clause-number : goal.returns-in-Photon-clause-number
@@ -10,7 +10,8 @@ returns-in-Marker-clause-number c = sym (of_shifted_marker (sorting_of c.args.se
 
 pub returns-in-Photon-clause-each : goal.returns-in-Photon-clause-each
 returns-in-Photon-clause-each c g some =
-    let number = (rw c.shifted_dtime.ensures at c.of_photon.ensures) ∙ sym (of_shifted (sorting_of c.args.self.now) c.args.e.now c.in-Photon.input c.in-Photon.dtime c.in-Photon.is) in
+    let number = (rw c.shifted_dtime.ensures at c.of_photon.ensures)
+    ∙ sym (of_shifted (sorting_of c.args.self.now) c.args.e.now c.in-Photon.input c.in-Photon.dtime c.in-Photon.is) in
     rw number (bit_is (map (λ group. takes group (shifted (sorting_of c.args.self.now) c.args.e.now)) (sorting_of c.args.self.now).groups) (g - 1))
 
 pub returns-in-Marker-clause-each : goal.returns-in-Marker-clause-each

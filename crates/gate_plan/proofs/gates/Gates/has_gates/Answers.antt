@@ -1,4 +1,4 @@
-use Rattle.gate_plan.proofs.AllGates.{some_gates}
+use Rattle.gate_plan.proofs.Parts.{some_gates}
 use Rattle.gate_plan.proofs.gates.Gates.has_gates.Goals as goal
 
 pub returns-clause-some : goal.returns-clause-some

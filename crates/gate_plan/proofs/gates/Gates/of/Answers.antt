@@ -17,7 +17,8 @@ invariant_of-result-clause-only_is c = λ gate is input dtime below.
     let groups = map group_view c.groups_again-groups.result.items in
     let plain = (rw c.as_slice-4.ensures.value at c.plain_table-plain.ensures) input below in
     let gated = (rw c.as_slice-5.ensures.value at c.gated_of-gated.ensures.bits) input dtime in
-    let same : get_or c.plain_table-plain.result input 0 + gated_sum c.as_slice-6.result.now input dtime ≡ plain_bits groups input + gated_bits groups input dtime = rw (c.as_slice-6.ensures.value, plain, gated) refl in
+    let same : get_or c.plain_table-plain.result input 0 + gated_sum c.as_slice-6.result.now input dtime ≡ plain_bits
+    groups input + gated_bits groups input dtime = rw (c.as_slice-6.ensures.value, plain, gated) refl in
     let fits = parted_fits groups input dtime (few_groups c.groups_again-groups.result.items c.groups_again-groups.ensures.few) in
     c.only_gate-only.ensures.groups gate is input dtime below (rw same fits) ∙ same
 

@@ -1,5 +1,5 @@
 use Rattle.std.proofs.Common.{◌≡◌, ◌<◌, [], ◌∷◌, length, refl, rules, arith, length-append}
-use Rattle.tally_base.proofs.Slices.{whole_slice}
+use Rattle.tally_base.proofs.Sums.{whole_slice}
 use Rattle.lag_ring.proofs.Wholes.{whole-length, whole-at, whole-set}
 use Rattle.lag_ring.proofs.rows.RowCells.add.Goals as goal
 
@@ -11,7 +11,8 @@ add_to-requires-clause-inside g c =
 pub add_to-requires-clause-fits : goal.add_to-requires-clause-fits
 add_to-requires-clause-fits g c =
     let sum = rw (← c.self.view_is) at c.requires.sum in
-    rw (c.deref_mut.ensures.value, c.deref_mut-2.ensures.value) (omega (arith, sum, whole-at c.self.inside.low.items c.self.inside.high.items c.args.at c.self.invariant.same))
+    rw (c.deref_mut.ensures.value, c.deref_mut-2.ensures.value)
+    (omega (arith, sum, whole-at c.self.inside.low.items c.self.inside.high.items c.args.at c.self.invariant.same))
 
 pub returns-clause-cells : goal.returns-clause-cells
 returns-clause-cells g c =

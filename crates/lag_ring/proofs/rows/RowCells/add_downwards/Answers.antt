@@ -1,5 +1,5 @@
 use Rattle.std.proofs.Common.{◌≡◌, ◌<◌, ◌-◌, length, rules, arith}
-use Rattle.tally_base.proofs.Slices.{whole_slice}
+use Rattle.tally_base.proofs.Sums.{whole_slice}
 use Rattle.lag_ring.proofs.Wholes.{whole-length, whole-at}
 use Rattle.lag_ring.proofs.rows.RowCells.add_downwards.Goals as goal
 
@@ -12,7 +12,8 @@ add_downwards_to-requires-clause-inside g c =
 pub add_downwards_to-requires-clause-fits : goal.add_downwards_to-requires-clause-fits
 add_downwards_to-requires-clause-fits g c = λ q short.
     let sum = rw (← c.self.view_is) at (c.requires.sums q short) in
-    rw (c.deref_mut.ensures.value, c.deref_mut-2.ensures.value) (omega (arith, sum, whole-at c.self.inside.low.items c.self.inside.high.items (c.args.from - q) c.self.invariant.same))
+    rw (c.deref_mut.ensures.value, c.deref_mut-2.ensures.value)
+    (omega (arith, sum, whole-at c.self.inside.low.items c.self.inside.high.items (c.args.from - q) c.self.invariant.same))
 
 pub returns-clause-cells : goal.returns-clause-cells
 returns-clause-cells g c = λ p at.
@@ -20,7 +21,7 @@ returns-clause-cells g c = λ p at.
     let highs = c.self.inside.high.items in
     let new = c.add_downwards_to.new.low in
     let new' = c.add_downwards_to.new.high in
-    let e = rw (c.deref_mut.ensures.value, c.deref_mut-2.ensures.value) at c.add_downwards_to.ensures in
+    let e = rw (c.deref_mut.ensures.value, c.deref_mut-2.ensures.value) at c.add_downwards_to.ensures.raised in
     let inside : p < length lows = omega (arith, (rw (← c.self.view_is) at at), whole-length lows highs c.self.invariant.same) in
     let low : length new ≡ length lows = e.same in
     let high : length new' ≡ length highs = omega (arith, e.parts.same, e.same, c.self.invariant.same) in
@@ -33,7 +34,7 @@ returns-clause-same g c =
     let highs = c.self.inside.high.items in
     let new = c.add_downwards_to.new.low in
     let new' = c.add_downwards_to.new.high in
-    let e = rw (c.deref_mut.ensures.value, c.deref_mut-2.ensures.value) at c.add_downwards_to.ensures in
+    let e = rw (c.deref_mut.ensures.value, c.deref_mut-2.ensures.value) at c.add_downwards_to.ensures.raised in
     let low : length new ≡ length lows = e.same in
     let high : length new' ≡ length highs = omega (arith, e.parts.same, e.same, c.self.invariant.same) in
     rw (← c.self.view_is, whole_slice new lows c.self.inside.low.len low (search rules), whole_slice new' highs c.self.inside.high.len high (search rules))

@@ -1,5 +1,5 @@
 use Rattle.std.proofs.Common.{◌≡◌, ℕ, List, [], ap, rules, replicate}
-use Rattle.lag_ring.{specs.Parts.whole, specs.Cells.pair_cells, proofs.Wholes.whole-zeros}
+use Rattle.lag_ring.{specs.Cells.{whole, pair_cells}, proofs.Wholes.whole-zeros}
 use Rattle.lag_ring.proofs.rows.RowCells.open.Goals as goal
 
 pub returns : goal.returns

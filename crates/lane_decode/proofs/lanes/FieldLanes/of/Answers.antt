@@ -52,7 +52,8 @@ invariant_of-result-clause-small_tops g c place low =
 
 pub invariant_of-result-clause-small_dtimes : goal.invariant_of-result-clause-small_dtimes
 invariant_of-result-clause-small_dtimes g c place low =
-    small-dtime c.numbers_of-words.result c.DTIME_SHIFT.result c.DTIME_MASK.result place (omega arith) low (rw c.DTIME_MASK.ensures g.met.R.RecordLayout.dtime_mask_high)
+    small-dtime c.numbers_of-words.result c.DTIME_SHIFT.result c.DTIME_MASK.result place
+    (omega arith) low (rw c.DTIME_MASK.ensures g.met.R.RecordLayout.dtime_mask_high)
 
 pub returns-clause-fields : goal.returns-clause-fields
 returns-clause-fields g c place low =

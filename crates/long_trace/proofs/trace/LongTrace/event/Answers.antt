@@ -9,4 +9,5 @@ pub returns-clause-short : goal.returns-clause-short
 returns-clause-short g c = λ h is. on_err_weaker c.write_or_refuse-written.result (λ cut. record { rest = c.take-line.result.items; whole = c.take-line.ensures.given.closed h is; cut = AppendsShort-same _ _ _ _ c.as_slice.ensures.value cut }) c.write_or_refuse-written.ensures.short
 
 pub returns-clause-follows : goal.returns-clause-follows
-returns-clause-follows g c = λ h is. let now = c.take-line.ensures.given.follows h is in record { bins = now.bins; before = now.before; taken = now.taken; floor = now.floor }
+returns-clause-follows g c = λ h is. let now =
+    c.take-line.ensures.given.follows h is in record { bins = now.bins; before = now.before; taken = now.taken; floor = now.floor }

@@ -14,7 +14,8 @@ returns-in-Ok-clause-text g c = λ h is.
       whole = rw is.before (whole-any set state h is.bins);
       appended =
           c.in-Ok.ensures.all all
-          (λ count inside. all-counted set state h is.bins (λ n. n == count) _ _ (is.bins.each count inside) (c.closed_with-closed.ensures.frequencies count inside))
+          (λ count inside. all-counted set state h is.bins (λ n. n == count) _ _
+          (is.bins.each count inside) (c.closed_with-closed.ensures.frequencies count inside))
           (all-counted set state h is.bins (λ n. nat_le frequency_limit n) _ _ is.bins.others c.closed_with-closed.ensures.many);
     }
 
@@ -29,6 +30,7 @@ returns-in-Err-clause-short g c = λ h is.
       whole = rw is.before (whole-any set state h is.bins);
       cut =
           c.in-Err.ensures.short all
-          (λ count inside. all-counted set state h is.bins (λ n. n == count) _ _ (is.bins.each count inside) (c.closed_with-closed.ensures.frequencies count inside))
+          (λ count inside. all-counted set state h is.bins (λ n. n == count) _ _
+          (is.bins.each count inside) (c.closed_with-closed.ensures.frequencies count inside))
           (all-counted set state h is.bins (λ n. nat_le frequency_limit n) _ _ is.bins.others c.closed_with-closed.ensures.many);
     }

@@ -1,7 +1,7 @@
 use Rattle.std.proofs.Common.{◌≡◌, ◌∷◌, [], refl, arith, ◌+◌}
 use Rattle.tally_base.specs.Settings.{trace_view}
 use Rattle.count_trace.specs.TraceCounts.{count_before}
-use Rattle.long_trace.{proofs.BinSteps.before-push, proofs.Given.{GivenMore-counts, floor-one}}
+use Rattle.long_trace.{proofs.BinSteps.before-push, proofs.Steps.{GivenMore-counts, floor-one}}
 use Rattle.long_trace.proofs.trace.LongTrace.take.Goals as goal
 
 pub returns-clause-given : goal.returns-clause-given
@@ -11,5 +11,6 @@ returns-clause-given c =
     let groups = c.args.groups in
     let one = before-push (trace_view t.set) [] (e, groups) c.photons_in-more.result c.photons_in-more.ensures in
     let added : c.count_at.new.before ≡ t.before + count_before (trace_view t.set) ((e, groups) ∷ []) = omega (arith, c.count_at.ensures.counted.before, one) in
-    GivenMore-counts t _ ((e, groups) ∷ []) c.new-line.result.items c.count_at.new.lines.items refl refl refl (c.count_at.ensures.counts e groups refl c.photons_in-more.ensures) c.new-line.ensures
+    GivenMore-counts t _ ((e, groups) ∷ []) c.new-line.result.items c.count_at.new.lines.items refl refl refl
+    (c.count_at.ensures.counts e groups refl c.photons_in-more.ensures) c.new-line.ensures
     added refl (λ h is. floor-one h e groups t.floor _ c.requires.in_order c.floor_behind-self.ensures is)

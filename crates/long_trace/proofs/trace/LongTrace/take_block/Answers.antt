@@ -1,6 +1,6 @@
 use Rattle.std.proofs.Common.{◌∙◌, false, refl, sym, ap, arith, rules}
-use Rattle.tally_base.{specs.Columns.{item, gathered, events_in}, specs.Floors.{floor_after, InOrder}, proofs.Greatest.greatest-rows, proofs.BlockRows.length-rows, specs.Tally.greatest_time}
-use Rattle.long_trace.proofs.Given.{GivenMore-counts}
+use Rattle.tally_base.{specs.Columns.{item, gathered, events_in}, specs.Tally.{floor_after, InOrder, greatest_time}, proofs.Floors.greatest-rows, proofs.BlockRows.length-rows}
+use Rattle.long_trace.proofs.Steps.{GivenMore-counts}
 use Rattle.long_trace.proofs.trace.LongTrace.take_block.Goals as goal
 
 pub returns-clause-given : goal.returns-clause-given
@@ -8,7 +8,8 @@ returns-clause-given c =
     let t = c.args.self.now in
     let b = c.args.block.now in
     let done = c.count_block-self.ensures.counted in
-    GivenMore-counts t _ (events_in b) _ c.count_block-self.new.lines.items refl refl refl done.counts refl done.before (omega (arith, c.len.ensures.count, length-rows (item b) b.len))
+    GivenMore-counts t _ (events_in b) _ c.count_block-self.new.lines.items refl refl refl done.counts refl done.before
+    (omega (arith, c.len.ensures.count, length-rows (item b) b.len))
     (λ h is.
     let order : InOrder false (greatest_time false h) (gathered b) = rw (← is) c.requires.in_order in
     c.count_block-self.ensures.floor ∙ ap (λ n. floor_after false n (gathered b)) is ∙ sym (greatest-rows false h (item b) b.len order))

@@ -1,16 +1,18 @@
 use Rattle.std.{proofs.Common.{rules, ◌≡◌, ◌∙◌, ◌<◌, true, ap, sym, cond, Some, arith, option_map, ◌≤◌, ℕ, Bool, max, List, [], ◌∷◌, ◌++◌, Option, None, if◌then◌else◌, ◌+◌, ◌-◌, ◌%◌, false, ◌&&◌, eqb, refl, is_none}, proofs.lemmas.Grind.common_steps, proofs.Math.Numerals.add-one, proofs.lemmas.Nat.mod_below, proofs.Math.Nat.{suc-mod, mod_self, mod-eq_of_lt}, proofs.lemmas.List.Sums.sum_by_push}
 use Rattle.tally_base.specs.Settings.{image_view, ImageView}
-use Rattle.marker_map.{specs.Marks.{mark, Mark, greatest_time, has_named_bit}, specs.Places.{is_line, is_stop, line_of, lines_in, row_at, row_of}, specs.Rows.{line_at, row_after, open_line, next_row, next_row_by}, specs.Lines.start_or_none, specs.declared.lines.Line.Line, specs.Lasts.behind_last, proofs.Lasts.{any-passing, any-failing, last-passing, last-failing, until-passing, until-failing, behind-passing, behind-failing, from-passing, from-failing}}
+use Rattle.marker_map.{specs.Places.{mark, Mark, greatest_time, has_named_bit, behind_last, is_line, is_stop, line_of, lines_in, row_at, row_of}, specs.Strips.{line_at, row_after, open_line, next_row, next_row_by}, specs.Lines.start_or_none, specs.declared.lines.Line.Line, proofs.Lasts.{any-passing, any-failing, last-passing, last-failing, until-passing, until-failing, behind-passing, behind-failing, from-passing, from-failing}}
 use Rattle.marker_map.proofs.lines.Lines.marker.Goals as goal
 
 -- one more marker, and the line and the rows
-lines_in-push : (set : ImageView) (ms : List Mark) (m : Mark) (begins : Bool) → is_line set m ≡ begins → lines_in set (ms ++ m ∷ []) ≡ lines_in set ms + cond begins 1 0
+lines_in-push : (set : ImageView) (ms : List Mark) (m : Mark) (begins : Bool)
+    → is_line set m ≡ begins → lines_in set (ms ++ m ∷ []) ≡ lines_in set ms + cond begins 1 0
 lines_in-push set ms m begins is = sum_by_push (λ m. cond (is_line set m) 1 0) ms m ∙ ap (λ b. lines_in set ms + cond b 1 0) is
 
 line-begins : (set : ImageView) (ms : List Mark) (m : Mark) → is_line set m ≡ true → line_of set (ms ++ m ∷ []) ≡ Some m
 line-begins set ms m begins = cc (behind-passing (is_line set) ms m begins, last-passing (is_line set) ms m begins)
 
-line-passes : (set : ImageView) (ms : List Mark) (m : Mark) (stops : Bool) → is_line set m ≡ false → is_stop set m ≡ stops → line_of set (ms ++ m ∷ []) ≡ cond stops None (line_of set ms)
+line-passes : (set : ImageView) (ms : List Mark) (m : Mark) (stops : Bool) → is_line set m ≡ false
+    → is_stop set m ≡ stops → line_of set (ms ++ m ∷ []) ≡ cond stops None (line_of set ms)
 line-passes set ms m true passes stop = cc (behind-failing (is_line set) ms m passes, any-passing (is_stop set) (behind_last (is_line set) ms) m stop)
 line-passes set ms m false passes stop = search (rules, arith, behind-failing, any-failing, last-failing)
 
@@ -31,7 +33,8 @@ open-begins : (set : ImageView) (ms : List Mark) (m : Mark) (frames : Bool) → 
 open-begins set ms m frames begins is = cc (line-begins set ms m begins, until-passing (is_line set) ms m begins, row-here set.frame set ms m frames begins is)
 
 -- Another marker leaves the open line, or stops it.
-open-passes : (set : ImageView) (ms : List Mark) (m : Mark) (stops : Bool) → is_line set m ≡ false → is_stop set m ≡ stops → open_line set (ms ++ m ∷ []) ≡ cond stops None (open_line set ms)
+open-passes : (set : ImageView) (ms : List Mark) (m : Mark) (stops : Bool) → is_line set m ≡ false
+    → is_stop set m ≡ stops → open_line set (ms ++ m ∷ []) ≡ cond stops None (open_line set ms)
 open-passes set ms m stops passes is = search (rules, arith, line-passes, row-passes)
 
 wrapped : (row h : ℕ) (last : Bool) → row < h → eqb (row + 1) h ≡ last → (row + 1) % h ≡ cond (last && true) 0 (row + 1)
@@ -58,7 +61,8 @@ next-passes-by (Some frame) set ms m true passes is = search (rules, arith, any-
 next-passes-by (Some frame) set ms m false passes is = grind (arith, common_steps, any-failing, from-failing)
 
 -- Another marker leaves the next row, or begins a frame.
-next-passes : (set : ImageView) (ms : List Mark) (m : Mark) (frames : Bool) → is_line set m ≡ false → has_named_bit set.frame m.bits ≡ frames → next_row set (ms ++ m ∷ []) ≡ cond frames (Some 0) (next_row set ms)
+next-passes : (set : ImageView) (ms : List Mark) (m : Mark) (frames : Bool) → is_line set m ≡ false
+    → has_named_bit set.frame m.bits ≡ frames → next_row set (ms ++ m ∷ []) ≡ cond frames (Some 0) (next_row set ms)
 next-passes set ms m frames passes is = next-passes-by set.frame set ms m frames passes is
 
 -- when the open line began, with one marker more
@@ -82,8 +86,10 @@ returns-then-has_bit-clause-follows c = λ ms saw.
     let begins : is_line set m ≡ true = sym c.has_bit.ensures ∙ c.if-has_bit.true in
     let row = c.row_here-row.ensures ∙ ap (cond c.has_named_bit.result (Some 0)) saw.next in
     record {
-      line = c.begun_at-self.ensures ∙ (ap (option_map (line_at c.args.time)) row ∙ sym (open-begins set ms m c.has_named_bit.result begins (sym c.has_named_bit.ensures)));
-      next = c.row_behind-self.ensures ∙ (ap (option_map (row_after set)) row ∙ sym (next-begins set ms m c.has_named_bit.result some begins (sym c.has_named_bit.ensures)));
+      line = c.begun_at-self.ensures
+          ∙ (ap (option_map (line_at c.args.time)) row ∙ sym (open-begins set ms m c.has_named_bit.result begins (sym c.has_named_bit.ensures)));
+      next = c.row_behind-self.ensures
+          ∙ (ap (option_map (row_after set)) row ∙ sym (next-begins set ms m c.has_named_bit.result some begins (sym c.has_named_bit.ensures)));
       given = grind (arith, common_steps, saw.given);
       begun = omega (arith, greatest-push ms m, start-begins c.args.time _ _ c.begun_at-self.ensures);
     }

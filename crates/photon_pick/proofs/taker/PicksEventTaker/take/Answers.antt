@@ -3,7 +3,7 @@ use Rattle.record_write.{specs.Picked.{is_too_late, photon_words}, specs.declare
 use Rattle.tally_base.{specs.declared.event.Event.Event, specs.declared.fault.Fault.TheVariants.{PickTime, WriteFault}, specs.FaultCounts.Rose, specs.Events.is_ordered}
 use Rattle.ptu_definitions.{specs.Kept.{Marked, floor_of}, specs.Prefixes.each_after, specs.Settled.not_marked, proofs.DeliveredLaws.not_marked-append, proofs.PrefixLemmas.each_after-append}
 use Rattle.abs_time.{specs.Floors.moved_floor, proofs.Floors.moved_floor-push}
-use Rattle.photon_pick.{specs.Late.too_late, specs.Taking.{Stand, Took, Refused, chosen_of}}
+use Rattle.photon_pick.{specs.Late.too_late, specs.Giving.{Stand, Took, Refused, chosen_of}}
 use Rattle.photon_pick.proofs.taker.PicksEventTaker.take.Goals as goal
 
 -- one event more for a picker
@@ -28,11 +28,13 @@ module _ (s t : Stand) (l : Marked) (h : Took s t l) (e : Event) (late : Bool) w
   added : filter t.chooses (not_marked ((e, late) ∷ [])) ≡ e ∷ [] → chosen_of s (l ++ (e, late) ∷ []) ≡ chosen_of s l ++ e ∷ []
   added one = search (rules, arith, chosen-more)
 
-  moves : (floor : ℕ) → floor ≡ moved_floor t.mode t.floor e late → (IsTrue (is_ordered t.mode e && not late) → t.floor ≤ e.time) → floor ≡ max s.floor (floor_of s.mode (l ++ (e, late) ∷ []))
+  moves : (floor : ℕ) → floor ≡ moved_floor t.mode t.floor e late → (IsTrue (is_ordered t.mode e && not late) → t.floor ≤ e.time)
+      → floor ≡ max s.floor (floor_of s.mode (l ++ (e, late) ∷ []))
   moves floor is order = let mode = h.same_mode in is ∙ rw mode (moved_floor-push s.mode s.floor t.floor l e late h.moved (rw mode at order))
 
   -- An event that isn't wanted is passed over.
-  Took-passed : (floor : ℕ) → floor ≡ moved_floor t.mode t.floor e late → (IsTrue (is_ordered t.mode e && not late) → t.floor ≤ e.time) → filter t.chooses (not_marked ((e, late) ∷ [])) ≡ []
+  Took-passed : (floor : ℕ) → floor ≡ moved_floor t.mode t.floor e late
+      → (IsTrue (is_ordered t.mode e && not late) → t.floor ≤ e.time) → filter t.chooses (not_marked ((e, late) ∷ [])) ≡ []
       → Took s (record t { taken = t.taken + 1; floor = floor }) (l ++ (e, late) ∷ [])
   Took-passed floor is order none =
       let same = passed none in
@@ -49,13 +51,16 @@ module _ (s t : Stand) (l : Marked) (h : Took s t l) (e : Event) (late : Bool) w
       }
 
   -- the words of one photon more
-  one-words : (behind : List Event) → each_after (photon_words s.mode) behind (chosen_of s l ++ e ∷ []) ≡ each_after (photon_words s.mode) behind (chosen_of s l) ++ photon_words s.mode (behind ++ chosen_of s l) e
+  one-words : (behind : List Event) → each_after (photon_words s.mode) behind (chosen_of s l ++ e ∷ []) ≡ each_after
+      (photon_words s.mode) behind (chosen_of s l) ++ photon_words s.mode (behind ++ chosen_of s l) e
   one-words behind = search (rules, arith, each_after-append, append-nil)
 
   module _ (one : filter t.chooses (not_marked ((e, late) ∷ [])) ≡ e ∷ []) (written : Option (List ℕ)) (held : List ℕ) where
     -- A photon is picked.
-    Took-picked : (floor sink : ℕ) (picker : Picker) → floor ≡ moved_floor t.mode t.floor e late → (IsTrue (is_ordered t.mode e && not late) → t.floor ≤ e.time) → sink ≡ t.sink → is_too_late t.mode e.time ≡ false
-        → ((behind : List Event) → HasPicked t.picker behind → HasPicked picker (behind ++ e ∷ [])) → ((behind : List Event) → HasPicked t.picker behind → PutsWords t.written written t.held held (photon_words t.mode behind e))
+    Took-picked : (floor sink : ℕ) (picker : Picker) → floor ≡ moved_floor t.mode t.floor e late
+        → (IsTrue (is_ordered t.mode e && not late) → t.floor ≤ e.time) → sink ≡ t.sink → is_too_late t.mode e.time ≡ false
+        → ((behind : List Event) → HasPicked t.picker behind → HasPicked picker (behind ++ e ∷ []))
+        → ((behind : List Event) → HasPicked t.picker behind → PutsWords t.written written t.held held (photon_words t.mode behind e))
         → Took s (record t { taken = t.taken + 1; floor = floor; sink = sink; picker = picker; written = written; held = held }) (l ++ (e, late) ∷ [])
     Took-picked floor sink picker is order still soon picks puts =
         let more = added one in
@@ -67,7 +72,8 @@ module _ (s t : Stand) (l : Marked) (h : Took s t l) (e : Event) (late : Bool) w
           moved = moves floor is order;
           kept_sink = still ∙ h.kept_sink;
           same_fault = h.same_fault;
-          in_time = ap (too_late s.mode) more ∙ filter-append (λ x. is_too_late s.mode x.time) (chosen_of s l) (e ∷ []) ∙ (let here = rw mode at soon in rw (h.in_time, here) refl);
+          in_time = ap (too_late s.mode) more ∙ filter-append (λ x. is_too_late s.mode x.time) (chosen_of s l) (e ∷ [])
+              ∙ (let here = rw mode at soon in rw (h.in_time, here) refl);
           picked = λ behind stands. rw (more, ← append_assoc behind (chosen_of s l) (e ∷ [])) (picks (behind ++ chosen_of s l) (h.picked behind stands));
           text = λ behind stands.
               rw (more, one-words behind)
@@ -76,7 +82,8 @@ module _ (s t : Stand) (l : Marked) (h : Took s t l) (e : Event) (late : Bool) w
         }
 
     -- A photon is too late.
-    Refused-late : (now : Stand) → is_too_late t.mode e.time ≡ true → now.fault ≡ Some (PickTime e.place) → now.sink ≡ t.sink → now.written ≡ t.written → now.held ≡ t.held → Refused s now (l ++ (e, late) ∷ [])
+    Refused-late : (now : Stand) → is_too_late t.mode e.time ≡ true → now.fault ≡ Some (PickTime e.place)
+        → now.sink ≡ t.sink → now.written ≡ t.written → now.held ≡ t.held → Refused s now (l ++ (e, late) ∷ [])
     Refused-late now is fault still same_written same_held =
         let mode = h.same_mode in
         record {
@@ -84,7 +91,8 @@ module _ (s t : Stand) (l : Marked) (h : Took s t l) (e : Event) (late : Bool) w
           e = e;
           photons = added one;
           in_time = h.in_time;
-          why = inl (record { late = rw mode at is; fault = fault; kept = still ∙ h.kept_sink; text = λ behind stands. rw (same_written, same_held) (h.text behind stands) });
+          why = inl (record
+              { late = rw mode at is; fault = fault; kept = still ∙ h.kept_sink; text = λ behind stands. rw (same_written, same_held) (h.text behind stands) });
         }
 
     -- A write failed.
@@ -114,14 +122,16 @@ is-false b h = search (rules, arith)
 pub returns-then-not-wanted-clause-follows : goal.returns-then-not-wanted-clause-follows
 returns-then-not-wanted-clause-follows g c = λ start l h.
     let none : c.is_wanted-wanted.result ≡ false = search rules in
-    Took-passed _ _ l h c.args.event.now c.args.late _ c.moved_floor-self.ensures c.requires.in_order (wanted-none _ c.args.event.now c.args.late (sym c.is_wanted-wanted.ensures ∙ none))
+    Took-passed _ _ l h c.args.event.now c.args.late _ c.moved_floor-self.ensures c.requires.in_order
+    (wanted-none _ c.args.event.now c.args.late (sym c.is_wanted-wanted.ensures ∙ none))
 
 pub returns-in-Ok-clause-follows : goal.returns-in-Ok-clause-follows
 returns-in-Ok-clause-follows g c = λ start l h.
     let some : c.is_wanted-wanted.result ≡ true = search rules in
     let same = c.args.self.now.of_mode in
     let soon : is_too_late c.args.self.now.picker.now.mode c.args.event.now.time ≡ false = is-false _ (λ late. let bad = c.in-Ok.ensures.late.1 late in cc) in
-    Took-picked _ _ l h c.args.event.now c.args.late (wanted-one _ c.args.event.now c.args.late (sym c.is_wanted-wanted.ensures ∙ some)) (g.O.Sink.written c.put.new.out) c.put.new.block
+    Took-picked _ _ l h c.args.event.now c.args.late (wanted-one _ c.args.event.now c.args.late (sym c.is_wanted-wanted.ensures ∙ some))
+    (g.O.Sink.written c.put.new.out) c.put.new.block
     c.moved_floor-self.result (g.O.Sink.faults c.put.new.out) c.put.new.self c.moved_floor-self.ensures c.requires.in_order
     c.in-Ok.ensures.cause.kept (rw same at soon) c.in-Ok.ensures.picks.picked (λ behind stands. rw same at (c.in-Ok.ensures.puts behind stands).puts)
 
@@ -138,6 +148,7 @@ returns-in-Err-clause-broken g c = λ start l h none.
     Refused-late _ _ l h c.args.event.now c.args.late one (g.O.Sink.written c.put.new.out) c.put.new.block _ (rw same at is) (ap Some late.0) late.1 (ap g.O.Sink.written kept.0) kept.1)
     (λ cut.
     let told = ap Err cut.0 in
-    let soon : is_too_late c.args.self.now.picker.now.mode c.args.event.now.time ≡ false = is-false _ (λ late. let bad = c.in-Err.ensures.late.1 late in let fault = cut.0 in cc) in
+    let soon : is_too_late c.args.self.now.picker.now.mode c.args.event.now.time ≡ false =
+    is-false _ (λ late. let bad = c.in-Err.ensures.late.1 late in let fault = cut.0 in cc) in
     Refused-cut _ _ l h c.args.event.now c.args.late one (g.O.Sink.written c.put.new.out) c.put.new.block _ (rw same at soon) (ap Some cut.0) cut.1 refl refl (λ behind stands. rw same at ((c.in-Err.ensures.puts behind stands).cuts told)))
     c.in-Err.ensures.cause.failed

@@ -1,10 +1,10 @@
 use Rattle.std.{proofs.Common.{◌≡◌, ◌∙◌, ◌+◌, true, All, filter, rules, length, ap, sym, subst, refl}, proofs.lemmas.List.Elements.{All-weaker, All-filter, filter_passes}}
 use Rattle.tally_base.{specs.Events.is_photon, specs.Columns.gathered}
-use Rattle.ptu_definitions.specs.Fitting.{KindFits}
+use Rattle.ptu_definitions.specs.Layouts.{KindFits}
 use Rattle.gate_plan.specs.Groups.{sorting_of}
 use Rattle.abs_time.specs.Floors.{orders_markers}
 use Rattle.record_write.specs.Picker.{mode_of, last_by}
-use Rattle.photon_pick.{specs.Chosen.is_chosen, specs.Giving.{pen, CanBeGiven, Gave, Stopped}, proofs.Wanted.chosen-photon, proofs.BlockTakes.{order-chosen, last-chosen, up_to, Took-block, Refused-block}}
+use Rattle.photon_pick.{specs.Chosen.is_chosen, specs.Giving.{pen, CanBeGiven, Gave, Stopped}, proofs.Ends.chosen-photon, proofs.BlockTakes.{order-chosen, last-chosen, up_to, Took-block, Refused-block}}
 use Rattle.photon_pick.proofs.taker.PicksEventTaker.take_block.Goals as goal
 
 pub give_photons-given-requires-clause-can : goal.give_photons-given-requires-clause-can
@@ -14,7 +14,8 @@ give_photons-given-requires-clause-can g c =
     let p = is_chosen (sorting_of t.gates.now) t.group in
     let mode = mode_of t.picker.now in
     let low = last_by t.picker.now in
-    let all : All (λ e. is_photon e ≡ true) (filter p es) = All-weaker (λ e. p e ≡ true) (λ e. is_photon e ≡ true) (λ e is. chosen-photon (sorting_of t.gates.now) t.group e is) _ (filter_passes p es) in
+    let all : All (λ e. is_photon e ≡ true) (filter p es) =
+    All-weaker (λ e. p e ≡ true) (λ e. is_photon e ≡ true) (λ e is. chosen-photon (sorting_of t.gates.now) t.group e is) _ (filter_passes p es) in
     let fits : All (λ e. KindFits mode e.kind) es = subst (λ m. All (λ e. KindFits m e.kind) es) (sym t.of_mode) c.requires.fit in
     subst (CanBeGiven t.picker.now) (sym c.choose-many.ensures.chosen) (record {
       going = t.going (search rules);
@@ -51,8 +52,10 @@ returns-in-Err-clause-broken g c =
     let p = is_chosen (sorting_of t.gates.now) t.group in
     let es = gathered c.args.block.now in
     let old = pen t.picker.now (g.O.Sink.written t.out.now) t.block (g.O.Sink.faults t.out.now) in
-    let new = pen c.give_photons-given.new.picker (g.O.Sink.written c.give_photons-given.new.out) c.give_photons-given.new.block (g.O.Sink.faults c.give_photons-given.new.out) in
-    let stopped : Stopped old new (filter p es) c.in-Err.fault = subst (λ ps. Stopped old new ps c.in-Err.fault) c.choose-many.ensures.chosen c.in-Err.ensures.stopped in
+    let new = pen c.give_photons-given.new.picker (g.O.Sink.written c.give_photons-given.new.out) c.give_photons-given.new.block
+    (g.O.Sink.faults c.give_photons-given.new.out) in
+    let stopped : Stopped old new (filter p es) c.in-Err.fault =
+    subst (λ ps. Stopped old new ps c.in-Err.fault) c.choose-many.ensures.chosen c.in-Err.ensures.stopped in
     let up = up_to p es stopped.front stopped.back stopped.e stopped.are in
     record {
       front = up.front;
@@ -68,7 +71,8 @@ returns-clause-follows g c = λ start l h.
     let p = is_chosen (sorting_of t.gates.now) t.group in
     let es = gathered c.args.block.now in
     let old = pen t.picker.now (g.O.Sink.written t.out.now) t.block (g.O.Sink.faults t.out.now) in
-    let new = pen c.give_photons-given.new.picker (g.O.Sink.written c.give_photons-given.new.out) c.give_photons-given.new.block (g.O.Sink.faults c.give_photons-given.new.out) in
+    let new = pen c.give_photons-given.new.picker (g.O.Sink.written c.give_photons-given.new.out) c.give_photons-given.new.block
+    (g.O.Sink.faults c.give_photons-given.new.out) in
     let gave : Gave old new (filter p es) = subst (λ ps. Gave old new ps) c.choose-many.ensures.chosen c.in_default.ensures.gave in
     let counted : t.taken + c.len-2.result ≡ t.taken + length es = ap (λ n. t.taken + n) c.len-2.ensures.value in
     Took-block _ _ l h t.of_mode es new _ _ gave c.requires.in_order counted (rw c.orders_markers.ensures at c.floor_after-self.ensures)

@@ -1,11 +1,11 @@
 use Rattle.std.{proofs.Common.{◌∙◌, sym, ap, arith, rules}, proofs.lemmas.Result.{err_from_is_err_and}}
 use Rattle.ptu_definitions.specs.Streams.{Reading}
 use Rattle.plan_text.specs.Reading.{plan_view}
-use Rattle.gate_plan.{specs.Plans.reading_by, specs.Groups.sorting_of}
+use Rattle.gate_plan.{specs.Histories.reading_by, specs.Groups.sorting_of}
 use Rattle.record_stream.specs.Standing.{how_of}
 use Rattle.photon_pick.proofs.Stays.{has-none}
-use Rattle.command_work.proofs.TellingLaws.{opens-misfit, opens-wrote, opens-cut}
-use Rattle.pick_work.{specs.PickOutcomes.chosen_by, specs.PickPieces.picks, proofs.Picked.{picks-start, picks-none, picks-same}}
+use Rattle.command_work.proofs.RestEnds.{opens-misfit, opens-wrote, opens-cut}
+use Rattle.pick_work.{specs.PickOutcomes.{chosen_by, picks}, proofs.Picked.{picks-start, picks-none, picks-same}}
 use Rattle.pick_work.proofs.pick.PickJobJob.open.Goals as goal
 
 pub returns-in_err-fits-clause-opens : goal.returns-in_err-fits-clause-opens
@@ -29,7 +29,8 @@ returns-clause-opens g c =
 pub returns-clause-tells : goal.returns-clause-tells
 returns-clause-tells g c =
     let suits = sym (rw c.mode-mode.ensures at c.in_ok-fits.ensures.answer) in
-    picks-same c.args.self.now.group (plan_view c.args.self.now.plan.now) c.args.header.now (sorting_of c.of-gates.result) (how_of c.new-stream.result) suits c.of-gates.ensures.sorting c.new-stream.ensures.how
+    picks-same c.args.self.now.group (plan_view c.args.self.now.plan.now) c.args.header.now (sorting_of c.of-gates.result)
+    (how_of c.new-stream.result) suits c.of-gates.ensures.sorting c.new-stream.ensures.how
 
 pub returns-clause-stands : goal.returns-clause-stands
 returns-clause-stands g c =

@@ -18,8 +18,10 @@ returns-then-is_full-clause-step c = λ bytes h.
     let on : goes_on r.phase ≡ true = ap goes_on c.requires in
     let piece = c.args.piece.now in
     let size = reads-open r.phase r.carried.items r.taken r.tags r.found r.version bytes on h in
-    steps-refused c.refuse.result c.refuse.new.self HeaderLimit bytes piece 0 c.refuse.ensures.step c.refuse.ensures.phase (omega arith) (omega (arith, size.1, c.refuse.ensures.taken))
-    (Shows-append header_answer bytes (take 0 piece) (Err HeaderLimit) (limit-shown r.phase r.carried.items r.taken r.tags r.found r.version bytes on (c.is_full.ensures.0 c.if-is_full.true) h))
+    steps-refused c.refuse.result c.refuse.new.self HeaderLimit bytes piece 0 c.refuse.ensures.step c.refuse.ensures.phase
+    (omega arith) (omega (arith, size.1, c.refuse.ensures.taken))
+    (Shows-append header_answer bytes (take 0 piece) (Err HeaderLimit)
+    (limit-shown r.phase r.carried.items r.taken r.tags r.found r.version bytes on (c.is_full.ensures.0 c.if-is_full.true) h))
     (nothing-stays bytes (take 0 piece) refl)
 
 pub returns-then-is_empty-clause-step : goal.returns-then-is_empty-clause-step
@@ -30,7 +32,8 @@ returns-then-is_empty-clause-step c = λ bytes h.
     let none : piece ≡ [] = no_bytes piece (sym c.is_empty.ensures ∙ c.if-is_empty.true) in
     let same : bytes ≡ bytes ++ piece = sym (ap (λ l. bytes ++ l) none ∙ append-nil bytes) in
     let m =
-    more-clause r.phase r.carried.items r.taken r.tags r.found r.version (bytes ++ piece) on (omega (arith, r.limit, is_not c.is_full.result c.is_full.ensures c.if-is_full.false)) (subst (λ l. HasRead r l) same h) in
+    more-clause r.phase r.carried.items r.taken r.tags r.found r.version (bytes ++ piece) on
+    (omega (arith, r.limit, is_not c.is_full.result c.is_full.ensures c.if-is_full.false)) (subst (λ l. HasRead r l) same h) in
     (m.0, m.1, m.2, nothing-stays bytes piece none)
 
 pub returns-clause-step : goal.returns-clause-step
@@ -49,6 +52,7 @@ returns-clause-step c = λ bytes h.
     let some : 0 < used = omega (arith, least, e.1, r.limit, is_not c.is_full.result c.is_full.ensures c.if-is_full.false, some_bytes piece (sym c.is_empty.ensures ∙ c.if-is_empty.false)) in
     let next = after-reads (left - used) last (r.taken + used) r.tags r.found r.version (bytes ++ p) (body-more left (left - used) last r.tags r.found r.version bytes p e.0 (omega (arith, size, inner))) (omega (arith, e.2, size, length-append bytes p)) in (
       (fits, some),
-      reads-join c.after-self.result (phase_after (left - used) last) r.carried.items [] r.found r.found (r.taken + used) r.tags r.version (bytes ++ p) c.after-self.ensures e.3 refl next,
+      reads-join c.after-self.result (phase_after (left - used) last) r.carried.items [] r.found r.found
+          (r.taken + used) r.tags r.version (bytes ++ p) c.after-self.ensures e.3 refl next,
       rw size at (body-ends left last r.tags r.found r.version bytes p e.0 (omega (arith, size, inner))),
     )

@@ -14,18 +14,22 @@ pub returns-in-Err-clause-step : goal.returns-in-Err-clause-step
 returns-in-Err-clause-step c = λ bytes piece h.
     let r = c.args.self.now in
     let e = reads-of r.phase Phases.End r.carried.items r.taken r.tags r.found r.version bytes c.requires h in
-    steps-refused c.refuse.result c.refuse.new.self c.in-Err.fault bytes piece 0 c.refuse.ensures.step c.refuse.ensures.phase (omega arith) (omega (arith, e.1, c.refuse.ensures.taken))
-    (Shows-append header_answer bytes (take 0 piece) (Err c.in-Err.fault) (λ more. end-answer r.found r.version bytes (Err c.in-Err.fault) e.0 (omega (arith, e.1, r.limit)) c.in-Err.ensures.answer more))
+    steps-refused c.refuse.result c.refuse.new.self c.in-Err.fault bytes piece 0 c.refuse.ensures.step c.refuse.ensures.phase
+    (omega arith) (omega (arith, e.1, c.refuse.ensures.taken))
+    (Shows-append header_answer bytes (take 0 piece) (Err c.in-Err.fault)
+    (λ more. end-answer r.found r.version bytes (Err c.in-Err.fault) e.0 (omega (arith, e.1, r.limit)) c.in-Err.ensures.answer more))
     (nothing-stays bytes (take 0 piece) refl)
 
 pub returns-in-Ok-clause-due : goal.returns-in-Ok-clause-due
 returns-in-Ok-clause-due c = λ bytes h.
     let r = c.args.self.now in
     let e = reads-of r.phase Phases.End r.carried.items r.taken r.tags r.found r.version bytes c.requires h in
-    done-due (Done 0 c.in-Ok.header) bytes c.in-Ok.header refl (end-answer r.found r.version bytes (Ok c.in-Ok.header) e.0 (omega (arith, e.1, r.limit)) c.in-Ok.ensures.answer [])
+    done-due (Done 0 c.in-Ok.header) bytes c.in-Ok.header refl
+    (end-answer r.found r.version bytes (Ok c.in-Ok.header) e.0 (omega (arith, e.1, r.limit)) c.in-Ok.ensures.answer [])
 
 pub returns-in-Err-clause-due : goal.returns-in-Err-clause-due
 returns-in-Err-clause-due c = λ bytes h.
     let r = c.args.self.now in
     let e = reads-of r.phase Phases.End r.carried.items r.taken r.tags r.found r.version bytes c.requires h in
-    refused-due c.refuse.result bytes c.in-Err.fault c.refuse.ensures.step (λ more. end-answer r.found r.version bytes (Err c.in-Err.fault) e.0 (omega (arith, e.1, r.limit)) c.in-Err.ensures.answer more)
+    refused-due c.refuse.result bytes c.in-Err.fault c.refuse.ensures.step
+    (λ more. end-answer r.found r.version bytes (Err c.in-Err.fault) e.0 (omega (arith, e.1, r.limit)) c.in-Err.ensures.answer more)

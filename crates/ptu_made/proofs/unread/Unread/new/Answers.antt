@@ -1,6 +1,6 @@
 use Rattle.std.proofs.Common.{refl}
 use Rattle.short_file.specs.ShortFiles.{short_header, short_file}
-use Rattle.ptu_made.specs.MadeFile.{made_file}
+use Rattle.ptu_made.specs.Records.{made_file}
 use Rattle.ptu_made.proofs.unread.Unread.new.Goals as goal
 
 pub returns : goal.returns

@@ -1,6 +1,6 @@
 use Rattle.std.proofs.Common.{◌≡◌, ◌++◌, [], ap, sym, ◌∙◌, arith, length}
-use Rattle.ptu_definitions.{specs.Fours.numbers, proofs.FoursLemmas.numbers-chunks}
-use Rattle.record_layout.{specs.Begun.begun_in, proofs.BegunLemmas.only-word}
+use Rattle.ptu_definitions.{specs.Words.numbers, proofs.WordsLemmas.numbers-chunks}
+use Rattle.record_layout.{specs.Counting.begun_in, proofs.Growing.only-word}
 use Rattle.record_layout.proofs.begun.BegunWord.complete.Goals as goal
 
 pub returns-clause-word : goal.returns-clause-word

@@ -1,5 +1,5 @@
 use Rattle.std.proofs.Common.{ap, ◌∙◌}
-use Rattle.ptu_definitions.{specs.Fours.numbers, proofs.FoursLemmas.{numbers-chunks, drop-chunks}}
+use Rattle.ptu_definitions.{specs.Words.numbers, proofs.WordsLemmas.{numbers-chunks, drop-chunks}}
 use Rattle.record_layout.proofs.begun.BegunWord.cut.Goals as goal
 
 pub returns-clause-words : goal.returns-clause-words

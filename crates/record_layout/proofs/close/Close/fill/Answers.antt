@@ -1,6 +1,6 @@
 use Rattle.std.{proofs.Common.{◌≡◌, ◌+◌, ◌*◌, ◌<◌, ◌≤◌, ◌++◌, ℕ, List, Bool, length, map, take, get_or, refl, sym, ap, subst, ◌∙◌, arith}, specs.Prelude.{count_ones, nat_lt}, proofs.lemmas.Simd.{get_or-chunk}, proofs.lemmas.List.FromFn.{get_or-range_with_len}, specs.List.{filter, range_with_len}}
 use lib.Lanes.{chunk}
-use Rattle.record_layout.{specs.Chosen.{has_bit, bits_in, lanes_by}, specs.InColumns.code_in, specs.InClose.{stays, staying}, proofs.Chosen.{column-more, few-staying, length-more, ones-bits, map-same}, specs.declared.columns.Columns.{Columns}, specs.declared.close.TheConstants.{PLACES}}
+use Rattle.record_layout.{specs.InClose.{has_bit, bits_in, lanes_by, stays, staying}, specs.InColumns.code_in, proofs.Chosen.{column-more, few-staying, length-more, ones-bits, map-same}, specs.declared.columns.Columns.Columns, specs.declared.close.TheConstants.PLACES}
 use Rattle.record_layout.proofs.close.Close.fill.Goals as goal
 
 few : (below : ℕ) (columns : Columns) (k len : ℕ) → k < 8 → len ≡ length (staying below columns (8 * k)) → len + 8 ≤ 64
@@ -56,11 +56,17 @@ loop-k-preserved c =
     let small = c.bits_below-bits.ensures.few in
     let len = c.loop-k.len in
     let same : (i : ℕ) → i < 8 → has_bit bits i ≡ f (8 * k + i) = λ i lt.
-    c.bits_below-bits.ensures.bits i lt ∙ ap (λ x. nat_lt (code_in x) c.args.below) (ap (λ v. get_or v i 0) c.eight_at-marks.ensures ∙ get_or-chunk (8 * k) 8 columns.marks i 0 lt) in
+    c.bits_below-bits.ensures.bits i lt
+    ∙ ap (λ x. nat_lt (code_in x) c.args.below) (ap (λ v. get_or v i 0) c.eight_at-marks.ensures ∙ get_or-chunk (8 * k) 8 columns.marks i 0 lt) in
     record {
-      count = subst (λ n. len + count_ones bits ≡ length (filter f (range_with_len 0 n))) (next f k bits len small same) (length-more f (8 * k) bits len small same inv.count);
-      marks = column f k bits len small same columns.marks c.loop-k.self.marks c.put_close.new.column c.eight_at-marks.result c.eight_at-marks.ensures inv.marks c.put_close.ensures;
-      times = column f k bits len small same columns.times c.loop-k.self.times c.put_close-in-loop-k.new.column c.eight_at.result c.eight_at.ensures inv.times c.put_close-in-loop-k.ensures;
-      sums = column f k bits len small same columns.sums c.loop-k.self.sums c.put_close-in-loop-k-2.new.column c.eight_at-in-loop-k.result c.eight_at-in-loop-k.ensures inv.sums c.put_close-in-loop-k-2.ensures;
-      places = their-places f k bits len small same c.loop-k.self.places c.put_close-in-loop-k-3.new.column c.eight_at-in-loop-k-2.result c.loop-k-test.true c.eight_at-in-loop-k-2.ensures inv.places c.put_close-in-loop-k-3.ensures;
+      count = subst (λ n. len + count_ones bits ≡ length (filter f (range_with_len 0 n)))
+          (next f k bits len small same) (length-more f (8 * k) bits len small same inv.count);
+      marks = column f k bits len small same columns.marks c.loop-k.self.marks c.put_close.new.column
+          c.eight_at-marks.result c.eight_at-marks.ensures inv.marks c.put_close.ensures;
+      times = column f k bits len small same columns.times c.loop-k.self.times c.put_close-in-loop-k.new.column
+          c.eight_at.result c.eight_at.ensures inv.times c.put_close-in-loop-k.ensures;
+      sums = column f k bits len small same columns.sums c.loop-k.self.sums c.put_close-in-loop-k-2.new.column
+          c.eight_at-in-loop-k.result c.eight_at-in-loop-k.ensures inv.sums c.put_close-in-loop-k-2.ensures;
+      places = their-places f k bits len small same c.loop-k.self.places c.put_close-in-loop-k-3.new.column
+          c.eight_at-in-loop-k-2.result c.loop-k-test.true c.eight_at-in-loop-k-2.ensures inv.places c.put_close-in-loop-k-3.ensures;
     }

@@ -9,7 +9,8 @@ last_or : (i n : ℕ) → i < n + 1 → (i ≡ n) ⊎ (i < n)
 last_or i n lt = grind (arith, lt)
 
 -- one sum more
-sums-more : (f : ℕ → ℕ) (xs : List ℕ) (n v : ℕ) → n < length xs → v ≡ sum_to f (n + 1) → ((k : ℕ) → k < n → get_or xs k 0 ≡ sum_to f (k + 1)) → (k : ℕ) → k < n + 1 → get_or (set xs n v) k 0 ≡ sum_to f (k + 1)
+sums-more : (f : ℕ → ℕ) (xs : List ℕ) (n v : ℕ) → n < length xs → v ≡ sum_to f (n + 1)
+    → ((k : ℕ) → k < n → get_or xs k 0 ≡ sum_to f (k + 1)) → (k : ℕ) → k < n + 1 → get_or (set xs n v) k 0 ≡ sum_to f (k + 1)
 sums-more f xs n v inside is so_far k lt =
     ⊎_elim
     (λ (here : k ≡ n). rw here (get_or-set_same xs n v 0 inside ∙ is))

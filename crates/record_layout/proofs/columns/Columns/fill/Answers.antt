@@ -20,6 +20,11 @@ loop-i-preserved g c =
     let r = g.R.RecordLayout in
     let row = c.row-row.result in
     let is_amount : r.UNIT * c.wraps.result ≡ row.amount = c.wraps.ensures ∙ sym c.row-row.ensures.amount in
-    more_at r.meaning (λ k. from_le_bytes w32 (get_or c.args.words.now k [])) (row_at r.UNIT c.loop-i.self) (row_at r.UNIT c.put.new.self) c.loop-i.i row (c.put.ensures.there r.UNIT is_amount) (c.put.ensures.before r.UNIT)
-    (record { raw = c.row-row.ensures.record ∙ ap r.meaning c.from_le_bytes-word.ensures; amounts = c.row-row.ensures.amount ∙ ap (λ w. amount (r.meaning w)) c.from_le_bytes-word.ensures })
+    more_at r.meaning (λ k. from_le_bytes w32 (get_or c.args.words.now k [])) (row_at r.UNIT c.loop-i.self)
+    (row_at r.UNIT c.put.new.self) c.loop-i.i row (c.put.ensures.there r.UNIT is_amount) (c.put.ensures.before r.UNIT)
+    (record {
+      raw = c.row-row.ensures.record ∙ ap r.meaning c.from_le_bytes-word.ensures;
+      amounts =
+          c.row-row.ensures.amount ∙ ap (λ w. amount (r.meaning w)) c.from_le_bytes-word.ensures;
+    })
     c.loop-i.invariant

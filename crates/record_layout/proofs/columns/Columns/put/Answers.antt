@@ -15,7 +15,8 @@ dtime-again : (mark code dtime : ℕ) → mark ≡ joined code dtime → code < 
 dtime-again mark code dtime is few = omega (arith, is, few)
 
 -- a wrap's time says nothing
-unread : (row : Row) (amount : ℕ) → amount ≡ row.amount → raw_of (record { code = row.code; time = if nat_lt row.code 512 then row.time else 0; dtime = row.dtime; amount = amount }) ≡ raw_of row
+unread : (row : Row) (amount : ℕ) → amount ≡ row.amount
+    → raw_of (record { code = row.code; time = if nat_lt row.code 512 then row.time else 0; dtime = row.dtime; amount = amount }) ≡ raw_of row
 unread row amount is = rw is (grind (arith, common_steps, nat_tests))
 
 pub returns-clause-there : goal.returns-clause-there

@@ -15,11 +15,13 @@ sign : (x y : ℕ) → x < 2 ^ 63 → y < 2 ^ 63 → (x + (2 ^ 64 - y)) % 2 ^ 64
 sign x y small low lt = omega (arith, small, low, lt)
 
 -- one time more
-rises-more : (low : ℕ) (f : ℕ → ℕ) (i falls last x : ℕ) → x ≡ f i → last ≡ before low f i → x < 2 ^ 63 → last < 2 ^ 63 → (falls < 2 ^ 63 → Rises low f i)
+rises-more : (low : ℕ) (f : ℕ → ℕ) (i falls last x : ℕ) → x ≡ f i → last ≡ before low f i
+    → x < 2 ^ 63 → (falls < 2 ^ 63 → last < 2 ^ 63) → (falls < 2 ^ 63 → Rises low f i)
     → bit_or falls ((x + (2 ^ 64 - last)) % 2 ^ 64) < 2 ^ 63 → Rises low f (i + 1)
 rises-more low f i falls last x is was small low_small so_far all k lt =
     ⊎_elim
-    (λ (here : k ≡ i). rw (here, ← was, ← is) (sign x last small low_small (omega (arith, all, le_or_r falls ((x + (2 ^ 64 - last)) % 2 ^ 64)))))
+    (λ (here : k ≡ i). rw (here, ← was, ← is) (sign x last small (low_small (omega (arith, all, le_or_l falls ((x + (2 ^ 64 - last)) % 2 ^ 64))))
+    (omega (arith, all, le_or_r falls ((x + (2 ^ 64 - last)) % 2 ^ 64)))))
     (λ (below : k < i). so_far (omega (arith, all, le_or_l falls ((x + (2 ^ 64 - last)) % 2 ^ 64))) k below)
     (last_or k i lt)
 
@@ -40,7 +42,7 @@ loop-i-preserved g c =
     record {
       few = λ k lt. ⊎_elim (λ (here : k ≡ i). rw here time_few) (λ (below : k < i). inv.few k below) (last_or k i lt);
       last = is ∙ sym (before-next c.args.low f i);
-      small = small;
+      small = λ lt. small;
       rises = rises-more c.args.low f i c.loop-i.falls c.loop-i.last x is inv.last small inv.small inv.rises;
     }
 

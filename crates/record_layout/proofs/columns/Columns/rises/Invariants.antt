@@ -7,7 +7,7 @@ invariant-loop-i g l =
     let time = time_in l.base g.R.RecordLayout.UNIT l.self in
     record {
       last : l.last ≡ before l.low time l.i;
-      small : l.last < 2 ^ 63;
+      small : l.falls < 2 ^ 63 → l.last < 2 ^ 63;
       few : (k : ℕ) → k < l.i → slice_index l.self.times k < 2 ^ 32;
       rises : l.falls < 2 ^ 63 → Rises l.low time l.i;
     }

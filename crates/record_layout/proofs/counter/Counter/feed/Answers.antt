@@ -1,5 +1,5 @@
 use Rattle.std.proofs.Common.{◌++◌, refl, arith}
-use Rattle.record_layout.{specs.Begun.begun_in, proofs.Growing.{words-more, words-pass, counted-shows}}
+use Rattle.record_layout.{specs.Counting.begun_in, proofs.Growing.{words-more, words-pass, counted-shows}}
 use Rattle.record_layout.proofs.counter.Counter.feed.Goals as goal
 
 pub returns-then-self-clause-taken : goal.returns-then-self-clause-taken
@@ -17,12 +17,16 @@ pub returns-then-piece-room-clause-taken : goal.returns-then-piece-room-clause-t
 returns-then-piece-room-clause-taken c = λ record_type bytes h.
     record {
       same_type = h.same_type;
-      counts = words-pass record_type (begun_in c.args.self.now.carried) c.args.self.now.counts bytes (rw c.if-self.false at h.counts) c.args.piece.now (omega arith);
+      counts = words-pass record_type (begun_in c.args.self.now.carried) c.args.self.now.counts bytes
+          (rw c.if-self.false at h.counts) c.args.piece.now (omega arith);
     }
 
 pub returns-then-piece-room-clause-limit : goal.returns-then-piece-room-clause-limit
-returns-then-piece-room-clause-limit c = λ record_type bytes h.
-    (λ _. words-pass record_type (begun_in c.args.self.now.carried) c.args.self.now.counts bytes (rw c.if-self.false at h.counts) c.args.piece.now (omega arith), λ _. refl)
+returns-then-piece-room-clause-limit c = λ record_type bytes h. (
+  λ _. words-pass record_type (begun_in c.args.self.now.carried) c.args.self.now.counts bytes
+      (rw c.if-self.false at h.counts) c.args.piece.now (omega arith),
+  λ _. refl,
+)
 
 pub returns-then-piece-room-clause-shown : goal.returns-then-piece-room-clause-shown
 returns-then-piece-room-clause-shown c = λ record_type bytes h.

@@ -1,6 +1,6 @@
 use Rattle.std.proofs.Common.{arith, rules}
 use Rattle.ptu_definitions.specs.Times.{events}
-use Rattle.record_stream.{proofs.Branches.none-is, proofs.Lasts.{at_none, come_none}}
+use Rattle.record_stream.{proofs.Settles.none-is, proofs.Lasts.{at_none, come_none}}
 use Rattle.record_stream.proofs.stream.RecordStream.new.Goals as goal
 
 pub returns-clause-empty : goal.returns-clause-empty

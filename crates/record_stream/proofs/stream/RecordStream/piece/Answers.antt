@@ -1,7 +1,7 @@
 use Rattle.std.{proofs.Common.{◌++◌, Err, subst, ◌∙◌}, proofs.lemmas.Result.{err_from_is_err_and, on_ok_weaker}}
-use Rattle.ptu_definitions.{specs.Fours.numbers, specs.Prefixes.listed, specs.Words.words_of}
-use Rattle.record_layout.{specs.Begun.begun_in, proofs.BegunLemmas.slice-listed}
-use Rattle.record_stream.{specs.Feeding.Fed, specs.Standing.how_of, proofs.Feeds.{Fed-trans, Fed-more}, proofs.Fours.{cut-words, cut-rest}}
+use Rattle.ptu_definitions.{specs.Words.{numbers, words_of}, specs.Prefixes.listed}
+use Rattle.record_layout.{specs.Counting.begun_in, proofs.Growing.slice-listed}
+use Rattle.record_stream.{specs.Feeding.Fed, specs.Standing.how_of, proofs.Feeds.{Fed-trans, Fed-more}, proofs.Wraps.{cut-words, cut-rest}}
 use Rattle.record_stream.proofs.stream.RecordStream.piece.Goals as goal
 
 pub returns-in_err-words-clause-fed : goal.returns-in_err-words-clause-fed
@@ -10,7 +10,7 @@ returns-in_err-words-clause-fed g c = λ bytes h.
     let how = how_of c.args.self.now in
     let first = slice-listed c.take-first.result.0 c.as_slice.result.now c.as_slice.ensures in
     let p = err_from_is_err_and c.from_residual.result c.from_residual.ensures.1 in
-    let fed = rw first at (c.in_err-words.ensures.fed (words_of bytes) h.1) in
+    let fed = rw first at (c.in_err-words.ensures.delivers.fed (words_of bytes) h.1) in
     rw (p.1, p.2)
     (subst (λ l. Fed s {X = Unit {0}} how c.args.taker.now c.words.new.taker (words_of bytes) l (Err c.in_err-words.field-0.0)) (cut-words (begun_in c.args.self.now.carried) bytes c.args.piece.now h.0 (listed c.take-first.result.0) c.take-first.result.1.now c.take-first.ensures.words)
     (Fed-more s (Unit {0}) how _ _ (words_of bytes) _ (numbers c.take-first.result.1.now) _ fed))
@@ -20,10 +20,11 @@ returns-clause-at g c = λ bytes h.
     let carried = begun_in c.args.self.now.carried in
     let first = slice-listed c.take-first.result.0 c.as_slice.result.now c.as_slice.ensures in
     let ws = words_of bytes ++ numbers (listed c.take-first.result.0) in
-    let stepped = rw first at (c.in_ok-words.ensures.at (words_of bytes) h.1) in
+    let stepped = rw first at (c.in_ok-words.ensures.delivers.at (words_of bytes) h.1) in
     let left = cut-rest carried bytes c.args.piece.now h.0 _ c.take-first.ensures.rest in
     let whole = cut-words carried bytes c.args.piece.now h.0 (listed c.take-first.result.0) c.take-first.result.1.now c.take-first.ensures.words in
-    on_ok_weaker c.words-2.result (λ at'. (c.words-2.ensures.carried ∙ c.words.ensures.carried ∙ left, rw whole at at')) (c.words-2.ensures.at ws stepped)
+    on_ok_weaker c.words-2.result (λ at'. (c.words-2.ensures.carried ∙ c.words.ensures.carried ∙ left, rw whole at at'))
+    (c.words-2.ensures.delivers.at ws stepped)
 
 pub returns-clause-fed : goal.returns-clause-fed
 returns-clause-fed g c = λ bytes h.
@@ -31,8 +32,8 @@ returns-clause-fed g c = λ bytes h.
     let how = how_of c.args.self.now in
     let first = slice-listed c.take-first.result.0 c.as_slice.result.now c.as_slice.ensures in
     let ws = words_of bytes ++ numbers (listed c.take-first.result.0) in
-    let stepped = rw first at (c.in_ok-words.ensures.at (words_of bytes) h.1) in
-    let fed = rw first at (c.in_ok-words.ensures.fed (words_of bytes) h.1) in
-    let more = rw c.words.ensures.stays.same_how at (c.words-2.ensures.fed ws stepped) in
+    let stepped = rw first at (c.in_ok-words.ensures.delivers.at (words_of bytes) h.1) in
+    let fed = rw first at (c.in_ok-words.ensures.delivers.fed (words_of bytes) h.1) in
+    let more = rw c.words.ensures.stays.same_how at (c.words-2.ensures.delivers.fed ws stepped) in
     subst (λ l. Fed s how c.args.taker.now c.words-2.new.taker (words_of bytes) l c.words-2.result) (cut-words (begun_in c.args.self.now.carried) bytes c.args.piece.now h.0 (listed c.take-first.result.0) c.take-first.result.1.now c.take-first.ensures.words)
     (Fed-trans s how _ c.words.new.taker _ (words_of bytes) ws _ c.words-2.result fed.1 more)

@@ -1,5 +1,5 @@
 use Rattle.std.{proofs.Common.{rules}, proofs.Common.{arith}, proofs.lemmas.Result.on_ok_weaker}
-use Rattle.record_stream.{proofs.Branches.{plain-is, some-is, plain-settles, follows_to}}
+use Rattle.record_stream.{proofs.Feeds.delivers-both, proofs.Settles.{plain-is, some-is, plain-settles, follows_to}}
 use Rattle.record_stream.proofs.stream.RecordStream.words.Goals as goal
 
 pub take_words-requires-clause-ready : goal.take_words-requires-clause-ready
@@ -8,20 +8,19 @@ take_words-requires-clause-ready g c = search (rules, arith, follows_to, plain-i
 pub settle_blocks-requires-clause-ready : goal.settle_blocks-requires-clause-ready
 settle_blocks-requires-clause-ready g c = search (rules, arith, follows_to, some-is)
 
-pub returns-then-self-eq0-clause-at : goal.returns-then-self-eq0-clause-at
-returns-then-self-eq0-clause-at g c = search (rules, arith, on_ok_weaker, plain-settles)
-
-pub returns-then-self-eq0-clause-fed : goal.returns-then-self-eq0-clause-fed
-returns-then-self-eq0-clause-fed g c = λ before h. c.take_words.ensures.fed before h.at
+pub returns-then-self-eq0-clause-delivers : goal.returns-then-self-eq0-clause-delivers
+returns-then-self-eq0-clause-delivers g c = delivers-both g.S.EventTaker (λ before h.
+    let d = c.take_words.ensures.delivers in (
+      on_ok_weaker c.take_words.result (λ at. record { at = at; settles = plain-settles _ _ _ _ c.take_words.ensures.stays.same_how c.if-self-eq0.true })
+          (d.at before h.at),
+      d.fed before h.at,
+    ))
 
 pub returns-then-self-eq0-clause-goes_on : goal.returns-then-self-eq0-clause-goes_on
 returns-then-self-eq0-clause-goes_on g c = search (rules, arith, on_ok_weaker, follows_to, plain-is)
 
-pub returns-else-self-eq0-clause-at : goal.returns-else-self-eq0-clause-at
-returns-else-self-eq0-clause-at g c = search (rules, arith, on_ok_weaker)
-
-pub returns-else-self-eq0-clause-fed : goal.returns-else-self-eq0-clause-fed
-returns-else-self-eq0-clause-fed g c = λ before h. c.settle_blocks.ensures.fed before (record { behind = h.at; come = h.settles c.if-self-eq0.false })
+pub returns-else-self-eq0-clause-delivers : goal.returns-else-self-eq0-clause-delivers
+returns-else-self-eq0-clause-delivers g c = search (rules, arith, delivers-both, on_ok_weaker)
 
 pub returns-else-self-eq0-clause-goes_on : goal.returns-else-self-eq0-clause-goes_on
 returns-else-self-eq0-clause-goes_on g c = search (rules, arith, on_ok_weaker, follows_to, some-is)

@@ -1,6 +1,6 @@
 use Rattle.std.proofs.Common.{◌≡◌, ◌+◌, ◌++◌}
 use Rattle.ptu_definitions.specs.Kept.{Marked}
-use Rattle.tally_base.{specs.Columns.{event_at, rows}, specs.Floors.floor_after}
+use Rattle.tally_base.{specs.Columns.{event_at, rows}, specs.Tally.floor_after}
 use Rattle.abs_time.specs.Floors.{orders_markers}
 use Rattle.record_stream.specs.Blocks.{on_time}
 use Rattle.record_stream.proofs.taker.EventTaker.take_block.Given as goal

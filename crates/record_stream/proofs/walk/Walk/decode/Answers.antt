@@ -1,5 +1,5 @@
 use Rattle.std.proofs.Common.{ap, ◌∙◌}
-use Rattle.ptu_definitions.proofs.FittingLemmas.{meaning-fits}
+use Rattle.ptu_definitions.proofs.WordsLemmas.{meaning-fits}
 use Rattle.record_stream.proofs.walk.Walk.decode.Goals as goal
 
 pub returns-clause-meaning : goal.returns-clause-meaning

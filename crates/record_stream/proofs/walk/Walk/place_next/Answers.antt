@@ -8,13 +8,16 @@ returns-then-self-clause-refused g c = λ words h. refusal-limit (how_of c.args.
 
 pub returns-then-stops_at-clause-refused : goal.returns-then-stops_at-clause-refused
 returns-then-stops_at-clause-refused g c = λ words h.
-    refusal-reserved (how_of c.args.self.now) words c.args.word _ c.decode-raw.result (records-is _ _ _ _ words h) (omega arith) c.decode-raw.ensures.meaning (sym c.stops_at.ensures ∙ c.if-stops_at.true)
+    refusal-reserved (how_of c.args.self.now) words c.args.word _ c.decode-raw.result (records-is _ _ _ _ words h)
+    (omega arith) c.decode-raw.ensures.meaning (sym c.stops_at.ensures ∙ c.if-stops_at.true)
 
 pub returns-clause-refused : goal.returns-clause-refused
 returns-clause-refused g c = λ words h.
     let how = how_of c.args.self.now in
-    let answers : c.place.result ≡ place_answer how.mode (map how.meaning words) c.decode-raw.result = c.place.ensures.answer _ h.placed ∙ rw c.args.self.now.same_mode refl in
-    word_refused how words c.args.word _ c.decode-raw.result c.place.result (records-is _ _ _ _ words h) (omega arith) c.decode-raw.ensures.meaning (sym c.stops_at.ensures ∙ c.if-stops_at.false) answers
+    let answers : c.place.result ≡ place_answer how.mode (map how.meaning words) c.decode-raw.result =
+    c.place.ensures.answer _ h.placed ∙ rw c.args.self.now.same_mode refl in
+    word_refused how words c.args.word _ c.decode-raw.result c.place.result (records-is _ _ _ _ words h)
+    (omega arith) c.decode-raw.ensures.meaning (sym c.stops_at.ensures ∙ c.if-stops_at.false) answers
 
 pub returns-clause-placed : goal.returns-clause-placed
 returns-clause-placed g c = search (rules, arith, word_placed, records-is)

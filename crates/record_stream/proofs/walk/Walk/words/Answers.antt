@@ -1,34 +1,31 @@
-use Rattle.std.{proofs.Common.{◌++◌, take, ap, ◌∙◌, Err, arith}, proofs.lemmas.Result.err_from_is_err_and}
-use Rattle.ptu_definitions.{specs.Streams.Reading, specs.Fours.numbers}
-use Rattle.record_stream.{specs.Feeding.{GaveOn, Fed}, specs.Walking.{how_of, IsBehind}, proofs.Feeds.{GaveOn-trans, Fed-trans, Fed-more}, proofs.Fours.{more_at, all_at}}
+use Rattle.std.{proofs.Common.{◌+◌, take, drop, ap, sym, refl, arith, rules, ◌++◌, ◌∙◌}, proofs.lemmas.Result.err_from_is_err_and, proofs.lemmas.List.take_all}
+use Rattle.ptu_definitions.specs.Words.{numbers}
+use Rattle.record_stream.{proofs.Feeds.{took-none, took-more, took-stop, took-all}, proofs.Wraps.{step-numbers, whole-numbers}}
 use Rattle.record_stream.proofs.walk.Walk.words.Goals as goal
 
-pub returns-in_err-step-clause-fed : goal.returns-in_err-step-clause-fed
-returns-in_err-step-clause-fed g c = λ before h.
-    let s = g.S.EventTaker in
-    let how = how_of c.args.self.now in
-    let inv = c.loop-word.invariant in
-    let us = before ++ numbers (take c.loop-word.word-index c.args.words.now) in
-    let fed = rw inv.how at (c.in_err-step.ensures.fed us (inv.at before h)) in
-    let p = err_from_is_err_and c.from_residual.result c.from_residual.ensures.1 in
-    rw (p.1, p.2)
-    (all_at (λ l. Fed s {X = Unit {0}} how c.args.taker.now c.step.new.taker before l (Err c.in_err-step.field-0.0)) before c.args.words.now c.loop-word.word-index _ _ c.loop-word-test.true c.from_le_bytes.ensures
-    (λ more. Fed-more s (Unit {0}) how _ _ before _ more _ (Fed-trans s {X = Unit {0}} how _ c.loop-word.taker _ before us _ (Err c.in_err-step.field-0.0) (inv.gave before h) fed)))
+pub loop-word-init : goal.loop-word-init
+loop-word-init g c = took-none g.S.EventTaker _ _ _ _ c.requires.ready.follows (g.met.S.EventTaker.same_none _)
 
 pub loop-word-preserved : goal.loop-word-preserved
 loop-word-preserved g c =
     let s = g.S.EventTaker in
-    let how = how_of c.args.self.now in
+    let words = c.args.words.now in
     let inv = c.loop-word.invariant in
-    record {
-      how = c.step.ensures.stays.same_how ∙ inv.how;
-      counted = omega (arith, inv.counted, c.in_ok-step.ensures.goes_on.counted);
-      follows = rw (ap (λ (h : Reading). h.mode) inv.how) at c.in_ok-step.ensures.goes_on.follows;
-      at = λ before h. more_at (IsBehind c.step.new.self) before c.args.words.now c.loop-word.word-index _ _ c.loop-word-test.true c.from_le_bytes.ensures (c.in_ok-step.ensures.at _ (inv.at before h));
-      gave = λ before h.
-          let fed = rw inv.how at (c.in_ok-step.ensures.fed _ (inv.at before h)) in
-          more_at (λ l. GaveOn s how c.args.taker.now c.step.new.taker before l) before c.args.words.now c.loop-word.word-index _ _ c.loop-word-test.true c.from_le_bytes.ensures
-          (GaveOn-trans s how _ c.loop-word.taker _ before _ _ (inv.gave before h) fed.1);
-      later = omega (arith, inv.later, c.step.ensures.stays.later);
-      same = g.met.S.EventTaker.same_more _ _ _ inv.same c.step.ensures.stays.same;
-    }
+    took-more s inv (numbers (take (c.loop-word.word-index + 1) words)) (c.loop-word.word-index + 1)
+    (step-numbers words c.loop-word.word-index _ _ c.loop-word-test.true c.from_le_bytes.ensures) refl
+    c.in_ok-step.ensures.delivers c.in_ok-step.ensures.goes_on c.step.ensures.stays
+    (g.met.S.EventTaker.same_more _ _ _ inv.stays.same c.step.ensures.stays.same)
+
+pub returns-in_err-step-clause-delivers : goal.returns-in_err-step-clause-delivers
+returns-in_err-step-clause-delivers g c =
+    let words = c.args.words.now in
+    let i = c.loop-word.word-index in
+    let p = err_from_is_err_and c.from_residual.result c.from_residual.ensures.1 in
+    rw (p.1, p.2) (took-stop g.S.EventTaker c.loop-word.invariant (numbers (drop (i + 1) words)) (numbers words)
+    (whole-numbers words i _ _ c.loop-word-test.true c.from_le_bytes.ensures) c.in_err-step.ensures.delivers)
+
+pub returns-clause-delivers : goal.returns-clause-delivers
+returns-clause-delivers g c =
+    let words = c.args.words.now in
+    took-all g.S.EventTaker (tt {0}) (numbers words) c.loop-word.invariant
+    (ap numbers (sym (take_all c.loop-word.word-index words (search (rules, arith))))) (λ l h. h.clear)

@@ -1,8 +1,8 @@
 use Rattle.std.proofs.lemmas.Result.{err_from_is_err_and}
 use Rattle.plan_text.specs.Reading.{plan_view}
 use Rattle.told_text.proofs.Texts.{WroteText-none}
-use Rattle.command_work.proofs.Streams.{refused-none}
-use Rattle.report_work.proofs.Runs.{for-own, reports-same, opens-unopened}
+use Rattle.command_work.proofs.RestEnds.{refused-none}
+use Rattle.report_work.proofs.Reports.{for-own, reports-same, opens-unopened}
 use Rattle.report_work.proofs.run.RunJobJob.open.Goals as goal
 
 pub returns-in_err-engine-clause-opens : goal.returns-in_err-engine-clause-opens
@@ -14,7 +14,8 @@ pub returns-clause-opens : goal.returns-clause-opens
 returns-clause-opens g c = rw c.in_ok-engine.ensures.answer (refused-none _, WroteText-none _ _ _)
 
 pub returns-clause-tells : goal.returns-clause-tells
-returns-clause-tells g c = reports-same (plan_view c.args.self.now.plan.now) _ c.args.header.now c.in_ok-engine.ensures.answer c.in_ok-engine.ensures.made.header_is
+returns-clause-tells g c =
+    reports-same (plan_view c.args.self.now.plan.now) _ c.args.header.now c.in_ok-engine.ensures.answer c.in_ok-engine.ensures.made.header_is
 
 pub returns-clause-stands : goal.returns-clause-stands
 returns-clause-stands g c = record {

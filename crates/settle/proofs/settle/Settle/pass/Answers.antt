@@ -1,4 +1,4 @@
-use Rattle.std.{proofs.Common.{◌≡◌, ◌∙◌, length, ap, refl, subst, ◌+◌, ◌<◌, ◌≤◌, ℕ, suc, List, [], ◌∷◌, ◌++◌, false, take, drop, sym, append_assoc, append-nil, arith, length-append}, specs.List.{refill, AllByRecursion}, proofs.Math.Seq.take-append_seam}
+use Rattle.std.{proofs.Common.{◌≡◌, ◌∙◌, length, ap, refl, subst, ◌+◌, ◌<◌, ◌≤◌, ℕ, List, [], ◌∷◌, ◌++◌, false, take, drop, sym, append_assoc, append-nil, arith, length-append, rules}, specs.List.{refill, AllByRecursion}, proofs.Math.Seq.take-append_seam}
 use Rattle.arrayvec.specs.ArrayVec.{array_vec_len}
 use Rattle.tally_base.specs.declared.event.Event.{Event}
 use Rattle.ptu_definitions.{specs.Prefixes.each_after, specs.Settled.{marked_as, put_in, settles}, proofs.SettledLemmas.put_in-append, proofs.SettlingLemmas.{all-push, each-weaker}}
@@ -19,22 +19,17 @@ record IsPassed (k : ℕ) (waiting : List Event) (last next : ℕ) (pushed given
 put_in-last : (e : Event) (w : List Event) → AllByRecursion (λ x. x.time ≤ e.time) w → put_in e w ≡ w ++ e ∷ []
 put_in-last e w all = sym (ap (put_in e) (append-nil w)) ∙ put_in-append e w [] all
 
-passed : (k : ℕ) (came w w' went es g : List Event) (last next top : ℕ) → 0 < k → length w ≡ k → length w' ≡ k → IsSettled k false w last next es g → last ≤ top → AllByRecursion (λ x. x.time ≤ top) w → ComesOn next top came
+passed : (k : ℕ) (came w w' went es g : List Event) (last next top : ℕ) → 0 < k → length w ≡ k → length w' ≡ k
+    → IsSettled k false w last next es g → last ≤ top → AllByRecursion (λ x. x.time ≤ top) w → ComesOn next top came
     → w ++ came ≡ went ++ w' → IsPassed k w' last next es g came went
-passed k [] w w' [] es g last next top some full full' settled low all comes is =
-    let same : w ≡ w' = sym (append-nil w) ∙ is in
-    record { settled = rw (append-nil, append-nil, ← same) settled; tells = refl }
-passed k [] w w' (y ∷ went) es g last next top some full full' settled low all comes is =
-    let n : length w ≡ suc (length (went ++ w')) = ap length (sym (append-nil w) ∙ is) in
-    absurd (omega (arith, n, full, full', length-append went w'))
+passed k [] w w' [] es g last next top some full full' settled low all comes is = search (rules, arith, append-nil)
+passed k [] w w' (y ∷ went) es g last next top some full full' settled low all comes is = search (rules, arith, append-nil, length-append)
 passed k (e ∷ came) [] w' went es g last next top some full full' settled low all comes is = absurd (omega (arith, some, full))
-passed k (e ∷ came) (x ∷ w) w' [] es g last next top some full full' settled low all comes is =
-    let n : suc (length (w ++ e ∷ came)) ≡ length w' = ap length is in
-    absurd (omega (arith, n, full, full', length-append w (e ∷ came)))
+passed k (e ∷ came) (x ∷ w) w' [] es g last next top some full full' settled low all comes is = search (rules, arith, length-append)
 passed k (e ∷ came) (x ∷ w) w' (y ∷ went) es g last next top some full full' settled low all comes is =
     let same : x ≡ y = cc in
     let tail : w ++ (e ∷ came) ≡ went ++ w' = cc in
-    let below : AllByRecursion (λ z. z.time ≤ e.time) (x ∷ w) = each-weaker (λ z. z.time ≤ top) (λ z. z.time ≤ e.time) (x ∷ w) (λ z le. let h : top ≤ e.time = comes.1 in omega (arith, le, h)) all in
+    let below : AllByRecursion (λ z. z.time ≤ e.time) (x ∷ w) = search (rules, arith, each-weaker) in
     let in_time : last ≤ e.time = let h : top ≤ e.time = comes.1 in omega (arith, low, h) in
     let put : x ∷ (w ++ e ∷ []) ≡ put_in e (x ∷ w) = sym (put_in-last e (x ∷ w) below) in
     let as_many : length (w ++ e ∷ []) ≡ length (x ∷ w) = omega (arith, length-append w (e ∷ [])) in
@@ -44,21 +39,19 @@ passed k (e ∷ came) (x ∷ w) w' (y ∷ went) es g last next top some full ful
     let tells = tells-one k false (x ∷ w) (w ++ e ∷ []) last next es g e x settled refl in_time full as_many put in
     subst (λ (z : Event). IsPassed k w' last next es g (e ∷ came) (z ∷ went)) same
     (record {
-      settled =
-          subst (λ l. IsSettled k false w' (time_after x.time went) (next_after (e.place + 1) came) l (g ++ x ∷ went)) (append_assoc es (e ∷ []) came)
-          (subst (λ l. IsSettled k false w' (time_after x.time went) (next_after (e.place + 1) came) ((es ++ e ∷ []) ++ came) l) (append_assoc g (x ∷ []) went) rest.settled);
-      tells = ap (λ l. l ++ each_after (settles k) (es ++ e ∷ []) came) tells ∙ ap (λ l. (x, false) ∷ l) rest.tells;
+      settled = search (rules, arith, append_assoc);
+      tells = search (rules, arith);
     })
 
 pub returns-clause-passed : goal.returns-clause-passed
 returns-clause-passed c = λ pushed given came went settled comes.
     let s = c.args.self.now in
     let open' = subst (λ b. IsSettled s.reach b s.waiting.items s.last (next_place s) pushed given) comes.unpopped settled in
-    let p = passed s.reach came s.waiting.items c.args.stay.now went pushed given s.last (next_place s) comes.greatest comes.some comes.full (c.requires.as_many ∙ comes.full) open' comes.low comes.below comes.comes comes.joined in
+    let p = passed s.reach came s.waiting.items c.args.stay.now went pushed given s.last (next_place s) comes.greatest comes.some comes.full
+    (c.requires.as_many ∙ comes.full) open' comes.low comes.below comes.comes comes.joined in
     let full : array_vec_len s.waiting ≡ length s.waiting.items = refl in
     let copied : c.copy_from_slice.new.self ≡ c.args.stay.now = c.copy_from_slice.ensures.after in
-    let stays : refill (array_vec_len s.waiting) s.waiting.items c.copy_from_slice.new.self ≡ c.args.stay.now =
-    refilled (array_vec_len s.waiting) s.waiting.items c.copy_from_slice.new.self full (ap length copied ∙ c.requires.as_many) ∙ copied in
+    let stays : refill (array_vec_len s.waiting) s.waiting.items c.copy_from_slice.new.self ≡ c.args.stay.now = search (rules, arith, refilled) in
     record {
       settled = rw (comes.time_is, comes.place_is, comes.unpopped, stays) p.settled;
       tells = p.tells;

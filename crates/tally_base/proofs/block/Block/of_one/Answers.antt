@@ -1,5 +1,5 @@
-use Rattle.std.{proofs.Common.{◌≡◌, ◌∙◌, true, false, sym, ap, arith, if◌then◌else◌, ℕ, ◌≤◌, [], ◌∷◌, length, get_or, nat_lt}, proofs.lemmas.Bool.Decides.nat_tests}
-use Rattle.tally_base.{specs.Events.is_photon, proofs.block.Block.of_one.Goals.{then-is_photon, else-is_photon}, specs.declared.event.Event.Event, specs.declared.block.Block.Block, specs.Columns.{rows, item, event_at, code_at, groups_at, gathered, events_in}, proofs.Back.moves_row, proofs.BlockRows.length-rows}
+use Rattle.std.proofs.Common.{◌≡◌, ◌∙◌, true, false, sym, ap, arith, if◌then◌else◌, ℕ, ◌≤◌, [], ◌∷◌, length, get_or, rules}
+use Rattle.tally_base.{specs.Events.is_photon, proofs.block.Block.of_one.Goals.{then-is_photon, else-is_photon}, specs.declared.event.Event.Event, specs.declared.block.Block.Block, specs.Columns.{rows, item, event_at, code_at, groups_at, gathered, events_in}, proofs.Floors.moves_row, proofs.BlockRows.length-rows}
 use Rattle.tally_base.proofs.block.Block.of_one.Goals as goal
 
 -- a block of one event
@@ -9,7 +9,7 @@ one_row b e is =
     (one, ap (λ es. get_or es 0 e) (sym (ap (rows (event_at b)) one) ∙ is))
 
 one_marker : (b : Block) (e : Event) → event_at b 0 ≡ e → 256 ≤ code_at b 0 → is_photon e ≡ false
-one_marker b e is marker = let other : nat_lt (code_at b 0) 256 ≡ false = grind (arith, nat_tests, marker) in ap is_photon (sym is) ∙ (moves_row false b 0 ∙ other)
+one_marker b e is marker = search (rules, arith, moves_row)
 
 one_item : (b : Block) (e : Event) (groups : ℕ) → b.len ≡ 1 → event_at b 0 ≡ e → groups_at b 0 ≡ groups → events_in b ≡ (e, groups) ∷ []
 one_item b e groups one is there = ap (rows (item b)) one ∙ ap (λ e. (e, groups_at b 0) ∷ []) is ∙ ap (λ groups. (e, groups) ∷ []) there

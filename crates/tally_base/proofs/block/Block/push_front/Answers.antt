@@ -8,15 +8,18 @@ use Rattle.tally_base.proofs.block.Block.push_front.Goals as goal
 
 -- a column before the part that is written, and in it
 before-part : (a k : ℕ) (xs ys : List ℕ) (i : ℕ) → i < a → a ≤ length xs → get_or (put_mid a k xs ys) i 0 ≡ get_or xs i 0
-before-part a k xs ys i lt inside = get_or-append (take a xs) (ys ++ post_of a k xs) 0 i (omega (arith, length-take-le a xs inside, lt)) ∙ get_or-take a xs i 0 lt
+before-part a k xs ys i lt inside =
+    get_or-append (take a xs) (ys ++ post_of a k xs) 0 i (omega (arith, length-take-le a xs inside, lt)) ∙ get_or-take a xs i 0 lt
 
-in-part : (a k n : ℕ) (xs ys zs : List ℕ) (i : ℕ) → i < n → a ≤ length xs → ys ≡ take n zs → n ≤ length zs → get_or (put_mid a k xs ys) (a + i) 0 ≡ get_or zs i 0
+in-part : (a k n : ℕ) (xs ys zs : List ℕ) (i : ℕ) → i < n → a ≤ length xs → ys ≡ take n zs
+    → n ≤ length zs → get_or (put_mid a k xs ys) (a + i) 0 ≡ get_or zs i 0
 in-part a k n xs ys zs i lt inside is few =
     let many : i < length ys = omega (arith, ap length is, length-take-le n zs few, lt) in
     ap (λ m. get_or (put_mid a k xs ys) (m + i) 0) (sym (length-take-le a xs inside)) ∙ get_or-append-add (take a xs) (ys ++ post_of a k xs) i 0 ∙ get_or-append ys (post_of a k xs) 0 i many ∙ ap (λ l. get_or l i 0) is ∙ get_or-take n zs i 0 lt
 
 -- rows of which the first are those of one, and the next those of another
-rows-joined : {A : Type 0} (f g h : ℕ → A) (n m : ℕ) → ((i : ℕ) → i < n → h i ≡ f i) → ((i : ℕ) → i < m → h (n + i) ≡ g i) → rows h (n + m) ≡ rows f n ++ rows g m
+rows-joined : {A : Type 0} (f g h : ℕ → A) (n m : ℕ) → ((i : ℕ) → i < n → h i ≡ f i)
+    → ((i : ℕ) → i < m → h (n + i) ≡ g i) → rows h (n + m) ≡ rows f n ++ rows g m
 rows-joined f g h n zero first next = let e : n + zero ≡ n = omega arith in ap (rows h) e ∙ same-rows h f n first ∙ sym (append-nil (rows f n))
 rows-joined f g h n (suc m) first next =
     let e : n + suc m ≡ (n + m) + 1 = omega arith in
@@ -40,7 +43,8 @@ returns-clause-more c =
     let o = c.args.other.now in
     let n = c.len-start.result in
     let front = c.args.front in
-    rows-copied b.places b.times b.marks o.places o.times o.marks c.copy_from_slice.new.self c.copy_from_slice-2.new.self c.copy_from_slice-3.new.self n (n + front - n) front
+    rows-copied b.places b.times b.marks o.places o.times o.marks c.copy_from_slice.new.self c.copy_from_slice-2.new.self c.copy_from_slice-3.new.self n
+    (n + front - n) front
     (search (rules, arith)) (search (rules, arith)) (search (rules, arith)) (search (rules, arith)) (search (rules, arith)) (search (rules, arith))
     c.copy_from_slice.ensures.after c.copy_from_slice-2.ensures.after c.copy_from_slice-3.ensures.after
     ∙ ap (λ m. rows (event_at b) m ++ rows (event_at o) front) c.len-start.ensures.count

@@ -8,7 +8,9 @@ returns-clause-same c = let b = c.args.self.now in rows-before b.places b.times 
 pub returns-clause-more : goal.returns-clause-more
 returns-clause-more c =
     let b = c.args.self.now in
-    rows-written b.places b.times b.marks c.args.at c.args.place c.args.time c.joined.result c.args.code c.args.dtime (search (rules, arith)) (search (rules, arith)) (search (rules, arith)) c.joined.ensures (search (rules, arith))
+    rows-written b.places b.times b.marks c.args.at c.args.place c.args.time c.joined.result c.args.code c.args.dtime
+    (search (rules, arith)) (search (rules, arith)) (search (rules, arith)) c.joined.ensures (search (rules, arith))
 
 pub invariant_of-self-clause-markers : goal.invariant_of-self-clause-markers
-invariant_of-self-clause-markers c = let b = c.args.self.now in none-push b.marks b.groups b.sorted c.args.at c.joined.result (omega (arith, b.some, c.requires.behind)) b.markers
+invariant_of-self-clause-markers c = let b =
+    c.args.self.now in none-push b.marks b.groups b.sorted c.args.at c.joined.result (omega (arith, b.some, c.requires.behind)) b.markers

@@ -1,15 +1,16 @@
-use Rattle.std.{proofs.Common.{rules, arith, ◌≤◌, ◌≡◌, ◌++◌, refl, sym, ◌∙◌, None, Some, length}, proofs.Math.Logic.{∥∥₁_map, ∥∥₁_elim}, proofs.Props.props, proofs.lemmas.Result.on_ok_weaker, specs.Vec.with_items}
+use Rattle.std.{proofs.Common.{rules, arith, ◌≤◌, ◌≡◌, ◌++◌, sym, ◌∙◌, None, Some, length}, proofs.Math.Logic.{∥∥₁_map, ∥∥₁_elim}, proofs.Props.props, proofs.lemmas.Result.on_ok_weaker, specs.Vec.with_items}
 use Rattle.ptu_definitions.{specs.Words.words_of, proofs.Firsts.record_refusal-inside}
-use Rattle.record_stream.{specs.Standing.{carried_by, refused_with}, proofs.Fours.refused-bytes, proofs.Lasts.streamed-shown}
-use Rattle.tally_base.proofs.Slices.{whole_slice}
-use Rattle.tally_engine.{proofs.Slices.same_map, proofs.Refusals.{where_taken, of_faults, no_write}, proofs.Opens.{kept_within, engine_within}}
+use Rattle.record_stream.{specs.Standing.{carried_by, refused_with}, proofs.Wraps.refused-bytes, proofs.Lasts.streamed-shown}
+use Rattle.tally_base.proofs.Sums.{whole_slice}
+use Rattle.tally_engine.proofs.Feeds.{same_map, where_taken, of_faults, no_write, kept_within, engine_within}
 use Rattle.tally_engine.proofs.engine.Engine.feed.Goals as goal
 
 pub invariant_of-self-2-clause-standing : goal.invariant_of-self-2-clause-standing
 invariant_of-self-2-clause-standing g c = λ none.
     let count : length c.feed_parts.new.parts ≡ length c.args.self.now.parts.items = search rules in
     let all : c.args.self.now.parts.len ≡ length c.args.self.now.parts.items = search rules in
-    rw (whole_slice _ _ _ count all, ← c.mode-mode.ensures) (where_taken c.feed_parts.result _ c.feed_parts.ensures.refused c.feed_parts.ensures.follow none).standing
+    rw (whole_slice _ _ _ count all, ← c.mode-mode.ensures)
+    (where_taken c.feed_parts.result _ c.feed_parts.ensures.refused c.feed_parts.ensures.follow none).standing
 
 pub invariant_of-self-2-clause-streams : goal.invariant_of-self-2-clause-streams
 invariant_of-self-2-clause-streams g c = ∥∥₁_map c.args.self.now.streams (λ w. (w.0 ++ c.args.piece.now, (c.feed_parts.ensures.answers w.0 w.1).taken))
@@ -17,13 +18,15 @@ invariant_of-self-2-clause-streams g c = ∥∥₁_map c.args.self.now.streams (
 pub invariant_of-self-2-clause-inside : goal.invariant_of-self-2-clause-inside
 invariant_of-self-2-clause-inside g c = λ fault is.
     ∥∥₁_elim c.args.self.now.streams (hlevel props)
-    (λ w. record_refusal-inside _ (words_of (w.0 ++ c.args.piece.now)) fault (sym (c.feed_parts.ensures.answers w.0 w.1).answer ∙ sym c.feed_parts.ensures.refused ∙ is))
+    (λ w. record_refusal-inside _ (words_of (w.0 ++ c.args.piece.now)) fault
+    (sym (c.feed_parts.ensures.answers w.0 w.1).answer ∙ sym c.feed_parts.ensures.refused ∙ is))
 
 pub returns-clause-shown : goal.returns-clause-shown
 returns-clause-shown g c = λ bytes h.
     let fed = c.feed_parts.ensures in
     of_faults c.feed_parts.result _ fed.refused
-    (λ fault is shows. shows (no_write fault (record_refusal-inside _ (words_of (bytes ++ c.args.piece.now)) fault (sym (fed.answers bytes h.0).answer ∙ sym fed.refused ∙ is))))
+    (λ fault is shows. shows
+    (no_write fault (record_refusal-inside _ (words_of (bytes ++ c.args.piece.now)) fault (sym (fed.answers bytes h.0).answer ∙ sym fed.refused ∙ is))))
     (fed.answers bytes h.0).shown
 
 pub returns-clause-taken : goal.returns-clause-taken
@@ -49,22 +52,15 @@ returns-in-Some-clause-taken g c = λ bytes h.
 pub returns-in-Some-clause-shown : goal.returns-in-Some-clause-shown
 returns-in-Some-clause-shown g c = λ bytes h.
     let is : refused_with c.args.self.now.stream ≡ Some c.in-Some.refusal = sym c.refusal.ensures ∙ c.in-Some.is in
-    streamed-shown _ (bytes ++ c.args.piece.now) c.in-Some.refusal (refused-bytes _ bytes c.args.piece.now _ ((rw is at h.0) (no_write c.in-Some.refusal (c.args.self.now.inside c.in-Some.refusal is))))
+    streamed-shown _ (bytes ++ c.args.piece.now) c.in-Some.refusal
+    (refused-bytes _ bytes c.args.piece.now _ ((rw is at h.0) (no_write c.in-Some.refusal (c.args.self.now.inside c.in-Some.refusal is))))
 
 pub returns-clause-same : goal.returns-clause-same
-returns-clause-same g c =
-    let tables = c.feed_parts.ensures.stays.tables in
-    let count : length c.feed_parts.new.parts ≡ length c.args.self.now.parts.items = search rules in
-    let all : c.args.self.now.parts.len ≡ length c.args.self.now.parts.items = search rules in
-    record {
-      same_header = refl;
-      same_sorting = refl;
-      same_parts = rw (whole_slice _ _ _ count all) (same_map _ _ _ count (rw c.deref_mut.ensures.value at tables.settings));
-      same_reading = c.feed_parts.ensures.stays.same_how;
-    }
+returns-clause-same g c = search (rules, arith, whole_slice, same_map)
 
 pub returns-clause-within : goal.returns-clause-within
-returns-clause-within g c = let few : length (carried_by c.feed_parts.new.stream) ≤ 48 = search (rules, arith) in kept_within (with_items c.args.self.now.parts c.feed_parts.new.parts).items _ _ _ few (search (rules, arith))
+returns-clause-within g c = let few : length (carried_by c.feed_parts.new.stream) ≤ 48 =
+    search (rules, arith) in kept_within (with_items c.args.self.now.parts c.feed_parts.new.parts).items _ _ _ few (search (rules, arith))
 
 pub returns-in-Some-clause-within : goal.returns-in-Some-clause-within
 returns-in-Some-clause-within g c = engine_within c.args.self.now

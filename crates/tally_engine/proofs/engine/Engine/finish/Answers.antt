@@ -1,8 +1,8 @@
 use Rattle.std.proofs.Common.{rules, ◌≡◌, refl, sym, ◌∙◌, length, None, Some}
-use Rattle.tally_base.proofs.Slices.{whole_slice}
+use Rattle.tally_base.proofs.Sums.{whole_slice}
 use Rattle.record_stream.{specs.Standing.refused_with, proofs.Lasts.streamed-refused}
 use Rattle.plan_parts.{specs.contracts.part.PartTally.TheImpl.ghosts, proofs.Tables.part_worked}
-use Rattle.tally_engine.{proofs.Slices.same_map, proofs.Refusals.no_write}
+use Rattle.tally_engine.proofs.Feeds.{same_map, no_write}
 use Rattle.tally_engine.proofs.engine.Engine.finish.Goals as goal
 
 pub returns-clause-answer : goal.returns-clause-answer
@@ -21,10 +21,12 @@ returns-clause-answer g c = λ bytes h.
     record {
       header_is = refl;
       summary_is = ends.streams;
-      parts_are = rw (mid_is, whole) (same_map ghosts.settings mid now two (λ k d within. (closed k d within).same_settings) ∙ same_map ghosts.settings old mid tables.count tables.settings);
+      parts_are = rw (mid_is, whole) (same_map ghosts.settings mid now two (λ k d within. (closed k d within).same_settings)
+          ∙ same_map ghosts.settings old mid tables.count tables.settings);
       closed = rw (mid_is, whole) (λ k d within. let inside = (rw two at within) in (closed k d inside).now_closed);
       counts = rw (mid_is, whole) (λ k d within. let inside = (rw two at within) in (closed k d inside).keeps _ (ends.follows (h.1 going) k d inside));
-      worked = rw (mid_is, whole) (λ k d within. let inside = (rw two at within) in part_worked _ _ ((closed k d inside).keeps _ (ends.follows (h.1 going) k d inside)));
+      worked = rw (mid_is, whole) (λ k d within. let inside =
+          (rw two at within) in part_worked _ _ ((closed k d inside).keeps _ (ends.follows (h.1 going) k d inside)));
     }
 
 pub returns-in-Some-clause-answer : goal.returns-in-Some-clause-answer
@@ -37,4 +39,5 @@ close_all-requires g c =
     let old = c.args.self.parts.items in
     let tables = rw c.deref_mut.ensures.value at c.finish_parts.ensures.same_tables in
     let all : c.args.self.parts.len ≡ length old = search rules in
-    rw (c.deref_mut-2.ensures.value, whole_slice c.finish_parts.new.parts old c.args.self.parts.len tables.count all) (record { «open» = c.finish_parts.ensures.still_open })
+    rw (c.deref_mut-2.ensures.value, whole_slice c.finish_parts.new.parts old c.args.self.parts.len tables.count all)
+    (record { «open» = c.finish_parts.ensures.still_open })

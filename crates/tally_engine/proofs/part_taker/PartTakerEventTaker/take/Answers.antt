@@ -10,7 +10,8 @@ gather-requires g c =
     let t = c.args.self.now in
     let es = gathered t.block in
     record {
-      may = λ k d within. can_take ghosts t.mode (taken_with t.reached es) (floor_with t.mode t.reached es) es c.args.event.now c.args.late _ (t.waiting k d within) c.requires.room c.requires.in_time c.requires.in_order;
+      may = λ k d within. can_take ghosts t.mode (taken_with t.reached es) (floor_with t.mode t.reached es) es c.args.event.now c.args.late _
+          (t.waiting k d within) c.requires.room c.requires.in_time c.requires.in_order;
       room = c.requires.room;
       idle = t.idle;
       unsorted = t.unsorted;
@@ -31,4 +32,4 @@ invariant_of-self g c =
     }
 
 pub returns-clause-follows : goal.returns-clause-follows
-returns-clause-follows g c = λ start l gave. gave_more ghosts _ _ _ _ _ _ _ _ _ _ _ _ _ _ _ _ l _ _ gave (search rules) c.gather.ensures.moves c.requires.in_order c.gather.ensures.stands.taken c.gather.ensures.stands.floor
+returns-clause-follows g c = search (rules, arith, gave_more)

@@ -1,19 +1,18 @@
 use Rattle.std.{proofs.Common.{rules, arith, ◌≡◌, ◌<◌, length, ◌+◌, ◌≤◌, ℕ, List, [], ◌∷◌, ◌++◌, Bool, false, refl, ap, ◌∙◌, append_assoc, length-append, IsTrue, slice_index_or}, proofs.lemmas.List.map-append, proofs.lemmas.List.Elements.filter-append}
-use Rattle.tally_base.{specs.Columns.gathered, specs.declared.event.Event.Event, specs.declared.header.Mode.Mode, specs.declared.header.Mode.TheVariants.{T2, T3}, specs.declared.tally.Tally.Ghosts, specs.Settings.is_strict, specs.Limits.record_limit, specs.Floors.{floor_after, InOrder}, proofs.Floors.{floor-append, order-append}, proofs.Lower.order-looser}
+use Rattle.tally_base.{specs.Columns.gathered, specs.declared.event.Event.Event, specs.declared.header.Mode.Mode, specs.declared.header.Mode.TheVariants.T2, specs.declared.tally.Tally.Ghosts, specs.Settings.is_strict, specs.Limits.record_limit, specs.Tally.{floor_after, InOrder}, proofs.Floors.{floor-append, order-append, order-looser}}
 use Rattle.gate_plan.{specs.Groups.sorting_of, specs.Shifting.Sorting, proofs.Histories.with_groups-more}
-use Rattle.fed_parts.{specs.Ahead.{taken_with, floor_with}, proofs.Aheads.at_none, specs.Give.Moves, specs.Taker.{Waits, Gave}, specs.Tables.MayTake}
+use Rattle.fed_parts.{specs.Ahead.{taken_with, floor_with, Waits, Gave}, proofs.OneByOne.at_none, specs.Give.{Moves, MayTake}}
 use Rattle.plan_parts.specs.contracts.part.PartTally.TheImpl.{ghosts}
 use Rattle.ptu_definitions.{specs.Kept.Marked, specs.Settled.not_marked}
 use Rattle.abs_time.specs.Floors.{orders_markers}
-use Rattle.record_stream.{specs.Blocks.on_time, proofs.Given.length-on_time, proofs.Eaches.floor_of-block}
+use Rattle.record_stream.{specs.Blocks.on_time, proofs.Steps.length-on_time, proofs.Gathering.floor_of-block}
 use Rattle.tally_engine.proofs.part_taker.PartTakerEventTaker.take_block.Goals as goal
 
 -- a block more for all tables
 
 -- a strict table is of a mode that orders markers
 fewer : (mode : Mode) (strict : Bool) → (mode ≡ T2 → strict ≡ false) → IsTrue strict → IsTrue (orders_markers mode)
-fewer T2 strict loose is = let e = loose refl in cc
-fewer T3 strict loose is = refl
+fewer mode strict loose is = search (rules, arith)
 
 not_marked-on_time : (es : List Event) → not_marked (on_time es) ≡ es
 not_marked-on_time [] = refl
@@ -24,17 +23,14 @@ not_marked-block l es = rw (filter-append, map-append) (ap (λ m. not_marked l +
 
 module _ {T : Type 0} (g : Ghosts T) where
   -- a block that comes in order can be taken behind the events that wait
-  can_block : (mode : Mode) (taken floor : ℕ) (es more : List Event) (t : T) → Waits g mode taken floor es t → taken + length more ≤ record_limit → InOrder (orders_markers mode) floor more → MayTake g (es ++ more) t
-  can_block mode taken floor es more t w room order =
-      let strict = is_strict (g.settings t) in
-      record {
-        open' = w.still_open;
-        room = omega (arith, w.few, room, length-append es more);
-        in_order = order-append strict (g.floor t) es more w.in_order (order-looser (orders_markers mode) strict (floor_after strict (g.floor t) es) floor more (fewer mode strict w.suits) w.before order).0;
-      }
+  can_block : (mode : Mode) (taken floor : ℕ) (es more : List Event) (t : T) → Waits g mode taken floor es t
+      → taken + length more ≤ record_limit → InOrder (orders_markers mode) floor more → MayTake g (es ++ more) t
+  can_block mode taken floor es more t w room order = search (rules, arith, length-append, order-append, order-looser, fewer)
 
-  waits_block : (by : Sorting) (mode : Mode) (taken next floor now : ℕ) (es es' more : List Event) (old new : T) → Waits g mode taken floor es old → Moves g by es es' more old new
-      → InOrder (orders_markers mode) floor more → next ≡ taken + length more → now ≡ floor_after (orders_markers mode) floor more → Waits g mode next now es' new
+  waits_block : (by : Sorting) (mode : Mode) (taken next floor now : ℕ) (es es' more : List Event) (old new : T)
+      → Waits g mode taken floor es old → Moves g by es es' more old new
+      → InOrder (orders_markers mode) floor more → next ≡ taken + length more
+      → now ≡ floor_after (orders_markers mode) floor more → Waits g mode next now es' new
   waits_block by mode taken next floor now es es' more old new w m order counted moves =
       let strict = is_strict (g.settings old) in
       let below = (order-looser (orders_markers mode) strict (floor_after strict (g.floor old) es) floor more (fewer mode strict w.suits) w.before order).1 in
@@ -46,7 +42,8 @@ module _ {T : Type 0} (g : Ghosts T) where
         in_order = rw m.same_settings m.in_order;
       }
 
-  gave_block : (by by' : Sorting) (mode mode' : Mode) (taken taken' next floor floor' now : ℕ) (es0 es es' more : List Event) (first old new : List T) (l : Marked)
+  gave_block : (by by' : Sorting) (mode mode' : Mode) (taken taken' next floor floor' now : ℕ)
+      (es0 es es' more : List Event) (first old new : List T) (l : Marked)
       → Gave g by by' mode mode' taken taken' floor floor' es0 es first old l → length new ≡ length old
       → ((k : ℕ) (d : T) → k < length old → Moves g by' es es' more (slice_index_or old k d) (slice_index_or new k d))
       → InOrder (orders_markers mode') floor' more → next ≡ taken' + length more → now ≡ floor_after (orders_markers mode') floor' more
@@ -58,7 +55,8 @@ module _ {T : Type 0} (g : Ghosts T) where
     moved = is ∙ floor_of-block mode' l more floor floor' (rw gave.same_mode gave.moved) order ∙ rw gave.same_mode refl;
     follows = λ h held. λ k d inside.
         let within : k < length old = omega (arith, same, inside) in
-        rw (not_marked-block l more, with_groups-more by (not_marked l) more, ← append_assoc h) ((rw gave.same_sorting at (moves k d within)).follows _ (gave.follows h held k d within));
+        rw (not_marked-block l more, with_groups-more by (not_marked l) more, ← append_assoc h)
+        ((rw gave.same_sorting at (moves k d within)).follows _ (gave.follows h held k d within));
   }
 
 pub give_behind-requires : goal.give_behind-requires
@@ -66,7 +64,8 @@ give_behind-requires g c =
     let t = c.args.self.now in
     let es = gathered t.block in
     record {
-      may = λ k d within. can_block ghosts t.mode (taken_with t.reached es) (floor_with t.mode t.reached es) es (gathered c.args.block.now) _ (t.waiting k d within) c.requires.room c.requires.in_order;
+      may = λ k d within. can_block ghosts t.mode (taken_with t.reached es) (floor_with t.mode t.reached es) es
+          (gathered c.args.block.now) _ (t.waiting k d within) c.requires.room c.requires.in_order;
       room = c.requires.room;
       idle = t.idle;
       unsorted = t.unsorted;

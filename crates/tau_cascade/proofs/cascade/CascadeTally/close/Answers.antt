@@ -1,6 +1,6 @@
 use Rattle.std.{proofs.Common.{rules, ◌≡◌, length}, proofs.Math.Logic.{∥∥₁_map}}
 use Rattle.tally_base.specs.Settings.{correlation_view}
-use Rattle.tau_cascade.{specs.Correlation.photons_of, proofs.Slices.whole_slice, proofs.Gives.{may_end, end_counts}}
+use Rattle.tau_cascade.{specs.Correlation.photons_of, proofs.Follows.whole_slice, proofs.Blocks.{may_end, end_counts}}
 use Rattle.tau_cascade.proofs.cascade.CascadeTally.close.Goals as goal
 
 pub end_all-requires-clause-stands : goal.end_all-requires-clause-stands

@@ -1,12 +1,13 @@
 use Rattle.std.{proofs.Common.{rules, ◌≡◌, length, ◌++◌}, proofs.Math.Logic.{∥∥₁_map}}
 use Rattle.tally_base.specs.Columns.{events_in}
-use Rattle.tau_cascade.{proofs.Slices.whole_slice, proofs.Blocks.{may_give_block, block_counts}}
+use Rattle.tau_cascade.{proofs.Follows.whole_slice, proofs.Blocks.{may_give_block, block_counts}}
 use Rattle.tau_cascade.proofs.cascade.CascadeTally.events.Goals as goal
 
 pub give_block-requires-clause-stands : goal.give_block-requires-clause-stands
 give_block-requires-clause-stands g c =
     let t = c.args.self.now in
-    rw c.deref_mut.ensures.value (∥∥₁_map t.stands (λ w. (w.0, may_give_block t.closed c.requires.open t.set t.levels.items t.taken t.floor w.0 c.args.block.now w.1 c.requires.room c.requires.in_order)))
+    rw c.deref_mut.ensures.value (∥∥₁_map t.stands
+    (λ w. (w.0, may_give_block t.closed c.requires.open t.set t.levels.items t.taken t.floor w.0 c.args.block.now w.1 c.requires.room c.requires.in_order)))
 
 pub invariant_of-self-clause-stands : goal.invariant_of-self-clause-stands
 invariant_of-self-clause-stands g c =

@@ -1,16 +1,18 @@
 use Rattle.std.{proofs.Common.{◌<◌, ◌≤◌, length, map, arith, rules}, proofs.Props.props, proofs.Math.Logic.{∥∥₁_map, ∥∥₁_elim}, proofs.lemmas.List.{length-map, take-take, drop-take}}
 use Rattle.tally_base.specs.Settings.{correlation_view}
-use Rattle.tau_cascade.{specs.Bins.raised, proofs.Takes.{first_fit, second_fit, parts, may_shut, took}}
+use Rattle.tau_cascade.{specs.Bins.raised, proofs.Follows.{first_fit, second_fit, parts, may_shut, took}}
 use Rattle.tau_cascade.proofs.level.Level.take.Goals as goal
 
 pub lay_out-from-requires : goal.lay_out-from-requires
 lay_out-from-requires g c =
-    let few : length c.args.self.now.ring.entries ≤ c.args.set.now.lags = ∥∥₁_elim c.requires.stands (hlevel props) (λ w. omega (arith, w.3.was.ring.keeps.within, w.3.was.ring.reach)) in
+    let few : length c.args.self.now.ring.entries ≤ c.args.set.now.lags =
+    ∥∥₁_elim c.requires.stands (hlevel props) (λ w. omega (arith, w.3.was.ring.keeps.within, w.3.was.ring.reach)) in
     omega (arith, few, c.requires.room, c.args.set.now.some_lags)
 
 pub merge_onto-merged-requires-clause-room : goal.merge_onto-merged-requires-clause-room
 merge_onto-merged-requires-clause-room g c =
-    let few : length c.args.self.now.ring.entries ≤ c.args.set.now.lags = ∥∥₁_elim c.requires.stands (hlevel props) (λ w. omega (arith, w.3.was.ring.keeps.within, w.3.was.ring.reach)) in
+    let few : length c.args.self.now.ring.entries ≤ c.args.set.now.lags =
+    ∥∥₁_elim c.requires.stands (hlevel props) (λ w. omega (arith, w.3.was.ring.keeps.within, w.3.was.ring.reach)) in
     search (rules, arith)
 
 pub merge_onto-merged-requires-clause-counts : goal.merge_onto-merged-requires-clause-counts

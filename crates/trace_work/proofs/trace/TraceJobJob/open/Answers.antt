@@ -1,10 +1,10 @@
 use Rattle.std.{proofs.Common.{◌∙◌, ◌≡◌, sym, ap, arith, rules, [], Some, Ok, append-nil}, proofs.lemmas.Result.err_from_is_err_and}
 use Rattle.tally_base.{specs.declared.settings.TraceSet.TraceSet, specs.Settings.{trace_view, TraceView}, specs.declared.header.Header.Header, specs.RecordTypes.mode_of}
 use Rattle.plan_text.{specs.Reading.plan_view, specs.Plan.PlanView, specs.Fits.fits}
-use Rattle.gate_plan.{specs.Groups.sorting_of, specs.Shifting.{sorting, Sorting}, specs.Plans.reading_by, proofs.Histories.history-none}
+use Rattle.gate_plan.{specs.Groups.sorting_of, specs.Shifting.{sorting, Sorting}, specs.Histories.reading_by, proofs.Histories.history-none}
 use Rattle.record_stream.specs.Standing.{how_of}
 use Rattle.long_trace.{specs.LongTrace.set_of, specs.Texts.{first_line, open_text}}
-use Rattle.command_work.{proofs.Streams.refused-none, proofs.TellingLaws.{opens-misfit, opens-wrote, opens-cut}}
+use Rattle.command_work.proofs.RestEnds.{refused-none, opens-misfit, opens-wrote, opens-cut}
 use Rattle.ptu_definitions.{specs.Words.words_of, specs.Streams.Reading}
 use Rattle.trace_work.{specs.TracePieces.{traces, traces_by}, specs.TraceOutcomes.{settled_before, words_traced}}
 use Rattle.trace_work.proofs.trace.TraceJobJob.open.Goals as goal

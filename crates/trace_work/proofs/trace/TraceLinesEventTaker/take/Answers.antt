@@ -3,7 +3,8 @@ use Rattle.trace_work.proofs.TraceSteps.{Traced-late, Traced-one, TracedShort-on
 use Rattle.trace_work.proofs.trace.TraceLinesEventTaker.take.Goals as goal
 
 pub returns-then-late-clause-follows : goal.returns-then-late-clause-follows
-returns-then-late-clause-follows g c = λ start l h. rw (c.moved_floor-self.ensures, c.if-late.true) (Traced-late _ _ _ _ _ _ _ _ _ _ _ _ _ _ _ _ l c.args.event.now h)
+returns-then-late-clause-follows g c =
+    λ start l h. rw (c.moved_floor-self.ensures, c.if-late.true) (Traced-late _ _ _ _ _ _ _ _ _ _ _ _ _ _ _ _ l c.args.event.now h)
 
 pub returns-in_err-put-clause-broken : goal.returns-in_err-put-clause-broken
 returns-in_err-put-clause-broken g c =

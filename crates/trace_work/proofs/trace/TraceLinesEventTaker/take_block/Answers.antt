@@ -20,7 +20,8 @@ returns-in_err-put-clause-broken g c =
       back = [];
       some = some;
       are = sym (append-nil es);
-      broken = λ start l h. TracedShort-block _ _ _ _ _ _ _ _ _ _ _ _ _ _ _ _ l _ _ _ es c.take_block.new.lines.items h given (rw c.as_slice.ensures.value at c.in_err-put.ensures.short) c.in_err-put.ensures.empty;
+      broken = λ start l h. TracedShort-block _ _ _ _ _ _ _ _ _ _ _ _ _ _ _ _ l _ _ _ es c.take_block.new.lines.items h given
+          (rw c.as_slice.ensures.value at c.in_err-put.ensures.short) c.in_err-put.ensures.empty;
     })
 
 pub returns-clause-follows : goal.returns-clause-follows

@@ -1,0 +1,117 @@
+-- How printing the header of a file ends.
+use Rattle.std.{proofs.Common.{◌≡◌, ℕ, List, [], ◌++◌, None, Some, refl, sym, ap, Ok, Err, ◌<◌, ◌==◌, Bool, length, map, arith, ◌∙◌, inl, inr, length-append, Result, if◌then◌else◌, rules, ◌≤◌, ◌↔◌, OnOk, OnErr, IfErr, IsErr, ◌∷◌}, specs.declared.option.Option.Option, specs.Io.KnownBytes.Appends, proofs.lemmas.Bool.cases_lt}
+use Rattle.tally_base.{specs.declared.fault.Fault.Fault, specs.declared.header.Header.Header, specs.Faults.fault_in, specs.declared.header.Mode.Mode, specs.declared.fault.Fault.TheVariants.{RecordLimit, WriteFault}, specs.declared.header.RecordType.RecordType, specs.FaultCounts.FailsOnce}
+use Rattle.bench_io.{specs.Sinks.AppendsShort, proofs.Bytes.{Appends-trans, Appends-same, AppendsShort-behind, AppendsShort-more, AppendsShort-same}}
+use Rattle.ptu_definitions.{specs.Headers.{header_answer, Shows, seen}, specs.declared.records.Summary.Summary, specs.Words.{words_of, counted, record_limit}, specs.Kept.{Marked, marked}, specs.Prefixes.each, specs.Settled.{ordered, settles, delivered}, specs.Times.events, specs.Streams.{Reading, given, last_in, streamed}, proofs.DeliveredLaws.delivered_last-0, specs.declared.records.KindCounts.KindCounts, specs.TagList.Item}
+use Rattle.list_out.{specs.HeaderText.header_text, proofs.Final.{header_text-grows, header_text-refused, header_text-done}, specs.Lines.{events_text, lines_of}}
+use Rattle.file_work.{specs.FileOutcomes.{header_outcome, counts_text, with_counts, count_outcome}, specs.BodyPieces.{AppendsHeader, CutsHeader}, specs.EventLines.lists, specs.CountPieces.{counts, CountsBytes}, specs.CountLaws.counts-clear}
+use Rattle.command_work.specs.Tellings.{WritesEnd, WritesPiece}
+use Rattle.record_stream.{specs.declared.taker.EventTaker.Ghosts, specs.Ending.Ended}
+use Rattle.told_text.proofs.Texts.{WroteText-none}
+use Rattle.record_layout.{specs.declared.counter.Counter.Counter, specs.Counting.HasCounted}
+
+outcome-at : (file text : List ℕ) (fault : Option Fault) → header_text file ≡ text
+    → fault_in (header_answer file) ≡ fault → header_outcome file ≡ record { text = text; fault = fault }
+outcome-at file text fault t f = rw (t, f) refl
+
+-- the text so far and that of a piece
+pub text-appended : (bytes piece : List ℕ) (a b c : Option (List ℕ)) → Appends a b (header_text bytes)
+    → AppendsHeader bytes piece b c → Appends a c (header_text (bytes ++ piece))
+text-appended bytes piece a b c p q = Appends-same a c _ _ (sym q.text) (Appends-trans a b c (header_text bytes) q.added p q.written)
+
+pub text-cut : (bytes piece more : List ℕ) (a b c : Option (List ℕ)) → Appends a b (header_text bytes)
+    → CutsHeader bytes piece b c [] → AppendsShort a c (header_text ((bytes ++ piece) ++ more))
+text-cut bytes piece more a b c p q =
+    let behind = header_text-grows (bytes ++ piece) more in
+    AppendsShort-same a c _ _ (sym behind.1) (AppendsShort-more a c (header_text (bytes ++ piece)) behind.0
+    (AppendsShort-same a c _ _ (sym q.text) (AppendsShort-behind a b c (header_text bytes) q.added p q.cut)))
+
+pub outcome-done : (bytes more behind : List ℕ) (header : Header) → ((more : List ℕ) → header_answer (bytes ++ more) ≡ Ok (header, behind ++ more))
+    → header_outcome (bytes ++ more) ≡ record { text = header_text bytes; fault = None }
+outcome-done bytes more behind header h =
+    outcome-at (bytes ++ more) (header_text bytes) None (header_text-done bytes more header behind h) (ap fault_in (h more))
+
+pub outcome-refused : (bytes more : List ℕ) (fault : Fault) → Shows header_answer bytes (Err fault)
+    → header_outcome (bytes ++ more) ≡ record { text = header_text bytes; fault = Some fault }
+outcome-refused bytes more fault h = outcome-at (bytes ++ more) (header_text bytes) (Some fault) (header_text-refused bytes more fault h) (ap fault_in (h more))
+
+-- a header that the file ends in
+pub outcome-ended : (bytes : List ℕ) (fault : Fault) → header_answer bytes ≡ Err fault
+    → header_outcome bytes ≡ record { text = header_text bytes; fault = Some fault }
+outcome-ended bytes fault h = outcome-at bytes (header_text bytes) (Some fault) refl (ap fault_in h)
+
+-- The end of a stream that keeps nothing back.
+
+last-none : (how : Reading) (words : List ℕ) → how.policy.settle ≡ 0 → last_in how words ≡ []
+last-none how words zero = rw zero (delivered_last-0 how.mode (events (map how.meaning words)))
+
+none-broken : (front back : Marked) → 0 < length front → [] ≡ front ++ back → ⊥
+none-broken front back some adds = omega (arith, some, ap length adds, length-append front back)
+
+pub ended-plain : {T : Type 0} (g : Ghosts T) (how : Reading) (old new : T) (bytes : List ℕ) (r : Result Summary Fault)
+    → how.policy.settle ≡ 0 → Ended g how old new bytes r → r ≡ streamed how bytes
+ended-plain g how old new bytes (Ok summary) zero e = sym e.streams
+ended-plain g how old new bytes (Err fault) zero (inl e) = sym e.0
+ended-plain g how old new bytes (Err fault) zero (inr e) =
+    absurd (none-broken e.1.front e.1.back e.1.some (sym (last-none how (words_of bytes) zero) ∙ e.1.adds))
+
+-- its answer, where no line is left to write
+pub ends-listed : (how : Reading) (bytes : List ℕ) (a : Option (List ℕ)) (faults : ℕ) (r : Result Summary Fault) (done : Result (Unit {0}) Fault) → r ≡ streamed how bytes → fault_in done ≡ fault_in r → WritesEnd (lists how) bytes a a faults faults done
+ends-listed how bytes a faults r done is same = search (rules, arith)
+
+-- ## No bytes
+
+none-delivered : (zero : Bool) (k : ℕ) (mode : Mode) → (if zero then marked mode [] else each (settles k) (ordered mode [])) ≡ []
+unfolding marked
+none-delivered zero k mode = search (rules, arith)
+
+pub lines_of-none : (how : Reading) → lines_of how [] ≡ []
+unfolding given events delivered
+lines_of-none how = ap events_text (none-delivered (how.policy.settle == 0) how.policy.settle how.mode)
+
+-- Counting a piece, and the end of the counts.
+
+-- records that were not refused aren't too many
+within_limit : (bytes : List ℕ) → (IsErr {T = Unit {0}} {E = Fault} (Ok tt) ↔ (record_limit < length (words_of bytes))) → length (words_of bytes) ≤ record_limit
+within_limit bytes limit = elim (cases_lt record_limit (length (words_of bytes))) [ inr within ↦ within | inl many ↦ let bad = limit.1 many in cc ]
+
+pub writes-piece : (header : Header) (bytes piece : List ℕ) (a : Option (List ℕ)) (faults : ℕ) (r : Result (Unit {0}) Fault) → (IsErr r ↔ (record_limit < length (words_of (bytes ++ piece)))) → IfErr r (λ fault. fault ≡ RecordLimit record_limit) → WritesPiece (counts header) bytes piece a a faults faults r
+writes-piece header bytes piece a faults (Ok done) limit fault =
+    (counts-clear (bytes ++ piece) (within_limit (bytes ++ piece) limit), WroteText-none [] a faults)
+writes-piece header bytes piece a faults (Err own) limit fault = search (rules, arith)
+
+pub takes-piece : (old new : Counter) (record_type : RecordType) (piece : List ℕ) (r : Result (Unit {0}) Fault) → ((record_type : RecordType) (bytes : List ℕ) → HasCounted old record_type bytes → HasCounted new record_type (bytes ++ piece))
+    → ((record_type : RecordType) (bytes : List ℕ) → HasCounted old record_type bytes → (IsErr r ↔ (record_limit < length (words_of (bytes ++ piece))))) → OnOk r ((bytes : List ℕ) → CountsBytes old record_type bytes → CountsBytes new record_type (bytes ++ piece))
+takes-piece old new record_type piece r taken limit = search (rules, arith, within_limit)
+
+-- ## The end
+
+module _ (header : Header) (bytes : List ℕ) where
+  ends-is : (r : Result KindCounts Fault) → r ≡ counted header.record_type bytes → (counts header).ends bytes ≡ count_outcome (with_counts header r)
+  ends-is r is = ap (λ c. count_outcome (with_counts header c)) (sym is)
+
+  pub ends-refused : (fault : Fault) (a : Option (List ℕ)) (faults : ℕ)
+      → Err fault ≡ counted header.record_type bytes → WritesEnd (counts header) bytes a a faults faults (Err fault)
+  ends-refused fault a faults is = rw (ends-is (Err fault) is) (inl (refl, WroteText-none [] a faults))
+
+  pub ends-written : (kinds : KindCounts) (r : Result (Unit {0}) Fault) (old new : Option (List ℕ)) (before after : ℕ) → Ok kinds ≡ counted header.record_type bytes → OnOk r (Appends old new (counts_text header kinds)) → OnErr r (AppendsShort old new (counts_text header kinds)) → IfErr r (λ fault. fault ≡ WriteFault)
+      → FailsOnce before after r → WritesEnd (counts header) bytes old new before after r
+  ends-written kinds r old new before after is text short write cause = search (rules, arith, ends-is)
+
+-- What a printer stands for.
+
+-- no list that ends in an item is empty
+pub no_items : {A : Type 0} (items : List Item) (item : Item) → items ++ item ∷ [] ≡ [] → A
+no_items [] item e = cc
+no_items (x ∷ xs) item e = cc
+
+pub seen-nil : seen [] ≡ []
+unfolding seen
+seen-nil = refl
+
+-- the last item of a list
+pub last_item : (xs ys : List Item) (x y : Item) → xs ++ x ∷ [] ≡ ys ++ y ∷ [] → x ≡ y
+last_item [] [] x y e = cc
+last_item [] (b ∷ ys) x y e = no_items ys y (let tail : [] ≡ ys ++ y ∷ [] = cc in sym tail)
+last_item (a ∷ xs) [] x y e = no_items xs x (let tail : xs ++ x ∷ [] ≡ [] = cc in tail)
+last_item (a ∷ xs) (b ∷ ys) x y e = last_item xs ys x y (let tail : xs ++ x ∷ [] ≡ ys ++ y ∷ [] = cc in tail)

@@ -1,1 +1,0 @@
--- The shifts of inputs, one after the other.

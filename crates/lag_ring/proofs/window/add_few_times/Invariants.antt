@@ -1,8 +1,0 @@
-use Rattle.std.proofs.Common.{◌≡◌, ℕ, ◌+◌, ◌*◌, ◌<◌, ◌≤◌, get_or}
-use Rattle.lag_ring.proofs.window.add_few_times.Given as goal
-
-abbrev pub invariant-loop-q : goal.invariant-loop-q
-invariant-loop-q l = record {
-  done : (p : ℕ) → p < l.q → get_or l.sums p 0 ≡ get_or l.fn.sums p 0 + get_or l.part p 0 * l.times;
-  left : (p : ℕ) → l.q ≤ p → get_or l.sums p 0 ≡ get_or l.fn.sums p 0;
-}
