@@ -10,9 +10,9 @@ with_groups-more by es more = search (rules, arith, map-append)
 pub with_groups-push : (by : Sorting) (es : List Event) (e : Event) → with_groups by (es ++ e ∷ []) ≡ with_groups by es ++ (shifted by e, groups_in by e) ∷ []
 with_groups-push by es e = with_groups-more by es (e ∷ [])
 
-kept-none : (zero : Bool) (k : ℕ) (mode : Mode) → (if zero then kept mode [] else in_time k (ordered mode [])) ≡ []
+kept-none : (none_settled : Bool) (k : ℕ) (mode : Mode) → (if none_settled then kept mode [] else in_time k (ordered mode [])) ≡ []
 unfolding kept marked in_time not_overtaken
-kept-none zero k mode = search (rules, arith)
+kept-none none_settled k mode = search (rules, arith)
 
 pub history-none : (by : Sorting) (how : Reading) → settled_history by how [] ≡ []
 unfolding settled_history events

@@ -51,7 +51,7 @@ pub one-before : (f : ℕ → Event) (n : ℕ) (e : Event) (behind now all : Lis
     → now ≡ event_text e false ++ behind → lines (rows f n) ++ behind ≡ all → lines (rows f (n - 1)) ++ now ≡ all
 one-before f n e behind now all some is written whole = search (rules, arith, lines, append_assoc, rows-last, lines-push)
 
-pub rows :
+pub known_lines :
     -- the header of a file with two tags
     (header_text short_header ≡ start_text ++ type_text ++ end_text)
     -- The second tag is cut, and it prints as nothing.
@@ -117,7 +117,7 @@ pub rows :
     codes "1 photon 0 9 0\n2 marker 1 7 late\n")
 unfolding header_text shown_text preamble_text seen seen_from seen_preamble item_text head_text
     body_text kind_with name_in index_in code_in value_in has_body is_known hexadecimal digits event_text
-rows = (
+known_lines = (
   refl,
   refl,
   refl,

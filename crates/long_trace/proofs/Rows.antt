@@ -14,7 +14,7 @@ set = record { group = 1; origin = 10; width = 5; bins = 1 }
 abbrev rows : History
 rows = photon 5 ∷ photon 10 ∷ photon 14 ∷ photon 15 ∷ photon 1000 ∷ []
 
-pub rows :
+pub known_traces :
     -- What is written while photons may come has no line of the last bin.
     (open_text set rows ≡ codes "trace 1 origin 10 width 5\n0 2\n1 1\n")
     × (span set rows ≡ 199)
@@ -25,4 +25,4 @@ pub rows :
     × (whole_text set (photon 9 ∷ (record { place = 2; kind = Photon 1 0; time = 10 }, 2) ∷ (record { place = 3; kind = Marker 1; time = 11 }, 1) ∷ []) ≡
     codes "trace 1 origin 10 width 5\nbefore 1\nabove 0\n")
 unfolding digits frequencies_text
-rows = (refl, refl, refl, refl, refl)
+known_traces = (refl, refl, refl, refl, refl)

@@ -4,7 +4,8 @@ ghost use Rattle.arrayvec.specs.ArrayVec.{array_vec_len};
 ghost use Rattle.ptu_definitions.{specs.Endings.IsOtherFile, specs.TagList.{code_in, body_size}, specs.Headers.header_answer};
 ghost use Rattle.ptu_tag.specs.Kinds.{IsHead, code_of};
 ghost use Rattle.tally_base.specs.Faults.{is_outside};
-ghost use Rattle.ptu_header.{specs.declared.reader.Phase.TheVariants as Phase, specs.Phases.{phase_after, outside_at}};
+ghost use Rattle.ptu_header.specs.declared.reader.Phase.TheVariants as Phase;
+ghost use Rattle.ptu_header.specs.Phases.{phase_after, outside_at};
 
 use crate::fields::{header, with};
 use crate::fill::{eight, fill, same};

@@ -19,23 +19,23 @@ once_before es i k n rising =
     let one = count-between es (n - k) (n - k + 1) rising in
     search (rules, arith, between, sum_by-le-sum_by)
 
--- e is the entry at place i
+-- the entry at place i
 module _ (es : List Entry) (i : ℕ) (none : Entry) (inside : i < length es) where
-  abbrev e : Entry
-  e = get_or es i none
+  abbrev entry : Entry
+  entry = get_or es i none
 
-  pub weight_more : (k n : ℕ) → weight_before k n (take (i + 1) es) ≡ weight_before k n (take i es) + cond (eqb (e.index + k) n) e.a 0
+  pub weight_more : (k n : ℕ) → weight_before k n (take (i + 1) es) ≡ weight_before k n (take i es) + cond (eqb (entry.index + k) n) entry.a 0
   weight_more k n = sum_by_more (λ f. cond (eqb (f.index + k) n) f.a 0) es i none inside
 
-  pub weight_part : (k n : ℕ) → weight_before k n (take i es) + cond (eqb (e.index + k) n) e.a 0 ≤ weight_before k n es
+  pub weight_part : (k n : ℕ) → weight_before k n (take i es) + cond (eqb (entry.index + k) n) entry.a 0 ≤ weight_before k n es
   weight_part k n = sum_by_more_le (λ f. cond (eqb (f.index + k) n) f.a 0) es i none inside
 
   pub lags_more : (skipped lags n : ℕ) → entries_at_lags skipped lags n (take (i + 1) es) ≡ entries_at_lags skipped lags n
-      (take i es) + cond (ltb skipped (n - e.index) && leb (n - e.index) lags) 1 0
+      (take i es) + cond (ltb skipped (n - entry.index) && leb (n - entry.index) lags) 1 0
   lags_more skipped lags n = sum_by_more (λ f. cond (at_lags skipped lags n f) 1 0) es i none inside
 
   pub once_more : (k n : ℕ) → AllByRecursion (λ f. f.index < n) es
-      → entries_before k n (take i es) + cond (eqb k (n - e.index)) 1 0 ≡ entries_before k n (take (i + 1) es)
+      → entries_before k n (take i es) + cond (eqb k (n - entry.index)) 1 0 ≡ entries_before k n (take (i + 1) es)
   once_more k n below =
       let before = All-from_recursion (λ f. f.index < n) es below i none inside in
       search (rules, arith, sum_by_more)
@@ -44,23 +44,23 @@ module _ (es : List Entry) (i : ℕ) (none : Entry) (inside : i < length es) whe
   pub pairs_fit : (old cells : List ℕ) (skipped lags n w most : ℕ) → AllByRecursion (λ f. f.index < n) es
       → ((p : ℕ) → p < lags - skipped → get_or cells p 0 ≡ get_or old p 0 + weight_before (p + skipped + 1) n (take i es) * w)
       → ((p : ℕ) → p < lags - skipped → get_or old p 0 + weight_before (p + skipped + 1) n es * w ≤ most)
-      → skipped < n - e.index → n - e.index ≤ lags → get_or cells (n - e.index - skipped - 1) 0 + e.a * w ≤ most
+      → skipped < n - entry.index → n - entry.index ≤ lags → get_or cells (n - entry.index - skipped - 1) 0 + entry.a * w ≤ most
   pairs_fit old cells skipped lags n w most below so_far fits above within =
-      let p : ℕ = n - e.index - skipped - 1 in
+      let p : ℕ = n - entry.index - skipped - 1 in
       let at_level : p < lags - skipped = omega arith in
-      let at_n : eqb (e.index + (p + skipped + 1)) n ≡ true = grind arith in
-      let part : weight_before (p + skipped + 1) n (take i es) + e.a ≤ weight_before (p + skipped + 1) n es = (rw at_n at (weight_part (p + skipped + 1) n)) in
-      rw (so_far p at_level) (bounded _ _ _ e.a w most part (fits p at_level))
+      let at_n : eqb (entry.index + (p + skipped + 1)) n ≡ true = grind arith in
+      let part : weight_before (p + skipped + 1) n (take i es) + entry.a ≤ weight_before (p + skipped + 1) n es = (rw at_n at (weight_part (p + skipped + 1) n)) in
+      rw (so_far p at_level) (bounded _ _ _ entry.a w most part (fits p at_level))
 
   -- the cells after the entry's pairs
   pub cells_more : (old cells new : List ℕ) (skipped lags n w : ℕ) → AllByRecursion (λ f. f.index < n) es
       → ((p : ℕ) → p < lags - skipped → get_or cells p 0 ≡ get_or old p 0 + weight_before (p + skipped + 1) n (take i es) * w)
-      → ((p : ℕ) → p < lags - skipped → get_or new p 0 ≡ get_or cells p 0 + cond (eqb (p + skipped + 1) (n - e.index)) (e.a * w) 0)
+      → ((p : ℕ) → p < lags - skipped → get_or new p 0 ≡ get_or cells p 0 + cond (eqb (p + skipped + 1) (n - entry.index)) (entry.a * w) 0)
       → (p : ℕ) → p < lags - skipped → get_or new p 0 ≡ get_or old p 0 + weight_before (p + skipped + 1) n (take (i + 1) es) * w
   cells_more old cells new skipped lags n w below so_far step p at_level =
-      let same : eqb (p + skipped + 1) (n - e.index) ≡ eqb (e.index + (p + skipped + 1)) n = grind (arith, common_steps) in
+      let same : eqb (p + skipped + 1) (n - entry.index) ≡ eqb (entry.index + (p + skipped + 1)) n = grind (arith, common_steps) in
       rw (step p at_level, so_far p at_level, weight_more (p + skipped + 1) n, same)
-      (elim (eqb (e.index + (p + skipped + 1)) n) as (λ b. get_or old p 0 + weight_before (p + skipped + 1) n (take i es) * w + cond b (e.a * w) 0 ≡ get_or old p 0 + (weight_before (p + skipped + 1) n (take i es) + cond b e.a 0) * w) [ true ↦ omega arith | false ↦ omega arith ])
+      (elim (eqb (entry.index + (p + skipped + 1)) n) as (λ b. get_or old p 0 + weight_before (p + skipped + 1) n (take i es) * w + cond b (entry.a * w) 0 ≡ get_or old p 0 + (weight_before (p + skipped + 1) n (take i es) + cond b entry.a 0) * w) [ true ↦ omega arith | false ↦ omega arith ])
 
 pub rising_drop : (es : List Entry) (i : ℕ) → IsRising es → IsRising (drop i es)
 rising_drop es zero rising = rising
