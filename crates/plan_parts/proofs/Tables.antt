@@ -2,7 +2,7 @@
 use Rattle.std.{proofs.Common.{◌≡◌, ◌≤◌, List, [], ◌∷◌, length, arith, sum_by}, proofs.lemmas.List.Sums.sum_by-cons}
 use Rattle.tally_base.{specs.Settings.{entries, is_strict}, specs.Tally.{History, greatest_time}}
 use Rattle.tau_cascade.proofs.Work.{work_within}
-use Rattle.plan_parts.{specs.declared.part.Part.Part, specs.declared.part.Part.TheVariants.Correlation as InCorrelation, specs.contracts.part.PartTally.TheImpl.ghosts, specs.Parts.{laws_of, settings_in, entries_in, IsWithinWork}}
+use Rattle.plan_parts.{specs.declared.part.Part.Part, specs.declared.part.Part.TheVariants.Correlation as InCorrelation, specs.contracts.part.PartTally.TheImpl.ghosts, specs.Part.laws_of, specs.Parts.{settings_in, entries_in, IsWithinWork}}
 
 pub part_taken : (p : Part) (h : History) → ghosts.holds p h → ghosts.taken p ≡ length h
 part_taken p = (laws_of p).taken_is

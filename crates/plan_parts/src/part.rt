@@ -50,7 +50,7 @@ macro_rules! in_part {
 
 impl Tally for Part {
     ghost use Rattle.std.specs.Prelude.{◌≡◌};
-    ghost use Rattle.plan_parts.specs.Parts.{by_kind, laws_of};
+    ghost use Rattle.plan_parts.specs.Part.{by_kind, laws_of};
 
     ghost holds = { by_kind (λ T g t. g.holds t) };
 
