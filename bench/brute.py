@@ -737,7 +737,7 @@ def pick(plan, group, data, out):
     taken = []
 
     def write(photons):
-        out.append(short_file(0x01010204 if mode == 2 else 0x01010304, picked_words(photons, mode)).decode("latin-1"))
+        out.append(minimal_file(0x01010204 if mode == 2 else 0x01010304, picked_words(photons, mode)).decode("latin-1"))
 
     def chosen(events):
         """The photons of the group before the first that is too late to be written, and that one, if there is one."""
@@ -761,7 +761,7 @@ def pick(plan, group, data, out):
     write_chosen(in_place(plan, taken, mode))
 
 
-def short_file(code, words, more=b""):
+def minimal_file(code, words, more=b""):
     """A file of a record type and these words, with other tags before the last."""
     tag = struct.pack("<32siIq", b"TTResultFormat_TTTRRecType", -1, 0x10000008, code)
     end = struct.pack("<32siIq", b"Header_End", -1, 0xFFFF0008, 0)
@@ -777,7 +777,7 @@ def demo(seed, number, out):
             words.append(0xFE000001)
         time += gap
         words.append(channel * 2**25 + time % 2**25)
-    run(DEMO_PLAN, short_file(0x01010204, words), out)
+    run(DEMO_PLAN, minimal_file(0x01010204, words), out)
 
 
 # The program.

@@ -192,15 +192,15 @@ def a_file(rng, code):
     words = some_words(rng, code)
     more = b"".join(a_known_tag(rng) for _ in range(rng.randrange(3))) if rng.randrange(3) == 0 else b""
     left = rng.randbytes(rng.randrange(4)) if rng.randrange(12) == 0 else b""
-    return brute.short_file(code, words, more) + left
+    return brute.minimal_file(code, words, more) + left
 
 
 def a_long_file(rng, code):
     """Thousands of words: so many of the greatest wrap that they pass the greatest time, or end just before."""
     if rng.randrange(2):
         words = [0xFFFFFFFF] * rng.randrange(4094, 4099) + [rng.randrange(2**32) for _ in range(rng.randrange(3))]
-        return brute.short_file(rng.choice([0x01010204, 0x00010205, 0x00010207]), words)
-    return brute.short_file(code, [word for _ in range(40) for word in some_words(rng, code)])
+        return brute.minimal_file(rng.choice([0x01010204, 0x00010205, 0x00010207]), words)
+    return brute.minimal_file(code, [word for _ in range(40) for word in some_words(rng, code)])
 
 
 # Plans. A value of a plan is an integer, a text, a truth value, a list, a dict, or raw TOML.
@@ -563,7 +563,7 @@ def name_case(rng):
     if by_a_plan[0] == b"pick":
         by_a_plan.insert(2, b"1")
     case = Case(by_a_plan if rng.randrange(2) else [rng.choice([b"count", b"header", b"events"]), name()])
-    case.plan, case.data = b"version = 1\n", brute.short_file(0x01010304, [1, 2])
+    case.plan, case.data = b"version = 1\n", brute.minimal_file(0x01010304, [1, 2])
     return case
 
 

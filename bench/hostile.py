@@ -259,7 +259,7 @@ LAGS = {"first": 1, "second": 2, "lags": 128, "levels": 40}
 def too_little_memory():
     """A plan of 788 MB: 13 coincidences of the greatest reach, and 3 traces of the most bins."""
     plan = write("large.toml", plan_of(["[0, 1]", "[1, 2]"], coincidence=(13, REACH), trace=(3, TRACE)))
-    data = write("pairs.ptu", brute.short_file(0x01010204, [time << 3 | (time % 3) << 25 for time in range(60)]))
+    data = write("pairs.ptu", brute.minimal_file(0x01010204, [time << 3 | (time % 3) << 25 for time in range(60)]))
     for most in (100, 400, 740):
         yield ptu("run", plan, data, limits={resource.RLIMIT_AS: most * MEBIBYTE}), line(5, "out of memory")
     yield ptu("run", plan, data, limits={resource.RLIMIT_AS: 780 * MEBIBYTE}), as_brute("run", plan, data)
@@ -271,14 +271,14 @@ def too_little_memory():
 def the_greatest_plans():
     """Each mode's plan of the most tables, each of the greatest settings, in each of which something is counted."""
     spread = [time << 12 | (time % 3) << 25 for time in range(0, 2000, 41)] + [0xFE000001, 5, 1 << 25 | 7]
-    data = write("spread_t2.ptu", brute.short_file(0x01010204, spread))
+    data = write("spread_t2.ptu", brute.minimal_file(0x01010204, spread))
     bins = {"width": 5, "bins": 32768}
     plan = write("greatest_t2.toml", plan_of(["[0, 1]", "[1, 2]"], trace=(32, TRACE), startstop=(16, {"start": 1, "stop": 2} | bins),
                                              coincidence=(16, REACH), correlation=(16, LAGS)))
     yield ptu("run", plan, data), as_brute("run", plan, data)
     image = {"group": 1, "width": 2048, "height": 2048, "dwell": 3, "line": 1}
     words = [word for n in range(120) for word in (0x82000000 | n, 0xFE000001, n << 12 | n, 2 << 25 | n << 10 | (7 * n) % 1000 + n)]
-    data = write("spread_t3.ptu", brute.short_file(0x01010304, words))
+    data = write("spread_t3.ptu", brute.minimal_file(0x01010304, words))
     plan = write("greatest_t3.toml", plan_of(["[0, 1]", "[1, 2]"], histogram=(32, {"group": 1} | bins), trace=(32, TRACE),
                                              image=(8, image), correlation=(16, LAGS)))
     yield ptu("run", plan, data), as_brute("run", plan, data)
@@ -382,7 +382,7 @@ def signals():
 @use
 def a_file_that_grows():
     """It is read to the end that it has when the end is reached. What is appended meanwhile may be seen in part."""
-    front = brute.short_file(0x01010304, [])
+    front = brute.minimal_file(0x01010304, [])
     grown = write("grows.ptu", front + bytes(4 * 2_000_000))
     running = subprocess.Popen([PROGRAM, "count", grown], stdout=subprocess.PIPE, stderr=subprocess.PIPE)
     with open(grown, "ab", buffering=0) as file:
@@ -403,7 +403,7 @@ def a_file_that_grows():
 @use
 def a_sparse_file_of_3_gb():
     """Its zeros are photons of input 0 at time 0."""
-    front = brute.short_file(0x01010304, [])
+    front = brute.minimal_file(0x01010304, [])
     sparse = write("sparse.ptu", front)
     os.truncate(sparse, 3 << 30)
     records = ((3 << 30) - len(front)) // 4

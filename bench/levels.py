@@ -7,9 +7,9 @@ prints, for each photon of the two inputs,
 - the closings: how often the bin of a level was closed, once for each occupied bin;
 - the pairs of bins: of a closing bin with photons of the second input and an occupied bin at a lag of its level;
 - the additions, which are the steps that the contracts count (`spent`): ptu adds each pair of bins to its cell
-  where bins are far apart, and where some are near the pairs of all bins at one lag together, once for each lag.
-  They are counted here by going through the file as the program does, by pieces of 8,192 bytes and blocks of 64
-  records;
+  where bins are far apart, and where some are near the pairs of a part of a list at one lag together, once for each
+  lag. They are counted here by going through the file as the program does: by pieces of 8,192 bytes, blocks of 64
+  records, and blocks of up to 512 events that its tables are given;
 - the bound on additions, `work`: lags times the occupied bins of level 0, and half of that for each level above;
 - the processor seconds of 'PROGRAM run', the best of five.
 
@@ -23,6 +23,11 @@ import sys
 import tempfile
 
 import numpy
+
+# As in the program: how many events a block of the tables has, how many lags a window of bins that are laid close
+# serves, how many bins are paired over one, how many indices those of a dense window span, and how many photons of the
+# second input they have.
+TABLE_BLOCK, CLOSE_LAGS, CLOSE_PART, ROOM, MOST_SPOTS = 512, 16, 64, 832, 1024
 
 PLAN = """[[group]]
 inputs = [1]
@@ -58,26 +63,53 @@ def level_counts(times, second, level, lags):
     return len(bins), int(near[asks].sum())
 
 
+def events_of(words, clock):
+    """The events of some records: each is a time, its input 1 or 2 or else 0, and whether it is a photon."""
+    events = []
+    for word in words.tolist():
+        field, channel, special = word & 0x1FFFFFF, word >> 25 & 63, word >> 31
+        if special and channel == 63:
+            clock["wraps"] += max(field, 1)
+        elif not special or channel < 16:  # the others are reserved
+            time = (clock["wraps"] << 25) + field
+            events.append((time, channel + 1 if not special and channel < 2 else 0, not special or channel == 0))
+    return events
+
+
 def blocks_of(path):
-    """The photons of each block of records, as bins of one: time, in input 1, in input 2."""
+    """The events of each block that the tables are given: the time of each, and its input 1 or 2 or else 0.
+
+    A block takes the events of as many blocks of 64 records as fit, and ends with a piece of the file.
+    """
     data = open(path, "rb").read()
     place = data[: 2**16].find(b"Header_End\0") + 48
-    wraps = 0
+    clock = {"wraps": 0}
+    greatest = 0
     while place < len(data):
         piece = min((place // 8192 + 1) * 8192, len(data))
+        gathered = []
         while place < piece:
             end = min(place + 256, piece)
-            block = []
-            for word in numpy.frombuffer(data[place:end], "<u4").tolist():
-                if word >> 31:
-                    if word >> 25 & 63 == 63:
-                        wraps += max(word & 0x1FFFFFF, 1)
-                elif word >> 25 < 2:
-                    second = word >> 25
-                    block.append(((wraps << 25) + (word & 0x1FFFFFF), 1 - second, second))
+            came = events_of(numpy.frombuffer(data[place : end - (end - place) % 4], "<u4"), clock)
             place = end
-            if block:
-                yield block
+            kept = []
+            for time, group, photon in came:
+                if not photon or time >= greatest:
+                    kept.append((time, group))
+                    greatest = max(greatest, time) if photon else greatest
+            # Where one is late, those of its records come one by one.
+            for some in [kept] if len(kept) == len(came) else [[event] for event in kept]:
+                if len(gathered) + len(some) > TABLE_BLOCK:
+                    yield gathered
+                    gathered = []
+                gathered = gathered + some
+        if gathered:
+            yield gathered
+
+
+def bins_of(block):
+    """The photons of the two inputs in a block, each as a bin of one."""
+    return [(time, int(group == 1), int(group == 2)) for time, group in block if group]
 
 
 def near_from(bins, at, lags):
@@ -98,37 +130,56 @@ def each(bins, start, skipped, lags):
     )
 
 
-def is_close(bins, lags):
-    """Whether bins are laid close together in one window: few lags, some bins near, and none of many photons."""
-    if lags > 16 or len(bins) > 80:
+def near_count(bins, start, lags):
+    """How many bins from a place on have one no more than the lags before them."""
+    return sum(bins[at][0] - bins[at - 1][0] <= lags for at in range(max(start, 1), len(bins)))
+
+
+def is_light(bins):
+    """Whether no bin has many photons of a group."""
+    return all(first < 256 and second < 256 for _, first, second in bins)
+
+
+def is_dense(bins, start, skipped, lags):
+    """Whether bins of many lags are dense enough to be paired over windows that have a place for each index."""
+    count = len(bins) - start
+    if lags <= CLOSE_LAGS or count < 4:
         return False
-    near = bins[0][0] <= lags or any(bins[at][0] - bins[at - 1][0] <= lags for at in range(1, len(bins)))
-    return near and all(first < 256 and second < 256 for _, first, second in bins)
+    if lags - skipped <= CLOSE_LAGS:
+        return near_count(bins, start, lags) > count // 4
+    return count * len(bins) * (lags - skipped) >= (bins[-1][0] - bins[0][0] + 1) * 192
+
+
+def part_end(bins, at, lags, dense):
+    """The place behind the bins from a place on that are paired together."""
+    if not dense:
+        return min(at + CLOSE_PART, len(bins)) if lags <= CLOSE_LAGS else len(bins)
+    end = at + 1
+    while end < len(bins) and bins[end][0] - bins[at][0] <= ROOM:
+        end += 1
+    return end
+
+
+def part_additions(bins, start, skipped, lags, dense):
+    """The additions that pair the bins of a part from a place on with those before them."""
+    if near_count(bins, 0, lags) == 0:
+        return 0
+    if dense:
+        few = sum(second for _, _, second in bins[start:]) <= MOST_SPOTS
+        together = len(bins) - start > 1 and lags <= 128 and few and is_light(bins)
+    else:
+        together = lags <= CLOSE_LAGS and is_light(bins)
+    return lags - skipped if together else each(bins, start, skipped, lags)
 
 
 def paired(bins, start, skipped, lags):
-    """The additions that pair the bins from a place on with those before them."""
-    count = len(bins) - start
-    if is_close(bins, lags):
-        return lags - skipped
-    if count < 4:
-        return each(bins, start, skipped, lags)
-    if lags - skipped <= 16:
-        near = sum(bins[at][0] - bins[at - 1][0] <= lags for at in range(max(start, 1), len(bins)))
-        dense = near > count // 4
-    else:
-        dense = count * len(bins) * (lags - skipped) >= (bins[-1][0] - bins[0][0] + 1) * 512
-    if not dense:
-        return each(bins, start, skipped, lags)
+    """The additions that pair the bins from a place on with those before them: part by part."""
+    dense = is_dense(bins, start, skipped, lags)
     added, at = 0, start
     while at < len(bins):
-        end = at + 1
-        while end < len(bins) and bins[end][0] - bins[at][0] <= 832:
-            end += 1
+        end = part_end(bins, at, lags, dense)
         early = near_from(bins, at, lags)
-        run = bins[early:end]
-        few = sum(e[1] for e in run) < 2**16 and sum(e[2] for e in bins[at:end]) < 2**16
-        added += lags - skipped if end - at > 1 and few else each(run, at - early, skipped, lags)
+        added += part_additions(bins[early:end], at - early, skipped, lags, dense)
         at = end
     return added
 
@@ -176,8 +227,9 @@ def additions_by_level(path, lags, levels):
             level += 1
 
     for block in blocks_of(path):
-        gaps = [block[at][0] - block[at - 1][0] for at in range(1, len(block))]
-        come(0, block, min(gaps, default=2**64 - 1))
+        bins = bins_of(block)
+        gaps = [bins[at][0] - bins[at - 1][0] for at in range(1, len(bins))]
+        come(0, bins, min(gaps, default=2**64 - 1))
     for level in range(levels):
         if opened[level]:
             last, opened[level] = opened[level], None

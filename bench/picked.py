@@ -38,7 +38,7 @@ def differs(program, folder, code, seed):
     with open(name("plan.toml"), "wb") as file:
         file.write(PLAN)
     with open(name("data.ptu"), "wb") as file:
-        file.write(brute.short_file(code, [rng.getrandbits(32) for _ in range(3000)]))
+        file.write(brute.minimal_file(code, [rng.getrandbits(32) for _ in range(3000)]))
     status, lines, _ = said(program, ["events", name("data.ptu")])
     if status != 0:
         return "events ended with %d" % status

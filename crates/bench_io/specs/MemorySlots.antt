@@ -1,34 +1,34 @@
 -- What inputs in memory hold, as callers see it.
 use Rattle.std.{specs.Prelude.{ℕ, List, [], ◌∷◌, ◌≡◌, Bool, true, false, None, Some, slice_get, take, refl}, specs.declared.option.Option.Option, proofs.Common.{sym, ◌∙◌, ◌++◌, append-nil, take-append-drop}, proofs.Math.Seq.take-nil, proofs.lemmas.Option.{none-some, same_Some}}
 use Rattle.tally_base.{specs.declared.slot.Slot.Slot, specs.declared.slot.Slot.TheVariants.{Plan, Data}}
-use Rattle.bench_io.{specs.declared.memory_slot.Reading.Reading, specs.declared.memory_slot.Reading.TheVariants.{Unasked, Refused, Open}, specs.declared.memory_slot.MemorySlot.MemorySlot, specs.declared.memory_inputs.MemoryInputs.MemoryInputs, specs.Given.{Given, gave, no_bytes, is_over, IsOf}, specs.Inputs.InputState, specs.MemoryParts.NamedBytes, specs.Memory.{file_named, rest_of_file, MemoryState}}
+use Rattle.bench_io.{specs.declared.memory_slot.FileState.FileState, specs.declared.memory_slot.FileState.TheVariants.{Unasked, Refused, Open}, specs.declared.memory_slot.MemorySlot.MemorySlot, specs.declared.memory_inputs.MemoryInputs.MemoryInputs, specs.Given.{Given, gave, no_bytes, is_over, IsOf}, specs.Inputs.InputState, specs.MemoryParts.NamedBytes, specs.Memory.{file_named, rest_of_file, MemoryState}}
 
 -- whether the slot was asked for
-abbrev pub was_asked : Reading → Bool
+abbrev pub was_asked : FileState → Bool
 was_asked Unasked = false
 was_asked Refused = true
 was_asked (Open file at ended) = true
 
 -- whether a file was opened in the slot
-abbrev pub was_opened : Reading → Bool
+abbrev pub was_opened : FileState → Bool
 was_opened Unasked = false
 was_opened Refused = false
 was_opened (Open file at ended) = true
 
 -- the bytes that are left to read of the file that was opened
-abbrev pub rest_in : List NamedBytes → Reading → List ℕ
+abbrev pub rest_in : List NamedBytes → FileState → List ℕ
 rest_in files Unasked = []
 rest_in files Refused = []
 rest_in files (Open file at ended) = rest_of_file (slice_get files file) at
 
 -- the whole file that was opened
-abbrev pub told_in : List NamedBytes → Reading → Option (List ℕ)
+abbrev pub told_in : List NamedBytes → FileState → Option (List ℕ)
 told_in files Unasked = None
 told_in files Refused = None
 told_in files (Open file at ended) = Some (rest_of_file (slice_get files file) 0)
 
 -- what the reads of the file that was opened have given
-abbrev pub given_in : List NamedBytes → Reading → Given
+abbrev pub given_in : List NamedBytes → FileState → Given
 given_in files Unasked = no_bytes
 given_in files Refused = no_bytes
 given_in files (Open file at ended) = gave (take at (rest_of_file (slice_get files file) 0)) (is_over (rest_of_file (slice_get files file) at) ended)
@@ -62,7 +62,7 @@ memory_state inputs = record {
 }
 
 -- what was opened was asked for
-pub asked_from_opened : (reading : Reading) → was_opened reading ≡ true → was_asked reading ≡ true
+pub asked_from_opened : (reading : FileState) → was_opened reading ≡ true → was_asked reading ≡ true
 asked_from_opened Unasked p = p
 asked_from_opened Refused p = refl
 asked_from_opened (Open file at ended) p = refl
@@ -81,7 +81,7 @@ whole_parts None at = sym (append-nil (take at []) ∙ take-nil at)
 whole_parts (Some whole) at = sym (take-append-drop at whole.bytes)
 
 -- the file that is told is one of which the reads gave what they gave
-pub agrees_in : (files : List NamedBytes) (reading : Reading) (file : List ℕ) → told_in files reading ≡ Some file → IsOf (given_in files reading) file
+pub agrees_in : (files : List NamedBytes) (reading : FileState) (file : List ℕ) → told_in files reading ≡ Some file → IsOf (given_in files reading) file
 agrees_in files Unasked file told = absurd (none-some file told)
 agrees_in files Refused file told = absurd (none-some file told)
 agrees_in files (Open place at ended) file told =

@@ -7,7 +7,7 @@ use crate::memory_file::MemoryFile;
 use tally_base::Failed;
 
 #[derive(Clone, Copy)]
-pub(crate) enum Reading {
+pub(crate) enum FileState {
     Unasked,
     Refused,
     Open {
@@ -20,7 +20,7 @@ pub(crate) enum Reading {
 
 #[derive(Drop)]
 pub(crate) struct MemorySlot {
-    reading: Reading,
+    reading: FileState,
     open_faults: u64,
     read_faults: u64,
 }
@@ -86,10 +86,10 @@ fn is_end(count: usize, into: &[u8], ended: bool) -> bool
 
 impl MemorySlot {
     pub(crate) fn new() -> MemorySlot
-        ensures { result ≡ record { reading = Reading.Unasked; open_faults = 0; read_faults = 0 } }
+        ensures { result ≡ record { reading = FileState.Unasked; open_faults = 0; read_faults = 0 } }
     {
         MemorySlot {
-            reading: Reading::Unasked,
+            reading: FileState::Unasked,
             open_faults: 0,
             read_faults: 0,
         }
@@ -114,7 +114,7 @@ impl MemorySlot {
     {
         if !fails {
             if let Some(file) = place_of(files, name) {
-                self.reading = Reading::Open {
+                self.reading = FileState::Open {
                     file,
                     at: 0,
                     ended: false,
@@ -122,7 +122,7 @@ impl MemorySlot {
                 return Ok(());
             }
         }
-        self.reading = Reading::Refused;
+        self.reading = FileState::Refused;
         self.open_faults = self.open_faults.saturating_add(1);
         Err(Failed)
     }
@@ -148,7 +148,7 @@ impl MemorySlot {
         ensures cause { FailsOnce self.old.read_faults self.new.read_faults result }
         ensures open_faults { self.new.open_faults ≡ self.old.open_faults }
     {
-        let Reading::Open { file, at, ended } = self.reading else {
+        let FileState::Open { file, at, ended } = self.reading else {
             unreachable!()
         };
         if fails {
@@ -156,7 +156,7 @@ impl MemorySlot {
             return Err(Failed);
         }
         let count = copy_front(left(files, file, at), into, entry);
-        self.reading = Reading::Open {
+        self.reading = FileState::Open {
             file,
             at: at + count,
             ended: is_end(count, into, ended),

@@ -82,7 +82,7 @@ order-upto strict floor f (suc n) i le all =
     (last_or i n le)
 
 -- the next event of a block may be given
-abbrev pub may_take : (set : CoincidenceView) (p p' : Pairing) (b : Block) (h : History) (at : ℕ) → at < b.len → CanTake set p (gathered b) h → Came set p' (photons_of_groups set (h ++ rows (item b) at)) → CanGive set p' (event_at b at) (h ++ rows (item b) at)
+abbrev pub may_take : (set : CoincidenceView) (p p' : Pairing) {N : ℕ} (b : Block N) (h : History) (at : ℕ) → at < b.len → CanTake set p (gathered b) h → Came set p' (photons_of_groups set (h ++ rows (item b) at)) → CanGive set p' (event_at b at) (h ++ rows (item b) at)
 may_take set p p' b h at inside can came =
     let floor = greatest_time false h in
     let next = order-at false floor (event_at b) b.len at inside can.after in
@@ -102,22 +102,22 @@ found_photon a b c found other is also either = search (rules, arith)
 none_found : (a b c found other : Bool) → found ≡ (a && c) → other ≡ (b && c) → (found || other) ≡ false → ((c && a) || (c && b)) ≡ false
 none_found a b c found other is also neither = search (rules, arith)
 
-pub photons-same : (set : CoincidenceView) (b : Block) (h : History) (at : ℕ) (found other : Bool) → found ≡ (is_in (groups_at b at) set.first && nat_lt (code_at b at) 256) → other ≡ (is_in (groups_at b at) set.second && nat_lt (code_at b at) 256) → (found || other) ≡ false → photons_of_groups set (h ++ item b at ∷ []) ≡ photons_of_groups set h
+pub photons-same : (set : CoincidenceView) {N : ℕ} (b : Block N) (h : History) (at : ℕ) (found other : Bool) → found ≡ (is_in (groups_at b at) set.first && nat_lt (code_at b at) 256) → other ≡ (is_in (groups_at b at) set.second && nat_lt (code_at b at) 256) → (found || other) ≡ false → photons_of_groups set (h ++ item b at ∷ []) ≡ photons_of_groups set h
 photons-same set b h at found other is also neither =
     let out : mine set (item b at) ≡ false = rw (moves_row false b at)
     (none_found (is_in (groups_at b at) set.first) (is_in (groups_at b at) set.second) (nat_lt (code_at b at) 256) found other is also neither) in
     filter-append (mine set) h (item b at ∷ []) ∙ ap (λ xs. photons_of_groups set h ++ xs) (rw out refl) ∙ append-nil (photons_of_groups set h)
 
-pub one_more : (b : Block) (h : History) (at : ℕ) → h ++ rows (item b) (at + 1) ≡ (h ++ rows (item b) at) ++ item b at ∷ []
+pub one_more : {N : ℕ} (b : Block N) (h : History) (at : ℕ) → h ++ rows (item b) (at + 1) ≡ (h ++ rows (item b) at) ++ item b at ∷ []
 one_more b h at = ap (λ xs. h ++ xs) (more_rows (item b) at) ∙ sym (append_assoc h (rows (item b) at) (item b at ∷ []))
 
 -- where none is found, an event brings no photon
-pub came_same : (set : CoincidenceView) (p : Pairing) (b : Block) (h : History) (at : ℕ) (found other : Bool) → found ≡ (is_in (groups_at b at) set.first && nat_lt (code_at b at) 256) → other ≡ (is_in (groups_at b at) set.second && nat_lt (code_at b at) 256) → (found || other) ≡ false
+pub came_same : (set : CoincidenceView) (p : Pairing) {N : ℕ} (b : Block N) (h : History) (at : ℕ) (found other : Bool) → found ≡ (is_in (groups_at b at) set.first && nat_lt (code_at b at) 256) → other ≡ (is_in (groups_at b at) set.second && nat_lt (code_at b at) 256) → (found || other) ≡ false
     → Came set p (photons_of_groups set (h ++ rows (item b) at)) → Came set p (photons_of_groups set (h ++ rows (item b) (at + 1)))
 came_same set p b h at found other is also neither came = rw (one_more b h at, photons-same set b (h ++ rows (item b) at) at found other is also neither) came
 
 -- the next event of a block comes after the photons before it
-pub row_after : (set : CoincidenceView) (p : Pairing) (b : Block) (h : History) (at : ℕ) → at < b.len
+pub row_after : (set : CoincidenceView) (p : Pairing) {N : ℕ} (b : Block N) (h : History) (at : ℕ) → at < b.len
     → CanTake set p (gathered b) h → is_photon (event_at b at) ≡ true → greatest_time false (h ++ rows (item b) at) ≤ time_at b at
 row_after set p b h at inside can photon =
     let floor = greatest_time false h in
@@ -126,7 +126,7 @@ row_after set p b h at inside can photon =
     greatest-rows false h (item b) at (order-upto false floor (event_at b) b.len at (omega (arith, inside)) can.after) in
     rw so_far (next.1 photon)
 
-module _ (set : CoincidenceView) (p p' : Pairing) (b : Block) (h : History) (at : ℕ) (inside : at < b.len) (can : CanTake set p (gathered b) h) (came : Came set p' (photons_of_groups set (h ++ rows (item b) at))) (found other : Bool) (is : found ≡ (is_in (groups_at b at) set.first && nat_lt (code_at b at) 256)) (also : other ≡ (is_in (groups_at b at) set.second && nat_lt (code_at b at) 256)) (either : (found || other) ≡ true) where
+module _ (set : CoincidenceView) (p p' : Pairing) {N : ℕ} (b : Block N) (h : History) (at : ℕ) (inside : at < b.len) (can : CanTake set p (gathered b) h) (came : Came set p' (photons_of_groups set (h ++ rows (item b) at))) (found other : Bool) (is : found ≡ (is_in (groups_at b at) set.first && nat_lt (code_at b at) 256)) (also : other ≡ (is_in (groups_at b at) set.second && nat_lt (code_at b at) 256)) (either : (found || other) ≡ true) where
   seen : nat_lt (code_at b at) 256 ≡ true
   seen = found_photon (is_in (groups_at b at) set.first) (is_in (groups_at b at) set.second) (nat_lt (code_at b at) 256) found other is also either
 
@@ -153,7 +153,7 @@ pub may_events : (closed : Bool) → closed ≡ false → (set : CoincidenceView
 may_events closed open' set p count time h es is few after = search (rules, arith, false≢true)
 
 -- what it stands for then
-pub events_count : (closed : Bool) → closed ≡ false → (set : CoincidenceView) (p p' : Pairing) (count time count' time' : ℕ) (h : History) (b : Block)
+pub events_count : (closed : Bool) → closed ≡ false → (set : CoincidenceView) (p p' : Pairing) (count time count' time' : ℕ) (h : History) {N : ℕ} (b : Block N)
     → StandsFor closed set p count time h → InOrder false time (gathered b)
     → count' ≡ count + b.len → time' ≡ floor_after false time (gathered b)
     → Came set p' (photons_of_groups set (h ++ events_in b)) → StandsFor closed set p' count' time' (h ++ events_in b)

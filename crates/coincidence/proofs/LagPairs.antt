@@ -174,7 +174,7 @@ three-sums f front back ring later is =
 
 -- the entries that fit have few photons on each side
 pub few_later : (d : Direction) (set : CoincidenceView) (most low : ℕ) (es later : List Entry)
-    → FitsWindow set most low es later → sum_by (weight_of (later_side d)) later ≤ 256
+    → FitsWindow set most low es later → sum_by (weight_of (later_side d)) later ≤ 1024
 few_later Forward set most low es later fits = fits.seconds
 few_later Backward set most low es later fits = fits.firsts
 

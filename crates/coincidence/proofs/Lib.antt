@@ -9,3 +9,4 @@ pub mod Blockwise
 pub mod LagPairs
 pub mod Together
 pub mod CellRows
+pub mod Passed

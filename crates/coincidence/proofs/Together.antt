@@ -123,6 +123,34 @@ module _ (set : CoincidenceView) (r : Ring) (bins : List Bin) (i : ℕ) (d : Bin
         λ r' now is had. record { few = omega (arith, all, can.few, length-append closed next.0); keep = next.4 r' is; had = had },
       )
 
+-- bins are those of a part and behind them the others
+split_are : (set : CoincidenceView) (part rest : List Bin) (closed xs : History) → BinsAre set (part ++ rest) closed xs
+    → (here : History) × (after : History) × (xs ≡ here ++ after) × BinsAre set part closed here × BinsAre set rest (closed ++ here) after
+split_are set [] rest closed xs are = ([], xs, refl, refl, rw (append-nil closed) are)
+split_are set (bin ∷ part) rest closed xs are =
+    let next = split_are set part rest (closed ++ are.0) are.1 are.5 in (
+      are.0 ++ next.0,
+      next.1,
+      are.2 ∙ ap (λ ys. are.0 ++ ys) next.2 ∙ sym (append_assoc are.0 next.0 next.1),
+      (are.0, next.0, refl, are.3, are.4, next.3),
+      rw (← append_assoc closed are.0 next.0) next.4,
+    )
+
+-- a part of the bins may be paired, and then the others
+pub part_shut : (set : CoincidenceView) (r : Ring) (old : Cells) (bins part rest : List Bin) (closed xs : History)
+    → bins ≡ part ++ rest → CanShutAll set r old bins closed xs
+    → (here : History) × (after : History) × (xs ≡ here ++ after) × CanShutAll set r old part closed here × ((r' : Ring) (now : Cells) → RingIs set r' (closed ++ here) → CellsAre set now (closed ++ here) → CanShutAll set r' now rest (closed ++ here) after)
+part_shut set r old bins part rest closed xs is can =
+    let are : BinsAre set (part ++ rest) closed xs = rw is at can.keep.are in
+    let next = split_are set part rest closed xs are in
+    let all : length xs ≡ length next.0 + length next.1 = ap length next.2 ∙ length-append next.0 next.1 in (
+      next.0,
+      next.1,
+      next.2,
+      record { few = omega (arith, all, can.few); keep = record { are = next.3; were = can.keep.were }; had = can.had },
+      λ r' now is had. record { few = omega (arith, all, can.few, length-append closed next.0); keep = record { are = next.4; were = is }; had = had },
+    )
+
 -- the pairs of bins that are closed together: both directions, and those inside the bins
 pub shut_parts : (set : CoincidenceView) (r : Ring) (old : Cells) (bins : List Bin) (closed xs : History)
     → CanShutAll set r old bins closed xs → (later : List Entry) → later ≡ weights_in bins → (c : ℕ)
@@ -139,12 +167,12 @@ three_runs xs done here after rest is also = is ∙ ap (λ ys. done ++ ys) also 
 -- The events of a block whose bins are gathered.
 
 -- where no group is found, an event brings no photon
-pub gathered_same : (set : CoincidenceView) (last : Option Bin) (bins : List Bin) (closed : History) (b : Block) (h : History) (at : ℕ) (found other : Bool) → found ≡ (is_in (groups_at b at) set.first && nat_lt (code_at b at) 256) → other ≡ (is_in (groups_at b at) set.second && nat_lt (code_at b at) 256) → (found || other) ≡ false
+pub gathered_same : (set : CoincidenceView) (last : Option Bin) (bins : List Bin) (closed : History) {N : ℕ} (b : Block N) (h : History) (at : ℕ) (found other : Bool) → found ≡ (is_in (groups_at b at) set.first && nat_lt (code_at b at) 256) → other ≡ (is_in (groups_at b at) set.second && nat_lt (code_at b at) 256) → (found || other) ≡ false
     → Gathered set last bins closed (photons_of_groups set (h ++ rows (item b) at))
     → Gathered set last bins closed (photons_of_groups set (h ++ rows (item b) (at + 1)))
-gathered_same set last bins closed b h at found other is also neither was = search (rules, arith, one_more, photons-same)
+gathered_same set last bins closed b h at found other is also neither was = rw (one_more b h at, photons-same set b (h ++ rows (item b) at) at found other is also neither) was
 
-module _ (set : CoincidenceView) (p : Pairing) (b : Block) (h : History) (at : ℕ) (inside : at < b.len) (can : CanTake set p (gathered b) h) (last : Option Bin) (bins : List Bin) (closed : History) (was : Gathered set last bins closed (photons_of_groups set (h ++ rows (item b) at))) (found other : Bool) (is : found ≡ (is_in (groups_at b at) set.first && nat_lt (code_at b at) 256)) (also : other ≡ (is_in (groups_at b at) set.second && nat_lt (code_at b at) 256)) (either : (found || other) ≡ true) where
+module _ (set : CoincidenceView) (p : Pairing) {N : ℕ} (b : Block N) (h : History) (at : ℕ) (inside : at < b.len) (can : CanTake set p (gathered b) h) (last : Option Bin) (bins : List Bin) (closed : History) (was : Gathered set last bins closed (photons_of_groups set (h ++ rows (item b) at))) (found other : Bool) (is : found ≡ (is_in (groups_at b at) set.first && nat_lt (code_at b at) 256)) (also : other ≡ (is_in (groups_at b at) set.second && nat_lt (code_at b at) 256)) (either : (found || other) ≡ true) where
   seen : nat_lt (code_at b at) 256 ≡ true
   seen = found_photon (is_in (groups_at b at) set.first) (is_in (groups_at b at) set.second) (nat_lt (code_at b at) 256) found other is also either
 
@@ -177,7 +205,7 @@ pub gathered_none : (set : CoincidenceView) (last : Option Bin) (bins : List Bin
 gathered_none set last bins closed open' came none is opened = grind (arith, common_steps, append-nil closed)
 
 -- what a block closed may be paired
-pub can_shut_all : (set : CoincidenceView) (p : Pairing) (b : Block) (h : History) (can : CanTake set p (gathered b) h) (now : Option Bin) (bins : List Bin) (were : Gathered set now bins can.was.0 (photons_of_groups set (h ++ events_in b))) → CanShutAll set p.ring p.cells bins can.was.0 were.0
+pub can_shut_all : (set : CoincidenceView) (p : Pairing) {N : ℕ} (b : Block N) (h : History) (can : CanTake set p (gathered b) h) (now : Option Bin) (bins : List Bin) (were : Gathered set now bins can.was.0 (photons_of_groups set (h ++ events_in b))) → CanShutAll set p.ring p.cells bins can.was.0 were.0
 can_shut_all set p b h can now bins were =
     let all : length (photons_of_groups set (h ++ events_in b)) ≡ length (can.was.0 ++ were.0) + length were.1 =
     ap length were.2 ∙ length-append (can.was.0 ++ were.0) were.1 in

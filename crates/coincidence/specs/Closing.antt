@@ -66,8 +66,8 @@ pub record FitsWindow (set : CoincidenceView) (most low : ℕ) (es later : List 
   pub near : AllByRecursion (λ e. (low ≤ e.index) × (e.index - low < 4096)) later
   pub weighed : (0 < most) × (most ≤ 255)
   pub light : IsLight most (es ++ later)
-  pub firsts : sum_by (weight_of First) later ≤ 256
-  pub seconds : sum_by (weight_of Second) later ≤ 256
+  pub firsts : sum_by (weight_of First) later ≤ 1024
+  pub seconds : sum_by (weight_of Second) later ≤ 1024
 
 -- no place of a window has more of these weights than so many
 abbrev pub IsLow : ℕ → ℕ → List Entry → Type 0

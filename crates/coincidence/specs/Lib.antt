@@ -6,3 +6,4 @@ pub mod StandsFor
 pub mod Coincidence
 pub mod Starts
 pub mod Closing
+pub mod Lone

@@ -9,7 +9,7 @@ use crate::pairing::{Bin, keep, pair_inside, shut};
 use arrayvec::ArrayVec;
 use lag_ring::{Entry, LagRing, MOST_SPOTS, RowCells, Side, total_weight, weight_bound};
 use std::sync::ledger::Ledger;
-use tally_base::{CoincidenceSet, Steps};
+use tally_base::{CoincidenceSet, Steps, TABLE_BLOCK};
 
 /// How many entries a ring has at least where a window pays.
 pub(crate) const MANY: u32 = 64;
@@ -21,8 +21,8 @@ const SOME: usize = 8;
 const END: u64 = 1 << 63;
 
 /// The entries of bins.
-fn weights_of(bins: &[Bin]) -> ArrayVec<Entry, 64>
-    requires few { length bins.now ≤ 64 }
+fn weights_of(bins: &[Bin]) -> ArrayVec<Entry, TABLE_BLOCK>
+    requires few { length bins.now ≤ TABLE_BLOCK }
     ensures { result.items ≡ weights_in bins.now }
 {
     let mut entries = ArrayVec::new();
@@ -106,7 +106,7 @@ fn shut_together<L: Ledger>(
     requires entries { later.now ≡ weights_in bins.now }
     requires window { IsRising ring.old.entries
         × FitsWindow (coincidence_view set.now) most low ring.old.entries later.now }
-    requires some { (0 < length bins.now) × (length bins.now ≤ 64) }
+    requires some { (0 < length bins.now) × (length bins.now ≤ TABLE_BLOCK) }
     ensures ring { (closed xs : History)
         → CanShutAll (coincidence_view set.now) ring.old cells.old bins.now closed xs
         → RingIs (coincidence_view set.now) ring.new (closed ++ xs) }
@@ -151,7 +151,7 @@ fn shut_many<L: Ledger>(
     bins: &[Bin],
     steps: &mut Steps<L>,
 )
-    requires some { (0 < length bins.now) × (length bins.now ≤ 64) }
+    requires some { (0 < length bins.now) × (length bins.now ≤ TABLE_BLOCK) }
     requires stands { ∥ ((closed : History) × (xs : History)
         × CanShutAll (coincidence_view set.now) ring.old cells.old bins.now closed xs) ∥₁ }
     ensures ring { (closed xs : History)
@@ -171,15 +171,15 @@ fn shut_many<L: Ledger>(
     }
 }
 
-/// Pairs bins, and puts them among the closed ones.
-pub(crate) fn shut_all<L: Ledger>(
+/// Pairs bins that are near one another, and puts them among the closed ones.
+fn shut_part<L: Ledger>(
     ring: &mut LagRing,
     cells: &mut RowCells,
     set: &CoincidenceSet,
     bins: &[Bin],
     steps: &mut Steps<L>,
 )
-    requires few { length bins.now ≤ 64 }
+    requires some { (0 < length bins.now) × (length bins.now ≤ TABLE_BLOCK) }
     requires stands { ∥ ((closed : History) × (xs : History)
         × CanShutAll (coincidence_view set.now) ring.old cells.old bins.now closed xs) ∥₁ }
     ensures ring { (closed xs : History)
@@ -190,13 +190,50 @@ pub(crate) fn shut_all<L: Ledger>(
         → CellsAre (coincidence_view set.now) cells.new (closed ++ xs) }
     ensures steps { steps.new + cells.old.added ≡ steps.old + cells.new.added }
 {
-    let low = match bins.first() {
-        Some(bin) => bin.weights.index,
-        None => 0,
-    };
     if ring.len() >= MANY && bins.len() >= SOME {
-        shut_many(ring, cells, set, low, bins, steps);
+        shut_many(ring, cells, set, bins[0].weights.index, bins, steps);
     } else {
         shut_each(ring, cells, set, bins, steps);
+    }
+}
+
+/// How many bins there are before the first that a window from the first one on has no place for.
+fn near_first(bins: &[Bin]) -> usize
+    requires some { 0 < length bins.now }
+    ensures { (0 < result) × (result ≤ length bins.now) }
+{
+    let low = bins[0].weights.index;
+    for count in 1..bins.len() {
+        if bins[count].weights.index.saturating_sub(low) >= u64::from(TOP) {
+            return count;
+        }
+    }
+    bins.len()
+}
+
+/// Pairs bins, and puts them among the closed ones: as many at once as a window has places for.
+pub(crate) fn shut_all<L: Ledger>(
+    ring: &mut LagRing,
+    cells: &mut RowCells,
+    set: &CoincidenceSet,
+    bins: &[Bin],
+    steps: &mut Steps<L>,
+)
+    requires few { length bins.now ≤ TABLE_BLOCK }
+    requires stands { ∥ ((closed : History) × (xs : History)
+        × CanShutAll (coincidence_view set.now) ring.old cells.old bins.now closed xs) ∥₁ }
+    ensures ring { (closed xs : History)
+        → CanShutAll (coincidence_view set.now) ring.old cells.old bins.now closed xs
+        → RingIs (coincidence_view set.now) ring.new (closed ++ xs) }
+    ensures cells { (closed xs : History)
+        → CanShutAll (coincidence_view set.now) ring.old cells.old bins.now closed xs
+        → CellsAre (coincidence_view set.now) cells.new (closed ++ xs) }
+    ensures steps { steps.new + cells.old.added ≡ steps.old + cells.new.added }
+{
+    let mut rest = bins;
+    while !rest.is_empty() {
+        let (part, behind) = rest.split_at(near_first(rest));
+        shut_part(ring, cells, set, part, steps);
+        rest = behind;
     }
 }

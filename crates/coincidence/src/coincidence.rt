@@ -7,7 +7,7 @@ use crate::pairing::{Pairing, cells_of};
 use crate::taking::take_block;
 use std::alloc::{AllocError, Global};
 use std::sync::ledger::Ledger;
-use tally_base::{Block, CoincidenceSet, Steps, Tally};
+use tally_base::{Block, CoincidenceSet, Steps, TABLE_BLOCK, Tally};
 
 /// Counts the ordered pairs of different photons, the first of them in the first group and the second in
 /// the second group, by the time from the first to the second, which may be negative.
@@ -106,7 +106,7 @@ impl Tally for Coincidence {
 
     ghost marker_groups = { marker_groups };
 
-    fn events<L: Ledger>(&mut self, block: &Block, steps: &mut Steps<L>) {
+    fn events<L: Ledger>(&mut self, block: &Block<TABLE_BLOCK>, steps: &mut Steps<L>) {
         self.taken += block.len() as u64;
         self.floor = block.floor_after(false, self.floor);
         take_block(&mut self.pairing, &self.set, block, steps);

@@ -4,7 +4,7 @@ ghost use Rattle.tally_base.{specs.Settings.startstop_view, specs.Limits.record_
 ghost use Rattle.coincidence.{specs.StartStop.CountsMore, specs.Starts.since_in};
 
 use crate::start::{Start, ended, start_behind};
-use tally_base::{BLOCK_SIZE, Block, Divisor, StartStopSet};
+use tally_base::{Block, Divisor, StartStopSet, TABLE_BLOCK};
 
 /// Counts the intervals that the photons of a block end, and answers how many are now past the last bin.
 pub(crate) fn count_block(
@@ -12,7 +12,7 @@ pub(crate) fn count_block(
     cells: &mut [u64],
     over: u64,
     start: &mut Start,
-    block: &Block,
+    block: &Block<TABLE_BLOCK>,
 ) -> u64
     requires sorted { IsSorted block.now }
     requires sized { length cells.old ≡ set.now.bins }
@@ -28,7 +28,7 @@ pub(crate) fn count_block(
     let width = Divisor::new(set.width);
     let mut last = *start;
     let mut over = over;
-    for at in 0..block.len().min(BLOCK_SIZE) {
+    for at in 0..block.len().min(TABLE_BLOCK) {
         if block.code(at) < 256 {
             // No branch on the groups, which are as good as random from photon to photon.
             let starts = block.has_photon(at, own.start);

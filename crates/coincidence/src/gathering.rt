@@ -7,13 +7,13 @@ ghost use Rattle.coincidence.{specs.StandsFor.{CanTake, Gathers}, specs.Pairing.
 
 use crate::pairing::Bin;
 use arrayvec::ArrayVec;
-use tally_base::{BLOCK_SIZE, Block, CoincidenceSet};
+use tally_base::{Block, CoincidenceSet, TABLE_BLOCK};
 
 /// Takes photons of one tick, after all that came. They join the open bin, or put it behind those that
 /// are to be closed: the answer is the bin that is open then.
 #[inline(always)]
-fn gather_bin(waiting: Option<Bin>, bins: &mut ArrayVec<Bin, BLOCK_SIZE>, bin: Bin) -> Option<Bin>
-    requires room { array_vec_len bins.old < BLOCK_SIZE }
+fn gather_bin(waiting: Option<Bin>, bins: &mut ArrayVec<Bin, TABLE_BLOCK>, bin: Bin) -> Option<Bin>
+    requires room { array_vec_len bins.old < TABLE_BLOCK }
     requires stands { ∥ ((set : CoincidenceView) × (closed : History) × (came : History)
         × (xs : History) × CanGather set waiting bins.old.items bin closed came xs) ∥₁ }
     ensures follows { (set : CoincidenceView) (closed came xs : History)
@@ -39,8 +39,8 @@ fn gather_bin(waiting: Option<Bin>, bins: &mut ArrayVec<Bin, BLOCK_SIZE>, bin: B
 pub(crate) fn gather_block(
     set: &CoincidenceSet,
     waiting: Option<Bin>,
-    block: &Block,
-    bins: &mut ArrayVec<Bin, BLOCK_SIZE>,
+    block: &Block<TABLE_BLOCK>,
+    bins: &mut ArrayVec<Bin, TABLE_BLOCK>,
 ) -> Option<Bin>
     requires sorted { IsSorted block.now }
     requires empty { (bins.old.items ≡ []) × (array_vec_len bins.old ≡ 0) }
@@ -48,12 +48,12 @@ pub(crate) fn gather_block(
         (coincidence_view set.now) (pairing_of waiting ring cells) (gathered block.now) h) ∥₁ }
     ensures follows { Gathers (coincidence_view set.now) waiting result bins.new.items
         (gathered block.now) (events_in block.now) }
-    ensures few { array_vec_len bins.new ≤ BLOCK_SIZE }
+    ensures few { array_vec_len bins.new ≤ TABLE_BLOCK }
 {
     // Copies, so that no field is read again for each photon.
     let own = *set;
     let mut open = waiting;
-    for at in 0..block.len().min(BLOCK_SIZE) {
+    for at in 0..block.len().min(TABLE_BLOCK) {
         let first = block.has_photon(at, own.first);
         let second = block.has_photon(at, own.second);
         if first | second {

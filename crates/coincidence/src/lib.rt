@@ -8,6 +8,7 @@ mod counting;
 mod gathering;
 mod lags;
 pub mod laws;
+mod lone;
 mod pairing;
 mod start;
 mod start_stop;

@@ -447,7 +447,7 @@ pub(crate) fn put<L: Ledger>(
 }
 
 impl Pairing {
-    ghost use Rattle.coincidence.specs.Pairing.{PairingIs, PairingDone, CanPut, CanEnd, Came};
+    ghost use Rattle.coincidence.specs.Pairing.{PairingIs, PairingDone, CanEnd};
 
     /// No bins, with all the memory that they and the cells ever take, or `AllocError` where it is
     /// wanting.
@@ -460,18 +460,6 @@ impl Pairing {
             ring: LagRing::open(alloc, set.reach)?,
             cells: RowCells::open(alloc, cells_of(set))?,
         })
-    }
-
-    /// Takes photons of one tick, after all that came. They join the open bin, or close it.
-    pub fn put<L: Ledger>(&mut self, set: &CoincidenceSet, bin: Bin, steps: &mut Steps<L>)
-        requires stands { ∥ ((closed : History) × (open' : History) × (xs : History)
-            × CanPut (coincidence_view set.now) self.old bin closed open' xs) ∥₁ }
-        ensures follows { (closed open' xs : History)
-            → CanPut (coincidence_view set.now) self.old bin closed open' xs
-            → Came (coincidence_view set.now) self.new ((closed ++ open') ++ xs) }
-        ensures steps { steps.new + self.old.cells.added ≡ steps.old + self.new.cells.added }
-    {
-        self.open = put(self.open, &mut self.ring, &mut self.cells, set, bin, steps);
     }
 
     /// Closes the open bin, and opens none.

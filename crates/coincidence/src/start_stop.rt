@@ -7,7 +7,7 @@ use crate::counting::count_block;
 use crate::start::{Start, no_start};
 use std::alloc::{AllocError, Global};
 use std::sync::ledger::Ledger;
-use tally_base::{Block, StartStopSet, Steps, Tally};
+use tally_base::{Block, StartStopSet, Steps, TABLE_BLOCK, Tally};
 
 /// Counts the intervals from a photon of the start group to the next of the stop group by their length.
 ///
@@ -103,7 +103,7 @@ impl Tally for StartStop {
 
     ghost marker_groups = { marker_groups };
 
-    fn events<L: Ledger>(&mut self, block: &Block, _steps: &mut Steps<L>) {
+    fn events<L: Ledger>(&mut self, block: &Block<TABLE_BLOCK>, _steps: &mut Steps<L>) {
         self.taken += block.len() as u64;
         self.floor = block.floor_after(false, self.floor);
         self.over = count_block(

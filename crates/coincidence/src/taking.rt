@@ -5,17 +5,18 @@ ghost use Rattle.coincidence.specs.StandsFor.{CanTake, TakesOn};
 
 use crate::closing::{MANY, shut_all};
 use crate::gathering::gather_block;
+use crate::lone::pass_lone;
 use crate::pairing::{Bin, Pairing, put};
 use arrayvec::ArrayVec;
 use std::sync::ledger::Ledger;
-use tally_base::{BLOCK_SIZE, Block, CoincidenceSet, Steps};
+use tally_base::{Block, CoincidenceSet, Steps, TABLE_BLOCK};
 
 /// Gives the photons of a block to the bins, and leaves out those of other groups. Where many bins are
 /// in reach, those that it closes are paired together.
 pub(crate) fn take_block<L: Ledger>(
     pairing: &mut Pairing,
     set: &CoincidenceSet,
-    block: &Block,
+    block: &Block<TABLE_BLOCK>,
     steps: &mut Steps<L>,
 )
     requires sorted { IsSorted block.now }
@@ -36,7 +37,7 @@ pub(crate) fn take_block<L: Ledger>(
 fn take_together<L: Ledger>(
     pairing: &mut Pairing,
     set: &CoincidenceSet,
-    block: &Block,
+    block: &Block<TABLE_BLOCK>,
     steps: &mut Steps<L>,
 )
     requires sorted { IsSorted block.now }
@@ -52,11 +53,11 @@ fn take_together<L: Ledger>(
     pairing.open = open;
 }
 
-/// Gives the photons of a block to the bins, one by one.
+/// Gives the photons of a block to the bins, one by one, but for those that are alone in their reach.
 fn take_each<L: Ledger>(
     pairing: &mut Pairing,
     set: &CoincidenceSet,
-    block: &Block,
+    block: &Block<TABLE_BLOCK>,
     steps: &mut Steps<L>,
 )
     requires sorted { IsSorted block.now }
@@ -69,7 +70,8 @@ fn take_each<L: Ledger>(
     // Copies, so that no field is read again for each photon.
     let own = *set;
     let mut open = pairing.open;
-    for at in 0..block.len().min(BLOCK_SIZE) {
+    let mut at = 0;
+    while at < block.len() {
         // No branch on which group it is, which is as good as random from photon to photon.
         let first = block.has_photon(at, own.first);
         let second = block.has_photon(at, own.second);
@@ -78,6 +80,9 @@ fn take_each<L: Ledger>(
             let (ring, cells) = (&mut pairing.ring, &mut pairing.cells);
             open = put(open, ring, cells, &own, bin, steps);
         }
+        let passed = pass_lone(own, &mut pairing.ring, open, block, at);
+        open = passed.0;
+        at = passed.1;
     }
     pairing.open = open;
 }

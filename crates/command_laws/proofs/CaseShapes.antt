@@ -4,7 +4,7 @@ use Rattle.toml.specs.Data.{table}
 use Rattle.tally_base.{specs.declared.fault.Fault.Fault, specs.declared.header.Header.Header, specs.Faults.status_of, specs.RecordTypes.mode_of}
 use Rattle.bench_io.specs.Inputs.{File}
 use Rattle.ptu_definitions.specs.Headers.{header_answer}
-use Rattle.plan_text.{specs.Plan.{PlanView, plan}, specs.Reading.plan_answer, specs.Fits.fits, proofs.Called.{called, valid, answers, plans}, proofs.Misfits.{misfit_named, is_first}}
+use Rattle.plan_text.{specs.Plan.{PlanView, plan}, specs.ReadPlan.plan_answer, specs.Fits.fits, proofs.Called.{called, valid, answers, plans}, proofs.Misfits.{misfit_named, is_first}}
 use Rattle.command_work.{specs.Outcomes.{Outcome, refused, written, StatusIn}, specs.Behaviours.{Work, Behaviour, NoCommand, Alone, OnFile, ByPlan}, specs.Endings.{on_file, unless, by_plan, outcome}}
 use Rattle.file_work.specs.FileOutcomes.{header_outcome}
 use Rattle.command_laws.{specs.Cases.{FileCase, HeaderCase, PrintCase}, specs.CommandCases.{RecordCases, Need, Needs, CommandCases, BadWords, Writes, ReadsHeader, ReadsRecords, ReadsByPlan, Has, Lacks, SuitCase, NeedCase, PlanCase, ShapeCase}, specs.Causes.EndsCut, proofs.FaultStatuses.some-same, proofs.CaseSteps.{Answer, file-holds, file-only, header-holds, header-only, not_fit}, proofs.Prints.{print-holds, print-only}}

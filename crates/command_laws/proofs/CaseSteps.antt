@@ -2,7 +2,7 @@
 use Rattle.std.{proofs.Common.{◌≡◌, ℕ, List, [], ◌∷◌, length, Bool, true, false, None, Ok, Err, refl, sym, ap, ◌∙◌, inl, inr, ◌≢◌, ◌<◌, ◌≤◌, arith, ◌==◌, Result, nat_lt, if◌then◌else◌, rules}, specs.declared.option.Option.Option, proofs.lemmas.Bool.Decides.nat_tests}
 use Rattle.tally_base.{specs.declared.fault.Fault.Fault, specs.declared.fault.Fault.TheVariants.TruncatedRecord, specs.declared.header.Header.Header}
 use Rattle.bench_io.specs.Inputs.{File}
-use Rattle.ptu_definitions.{specs.declared.records.Summary.Summary, specs.Headers.header_answer, specs.Words.{words_of, rest_of}, specs.Streams.{Reading, record_refusal, summary, streamed, or_refusal}, proofs.Sound.one_answer}
+use Rattle.ptu_definitions.{specs.declared.records.Summary.Summary, specs.Headers.header_answer, specs.Words.{words_of, rest_of}, specs.Streams.{StreamSettings, record_refusal, summary, streamed, or_refusal}, proofs.Sound.one_answer}
 use Rattle.command_work.{specs.Endings.on_file, specs.Outcomes.{Outcome, refused}, specs.Behaviours.Work}
 use Rattle.command_laws.specs.Cases.{FileCase, HeaderCase}
 
@@ -61,10 +61,10 @@ header-only out case fails only bytes end (inr h) = ap out ((one_answer bytes (O
 
 -- ## Records that are cut, and parts that suit
 
-abbrev pub whole_answer : Reading → List ℕ → Bool → Result Summary Fault
+abbrev pub whole_answer : StreamSettings → List ℕ → Bool → Result Summary Fault
 whole_answer how behind whole = if whole then Ok (summary how (words_of behind)) else Err (TruncatedRecord (length (rest_of behind)))
 
-pub streamed-clear : (how : Reading) (behind : List ℕ) → record_refusal how (words_of behind) ≡ None
+pub streamed-clear : (how : StreamSettings) (behind : List ℕ) → record_refusal how (words_of behind) ≡ None
     → streamed how behind ≡ whole_answer how behind (length (rest_of behind) == 0)
 unfolding streamed
 streamed-clear how behind none = ap (λ o. or_refusal o (whole_answer how behind (length (rest_of behind) == 0))) none

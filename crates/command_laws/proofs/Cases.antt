@@ -1,7 +1,7 @@
 -- What `count`, `events`, `run`, `trace` and `demo` end with is what the table of cases calls for.
 use Rattle.std.{proofs.Common.{◌≡◌, ℕ, zero, suc, List, [], ◌∷◌, ◌++◌, length, Bool, true, false, None, Some, Ok, Err, refl, sym, ap, ◌∙◌, ◌⊎◌, subst, inl, inr, arith, ◌==◌, Result, nat_lt, map, if◌then◌else◌, rules}, specs.declared.option.Option.{Option}}
 use Rattle.tally_base.{specs.declared.fault.Fault.Fault, specs.declared.fault.Fault.TheVariants.{RecordLimit, TruncatedRecord, NoTrace}, specs.declared.header.Header.Header, specs.Faults.{fault_in, status_of}, specs.Settings.{PartSettings, StartStopView, TraceView}, specs.Tally.History}
-use Rattle.ptu_definitions.{specs.declared.records.Summary.Summary, specs.Words.{words_of, rest_of, record_limit, records_of, counted}, specs.Layouts.meaning_of, specs.Kinds.counts_of, specs.Prefixes.each_after, specs.Streams.{IsFirst, Reading, record_refusal, summary, summary_of, streamed}, specs.Times.events, proofs.Firsts.{first-refusal, refused-first, none-refused, given-before, given-all}}
+use Rattle.ptu_definitions.{specs.declared.records.Summary.Summary, specs.Words.{words_of, rest_of, record_limit, records_of, counted}, specs.Layouts.meaning_of, specs.Kinds.counts_of, specs.Prefixes.each_after, specs.Streams.{IsFirst, StreamSettings, record_refusal, summary, summary_of, streamed}, specs.Times.events, proofs.Firsts.{first-refusal, refused-first, none-refused, given-before, given-all}}
 use Rattle.record_stream.proofs.Lasts.{streamed-refused}
 use Rattle.plan_text.specs.Plan.{PlanView, parts_of}
 use Rattle.coincidence.proofs.Intervals.{intervals-are-pairs}
@@ -40,7 +40,7 @@ report-same : (header : Header) (sum : Summary) (tables : List Table) → report
 unfolding report
 report-same header sum tables = ap (λ l. head_text header sum ++ l) (each-same placed_text table_text [] tables (λ before it. part-same it.0 _ it.1))
 
-summary-same : (how : Reading) (words : List ℕ)
+summary-same : (how : StreamSettings) (words : List ℕ)
     → summary how words ≡ summary_of how.policy.settle how.mode (map how.meaning words) (events (map how.meaning words))
 unfolding summary
 summary-same how words = refl
@@ -114,12 +114,12 @@ count-told = record {
 -- ## Streams
 
 -- what a command makes of a stream that is read so
-record Streams (how : Reading) (text_of : List ℕ → List ℕ) (whole_text behind : List ℕ) (out : Result Summary Fault → Outcome) : Type 0 where
+record Streams (how : StreamSettings) (text_of : List ℕ → List ℕ) (whole_text behind : List ℕ) (out : Result Summary Fault → Outcome) : Type 0 where
   refused_is : (fault : Fault) (least : IsFirst how fault [] (words_of behind)) → out (Err fault) ≡ end_with (text_of least.front) (Some fault)
   cut_is : record_refusal how (words_of behind) ≡ None → (fault : Fault) → out (Err fault) ≡ end_with (text_of (words_of behind)) (Some fault)
   whole_is : record_refusal how (words_of behind) ≡ None → out (Ok (summary how (words_of behind))) ≡ written whole_text
 
-module _ (how : Reading) (text_of : List ℕ → List ℕ) (whole_text behind : List ℕ) (out : Result Summary Fault
+module _ (how : StreamSettings) (text_of : List ℕ → List ℕ) (whole_text behind : List ℕ) (out : Result Summary Fault
     → Outcome) (told : Streams how text_of whole_text behind out) where
   first-end : (fault : Fault) (least : IsFirst how fault [] (words_of behind)) → out (streamed how behind) ≡ end_with (text_of least.front) (Some fault)
   first-end fault least = ap out (sym (streamed-refused how behind fault (refused-first how (words_of behind) fault least))) ∙ told.refused_is fault least
@@ -148,7 +148,7 @@ module _ (how : Reading) (text_of : List ℕ → List ℕ) (whole_text behind : 
   stream-only end (inr (inr h)) = let none =
       (none-refused how (words_of behind)).1 h.0 in clear-end none true (true-empty (rest_of behind) h.1) ∙ told.whole_is none ∙ sym h.2
 
-module _ (how : Header → Reading) (ends : Header → List ℕ → Outcome → Type 0) (header : Header) (text_of : List ℕ → List ℕ) (whole_text behind : List ℕ) where
+module _ (how : Header → StreamSettings) (ends : Header → List ℕ → Outcome → Type 0) (header : Header) (text_of : List ℕ → List ℕ) (whole_text behind : List ℕ) where
   stream-cause : (end : Outcome) (fault : Fault) → StreamCase (how header) text_of whole_text behind end
       → end.fault ≡ Some fault → (call : Call) × CallsBy call (stream_cases how ends) header behind fault
   stream-cause end fault (inl h) e = (IsRefused, subst (λ (f : Fault). IsFirst (how header) f [] (words_of behind)) (sym (of-end end _ h.0 fault h.2 e)) h.1)
@@ -163,7 +163,7 @@ module _ (how : Header → Reading) (ends : Header → List ℕ → Outcome → 
   stream-ends IsLate fault never = absurd never
 
 -- what is shown of a command that ends by such a stream alone
-stream-meets : (further : ℕ → Type 0) (how : Header → Reading) (text_of whole_text : Header
+stream-meets : (further : ℕ → Type 0) (how : Header → StreamSettings) (text_of whole_text : Header
     → List ℕ → List ℕ) (out : Header → List ℕ → Result Summary Fault → Outcome)
     → ((header : Header) (behind : List ℕ) → Streams (how header) (text_of header) (whole_text header (words_of behind)) behind (out header behind))
     → ((header : Header) (behind : List ℕ) (fault : Fault) → RefusedIn (how header) behind fault → further (status_of fault))

@@ -3,7 +3,7 @@ use Rattle.std.{proofs.Common.{◌≡◌, ℕ, List, [], None, Some, Err, refl, 
 use Rattle.tally_base.{specs.declared.fault.Fault.Fault, specs.declared.header.Header.Header, specs.Faults.{fault_in, status_of}, specs.RecordTypes.mode_of, specs.declared.slot.Slot.Slot, specs.declared.slot.Slot.TheVariants.{Plan, Data}, specs.declared.fault.Fault.TheVariants.{Usage, OpenFault, NoGroup, PickTime}}
 use Rattle.bench_io.specs.Inputs.{File}
 use Rattle.ptu_definitions.{specs.Words.words_of, proofs.Sound.one_answer, specs.Headers.HasAnswer}
-use Rattle.plan_text.{specs.Plan.{PlanView}, proofs.Called.valid, specs.Reading.IsCalledFor, specs.Fits.IsMisfit}
+use Rattle.plan_text.{specs.Plan.{PlanView}, proofs.Called.valid, specs.ReadPlan.IsCalledFor, specs.Fits.IsMisfit}
 use Rattle.photon_pick.{specs.Late.too_late, proofs.CanBeWritten.written-can}
 use Rattle.command_work.{specs.Endings.outcome, specs.Outcomes.{Outcome, refused, StatusIn}, specs.Behaviours.{Behaviour}}
 use Rattle.file_work.specs.FileOutcomes.{header_outcome}
@@ -12,7 +12,7 @@ use Rattle.command_words.specs.Commands.{Request, Pick, Events}
 use Rattle.pick_work.specs.PickOutcomes.{records_picked}
 use Rattle.command_laws.{specs.Ends.{ends_with, photons_written, ListsWritten, EndsWellOrLate}, specs.Causes.{OfRecords, IsValidPlan, Headed, Unheaded, IsPlanWith, Absent, NoPlan, Misfits, NoHeader, Lacking, TooLate, IsPickable, EndsWithFault, MayCallFor}, specs.Cases.{FileCase, HeaderCase, PrintCase, HasGroup, settled_photons, kept_photons, FirstLate, LateAtEnd, AllPicked, PickedCase}, specs.CommandCases.{RecordCases, Need, CommandCases, NamesLate, pick_cases, cases, Lacks, Has, Suits, SuitCase, NeedCase, PlanCase, ShapeCase, Needs, BadWords, Writes, ReadsHeader, ReadsRecords, ReadsByPlan}, proofs.FaultStatuses.{some-same, of-refused, of-written, range-as, wider, unheaded-status, cut_behind-status}, proofs.CaseShapes.{Call, IsCut, IsRefused, IsLate, CallsBy, RecordsMeet, MeetsCases}, proofs.Prints.print-holds, proofs.PickPhotons.none-or-late, proofs.PickCases.{first-settled, picked-holds}, proofs.Proved.{told, one-outcome, listed-picked}}
 use Rattle.gate_plan.specs.Shifting.{sorting}
-use Rattle.short_file.specs.ShortFiles.{short_file}
+use Rattle.minimal_file.specs.ShortFiles.{minimal_file}
 use Rattle.record_write.specs.Picked.{picked_file}
 
 -- ## The phases of a run
@@ -288,7 +288,7 @@ module _ (plan_name : List ℕ) (group : ℕ) (file : List ℕ) (plan_file data_
 -- what it writes of a file with a header is listed
 pub pick-is-listed : (plan_name file name : List ℕ) (group : ℕ) (plan_file data_file : File)
     → ListsWritten group plan_file data_file name (ends_with (Pick plan_name group file) plan_file data_file).text
-unfolding short_file
+unfolding minimal_file
 pick-is-listed plan_name file name group plan_file data_file view header behind usable headed suits few =
     let end = records_picked view group header behind in
     let is = picked-end plan_name group file plan_file data_file view header behind end usable headed suits (picked-holds view group header behind) in

@@ -1,7 +1,7 @@
 -- What `pick` ends with is what the table of cases calls for.
 use Rattle.std.{proofs.Common.{◌≡◌, ℕ, List, [], ◌∷◌, ◌++◌, length, Bool, true, false, None, Some, Err, refl, sym, ap, ◌∙◌, subst, inl, inr, ◌≢◌, append-nil, arith, append_assoc, ◌⊎◌, ◌==◌, nat_le, ◌&&◌, rules}, specs.declared.option.Option.Option}
 use Rattle.tally_base.{specs.declared.fault.Fault.Fault, specs.declared.fault.Fault.TheVariants.{TruncatedRecord, NoGroup, PickTime}, specs.declared.header.Header.Header, specs.Faults.fault_in, specs.declared.event.Event.Event}
-use Rattle.ptu_definitions.{specs.Words.{words_of, rest_of}, specs.Streams.{IsFirst, Reading, record_refusal, refusal}, proofs.Firsts.{first-refusal, refused-first, none-refused}}
+use Rattle.ptu_definitions.{specs.Words.{words_of, rest_of}, specs.Streams.{IsFirst, StreamSettings, record_refusal, refusal}, proofs.Firsts.{first-refusal, refused-first, none-refused}}
 use Rattle.record_stream.proofs.Lasts.{streamed-refused}
 use Rattle.plan_text.specs.Plan.{PlanView}
 use Rattle.gate_plan.specs.Histories.{reading_by}
@@ -14,7 +14,7 @@ use Rattle.command_laws.{specs.Cases.{NoneRefused, HasGroup, settled_photons, ke
 -- ## The records
 
 module _ (view : PlanView) (group : ℕ) (header : Header) (behind : List ℕ) where
-  abbrev how : Reading
+  abbrev how : StreamSettings
   how = reading_by view header
 
   abbrev words : List ℕ

@@ -1,8 +1,8 @@
 -- The photons that `pick` writes, and the first of them that is too late.
 use Rattle.std.{proofs.Common.{◌≡◌, ◌∙◌, ℕ, List, [], ◌∷◌, ◌++◌, Bool, true, false, cond, None, Some, Ok, Err, map, refl, sym, ap, inl, inr, append_assoc, append-nil, ◌⊎◌, Result, arith, rules}, specs.List.filter, specs.declared.option.Option.Option, proofs.lemmas.List.Elements.filter-append}
 use Rattle.tally_base.{specs.declared.event.Event.Event, specs.declared.fault.Fault.Fault, specs.declared.fault.Fault.TheVariants.PickTime, specs.declared.header.Mode.Mode, specs.Faults.fault_in}
-use Rattle.ptu_definitions.{specs.declared.records.Summary.Summary, specs.Streams.{IsFirst, Reading, record_refusal, given, last_in, streamed}, specs.Prefixes.first, specs.Settled.{not_marked, settled_by}, specs.Times.events, specs.Words.words_of, proofs.DeliveredLaws.{delivered-settled, delivered-none}, proofs.Firsts.{given-all, given-before}, proofs.StreamLemmas.{given-front, given-stays, refused-more}}
-use Rattle.short_file.specs.ShortFiles.{short_header, short_file, bytes_in}
+use Rattle.ptu_definitions.{specs.declared.records.Summary.Summary, specs.Streams.{IsFirst, StreamSettings, record_refusal, given, last_in, streamed}, specs.Prefixes.first, specs.Settled.{not_marked, settled_by}, specs.Times.events, specs.Words.words_of, proofs.DeliveredLaws.{delivered-settled, delivered-none}, proofs.Firsts.{given-all, given-before}, proofs.StreamLemmas.{given-front, given-stays, refused-more}}
+use Rattle.minimal_file.specs.ShortFiles.{short_header, minimal_file, bytes_in}
 use Rattle.record_write.specs.Picked.{is_too_late, picked_words, picked_file}
 use Rattle.photon_pick.{specs.Late.{too_late, writable}, specs.Texts.{photons_in, late_or}, specs.Ends.{photons_by, photons_of, end_text, end_fault}, proofs.Parts.chosen-more, proofs.Ends.{kept-are, clear-from_ok}}
 use Rattle.command_work.specs.Outcomes.{Outcome}
@@ -62,17 +62,17 @@ module _ (mode : Mode) where
 
   pub end-late : (ps : List Event) (fault : Option Fault) (h : FirstLate mode ps)
       → picked_end ps fault ≡ record { text = picked_file mode h.before; fault = Some (PickTime h.photon.place) }
-  unfolding short_file
+  unfolding minimal_file
   end-late ps fault h = rw (first-late ps h, late-writable ps h) refl
 
   pub end-in_time : (ps : List Event) (fault : Option Fault) → too_late mode ps ≡ []
       → picked_end ps fault ≡ record { text = picked_file mode ps; fault = fault }
-  unfolding short_file
+  unfolding minimal_file
   end-in_time ps fault none = rw (all-writable ps none, none) refl
 
 -- ## The photons that are chosen
 
-module _ (chooses : Event → Bool) (how : Reading) where
+module _ (chooses : Event → Bool) (how : StreamSettings) where
   abbrev pub settled_chosen : List ℕ → List Event
   settled_chosen words = filter chooses (settled_by how.policy.settle how.mode (events (map how.meaning words)))
 

@@ -5,18 +5,18 @@ use Rattle.command_work.{specs.Endings.outcome, specs.Outcomes.Outcome}
 use Rattle.ptu_cli.specs.Behaviours.{behaviour}
 use Rattle.command_words.specs.Commands.{Request, Count, Events, Run, Trace, Pick, Demo, Header as HeaderOf}
 use Rattle.tally_base.{specs.declared.event.Event.Event, specs.declared.fault.Fault.Fault, specs.declared.header.Header.Header, specs.RecordTypes.mode_of, specs.declared.header.Mode.Mode, specs.declared.header.Mode.TheVariants.{T2, T3}}
-use Rattle.ptu_definitions.{specs.Prefixes.first, specs.Streams.{Reading, record_refusal, streamed}, specs.Words.{words_of, rest_of, record_limit}, proofs.WordsLemmas.words_of-append}
+use Rattle.ptu_definitions.{specs.Prefixes.first, specs.Streams.{StreamSettings, record_refusal, streamed}, specs.Words.{words_of, rest_of, record_limit}, proofs.WordsLemmas.words_of-append}
 use Rattle.record_stream.proofs.Lasts.{streamed-shown}
 use Rattle.plan_text.{specs.Plan.PlanView, specs.Fits.fits}
 use Rattle.gate_plan.specs.Histories.{reading_by}
 use Rattle.photon_pick.{specs.Late.too_late, specs.Texts.{photons_in, late_or, refusal_in}}
 use Rattle.pick_work.specs.PickOutcomes.{chosen_by, records_picked, picked_if_fits, picked_behind, goes_on_behind, picking}
 use Rattle.command_laws.{specs.Ends.{EndsStay, GoesOnOrShows, Lists}, specs.CommandCases.{cases, IsOutcome}, proofs.CaseShapes.{MeetsCases, told-holds, told-only}, proofs.Shown.{count-shows, print-shows, list-shows, report-shows, trace-shows, OrStays, headed, suited}, proofs.PickCases.pick-told, proofs.Cases.{count-told, events-told, run-told, trace-told, demo-same}, specs.Cases.FirstLate, proofs.CaseSteps.fit, proofs.PickPhotons.{none-or-late, all_end, late-ends, picked_end, all-end, in-stays}}
-use Rattle.short_file.{specs.ShortFiles.short_file, proofs.ShortHeaders.{short-answer, words_of-bytes_in, rest_of-bytes_in}}
+use Rattle.minimal_file.{specs.ShortFiles.minimal_file, proofs.ShortHeaders.{short-answer, words_of-bytes_in, rest_of-bytes_in}}
 use Rattle.record_write.{specs.Picked.{CanBePicked, picked_words, picked_file}, proofs.ReadBack.{small-words, unrefused, given-events}}
 
 -- the ends that bytes of FILE show by themselves to `pick`
-module _ (chooses : Event → Bool) (how : Reading) (bytes : List ℕ) where
+module _ (chooses : Event → Bool) (how : StreamSettings) (bytes : List ℕ) where
   abbrev photons : List Event
   photons = photons_in chooses how (words_of bytes)
 
@@ -89,6 +89,6 @@ one-outcome request plan_file data_file end = search (rules, arith, told-only, t
 
 pub listed-picked : (name : List ℕ) (mode : Mode) (photons : List Event) → CanBePicked mode photons → length (picked_words mode photons) ≤ record_limit
     → Lists name (picked_file mode photons) mode photons
-unfolding outcome streamed short_file
+unfolding outcome streamed minimal_file
 listed-picked name T2 photons can few = search (rules, arith, short-answer, words_of-bytes_in, small-words, given-events, unrefused, rest_of-bytes_in)
 listed-picked name T3 photons can few = search (rules, arith, short-answer, words_of-bytes_in, small-words, given-events, unrefused, rest_of-bytes_in)

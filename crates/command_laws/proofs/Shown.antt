@@ -1,7 +1,7 @@
 -- The ends that bytes of FILE show by themselves.
 use Rattle.std.{proofs.Common.{◌≡◌, ◌≢◌, ◌^◌, ℕ, List, ◌++◌, length, Bool, true, false, None, Some, Ok, Err, refl, sym, ap, ◌∙◌, subst, inl, inr, arith, ◌⊎◌, Result, nat_lt, rules}, specs.declared.option.Option.Option, proofs.lemmas.Bool.Decides.nat_tests, proofs.lemmas.List.length-take}
 use Rattle.tally_base.{specs.declared.fault.Fault.Fault, specs.declared.fault.Fault.TheVariants.{TruncatedHeader, RecordLimit}, specs.declared.header.Header.Header, specs.declared.header.RecordType.RecordType, specs.Faults.fault_in, specs.RecordTypes.mode_of}
-use Rattle.ptu_definitions.{specs.declared.records.Summary.Summary, specs.Headers.{header_answer, Shows}, specs.Words.{words_of, record_limit, counted}, specs.Streams.{Reading, record_refusal, streamed}, proofs.WordsLemmas.{words_of-append, length-words_of-append}, proofs.StreamLemmas.given-stays, proofs.SeenLaws.cut-size, proofs.Stays.{refused-stays, headed-stays}}
+use Rattle.ptu_definitions.{specs.declared.records.Summary.Summary, specs.Headers.{header_answer, Shows}, specs.Words.{words_of, record_limit, counted}, specs.Streams.{StreamSettings, record_refusal, streamed}, proofs.WordsLemmas.{words_of-append, length-words_of-append}, proofs.StreamLemmas.given-stays, proofs.SeenLaws.cut-size, proofs.Stays.{refused-stays, headed-stays}}
 use Rattle.record_stream.proofs.Lasts.{streamed-refused, streamed-shown}
 use Rattle.plan_text.{specs.Plan.PlanView, specs.Fits.fits}
 use Rattle.gate_plan.{specs.Histories.reading_by, specs.Shifting.sorting}
@@ -49,7 +49,7 @@ pub suited : (goes : Result (Unit {0}) Fault → Type 0) (out : List ℕ → Res
 suited goes out bytes refusal further r = search (rules, arith)
 
 -- an end by the answer of the records
-read : (how : Reading) (goes : Type 0) (out : List ℕ → Result Summary Fault → Outcome) (bytes : List ℕ) → (record_refusal how (words_of bytes) ≡ None → goes)
+read : (how : StreamSettings) (goes : Type 0) (out : List ℕ → Result Summary Fault → Outcome) (bytes : List ℕ) → (record_refusal how (words_of bytes) ≡ None → goes)
     → ((fault : Fault) → record_refusal how (words_of bytes) ≡ Some fault → Shows (λ b. out b (Err fault)) bytes (out bytes (Err fault)))
     → OrStays goes (λ b. out b (streamed how b)) bytes
 read how goes out bytes further refusal = by (record_refusal how (words_of bytes)) refl

@@ -2,7 +2,7 @@
 use Rattle.std.{specs.Prelude.{ℕ, ◌≡◌, ◌≢◌, ◌⊎◌, ◌<◌, ◌≤◌, List, [], ◌∷◌, ◌++◌, length, take, get_or, map, flat_map, codes, decimal, nat_le, count_by, ◌+◌, ◌/◌, ◌==◌, true, None, Some, Result, Ok, Err}, specs.List.filter, specs.declared.option.Option.Option}
 use Rattle.tally_base.{specs.declared.slot.Slot.TheVariants.Data, specs.declared.event.Event.Event, specs.declared.fault.Fault.Fault, specs.declared.fault.Fault.TheVariants.{OpenFault, RecordLimit, TruncatedRecord, PickTime}, specs.declared.header.Header.Header, specs.declared.header.Mode.Mode, specs.Faults.fault_in, specs.RecordTypes.mode_of, specs.Settings.{PartSettings, StartStopView, TraceView}, specs.Settings.PartSettings.StartStopSettings}
 use Rattle.bench_io.specs.Inputs.{File}
-use Rattle.ptu_definitions.{specs.declared.records.Summary.Summary, specs.TagList.{Item, IsHeader}, specs.Headers.{HasAnswer, head_of, begun, IsLongestFront, HasNoFront}, specs.Words.{words_of, rest_of, record_limit}, specs.Layouts.meaning_of, specs.Kinds.counts_of, specs.Prefixes.each, specs.Settled.{kept_by, settled_by}, specs.Times.events, specs.Streams.{Reading, refusal, events_in, summary_of, IsFirst}}
+use Rattle.ptu_definitions.{specs.declared.records.Summary.Summary, specs.TagList.{Item, IsHeader}, specs.Headers.{HasAnswer, head_of, begun, IsLongestFront, HasNoFront}, specs.Words.{words_of, rest_of, record_limit}, specs.Layouts.meaning_of, specs.Kinds.counts_of, specs.Prefixes.each, specs.Settled.{kept_by, settled_by}, specs.Times.events, specs.Streams.{StreamSettings, refusal, events_in, summary_of, IsFirst}}
 use Rattle.plan_text.specs.Plan.{PlanView, parts_of}
 use Rattle.coincidence.specs.Intervals.{count_pairs}
 use Rattle.gate_plan.{specs.Shifting.sorting, specs.Histories.{history, settled_history, reading_by}}
@@ -36,7 +36,7 @@ WholeCase behind text end =
     ⊎ ((rest_of behind ≡ []) × (end ≡ written text))
 
 -- No word is refused behind those before it.
-abbrev pub NoneRefused : Reading → List ℕ → Type 0
+abbrev pub NoneRefused : StreamSettings → List ℕ → Type 0
 NoneRefused how words = (k d : ℕ) → k < length words → refusal how (take k words) (get_or words k d) ≡ None
 
 -- ## count
@@ -82,7 +82,7 @@ pub record PrintCase (bytes : List ℕ) (end : Outcome) : Type 0 where
 -- ## events
 
 -- The end of a stream that is read so: at the least record that is refused, with the text of those before it; at one that is cut, with that of all whole ones; or well, with the whole text.
-abbrev pub StreamCase : Reading → (List ℕ → List ℕ) → List ℕ → List ℕ → Outcome → Type 0
+abbrev pub StreamCase : StreamSettings → (List ℕ → List ℕ) → List ℕ → List ℕ → Outcome → Type 0
 StreamCase how text_of whole_text behind end =
     ((fault : Fault) × (least : IsFirst how fault [] (words_of behind)) × (end ≡ record { text = text_of least.front; fault = Some fault }))
     ⊎ ((NoneRefused how (words_of behind) × (rest_of behind ≢ []) × (end ≡ record { text = text_of (words_of behind); fault = Some (TruncatedRecord (length (rest_of behind))) }))

@@ -4,7 +4,7 @@ use Rattle.toml.specs.Data.{Members, table}
 use Rattle.tally_base.{specs.declared.slot.Slot.TheVariants.{Plan, Data}, specs.declared.fault.Fault.Fault, specs.declared.fault.Fault.TheVariants.{Usage, OpenFault, OutOfMemory, TruncatedRecord}, specs.declared.header.Header.Header, specs.RecordTypes.mode_of, specs.Faults.status_of}
 use Rattle.bench_io.specs.Inputs.{File}
 use Rattle.ptu_definitions.{specs.Headers.HasAnswer, specs.Words.{words_of, rest_of}}
-use Rattle.plan_text.{specs.Plan.{PlanView, plan}, specs.Reading.{document, IsValid, IsCalledFor}, specs.Fits.IsMisfit}
+use Rattle.plan_text.{specs.Plan.{PlanView, plan}, specs.ReadPlan.{document, IsValid, IsCalledFor}, specs.Fits.IsMisfit}
 use Rattle.gate_plan.specs.Histories.{reading_by}
 use Rattle.command_words.specs.Commands.{Request}
 use Rattle.ptu_cli.specs.Behaviours.{behaviour}

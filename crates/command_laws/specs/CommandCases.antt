@@ -3,8 +3,8 @@ use Rattle.std.{specs.Prelude.{ℕ, ◌≡◌, ◌≢◌, ◌⊎◌, ◌<◌, �
 use Rattle.toml.specs.Data.{Members, table}
 use Rattle.tally_base.{specs.declared.slot.Slot.TheVariants.Plan, specs.declared.fault.Fault.Fault, specs.declared.fault.Fault.TheVariants.{Usage, OpenFault, OutOfMemory, RecordLimit, NoTrace, NoGroup, PickTime}, specs.declared.header.Header.Header, specs.RecordTypes.mode_of}
 use Rattle.bench_io.specs.Inputs.{File}
-use Rattle.ptu_definitions.{specs.Words.{words_of, record_limit}, specs.Streams.{Reading, IsFirst}}
-use Rattle.plan_text.{specs.Plan.{PlanView, plan}, specs.Reading.{document, IsValid, IsCalledFor}, specs.Fits.IsMisfit}
+use Rattle.ptu_definitions.{specs.Words.{words_of, record_limit}, specs.Streams.{StreamSettings, IsFirst}}
+use Rattle.plan_text.{specs.Plan.{PlanView, plan}, specs.ReadPlan.{document, IsValid, IsCalledFor}, specs.Fits.IsMisfit}
 use Rattle.gate_plan.specs.Histories.{reading_by}
 use Rattle.ptu_made.{specs.Generator.made_words, specs.Records.made_header}
 use Rattle.command_words.specs.Commands.{Request, Count, Events, Run, Trace, Pick, Demo, Header as HeaderOf}
@@ -45,7 +45,7 @@ pub data CommandCases : Type 1 where
 -- ## The commands
 
 -- the least record that is refused, and with which fault
-abbrev pub RefusedIn : Reading → List ℕ → Fault → Type 0
+abbrev pub RefusedIn : StreamSettings → List ℕ → Fault → Type 0
 RefusedIn how behind fault = IsFirst how fault [] (words_of behind)
 
 -- No photon is written, so none is too late to be.
@@ -61,7 +61,7 @@ count_cases = record {
 }
 
 -- The records of a stream that is read so end it in these cases, and the least record that it refuses is the one that ends it.
-abbrev pub stream_cases : (Header → Reading) → (Header → List ℕ → Outcome → Type 0) → RecordCases
+abbrev pub stream_cases : (Header → StreamSettings) → (Header → List ℕ → Outcome → Type 0) → RecordCases
 stream_cases how ends = record {
   ends = ends;
   goes_through = λ header behind. NoneRefused (how header) (words_of behind);

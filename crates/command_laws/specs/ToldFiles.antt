@@ -2,7 +2,7 @@
 use Rattle.std.{specs.Prelude.{ℕ, ◌≡◌, ◌⊎◌, ◌+◌, ◌≤◌, ◌<◌, List, ◌++◌, length, true, false, None, Some}, specs.declared.option.Option.Option, specs.Io.KnownBytes.{Keeps, Appends}}
 use Rattle.tally_base.{specs.declared.slot.Slot.Slot, specs.declared.slot.Slot.TheVariants.{Plan, Data}, specs.declared.fault.Fault.Fault, specs.declared.fault.Fault.TheVariants.{OpenFault, ReadFault, WriteFault, OutOfMemory}, specs.FaultCounts.Rose}
 use Rattle.bench_io.{specs.Inputs.{File, InputState}, specs.Given.IsAtEnd}
-use Rattle.plan_text.{specs.Plan.PlanView, specs.Reading.text_limit}
+use Rattle.plan_text.{specs.Plan.PlanView, specs.ReadPlan.text_limit}
 use Rattle.command_words.specs.Commands.{Request}
 use Rattle.ptu_cli.{specs.Runs.{Around, TellsOn, EndsIn, NothingFailed}, specs.Behaviours.behaviour}
 use Rattle.command_work.{specs.Outcomes.{status}, specs.Behaviours.{piece_limit, Work, Writing, Memory, so_far, under, Behaviour, NoCommand, Alone, OnFile, ByPlan}, specs.Endings.{outcome, IsPlan, Tells, CutsShort, WantsBehind, LacksMemory, IsGood}}

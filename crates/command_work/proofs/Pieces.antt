@@ -3,9 +3,9 @@ use Rattle.std.{proofs.Common.{slice_range, ◌≡◌, ◌+◌, ◌≤◌, ℕ, 
 use Rattle.tally_base.{specs.declared.header.Header.Header, specs.declared.fault.Fault.Fault, specs.Faults.{is_outside, fault_in}, specs.declared.fault.Fault.TheVariants.WriteFault, proofs.Reasons.HasReason-follows}
 use Rattle.ptu_definitions.{specs.Endings.ending, specs.Headers.header_answer}
 use Rattle.command_work.{specs.Outcomes.{IsCut, SaysNoEnd}, specs.Behaviours.piece_limit, specs.Works.TakesFew, specs.Pieces.StopsSoon, specs.Endings.Span, specs.Tellings.{Telling, IsText, Opens}, specs.Rests.{EndsText, CutsText, ReadsText, ReadsRest}, proofs.Once.{counts-behind, quiet-memory, once-refl, Rose-kept}, proofs.RestEnds.{end_with, writes-reason, writes-once, writes-quiet}}
-use Rattle.ptu_header.{specs.declared.reader.HeaderReader.HeaderReader, specs.Reading.HasRead}
+use Rattle.ptu_header.{specs.declared.reader.HeaderReader.HeaderReader, specs.ReadHeader.HasRead}
 use Rattle.bench_io.{specs.Given.{Given, Consumes}, specs.Inputs.InputState, proofs.States.Consumes-nil, proofs.Bytes.{Appends-trans, AppendsShort-behind}}
-use Rattle.told_text.{specs.Texts.{WroteText, CutText, WritesText}, proofs.Texts.{WroteText-trans, CutText-behind, CutText-more}}
+use Rattle.streamed_text.{specs.Texts.{WroteText, CutText, WritesText}, proofs.Texts.{WroteText-trans, CutText-behind, CutText-more}}
 
 together : (bytes piece : List ℕ) (used more : ℕ) → (bytes ++ take used piece) ++ take more (drop used piece) ≡ bytes ++ take (used + more) piece
 together bytes piece used more = append_assoc bytes (take used piece) (take more (drop used piece)) ∙ ap (λ l. bytes ++ l) (sym (take-add used more piece))

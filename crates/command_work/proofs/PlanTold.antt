@@ -2,7 +2,7 @@
 use Rattle.std.{proofs.Common.{◌≡◌, ℕ, List, true, false, None, Some, Ok, Err, refl, sym, ◌∙◌, subst, inl, inr, Result, arith, rules, ◌<◌, ◌≤◌, ◌+◌, [], ◌++◌, length, take, ap, append-nil, ◌≢◌, IfErr}, specs.declared.option.Option.Option, proofs.lemmas.Bool.{cases_Bool, cases_lt}, proofs.lemmas.List.{length-append, length-take-le}}
 use Rattle.tally_base.{specs.declared.fault.Fault.Fault, specs.declared.slot.Slot.Slot, specs.declared.slot.Slot.TheVariants.{Plan as PlanSlot, Data}, specs.Faults.{is_outside, fault_in, HasReason}, proofs.Reasons.{HasReason-follows, HasReason-inside}, specs.declared.fault.Fault.TheVariants.OutOfMemory, specs.declared.header.Mode.Mode}
 use Rattle.bench_io.{specs.Given.{Given, no_bytes, IsOf, Consumes, IsAtEnd}, specs.Inputs.{File, InputState, KeepsOther, Keeps, OnlyReads}, proofs.Bytes.Appends-nil}
-use Rattle.plan_text.{specs.declared.plan.Plan.Plan, specs.Plan.PlanView, specs.Reading.{plan_view, text_limit, plan_answer, plan_seen, IsCalledFor}, specs.Fits.IsMisfit, proofs.Called.plan_answer_long, proofs.Misfits.names_part}
+use Rattle.plan_text.{specs.declared.plan.Plan.Plan, specs.Plan.PlanView, specs.ReadPlan.{plan_view, text_limit, plan_answer, plan_seen, IsCalledFor}, specs.Fits.IsMisfit, proofs.Called.plan_answer_long, proofs.Misfits.names_part}
 use Rattle.command_work.{specs.Outcomes.{Outcome, refused, InputsOnce}, specs.Pieces.{IsRead, AnswersPlan, PlanReason, OnlyUses}, specs.Behaviours.{Work, Writing, under, Memory, Behaviour, ByPlan}, specs.Works.{AnswersWork, WorkReason}, specs.Endings.{IsPlan, HasPlan, OpensAs, ToldAreIts, TakesPlan, EndsWith, Answers, Cuts, WantsBehind, Span, HasCauses, on_file, outcome, HasWholePlan, WantsForPlan}, proofs.Once.{Rose-kept, IsQuiet, quiet-none, quiet-memory, quiet-inside}, proofs.Told.{all-taken, none-ended, told-is-its, ends-told, stops-told, cuts-told, file-splits}}
 
 -- a plan that was read is that of each file that may be the one read

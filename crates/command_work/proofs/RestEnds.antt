@@ -2,10 +2,10 @@
 use Rattle.std.{proofs.Common.{◌≡◌, ◌∙◌, ◌≤◌, ℕ, List, [], ◌++◌, None, Some, Ok, Err, refl, ap, inl, inr, ⊎_elim, append_assoc, append-nil, length, take, arith, ◌⊎◌, true, false, Result, IfErr, IsErrAnd, rules, length-append, ◌≢◌, ◌+◌, OnOk}, specs.declared.option.Option.Option, proofs.lemmas.List.length-take, specs.Io.KnownBytes.Appends, proofs.lemmas.Bool.cases_Bool}
 use Rattle.tally_base.{specs.declared.fault.Fault.Fault, specs.declared.fault.Fault.TheVariants.{ReadFault, WriteFault}, specs.declared.slot.Slot.Slot, specs.declared.slot.Slot.TheVariants.Data, specs.Faults.{is_outside, fault_in, HasReason}, proofs.Reasons.HasReason-inside, specs.FaultCounts.Rose, specs.declared.header.Header.Header, specs.declared.header.Mode.Mode}
 use Rattle.bench_io.{specs.Given.{Consumes, IsAtEnd}, specs.Inputs.{InputState, KeepsOther, OpensNone}, proofs.States.{Consumes-nil, Consumes-kept, Consumes-trans}, specs.Sinks.AppendsShort}
-use Rattle.told_text.{specs.Texts.{WroteText, CutText, WritesText}, proofs.Texts.{WroteText-none, WroteText-trans, CutText-behind, CutText-more}}
+use Rattle.streamed_text.{specs.Texts.{WroteText, CutText, WritesText}, proofs.Texts.{WroteText-none, WroteText-trans, CutText-behind, CutText-more}}
 use Rattle.command_work.{specs.Outcomes.{SaysNoEnd, InputsOnce, OutOnce, Outcome, refused, MayChange}, specs.Behaviours.piece_limit, specs.Endings.Span, specs.Works.TakesFew, specs.Tellings.{Telling, IsText, WritesPiece, WritesEnd, Opens, unless_declined, headed_end, headed_text, HeadedGoes}, specs.Rests.{EndsText, ReadsRest}, proofs.Once.{out-inside, counts-behind, IsQuiet, quiet-none, quiet-write, quiet-inside, once-refl, once-read, once-unread, Rose-kept}, proofs.Told.fails-on, proofs.PlanTold.misfit-inside}
 use Rattle.plan_text.{specs.Plan.PlanView, specs.Fits.fits, proofs.Misfits.misfit_named}
-use Rattle.ptu_definitions.{specs.Words.words_of, specs.Streams.{Reading, record_refusal, refusals, streamed}}
+use Rattle.ptu_definitions.{specs.Words.words_of, specs.Streams.{StreamSettings, record_refusal, refusals, streamed}}
 use Rattle.record_stream.{specs.declared.stream.RecordStream.RecordStream, specs.Standing.{refused_with, bytes_in}, specs.Pieces.StaysOpen}
 
 -- What is made of bytes that are refused or not.
@@ -96,7 +96,7 @@ AppendsShort-none a b q = let e : length {A = ℕ} [] ≡ length (q.0 ++ q.1) = 
 pub not_written : (refused : Option Fault) → refused ≡ None → refused ≢ Some WriteFault
 not_written refused none = search (rules, arith)
 
-pub streamed-open : (how : Reading) (bytes : List ℕ) → record_refusal how (words_of bytes) ≡ None → MayChange (fault_in (streamed how bytes))
+pub streamed-open : (how : StreamSettings) (bytes : List ℕ) → record_refusal how (words_of bytes) ≡ None → MayChange (fault_in (streamed how bytes))
 unfolding streamed
 streamed-open how bytes none = search (rules, arith, cases_Bool)
 
@@ -106,7 +106,7 @@ pub stays-open : {A : Type 0} (old new : RecordStream) (piece : List ℕ) (r : R
 stays-open old new piece r refused counted = search (rules, arith)
 
 -- no words are refused
-pub refused-none : (how : Reading) → record_refusal how [] ≡ None
+pub refused-none : (how : StreamSettings) → record_refusal how [] ≡ None
 unfolding refusals
 refused-none how = refl
 

@@ -1,7 +1,7 @@
 -- How a command comes to its end, and what it does with the bytes of FILE.
 use Rattle.std.{specs.Prelude.{ℕ, ◌≡◌, ◌≤◌, List, [], length, None, Ok}, specs.declared.option.Option.{Option}}
 use Rattle.tally_base.{specs.declared.fault.Fault.Fault, specs.declared.header.Header.Header}
-use Rattle.ptu_definitions.{specs.Headers.header_answer, specs.Words.{words_of, rest_of, record_limit}, specs.Streams.{Reading, record_refusal}}
+use Rattle.ptu_definitions.{specs.Headers.header_answer, specs.Words.{words_of, rest_of, record_limit}, specs.Streams.{StreamSettings, record_refusal}}
 use Rattle.plan_text.specs.Plan.{PlanView}
 use Rattle.command_work.specs.Outcomes.{Outcome}
 
@@ -57,7 +57,7 @@ pub record AreWhole (behind : List ℕ) : Type 0 where
   pub whole : rest_of behind ≡ []
 
 -- The records behind a header are whole, and none is refused.
-pub record AreRead (how : Reading) (behind : List ℕ) : Type 0 where
+pub record AreRead (how : StreamSettings) (behind : List ℕ) : Type 0 where
   pub unrefused : record_refusal how (words_of behind) ≡ None
   pub whole : rest_of behind ≡ []
 

@@ -3,7 +3,7 @@ use Rattle.std.{specs.Prelude.{ℕ, ◌≡◌, ◌⊎◌, ◌+◌, ◌≤◌, �
 use Rattle.tally_base.{specs.declared.slot.Slot.Slot, specs.declared.slot.Slot.TheVariants.{Plan, Data}, specs.declared.fault.Fault.Fault, specs.declared.fault.Fault.TheVariants.{Usage, OpenFault}, specs.Faults.{line_of, is_outside, fault_in, HasReason}, specs.FaultCounts.Rose, specs.declared.header.Header.Header, specs.RecordTypes.mode_of}
 use Rattle.bench_io.{specs.Sinks.AppendsShort, specs.Given.{IsOf, IsAtEnd}, specs.Inputs.{File, InputState, IsOpened}, specs.declared.inputs.Inputs.Ghosts as InputGhosts, specs.declared.sink.Sink.Ghosts as SinkGhosts}
 use Rattle.ptu_definitions.specs.Headers.{header_answer}
-use Rattle.plan_text.{specs.Plan.{PlanView, parts_of}, specs.Reading.{text_limit, plan_answer}, specs.Fits.fits}
+use Rattle.plan_text.{specs.Plan.{PlanView, parts_of}, specs.ReadPlan.{text_limit, plan_answer}, specs.Fits.fits}
 use Rattle.command_work.{specs.Outcomes.{InputsOnce, OutOnce, Outcome, refused, status}, specs.Behaviours.{piece_limit, Work, Writing, AtEnd, AsItReads, so_far, under, Memory, ForPlan, ForTables, Behaviour, NoCommand, Alone, OnFile, ByPlan}}
 
 -- ## What the files call for

@@ -4,8 +4,8 @@ use Rattle.tally_base.{specs.declared.slot.Slot.TheVariants.{Data, Plan as PlanS
 use Rattle.bench_io.{specs.Inputs.{InputState, File, Keeps, KeepsOther}, specs.Given.{Given, Consumes, IsAtEnd}}
 use Rattle.command_work.{specs.Outcomes.{SaysNoEnd, Says, IsCut}, specs.Behaviours.piece_limit, specs.Works.TakesFew, specs.declared.header.Fed.Fed, specs.declared.header.Fed.TheVariants.{More, Done, Refused}, specs.declared.data.FoundHeader.FoundHeader, specs.Endings.{FileOf, WantsForPlan}}
 use Rattle.ptu_definitions.specs.Headers.{header_answer, Shows}
-use Rattle.ptu_header.{specs.declared.reader.HeaderReader.HeaderReader, specs.Reading.{HasRead, is_open, bytes_taken}}
-use Rattle.plan_text.{specs.declared.plan.Plan.Plan, specs.Reading.{text_limit, plan_answer, plan_seen}}
+use Rattle.ptu_header.{specs.declared.reader.HeaderReader.HeaderReader, specs.ReadHeader.{HasRead, is_open, bytes_taken}}
+use Rattle.plan_text.{specs.declared.plan.Plan.Plan, specs.ReadPlan.{text_limit, plan_answer, plan_seen}}
 
 -- The only fault from outside is that a read of the data failed, where its count rose.
 abbrev pub ReadReason : InputState → InputState → Fault → Type 0

@@ -2,7 +2,7 @@
 use Rattle.std.{specs.Prelude.{ℕ, ◌≡◌, ◌⊎◌, ◌<◌, List, [], ◌++◌, length, false, None, Some, Result, Ok, Err}, specs.declared.option.Option.Option, specs.Io.KnownBytes.Keeps}
 use Rattle.tally_base.{specs.declared.fault.Fault.Fault, specs.declared.fault.Fault.TheVariants.OutOfMemory, specs.declared.header.Header.Header, specs.Faults.is_outside}
 use Rattle.bench_io.specs.Sinks.{AppendsShort}
-use Rattle.told_text.specs.Texts.{WritesText}
+use Rattle.streamed_text.specs.Texts.{WritesText}
 use Rattle.ptu_definitions.specs.Headers.{header_answer}
 use Rattle.command_work.{specs.Outcomes.{Outcome, refused, MayChange}, specs.Behaviours.{piece_limit, Work, Writing, so_far}, specs.Endings.Cuts}
 

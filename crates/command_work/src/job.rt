@@ -1,13 +1,47 @@
-// What a command does with all bytes of FILE.
-ghost use Rattle.std.specs.Prelude.{◌≡◌, [], List, ℕ, IfOk, slice_range, true};
+// What a command makes of the bytes after a header, and the loop that reads them.
+ghost use Rattle.std.specs.Prelude.{◌≡◌, ◌+◌, ◌≤◌, [], List, ℕ, ◌++◌, length, IfOk, OnOk, None, true};
 ghost use Rattle.tally_base.{specs.declared.slot.Slot.TheVariants.Data, specs.declared.header.Header.Header};
 ghost use Rattle.bench_io.specs.Inputs.{OnlyReads};
-ghost use Rattle.command_work.{specs.Behaviours.{Work, Writing}, specs.Endings.span, specs.Pieces.HoldsPart, specs.Rests.ReadsRest, specs.Tellings.{Telling, Opens, Suits}, specs.Works.LeavesWork};
+ghost use Rattle.command_work.{specs.Behaviours.{Work, Writing}, specs.Endings.span, specs.Pieces.IsReady, specs.Rests.ReadsRest, specs.Tellings.{Telling, IsText, Opens, Suits, WritesPiece, WritesEnd}, specs.Works.LeavesWork};
 
-use crate::data::{PIECE, read_header};
-use crate::reader::{Reader, read_rest};
+use crate::data::{PIECE, READ_FAULT, read_header};
 use bench_io::{Inputs, Sink};
-use tally_base::{Fault, Header};
+use tally_base::{Fault, Header, Slot};
+
+/// Takes bytes in pieces, writes a text meanwhile, and more of it at their end.
+pub trait Reader: Drop {
+    /// What it makes of bytes. No call changes that.
+    ghost tells: { Self → Telling };
+
+    /// It was given these bytes and refused none.
+    ghost stands: { Self → List ℕ → Type 0 };
+
+    /// How many bytes it takes at most.
+    ghost room: { Self → ℕ };
+
+    /// Takes the next bytes, and writes what they add to the text.
+    fn piece<O: Sink>(&mut self, piece: &[u8], out: &mut O) -> Result<(), Fault>
+        requires { (bytes : List ℕ) × stands self.old bytes }
+        ensures same { tells self.new ≡ tells self.old }
+        ensures writes { (bytes : List ℕ) → stands self.old bytes
+            → WritesPiece (tells self.old) bytes piece.now (O.written out.old) (O.written out.new)
+            (O.faults out.old) (O.faults out.new) result }
+        ensures takes { OnOk result ((bytes : List ℕ) → stands self.old bytes
+            → stands self.new (bytes ++ piece.now)) }
+        ensures room { OnOk result (room self.new + length piece.now ≤ room self.old) };
+
+    /// Writes the end of the text.
+    fn end<O: Sink>(self, out: &mut O) -> Result<(), Fault>
+        requires { (bytes : List ℕ) × stands self bytes }
+        ensures { (bytes : List ℕ) → stands self bytes
+            → WritesEnd (tells self) bytes (O.written out.old) (O.written out.new)
+            (O.faults out.old) (O.faults out.new) result };
+
+    ghost law: { (r : Self) → IsText (tells r) };
+
+    /// What it stands for is not refused.
+    ghost clear: { (r : Self) (bytes : List ℕ) → stands r bytes → (tells r).refuses bytes ≡ None };
+}
 
 /// Opens a reader for the bytes after a header.
 pub trait Job {
@@ -37,26 +71,29 @@ pub trait Job {
         → Suits (work job) (writing job) (wanting job) (tells job) (wants job) };
 }
 
-/// Does a job with all data after a header. Those that were read with it are the bytes of the
-/// buffer from `used` to `len`.
-fn read_after<J: Job, I: Inputs, O: Sink>(
-    job: &J,
-    header: &Header,
+/// Gives a reader all data after those that it was given, and ends it.
+fn read_rest<R: Reader, I: Inputs, O: Sink>(
     inputs: &mut I,
     buffer: &mut [u8],
-    used: usize,
-    len: usize,
+    mut reader: R,
     out: &mut O,
 ) -> Result<(), Fault>
-    requires { HoldsPart (I.state inputs.old) buffer.old used len }
+    requires ready { IsReady (I.state inputs.old) buffer.old }
+    requires stands { (bytes : List ℕ) × R.stands reader bytes }
     ensures reads { OnlyReads Data (I.state inputs.old) (I.state inputs.new) }
-    ensures rest { ReadsRest (J.tells job.now header.now) [] (slice_range buffer.old used len)
-        (J.wants job.now header.now)
+    ensures rest { (bytes : List ℕ) → R.stands reader bytes
+        → ReadsRest (R.tells reader) ((R.tells reader).text bytes) bytes ⊥
         (span I.Inputs O.Sink inputs.old inputs.new out.old out.new) result }
 {
-    let mut reader = job.open(header, out)?;
-    reader.piece(&buffer[used..len], out)?;
-    read_rest(inputs, buffer, reader, out)
+    'pieces: loop {
+        let Ok(len) = inputs.read(Slot::Data, buffer) else {
+            return Err(READ_FAULT);
+        };
+        if len == 0 {
+            return reader.end(out);
+        }
+        reader.piece(&buffer[..len], out)?;
+    }
 }
 
 /// Does a job with all bytes of FILE, its header and those after it.
@@ -72,13 +109,7 @@ pub fn read_file<J: Job, I: Inputs, O: Sink>(
 {
     let mut buffer = [0u8; PIECE];
     let found = read_header(inputs, &mut buffer)?;
-    read_after(
-        job,
-        &found.header,
-        inputs,
-        &mut buffer,
-        found.used,
-        found.len,
-        out,
-    )
+    let mut reader = job.open(&found.header, out)?;
+    reader.piece(&buffer[found.used..found.len], out)?;
+    read_rest(inputs, &mut buffer, reader, out)
 }

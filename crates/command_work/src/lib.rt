@@ -7,10 +7,8 @@ mod data;
 mod header;
 mod job;
 mod plan;
-mod reader;
 mod work;
 
 pub use data::{FoundHeader, PIECE, READ_FAULT, read_header};
-pub use job::{Job, read_file};
-pub use reader::Reader;
+pub use job::{Job, Reader, read_file};
 pub use work::{FileWork, PlanWork, by_plan, on_file};

@@ -3,7 +3,7 @@ ghost use Rattle.std.{specs.Prelude.{◌≡◌, ◌≤◌, ◌<◌, List, ℕ, t
 ghost use Rattle.tally_base.{specs.declared.slot.Slot.Slot, specs.declared.slot.Slot.TheVariants.Plan as PlanSlot, specs.declared.slot.Slot.TheVariants.Data, specs.declared.fault.Fault.Fault, specs.Faults.is_outside};
 ghost use Rattle.bench_io.specs.Inputs.{OnlyReads};
 ghost use Rattle.ptu_definitions.specs.Words.{record_limit};
-ghost use Rattle.plan_text.{specs.Plan.PlanView, specs.Reading.plan_view};
+ghost use Rattle.plan_text.{specs.Plan.PlanView, specs.ReadPlan.plan_view};
 ghost use Rattle.command_work.{specs.Behaviours.{Work, Writing, Memory, OnFile, ByPlan}, specs.Endings.{Does, span}, specs.Works.{WantsNone, LeavesWork, LeavesPlanned}};
 
 use crate::plan::plan_of;

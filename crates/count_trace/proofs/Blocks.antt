@@ -18,18 +18,18 @@ pub count-append : (set : TraceView) (test : ℕ → Bool) (h m : History) → c
 count-append set test h m = sum_by-append (λ (x : Event × ℕ). cond (is_photon x.0 && (is_in x.1 set.group && test x.0.time)) 1 0) h m
 
 -- the photon of the group in a row
-abbrev pub one_at : TraceView → Block → ℕ → ℕ
+abbrev pub one_at : {N : ℕ} → TraceView → Block N → ℕ → ℕ
 one_at set b n = if is_in (groups_at b n) set.group && nat_lt (code_at b n) 256 then 1 else 0
 
 -- one row more
-pub count-row : (set : TraceView) (test : ℕ → Bool) (b : Block) (n : ℕ)
+pub count-row : (set : TraceView) (test : ℕ → Bool) {N : ℕ} (b : Block N) (n : ℕ)
     → count_times set test (rows (item b) (n + 1)) ≡ count_times set test (rows (item b) n) + (if test (time_at b n) then one_at set b n else 0)
 count-row set test b n = search (rules, arith, more_rows, sum_by_push, moves_row)
 
-pub bin-row : (set : TraceView) (n : ℕ) (b : Block) (at : ℕ) → in_trace_bin set n (rows (item b) (at + 1)) ≡ in_trace_bin set n (rows (item b) at) + (if nat_le set.origin (time_at b at) && ((time_at b at - set.origin) / set.width == n) then one_at set b at else 0)
+pub bin-row : (set : TraceView) (n : ℕ) {N : ℕ} (b : Block N) (at : ℕ) → in_trace_bin set n (rows (item b) (at + 1)) ≡ in_trace_bin set n (rows (item b) at) + (if nat_le set.origin (time_at b at) && ((time_at b at - set.origin) / set.width == n) then one_at set b at else 0)
 bin-row set n b at = count-row set (λ time. nat_le set.origin time && ((time - set.origin) / set.width == n)) b at
 
-pub one_at_most : (set : TraceView) (b : Block) (n : ℕ) → one_at set b n ≤ 1
+pub one_at_most : (set : TraceView) {N : ℕ} (b : Block N) (n : ℕ) → one_at set b n ≤ 1
 one_at_most set b n = search (rules, arith)
 
 early : (origin time : ℕ) → time < origin → nat_le origin time ≡ false

@@ -4,7 +4,7 @@ ghost use Rattle.tally_base.{specs.Settings.trace_view, specs.Limits.record_limi
 ghost use Rattle.count_trace.specs.Trace.{CountsMore};
 
 use crate::bin::Bin;
-use tally_base::{BLOCK_SIZE, Block, TraceSet};
+use tally_base::{Block, TABLE_BLOCK, TraceSet};
 
 /// How many photons came outside a trace.
 #[derive(Clone, Copy)]
@@ -21,7 +21,7 @@ pub(crate) fn count_block(
     cells: &mut [u64],
     outside: &mut Outside,
     kept: &mut Bin,
-    block: &Block,
+    block: &Block<TABLE_BLOCK>,
 )
     requires sorted { IsSorted block.now }
     requires sized { length cells.old ≡ set.now.bins }
@@ -39,7 +39,7 @@ pub(crate) fn count_block(
     let own = *set;
     let mut bin = *kept;
     let mut rest = *outside;
-    for at in 0..block.len().min(BLOCK_SIZE) {
+    for at in 0..block.len().min(TABLE_BLOCK) {
         // No branch on the group, which is as good as random from photon to photon.
         let more = block.photons_in(at, own.group);
         let time = block.time(at);

@@ -6,7 +6,7 @@ use crate::bin::Bin;
 use crate::counting::{Outside, count_block};
 use std::alloc::{AllocError, Global};
 use std::sync::ledger::Ledger;
-use tally_base::{Block, Steps, Tally, TraceSet};
+use tally_base::{Block, Steps, TABLE_BLOCK, Tally, TraceSet};
 
 /// Counts the photons of a group by their times, in ticks in T2 and sync periods in T3.
 ///
@@ -115,7 +115,7 @@ impl Tally for Trace {
 
     ghost marker_groups = { marker_groups };
 
-    fn events<L: Ledger>(&mut self, block: &Block, _steps: &mut Steps<L>) {
+    fn events<L: Ledger>(&mut self, block: &Block<TABLE_BLOCK>, _steps: &mut Steps<L>) {
         self.taken += block.len() as u64;
         self.floor = block.floor_after(false, self.floor);
         count_block(

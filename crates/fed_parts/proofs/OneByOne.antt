@@ -34,7 +34,7 @@ pub late_floor : (mode : Mode) (old new : Reached) (es : List Event) (e : Event)
 late_floor mode old new es e is = search (rules, arith)
 
 -- where no event waits, the tables are as far as with those that do
-pub at_none : (mode : Mode) (reached : Reached) (block : Block) (count time : ℕ) → NoneWaits reached block count time → IsAt mode reached block count time
+pub at_none : {N : ℕ} (mode : Mode) (reached : Reached) (block : Block N) (count time : ℕ) → NoneWaits reached block count time → IsAt mode reached block count time
 at_none mode reached block count time none = search (rules, arith)
 
 -- Tables that are opened one behind the other.

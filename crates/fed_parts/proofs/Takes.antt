@@ -1,8 +1,8 @@
 -- One event more for all tables.
 use Rattle.std.{proofs.Common.{◌≡◌, ◌+◌, ◌≤◌, ◌<◌, ℕ, List, [], ◌∷◌, ◌++◌, Bool, true, false, refl, sym, ap, ◌∙◌, append_assoc, append-nil, arith, length, length-append, ◌&&◌, not, IsTrue, if◌then◌else◌, slice_index_or, rules}, proofs.lemmas.List.map-append, proofs.lemmas.List.Elements.filter-append}
-use Rattle.tally_base.{specs.declared.event.Event.Event, specs.declared.header.Mode.Mode, specs.declared.header.Mode.TheVariants.T2, specs.declared.tally.Tally.Ghosts, specs.Events.is_ordered, specs.Settings.is_strict, specs.Tally.{History, moves_floor, floor_after, InOrder}, specs.Limits.{record_limit, time_limit}, proofs.Floors.{floor-push, order-push, order-front, order-last}}
+use Rattle.tally_base.{specs.declared.event.Event.Event, specs.declared.header.Mode.Mode, specs.declared.header.Mode.TheVariants.T2, specs.declared.tally.Tally.Ghosts, specs.Events.is_ordered, specs.Settings.is_strict, specs.Tally.{History, moves_floor, floor_after, InOrder}, specs.Limits.{record_limit, time_limit}, proofs.Floors.{floor-append, floor-push, order-append, order-push, order-parts}}
 use Rattle.ptu_definitions.{specs.Kept.Marked, specs.Settled.not_marked}
-use Rattle.gate_plan.{specs.Shifting.Sorting, specs.Histories.with_groups, proofs.Histories.{with_groups-more, with_groups-push}}
+use Rattle.gate_plan.{specs.Shifting.Sorting, specs.Histories.with_groups, proofs.Histories.{with_groups-more}}
 use Rattle.fed_parts.{specs.Give.{kept_of, Holding, Moves, MayTake, HasTaken}, specs.Ahead.{Standing, Waits, Gave}}
 use Rattle.abs_time.proofs.Floors.{moved_floor-push}
 
@@ -30,8 +30,8 @@ late_floor : (b : Bool) (time floor : ℕ) → (if b && not true then time else 
 late_floor b time floor = search (rules, arith)
 
 module _ {T : Type 0} (g : Ghosts T) where
-  pub can_front : (es : List Event) (e : Event) (t : T) → MayTake g (es ++ e ∷ []) t → MayTake g es t
-  can_front es e t can = search (rules, arith, length-append, order-front)
+  pub can_front : (es more : List Event) (t : T) → MayTake g (es ++ more) t → MayTake g es t
+  can_front es more t can = search (rules, arith, length-append, order-parts)
 
   pub moves_none : (by : Sorting) (es : List Event) (t : T) → g.closed t ≡ false → InOrder (is_strict (g.settings t)) (g.floor t) es → Moves g by es es [] t t
   moves_none by es t still order = search (rules, arith, append-nil)
@@ -39,20 +39,20 @@ module _ {T : Type 0} (g : Ghosts T) where
   pub moves_all : (by : Sorting) (es none : List Event) (old new : T) → none ≡ [] → HasTaken g es (with_groups by es) old new → Moves g by es none [] old new
   moves_all by es none old new empty took = search (rules, arith, append-nil)
 
-  pub moves_push : (by : Sorting) (es es' now : List Event) (e : Event) (old new : T) → MayTake g (es ++ e ∷ []) old
-      → now ≡ es' ++ e ∷ [] → Moves g by es es' [] old new → Moves g by es now (e ∷ []) old new
-  moves_push by es es' now e old new can pushed m =
+  pub moves_more : (by : Sorting) (es es' now more : List Event) (old new : T) → MayTake g (es ++ more) old
+      → now ≡ es' ++ more → Moves g by es es' [] old new → Moves g by es now more old new
+  moves_more by es es' now more old new can pushed m =
       let strict = is_strict (g.settings old) in
       let same : floor_after strict (g.floor new) es' ≡ floor_after strict (g.floor old) es = m.moved ∙ ap (floor_after strict (g.floor old)) (append-nil es) in
-      let next = order-last strict (g.floor old) es e can.in_order in
+      let next = (order-parts strict (g.floor old) es more can.in_order).1 in
       rw pushed (record {
         follows = λ h held.
             let w = m.follows h held in
-            (w.0, rw (with_groups-push by es' e, ← append_assoc w.0, ← w.1, append-nil h) refl, w.2);
+            (w.0, rw (with_groups-more by es' more, ← append_assoc w.0, ← w.1, append-nil h) refl, w.2);
         still_open = m.still_open;
-        count = omega (arith, m.count, ap length (append-nil es), length-append es (e ∷ []), length-append es' (e ∷ []));
-        moved = floor-push strict (g.floor new) es' e ∙ rw same (sym (floor-push strict (g.floor old) es e));
-        in_order = order-push strict (g.floor new) es' e m.in_order next.0 (λ is. rw same (next.1 is));
+        count = omega (arith, m.count, ap length (append-nil es), length-append es more, length-append es' more);
+        moved = floor-append strict (g.floor new) es' more ∙ rw same (sym (floor-append strict (g.floor old) es more));
+        in_order = order-append strict (g.floor new) es' more m.in_order (rw same next);
         same_settings = m.same_settings;
       })
 

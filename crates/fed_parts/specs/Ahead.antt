@@ -20,13 +20,13 @@ abbrev pub floor_with_one : Mode → Reached → List Event → Event → ℕ
 floor_with_one mode reached es e = if is_ordered mode e then e.time else floor_with mode reached es
 
 -- The tables are so far with the events that wait in the block, which isn't sorted.
-pub record IsAt (mode : Mode) (reached : Reached) (block : Block) (count time : ℕ) : Type 0 where
+pub record IsAt {N : ℕ} (mode : Mode) (reached : Reached) (block : Block N) (count time : ℕ) : Type 0 where
   pub taken : taken_with reached (gathered block) ≡ count
   pub floor : floor_with mode reached (gathered block) ≡ time
   pub unsorted : sorted block ≡ 0
 
 -- The tables are so far, and no event waits in the block.
-pub record NoneWaits (reached : Reached) (block : Block) (count time : ℕ) : Type 0 where
+pub record NoneWaits {N : ℕ} (reached : Reached) (block : Block N) (count time : ℕ) : Type 0 where
   pub empty : gathered block ≡ []
   pub taken : reached.taken ≡ count
   pub floor : reached.floor ≡ time

@@ -4,9 +4,7 @@
 mod give;
 mod open;
 mod reached;
-mod waiting;
 
-pub use give::{close_all, gather};
+pub use give::{close_all, flush, gather, gather_block};
 pub use open::open_all;
 pub use reached::Reached;
-pub use waiting::{flush_waiting, give_behind};

@@ -1,7 +1,7 @@
 // The tables of a plan are opened.
 ghost use Rattle.std.specs.Prelude.{◌≡◌, ◌<◌, ◌++◌, length, map, IfOk, IfErr, OnOk};
 ghost use Rattle.tally_base.{specs.Settings.{PartSettings, hist_view, trace_view, startstop_view, coincidence_view, image_view, correlation_view, cube_view, fold_view}, specs.Settings.PartSettings.{HistSettings, TraceSettings, StartStopSettings, CoincidenceSettings, ImageSettings, CorrelationSettings, CubeSettings, FoldSettings}};
-ghost use Rattle.plan_text.{specs.Plan.parts_of, specs.Reading.plan_view};
+ghost use Rattle.plan_text.{specs.Plan.parts_of, specs.ReadPlan.plan_view};
 ghost use Rattle.plan_parts.specs.Parts.{settings_in, IsOpened, AllOpened};
 
 use coincidence::{Coincidence, StartStop};

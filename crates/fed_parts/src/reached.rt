@@ -28,7 +28,7 @@ impl Reached {
     }
 
     /// The events of a block more, which were given to every table.
-    pub(crate) fn pass_block(&mut self, mode: Mode, block: &Block)
+    pub(crate) fn pass_block<const N: usize>(&mut self, mode: Mode, block: &Block<N>)
         requires { self.old.taken + length (gathered block.now) ≤ record_limit }
         ensures taken { self.new.taken ≡ self.old.taken + length (gathered block.now) }
         ensures floor { self.new.floor ≡ floor_after (orders_markers mode) self.old.floor (gathered block.now) }

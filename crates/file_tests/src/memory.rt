@@ -2,7 +2,7 @@
 ghost use Rattle.std.specs.Prelude.{◌≡◌, true};
 
 use crate::checks::holds;
-use bench_io::{Block, Inputs, MemoryFile, MemoryInputs, MemorySink, Sink, write_all};
+use bench_io::{Inputs, MemoryFile, MemoryInputs, MemorySink, OutBuffer, Sink, write_all};
 use std::alloc::Global;
 use std::test::Fail;
 use tally_base::Slot;
@@ -58,7 +58,7 @@ fn a_sink_takes_what_it_has_room_for(rt: HostRuntime) -> Result<(), Fail> {
         write_all(&mut sink, b"abc").is_ok() && sink.write(b"d").is_err(),
         1,
     )?;
-    let mut block = Block::new();
+    let mut block = OutBuffer::new();
     holds(
         block.put(&mut sink, b"de").is_ok() && block.put(&mut sink, b"fgh").is_ok(),
         2,

@@ -2,12 +2,12 @@
 use Rattle.std.{proofs.Common.{◌≡◌, ℕ, List, [], ◌++◌, None, Some, refl, sym, ap, Ok, Err, ◌<◌, ◌==◌, Bool, length, map, arith, ◌∙◌, inl, inr, length-append, Result, if◌then◌else◌, rules, ◌≤◌, ◌↔◌, OnOk, OnErr, IfErr, IsErr, ◌∷◌}, specs.declared.option.Option.Option, specs.Io.KnownBytes.Appends, proofs.lemmas.Bool.cases_lt}
 use Rattle.tally_base.{specs.declared.fault.Fault.Fault, specs.declared.header.Header.Header, specs.Faults.fault_in, specs.declared.header.Mode.Mode, specs.declared.fault.Fault.TheVariants.{RecordLimit, WriteFault}, specs.declared.header.RecordType.RecordType, specs.FaultCounts.FailsOnce}
 use Rattle.bench_io.{specs.Sinks.AppendsShort, proofs.Bytes.{Appends-trans, Appends-same, AppendsShort-behind, AppendsShort-more, AppendsShort-same}}
-use Rattle.ptu_definitions.{specs.Headers.{header_answer, Shows, seen}, specs.declared.records.Summary.Summary, specs.Words.{words_of, counted, record_limit}, specs.Kept.{Marked, marked}, specs.Prefixes.each, specs.Settled.{ordered, settles, delivered}, specs.Times.events, specs.Streams.{Reading, given, last_in, streamed}, proofs.DeliveredLaws.delivered_last-0, specs.declared.records.KindCounts.KindCounts, specs.TagList.Item}
+use Rattle.ptu_definitions.{specs.Headers.{header_answer, Shows, seen}, specs.declared.records.Summary.Summary, specs.Words.{words_of, counted, record_limit}, specs.Kept.{Marked, marked}, specs.Prefixes.each, specs.Settled.{ordered, settles, delivered}, specs.Times.events, specs.Streams.{StreamSettings, given, last_in, streamed}, proofs.DeliveredLaws.delivered_last-0, specs.declared.records.KindCounts.KindCounts, specs.TagList.Item}
 use Rattle.list_out.{specs.HeaderText.header_text, proofs.Final.{header_text-grows, header_text-refused, header_text-done}, specs.Lines.{events_text, lines_of}}
 use Rattle.file_work.{specs.FileOutcomes.{header_outcome, counts_text, with_counts, count_outcome}, specs.BodyPieces.{AppendsHeader, CutsHeader}, specs.EventLines.lists, specs.CountPieces.{counts, CountsBytes}, specs.CountLaws.counts-clear}
 use Rattle.command_work.specs.Tellings.{WritesEnd, WritesPiece}
 use Rattle.record_stream.{specs.declared.taker.EventTaker.Ghosts, specs.Ending.Ended}
-use Rattle.told_text.proofs.Texts.{WroteText-none}
+use Rattle.streamed_text.proofs.Texts.{WroteText-none}
 use Rattle.record_layout.{specs.declared.counter.Counter.Counter, specs.Counting.HasCounted}
 
 outcome-at : (file text : List ℕ) (fault : Option Fault) → header_text file ≡ text
@@ -42,13 +42,13 @@ outcome-ended bytes fault h = outcome-at bytes (header_text bytes) (Some fault) 
 
 -- The end of a stream that keeps nothing back.
 
-last-none : (how : Reading) (words : List ℕ) → how.policy.settle ≡ 0 → last_in how words ≡ []
+last-none : (how : StreamSettings) (words : List ℕ) → how.policy.settle ≡ 0 → last_in how words ≡ []
 last-none how words zero = rw zero (delivered_last-0 how.mode (events (map how.meaning words)))
 
 none-broken : (front back : Marked) → 0 < length front → [] ≡ front ++ back → ⊥
 none-broken front back some adds = omega (arith, some, ap length adds, length-append front back)
 
-pub ended-plain : {T : Type 0} (g : Ghosts T) (how : Reading) (old new : T) (bytes : List ℕ) (r : Result Summary Fault)
+pub ended-plain : {T : Type 0} (g : Ghosts T) (how : StreamSettings) (old new : T) (bytes : List ℕ) (r : Result Summary Fault)
     → how.policy.settle ≡ 0 → Ended g how old new bytes r → r ≡ streamed how bytes
 ended-plain g how old new bytes (Ok summary) zero e = sym e.streams
 ended-plain g how old new bytes (Err fault) zero (inl e) = sym e.0
@@ -56,7 +56,7 @@ ended-plain g how old new bytes (Err fault) zero (inr e) =
     absurd (none-broken e.1.front e.1.back e.1.some (sym (last-none how (words_of bytes) zero) ∙ e.1.adds))
 
 -- its answer, where no line is left to write
-pub ends-listed : (how : Reading) (bytes : List ℕ) (a : Option (List ℕ)) (faults : ℕ) (r : Result Summary Fault) (done : Result (Unit {0}) Fault) → r ≡ streamed how bytes → fault_in done ≡ fault_in r → WritesEnd (lists how) bytes a a faults faults done
+pub ends-listed : (how : StreamSettings) (bytes : List ℕ) (a : Option (List ℕ)) (faults : ℕ) (r : Result Summary Fault) (done : Result (Unit {0}) Fault) → r ≡ streamed how bytes → fault_in done ≡ fault_in r → WritesEnd (lists how) bytes a a faults faults done
 ends-listed how bytes a faults r done is same = search (rules, arith)
 
 -- ## No bytes
@@ -65,7 +65,7 @@ none-delivered : (zero : Bool) (k : ℕ) (mode : Mode) → (if zero then marked 
 unfolding marked
 none-delivered zero k mode = search (rules, arith)
 
-pub lines_of-none : (how : Reading) → lines_of how [] ≡ []
+pub lines_of-none : (how : StreamSettings) → lines_of how [] ≡ []
 unfolding given events delivered
 lines_of-none how = ap events_text (none-delivered (how.policy.settle == 0) how.policy.settle how.mode)
 

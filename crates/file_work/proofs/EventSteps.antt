@@ -2,8 +2,8 @@
 use Rattle.std.{proofs.Common.{◌≡◌, ◌+◌, ◌≤◌, ℕ, List, [], ◌∷◌, ◌++◌, Bool, Ok, Err, Some, refl, sym, ap, subst, ◌∙◌, inl, inr, ⊎_elim, append_assoc, append-nil, arith, length-append, ◌&&◌, not, IsTrue, if◌then◌else◌}, specs.declared.option.Option.Option, specs.declared.result.Result.Result, specs.Io.KnownBytes.Appends}
 use Rattle.tally_base.{specs.declared.event.Event.Event, specs.declared.header.Mode.Mode, specs.declared.fault.Fault.Fault, specs.declared.fault.Fault.TheVariants.WriteFault, specs.Events.is_ordered, specs.FaultCounts.Rose}
 use Rattle.bench_io.{specs.Sinks.{AppendsShort, PassesOn}, proofs.Bytes.{PassesOn-trans, Appends-flushed, AppendsShort-passed, AppendsShort-flushed, AppendsShort-more, AppendsShort-kept, Keeps-from_none}}
-use Rattle.ptu_definitions.{specs.Kept.Marked, specs.Streams.{Reading, record_refusal, given}}
-use Rattle.told_text.specs.Texts.{WroteText, WritesText}
+use Rattle.ptu_definitions.{specs.Kept.Marked, specs.Streams.{StreamSettings, record_refusal, given}}
+use Rattle.streamed_text.specs.Texts.{WroteText, WritesText}
 use Rattle.list_out.specs.Lines.{event_text, events_text, lines_of}
 use Rattle.record_stream.{specs.declared.taker.EventTaker.Ghosts, specs.Feeding.{GaveOn, BrokeOn, Fed}}
 use Rattle.abs_time.proofs.Floors.{moved_floor-push}
@@ -40,12 +40,12 @@ ListedShort-more name name' mode mode' taken taken' floor floor' faults faults' 
   empty = none;
 }
 
-lines-add : (how : Reading) (words now : List ℕ) (more : Marked)
+lines-add : (how : StreamSettings) (words now : List ℕ) (more : Marked)
     → given how now ≡ given how words ++ more → lines_of how now ≡ lines_of how words ++ events_text more
 lines-add how words now more adds = ap events_text adds ∙ events_text-append (given how words) more
 
 module _ {T : Type 0} (g : Ghosts T) (told : T → Option (List ℕ)) (held : T
-    → List ℕ) (how : Reading) (a b : T) (c : Option (List ℕ)) (faults : ℕ) (words now : List ℕ) where
+    → List ℕ) (how : StreamSettings) (a b : T) (c : Option (List ℕ)) (faults : ℕ) (words now : List ℕ) where
   module _ (none : g.got a a []) (gets : (l : Marked) → g.got a b l → PassesOn (told a) (told b) (events_text l) (held b)) (breaks : (l : Marked)
       → g.broke a b l → AppendsShort (told a) (told b) (events_text l) × (held b ≡ [])) where
     gave : Appends (told b) c (held b) → faults ≡ g.faults b → GaveOn g how a b words now

@@ -5,7 +5,7 @@ use Rattle.ptu_tag.specs.declared.kind.TagKind.{TagKind}
 use Rattle.list_out.{specs.HeaderText.{body_text, kind_with, header_text}, specs.Lines.HasPut}
 use Rattle.tally_base.{specs.declared.header.Header.Header, specs.Faults.is_outside}
 use Rattle.ptu_definitions.{specs.TagList.{code_in, Item}, specs.Headers.{header_answer, Shows, seen}}
-use Rattle.ptu_header.specs.Reading.{HasRead, bytes_taken, is_open}
+use Rattle.ptu_header.specs.ReadHeader.{HasRead, bytes_taken, is_open}
 use Rattle.command_work.specs.Outcomes.{IsCut}
 use Rattle.file_work.{specs.declared.print.HeaderPrinter.HeaderPrinter, specs.declared.print.Printed.Printed, specs.declared.print.Printed.TheVariants.{More, Done, Refused}}
 

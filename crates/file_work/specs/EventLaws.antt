@@ -1,7 +1,7 @@
 -- What holds of the lines of events of bytes that grow.
 use Rattle.std.proofs.Common.{◌≡◌, ◌∙◌, ℕ, List, [], ◌∷◌, ◌++◌, None, refl, sym, ap, append_assoc}
 use Rattle.tally_base.{specs.declared.header.Header.Header, specs.Faults.fault_in}
-use Rattle.ptu_definitions.{specs.Headers.header_answer, specs.Kept.Marked, specs.Words.{words_of, rest_of}, specs.Streams.{Reading, record_refusal, given}, proofs.Firsts.{record_refusal-inside, streamed-inside}, proofs.WordsLemmas.words_of-append, proofs.StreamLemmas.{given-front, given-stays}}
+use Rattle.ptu_definitions.{specs.Headers.header_answer, specs.Kept.Marked, specs.Words.{words_of, rest_of}, specs.Streams.{StreamSettings, record_refusal, given}, proofs.Firsts.{record_refusal-inside, streamed-inside}, proofs.WordsLemmas.words_of-append, proofs.StreamLemmas.{given-front, given-stays}}
 use Rattle.record_stream.{specs.declared.stream.RecordStream.RecordStream, specs.Standing.how_of, proofs.Lasts.{streamed-shown, streamed-clear}}
 use Rattle.list_out.specs.Lines.{event_text, events_text, lines_of}
 use Rattle.command_work.{specs.Outcomes.MayChange, specs.Behaviours.AsItReads, specs.Works.WantsNone, specs.Tellings.{Telling, IsText, Suits}, proofs.RestEnds.{same-end, ends-headed, text-headed, goes-headed, streamed-open}}
@@ -11,12 +11,12 @@ pub events_text-append : (l m : Marked) → events_text (l ++ m) ≡ events_text
 events_text-append [] m = refl
 events_text-append (x ∷ l) m = ap (λ t. event_text x.0 x.1 ++ t) (events_text-append l m) ∙ sym (append_assoc (event_text x.0 x.1) (events_text l) (events_text m))
 
-lines-front : (how : Reading) (bytes more : List ℕ) → (tail : List ℕ) × (lines_of how (words_of (bytes ++ more)) ≡ lines_of how (words_of bytes) ++ tail)
+lines-front : (how : StreamSettings) (bytes more : List ℕ) → (tail : List ℕ) × (lines_of how (words_of (bytes ++ more)) ≡ lines_of how (words_of bytes) ++ tail)
 lines-front how bytes more =
     let r = given-front how (words_of bytes) (words_of (rest_of bytes ++ more)) in
     (events_text r.0, ap (lines_of how) (words_of-append bytes more) ∙ ap events_text r.1 ∙ events_text-append (given how (words_of bytes)) r.0)
 
-pub lists-law : (how : Reading) → IsText (lists how)
+pub lists-law : (how : StreamSettings) → IsText (lists how)
 lists-law how = record {
   refused = λ bytes more fault h.
       same-end (listed how (bytes ++ more)) _ _ (ap (lines_of how) (words_of-append bytes more) ∙ ap events_text (given-stays how (words_of bytes) (words_of (rest_of bytes ++ more)) fault h)) (ap fault_in (streamed-shown how bytes fault h more));

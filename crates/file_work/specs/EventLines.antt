@@ -2,7 +2,7 @@
 use Rattle.std.{specs.Prelude.{ℕ, ◌≡◌, ◌+◌, max, List, [], ◌++◌, length, refl, None, Result}, proofs.Common.{append-nil, arith}, specs.declared.option.Option.Option}
 use Rattle.tally_base.{specs.declared.header.Mode.Mode, specs.declared.fault.Fault.Fault}
 use Rattle.bench_io.{specs.Sinks.{AppendsShort, PassesOn}, proofs.Bytes.PassesOn-held, specs.declared.sink.Sink.Ghosts}
-use Rattle.ptu_definitions.{specs.Kept.{Marked, floor_of}, specs.Words.words_of, specs.Streams.{Reading, record_refusal}}
+use Rattle.ptu_definitions.{specs.Kept.{Marked, floor_of}, specs.Words.words_of, specs.Streams.{StreamSettings, record_refusal}}
 use Rattle.list_out.specs.Lines.{events_text, lines_of}
 use Rattle.command_work.specs.Tellings.{Telling, WritesPiece}
 use Rattle.record_stream.{specs.declared.stream.RecordStream.RecordStream, specs.Standing.{how_of, refused_with, HasStreamed}}
@@ -34,7 +34,7 @@ listed_none name mode taken floor faults old held = record { same_sink = refl; s
 -- What the events of words write that come after others.
 
 -- the lines of events
-abbrev pub lists : Reading → Telling
+abbrev pub lists : StreamSettings → Telling
 lists how = record {
   text = λ bytes. lines_of how (words_of bytes);
   ends = listed how;

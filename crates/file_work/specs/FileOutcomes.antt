@@ -1,7 +1,7 @@
 -- What `count`, `header` and `events` do with the bytes of FILE, and what they end with where nothing outside fails.
 use Rattle.std.specs.Prelude.{ℕ, List, ◌++◌, codes, decimal, Result, Ok, Err}
 use Rattle.tally_base.{specs.declared.fault.Fault.Fault, specs.declared.header.Header.Header, specs.RecordTypes.name_of, specs.Faults.fault_in, specs.declared.event.Policy.Policy, specs.declared.event.Order.TheVariants.Drop, specs.declared.event.OnReserved.TheVariants.Skip}
-use Rattle.ptu_definitions.{specs.declared.records.KindCounts.KindCounts, specs.Headers.header_answer, specs.Words.{counted, record_limit, words_of}, specs.Streams.{Reading, reading, streamed}}
+use Rattle.ptu_definitions.{specs.declared.records.KindCounts.KindCounts, specs.Headers.header_answer, specs.Words.{counted, record_limit, words_of}, specs.Streams.{StreamSettings, reading, streamed}}
 use Rattle.list_out.{specs.Lines.{lines_of, line, announced}, specs.HeaderText.header_text}
 use Rattle.command_work.{specs.Outcomes.{Outcome, refused, written, MayChange, IsCut}, specs.Behaviours.{Work, AreWhole, AreRead, IsHeaded}}
 
@@ -41,11 +41,11 @@ header_outcome file = record { text = header_text file; fault = fault_in (header
 abbrev pub listing_policy : Policy
 listing_policy = record { order = Drop; reserved = Skip; records = record_limit; settle = 0 }
 
-abbrev pub listing : Header → Reading
+abbrev pub listing : Header → StreamSettings
 listing header = reading header.record_type listing_policy
 
 -- the lines of the events, and the fault of the records
-abbrev pub listed : Reading → List ℕ → Outcome
+abbrev pub listed : StreamSettings → List ℕ → Outcome
 listed how bytes = record { text = lines_of how (words_of bytes); fault = fault_in (streamed how bytes) }
 
 abbrev pub events_behind : Result (Header × List ℕ) Fault → Outcome

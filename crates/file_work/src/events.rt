@@ -6,11 +6,13 @@ ghost use Rattle.record_stream.{specs.Standing.{how_of, HasStreamed}, specs.Piec
 ghost use Rattle.file_work.specs.EventLines.{ListsNone, IsOpenIn, ListsPiece};
 
 use abs_time::{moved_floor, orders_markers};
-use bench_io::{Block, Sink};
+use bench_io::{OutBuffer, Sink};
 use command_work::{Job, Reader};
 use list_out::{LINE_SIZE, LINES_SIZE, format_block, format_event};
 use record_stream::{EventTaker, RecordStream, Summary};
-use tally_base::{Event, Failed, Fault, Header, Mode, OnReserved, Order, Policy, RECORD_LIMIT};
+use tally_base::{
+    BLOCK_SIZE, Block, Event, Failed, Fault, Header, Mode, OnReserved, Order, Policy, RECORD_LIMIT,
+};
 
 /// How the records are read that are listed: late events are marked, and reserved records are left
 /// out.
@@ -25,7 +27,7 @@ const LISTING: Policy = Policy {
 #[derive(Drop)]
 struct EventLines<'o, O: Sink> {
     out: &'o mut O,
-    block: Block,
+    block: OutBuffer,
     // Room for the lines of a block of events.
     text: [u8; LINES_SIZE],
     mode: Mode,
@@ -74,7 +76,7 @@ impl<'o, O: Sink> EventTaker for EventLines<'o, O> {
         Ok(())
     }
 
-    fn take_block(&mut self, block: &mut tally_base::Block) -> Result<(), Failed> {
+    fn take_block(&mut self, block: &mut Block<BLOCK_SIZE>) -> Result<(), Failed> {
         if block.len() == 0 {
             return Ok(());
         }
@@ -107,29 +109,6 @@ fn feed_lines<'o, O: Sink>(
     }
 }
 
-/// Writes the lines of the events of a piece.
-fn list_piece<O: Sink>(
-    stream: &mut RecordStream,
-    mode: Mode,
-    piece: &[u8],
-    out: &mut O,
-) -> Result<(), Fault>
-    requires { mode ≡ (how_of stream.old).mode }
-    ensures fed { TakesOn stream.old stream.new piece.now }
-    ensures writes { ListsPiece O.Sink stream.old piece.now out.old out.new result }
-    ensures going { OnOk result (StaysOpen stream.old stream.new piece.now) }
-{
-    let mut lines = EventLines {
-        out,
-        block: Block::new(),
-        text: [0; LINES_SIZE],
-        mode,
-        taken: 0,
-        floor: 0,
-    };
-    feed_lines(stream, piece, &mut lines)
-}
-
 /// Ends a stream that keeps no event back: there is no line more to write.
 fn end_lines<O: Sink>(stream: RecordStream, mode: Mode, out: &mut O) -> Result<Summary, Fault>
     requires open_in { IsOpenIn mode stream }
@@ -140,7 +119,7 @@ fn end_lines<O: Sink>(stream: RecordStream, mode: Mode, out: &mut O) -> Result<S
 {
     let mut lines = EventLines {
         out,
-        block: Block::new(),
+        block: OutBuffer::new(),
         text: [0; LINES_SIZE],
         mode,
         taken: 0,
@@ -171,7 +150,15 @@ impl Reader for EventReader {
     ghost room = { λ r. 4 * record_limit + 3 - bytes_in r.stream };
 
     fn piece<O: Sink>(&mut self, piece: &[u8], out: &mut O) -> Result<(), Fault> {
-        list_piece(&mut self.stream, self.mode, piece, out)
+        let mut lines = EventLines {
+            out,
+            block: OutBuffer::new(),
+            text: [0; LINES_SIZE],
+            mode: self.mode,
+            taken: 0,
+            floor: 0,
+        };
+        feed_lines(&mut self.stream, piece, &mut lines)
     }
 
     fn end<O: Sink>(self, out: &mut O) -> Result<(), Fault> {

@@ -4,12 +4,12 @@ ghost use Rattle.tally_base.{specs.Faults.is_outside, specs.FaultCounts.FailsOnc
 ghost use Rattle.ptu_definitions.{specs.Headers.header_answer, specs.TagList.code_in};
 ghost use Rattle.bench_io.specs.Sinks.{AppendsShort, PassesOn};
 ghost use Rattle.ptu_tag.{specs.declared.kind.TagKind.TagKind, specs.Kinds.{IsHead, code_of}};
-ghost use Rattle.ptu_header.specs.Reading.{bytes_taken, is_open};
+ghost use Rattle.ptu_header.specs.ReadHeader.{bytes_taken, is_open};
 ghost use Rattle.list_out.{specs.HeaderText.{head_text, bare_end}, specs.Lines.HasPut};
 ghost use Rattle.file_work.specs.BodyPieces.{PutsBody, CutsBody, end_line};
 
 use arrayvec::ArrayVec;
-use bench_io::{Block, Sink};
+use bench_io::{OutBuffer, Sink};
 use list_out::{BodyText, header_line, preamble_lines};
 use ptu_header::{HeaderReader, HeaderStep};
 use ptu_tag::{TagHead, TagKind};
@@ -50,7 +50,7 @@ fn tag_line(tag: &TagHead, kind: TagKind) -> ArrayVec<u8, 256>
 fn put_body<O: Sink>(
     text: &mut BodyText,
     bytes: &[u8],
-    block: &mut Block,
+    block: &mut OutBuffer,
     out: &mut O,
 ) -> Result<(), Failed>
     ensures taken { OnOk result ((kind : TagKind) (part : List ℕ) → HasPut text.old kind part
@@ -69,7 +69,7 @@ fn put_body<O: Sink>(
 }
 
 /// Puts the newline behind the last byte of a body.
-fn put_end<O: Sink>(last: bool, block: &mut Block, out: &mut O) -> Result<(), Failed>
+fn put_end<O: Sink>(last: bool, block: &mut OutBuffer, out: &mut O) -> Result<(), Failed>
     ensures all { OnOk result (PassesOn (O.written out.old) (O.written out.new)
         (block.old ++ end_line last) block.new) }
     ensures short { OnErr result (AppendsShort (O.written out.old) (O.written out.new)
@@ -98,7 +98,7 @@ impl HeaderPrinter {
     fn put_piece<O: Sink>(
         &mut self,
         piece: &[u8],
-        block: &mut Block,
+        block: &mut OutBuffer,
         out: &mut O,
     ) -> Result<Printed, Failed>
         requires { (bytes : List ℕ) × Prints self.old bytes }
@@ -165,7 +165,7 @@ impl HeaderPrinter {
         ensures limit { IfOk result (λ printed. bytes_taken self.new.reader ≤ 2 ^ 24) }
         ensures cause { FailsOnce (O.faults out.old) (O.faults out.new) result }
     {
-        let mut block = Block::new();
+        let mut block = OutBuffer::new();
         let printed = self.put_piece(piece, &mut block, out)?;
         block.flush(out)?;
         Ok(printed)

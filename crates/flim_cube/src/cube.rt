@@ -10,7 +10,7 @@ use crate::spread::Cells;
 use scan_image::{Lines, Pixels, count_block};
 use std::alloc::{AllocError, Global};
 use std::sync::ledger::Ledger;
-use tally_base::{Block, CubeSet, Steps, Tally};
+use tally_base::{Block, CubeSet, Steps, TABLE_BLOCK, Tally};
 
 /// Counts the photons of a group by their places in a scan and by their dtimes.
 ///
@@ -126,7 +126,7 @@ impl Tally for FlimCube {
 
     ghost marker_groups = { marker_groups };
 
-    fn events<L: Ledger>(&mut self, block: &Block, _steps: &mut Steps<L>) {
+    fn events<L: Ledger>(&mut self, block: &Block<TABLE_BLOCK>, _steps: &mut Steps<L>) {
         self.taken += block.len() as u64;
         self.floor = block.floor_after(true, self.floor);
         count_block(&self.bins, &mut self.lines, &mut self.counts, block);

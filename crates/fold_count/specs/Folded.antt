@@ -120,6 +120,6 @@ pub record CanPut (set : FoldView) (bin : Entry) (time met : ℕ) : Type 0 where
   pub inside : met < 2 ^ length set.groups
 
 -- The events of a block, whose groups are known, come in order and none before the open bin.
-pub record ComesAfter (bin : Entry) (block : Block) : Type 0 where
+pub record ComesAfter (bin : Entry) {N : ℕ} (block : Block N) : Type 0 where
   pub sorted : IsSorted block
   pub in_order : InOrder false bin.index (gathered block)

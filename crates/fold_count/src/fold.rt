@@ -7,7 +7,7 @@ use crate::taking::{count_all, put_block};
 use lag_ring::{Entry, LagRing};
 use std::alloc::{AllocError, Global};
 use std::sync::ledger::Ledger;
-use tally_base::{Block, FoldSet, Steps, Tally};
+use tally_base::{Block, FoldSet, Steps, TABLE_BLOCK, Tally};
 
 /// Counts the photons of up to six groups by which of these groups have a photon in the window that begins
 /// at the photon, itself and others of its tick among them.
@@ -115,7 +115,7 @@ impl Tally for Fold {
 
     ghost marker_groups = { marker_groups };
 
-    fn events<L: Ledger>(&mut self, block: &Block, _steps: &mut Steps<L>) {
+    fn events<L: Ledger>(&mut self, block: &Block<TABLE_BLOCK>, _steps: &mut Steps<L>) {
         self.taken += block.len() as u64;
         self.floor = block.floor_after(false, self.floor);
         self.bin = put_block(&mut self.cells, &mut self.ring, self.bin, &self.set, block);

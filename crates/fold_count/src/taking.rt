@@ -6,7 +6,7 @@ ghost use Rattle.fold_count.specs.Folded.{IsSound, IsInTime, Stands, PutsPhoton,
 use crate::groups::set_in;
 use crate::waiting::settle;
 use lag_ring::{Entry, LagRing};
-use tally_base::{BLOCK_SIZE, Block, Event, FoldSet};
+use tally_base::{Block, Event, FoldSet, TABLE_BLOCK};
 
 /// The bin that is open at a time, which is not before the open one. Before a later one opens, those that
 /// are further back than the window are counted.
@@ -100,7 +100,7 @@ pub(crate) fn put_block(
     ring: &mut LagRing,
     bin: Entry,
     set: &FoldSet,
-    block: &Block,
+    block: &Block<TABLE_BLOCK>,
 ) -> Entry
     requires sound { IsSound (fold_view set.now) cells.old ring.old bin }
     requires room { sum cells.old + photons_in (waiting ring.old bin)
@@ -115,7 +115,7 @@ pub(crate) fn put_block(
         (h ++ events_in block.now) }
 {
     let mut last = bin;
-    for at in 0..block.len().min(BLOCK_SIZE) {
+    for at in 0..block.len().min(TABLE_BLOCK) {
         let (e, groups) = block.get(at);
         last = put_event(cells, ring, last, set, &e, groups);
     }

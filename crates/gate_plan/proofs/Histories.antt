@@ -1,7 +1,7 @@
 -- The list that tables count over, of more events, of none, and at the end.
 use Rattle.std.{proofs.Common.{◌≡◌, ℕ, List, [], ◌∷◌, ◌++◌, Bool, refl, sym, ap, ◌∙◌, map, if◌then◌else◌, ◌-◌, ◌==◌, arith, rules, ◌+◌, ◌<◌, zero, suc, length, get_or, set, ◌⊎◌, ◌≢◌, ◌≤◌}, proofs.lemmas.List.{map-append, get_or-set_same}, proofs.lemmas.List.Elements.filter-append, proofs.Math.Seq.take-nil, proofs.lemmas.Grind.common_steps}
 use Rattle.tally_base.{specs.declared.event.Event.Event, specs.declared.header.Mode.Mode, specs.Settings.GroupView, specs.Columns.rows, specs.declared.event.EventKind.EventKind, specs.Events.is_photon_kind, specs.Tally.{moves_floor, floor_after, InOrder}}
-use Rattle.ptu_definitions.{specs.Kept.{Marked, kept, marked}, specs.Settled.{not_marked, delivered, delivered_last, in_time, not_overtaken, ordered}, specs.Times.events, specs.Streams.{Reading, last_in}, proofs.DeliveredLaws.{delivered-settled, delivered-kept}}
+use Rattle.ptu_definitions.{specs.Kept.{Marked, kept, marked}, specs.Settled.{not_marked, delivered, delivered_last, in_time, not_overtaken, ordered}, specs.Times.events, specs.Streams.{StreamSettings, last_in}, proofs.DeliveredLaws.{delivered-settled, delivered-kept}}
 use Rattle.gate_plan.{specs.Shifting.{Sorting, shifted, shifted_kind}, specs.Taking.{groups_in, groups_by}, specs.Histories.{with_groups, history, settled_history, grouped}}
 
 pub with_groups-more : (by : Sorting) (es more : List Event) → with_groups by (es ++ more) ≡ with_groups by es ++ with_groups by more
@@ -14,7 +14,7 @@ kept-none : (none_settled : Bool) (k : ℕ) (mode : Mode) → (if none_settled t
 unfolding kept marked in_time not_overtaken
 kept-none none_settled k mode = search (rules, arith)
 
-pub history-none : (by : Sorting) (how : Reading) → settled_history by how [] ≡ []
+pub history-none : (by : Sorting) (how : StreamSettings) → settled_history by how [] ≡ []
 unfolding settled_history events
 history-none by how = cc (kept-none (how.policy.settle == 0) how.policy.settle how.mode, take-nil (0 - how.policy.settle))
 
@@ -22,7 +22,7 @@ pub with_groups-append : (by : Sorting) (l m : Marked) → with_groups by (not_m
 with_groups-append by l m = rw (filter-append, map-append, map-append, map-append) refl
 
 -- the kept list is what is settled, and the rest that is given at the end
-pub history-ends : (by : Sorting) (how : Reading) (words : List ℕ)
+pub history-ends : (by : Sorting) (how : StreamSettings) (words : List ℕ)
     → history by how words ≡ settled_history by how words ++ with_groups by (not_marked (last_in how words))
 unfolding history settled_history
 history-ends by how words =

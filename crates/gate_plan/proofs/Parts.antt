@@ -1,7 +1,7 @@
 -- The groups without a gate and those with gates, apart, are all groups.
-use Rattle.tally_base.{specs.declared.event.Event.Event, specs.declared.event.EventKind.TheVariants.{Photon, Marker}, specs.declared.settings.Group.Group, specs.Settings.{GroupView, group_view}}
+use Rattle.tally_base.{specs.declared.event.Event.Event, specs.declared.event.EventKind.TheVariants.{Photon, Marker}, specs.declared.settings.Group.Group, specs.Settings.{GroupView, group_view}, specs.Codes.kind_of}
 use Rattle.gate_plan.{specs.Shifting.{Sorting, shifted_kind, shifted_dtime}, specs.Taking.{is_among, is_in_gates, takes_kind, groups_by, groups_in, one_if, bits_of}, specs.Parting.{is_open, passes, takes_gated, plain_bits, gated_bits, gates_of, gates_in, all_gates}, specs.declared.gated.Gated.Gated}
-use Rattle.std.{proofs.Common.{◌≡◌, sym, ◌∙◌, ℕ, zero, suc, ◌+◌, ◌*◌, ◌^◌, ◌<◌, ◌≤◌, Bool, true, false, ◌==◌, List, [], ◌∷◌, map, drop, length, get_or, set, arith, rules, not, nat_lt, ◌++◌, ap, append_assoc, append-nil, length-append, ◌&&◌, refl}, proofs.lemmas.Grind.{common_steps, pow_more, flat_map-append}, specs.Int.bit_at, proofs.lemmas.Nat.Bits.{bit_at-zero, bit_at-suc, bit_at_lowest}, proofs.lemmas.List.{drop_more, length-map}, proofs.Math.Pow.pow_mono, proofs.lemmas.Bool.Decides.nat_tests}
+use Rattle.std.{proofs.Common.{◌≡◌, sym, ◌∙◌, ℕ, zero, suc, ◌+◌, ◌*◌, ◌^◌, ◌<◌, ◌≤◌, Bool, true, false, ◌==◌, List, [], ◌∷◌, map, drop, length, get_or, set, arith, rules, not, nat_lt, min, ◌%◌, inl, inr, ◌++◌, ap, append_assoc, append-nil, length-append, ◌&&◌, refl}, proofs.lemmas.Grind.{common_steps, pow_more, flat_map-append}, specs.Int.bit_at, proofs.lemmas.Nat.Bits.{bit_at-zero, bit_at-suc, bit_at_lowest}, proofs.lemmas.List.{drop_more, length-map}, proofs.Math.Pow.pow_mono, proofs.lemmas.Bool.{cases_lt, Decides.nat_tests}}
 
 -- A number by its bits.
 
@@ -63,9 +63,9 @@ pub bits_below : (P : GroupView → Bool) (groups : List GroupView) → bits_of 
 bits_below P [] = omega arith
 bits_below P (group ∷ groups) = search (rules, arith, one_most, pow_more, bits_below P groups)
 
-pub filled_more : (table : List ℕ) (at v : ℕ) (f : ℕ → ℕ) → at < length table
-    → ((i : ℕ) → i < at → get_or table i 0 ≡ f i) → v ≡ f at → (i : ℕ) → i < at + 1 → get_or (set table at v) i 0 ≡ f i
-filled_more table at v f inside were is i below = grind (arith, common_steps, were i)
+pub filled_more : {X : Type 0} (table : List X) (at : ℕ) (v d : X) (f : ℕ → X) → at < length table
+    → ((i : ℕ) → i < at → get_or table i d ≡ f i) → v ≡ f at → (i : ℕ) → i < at + 1 → get_or (set table at v) i d ≡ f i
+filled_more table at v d f inside were is i below = grind (arith, common_steps, were i)
 
 -- The groups without a gate and those with gates, apart, are all groups.
 
@@ -123,6 +123,19 @@ none_of (group ∷ groups) = omega (arith, none_of groups)
 -- and of a marker
 pub of_marker : (groups : List GroupView) (e : Event) (bits : ℕ) → e.kind ≡ Marker bits → groups_by groups e ≡ 0
 of_marker groups e bits is = ap (λ kind. bits_of (map (λ group. takes_kind group kind) groups)) is ∙ none_of groups
+
+-- what is found by a code, and at 256 for a marker
+pub by_code : (groups : List GroupView) (found : ℕ → ℕ) (code dtime : ℕ) (e : Event) → e.kind ≡ kind_of code dtime
+    → (code < 256 → found code ≡ plain_bits groups code + gated_bits groups code dtime) → found 256 ≡ 0 → found (min code 256) ≡ groups_by groups e
+by_code groups found code dtime e is photon none =
+    elim (cases_lt code 256) [
+      | inl low ↦
+          let kind : e.kind ≡ Photon code dtime = search (rules, arith) in
+          ap found (omega (arith, low)) ∙ photon low ∙ sym (of_photon groups e code dtime kind)
+      | inr high ↦
+          let kind : e.kind ≡ Marker (code % 256) = search (rules, arith) in
+          ap found (omega (arith, high)) ∙ none ∙ sym (of_marker groups e (code % 256) kind)
+    ]
 
 pub of_shifted_marker : (by : Sorting) (e : Event) (bits : ℕ) → e.kind ≡ Marker bits → groups_in by e ≡ 0
 of_shifted_marker by e bits is = ap (λ kind. bits_of (map (λ group. takes_kind group (shifted_kind by kind)) by.groups)) is ∙ none_of by.groups

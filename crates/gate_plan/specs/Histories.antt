@@ -2,7 +2,7 @@
 use Rattle.std.specs.Prelude.{ℕ, List, map}
 use Rattle.tally_base.{specs.declared.event.Event.Event, specs.Settings.GroupView, specs.Tally.History, specs.declared.event.Policy.Policy, specs.declared.header.Header.Header}
 use Rattle.gate_plan.{specs.Taking.groups_by, specs.Shifting.{Sorting, shifted}}
-use Rattle.ptu_definitions.{specs.Settled.{kept_by, settled_by}, specs.Times.events, specs.Streams.{Reading, reading}}
+use Rattle.ptu_definitions.{specs.Settled.{kept_by, settled_by}, specs.Times.events, specs.Streams.{StreamSettings, reading}}
 use Rattle.plan_text.specs.Plan.{PlanView}
 
 -- events whose dtimes are shifted, each with the groups that it is in
@@ -14,11 +14,11 @@ abbrev pub with_groups : Sorting → List Event → History
 with_groups by es = grouped by.groups (map (shifted by) es)
 
 -- The list that every table counts over: the kept list of these words, each photon with its shifted dtime in place of its dtime, and each event with its groups.
-unfoldable pub history : Sorting → Reading → List ℕ → History
+unfoldable pub history : Sorting → StreamSettings → List ℕ → History
 history by how words = with_groups by (kept_by how.policy.settle how.mode (events (map how.meaning words)))
 
 -- The same of those that are settled: what tables are given while more words may come.
-unfoldable pub settled_history : Sorting → Reading → List ℕ → History
+unfoldable pub settled_history : Sorting → StreamSettings → List ℕ → History
 settled_history by how words = with_groups by (settled_by how.policy.settle how.mode (events (map how.meaning words)))
 
 -- How a plan reads the records behind a header.
@@ -27,5 +27,5 @@ abbrev pub policy_of : PlanView → Policy
 policy_of plan = record { order = plan.order; reserved = plan.reserved; records = plan.records; settle = plan.settle }
 
 -- how a plan reads the records behind a header
-abbrev pub reading_by : PlanView → Header → Reading
+abbrev pub reading_by : PlanView → Header → StreamSettings
 reading_by plan header = reading header.record_type (policy_of plan)

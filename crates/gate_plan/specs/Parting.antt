@@ -1,5 +1,5 @@
 -- The groups without a gate and those with gates, apart.
-use Rattle.std.{specs.Prelude.{ℕ, ◌≡◌, ◌<◌, ◌+◌, ◌*◌, ◌^◌, Bool, true, false, ◌&&◌, List, [], ◌∷◌, map, sum_by, slice_index, slice_index_or}, specs.List.{list_any, flat_map}}
+use Rattle.std.{specs.Prelude.{ℕ, ◌≡◌, ◌<◌, ◌+◌, ◌-◌, ◌*◌, ◌^◌, min, Bool, true, false, ◌&&◌, List, [], ◌∷◌, map, sum_by, slice_index, slice_index_or}, specs.List.{list_any, flat_map}}
 use Rattle.tally_base.specs.Settings.{GroupView}
 use Rattle.gate_plan.{specs.Taking.{is_among, is_in_gate, one_if, bits_of}, specs.declared.gated.Gated.Gated, specs.declared.only_gate.OnlyGate.OnlyGate}
 
@@ -46,9 +46,13 @@ gated_sum gated input dtime = sum_by (gated_bit input dtime) gated
 abbrev pub groups_by : List ℕ → List Gated → ℕ → ℕ → ℕ
 groups_by plain gated input dtime = slice_index plain input + gated_sum gated input dtime
 
+-- the number of the groups of a photon of an input outside the gates of a group, and of one inside
+abbrev pub on_sides : List ℕ → Gated → ℕ → List ℕ
+on_sides plain group input = slice_index plain input ∷ min (slice_index plain input + one_if (slice_index_or group.has input false) * 2 ^ group.place) (2 ^ 64 - 1) ∷ []
+
 -- the groups of a photon behind an only gate
 abbrev pub groups_behind : ℕ → ℕ → OnlyGate → ℕ
-groups_behind input dtime only = slice_index (slice_index_or only.groups (one_if (is_in_gate dtime only.gate)) []) input
+groups_behind input dtime only = slice_index (slice_index_or only.groups input []) (one_if (is_in_gate dtime only.gate))
 
 -- An only gate tells the groups of photons by those without a gate and those with gates, where their number is one of 64 bits.
 abbrev pub TellsGroupsBy : List ℕ → List Gated → OnlyGate → Type 0

@@ -1,14 +1,13 @@
 // The events of a block, shifted and sorted.
-ghost use Rattle.std.specs.Prelude.{◌≡◌, ℕ, ◌+◌, ◌≤◌, List, false, map};
-ghost use Rattle.tally_base.{specs.declared.event.Event.Event, specs.Settings.GroupView, specs.Codes.kind_of, specs.Columns.{sorted, gathered, events_in, IsSorted}};
-ghost use Rattle.gate_plan.{specs.Groups.sorting_of, specs.Shifting.shifted, specs.Taking.groups_by, specs.Parting.{plain_bits, gated_bits, TellsGroups}, specs.Histories.{grouped, with_groups}};
+ghost use Rattle.std.specs.Prelude.{◌≡◌, ℕ, ◌≤◌, map};
+ghost use Rattle.tally_base.{specs.declared.event.Event.Event, specs.Codes.kind_of, specs.Columns.{sorted, gathered, events_in, IsSorted}};
+ghost use Rattle.gate_plan.{specs.Groups.sorting_of, specs.Shifting.shifted, specs.Taking.groups_by, specs.Parting.gated_bits, specs.Histories.{grouped, with_groups}};
 
 use crate::gates::Gates;
-use crate::only_gate::OnlyGate;
-use tally_base::{BLOCK_SIZE, Block};
+use tally_base::{Block, TABLE_BLOCK};
 
 /// Shifts the dtimes of the photons of a block, and finds the groups of its events.
-pub fn sort_events(gates: &Gates, block: &mut Block)
+pub fn sort_events(gates: &Gates, block: &mut Block<TABLE_BLOCK>)
     requires { sorted block.old ≡ 0 }
     ensures shifted { gathered block.new ≡ map (shifted (sorting_of gates.now)) (gathered block.old) }
     ensures sorted { events_in block.new ≡ with_groups (sorting_of gates.now) (gathered block.old) }
@@ -19,7 +18,7 @@ pub fn sort_events(gates: &Gates, block: &mut Block)
 }
 
 /// Shifts the dtimes of the photons of a block, if an input has a shift.
-fn shift(gates: &Gates, block: &mut Block)
+fn shift(gates: &Gates, block: &mut Block<TABLE_BLOCK>)
     requires { sorted block.old ≡ 0 }
     ensures shifted { gathered block.new ≡ map (shifted (sorting_of gates.now)) (gathered block.old) }
     ensures unsorted { sorted block.new ≡ 0 }
@@ -30,12 +29,12 @@ fn shift(gates: &Gates, block: &mut Block)
 }
 
 /// Shifts the dtimes of the photons of a block.
-fn shift_each(gates: &Gates, block: &mut Block)
+fn shift_each(gates: &Gates, block: &mut Block<TABLE_BLOCK>)
     requires { sorted block.old ≡ 0 }
     ensures shifted { gathered block.new ≡ map (shifted (sorting_of gates.now)) (gathered block.old) }
     ensures unsorted { sorted block.new ≡ 0 }
 {
-    for at in 0..block.len().min(BLOCK_SIZE) {
+    for at in 0..block.len().min(TABLE_BLOCK) {
         let dtime = dtime_behind(gates, block.code(at), block.dtime(at));
         block.set_dtime(at, dtime);
     }
@@ -55,8 +54,8 @@ fn dtime_behind(gates: &Gates, code: u16, dtime: u16) -> u16
 }
 
 /// Finds the groups of the events of a block, whose dtimes are shifted. Where a plan has one gate, its numbers
-/// are read once for them all.
-fn sort(gates: &Gates, block: &mut Block)
+/// are read once for them all, and where it has none, the groups of a photon are those of its input.
+fn sort(gates: &Gates, block: &mut Block<TABLE_BLOCK>)
     requires { sorted block.old ≡ 0 }
     ensures same { gathered block.new ≡ gathered block.old }
     ensures sorted { events_in block.new
@@ -64,86 +63,53 @@ fn sort(gates: &Gates, block: &mut Block)
     ensures ready { IsSorted block.new }
 {
     match gates.only_gate() {
-        Some(only) => sort_by_gate(only, block),
-        None => sort_each(gates, block),
+        Some(only) => only.sort(block),
+        None if gates.has_gates() => sort_each(gates, block),
+        None => sort_by_input(gates, block),
     }
 }
 
-/// Finds the groups of the events of a block by an only gate.
+/// Finds the groups of the events of a block, where no group has a gate.
 // Not inlined, so that its loop has the registers for itself.
 #[inline(never)]
-fn sort_by_gate(only: &OnlyGate, block: &mut Block)
-    requires { sorted block.old ≡ 0 }
+fn sort_by_input(gates: &Gates, block: &mut Block<TABLE_BLOCK>)
+    requires unsorted { sorted block.old ≡ 0 }
+    requires none { (input dtime : ℕ) → gated_bits (sorting_of gates.now).groups input dtime ≡ 0 }
     ensures same { gathered block.new ≡ gathered block.old }
-    ensures sorted { (groups : List GroupView) → TellsGroups only.now groups
-        → events_in block.new ≡ grouped groups (gathered block.old) }
+    ensures sorted { events_in block.new
+        ≡ grouped (sorting_of gates.now).groups (gathered block.old) }
     ensures ready { IsSorted block.new }
 {
-    // Of its own: a number behind the groups of a block is written again for each of them.
-    let mut groups = [0; BLOCK_SIZE];
-    for at in 0..block.len().min(BLOCK_SIZE) {
-        groups[at] = groups_behind(only, block.code(at), block.dtime(at));
-    }
-    block.put_all(&groups);
-}
-
-/// The groups of an event in a block, by an only gate.
-#[inline(always)]
-fn groups_behind(only: &OnlyGate, code: u16, dtime: u16) -> u64
-    ensures marker { 256 ≤ code → result ≡ 0 }
-    ensures value { (groups : List GroupView) → TellsGroups only.now groups
-        → (e : Event) → e.kind ≡ kind_of code dtime → result ≡ groups_by groups e }
-{
-    if code < 256 {
-        only.of_photon(code as u8, dtime)
-    } else {
-        0
-    }
+    block.sort_by(gates.by_input());
 }
 
 /// Finds the groups of the events of a block, event by event.
 // Not inlined, so that its loop has the registers for itself.
 #[inline(never)]
-fn sort_each(gates: &Gates, block: &mut Block)
+fn sort_each(gates: &Gates, block: &mut Block<TABLE_BLOCK>)
     requires { sorted block.old ≡ 0 }
     ensures same { gathered block.new ≡ gathered block.old }
     ensures sorted { events_in block.new
         ≡ grouped (sorting_of gates.now).groups (gathered block.old) }
     ensures ready { IsSorted block.new }
 {
-    let gated = gates.has_gates();
-    let mut groups = [0; BLOCK_SIZE];
-    for at in 0..block.len().min(BLOCK_SIZE) {
-        groups[at] = groups_at(gates, gated, block.code(at), block.dtime(at));
+    let mut groups = [0; TABLE_BLOCK];
+    for at in 0..block.len().min(TABLE_BLOCK) {
+        groups[at] = groups_at(gates, block.code(at), block.dtime(at));
     }
     block.put_all(&groups);
 }
 
 /// The groups of an event in a block.
 #[inline(always)]
-fn groups_at(gates: &Gates, gated: bool, code: u16, dtime: u16) -> u64
-    requires { gated ≡ false → (input dtime : ℕ) → gated_bits (sorting_of gates.now).groups input dtime ≡ 0 }
+fn groups_at(gates: &Gates, code: u16, dtime: u16) -> u64
     ensures marker { 256 ≤ code → result ≡ 0 }
     ensures value { (e : Event) → e.kind ≡ kind_of code dtime
         → result ≡ groups_by (sorting_of gates.now).groups e }
 {
     if code < 256 {
-        photon_groups(gates, gated, code as u8, dtime)
+        gates.of_photon(code as u8, dtime)
     } else {
         0
-    }
-}
-
-/// The groups of a photon.
-#[inline(always)]
-fn photon_groups(gates: &Gates, gated: bool, input: u8, dtime: u16) -> u64
-    requires { gated ≡ false → (input dtime : ℕ) → gated_bits (sorting_of gates.now).groups input dtime ≡ 0 }
-    ensures { result ≡ plain_bits (sorting_of gates.now).groups input
-        + gated_bits (sorting_of gates.now).groups input dtime }
-{
-    if gated {
-        gates.of_photon(input, dtime)
-    } else {
-        gates.of_input(input)
     }
 }

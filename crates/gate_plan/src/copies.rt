@@ -6,7 +6,7 @@ use arrayvec::ArrayVec;
 use tally_base::Group;
 
 /// The same groups.
-pub(crate) fn groups_again(groups: &[Group]) -> ArrayVec<Group, 64>
+pub(crate) fn clone_groups(groups: &[Group]) -> ArrayVec<Group, 64>
     requires few { length groups.now ≤ 64 }
     ensures same { map group_view result.items ≡ map group_view groups.now }
     ensures few { length result.items ≤ 64 }

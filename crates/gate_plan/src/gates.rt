@@ -1,10 +1,10 @@
 // The shifted dtimes of events, and the groups that they are in.
 ghost use Rattle.std.{specs.Prelude.{◌≡◌, ◌<◌, ◌≤◌, ◌==◌, ℕ, map, length, None, is_some, slice_index, slice_index_or, ◌+◌, ◌-◌, ◌↔◌, [], get_or, nat_lt, false}, specs.Option.ForSome};
 ghost use Rattle.tally_base.{specs.Settings.{group_view, shift_view}, specs.Events.is_in};
-ghost use Rattle.plan_text.specs.Reading.{plan_view};
+ghost use Rattle.plan_text.specs.ReadPlan.{plan_view};
 ghost use Rattle.gate_plan.{specs.Shifting.shift_of, specs.Parting.{plain_bits, gated_bits, gated_sum, all_gates, gates_in, TellsGroups}};
 
-use crate::copies::groups_again;
+use crate::copies::clone_groups;
 use crate::gated::Gated;
 use crate::only_gate::OnlyGate;
 use crate::shifts::{shift_table, shifted_by};
@@ -21,8 +21,8 @@ pub struct Gates {
     // By input: its shift, if it has one.
     shift_by_input: [Option<u16>; 256],
     groups: ArrayVec<Group, 64>,
-    // By input: the number of those groups of the input that have no gate.
-    plain: [u64; 256],
+    // By input: the number of those groups of the input that have no gate. Behind them 0, for markers.
+    plain: [u64; 257],
     // The groups that have gates.
     gated: ArrayVec<Gated, 64>,
     // The gate of those with the groups of each input, where there is only one.
@@ -33,6 +33,7 @@ pub struct Gates {
         → slice_index_or shift_by_input input None ≡ shift_of (map shift_view shifts.items) input },
     ghost plain_is: { (input : ℕ) → input < 256
         → slice_index plain input ≡ plain_bits (map group_view groups.items) input },
+    ghost markers: { slice_index plain 256 ≡ 0 },
     ghost gated_is: { (input dtime : ℕ) → gated_sum gated.items input dtime
         ≡ gated_bits (map group_view groups.items) input dtime },
     ghost gates_are: { gates_in gated.items ≡ all_gates (map group_view groups.items) },
@@ -50,7 +51,7 @@ impl Gates {
         let mut shifts: ArrayVec<ShiftSet, 65> = ArrayVec::new();
         let _ = shifts.try_extend_from_slice(plan.shifts.as_slice());
         let shift_by_input = shift_table(shifts.as_slice());
-        let groups = groups_again(plan.groups.as_slice());
+        let groups = clone_groups(plan.groups.as_slice());
         let plain = plain_table(groups.as_slice());
         let gated = gated_of(groups.as_slice());
         let only = only_gate(gated.as_slice(), &plain);
@@ -126,6 +127,15 @@ impl Gates {
         ensures some { result ≡ nat_lt 0 (length (all_gates (sorting_of self.now).groups)) }
     {
         !self.gated.is_empty()
+    }
+
+    /// By input the groups without a gate that its photons are in, and behind them those of markers, which are none.
+    pub(crate) fn by_input(&self) -> &[u64; 257]
+        ensures inputs { (input : ℕ) → input < 256
+            → slice_index result.now input ≡ plain_bits (sorting_of self.now).groups input }
+        ensures markers { slice_index result.now 256 ≡ 0 }
+    {
+        &self.plain
     }
 
     /// The groups without a gate that the photons of an input are in.

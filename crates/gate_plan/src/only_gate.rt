@@ -1,26 +1,44 @@
 // The only gate of a plan.
-ghost use Rattle.std.specs.Prelude.{◌≡◌, ℕ, slice_index, if◌then◌else◌};
-ghost use Rattle.gate_plan.{specs.Taking.is_in_gate, specs.Parting.groups_behind};
+ghost use Rattle.std.specs.Prelude.{◌≡◌, slice_index_or, [], ◌∷◌};
+ghost use Rattle.gate_plan.specs.Taking.{is_in_gate};
+
+use tally_base::{Block, TABLE_BLOCK};
 
 /// The only gate of a plan, with the groups of each input behind it.
 #[derive(Clone, Copy)]
 pub struct OnlyGate {
-    /// By whether a dtime is in the gate, and by input: the number of the groups.
-    groups: [[u64; 256]; 2],
+    /// By input, and by whether a dtime is in the gate: the number of the groups. Behind them 0, for markers.
+    groups: [[u64; 2]; 257],
     /// The range of dtimes, from its first number on and below its second.
     gate: (u16, u16),
+    ghost markers: { slice_index_or groups 256 [] ≡ 0 ∷ 0 ∷ [] },
 }
 
 impl OnlyGate {
+    ghost use Rattle.std.specs.Prelude.{ℕ, List, slice_index, if◌then◌else◌};
+    ghost use Rattle.tally_base.{specs.Settings.GroupView, specs.Columns.{sorted, gathered, events_in, IsSorted}};
+    ghost use Rattle.gate_plan.{specs.Parting.{groups_behind, TellsGroups}, specs.Histories.grouped};
+
     /// A gate, and by input the number of the groups of a photon whose dtime isn't in it, and of one whose is.
-    pub(crate) fn new(gate: (u16, u16), outside: [u64; 256], inside: [u64; 256]) -> OnlyGate
+    pub(crate) fn new(gate: (u16, u16), groups: [[u64; 2]; 257]) -> OnlyGate
+        requires markers { slice_index_or groups 256 [] ≡ 0 ∷ 0 ∷ [] }
         ensures { (input dtime : ℕ) → groups_behind input dtime result
-            ≡ slice_index (if is_in_gate dtime gate then inside else outside) input }
+            ≡ slice_index (slice_index_or groups input []) (if is_in_gate dtime gate then 1 else 0) }
     {
-        OnlyGate {
-            groups: [outside, inside],
-            gate,
-        }
+        OnlyGate { groups, gate }
+    }
+
+    /// Finds the groups of the events of a block, whose dtimes are shifted.
+    // Not inlined, so that its loop has the registers for itself.
+    #[inline(never)]
+    pub(crate) fn sort(&self, block: &mut Block<TABLE_BLOCK>)
+        requires { sorted block.old ≡ 0 }
+        ensures same { gathered block.new ≡ gathered block.old }
+        ensures sorted { (groups : List GroupView) → TellsGroups self.now groups
+            → events_in block.new ≡ grouped groups (gathered block.old) }
+        ensures ready { IsSorted block.new }
+    {
+        block.sort_by_gate(self.gate, &self.groups);
     }
 
     /// The groups of a photon, by its shifted dtime. It takes no branch on the input or on the dtime.
@@ -28,7 +46,7 @@ impl OnlyGate {
     pub fn of_photon(&self, input: u8, dtime: u16) -> u64
         ensures { result ≡ groups_behind input dtime self.now }
     {
-        self.groups[is_in_gate(&self.gate, dtime) as usize][input as usize]
+        self.groups[input as usize][is_in_gate(&self.gate, dtime) as usize]
     }
 }
 

@@ -1,7 +1,7 @@
 // The groups without a gate by input, and those with gates.
-ghost use Rattle.std.{specs.Prelude.{◌≡◌, ◌<◌, ◌≤◌, ◌+◌, ◌-◌, ◌*◌, ◌^◌, ℕ, min, map, length, slice_index, slice_index_or, is_some, ◌==◌, false}, specs.Int.bit_at, specs.Option.ForSome};
+ghost use Rattle.std.{specs.Prelude.{◌≡◌, ◌<◌, ◌≤◌, ◌+◌, ◌-◌, ◌*◌, ◌^◌, ℕ, min, map, length, slice_index, slice_index_or, is_some, ◌==◌, false, [], ◌∷◌}, specs.Int.bit_at, specs.Option.ForSome};
 ghost use Rattle.tally_base.specs.Settings.{group_view};
-ghost use Rattle.gate_plan.{specs.Taking.{is_among, is_in_gate, one_if}, specs.Parting.{takes_plainly, takes_gated, passes, gates_of, all_gates, gates_in, plain_bits, gated_bits, gated_bit, gated_sum, TellsGroupsBy}};
+ghost use Rattle.gate_plan.{specs.Taking.{is_among, is_in_gate, one_if}, specs.Parting.{on_sides, takes_plainly, takes_gated, passes, gates_of, all_gates, gates_in, plain_bits, gated_bits, gated_bit, gated_sum, TellsGroupsBy}};
 
 use crate::copies::gates_again;
 use crate::gated::Gated;
@@ -9,13 +9,14 @@ use crate::only_gate::{OnlyGate, is_in_gate};
 use arrayvec::ArrayVec;
 use tally_base::Group;
 
-/// For each input the number of those of its groups that have no gate.
-pub(crate) fn plain_table(groups: &[Group]) -> [u64; 256]
+/// For each input the number of those of its groups that have no gate, and behind them 0, for markers.
+pub(crate) fn plain_table(groups: &[Group]) -> [u64; 257]
     requires few { length groups.now ≤ 64 }
-    ensures { (input : ℕ) → input < 256
+    ensures inputs { (input : ℕ) → input < 256
         → slice_index result input ≡ plain_bits (map group_view groups.now) input }
+    ensures markers { slice_index result 256 ≡ 0 }
 {
-    let mut table = [0; 256];
+    let mut table = [0; 257];
     for input in 0..256u16 {
         table[input as usize] = plain_of(groups, input as u8);
     }
@@ -81,28 +82,30 @@ fn gated_at(group: &Group, place: u64) -> Gated
 
 /// The only gate of these groups, if they are one group that has one gate, with the groups of each input
 /// behind it, where these are the groups that have none.
-pub(crate) fn only_gate(gated: &[Gated], plain: &[u64; 256]) -> Option<OnlyGate>
+pub(crate) fn only_gate(gated: &[Gated], plain: &[u64; 257]) -> Option<OnlyGate>
     ensures groups { ForSome result (TellsGroupsBy plain.now gated.now) }
     ensures one { is_some result ≡ (length (gates_in gated.now) == 1) }
 {
     match gated {
         [group] if group.others.is_empty() => {
-            Some(OnlyGate::new(group.gate, *plain, inside_table(group, plain)))
+            Some(OnlyGate::new(group.gate, sides_table(group, plain)))
         }
         _ => None,
     }
 }
 
-/// For each input the number of its groups where the dtime is in a gate of this group, and these are the groups
-/// that have none.
-fn inside_table(group: &Gated, plain: &[u64; 256]) -> [u64; 256]
-    ensures { (input : ℕ) → input < 256 → slice_index result input
-        ≡ min (slice_index plain.now input + one_if (slice_index_or group.now.has input false) * 2 ^ group.now.place) (2 ^ 64 - 1) }
+/// For each input the number of its groups where the dtime isn't in a gate of this group, and where it is, and these
+/// are the groups that have none. Behind them 0, for markers.
+fn sides_table(group: &Gated, plain: &[u64; 257]) -> [[u64; 2]; 257]
+    ensures inputs { (input : ℕ) → input < 256
+        → slice_index_or result input [] ≡ on_sides plain.now group.now input }
+    ensures markers { slice_index_or result 256 [] ≡ 0 ∷ 0 ∷ [] }
 {
-    let mut table = [0; 256];
+    let mut table = [[0; 2]; 257];
     for input in 0..256u16 {
         let at = input as usize;
-        table[at] = plain[at].saturating_add(bit_if(group.has[at], group.place));
+        let inside = plain[at].saturating_add(bit_if(group.has[at], group.place));
+        table[at] = [plain[at], inside];
     }
     table
 }

@@ -1,5 +1,5 @@
 -- Weights by tick in bytes.
-use Rattle.std.{specs.Prelude.{ℕ, ◌≡◌, ◌+◌, ◌-◌, ◌*◌, ◌^◌, ◌<◌, ◌≤◌, ◌==◌, List, length, slice_index, sum_by}, specs.List.AllByRecursion}
+use Rattle.std.{specs.Prelude.{ℕ, ◌≡◌, ◌+◌, ◌-◌, ◌*◌, ◌^◌, ◌<◌, ◌≤◌, ◌==◌, List, length, slice_index}, specs.List.AllByRecursion}
 use Rattle.lag_ring.{specs.declared.ring.Entry.Entry, specs.declared.window.Side.Side, specs.declared.window.Side.TheVariants.{First, Second}, specs.Ring.weight_where}
 
 -- Weights by tick.
@@ -49,5 +49,5 @@ BothHave top low firsts seconds firsts' seconds' es = Have First top low firsts 
 pub record ServesSpots (most top : ℕ) (window spots : List ℕ) : Type 0 where
   pub weighed : (0 < most) × (most ≤ 255)
   pub light : (p : ℕ) → p < length window → slice_index window p ≤ most
-  pub few : length spots ≤ 256
+  pub few : length spots ≤ 1024
   pub near : AllByRecursion (λ s. s + top ≤ length window) spots

@@ -11,7 +11,7 @@ use arrayvec::ArrayVec;
 pub const BYTE_LAGS: usize = 256;
 
 /// How many spots there are at most.
-pub const MOST_SPOTS: usize = 256;
+pub const MOST_SPOTS: usize = 1024;
 
 /// How many places from the first on may be spots.
 const SPAN: u64 = 4096;

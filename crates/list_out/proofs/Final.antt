@@ -1,5 +1,5 @@
 -- The text of a header that is at its end or refused grows no more.
-use Rattle.std.{proofs.Common.{◌≡◌, ◌≢◌, ◌-◌, ◌^◌, ◌<◌, ◌≤◌, ℕ, List, [], ◌∷◌, ◌++◌, length, take, refl, sym, ap, ◌∙◌, subst, append-nil, arith, length-append, inl, inr, Result, Ok, Err, if◌then◌else◌, rules}, proofs.lemmas.Bool.cases_lt, proofs.lemmas.List.{length-take, take-append-le, take_all}}
+use Rattle.std.{proofs.Common.{◌≡◌, ◌≢◌, ◌-◌, ◌^◌, ◌<◌, ◌≤◌, ℕ, List, [], ◌∷◌, ◌++◌, length, take, refl, sym, ap, ◌∙◌, subst, append-nil, arith, length-append, inl, inr, Result, Ok, Err, rules}, proofs.lemmas.Bool.cases_lt, proofs.lemmas.List.{length-take, take-append-le, take_all}}
 use Rattle.tally_base.{specs.declared.fault.Fault.Fault, specs.declared.fault.Fault.TheVariants.TruncatedHeader, specs.declared.header.Header.Header}
 use Rattle.ptu_definitions.{specs.declared.found.Found.Found, specs.Endings.{Ending, OtherFile, BadType, BadLength, Whole, Open, ending}, specs.Fields.header_of, specs.Headers.{header_answer, head_of, answer_as, with_rest, unfinished, Shows}, proofs.AnswerLemmas.head-front, proofs.SeenLaws.seen-answered}
 use Rattle.list_out.{specs.HeaderText.{shown_text, header_text}, proofs.Growing.{Grown, shown_text-grows}}

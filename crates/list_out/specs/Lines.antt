@@ -3,7 +3,7 @@ use Rattle.std.{specs.Prelude.{ℕ, ℤ, List, ◌++◌, None, Some, codes, deci
 use Rattle.tally_base.{specs.Hexadecimal.hexadecimal, specs.declared.event.Event.Event, specs.declared.event.EventKind.EventKind, specs.declared.event.EventKind.TheVariants.{Photon, Marker}}
 use Rattle.ptu_tag.{specs.declared.kind.TagKind.TagKind, specs.declared.kind.TagKind.TheVariants.AnsiString}
 use Rattle.list_out.{specs.declared.body.Printing.Printing, specs.declared.body.Printing.TheVariants.{Digits, Text, Nothing}, specs.declared.body.BodyText.BodyText}
-use Rattle.ptu_definitions.{specs.Kept.Marked, specs.Streams.{Reading, given}}
+use Rattle.ptu_definitions.{specs.Kept.Marked, specs.Streams.{StreamSettings, given}}
 
 abbrev pub line : List ℕ → List ℕ → List ℕ
 line word value = word ++ codes " " ++ value ++ codes "\n"
@@ -57,5 +57,5 @@ abbrev pub events_text : Marked → List ℕ
 events_text events = flat_map (λ x. event_text x.0 x.1) events
 
 -- the lines of the events before the first refusal of these words
-abbrev pub lines_of : Reading → List ℕ → List ℕ
+abbrev pub lines_of : StreamSettings → List ℕ → List ℕ
 lines_of how words = events_text (given how words)

@@ -91,7 +91,7 @@ pub fn format_event<'l>(event: &Event, late: bool, line: &'l mut [u8; LINE_SIZE]
 
 /// Writes the lines of the events of a block, none of them late, at the end of a buffer, and returns where
 /// they start. The last line is written first, and each before what stands behind it.
-fn write_lines(text: &mut [u8; LINES_SIZE], block: &Block) -> usize
+fn write_lines(text: &mut [u8; LINES_SIZE], block: &Block<BLOCK_SIZE>) -> usize
     ensures inside { result ≤ LINES_SIZE }
     ensures written { drop result text.new
         ≡ events_text (map (λ e. (e, false)) (gathered block.now)) }
@@ -106,7 +106,7 @@ fn write_lines(text: &mut [u8; LINES_SIZE], block: &Block) -> usize
 }
 
 /// Formats the lines of the events of a block, none of them late, in a buffer, where no line is copied.
-pub fn format_block<'l>(block: &Block, text: &'l mut [u8; LINES_SIZE]) -> &'l [u8]
+pub fn format_block<'l>(block: &Block<BLOCK_SIZE>, text: &'l mut [u8; LINES_SIZE]) -> &'l [u8]
     ensures { result.now ≡ events_text (map (λ e. (e, false)) (gathered block.now)) }
 {
     let start = write_lines(text, block);

@@ -8,7 +8,7 @@ use crate::closed::Closed;
 use crate::lines::{LINE_SIZE, LINES_SIZE, put_bin};
 use arrayvec::ArrayVec;
 use count_trace::Bin;
-use tally_base::{BLOCK_SIZE, Block, TraceSet};
+use tally_base::{Block, TABLE_BLOCK, TraceSet};
 
 /// The newest bin, of which more photons may come, and how many came so far.
 #[derive(Clone, Copy)]
@@ -79,7 +79,7 @@ pub(crate) fn count_block(
     newest: &mut OpenBin,
     closed: &mut Closed,
     floor: u64,
-    block: &Block,
+    block: &Block<TABLE_BLOCK>,
     lines: &mut ArrayVec<u8, LINES_SIZE>,
 ) -> u64
     requires sorted { IsSorted block.now }
@@ -96,7 +96,7 @@ pub(crate) fn count_block(
     let own = *set;
     let mut bin = *newest;
     let mut early = *before;
-    for at in 0..block.len().min(BLOCK_SIZE) {
+    for at in 0..block.len().min(TABLE_BLOCK) {
         let more = block.photons_in(at, own.group);
         count_at(
             &own,

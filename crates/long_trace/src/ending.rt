@@ -8,7 +8,7 @@ use crate::closed::{Closed, FREQUENCIES};
 use crate::counting::OpenBin;
 use crate::lines::{frequency_line, put_bin};
 use arrayvec::ArrayVec;
-use bench_io::{Block, Sink};
+use bench_io::{OutBuffer, Sink};
 use tally_base::{Failed, put_decimal, put_text};
 
 /// The line of the last bin, unless it is empty, and that of what came before the origin.
@@ -36,7 +36,11 @@ fn above_line(many: u64) -> ArrayVec<u8, 32>
 }
 
 /// Puts the lines of the frequencies.
-fn put_frequencies<O: Sink>(closed: &Closed, block: &mut Block, out: &mut O) -> Result<(), Failed>
+fn put_frequencies<O: Sink>(
+    closed: &Closed,
+    block: &mut OutBuffer,
+    out: &mut O,
+) -> Result<(), Failed>
     ensures all { OnOk result ((all : List ℕ) → AreFrequencies closed.now all
         → PassesOn (O.written out.old) (O.written out.new)
         (block.old ++ frequencies_text all) block.new) }
@@ -67,7 +71,7 @@ pub(crate) fn put_end<O: Sink>(
         (end_text newest.now all before)) }
     ensures cause { FailsOnce (O.faults out.old) (O.faults out.new) result }
 {
-    let mut block = Block::new();
+    let mut block = OutBuffer::new();
     block.put(out, last_lines(newest, before).as_slice())?;
     put_frequencies(closed, &mut block, out)?;
     block.put(out, above_line(closed.many).as_slice())?;

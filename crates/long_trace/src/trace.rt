@@ -10,7 +10,7 @@ use crate::lines::{LINE_SIZE, LINES_SIZE, first_line};
 use arrayvec::ArrayVec;
 use bench_io::{Sink, write_all};
 use count_trace::Bin;
-use tally_base::{Block, Event, Failed, Fault, TraceSet, floor_behind, is_in};
+use tally_base::{Block, Event, Failed, Fault, TABLE_BLOCK, TraceSet, floor_behind, is_in};
 
 /// Counts the photons of a group by their times, in bins without end, in ticks in T2 and sync periods in T3.
 ///
@@ -119,7 +119,7 @@ impl LongTrace {
 
     /// Takes the events of a block, as `take` does one by one, and puts the lines of the bins that they close
     /// into a buffer, in place of its own.
-    pub fn take_block(&mut self, block: &Block, lines: &mut ArrayVec<u8, LINES_SIZE>)
+    pub fn take_block(&mut self, block: &Block<TABLE_BLOCK>, lines: &mut ArrayVec<u8, LINES_SIZE>)
         requires going { is_going self.old ≡ true }
         requires sorted { IsSorted block.now }
         requires room { taken_of self.old + length (gathered block.now) ≤ record_limit }

@@ -1,7 +1,7 @@
 -- The photons of a group of a file can be written, up to the first that is too late.
 use Rattle.std.{proofs.Common.{◌≡◌, ◌∙◌, ℕ, ◌+◌, List, [], ◌∷◌, ◌++◌, Bool, true, false, cond, length, take, drop, map, refl, sym, ap, subst, Result, ◌==◌, arith, rules}, specs.List.{All, AllByRecursion, filter}, proofs.lemmas.Bool.eqb-true, proofs.lemmas.List.take-append-drop, proofs.lemmas.List.Elements.{All-nil, All-head, All-tail, All-append, All-filter, All-from_recursion, filter-append}, proofs.lemmas.List.Sorted.All-permutation}
 use Rattle.tally_base.{specs.declared.event.Event.Event, specs.declared.event.EventKind.TheVariants.Marker as MarkerEvent, specs.declared.event.Policy.Policy, specs.declared.fault.Fault.Fault, specs.declared.header.Mode.Mode, specs.declared.header.RecordType.RecordType, specs.Events.{is_photon, is_ordered}, specs.RecordTypes.mode_of}
-use Rattle.ptu_definitions.{specs.declared.records.Raw.Raw, specs.declared.records.Summary.Summary, specs.Layouts.{Fits, KindFits, meaning_of}, specs.Kept.kept, specs.Prefixes.each_after, specs.Settled.{is_overtaken, unless_overtaken, not_overtaken, in_time, ordered, kept_by, Rises}, specs.Streams.{Reading, reading, given, streamed}, specs.Times.{event_of, event_after, events}, specs.Words.words_of, proofs.DeliveredLaws.{in_time-kept, delivered-settled}, proofs.WordsLemmas.meaning-fits, proofs.SettledLaws.{in_time-permutation, Rises-put_all}, proofs.SettledLemmas.{Rises-lower, IsNonDecreasingBy-Rises}}
+use Rattle.ptu_definitions.{specs.declared.records.Raw.Raw, specs.declared.records.Summary.Summary, specs.Layouts.{Fits, KindFits, meaning_of}, specs.Kept.kept, specs.Prefixes.each_after, specs.Settled.{is_overtaken, unless_overtaken, not_overtaken, in_time, ordered, kept_by, Rises}, specs.Streams.{StreamSettings, reading, given, streamed}, specs.Times.{event_of, event_after, events}, specs.Words.words_of, proofs.DeliveredLaws.{in_time-kept, delivered-settled}, proofs.WordsLemmas.meaning-fits, proofs.SettledLaws.{in_time-permutation, Rises-put_all}, proofs.SettledLemmas.{Rises-lower, IsNonDecreasingBy-Rises}}
 use Rattle.gate_plan.specs.Shifting.{Sorting}
 use Rattle.record_write.specs.Picked.{is_too_late, IsPhotonOf, CanBePicked}
 use Rattle.photon_pick.{specs.Chosen.is_chosen, specs.Late.{too_late, writable}, specs.Texts.photons_in, specs.Ends.{photons_kept, photons_by, photons_of}, proofs.Parts.writable-all, proofs.Ends.first-of}
@@ -139,7 +139,7 @@ module _ (record_type : RecordType) (policy : Policy) (sorting : Sorting) (group
   abbrev mode : Mode
   mode = mode_of record_type
 
-  abbrev how : Reading
+  abbrev how : StreamSettings
   how = reading record_type policy
 
   abbrev chooses : Event → Bool

@@ -2,14 +2,14 @@
 use Rattle.std.{proofs.Common.{◌≡◌, ◌∙◌, ℕ, List, [], ◌++◌, Bool, None, Some, Ok, Err, map, refl, sym, ap, inl, inr, ⊎_elim, append-nil, Result, arith, rules, true, ◌&&◌}, specs.List.filter, specs.declared.option.Option.Option, specs.Io.KnownBytes.Appends}
 use Rattle.tally_base.{specs.declared.event.Event.Event, specs.declared.fault.Fault.Fault, specs.declared.fault.Fault.TheVariants.WriteFault, specs.FaultCounts.Rose, specs.declared.header.Mode.Mode, specs.Events.{is_photon, is_ordered}}
 use Rattle.bench_io.specs.Sinks.{AppendsShort}
-use Rattle.ptu_definitions.{specs.declared.records.Summary.Summary, specs.Kept.Marked, specs.Settled.{not_marked, delivered, delivered_last}, specs.Streams.{Reading, record_refusal, last_in, streamed, summary, given}, specs.Times.events, specs.Words.{words_of, rest_of}, proofs.DeliveredLaws.{delivered-kept, delivered-none}, proofs.Firsts.given-all}
+use Rattle.ptu_definitions.{specs.declared.records.Summary.Summary, specs.Kept.Marked, specs.Settled.{not_marked, delivered, delivered_last}, specs.Streams.{StreamSettings, record_refusal, last_in, streamed, summary, given}, specs.Times.events, specs.Words.{words_of, rest_of}, proofs.DeliveredLaws.{delivered-kept, delivered-none}, proofs.Firsts.given-all}
 use Rattle.record_stream.{specs.declared.taker.EventTaker.Ghosts, specs.Ending.{GaveRest, BrokeFirst, Ended}}
-use Rattle.told_text.specs.Texts.{WroteText, CutText}
+use Rattle.streamed_text.specs.Texts.{WroteText, CutText}
 use Rattle.photon_pick.{specs.Giving.{Stand, Took, Refused}, specs.Texts.{photons_in, text_in, answer_by, HasPickedIn}, specs.Ends.{photons_kept, photons_by, end_text, end_fault, WritesEnd}, proofs.Parts.{AppendsShort-none, chosen-more, bytes_of, took-clear, took-wrote, took-cut, refused-wrote, refused-cut}, specs.Chosen.is_chosen}
 use Rattle.gate_plan.specs.Shifting.{Sorting}
 
 -- the kept list has what was given, and what is given at the end
-pub kept-are : (chooses : Event → Bool) (how : Reading) (words : List ℕ) → record_refusal how words ≡ None
+pub kept-are : (chooses : Event → Bool) (how : StreamSettings) (words : List ℕ) → record_refusal how words ≡ None
     → photons_kept chooses how words ≡ photons_in chooses how words ++ filter chooses (not_marked (last_in how words))
 kept-are chooses how words clear =
     let k = how.policy.settle in
@@ -18,12 +18,12 @@ kept-are chooses how words clear =
     ∙ chosen-more chooses (delivered k how.mode es) (delivered_last k how.mode es)
     ∙ ap (λ l. filter chooses (not_marked l) ++ filter chooses (not_marked (last_in how words))) (sym (given-all how words clear))
 
-streamed-whole : (how : Reading) (bytes : List ℕ) → record_refusal how (words_of bytes) ≡ None
+streamed-whole : (how : StreamSettings) (bytes : List ℕ) → record_refusal how (words_of bytes) ≡ None
     → rest_of bytes ≡ [] → streamed how bytes ≡ Ok (summary how (words_of bytes))
 unfolding streamed
 streamed-whole how bytes clear whole = rw (clear, whole) refl
 
-module _ {T : Type 0} (g : Ghosts T) (a b : T) (at : T → Stand) (chooses : Event → Bool) (how : Reading) (same_choice : (at a).chooses ≡ chooses) (same_mode : (at a).mode ≡ how.mode) (empty : (at a).held ≡ []) (c : Option (List ℕ)) (faults : ℕ)
+module _ {T : Type 0} (g : Ghosts T) (a b : T) (at : T → Stand) (chooses : Event → Bool) (how : StreamSettings) (same_choice : (at a).chooses ≡ chooses) (same_mode : (at a).mode ≡ how.mode) (empty : (at a).held ≡ []) (c : Option (List ℕ)) (faults : ℕ)
     (none : g.got a a []) (gets : (l : Marked) → g.got a b l → Took (at a) (at b) l) (breaks : (l : Marked) → g.broke a b l → Refused (at a) (at b) l) (bytes : List ℕ) (clear : record_refusal how (words_of bytes) ≡ None) (has : HasPickedIn chooses how (at a).picker (words_of bytes)) where
   abbrev s : Stand
   s = at a
@@ -111,12 +111,12 @@ module _ {T : Type 0} (g : Ghosts T) (a b : T) (at : T → Stand) (chooses : Eve
 -- What a stream of bytes answers.
 
 -- no words give nothing
-pub given-none : (how : Reading) → given how [] ≡ []
+pub given-none : (how : StreamSettings) → given how [] ≡ []
 unfolding given events
 given-none how = delivered-none how.policy.settle how.mode
 
 -- bytes with a summary have no record that is refused
-pub clear-from_ok : (how : Reading) (bytes : List ℕ) (sum : Summary) → streamed how bytes ≡ Ok sum → record_refusal how (words_of bytes) ≡ None
+pub clear-from_ok : (how : StreamSettings) (bytes : List ℕ) (sum : Summary) → streamed how bytes ≡ Ok sum → record_refusal how (words_of bytes) ≡ None
 unfolding streamed
 clear-from_ok how bytes sum is = search (rules, arith)
 

@@ -2,15 +2,15 @@
 use Rattle.std.{proofs.Common.{◌≡◌, ◌∙◌, ℕ, List, [], ◌++◌, Bool, None, Some, Ok, Err, refl, ap, inl, inr, ⊎_elim, Result, OnOk, arith, rules}, specs.List.filter, specs.declared.option.Option.Option, specs.Io.KnownBytes.Appends}
 use Rattle.tally_base.{specs.declared.event.Event.Event, specs.declared.fault.Fault.Fault, specs.declared.fault.Fault.TheVariants.WriteFault, specs.FaultCounts.Rose}
 use Rattle.bench_io.{specs.Sinks.AppendsShort}
-use Rattle.ptu_definitions.{specs.Kept.Marked, specs.Settled.not_marked, specs.Streams.{Reading, record_refusal, given}}
+use Rattle.ptu_definitions.{specs.Kept.Marked, specs.Settled.not_marked, specs.Streams.{StreamSettings, record_refusal, given}}
 use Rattle.record_stream.{specs.declared.taker.EventTaker.Ghosts, specs.Feeding.{GaveOn, BrokeOn, Fed}}
 use Rattle.photon_pick.{specs.Giving.{Stand, Took, Refused}, specs.Texts.{photons_in, text_in, refusal_in, answer_by, HasPickedIn}, proofs.Parts.{chosen-more, took-clear, took-picked, took-wrote, took-cut, refused-wrote, refused-cut}}
-use Rattle.told_text.specs.Texts.{WroteText, CutText, WritesText}
+use Rattle.streamed_text.specs.Texts.{WroteText, CutText, WritesText}
 
-pub photons-more : (chooses : Event → Bool) (how : Reading) (words now : List ℕ) (more : Marked) → given how now ≡ given how words ++ more → photons_in chooses how now ≡ photons_in chooses how words ++ filter chooses (not_marked more)
+pub photons-more : (chooses : Event → Bool) (how : StreamSettings) (words now : List ℕ) (more : Marked) → given how now ≡ given how words ++ more → photons_in chooses how now ≡ photons_in chooses how words ++ filter chooses (not_marked more)
 photons-more chooses how words now more adds = ap (λ l. filter chooses (not_marked l)) adds ∙ chosen-more chooses (given how words) more
 
-module _ {T : Type 0} (g : Ghosts T) (a b : T) (at : T → Stand) (chooses : Event → Bool) (how : Reading) (same_choice : (at a).chooses ≡ chooses) (same_mode : (at a).mode ≡ how.mode) (empty : (at a).held ≡ []) (c : Option (List ℕ)) (faults : ℕ)
+module _ {T : Type 0} (g : Ghosts T) (a b : T) (at : T → Stand) (chooses : Event → Bool) (how : StreamSettings) (same_choice : (at a).chooses ≡ chooses) (same_mode : (at a).mode ≡ how.mode) (empty : (at a).held ≡ []) (c : Option (List ℕ)) (faults : ℕ)
     (none : g.got a a []) (gets : (l : Marked) → g.got a b l → Took (at a) (at b) l) (breaks : (l : Marked) → g.broke a b l
     → Refused (at a) (at b) l) (words now : List ℕ) (has : HasPickedIn chooses how (at a).picker words) where
   abbrev s : Stand

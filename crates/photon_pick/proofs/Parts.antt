@@ -3,10 +3,10 @@ use Rattle.std.{proofs.Common.{◌≡◌, ◌∙◌, ℕ, List, [], ◌∷◌, �
 use Rattle.tally_base.{specs.declared.event.Event.Event, specs.declared.header.Mode.Mode, specs.declared.fault.Fault.Fault, specs.declared.fault.Fault.TheVariants.{PickTime, WriteFault}, specs.FaultCounts.Rose}
 use Rattle.bench_io.{specs.Sinks.{AppendsShort, PassesOn}, proofs.Bytes.{Appends-flushed, AppendsShort-flushed, AppendsShort-more, AppendsShort-kept, Keeps-from_none}}
 use Rattle.ptu_definitions.{specs.Kept.Marked, specs.Prefixes.{each_after, first}, specs.Settled.not_marked, proofs.DeliveredLaws.not_marked-append, proofs.PrefixLemmas.each_after-append}
-use Rattle.short_file.{specs.ShortFiles.bytes_in, proofs.ShortHeaders.bytes_in-append}
+use Rattle.minimal_file.{specs.ShortFiles.bytes_in, proofs.ShortHeaders.bytes_in-append}
 use Rattle.record_write.{specs.Picked.{is_too_late, photon_words, picked_words}, specs.Picker.HasPicked}
 use Rattle.photon_pick.{specs.Late.{too_late, writable}, specs.Giving.{Stand, Took, Refused, RefusedLate, RefusedCut, PutsPhotons}, specs.Texts.late_or}
-use Rattle.told_text.specs.Texts.{WroteText, CutText, WritesText}
+use Rattle.streamed_text.specs.Texts.{WroteText, CutText, WritesText}
 
 -- ## Photons that are too late
 

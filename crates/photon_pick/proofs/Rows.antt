@@ -1,15 +1,15 @@
 -- The definitions at known photons.
 use Rattle.std.proofs.Common.{◌≡◌, ◌+◌, ◌^◌, ℕ, Bool, List, [], ◌∷◌, ◌++◌, Some, None, refl}
 use Rattle.tally_base.{specs.declared.event.Event.Event, specs.declared.event.EventKind.TheVariants.Photon, specs.declared.fault.Fault.TheVariants.{PickTime, TruncatedRecord}, specs.declared.event.Order.TheVariants.Drop, specs.declared.event.OnReserved.TheVariants.Skip, specs.declared.header.Mode.TheVariants.{T2, T3}, specs.declared.header.RecordType.RecordType, specs.declared.header.RecordType.TheVariants.{PicoHarpT2, HydraHarp2T2, HydraHarp2T3}}
-use Rattle.ptu_definitions.{specs.Kept.{marked, kept}, specs.Layouts.{pico_t2, hydra_t2, hydra_t3}, specs.Settled.delivered, specs.Streams.{Reading, reading, refusal, refusals, given, streamed}, specs.Times.events, specs.Prefixes.first}
-use Rattle.short_file.specs.ShortFiles.{bytes_in}
+use Rattle.ptu_definitions.{specs.Kept.{marked, kept}, specs.Layouts.{pico_t2, hydra_t2, hydra_t3}, specs.Settled.delivered, specs.Streams.{StreamSettings, reading, refusal, refusals, given, streamed}, specs.Times.events, specs.Prefixes.first}
+use Rattle.minimal_file.specs.ShortFiles.{bytes_in}
 use Rattle.record_write.specs.Picked.{picked_words}
 use Rattle.photon_pick.{specs.Chosen.is_chosen, specs.Ends.{end_text, end_fault}, specs.Late.{too_late, writable}, specs.Texts.late_or}
 
 abbrev photon : ℕ → ℕ → Event
 photon place time = record { place = place; kind = Photon 1 0; time = time }
 
-abbrev lenient : RecordType → Reading
+abbrev lenient : RecordType → StreamSettings
 lenient record_type = reading record_type (record { order = Drop; reserved = Skip; records = 100; settle = 0 })
 
 -- the group 1 of these inputs, where bit n is set for the input n

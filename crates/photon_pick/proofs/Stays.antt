@@ -1,9 +1,9 @@
 -- What is written of the photons of bytes is written of them with more behind, and a refusal stays.
 use Rattle.std.{proofs.Common.{◌≡◌, ◌∙◌, ℕ, List, [], ◌∷◌, ◌++◌, Bool, true, false, None, Some, Ok, Err, cond, refl, sym, ap, append_assoc, append-nil, Result, if◌then◌else◌, arith, rules}, specs.List.filter, specs.declared.option.Option.Option, proofs.lemmas.List.Elements.filter-append}
 use Rattle.tally_base.{specs.declared.event.Event.Event, specs.declared.fault.Fault.Fault, specs.declared.fault.Fault.TheVariants.PickTime, specs.declared.header.Mode.Mode, specs.Faults.{is_outside, fault_in}}
-use Rattle.ptu_definitions.{specs.declared.records.Summary.Summary, specs.Prefixes.{each_after, first}, specs.Settled.not_marked, specs.Streams.{Reading, record_refusal, last_in, streamed}, specs.Words.{words_of, rest_of}, proofs.Firsts.{record_refusal-inside, streamed-inside}, proofs.PrefixLemmas.first-append, proofs.StreamLemmas.{given-front, given-stays}, proofs.WordsLemmas.words_of-append}
+use Rattle.ptu_definitions.{specs.declared.records.Summary.Summary, specs.Prefixes.{each_after, first}, specs.Settled.not_marked, specs.Streams.{StreamSettings, record_refusal, last_in, streamed}, specs.Words.{words_of, rest_of}, proofs.Firsts.{record_refusal-inside, streamed-inside}, proofs.PrefixLemmas.first-append, proofs.StreamLemmas.{given-front, given-stays}, proofs.WordsLemmas.words_of-append}
 use Rattle.record_stream.proofs.Lasts.{streamed-shown}
-use Rattle.short_file.specs.ShortFiles.{bytes_in}
+use Rattle.minimal_file.specs.ShortFiles.{bytes_in}
 use Rattle.record_write.{specs.declared.picker.Picker.Picker, specs.Picked.{is_too_late, photon_words, picked_words}, specs.Picker.HasPicked}
 use Rattle.photon_pick.{specs.Late.{too_late, writable}, specs.Texts.{photons_in, text_in, late_or, refusal_in, HasPickedIn}, specs.Ends.{photons_by, photons_of, end_text, end_fault}, proofs.Parts.{words-more, bytes_of}, proofs.Feeds.photons-more, proofs.Ends.{kept-are, given-none, clear-from_ok}}
 
@@ -45,7 +45,7 @@ late-inside : (late : Option Event) (other : Option Fault) (fault : Fault)
 late-inside None other fault inside h = inside h
 late-inside (Some e) other fault inside h = let same : PickTime e.place ≡ fault = cc in rw (← same) refl
 
-module _ (chooses : Event → Bool) (how : Reading) where
+module _ (chooses : Event → Bool) (how : StreamSettings) where
   -- ## No words
 
   photons-none : photons_in chooses how [] ≡ []

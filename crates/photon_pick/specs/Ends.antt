@@ -1,39 +1,39 @@
 -- What all bytes behind a header write of the photons that are chosen.
 use Rattle.std.{specs.Prelude.{ℕ, ◌≡◌, Bool, List, [], map, Result, Ok, Err}, specs.List.filter, specs.declared.option.Option.Option}
 use Rattle.tally_base.{specs.declared.event.Event.Event, specs.declared.fault.Fault.Fault, specs.declared.header.Mode.Mode, specs.Faults.fault_in}
-use Rattle.ptu_definitions.{specs.declared.records.Summary.Summary, specs.Prefixes.first, specs.Settled.kept_by, specs.Streams.{Reading, streamed}, specs.Times.events, specs.Words.words_of}
-use Rattle.told_text.specs.Texts.{WritesText}
-use Rattle.short_file.specs.ShortFiles.{bytes_in}
+use Rattle.ptu_definitions.{specs.declared.records.Summary.Summary, specs.Prefixes.first, specs.Settled.kept_by, specs.Streams.{StreamSettings, streamed}, specs.Times.events, specs.Words.words_of}
+use Rattle.streamed_text.specs.Texts.{WritesText}
+use Rattle.minimal_file.specs.ShortFiles.{bytes_in}
 use Rattle.record_write.specs.Picked.{picked_words, CanBePicked}
 use Rattle.photon_pick.{specs.Late.{too_late, writable}, specs.Texts.{photons_in, text_in, late_or}}
 
 -- the photons that are chosen of the kept list
-abbrev pub photons_kept : (Event → Bool) → Reading → List ℕ → List Event
+abbrev pub photons_kept : (Event → Bool) → StreamSettings → List ℕ → List Event
 photons_kept chooses how words = filter chooses (kept_by how.policy.settle how.mode (events (map how.meaning words)))
 
 -- these where the bytes are read to their end, or else those that are given by the words before the first that is refused, or before a cut record
-abbrev pub photons_by : (Event → Bool) → Reading → List ℕ → Result Summary Fault → List Event
+abbrev pub photons_by : (Event → Bool) → StreamSettings → List ℕ → Result Summary Fault → List Event
 photons_by chooses how words (Ok summary) = photons_kept chooses how words
 photons_by chooses how words (Err fault) = photons_in chooses how words
 
-abbrev pub photons_of : (Event → Bool) → Reading → List ℕ → List Event
+abbrev pub photons_of : (Event → Bool) → StreamSettings → List ℕ → List Event
 photons_of chooses how bytes = photons_by chooses how (words_of bytes) (streamed how bytes)
 
 -- What is written of them: the bytes of their words, up to the first photon that is too late.
-abbrev pub end_text : (Event → Bool) → Reading → List ℕ → List ℕ
+abbrev pub end_text : (Event → Bool) → StreamSettings → List ℕ → List ℕ
 end_text chooses how bytes = bytes_in (picked_words how.mode (writable how.mode (photons_of chooses how bytes)))
 
 -- Why the bytes are refused: by the first photon that is too late, or else by their records.
-abbrev pub end_fault : (Event → Bool) → Reading → List ℕ → Option Fault
+abbrev pub end_fault : (Event → Bool) → StreamSettings → List ℕ → Option Fault
 end_fault chooses how bytes = late_or (first (too_late how.mode (photons_of chooses how bytes))) (fault_in (streamed how bytes))
 
 -- What the end of the bytes wrote behind what their words wrote while more might come, by the answer.
-abbrev pub WritesEnd : (Event → Bool) → Reading → Option (List ℕ) → Option (List ℕ) → ℕ → ℕ → List ℕ → Result (Unit {0}) Fault → Type 0
+abbrev pub WritesEnd : (Event → Bool) → StreamSettings → Option (List ℕ) → Option (List ℕ) → ℕ → ℕ → List ℕ → Result (Unit {0}) Fault → Type 0
 WritesEnd chooses how old new before after bytes result =
     WritesText (text_in chooses how (words_of bytes)) (end_text chooses how bytes) (end_fault chooses how bytes) old new before after result
 
 -- The photons that are chosen can be written: all of the kept list where none of them is too late, and always those before the first that is, of all bytes behind a header and of what words settle while more may come.
-pub record CanBeWritten (mode : Mode) (chooses : Event → Bool) (how : Reading) : Type 0 where
+pub record CanBeWritten (mode : Mode) (chooses : Event → Bool) (how : StreamSettings) : Type 0 where
   pub kept : (words : List ℕ) → too_late mode (photons_kept chooses how words) ≡ [] → CanBePicked mode (photons_kept chooses how words)
   pub written : (bytes : List ℕ) → CanBePicked mode (writable mode (photons_of chooses how bytes))
   pub settled : (words : List ℕ) → CanBePicked mode (writable mode (photons_in chooses how words))

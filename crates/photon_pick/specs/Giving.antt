@@ -22,7 +22,7 @@ abbrev pub words_behind : Pen → List Event → List Event → List ℕ
 words_behind p behind photons = each_after (photon_words (mode_of p.picker)) behind photons
 
 -- The first so many of these places are places of the block.
-pub record ArePlaces (events : Block) (places : List ℕ) (many : ℕ) : Type 0 where
+pub record ArePlaces {N : ℕ} (events : Block N) (places : List ℕ) (many : ℕ) : Type 0 where
   pub few : many ≤ 64
   pub inside : (k : ℕ) → k < many → slice_index places k < count events
 
@@ -73,7 +73,7 @@ pen_on o picker out held = pen picker (o.written out) held (o.faults out)
 -- Events of a block by their places.
 
 -- the events at the first so many of these places
-abbrev pub events_at : Block → List ℕ → ℕ → List Event
+abbrev pub events_at : {N : ℕ} → Block N → List ℕ → ℕ → List Event
 events_at b places n = rows (λ k. event_at b (slice_index places k)) n
 
 -- What a taker that gives photons to a picker got.

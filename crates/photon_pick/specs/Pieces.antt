@@ -5,7 +5,7 @@ use Rattle.bench_io.specs.declared.sink.Sink.{Ghosts}
 use Rattle.ptu_definitions.specs.Words.{words_of}
 use Rattle.record_stream.{specs.declared.stream.RecordStream.RecordStream, specs.Standing.{how_of, greatest_of, bytes_in, refused_with, HasStreamed}}
 use Rattle.record_write.{specs.declared.picker.Picker.Picker, specs.Picker.{mode_of, last_by, is_going}}
-use Rattle.told_text.specs.Texts.{WritesText}
+use Rattle.streamed_text.specs.Texts.{WritesText}
 use Rattle.photon_pick.{specs.Texts.{text_in, refusal_in, HasPickedIn}, specs.Ends.WritesEnd}
 
 -- The picker has written its header and refused nothing, in the mode of the stream, and is no further on than it.

@@ -7,7 +7,7 @@ ghost use Rattle.photon_pick.{specs.Chosen.is_chosen, specs.Giving.events_at};
 use gate_plan::Gates;
 use tally_base::{BLOCK_SIZE, Block, Event, EventKind, is_in};
 
-/// The groups that an event is in. Where no group has a gate, its input alone tells.
+/// The groups that an event is in, none for a marker. Where no group has a gate, its input alone tells.
 #[inline(always)]
 fn groups_of(gates: &Gates, gated: bool, e: &Event) -> u64
     requires { gated ≡ false → (input dtime : ℕ) → gated_bits (sorting_of gates.now).groups input dtime ≡ 0 }
@@ -22,16 +22,6 @@ fn groups_of(gates: &Gates, gated: bool, e: &Event) -> u64
     }
 }
 
-/// Whether an event is a photon of a group, by its shifted dtime.
-#[inline(always)]
-fn is_chosen(gates: &Gates, gated: bool, group: u8, e: &Event) -> bool
-    requires gated { gated ≡ false → (input dtime : ℕ) → gated_bits (sorting_of gates.now).groups input dtime ≡ 0 }
-    requires group { (0 < group) × (group ≤ 64) }
-    ensures { result ≡ is_chosen (sorting_of gates.now) group e.now }
-{
-    e.is_photon() && is_in(groups_of(gates, gated, e), group)
-}
-
 /// Puts the places of the photons of a group in a block, in order, to the front of an array. The answer is how
 /// many they are. It takes no branch on the group, which no processor would foresee.
 // Not inlined, so that its loop has the registers for itself.
@@ -39,7 +29,7 @@ fn is_chosen(gates: &Gates, gated: bool, group: u8, e: &Event) -> bool
 pub(crate) fn choose(
     gates: &Gates,
     group: u8,
-    block: &Block,
+    block: &Block<BLOCK_SIZE>,
     places: &mut [u8; BLOCK_SIZE],
 ) -> usize
     requires group { (0 < group) × (group ≤ 64) }
@@ -52,7 +42,8 @@ pub(crate) fn choose(
     let mut chosen = 0;
     for at in 0..block.len().min(BLOCK_SIZE) {
         places[chosen] = at as u8;
-        chosen += usize::from(is_chosen(gates, gated, group, &block.event(at)));
+        let groups = groups_of(gates, gated, &block.event(at));
+        chosen += usize::from(is_in(groups, group));
     }
     chosen
 }

@@ -4,7 +4,7 @@ ghost use Rattle.record_stream.{specs.Standing.{how_of, given_by, greatest_of, r
 ghost use Rattle.photon_pick.{specs.Chosen.is_of_group, specs.Texts.answer_by, specs.Pieces.{IsNoFurther, PicksEnd}};
 
 use crate::taker::Picks;
-use bench_io::{Block, Sink};
+use bench_io::{OutBuffer, Sink};
 use gate_plan::Gates;
 use record_stream::{RecordStream, Summary};
 use record_write::Picker;
@@ -64,7 +64,7 @@ pub fn pick_end<O: Sink>(
         group,
         picker: &mut picker,
         out,
-        block: Block::new(),
+        block: OutBuffer::new(),
         fault: None,
         refusals: 0,
         mode,

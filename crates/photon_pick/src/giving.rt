@@ -4,17 +4,17 @@ ghost use Rattle.tally_base.{specs.Columns.gathered, specs.Tally.floor_after};
 ghost use Rattle.record_write.specs.Picker.{mode_of, last_by};
 ghost use Rattle.photon_pick.specs.Giving.{events_at, pen_on, ArePlaces, CanBeGiven, Gave, Stopped};
 
-use bench_io::{Block, Sink};
+use bench_io::{OutBuffer, Sink};
 use record_write::Picker;
-use tally_base::{BLOCK_SIZE, Fault};
+use tally_base::{BLOCK_SIZE, Block, Fault};
 
 /// Gives the photons at the first so many of these places of a block to a picker, until it refuses one.
 pub(crate) fn give_photons<O: Sink>(
-    events: &tally_base::Block,
+    events: &Block<BLOCK_SIZE>,
     places: &[u8; BLOCK_SIZE],
     many: usize,
     picker: &mut Picker,
-    block: &mut Block,
+    block: &mut OutBuffer,
     out: &mut O,
 ) -> Result<(), Fault>
     requires places { ArePlaces events.now places.now many }

@@ -5,7 +5,7 @@ ghost use Rattle.record_write.specs.Picker.{mode_of};
 ghost use Rattle.photon_pick.{specs.Chosen.is_of_group, specs.Texts.answer_by, specs.Pieces.{GoesOn, IsNoFurther, PicksPiece}};
 
 use crate::taker::Picks;
-use bench_io::{Block, Sink};
+use bench_io::{OutBuffer, Sink};
 use gate_plan::Gates;
 use record_stream::RecordStream;
 use record_write::Picker;
@@ -76,7 +76,7 @@ pub fn pick_piece<O: Sink>(
         group,
         picker,
         out,
-        block: Block::new(),
+        block: OutBuffer::new(),
         fault: None,
         refusals: 0,
         mode,

@@ -8,11 +8,11 @@ ghost use Rattle.photon_pick.specs.Chosen.{is_chosen};
 use crate::choosing::choose;
 use crate::giving::give_photons;
 use abs_time::{moved_floor, orders_markers};
-use bench_io::{Block, Sink};
+use bench_io::{OutBuffer, Sink};
 use gate_plan::Gates;
 use record_stream::EventTaker;
 use record_write::Picker;
-use tally_base::{BLOCK_SIZE, Event, Failed, Fault, Mode, is_in};
+use tally_base::{BLOCK_SIZE, Block, Event, Failed, Fault, Mode, is_in};
 
 /// Whether an event is a photon of a group, by its shifted dtime, that isn't late.
 #[inline(always)]
@@ -31,7 +31,7 @@ pub(crate) struct Picks<'g, 'p, 'o, O: Sink> {
     pub(crate) group: u8,
     pub(crate) picker: &'p mut Picker,
     pub(crate) out: &'o mut O,
-    pub(crate) block: Block,
+    pub(crate) block: OutBuffer,
     // Why a photon was refused. Then no other is given to the picker.
     pub(crate) fault: Option<Fault>,
     // How often it failed.
@@ -102,7 +102,7 @@ impl<'g, 'p, 'o, O: Sink> EventTaker for Picks<'g, 'p, 'o, O> {
         }
     }
 
-    fn take_block(&mut self, block: &mut tally_base::Block) -> Result<(), Failed> {
+    fn take_block(&mut self, block: &mut Block<BLOCK_SIZE>) -> Result<(), Failed> {
         if block.len() == 0 {
             return Ok(());
         }

@@ -1,11 +1,11 @@
 -- A text that stands behind another one.
 use Rattle.std.{proofs.Common.{◌≡◌, ◌∙◌, ℕ, Bool, List, [], ◌++◌, None, Ok, Err, sym, ap, append_assoc, append-nil, inl, inr, Result, arith, rules}, specs.declared.option.Option.{Option}}
 use Rattle.tally_base.{specs.declared.event.Event.Event, specs.declared.fault.Fault.Fault, specs.declared.header.Header.Header, specs.RecordTypes.mode_of}
-use Rattle.told_text.specs.Texts.{WroteText, CutText, WritesText}
-use Rattle.ptu_definitions.specs.Streams.{Reading}
+use Rattle.streamed_text.specs.Texts.{WroteText, CutText, WritesText}
+use Rattle.ptu_definitions.specs.Streams.{StreamSettings}
 use Rattle.plan_text.{specs.Plan.PlanView, specs.Fits.fits}
 use Rattle.gate_plan.{specs.Shifting.{Sorting, sorting}, specs.Histories.reading_by}
-use Rattle.short_file.specs.ShortFiles.{short_header}
+use Rattle.minimal_file.specs.ShortFiles.{short_header}
 use Rattle.record_write.{specs.declared.picker.Picker.Picker, specs.Picker.HasPicked}
 use Rattle.photon_pick.{specs.Chosen.is_chosen, proofs.Stays.{text-none, has-none, unrefused}}
 use Rattle.command_work.proofs.RestEnds.{refused-none}
@@ -28,7 +28,7 @@ module _ (head shown grown : List ℕ) (refused : Option Fault) (old new : Optio
   writes-headed (Err fault) (inr h) = inr (h.0, cut h.1)
 
 -- no photon is picked of no bytes, and the header of the file stands alone
-module _ (chooses : Event → Bool) (how : Reading) where
+module _ (chooses : Event → Bool) (how : StreamSettings) where
   pub picks-start : (picks chooses how).text [] ≡ short_header how.mode
   picks-start = ap (λ l. short_header how.mode ++ l) (text-none chooses how) ∙ append-nil (short_header how.mode)
 
@@ -36,5 +36,5 @@ module _ (chooses : Event → Bool) (how : Reading) where
   picks-none picker none = unrefused chooses how [] picker (has-none chooses how picker none) (refused-none how)
 
 -- a reader of a plan that suits is told of as the plan is
-pub picks-same : (group : ℕ) (plan : PlanView) (header : Header) (by : Sorting) (how : Reading) → fits (mode_of header.record_type) plan ≡ Ok tt → by ≡ sorting plan → how ≡ reading_by plan header → picks (is_chosen by group) how ≡ picks_by group plan header
+pub picks-same : (group : ℕ) (plan : PlanView) (header : Header) (by : Sorting) (how : StreamSettings) → fits (mode_of header.record_type) plan ≡ Ok tt → by ≡ sorting plan → how ≡ reading_by plan header → picks (is_chosen by group) how ≡ picks_by group plan header
 picks-same group plan header by how suits same_sorting same_how = search (rules, arith)

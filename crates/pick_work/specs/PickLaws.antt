@@ -1,17 +1,17 @@
 -- What holds of the photons that are picked of bytes that grow.
 use Rattle.std.proofs.Common.{◌≡◌, ◌∙◌, ℕ, List, ◌++◌, Bool, None, Ok, refl, sym, ap, append_assoc}
 use Rattle.tally_base.{specs.declared.event.Event.Event, specs.declared.header.Header.Header, specs.RecordTypes.mode_of}
-use Rattle.ptu_definitions.{specs.Headers.header_answer, specs.Words.words_of, specs.Streams.Reading}
+use Rattle.ptu_definitions.{specs.Headers.header_answer, specs.Words.words_of, specs.Streams.StreamSettings}
 use Rattle.plan_text.{specs.Plan.PlanView, specs.Fits.fits}
 use Rattle.gate_plan.specs.Histories.{reading_by}
 use Rattle.record_stream.{specs.declared.stream.RecordStream.RecordStream, specs.Standing.how_of, proofs.Lasts.streamed-clear}
-use Rattle.short_file.specs.ShortFiles.{short_header}
+use Rattle.minimal_file.specs.ShortFiles.{short_header}
 use Rattle.record_write.specs.declared.picker.Picker.{Picker}
 use Rattle.photon_pick.{specs.Texts.{text_in, refusal_in}, proofs.Stays.{text-front, refused-stays, refused-inside, end-inside, unrefused}}
 use Rattle.command_work.{specs.Behaviours.AsItReads, specs.Works.WantsNone, specs.Tellings.{Telling, IsText, Suits}, proofs.RestEnds.{same-end, fits-law, ends-headed, text-headed, goes-headed, ends-fit, text-fit, goes-fit}}
 use Rattle.pick_work.specs.PickOutcomes.{chosen_by, picked_if_fits, picked_behind, so_far_if_fits, so_far_behind, pick_so_far, goes_on_behind, picking, picks, picks_by, HasWritten}
 
-pub picks-law : (chooses : Event → Bool) (how : Reading) → IsText (picks chooses how)
+pub picks-law : (chooses : Event → Bool) (how : StreamSettings) → IsText (picks chooses how)
 picks-law chooses how = record {
   refused = λ bytes more fault h. let stays = refused-stays chooses how bytes more fault h in same-end ((picks chooses how).ends (bytes ++ more)) _ _ (ap (λ l. short_header how.mode ++ l) stays.0) stays.1;
   front = λ bytes more.

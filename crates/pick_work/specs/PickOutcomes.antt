@@ -1,10 +1,10 @@
 -- What `pick` ends with over the bytes of a file.
 use Rattle.std.{specs.Prelude.{ℕ, ◌≡◌, ◌&&◌, nat_le, Bool, List, [], ◌++◌, length, None, Some, Result, Ok, Err, if◌then◌else◌}, specs.declared.option.Option.Option}
 use Rattle.tally_base.{specs.declared.event.Event.Event, specs.declared.fault.Fault.Fault, specs.declared.fault.Fault.TheVariants.NoGroup, specs.declared.header.Header.Header, specs.RecordTypes.mode_of, specs.Faults.fault_in}
-use Rattle.ptu_definitions.{specs.Headers.header_answer, specs.Words.words_of, specs.Streams.Reading}
+use Rattle.ptu_definitions.{specs.Headers.header_answer, specs.Words.words_of, specs.Streams.StreamSettings}
 use Rattle.plan_text.{specs.Plan.PlanView, specs.Fits.fits}
 use Rattle.gate_plan.{specs.Shifting.sorting, specs.Histories.reading_by}
-use Rattle.short_file.specs.ShortFiles.{short_header}
+use Rattle.minimal_file.specs.ShortFiles.{short_header}
 use Rattle.photon_pick.{specs.Chosen.is_chosen, specs.Texts.{text_in, refusal_in, HasPickedIn}, specs.Ends.{photons_kept, end_text, end_fault}, specs.Late.too_late, specs.Pieces.IsNoFurther}
 use Rattle.command_work.{specs.Outcomes.{Outcome, refused, MayChange}, specs.Behaviours.{Work, AreRead, IsHeaded}, specs.Tellings.{Telling, unless_declined}}
 use Rattle.record_stream.{specs.declared.stream.RecordStream.RecordStream, specs.Standing.{how_of, refused_with, HasStreamed}}
@@ -19,7 +19,7 @@ abbrev pub chosen_by : PlanView → ℕ → Event → Bool
 chosen_by plan group = is_chosen (sorting plan) group
 
 -- what the bytes behind a header end with, but for the header that is written: the words of the photons that are chosen, and why they are refused
-abbrev pub photons_picked : (Event → Bool) → Reading → List ℕ → Outcome
+abbrev pub photons_picked : (Event → Bool) → StreamSettings → List ℕ → Outcome
 photons_picked chooses how bytes = record { text = end_text chooses how bytes; fault = end_fault chooses how bytes }
 
 -- the records behind a header: the file of the photons that are written, and why they are refused
@@ -77,7 +77,7 @@ picking group plan = record {
 -- What is made of the bytes after a header, where the photons of a group are written.
 
 -- a file of the photons that are chosen
-abbrev pub picks : (Event → Bool) → Reading → Telling
+abbrev pub picks : (Event → Bool) → StreamSettings → Telling
 picks chooses how = record {
   text = λ bytes. short_header how.mode ++ text_in chooses how (words_of bytes);
   ends = λ bytes. record { text = short_header how.mode ++ end_text chooses how bytes; fault = end_fault chooses how bytes };

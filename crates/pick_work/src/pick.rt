@@ -1,7 +1,7 @@
 // The photons of a group of a plan, written while the data are read.
 ghost use Rattle.std.specs.Prelude.{◌≡◌, ◌<◌, ◌≤◌, None};
 ghost use Rattle.ptu_definitions.specs.Words.{record_limit};
-ghost use Rattle.plan_text.specs.Reading.{plan_view};
+ghost use Rattle.plan_text.specs.ReadPlan.{plan_view};
 ghost use Rattle.pick_work.specs.PickOutcomes.{no_group};
 
 use bench_io::Sink;
@@ -67,7 +67,7 @@ pub(crate) struct PickJob<'p> {
 }
 
 impl<'p> Job for PickJob<'p> {
-    ghost use Rattle.plan_text.specs.Reading.{plan_view};
+    ghost use Rattle.plan_text.specs.ReadPlan.{plan_view};
     ghost use Rattle.command_work.{specs.Behaviours.AsItReads, specs.Works.WantsNone};
     ghost use Rattle.pick_work.{specs.PickOutcomes.{pick_so_far, picking, picks_by}, specs.PickLaws.picking-suits};
 

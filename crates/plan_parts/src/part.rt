@@ -5,7 +5,7 @@ use flim_cube::FlimCube;
 use fold_count::Fold;
 use scan_image::Image;
 use std::sync::ledger::Ledger;
-use tally_base::{Block, Steps, Tally};
+use tally_base::{Block, Steps, TABLE_BLOCK, Tally};
 use tau_cascade::Cascade;
 use tcspc_hist::Hist;
 
@@ -79,7 +79,7 @@ impl Tally for Part {
 
     /// The kind of the table is tested once.
     #[inline]
-    fn events<L: Ledger>(&mut self, block: &Block, steps: &mut Steps<L>) {
+    fn events<L: Ledger>(&mut self, block: &Block<TABLE_BLOCK>, steps: &mut Steps<L>) {
         in_part!(self, table => table.events(block, steps))
     }
 

@@ -3,7 +3,7 @@ use Rattle.std.{proofs.Common.{rules}, proofs.Common.{◌≡◌, refl, ℕ, suc,
 use Rattle.toml.specs.Data.{Data, table, get}
 use Rattle.tally_base.specs.Settings.{PartSettings, entries}
 use Rattle.toml_rules.{specs.Rules.{AllHold, each}, specs.Values.{number_or, list_at}}
-use Rattle.plan_text.{specs.Kind.{Kind, tables, list_of_kind, TableList}, specs.Kinds.{kinds, lists, table_lists}, specs.Settle.{settle, settle_or_none}, specs.Document.{document_rules, rule_of_lengths, has_at_most, AreShort}, specs.Plan.{PlanView, plan, plan_rules}, specs.Reading.plan_answer, specs.Bound.{bound, greatest_bound, most_entries}, proofs.Whole.{all_before, each_holds, kinds_of_lists}, proofs.ByKind.{integer_most, KeepsFew, kinds_keep_few}, proofs.Called.{valid, plans}}
+use Rattle.plan_text.{specs.Kind.{Kind, tables, list_of_kind, TableList}, specs.Kinds.{kinds, lists, table_lists}, specs.Settle.{settle, settle_or_none}, specs.Document.{document_rules, rule_of_lengths, has_at_most, AreShort}, specs.Plan.{PlanView, plan, plan_rules}, specs.ReadPlan.plan_answer, specs.Bound.{bound, greatest_bound, most_entries}, proofs.Whole.{all_before, each_holds, kinds_of_lists}, proofs.ByKind.{integer_most, KeepsFew, kinds_keep_few}, proofs.Called.{valid, plans}}
 
 -- ## Tables of one kind
 

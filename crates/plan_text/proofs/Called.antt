@@ -3,7 +3,7 @@ use Rattle.std.{proofs.Common.{rules, ◌≡◌, ◌<◌, ◌≤◌, ◌∙◌, 
 use Rattle.tally_base.{specs.declared.fault.Fault.Fault, specs.declared.fault.Fault.TheVariants.{OutOfMemory, PlanTooLong, PlanSyntax, PlanRule}}
 use Rattle.toml.{specs.Data.{table, Members, Data}, specs.Parse.parse_document, proofs.OnLiterals.toml_on_literals}
 use Rattle.toml_rules.{specs.Rules.{Rule, all_kept, AllHold, IsLeast, Names}, proofs.Least.{names_least, all_kept_nowhere}}
-use Rattle.plan_text.{specs.Plan.{PlanView, plan_rules, plan}, specs.Reading.{text_limit, document, if_kept, plan_of_document, plan_answer, IsCalledFor, IsValid}, proofs.ByKind.plan_rules_rise, proofs.Whole.plan_is_whole, specs.Document.{document_rules, rule_of_lists, rule_of_lengths, order, reserved, records, known_keys, has_known_keys, may_have_tables, has_at_most}, specs.Groups.{group_rules, inputs, gates, has_group_keys, group}, specs.Histograms.{histogram, has_histogram_keys}, specs.Traces.{origin, trace, has_trace_keys}, specs.StartStops.{startstop, has_startstop_keys}, specs.Coincidences.{coincidence, has_coincidence_keys}, specs.Images.{bit, raster, bits, serpentine, image_values, has_image_keys}, specs.Cubes.{bins, has_cube_values, cube, has_cube_keys}, specs.Folds.{numbers, fold_settings, has_fold_keys}, specs.Correlations.{lags, correlation, has_correlation_keys}, specs.Shifts.{period, period_or_one, shift, all_shifts, has_shift_keys, shift_rules}, specs.Settle.{settle, settle_or_none}, specs.Version.{version, is_second}}
+use Rattle.plan_text.{specs.Plan.{PlanView, plan_rules, plan}, specs.ReadPlan.{text_limit, document, if_kept, plan_of_document, plan_answer, IsCalledFor, IsValid}, proofs.ByKind.plan_rules_rise, proofs.Whole.plan_is_whole, specs.Document.{document_rules, rule_of_lists, rule_of_lengths, order, reserved, records, known_keys, has_known_keys, may_have_tables, has_at_most}, specs.Groups.{group_rules, inputs, gates, has_group_keys, group}, specs.Histograms.{histogram, has_histogram_keys}, specs.Traces.{origin, trace, has_trace_keys}, specs.StartStops.{startstop, has_startstop_keys}, specs.Coincidences.{coincidence, has_coincidence_keys}, specs.Images.{bit, raster, bits, serpentine, image_values, has_image_keys}, specs.Cubes.{bins, has_cube_values, cube, has_cube_keys}, specs.Folds.{numbers, fold_settings, has_fold_keys}, specs.Correlations.{lags, correlation, has_correlation_keys}, specs.Shifts.{period, period_or_one, shift, all_shifts, has_shift_keys, shift_rules}, specs.Settle.{settle, settle_or_none}, specs.Version.{version, is_second}}
 
 -- What bytes are as a document, and what reading them as a plan answers.
 

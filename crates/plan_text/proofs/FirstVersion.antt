@@ -3,7 +3,7 @@ use Rattle.std.{proofs.Common.{rules}, proofs.Common.{◌≡◌, refl, ℕ, ◌�
 use Rattle.toml.specs.Data.{Data, Members, table, no_members, member, get, get_member}
 use Rattle.tally_base.{specs.Settings.{PartSettings, GroupView, ImageView}, specs.Settings.PartSettings.ImageSettings}
 use Rattle.toml_rules.{specs.Rules.AllHold, specs.Values.{is_one_of, members_within, has_keys, list_at}}
-use Rattle.plan_text.{specs.Version.is_second, specs.Kind.{Kind, tables}, specs.Kinds.{kinds, second_kinds, table_lists}, specs.Groups.{groups, group, group_of, group_number, inputs, gates, one_gate}, specs.Shifts.{shifts, period, period_or_one, all_shifts}, specs.Settle.{settle, settle_or_none}, specs.Histograms.{histogram_kind, histogram, hist_of}, specs.Traces.{trace_kind, trace, trace_of}, specs.StartStops.{startstop_kind, startstop, startstop_of}, specs.Coincidences.{coincidence_kind, coincidence, coincidence_of}, specs.Images.{images, image, image_values, image_of, raster, bits, serpentine, other_image_keys, has_image_keys}, specs.Correlations.{correlation_kind, correlation, correlation_of, lags}, specs.Document.{document_rules, known_keys, has_known_keys}, specs.Plan.{PlanView, plan, plan_rules}, specs.Reading.{document, plan_answer}, specs.FirstVersion.{IsOfFirst, SaysFirst}, proofs.Whole.{all_before, all_after, lists_hold, each_holds}, proofs.Called.{valid, plans}}
+use Rattle.plan_text.{specs.Version.is_second, specs.Kind.{Kind, tables}, specs.Kinds.{kinds, second_kinds, table_lists}, specs.Groups.{groups, group, group_of, group_number, inputs, gates, one_gate}, specs.Shifts.{shifts, period, period_or_one, all_shifts}, specs.Settle.{settle, settle_or_none}, specs.Histograms.{histogram_kind, histogram, hist_of}, specs.Traces.{trace_kind, trace, trace_of}, specs.StartStops.{startstop_kind, startstop, startstop_of}, specs.Coincidences.{coincidence_kind, coincidence, coincidence_of}, specs.Images.{images, image, image_values, image_of, raster, bits, serpentine, other_image_keys, has_image_keys}, specs.Correlations.{correlation_kind, correlation, correlation_of, lags}, specs.Document.{document_rules, known_keys, has_known_keys}, specs.Plan.{PlanView, plan, plan_rules}, specs.ReadPlan.{document, plan_answer}, specs.FirstVersion.{IsOfFirst, SaysFirst}, proofs.Whole.{all_before, all_after, lists_hold, each_holds}, proofs.Called.{valid, plans}}
 
 -- ## A key that is not known
 

@@ -16,5 +16,5 @@ pub mod Document
 pub mod Plan
 pub mod FirstVersion
 pub mod Bound
-pub mod Reading
+pub mod ReadPlan
 pub mod Fits

@@ -2,7 +2,7 @@
 ghost use Rattle.std.specs.Prelude.{◌≡◌, ◌≢◌, ◌↔◌, ◌≤◌, ℕ, List, Some, Ok, Err, false};
 ghost use Rattle.toml.specs.Data.{Members, table};
 ghost use Rattle.tally_base.{specs.declared.fault.Fault.Fault, specs.declared.fault.Fault.TheVariants.OutOfMemory, specs.declared.header.Mode.Mode};
-ghost use Rattle.plan_text.{specs.declared.plan.Plan.Plan, specs.Plan.{PlanView, plan}, specs.Version.is_second, specs.FirstVersion.SaysFirst, specs.Reading.{document, plan_answer, IsCalledFor, IsValid, HaveSameTables}, specs.Fits.{fits, IsMisfit}, specs.Bound.{bound, greatest_bound}};
+ghost use Rattle.plan_text.{specs.declared.plan.Plan.Plan, specs.Plan.{PlanView, plan}, specs.Version.is_second, specs.FirstVersion.SaysFirst, specs.ReadPlan.{document, plan_answer, IsCalledFor, IsValid, HaveSameTables}, specs.Fits.{fits, IsMisfit}, specs.Bound.{bound, greatest_bound}};
 
 /// What bytes answer as a plan is the one fault that they call for, or the plan of a document that breaks
 /// no rule.

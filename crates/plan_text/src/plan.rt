@@ -58,7 +58,7 @@ macro_rules! each_list {
 
 impl Plan {
     ghost use Rattle.std.specs.Prelude.{◌≡◌};
-    ghost use Rattle.plan_text.{specs.Fits.parts_fit, specs.Plan.parts_of, specs.Reading.plan_view};
+    ghost use Rattle.plan_text.{specs.Fits.parts_fit, specs.Plan.parts_of, specs.ReadPlan.plan_view};
 
     /// Goes through the tables of each kind, in the order of the report.
     #[tactic(auto, using(crate::proofs::Misfits::parts_fit_after))]

@@ -3,7 +3,7 @@ ghost use Rattle.std.specs.Prelude.{◌≡◌, ◌≤◌, ◌<◌, ◌≢◌, ma
 ghost use Rattle.tally_base.{specs.Faults.is_outside, specs.Settings.group_view, specs.Limits.record_limit};
 ghost use Rattle.toml.{specs.Data.{Members, table}, specs.View.{view}};
 ghost use Rattle.toml_rules.specs.Rules.{all_kept, Names, AllHold};
-ghost use Rattle.plan_text.{specs.Groups.{groups, group}, specs.Document.{order, reserved, records}, specs.Settle.settle_or_none, specs.Plan.{order_of, reserved_of, plan_rules, plan, IsWhole}, specs.Reading.{document, plan_answer, plan_view, plan_seen, if_kept, IsCalledFor, IsValid}};
+ghost use Rattle.plan_text.{specs.Groups.{groups, group}, specs.Document.{order, reserved, records}, specs.Settle.settle_or_none, specs.Plan.{order_of, reserved_of, plan_rules, plan, IsWhole}, specs.ReadPlan.{document, plan_answer, plan_view, plan_seen, if_kept, IsCalledFor, IsValid}};
 
 use crate::document::{keeps_document_rules, order, records, reserved};
 use crate::groups::{group, keeps_group_rules};

@@ -1,9 +1,9 @@
 -- The statuses of refusals of bytes. None is that of a bad command line.
 use Rattle.std.{proofs.Common.{◌≡◌, ℕ, List, [], ◌∷◌, Bool, true, false, None, Some, Ok, Err, refl, subst, arith, rules, ◌≢◌, ◌≤◌, ◌==◌, Result, length, nat_lt, if◌then◌else◌}, specs.declared.option.Option.Option}
 use Rattle.tally_base.{specs.declared.fault.Fault.Fault, specs.declared.fault.Fault.TheVariants.{HeaderLimit, TruncatedHeader, RecordLimit, TruncatedRecord, ReservedRecord, TimeLimit, OutOfMemory}, specs.declared.header.Header.Header, specs.declared.header.RecordType.RecordType, specs.Faults.{status_of, fault_in}, specs.declared.event.Event.Event, specs.declared.header.Mode.Mode, specs.Events.{stops_late, stops_reserved}, specs.RecordTypes.mode_of}
-use Rattle.ptu_definitions.{specs.declared.found.Found.Found, specs.Words.{words_of, rest_of, counted, records_of, record_limit}, specs.Kinds.counts_of, specs.Endings.{Ending, OtherFile, BadType, BadLength, Whole, Open, ending}, specs.Fields.{found_in, header_of, version_in, with_type, with_value}, specs.Headers.{header_answer, head_of, answer_as, with_rest, header_limit}, specs.Streams.{IsFirst, Reading, late_refusal, refusal, record_refusal, or_refusal, summary, streamed}, proofs.Firsts.first-refusal}
+use Rattle.ptu_definitions.{specs.declared.found.Found.Found, specs.Words.{words_of, rest_of, counted, records_of, record_limit}, specs.Kinds.counts_of, specs.Endings.{Ending, OtherFile, BadType, BadLength, Whole, Open, ending}, specs.Fields.{found_in, header_of, version_in, with_type, with_value}, specs.Headers.{header_answer, head_of, answer_as, with_rest, header_limit}, specs.Streams.{IsFirst, StreamSettings, late_refusal, refusal, record_refusal, or_refusal, summary, streamed}, proofs.Firsts.first-refusal}
 use Rattle.command_work.specs.Outcomes.{Outcome, status, StatusIn}
-use Rattle.plan_text.{specs.Plan.PlanView, specs.Reading.{plan_answer, IsCalledFor}, specs.Fits.{fits, IsMisfit}, proofs.Called.called, proofs.Misfits.{misfit_named, names_part}}
+use Rattle.plan_text.{specs.Plan.PlanView, specs.ReadPlan.{plan_answer, IsCalledFor}, specs.Fits.{fits, IsMisfit}, proofs.Called.called, proofs.Misfits.{misfit_named, names_part}}
 
 -- what an answer of a header says of its fault
 abbrev pub InHeader : {A : Type 0} → Result A Fault → Type 0
@@ -48,12 +48,12 @@ causes-in : (least : ℕ) → least ≤ 20 → (full reserved passing stops : Bo
     else if passing then Some (TimeLimit place) else if stops then late else None)
 causes-in least few full reserved passing stops limit place word late own h = search (rules, arith)
 
-pub refusal-in : (how : Reading) (before : List ℕ) (word least : ℕ) → least ≤ 20 → (stops_reserved how.policy.reserved ≡ true → least ≤ 18)
+pub refusal-in : (how : StreamSettings) (before : List ℕ) (word least : ℕ) → least ≤ 20 → (stops_reserved how.policy.reserved ≡ true → least ≤ 18)
     → (stops_late how.policy.order ≡ true → least ≤ 18) → OfSome (StatusIn least 21) (refusal how before word)
 unfolding refusal
 refusal-in how before word least few reserved late = search (rules, arith, causes-in, late_refusal-in)
 
-pub least-status : (how : Reading) (behind : List ℕ) (fault : Fault) → IsFirst how fault [] (words_of behind) → StatusIn 18 21 fault
+pub least-status : (how : StreamSettings) (behind : List ℕ) (fault : Fault) → IsFirst how fault [] (words_of behind) → StatusIn 18 21 fault
 least-status how behind fault h =
     subst (OfSome (StatusIn 18 21)) h.refused (refusal-in how _ h.word 18 (omega arith) (λ stops. omega arith) (λ stops. omega arith))
 
@@ -92,7 +92,7 @@ counted-bytes record_type bytes = by (nat_lt record_limit (length (words_of byte
     by false true = λ e. omega arith
     by false false = λ e. omega arith
 
-pub streamed-bytes : (how : Reading) (bytes : List ℕ) → status (fault_in (streamed how bytes)) ≢ 1
+pub streamed-bytes : (how : StreamSettings) (bytes : List ℕ) → status (fault_in (streamed how bytes)) ≢ 1
 unfolding streamed
 streamed-bytes how bytes = by (record_refusal how (words_of bytes)) refl (length (rest_of bytes) == 0)
   where

@@ -2,7 +2,7 @@
 use Rattle.std.{proofs.Common.{◌≡◌, ◌≤◌, ◌<◌, ℕ, List, true, None, Some, Ok, Err, refl, sym, ap, ◌∙◌, subst, arith, inl, inr, ◌≢◌, ◌⊎◌, Result, IfErr}, specs.declared.option.Option.{Option}}
 use Rattle.tally_base.{specs.declared.slot.Slot.Slot, specs.declared.slot.Slot.TheVariants.{Plan, Data}, specs.declared.fault.Fault.Fault, specs.declared.fault.Fault.TheVariants.{Usage, OpenFault, ReadFault, WriteFault, OutOfMemory}, specs.Faults.{is_outside, fault_in, status_of, HasReason}, specs.FaultCounts.Rose}
 use Rattle.bench_io.{specs.Inputs.{File, InputState}, proofs.Bytes.{Appends-nil, Keeps-from_none}}
-use Rattle.plan_text.{specs.Plan.PlanView, specs.Reading.plan_answer}
+use Rattle.plan_text.{specs.Plan.PlanView, specs.ReadPlan.plan_answer}
 use Rattle.command_words.specs.Commands.{Request}
 use Rattle.ptu_cli.{specs.Behaviours.behaviour, proofs.ByteFaults.{IsOfBytes, plan_answer-bytes}, proofs.Sound.{WorkIsSound, IsSound, sound}}
 use Rattle.command_work.{specs.Outcomes.{Outcome, status}, specs.Behaviours.{Work, Behaviour, NoCommand, Alone, OnFile, ByPlan}, specs.Endings.{on_file, unless, by_plan, outcome, Span, HasCauses, NoneRose, IsGood, IsGoodFor, AreItsFiles, ForItsFiles, Answers, TellsFault, EndsWith, EndsBy, Does, RunsOut, LacksMemory}, proofs.PlanTold.outcome-planned, proofs.Told.{files-map, some-file}, proofs.Once.{IsQuiet, quiet-none}}

@@ -1,7 +1,7 @@
 -- What is shown of each command's work: good files end it well, and no end of it is that of a bad command line.
 use Rattle.std.{proofs.Common.{◌≡◌, ℕ, List, [], length, false, true, None, Some, Ok, refl, ap, ◌≢◌, arith, nat_lt, Bool, ◌&&◌, nat_le, if◌then◌else◌}, proofs.lemmas.Bool.Decides.nat_tests, specs.declared.option.Option.Option}
 use Rattle.tally_base.{specs.Faults.fault_in, specs.declared.header.RecordType.RecordType, specs.declared.event.Event.Event, specs.declared.fault.Fault.Fault, specs.declared.fault.Fault.TheVariants.NoGroup, specs.RecordTypes.mode_of, specs.Settings.TraceView}
-use Rattle.ptu_definitions.{specs.Words.{words_of, record_limit, records_of, counted}, specs.Kinds.counts_of, specs.Streams.{Reading, summary, streamed}, specs.Prefixes.first}
+use Rattle.ptu_definitions.{specs.Words.{words_of, record_limit, records_of, counted}, specs.Kinds.counts_of, specs.Streams.{StreamSettings, summary, streamed}, specs.Prefixes.first}
 use Rattle.plan_text.specs.Plan.{PlanView}
 use Rattle.gate_plan.{specs.Histories.reading_by, specs.Shifting.sorting}
 use Rattle.command_work.{specs.Outcomes.status, specs.Behaviours.{Work, Behaviour, AreWhole, AreRead, NoCommand, Alone, OnFile, ByPlan}}
@@ -46,7 +46,7 @@ counted-whole record_type behind h =
     let few : nat_lt record_limit (length (words_of behind)) ≡ false = grind (arith, nat_tests, h.few) in
     rw (few, h.whole) refl
 
-streamed-read : (how : Reading) (behind : List ℕ) → AreRead how behind → streamed how behind ≡ Ok (summary how (words_of behind))
+streamed-read : (how : StreamSettings) (behind : List ℕ) → AreRead how behind → streamed how behind ≡ Ok (summary how (words_of behind))
 unfolding streamed
 streamed-read how behind h = rw (h.unrefused, h.whole) refl
 

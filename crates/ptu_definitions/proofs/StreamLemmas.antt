@@ -1,7 +1,7 @@
 -- Streams that grow.
 use Rattle.std.{proofs.Common.{◌≡◌, ℕ, List, [], ◌∷◌, ◌++◌, Bool, cond, None, Some, map, max, refl, sym, ap, ◌∙◌, append_assoc, append-nil, arith, nat_lt, not, ◌&&◌, ◌||◌, rules}, specs.declared.option.Option.Option, specs.List.list_any, proofs.lemmas.Grind.common_steps, proofs.lemmas.List.map-append, proofs.lemmas.Bool.Decides.nat_tests}
 use Rattle.tally_base.{specs.declared.event.Event.Event, specs.declared.header.Mode.Mode, specs.Events.is_ordered, specs.declared.fault.Fault.Fault}
-use Rattle.ptu_definitions.{specs.declared.records.Raw.Raw, specs.Prefixes.{each_after, listed, first}, specs.Times.{event_after, events}, specs.Kept.{floor_of, mark, marked, is_late, greatest, ordered_time, Marked}, specs.Streams.{Reading, refusal, refusals, record_refusal, unless_refused, unrefused_after, events_in, given}, proofs.PrefixLemmas.{each-push, each_after-append, first-append}, proofs.DeliveredLaws.{delivered_after, delivered-append}}
+use Rattle.ptu_definitions.{specs.declared.records.Raw.Raw, specs.Prefixes.{each_after, listed, first}, specs.Times.{event_after, events}, specs.Kept.{floor_of, mark, marked, is_late, greatest, ordered_time, Marked}, specs.Streams.{StreamSettings, refusal, refusals, record_refusal, unless_refused, unrefused_after, events_in, given}, proofs.PrefixLemmas.{each-push, each_after-append, first-append}, proofs.DeliveredLaws.{delivered_after, delivered-append}}
 
 pub events-push : (records : List Raw) (raw : Raw) → events (records ++ raw ∷ []) ≡ events records ++ event_after records raw
 unfolding events
@@ -20,30 +20,30 @@ greatest-push mode [] e = omega arith
 greatest-push mode (x ∷ es) e = rw (greatest-push mode es e) (omega arith)
 
 -- what words behind others add to what is delivered
-pub events_in-append : (how : Reading) (ws more : List ℕ) → events_in how (ws ++ more) ≡ events_in how ws ++ delivered_after how.policy.settle how.mode (events (map how.meaning ws)) (each_after event_after (map how.meaning ws) (map how.meaning more))
+pub events_in-append : (how : StreamSettings) (ws more : List ℕ) → events_in how (ws ++ more) ≡ events_in how ws ++ delivered_after how.policy.settle how.mode (events (map how.meaning ws)) (each_after event_after (map how.meaning ws) (map how.meaning more))
 unfolding events
 events_in-append how ws more = rw (map-append, each_after-append) (delivered-append how.policy.settle how.mode _ _)
 
 -- what the word behind these adds
-abbrev pub fresh : Reading → List ℕ → Raw → Marked
+abbrev pub fresh : StreamSettings → List ℕ → Raw → Marked
 fresh how ws raw = delivered_after how.policy.settle how.mode (events (map how.meaning ws)) (event_after (map how.meaning ws) raw)
 
-pub events_in-push : (how : Reading) (ws : List ℕ) (w : ℕ) → events_in how (ws ++ w ∷ []) ≡ events_in how ws ++ fresh how ws (how.meaning w)
+pub events_in-push : (how : StreamSettings) (ws : List ℕ) (w : ℕ) → events_in how (ws ++ w ∷ []) ≡ events_in how ws ++ fresh how ws (how.meaning w)
 events_in-push how ws w = events_in-append how ws (w ∷ []) ∙ rw append-nil refl
 
 -- Refusals.
-pub refusals-push : (how : Reading) (ws : List ℕ) (w : ℕ) → refusals how (ws ++ w ∷ []) ≡ refusals how ws ++ listed (refusal how ws w)
+pub refusals-push : (how : StreamSettings) (ws : List ℕ) (w : ℕ) → refusals how (ws ++ w ∷ []) ≡ refusals how ws ++ listed (refusal how ws w)
 unfolding refusals
 refusals-push how ws w = each-push _ ws w
 
-pub clear-push : (how : Reading) (ws : List ℕ) (w : ℕ) → refusals how ws ≡ [] → refusal how ws w ≡ None → refusals how (ws ++ w ∷ []) ≡ []
+pub clear-push : (how : StreamSettings) (ws : List ℕ) (w : ℕ) → refusals how ws ≡ [] → refusal how ws w ≡ None → refusals how (ws ++ w ∷ []) ≡ []
 clear-push how ws w clear none = refusals-push how ws w ∙ rw (clear, none) refl
 
-pub refused-push : (how : Reading) (ws : List ℕ) (w : ℕ) (fault : Fault) → refusals how ws ≡ []
+pub refused-push : (how : StreamSettings) (ws : List ℕ) (w : ℕ) (fault : Fault) → refusals how ws ≡ []
     → refusal how ws w ≡ Some fault → record_refusal how (ws ++ w ∷ []) ≡ Some fault
 refused-push how ws w fault clear some = ap first (refusals-push how ws w) ∙ rw (clear, some) refl
 
-pub refused-more : (how : Reading) (ws more : List ℕ) (fault : Fault) → record_refusal how ws ≡ Some fault → record_refusal how (ws ++ more) ≡ Some fault
+pub refused-more : (how : StreamSettings) (ws more : List ℕ) (fault : Fault) → record_refusal how ws ≡ Some fault → record_refusal how (ws ++ more) ≡ Some fault
 unfolding refusals
 refused-more how ws more fault h = rw each_after-append (first-append _ _ fault h)
 
@@ -53,10 +53,10 @@ listed-none o more h = search (rules, arith)
 pub listed-rest : (o : Option Fault) (more : List Fault) → listed o ++ more ≡ [] → more ≡ []
 listed-rest o more h = search (rules, arith)
 
-abbrev pub refusals_after : Reading → List ℕ → List ℕ → List Fault
+abbrev pub refusals_after : StreamSettings → List ℕ → List ℕ → List Fault
 refusals_after how before ws = each_after (λ before word. listed (refusal how before word)) before ws
 
-unrefused-clear : (how : Reading) (before ws more : List ℕ) → refusals_after how before ws ≡ []
+unrefused-clear : (how : StreamSettings) (before ws more : List ℕ) → refusals_after how before ws ≡ []
     → unrefused_after how before (ws ++ more) ≡ ws ++ unrefused_after how (before ++ ws) more
 unrefused-clear how before [] more clear = rw (append-nil before) refl
 unrefused-clear how before (w ∷ ws) more clear =
@@ -64,20 +64,20 @@ unrefused-clear how before (w ∷ ws) more clear =
     let rest : refusals_after how (before ++ w ∷ []) ws ≡ [] = listed-rest (refusal how before w) _ clear in
     rw here (ap (λ l. w ∷ l) (unrefused-clear how (before ++ w ∷ []) ws more rest ∙ rw (append_assoc before (w ∷ []) ws) refl))
 
-pub unrefused-all : (how : Reading) (ws : List ℕ) → refusals how ws ≡ [] → unrefused_after how [] ws ≡ ws
+pub unrefused-all : (how : StreamSettings) (ws : List ℕ) → refusals how ws ≡ [] → unrefused_after how [] ws ≡ ws
 unfolding refusals
 unrefused-all how ws clear = ap (unrefused_after how []) (sym (append-nil ws)) ∙ unrefused-clear how [] ws [] clear ∙ append-nil ws
 
-pub unrefused-upto : (how : Reading) (ws : List ℕ) (w : ℕ) (more : List ℕ) (fault : Fault)
+pub unrefused-upto : (how : StreamSettings) (ws : List ℕ) (w : ℕ) (more : List ℕ) (fault : Fault)
     → refusals how ws ≡ [] → refusal how ws w ≡ Some fault → unrefused_after how [] (ws ++ w ∷ more) ≡ ws
 unfolding refusals
 unrefused-upto how ws w more fault clear some = unrefused-clear how [] ws (w ∷ more) clear ∙ rw some (append-nil ws)
 
-pub given-clear : (how : Reading) (ws : List ℕ) → refusals how ws ≡ [] → given how ws ≡ events_in how ws
+pub given-clear : (how : StreamSettings) (ws : List ℕ) → refusals how ws ≡ [] → given how ws ≡ events_in how ws
 unfolding given
 given-clear how ws clear = ap (events_in how) (unrefused-all how ws clear)
 
-pub given-refused : (how : Reading) (ws : List ℕ) (w : ℕ) (fault : Fault) → refusals how ws ≡ []
+pub given-refused : (how : StreamSettings) (ws : List ℕ) (w : ℕ) (fault : Fault) → refusals how ws ≡ []
     → refusal how ws w ≡ Some fault → given how (ws ++ w ∷ []) ≡ events_in how ws
 unfolding given
 given-refused how ws w fault clear some = ap (events_in how) (unrefused-upto how ws w [] fault clear some)
@@ -87,7 +87,7 @@ unless-front : (w : ℕ) (o : Option Fault) (a b tail : List ℕ) → a ≡ b ++
 unless-front w None a b tail e = (tail, ap (λ l. w ∷ l) e)
 unless-front w (Some fault) a b tail e = ([], refl)
 
-unrefused-front : (how : Reading) (before ws more : List ℕ)
+unrefused-front : (how : StreamSettings) (before ws more : List ℕ)
     → (tail : List ℕ) × (unrefused_after how before (ws ++ more) ≡ unrefused_after how before ws ++ tail)
 unrefused-front how before [] more = (unrefused_after how before more, refl)
 unrefused-front how before (w ∷ ws) more =
@@ -95,7 +95,7 @@ unrefused-front how before (w ∷ ws) more =
     unless-front w (refusal how before w) _ _ r.0 r.1
 
 -- what is given stays, whatever comes behind
-pub given-front : (how : Reading) (ws more : List ℕ) → (tail : Marked) × (given how (ws ++ more) ≡ given how ws ++ tail)
+pub given-front : (how : StreamSettings) (ws more : List ℕ) → (tail : Marked) × (given how (ws ++ more) ≡ given how ws ++ tail)
 unfolding given
 given-front how ws more =
     let r = unrefused-front how [] ws more in
@@ -105,13 +105,13 @@ unless-stays : (w : ℕ) (o : Option Fault) (rest : List Fault) (fault : Fault) 
     → first (listed o ++ rest) ≡ Some fault → (first rest ≡ Some fault → a ≡ b) → unless_refused w a o ≡ unless_refused w b o
 unless-stays w o rest fault a b h e = search (rules, arith)
 
-unrefused-stays : (how : Reading) (before ws more : List ℕ) (fault : Fault) → first (refusals_after how before ws) ≡ Some fault
+unrefused-stays : (how : StreamSettings) (before ws more : List ℕ) (fault : Fault) → first (refusals_after how before ws) ≡ Some fault
     → unrefused_after how before (ws ++ more) ≡ unrefused_after how before ws
 unrefused-stays how before [] more fault h = cc
 unrefused-stays how before (w ∷ ws) more fault h =
     unless-stays w (refusal how before w) _ fault _ _ h (λ rest. unrefused-stays how (before ++ w ∷ []) ws more fault rest)
 
-pub given-stays : (how : Reading) (ws more : List ℕ) (fault : Fault) → record_refusal how ws ≡ Some fault → given how (ws ++ more) ≡ given how ws
+pub given-stays : (how : StreamSettings) (ws more : List ℕ) (fault : Fault) → record_refusal how ws ≡ Some fault → given how (ws ++ more) ≡ given how ws
 unfolding given refusals
 given-stays how ws more fault h = ap (events_in how) (unrefused-stays how [] ws more fault h)
 

@@ -2,7 +2,7 @@
 ghost use Rattle.std.{specs.Prelude.{◌==◌, filter, ◌≡◌, ◌≢◌, ◌↔◌, ◌⊎◌, ◌++◌, ◌∷◌, [], ◌+◌, ◌<◌, ◌≤◌, ◌^◌, ℕ, List, Result, Ok, length, take, get_or}, specs.List.Sorted.{IsPermutation, IsNonDecreasingBy}};
 ghost use Rattle.tally_base.specs.declared.fault.Fault.TheVariants as Fault;
 ghost use Rattle.tally_base.{specs.declared.fault.Fault.Fault, specs.declared.header.Header.Header, specs.declared.event.Event.Event, specs.declared.header.Mode.Mode};
-ghost use Rattle.ptu_definitions.{specs.Headers.{HasAnswer, header_answer, Shows, seen, seen_preamble, begun, IsLongestFront, HasLongestFront, HasNoFront}, specs.TagList.{Item, IsFront, IsHeader}, specs.Begins.{Front, BeginsWith, IsFrontOf, Nest, IsBegun, ShowsItems, ShowsNoMore}, specs.Endings.{Ending, EndsAs, HasHeader}, specs.Kept.{marked, kept, is_late, greatest, floor_of}, specs.Settled.{not_overtaken, in_time, is_late_by, ordered, kept_by, settled_by, late_by, delivered, delivered_last, not_marked, those_marked}, specs.Streams.{Reading, refusal, record_refusal, unrefused_after, events_in, given, IsFirst}};
+ghost use Rattle.ptu_definitions.{specs.Headers.{HasAnswer, header_answer, Shows, seen, seen_preamble, begun, IsLongestFront, HasLongestFront, HasNoFront}, specs.TagList.{Item, IsFront, IsHeader}, specs.Begins.{Front, BeginsWith, IsFrontOf, Nest, IsBegun, ShowsItems, ShowsNoMore}, specs.Endings.{Ending, EndsAs, HasHeader}, specs.Kept.{marked, kept, is_late, greatest, floor_of}, specs.Settled.{not_overtaken, in_time, is_late_by, ordered, kept_by, settled_by, late_by, delivered, delivered_last, not_marked, those_marked}, specs.Streams.{StreamSettings, refusal, record_refusal, unrefused_after, events_in, given, IsFirst}};
 
 /// Exactly one answer applies to a file, and it is the one that the function finds.
 pub fn one_answer()
@@ -91,21 +91,21 @@ pub fn an_answer_stays()
 /// one. What is given is what the records before it deliver, and where none is refused what all records
 /// do. Whatever comes behind a refused record changes neither the refusal nor what is given.
 pub fn first_refusal()
-    ensures first { (how : Reading) (words : List ℕ) (fault : Fault)
+    ensures first { (how : StreamSettings) (words : List ℕ) (fault : Fault)
         → record_refusal how words ≡ Some fault → IsFirst how fault [] words }
-    ensures refused { (how : Reading) (words : List ℕ) (fault : Fault)
+    ensures refused { (how : StreamSettings) (words : List ℕ) (fault : Fault)
         → IsFirst how fault [] words → record_refusal how words ≡ Some fault }
-    ensures none { (how : Reading) (words : List ℕ)
+    ensures none { (how : StreamSettings) (words : List ℕ)
         → record_refusal how words ≡ None
         ↔ ((k d : ℕ) → k < length words → refusal how (take k words) (get_or words k d) ≡ None) }
-    ensures before { (how : Reading) (words : List ℕ) (fault : Fault)
+    ensures before { (how : StreamSettings) (words : List ℕ) (fault : Fault)
         (least : IsFirst how fault [] words) → given how words ≡ events_in how least.front }
-    ensures all { (how : Reading) (words : List ℕ)
+    ensures all { (how : StreamSettings) (words : List ℕ)
         → record_refusal how words ≡ None → given how words ≡ events_in how words }
-    ensures stays { (how : Reading) (words more : List ℕ) (fault : Fault)
+    ensures stays { (how : StreamSettings) (words more : List ℕ) (fault : Fault)
         → record_refusal how words ≡ Some fault
         → record_refusal how (words ++ more) ≡ Some fault }
-    ensures no_more { (how : Reading) (words more : List ℕ) (fault : Fault)
+    ensures no_more { (how : StreamSettings) (words more : List ℕ) (fault : Fault)
         → record_refusal how words ≡ Some fault
         → given how (words ++ more) ≡ given how words }
 {}
@@ -113,9 +113,9 @@ pub fn first_refusal()
 /// The words before the first that is refused are those in front of the least refused record, and all where there is
 /// none.
 pub fn the_words_before_a_refusal()
-    ensures before { (how : Reading) (words : List ℕ) (fault : Fault)
+    ensures before { (how : StreamSettings) (words : List ℕ) (fault : Fault)
         (least : IsFirst how fault [] words) → unrefused_after how [] words ≡ least.front }
-    ensures all { (how : Reading) (words : List ℕ)
+    ensures all { (how : StreamSettings) (words : List ℕ)
         → record_refusal how words ≡ None → unrefused_after how [] words ≡ words }
 {}
 

@@ -1,6 +1,6 @@
 //! Reads the header of a PTU file (PicoQuant's unified TTTR format) that comes in pieces of any length, and keeps
 //! at most 48 bytes that are not judged yet. Begin with `HeaderReader` in `reader.rt`, and with
-//! `specs/Reading.antt` for what it promises.
+//! `specs/ReadHeader.antt` for what it promises.
 #![tactic(auto)]
 
 mod fields;

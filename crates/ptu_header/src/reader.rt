@@ -52,7 +52,7 @@ pub struct HeaderReader {
 }
 
 impl HeaderReader {
-    ghost use Rattle.ptu_header.specs.Reading.{HasRead, Steps, StepsWhole, InTag, IsEnd, IsInside, Takes, TookTag, IsDue, Repeats, bytes_taken, is_open};
+    ghost use Rattle.ptu_header.specs.ReadHeader.{HasRead, Steps, StepsWhole, InTag, IsEnd, IsInside, Takes, TookTag, IsDue, Repeats, bytes_taken, is_open};
 
     /// A reader that has taken no byte.
     pub fn new() -> HeaderReader

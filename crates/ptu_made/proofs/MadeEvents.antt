@@ -2,7 +2,7 @@
 use Rattle.tally_base.{specs.declared.event.EventKind.TheVariants.Photon as PhotonEvent, specs.declared.event.Policy.Policy, specs.declared.fault.Fault.Fault, specs.declared.header.RecordType.TheVariants.HydraHarp2T2, specs.Events.stops_late, specs.Limits.wrap_limit}
 use Rattle.ptu_definitions.{specs.declared.records.Raw.Raw, specs.declared.records.Raw.TheVariants.{Photon, Wrap}, specs.Layouts.hydra_t2, specs.Prefixes.each_after, specs.Times.{amount, base, event_after, events}, specs.Words.{words_of, rest_of}, specs.Kinds.{is_reserved, is_wrap}, specs.Streams.{reading, refusal, record_refusal}, proofs.Firsts.none-refused}
 use Rattle.ptu_made.{specs.Generator.{next_state, states, gap, channel, last_time, unit, photon_word, words_behind, made_words}, specs.Records.{made_photons, IsPhotonOrWrap}, proofs.Behind.{Giving, all_given, all_given-cons, words_behind-cons}}
-use Rattle.short_file.{specs.ShortFiles.{Timed, timed, bytes_in}, proofs.ShortHeaders.{IsWord, words_of-bytes_in, rest_of-bytes_in}}
+use Rattle.minimal_file.{specs.ShortFiles.{Timed, timed, bytes_in}, proofs.ShortHeaders.{IsWord, words_of-bytes_in, rest_of-bytes_in}}
 use Rattle.std.{proofs.Common.{◌≡◌, ◌+◌, ◌*◌, ◌<◌, ◌≤◌, ℕ, zero, suc, Bool, false, None, List, [], ◌∷◌, length, map, take, refl, arith, nat_lt, nat_le, ◌&&◌, if◌then◌else◌, rules, ◌/◌, ◌%◌, true, ◌++◌, ◌∙◌, ◌^◌, get_or}, specs.List.AllByRecursion, specs.declared.option.Option.Option, proofs.lemmas.List.{length-map, length-take}, proofs.lemmas.List.Sums.{sum_by-cons, sum_by_push}, proofs.lemmas.Bool.Decides.nat_tests}
 
 -- The words of the made file are photons and wraps.

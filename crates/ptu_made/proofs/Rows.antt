@@ -2,7 +2,7 @@
 use Rattle.std.proofs.Common.{◌≡◌, [], ◌∷◌, ◌++◌, replicate, refl, codes}
 use Rattle.ptu_made.{specs.Generator.{next_state, states, gap, channel, drawn, photon_words, made_words}, specs.Records.{made_photons, made_file}}
 use Rattle.tally_base.specs.declared.event.EventKind.TheVariants.{Photon}
-use Rattle.short_file.specs.ShortFiles.{short_header, short_file}
+use Rattle.minimal_file.specs.ShortFiles.{short_header, minimal_file}
 
 pub rows :
     (next_state 0 ≡ 0x14057B7EF767814F)
@@ -19,5 +19,5 @@ pub rows :
     ++ 0 ∷ 0 ∷ 0 ∷ 0 ∷ 0 ∷ 0 ∷ 255 ∷ 255 ∷ 255 ∷ 255 ∷ 8 ∷ 0 ∷ 0 ∷ 16 ∷ 4 ∷ 2 ∷ 1 ∷ 1 ∷ 0 ∷ 0 ∷ 0 ∷ 0 ∷ (codes "Header_End"
     ++ replicate 22 0 ++ (255 ∷ 255 ∷ 255 ∷ 255 ∷ 8 ∷ 0 ∷ 255 ∷ 255 ∷ 0 ∷ 0 ∷ 0 ∷ 0 ∷ 0 ∷ 0 ∷ 0 ∷ 0 ∷ 0xBF ∷ 1 ∷ 0 ∷ 0 ∷ [])))))
     × (made_photons 1 2 ≡ record { kind = Photon 2 0; time = 470 } ∷ record { kind = Photon 2 0; time = 815 } ∷ [])
-unfolding made_words states made_file short_file short_header made_photons
+unfolding made_words states made_file minimal_file short_header made_photons
 rows = (refl, refl, refl, refl, refl, refl, refl, refl, refl, refl)

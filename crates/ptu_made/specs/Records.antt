@@ -2,7 +2,7 @@
 use Rattle.std.{specs.Prelude.{ℕ, ◌+◌, ◌≡◌, ◌<◌, ◌≤◌, List, [], ◌∷◌}, specs.declared.option.Option.Option}
 use Rattle.tally_base.{specs.declared.header.Header.Header, specs.declared.header.Mode.TheVariants.T2, specs.declared.event.EventKind.TheVariants.Photon as PhotonEvent, specs.declared.event.Policy.Policy, specs.declared.fault.Fault.Fault, specs.declared.header.RecordType.TheVariants.HydraHarp2T2}
 use Rattle.ptu_definitions.{specs.declared.records.Raw.Raw, specs.declared.records.Raw.TheVariants.{Photon, Marker, Wrap, Reserved}, specs.Prefixes.each, specs.Streams.{reading, record_refusal}}
-use Rattle.short_file.specs.ShortFiles.{short_fields, short_file, Timed}
+use Rattle.minimal_file.specs.ShortFiles.{short_fields, minimal_file, Timed}
 use Rattle.ptu_made.specs.Generator.{states, gap, channel, last_time, unit, made_words}
 
 -- a photon of input 1 or 2, or one wrap
@@ -24,7 +24,7 @@ made_photons seed count = each (λ before state. record { kind = PhotonEvent (ch
 
 -- the made file of so many photons of a seed
 unfoldable pub made_file : ℕ → ℕ → List ℕ
-made_file seed count = short_file T2 (made_words seed count)
+made_file seed count = minimal_file T2 (made_words seed count)
 
 -- why a record of the made file is refused that is read by this policy, where one is
 abbrev pub made_refusal : Policy → ℕ → ℕ → Option Fault

@@ -4,7 +4,7 @@ ghost use Rattle.tally_base.{specs.declared.event.Policy.Policy, specs.Events.st
 ghost use Rattle.tally_base.specs.declared.header.RecordType.TheVariants as RecordType;
 ghost use Rattle.ptu_definitions.{specs.Headers.header_answer, specs.Layouts.meaning_of, specs.Times.{base, events}, specs.Words.{words_of, rest_of}};
 ghost use Rattle.ptu_made.{specs.Generator.{photon_limit, made_words}, specs.Records.{IsPhotonOrWrap, made_header, made_photons, made_file, made_refusal}};
-ghost use Rattle.short_file.specs.ShortFiles.{bytes_in, timed};
+ghost use Rattle.minimal_file.specs.ShortFiles.{bytes_in, timed};
 
 /// The file has a header of the record type HydraHarp2T2 and 112 bytes, and behind it its words,
 /// four bytes each and no byte more. There are at least as many words as photons, and at most twice as

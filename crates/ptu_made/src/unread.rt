@@ -1,11 +1,11 @@
 // What is still to come of a made file.
 ghost use Rattle.std.{specs.Prelude.{◌≡◌, ◌+◌, ◌<◌, ◌≤◌, ◌++◌, [], length, take, min, true, false}, specs.Int.{to_le_bytes, w32}};
-ghost use Rattle.short_file.specs.ShortFiles.{bytes_in};
+ghost use Rattle.minimal_file.specs.ShortFiles.{bytes_in};
 ghost use Rattle.ptu_made.{specs.Photon.words_of_photon, specs.Records.made_file, specs.Generator.photon_limit};
 
 use crate::photon_words::PhotonWords;
 use crate::photons::{Photons, WRAP};
-use short_file::{HEADER_SIZE, short_header};
+use minimal_file::{HEADER_SIZE, short_header};
 use tally_base::Mode;
 
 /// The bytes of a made file that are still to come: some that are held, and those of the photons.

@@ -1,81 +1,53 @@
 -- The parts of a record say what its fields say.
 use Rattle.std.{proofs.Common.{◌≡◌, ℕ, Bool, true, false, arith, ◌&&◌, nat_lt, nat_le, ◌==◌}, proofs.lemmas.Grind.common_steps, proofs.lemmas.Bool.Decides.nat_tests}
 use Rattle.ptu_definitions.{specs.Layouts.bits, specs.Kinds.{is_photon, is_marker, is_wrap}}
-use Rattle.record_layout.{specs.Rowed.{raw_of, hydra_t2_code, hydra_t3_code, hydra_t2_amount, hydra_t3_amount, pico_code, pico_amount}, specs.Joins.{joined_pico_t2, joined_pico_t3, joined_hydra_t2, joined_hydra_t3}, specs.declared.row.Row.Row}
+use Rattle.record_layout.{specs.Rowed.{raw_of, hydra_t2_code, hydra_t3_code, hydra_t2_unit, hydra_wraps, pico_code, pico_wraps}, specs.Joins.{joined_pico_t2, joined_pico_t3, joined_hydra_t2, joined_hydra_t3}, specs.declared.row.Row.Row}
 
-old-t2 : (top time dtime : ℕ) → raw_of (record {
-  code = hydra_t2_code top;
-  time = time;
-  dtime = 0;
-  amount =
-      hydra_t2_amount true top time;
-}) ≡ joined_hydra_t2 true (record { top = top; dtime = dtime; time = time })
+old-t2 : (top time dtime : ℕ) → raw_of (hydra_t2_unit true) (record { code = hydra_t2_code top; time = time; dtime = 0; wraps = hydra_wraps true top time })
+    ≡ joined_hydra_t2 true (record { top = top; dtime = dtime; time = time })
 old-t2 top time dtime = grind (arith, common_steps, nat_tests)
 
-new-t2 : (top time dtime : ℕ) → raw_of (record {
-  code = hydra_t2_code top;
-  time = time;
-  dtime = 0;
-  amount =
-      hydra_t2_amount false top time;
-}) ≡ joined_hydra_t2 false (record { top = top; dtime = dtime; time = time })
+new-t2 : (top time dtime : ℕ) → raw_of (hydra_t2_unit false) (record { code = hydra_t2_code top; time = time; dtime = 0; wraps = hydra_wraps false top time })
+    ≡ joined_hydra_t2 false (record { top = top; dtime = dtime; time = time })
 new-t2 top time dtime = grind (arith, common_steps, nat_tests)
 
-pub row-hydra_t2 : (old : Bool) (top time dtime : ℕ) → raw_of (record {
-  code = hydra_t2_code top;
-  time = time;
-  dtime =
-      0;
-  amount = hydra_t2_amount old top time;
-}) ≡ joined_hydra_t2 old (record { top = top; dtime = dtime; time = time })
+pub row-hydra_t2 : (old : Bool) (top time dtime : ℕ)
+    → raw_of (hydra_t2_unit old) (record { code = hydra_t2_code top; time = time; dtime = 0; wraps = hydra_wraps old top time })
+    ≡ joined_hydra_t2 old (record { top = top; dtime = dtime; time = time })
 row-hydra_t2 true top time dtime = old-t2 top time dtime
 row-hydra_t2 false top time dtime = new-t2 top time dtime
 
-old-t3 : (top time dtime : ℕ) → raw_of (record {
-  code = hydra_t3_code top;
-  time = time;
-  dtime = dtime;
-  amount =
-      hydra_t3_amount true top time;
-}) ≡ joined_hydra_t3 true (record { top = top; dtime = dtime; time = time })
+old-t3 : (top time dtime : ℕ) → raw_of 1024 (record { code = hydra_t3_code top; time = time; dtime = dtime; wraps = hydra_wraps true top time })
+    ≡ joined_hydra_t3 true (record { top = top; dtime = dtime; time = time })
 old-t3 top time dtime = grind (arith, common_steps, nat_tests)
 
-new-t3 : (top time dtime : ℕ) → raw_of (record {
-  code = hydra_t3_code top;
-  time = time;
-  dtime = dtime;
-  amount =
-      hydra_t3_amount false top time;
-}) ≡ joined_hydra_t3 false (record { top = top; dtime = dtime; time = time })
+new-t3 : (top time dtime : ℕ) → raw_of 1024 (record { code = hydra_t3_code top; time = time; dtime = dtime; wraps = hydra_wraps false top time })
+    ≡ joined_hydra_t3 false (record { top = top; dtime = dtime; time = time })
 new-t3 top time dtime = grind (arith, common_steps, nat_tests)
 
-pub row-hydra_t3 : (old : Bool) (top time dtime : ℕ) → raw_of (record {
-  code = hydra_t3_code top;
-  time = time;
-  dtime =
-      dtime;
-  amount = hydra_t3_amount old top time;
-}) ≡ joined_hydra_t3 old (record { top = top; dtime = dtime; time = time })
+pub row-hydra_t3 : (old : Bool) (top time dtime : ℕ)
+    → raw_of 1024 (record { code = hydra_t3_code top; time = time; dtime = dtime; wraps = hydra_wraps old top time })
+    ≡ joined_hydra_t3 old (record { top = top; dtime = dtime; time = time })
 row-hydra_t3 true top time dtime = old-t3 top time dtime
 row-hydra_t3 false top time dtime = new-t3 top time dtime
 
 pub row-pico_t2 : (top time dtime marker : ℕ) → marker ≡ bits time 0 4
-    → raw_of (record { code = pico_code top marker; time = time; dtime = 0; amount = pico_amount 210698240 top marker }) ≡ joined_pico_t2
-    (record { top = top; dtime = dtime; time = time })
+    → raw_of 210698240 (record { code = pico_code top marker; time = time; dtime = 0; wraps = pico_wraps top marker })
+    ≡ joined_pico_t2 (record { top = top; dtime = dtime; time = time })
 row-pico_t2 top time dtime marker is = grind (arith, common_steps, nat_tests)
 
 pub row-pico_t3 : (top time dtime marker : ℕ) → marker ≡ bits dtime 0 4
-    → raw_of (record { code = pico_code top marker; time = time; dtime = dtime; amount = pico_amount 65536 top marker }) ≡ joined_pico_t3
-    (record { top = top; dtime = dtime; time = time })
+    → raw_of 65536 (record { code = pico_code top marker; time = time; dtime = dtime; wraps = pico_wraps top marker })
+    ≡ joined_pico_t3 (record { top = top; dtime = dtime; time = time })
 row-pico_t3 top time dtime marker is = grind (arith, common_steps, nat_tests)
 
 -- The kind of a record by its code.
 
-photon : (row : Row) → is_photon (raw_of row) ≡ nat_lt row.code 256
-photon row = grind (arith, common_steps, nat_tests)
+photon : (unit : ℕ) (row : Row) → is_photon (raw_of unit row) ≡ nat_lt row.code 256
+photon unit row = grind (arith, common_steps, nat_tests)
 
-marker : (row : Row) → is_marker (raw_of row) ≡ (nat_le 256 row.code && nat_lt row.code 512)
-marker row = grind (arith, common_steps, nat_tests)
+marker : (unit : ℕ) (row : Row) → is_marker (raw_of unit row) ≡ (nat_le 256 row.code && nat_lt row.code 512)
+marker unit row = grind (arith, common_steps, nat_tests)
 
-wrap : (row : Row) → is_wrap (raw_of row) ≡ (row.code == 512)
-wrap row = grind (arith, common_steps, nat_tests)
+wrap : (unit : ℕ) (row : Row) → is_wrap (raw_of unit row) ≡ (row.code == 512)
+wrap unit row = grind (arith, common_steps, nat_tests)

@@ -1,5 +1,6 @@
 -- Records that stay, put close together.
-use Rattle.record_layout.{specs.InColumns.{code_in, dtime_in}, specs.declared.columns.Columns.Columns, specs.declared.close.Close.Close}
+use Rattle.tally_base.specs.Codes.{code_in}
+use Rattle.record_layout.{specs.declared.columns.Columns.Columns, specs.declared.close.Close.Close}
 use Rattle.std.{specs.Prelude.{ℕ, ◌/◌, ◌%◌, ◌^◌, ◌==◌, ◌++◌, ◌-◌, Bool, List, length, map, slice_index, replicate, ◌+◌, ◌*◌, ◌≡◌, take, nat_lt}, specs.List.{filter, range_with_len}}
 
 -- whether the code of the record at a place is below this one
@@ -18,11 +19,12 @@ pub record HasStayed (below : ℕ) (columns : Columns) (n : ℕ) (close : Close)
   pub sums : take len close.sums ≡ map (λ i. slice_index columns.sums i) (staying below columns n)
   pub places : take len close.places ≡ staying below columns n
 
-abbrev pub code_at : Close → ℕ → ℕ
-code_at close i = code_in (slice_index close.marks i)
+-- the code and the dtime as one number
+abbrev pub mark_at : Close → ℕ → ℕ
+mark_at close i = slice_index close.marks i
 
-abbrev pub dtime_at : Close → ℕ → ℕ
-dtime_at close i = dtime_in (slice_index close.marks i)
+abbrev pub code_at : Close → ℕ → ℕ
+code_at close i = code_in (mark_at close i)
 
 -- the place in the columns
 abbrev pub place_at : Close → ℕ → ℕ

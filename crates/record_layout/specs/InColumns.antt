@@ -1,42 +1,26 @@
 -- Records by their parts in columns.
-use Rattle.std.{specs.Prelude.{ℕ, zero, suc, ◌+◌, ◌*◌, ◌/◌, ◌%◌, ◌≡◌, ◌<◌, ◌≤◌, [], List, length, slice_index, slice_index_or}, specs.Int.{from_le_bytes, w32}}
+use Rattle.std.{specs.Prelude.{ℕ, zero, suc, ◌+◌, ◌*◌, ◌≡◌, ◌<◌, ◌≤◌, [], List, length, slice_index, slice_index_or}, specs.Int.{from_le_bytes, w32}}
+use Rattle.tally_base.specs.Codes.{code_in, dtime_in}
 use Rattle.ptu_definitions.{specs.declared.records.Raw.Raw, specs.Times.amount}
 use Rattle.record_layout.{specs.Rowed.raw_of, specs.declared.row.Row.Row, specs.declared.columns.Columns.Columns}
 
--- The parts are those of what a word means.
-pub record IsRow (meaning : ℕ → Raw) (row : Row) (word : ℕ) : Type 0 where
-  pub raw : raw_of row ≡ meaning word
-  pub amounts : row.amount ≡ amount (meaning word)
+-- The parts are those of what a word means, where a wrap adds a unit.
+pub record IsRow (meaning : ℕ → Raw) (unit : ℕ) (row : Row) (word : ℕ) : Type 0 where
+  pub raw : raw_of unit row ≡ meaning word
+  pub amounts : unit * row.wraps ≡ amount (meaning word)
 
--- a code and a dtime as one number of 32 bits
-abbrev pub joined : ℕ → ℕ → ℕ
-joined code dtime = code + 65536 * dtime
-
--- the code in it
-abbrev pub code_in : ℕ → ℕ
-code_in mark = mark % 65536
-
--- the dtime in it
-abbrev pub dtime_in : ℕ → ℕ
-dtime_in mark = mark / 65536
-
--- the record at a place, where a wrap adds a unit
-abbrev pub row_at : ℕ → Columns → ℕ → Row
-row_at unit rows i = record {
+-- the record at a place
+abbrev pub row_at : Columns → ℕ → Row
+row_at rows i = record {
   code = code_in (slice_index rows.marks i);
   time = slice_index rows.times i;
   dtime = dtime_in (slice_index rows.marks i);
-  amount = unit * slice_index rows.wraps i;
+  wraps = slice_index rows.wraps i;
 }
 
 -- The columns have the records of these words.
 abbrev pub HasRows : (ℕ → Raw) → ℕ → Columns → List (List ℕ) → Type 0
-HasRows meaning unit rows words = (i : ℕ) → i < length words → IsRow meaning (row_at unit rows i) (from_le_bytes w32 (slice_index_or words i []))
-
--- The row says the same record.
-pub record IsAs (row other : Row) : Type 0 where
-  pub raw : raw_of row ≡ raw_of other
-  pub amounts : row.amount ≡ other.amount
+HasRows meaning unit rows words = (i : ℕ) → i < length words → IsRow meaning unit (row_at rows i) (from_le_bytes w32 (slice_index_or words i []))
 
 -- how many wraps the record at a place stands for
 abbrev pub wraps_at : Columns → ℕ → ℕ

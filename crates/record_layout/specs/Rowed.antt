@@ -1,13 +1,14 @@
 -- What a record says, by its parts, and the parts by the fields of its word.
-use Rattle.std.specs.Prelude.{ℕ, ◌+◌, ◌%◌, ◌==◌, Bool, true, false, nat_lt, nat_le, if◌then◌else◌}
-use Rattle.ptu_definitions.{specs.declared.records.Raw.Raw, specs.declared.records.Raw.TheVariants.{Photon, Marker, Wrap, Reserved}, specs.Layouts.{hydra_t2_wrap, hydra_t3_wrap, wraps_in}, specs.Times.amount}
+use Rattle.std.specs.Prelude.{ℕ, ◌+◌, ◌*◌, ◌%◌, ◌==◌, Bool, true, false, nat_lt, nat_le, if◌then◌else◌}
+use Rattle.ptu_definitions.{specs.declared.records.Raw.Raw, specs.declared.records.Raw.TheVariants.{Photon, Marker, Wrap, Reserved}, specs.Layouts.wraps_in}
 use Rattle.record_layout.specs.declared.row.Row.{Row}
 
-abbrev pub raw_of : Row → Raw
-raw_of row =
+-- what a row says, where a wrap adds a unit
+abbrev pub raw_of : ℕ → Row → Raw
+raw_of unit row =
     if nat_lt row.code 256 then Photon row.code row.time row.dtime
     else if nat_lt row.code 512 then Marker (row.code % 256) row.time
-    else if row.code == 512 then Wrap row.amount
+    else if row.code == 512 then Wrap (unit * row.wraps)
     else Reserved
 
 -- the code by the top seven bits
@@ -27,21 +28,12 @@ hydra_t3_code top =
     else if top == 127 then 512
     else 513
 
-abbrev pub hydra_t2_amount : Bool → ℕ → ℕ → ℕ
-hydra_t2_amount old top time = if top == 127 then amount (hydra_t2_wrap old time) else 0
-
-abbrev pub hydra_t3_amount : Bool → ℕ → ℕ → ℕ
-hydra_t3_amount old top time = if top == 127 then amount (hydra_t3_wrap old time) else 0
-
 -- the code by the channel, and by the marker bits that channel 15 has
 abbrev pub pico_code : ℕ → ℕ → ℕ
 pico_code channel marker =
     if channel == 15 then (if marker == 0 then 512 else 256 + marker)
     else if nat_le channel 4 then channel
     else 513
-
-abbrev pub pico_amount : ℕ → ℕ → ℕ → ℕ
-pico_amount unit channel marker = if channel == 15 then (if marker == 0 then unit else 0) else 0
 
 -- how much later the times behind a wrap are
 abbrev pub hydra_t2_unit : Bool → ℕ

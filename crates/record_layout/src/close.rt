@@ -1,10 +1,12 @@
 // Records put close together.
 ghost use Rattle.std.{specs.Prelude.{◌≡◌, ◌+◌, ◌%◌, ◌^◌, ◌<◌, ◌≤◌, ◌++◌, ℕ, length, take, nat_lt, slice_index}, specs.Simd.Lanes.chunk};
-ghost use Rattle.record_layout.{specs.InClose.{has_bit, bits_in, lanes_in, lanes_by}, specs.InColumns.code_in};
+ghost use Rattle.tally_base.specs.Codes.{code_in};
+ghost use Rattle.record_layout.specs.InClose.{has_bit, bits_in, lanes_in, lanes_by};
 
-use crate::columns::{Columns, code_in, dtime_in};
+use crate::columns::Columns;
 use crate::layout::RecordLayout;
 use std::simd::prelude::*;
+use tally_base::code_in;
 
 /// The places of the bits that are set in a number of eight bits, in order, and 0 behind them.
 #[rattlefmt::skip]
@@ -108,7 +110,7 @@ pub struct Close {
 }
 
 impl Close {
-    ghost use Rattle.record_layout.specs.InClose.{HasStayed, code_at, dtime_at, place_at, time_at};
+    ghost use Rattle.record_layout.specs.InClose.{HasStayed, code_at, mark_at, place_at, time_at};
 
     /// Room for records.
     pub fn new() -> Close {
@@ -149,13 +151,13 @@ impl Close {
         code_in(self.marks[at])
     }
 
-    /// Its dtime.
+    /// Its code and its dtime as one number.
     #[inline(always)]
-    pub fn dtime(&self, at: usize) -> u16
+    pub fn mark(&self, at: usize) -> u32
         requires { at < 64 }
-        ensures { result ≡ dtime_at self.now at }
+        ensures { result ≡ mark_at self.now at }
     {
-        dtime_in(self.marks[at])
+        self.marks[at]
     }
 
     /// Its place in the columns.
@@ -173,7 +175,7 @@ impl Close {
         requires { at < 64 }
         ensures { result ≡ time_at base R.UNIT self.now at % 2 ^ 64 }
     {
-        let wraps = R::unit().wrapping_mul(u64::from(self.sums[at]));
+        let wraps = R::UNIT.wrapping_mul(u64::from(self.sums[at]));
         base.wrapping_add(wraps)
             .wrapping_add(u64::from(self.times[at]))
     }

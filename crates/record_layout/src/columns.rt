@@ -1,11 +1,12 @@
 // The records of a few words, by their parts.
 ghost use Rattle.std.{specs.Prelude.{◌≡◌, ◌*◌, ◌^◌, ◌<◌, ◌≤◌, ℕ, [], true, nat_lt, if◌then◌else◌, length, map, slice_index, slice_index_or}, specs.Int.{from_le_bytes, w32}};
 ghost use Rattle.ptu_definitions.{specs.Words.numbers, specs.Kinds.counts_of};
-ghost use Rattle.record_layout.{specs.Sums.IsSplit, specs.InColumns.{joined, code_in, dtime_in}};
+ghost use Rattle.record_layout.specs.Sums.{IsSplit};
 
-use crate::layout::RecordLayout;
+use crate::layout::{RecordLayout, fields_of};
 use crate::row::Row;
 use ptu_definitions::KindCounts;
+use tally_base::{code_in, dtime_in, joined};
 
 /// The records of up to 64 words by their parts, each part in a column, so that the compiler takes several
 /// words at once.
@@ -21,7 +22,7 @@ pub struct Columns {
 }
 
 impl Columns {
-    ghost use Rattle.record_layout.specs.InColumns.{HasRows, IsRow, IsAs, row_at, wraps_at, sum_to, HasSums, time_in, Rises};
+    ghost use Rattle.record_layout.specs.InColumns.{HasRows, row_at, wraps_at, sum_to, HasSums, time_in, Rises};
 
     /// Columns for records, which say nothing yet.
     pub fn new() -> Columns {
@@ -33,32 +34,19 @@ impl Columns {
         }
     }
 
-    /// Puts the records of at most 64 words in the layout `R`. The columns stay where they are: a copy of
-    /// them takes longer than the split.
+    /// Puts the records of at most 64 words in the layout `R`. The time of a record that is no event has no meaning. The
+    /// columns stay where they are: a copy of them takes longer than the split.
     #[inline(always)]
     pub fn fill<R: RecordLayout>(&mut self, words: &[[u8; 4]])
         requires { length words.now ≤ 64 }
         ensures { HasRows R.meaning R.UNIT self.new words.now }
     {
         for i in 0..words.len() {
-            let word = u32::from_le_bytes(words[i]);
-            let row = R::row(word);
-            self.put(i, &row, R::wraps(word));
+            let row = R::split(&fields_of::<R>(u32::from_le_bytes(words[i])));
+            self.marks[i] = joined(row.code, row.dtime);
+            self.times[i] = time_of(&row);
+            self.wraps[i] = row.wraps;
         }
-    }
-
-    /// Puts the record of the word at a place, 0 to 63, with how many wraps it stands for. The time of a record that is
-    /// no event has no meaning.
-    #[inline(always)]
-    fn put(&mut self, at: usize, row: &Row, wraps: u32)
-        requires { at < 64 }
-        ensures there { (unit : ℕ) → unit * wraps ≡ row.now.amount
-            → IsAs (row_at unit self.new at) row.now }
-        ensures before { (unit i : ℕ) → i < at → row_at unit self.new i ≡ row_at unit self.old i }
-    {
-        self.marks[at] = joined(row.code, row.dtime);
-        self.times[at] = time_of(row);
-        self.wraps[at] = wraps;
     }
 
     /// Adds the wraps up to each of 64 records, and answers how many there are in all.
@@ -67,7 +55,7 @@ impl Columns {
         requires few { (i : ℕ) → i < 64 → wraps_at self.old i ≤ 2 ^ 25 }
         ensures sums { HasSums self.new }
         ensures value { result ≡ sum_to (wraps_at self.new) 64 }
-        ensures same { (unit i : ℕ) → row_at unit self.new i ≡ row_at unit self.old i }
+        ensures same { (i : ℕ) → row_at self.new i ≡ row_at self.old i }
         ensures wraps { self.new.wraps ≡ self.old.wraps }
     {
         let mut sum = 0u32;
@@ -90,7 +78,7 @@ impl Columns {
         let mut last = low;
         let mut falls = low;
         for i in 0..64usize {
-            let time = base + R::unit() * self.sums[i] as u64 + self.times[i] as u64;
+            let time = base + R::UNIT * self.sums[i] as u64 + self.times[i] as u64;
             falls |= time.wrapping_sub(last);
             last = time;
         }
@@ -128,15 +116,15 @@ impl Columns {
 
     /// The record of the word at a place, 0 to 63.
     #[inline(always)]
-    pub fn get<R: RecordLayout>(&self, at: usize) -> Row
+    pub fn get(&self, at: usize) -> Row
         requires { at < 64 }
-        ensures { result ≡ row_at R.UNIT self.now at }
+        ensures { result ≡ row_at self.now at }
     {
         Row {
             code: code_in(self.marks[at]),
             time: self.times[at],
             dtime: dtime_in(self.marks[at]),
-            amount: R::unit() * self.wraps[at] as u64,
+            wraps: self.wraps[at],
         }
     }
 }
@@ -147,28 +135,4 @@ fn time_of(row: &Row) -> u32
     ensures { result ≡ (if nat_lt row.now.code 512 then row.now.time else 0) }
 {
     if row.code < 512 { row.time } else { 0 }
-}
-
-/// A code and a dtime as one number.
-#[inline(always)]
-fn joined(code: u16, dtime: u16) -> u32
-    ensures { result ≡ joined code dtime }
-{
-    u32::from(code) + 0x1_0000 * u32::from(dtime)
-}
-
-/// The code in such a number.
-#[inline(always)]
-pub(crate) fn code_in(mark: u32) -> u16
-    ensures { result ≡ code_in mark }
-{
-    (mark % 0x1_0000) as u16
-}
-
-/// The dtime in such a number.
-#[inline(always)]
-pub(crate) fn dtime_in(mark: u32) -> u16
-    ensures { result ≡ dtime_in mark }
-{
-    (mark / 0x1_0000) as u16
 }

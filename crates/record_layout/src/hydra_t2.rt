@@ -2,7 +2,7 @@
 ghost use Rattle.std.{specs.Prelude.{◌≡◌, ◌<◌, ◌^◌}, proofs.Common.{rules}};
 ghost use Rattle.tally_base.specs.declared.header.Mode.TheVariants.{T2};
 ghost use Rattle.ptu_definitions.specs.Layouts.{hydra_t2, hydra_t2_wrap, wraps_in};
-ghost use Rattle.record_layout.{specs.Joins.joined_hydra_t2, specs.Rowed.{hydra_t2_code, hydra_t2_amount, hydra_t2_unit, hydra_wraps}, specs.FewWraps.hydra_t2-few, specs.JoinLaws.{hydra_t2-is_join, hydra_t2-unit_small}};
+ghost use Rattle.record_layout.{specs.Joins.joined_hydra_t2, specs.Rowed.{hydra_t2_code, hydra_t2_unit, hydra_wraps}, specs.FewWraps.hydra_t2-few, specs.JoinLaws.{hydra_t2-is_join, hydra_t2-unit_small}};
 
 use crate::fields::Fields;
 use crate::layout::RecordLayout;
@@ -25,6 +25,8 @@ impl<const OLD: bool> RecordLayout for HydraT2<OLD> {
     const DTIME_MASK: u32 = 0;
 
     const TIME_MASK: u32 = 0x01FF_FFFF;
+
+    const UNIT: u64 = if OLD { 33_552_000 } else { 33_554_432 };
 
     ghost MODE = { T2 };
 
@@ -55,16 +57,6 @@ impl<const OLD: bool> RecordLayout for HydraT2<OLD> {
     ghost wraps_few = { hydra_t2-few OLD };
 
     ghost decode_is_join = { hydra_t2-is_join OLD };
-
-    #[inline(always)]
-    fn unit() -> u64 {
-        if OLD { 33_552_000 } else { 33_554_432 }
-    }
-
-    #[inline(always)]
-    fn wraps_of(fields: &Fields) -> u32 {
-        wraps_by::<OLD>(fields.top, fields.time)
-    }
 
     #[inline(always)]
     fn join(fields: &Fields) -> Raw {
@@ -101,7 +93,7 @@ impl<const OLD: bool> RecordLayout for HydraT2<OLD> {
             code: code_of(fields.top),
             time: fields.time,
             dtime: 0,
-            amount: amount_of::<OLD>(fields.top, fields.time),
+            wraps: wraps_by::<OLD>(fields.top, fields.time),
         }
     }
 }
@@ -117,19 +109,6 @@ fn code_of(top: u8) -> u16
     let special = if top == 127 { 512 } else { marker };
     let other = if top == 64 { 0 } else { special };
     if top < 64 { top + 1 } else { other }
-}
-
-/// How much a record adds to the times behind it.
-#[inline(always)]
-fn amount_of<const OLD: bool>(top: u8, time: u32) -> u64
-    ensures { result ≡ hydra_t2_amount OLD top time }
-{
-    let unit = if OLD {
-        33_552_000
-    } else {
-        33_554_432 * wraps_in(time)
-    };
-    if top == 127 { unit } else { 0 }
 }
 
 /// How many wraps a record stands for, by the top seven bits of its word and its time field.

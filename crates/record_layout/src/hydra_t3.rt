@@ -2,7 +2,7 @@
 ghost use Rattle.std.{specs.Prelude.{◌≡◌}, proofs.Common.{rules}};
 ghost use Rattle.tally_base.specs.declared.header.Mode.TheVariants.{T3};
 ghost use Rattle.ptu_definitions.specs.Layouts.{hydra_t3, hydra_t3_wrap};
-ghost use Rattle.record_layout.{specs.Joins.joined_hydra_t3, specs.Rowed.{hydra_t3_code, hydra_t3_amount}, specs.FewWraps.hydra_t3-few, specs.JoinLaws.hydra_t3-is_join};
+ghost use Rattle.record_layout.{specs.Joins.joined_hydra_t3, specs.Rowed.hydra_t3_code, specs.FewWraps.hydra_t3-few, specs.JoinLaws.hydra_t3-is_join};
 
 use crate::fields::Fields;
 use crate::hydra_t2::{wraps_by, wraps_in};
@@ -26,6 +26,8 @@ impl<const OLD: bool> RecordLayout for HydraT3<OLD> {
     const DTIME_MASK: u32 = 0x7FFF;
 
     const TIME_MASK: u32 = 0x03FF;
+
+    const UNIT: u64 = 1024;
 
     ghost MODE = { T3 };
 
@@ -58,16 +60,6 @@ impl<const OLD: bool> RecordLayout for HydraT3<OLD> {
     ghost decode_is_join = { hydra_t3-is_join OLD };
 
     #[inline(always)]
-    fn unit() -> u64 {
-        1024
-    }
-
-    #[inline(always)]
-    fn wraps_of(fields: &Fields) -> u32 {
-        wraps_by::<OLD>(fields.top, fields.time)
-    }
-
-    #[inline(always)]
     fn join(fields: &Fields) -> Raw {
         let Fields { top, dtime, time } = *fields;
         if top < 64 {
@@ -95,7 +87,7 @@ impl<const OLD: bool> RecordLayout for HydraT3<OLD> {
             code: code_of(fields.top),
             time: fields.time,
             dtime: fields.dtime,
-            amount: amount_of::<OLD>(fields.top, fields.time),
+            wraps: wraps_by::<OLD>(fields.top, fields.time),
         }
     }
 }
@@ -111,15 +103,6 @@ fn code_of(top: u8) -> u16
     let special = if top == 127 { 512 } else { marker };
     let other = if top == 64 { 513 } else { special };
     if top < 64 { top } else { other }
-}
-
-/// How much a record adds to the times behind it.
-#[inline(always)]
-fn amount_of<const OLD: bool>(top: u8, time: u32) -> u64
-    ensures { result ≡ hydra_t3_amount OLD top time }
-{
-    let unit = if OLD { 1024 } else { 1024 * wraps_in(time) };
-    if top == 127 { unit } else { 0 }
 }
 
 /// What a wrap record says, by its time field.

@@ -26,6 +26,9 @@ pub trait RecordLayout {
     /// The mask of the time, which begins at bit 0.
     const TIME_MASK: u32;
 
+    /// How much later the times behind one wrap are, below 2^28.
+    const UNIT: u64;
+
     ghost MODE: { Mode };
 
     ghost TOP_SHIFT: { ℕ };
@@ -36,7 +39,6 @@ pub trait RecordLayout {
 
     ghost TIME_MASK: { ℕ };
 
-    /// How much later the times behind one wrap are.
     ghost UNIT: { ℕ };
 
     /// What a word means.
@@ -51,16 +53,8 @@ pub trait RecordLayout {
 
     /// The parts of the record that fields say, also of ones that no word has. It is to take no branch.
     fn split(fields: &Fields) -> Row
-        ensures record { raw_of result ≡ joined fields.now }
-        ensures amount { result.amount ≡ amount (joined fields.now) };
-
-    /// How much later the times behind one wrap are, below 2^28.
-    fn unit() -> u64
-        ensures { result ≡ UNIT };
-
-    /// How many wraps the record stands for that fields say. It is to take no branch.
-    fn wraps_of(fields: &Fields) -> u32
-        ensures { UNIT * result ≡ amount (joined fields.now) };
+        ensures record { raw_of UNIT result ≡ joined fields.now }
+        ensures wraps { UNIT * result.wraps ≡ amount (joined fields.now) };
 
     ghost unit_small: { UNIT < 2 ^ 28 };
 
@@ -85,23 +79,6 @@ pub trait RecordLayout {
         ensures { result ≡ meaning word }
     {
         Self::join(&fields_of::<Self>(word))
-    }
-
-    /// The parts of the record that a word is, for loops that take no branch on its kind.
-    #[inline(always)]
-    final fn row(word: u32) -> Row
-        ensures record { raw_of result ≡ meaning word }
-        ensures amount { result.amount ≡ amount (meaning word) }
-    {
-        Self::split(&fields_of::<Self>(word))
-    }
-
-    /// How many wraps a word stands for.
-    #[inline(always)]
-    final fn wraps(word: u32) -> u32
-        ensures { UNIT * result ≡ amount (meaning word) }
-    {
-        Self::wraps_of(&fields_of::<Self>(word))
     }
 }
 

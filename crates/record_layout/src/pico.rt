@@ -2,7 +2,7 @@
 ghost use Rattle.std.{specs.Prelude.{◌≡◌}, proofs.Common.{rules}};
 ghost use Rattle.tally_base.specs.declared.header.Mode.TheVariants.{T2, T3};
 ghost use Rattle.ptu_definitions.specs.Layouts.{pico_t2, pico_t3};
-ghost use Rattle.record_layout.{specs.FewWraps.{pico_t2-few, pico_t3-few}, specs.Joins.{joined_pico_t2, joined_pico_t3}, specs.Rowed.{pico_code, pico_amount, pico_wraps}, specs.JoinLaws.{pico_t2-is_join, pico_t3-is_join}};
+ghost use Rattle.record_layout.{specs.FewWraps.{pico_t2-few, pico_t3-few}, specs.Joins.{joined_pico_t2, joined_pico_t3}, specs.Rowed.{pico_code, pico_wraps}, specs.JoinLaws.{pico_t2-is_join, pico_t3-is_join}};
 
 use crate::fields::Fields;
 use crate::layout::RecordLayout;
@@ -29,6 +29,8 @@ impl RecordLayout for PicoT2 {
     const DTIME_MASK: u32 = 0;
 
     const TIME_MASK: u32 = 0x0FFF_FFFF;
+
+    const UNIT: u64 = T2_WRAP;
 
     ghost MODE = { T2 };
 
@@ -61,16 +63,6 @@ impl RecordLayout for PicoT2 {
     ghost decode_is_join = { pico_t2-is_join };
 
     #[inline(always)]
-    fn unit() -> u64 {
-        T2_WRAP
-    }
-
-    #[inline(always)]
-    fn wraps_of(fields: &Fields) -> u32 {
-        wraps_by(fields.top, (fields.time & 15) as u8)
-    }
-
-    #[inline(always)]
     fn join(fields: &Fields) -> Raw {
         let time = fields.time;
         match fields.top {
@@ -95,7 +87,7 @@ impl RecordLayout for PicoT2 {
             code: code_of(fields.top, marker),
             time: fields.time,
             dtime: 0,
-            amount: amount_of(T2_WRAP, fields.top, marker),
+            wraps: wraps_by(fields.top, marker),
         }
     }
 }
@@ -113,6 +105,8 @@ impl RecordLayout for PicoT3 {
     const DTIME_MASK: u32 = 0x0FFF;
 
     const TIME_MASK: u32 = 0xFFFF;
+
+    const UNIT: u64 = T3_WRAP;
 
     ghost MODE = { T3 };
 
@@ -145,16 +139,6 @@ impl RecordLayout for PicoT3 {
     ghost decode_is_join = { pico_t3-is_join };
 
     #[inline(always)]
-    fn unit() -> u64 {
-        T3_WRAP
-    }
-
-    #[inline(always)]
-    fn wraps_of(fields: &Fields) -> u32 {
-        wraps_by(fields.top, (fields.dtime & 15) as u8)
-    }
-
-    #[inline(always)]
     fn join(fields: &Fields) -> Raw {
         let time = fields.time;
         match fields.top {
@@ -179,7 +163,7 @@ impl RecordLayout for PicoT3 {
             code: code_of(fields.top, marker),
             time: fields.time,
             dtime: fields.dtime,
-            amount: amount_of(T3_WRAP, fields.top, marker),
+            wraps: wraps_by(fields.top, marker),
         }
     }
 }
@@ -200,15 +184,6 @@ fn code_of(channel: u8, marker: u8) -> u16
         513
     };
     if channel == 15 { special } else { plain }
-}
-
-/// How much a record adds to the times behind it, where a wrap adds a unit.
-#[inline(always)]
-fn amount_of(unit: u64, channel: u8, marker: u8) -> u64
-    ensures { result ≡ pico_amount unit channel marker }
-{
-    let special = if marker == 0 { unit } else { 0 };
-    if channel == 15 { special } else { 0 }
 }
 
 /// How many wraps a record stands for.

@@ -10,6 +10,6 @@ pub struct Row {
     pub time: u32,
     /// The time after the sync of a photon, in ticks. That of another record has no meaning.
     pub dtime: u16,
-    /// How much later the times behind a wrap are. It is 0 of any other record.
-    pub amount: u64,
+    /// How many wraps a wrap record stands for. It is 0 of any other record.
+    pub wraps: u32,
 }

@@ -1,39 +1,39 @@
 -- One word more in a block.
-use Rattle.std.{proofs.Common.{rules, ◌≡◌, ◌+◌, ◌<◌, ◌≤◌, ℕ, List, [], ◌∷◌, ◌++◌, Bool, true, false, length, map, get_or, refl, sym, ap, ◌∙◌, add-zero, append-nil, append_assoc, arith, ◌&&◌, nat_le, count_by, nat_lt, ◌==◌, if◌then◌else◌, ◌^◌, take, length-take-le, subst, zero, suc, All, length-append, ◌⊎◌, ⊎_elim, not, IsTrue, max}, specs.Int.{from_le_bytes, w32}, proofs.lemmas.Bool.{cases_Bool, cases_lt, leb-true}, proofs.lemmas.List.Sums.{get_or-le-sum_by, sum_by-cons}, proofs.lemmas.List.Elements.{filter-append, All-from_recursion}, proofs.lemmas.List.{map_push, map-append, get_or_append_left}, specs.List.AllByRecursion, proofs.lemmas.Grind.get_or_at_push}
+use Rattle.std.{proofs.Common.{rules, ◌≡◌, ◌+◌, ◌*◌, ◌<◌, ◌≤◌, ℕ, List, [], ◌∷◌, ◌++◌, Bool, true, false, length, map, get_or, refl, sym, ap, ◌∙◌, add-zero, append-nil, append_assoc, arith, ◌&&◌, nat_le, count_by, nat_lt, ◌==◌, if◌then◌else◌, ◌^◌, take, length-take-le, subst, zero, suc, All, length-append, ◌⊎◌, ⊎_elim, not, IsTrue, max}, specs.Int.{from_le_bytes, w32}, proofs.lemmas.Bool.{cases_Bool, cases_lt, leb-true}, proofs.lemmas.List.Sums.{get_or-le-sum_by, sum_by-cons}, proofs.lemmas.List.Elements.{filter-append, All-from_recursion}, proofs.lemmas.List.{map_push, map-append, get_or_append_left}, specs.List.AllByRecursion, proofs.lemmas.Grind.get_or_at_push}
 use Rattle.tally_base.{specs.declared.event.Event.Event, specs.declared.header.Mode.Mode, specs.Events.{stops_reserved, is_ordered}, specs.Limits.wrap_limit, specs.Columns.{event_by, rows}, specs.Tally.{moves_floor, floor_after, InOrder}, proofs.BlockRows.more_rows, proofs.Floors.floor-more}
-use Rattle.ptu_definitions.{specs.declared.records.Raw.Raw, specs.Kinds.is_reserved, specs.Times.{event_of, amount}, specs.Layouts.Fits, specs.Words.numbers, specs.Streams.Reading, specs.declared.records.Raw.TheVariants.{Wrap, Reserved}, specs.Settled.ordered, proofs.WordsLemmas.meaning-fits, specs.Kept.{Marked, floor_of}}
+use Rattle.ptu_definitions.{specs.declared.records.Raw.Raw, specs.Kinds.is_reserved, specs.Times.{event_of, amount}, specs.Layouts.Fits, specs.Words.numbers, specs.Streams.StreamSettings, specs.declared.records.Raw.TheVariants.{Wrap, Reserved}, specs.Settled.ordered, proofs.WordsLemmas.meaning-fits, specs.Kept.{Marked, floor_of}}
 use Rattle.abs_time.{specs.Placing.{base_of, placed_by, IsClock, LeadsOn, mode_of}, specs.Floors.orders_markers, proofs.Floors.{moves_by, moved_floor-push}}
 use Rattle.record_layout.{specs.declared.row.Row.Row, specs.Rowed.raw_of, specs.InColumns.IsRow}
 use Rattle.record_stream.{specs.Blocks.{chosen, Adds, IsInLine, greatest_with, IsOnTime, on_time}, specs.Rows.{ordered_below, greatest_with_row, gathered_below, event_below}, specs.Walking.{how_of, greatest_of, clock_in, AddsBehind, Gathers, LetsPass}, specs.declared.walk.Walk.Walk, proofs.Steps.{adds-push, clock-push, in_line-push, places-push}, proofs.Wraps.{more_at, amount-small}}
 
 -- The event of a record, by its code.
 
-module _ (place base : ℕ) (row : Row) where
-  skipped : (raw : Raw) → ◌≡◌ {A = List Event} (event_of place base (if row.code == 512 then Wrap row.amount else Reserved)) []
+module _ (place base unit : ℕ) (row : Row) where
+  skipped : (raw : Raw) → ◌≡◌ {A = List Event} (event_of place base (if row.code == 512 then Wrap (unit * row.wraps) else Reserved)) []
   skipped raw = by_case (row.code == 512)
     where
-      by_case : (b : _) → ◌≡◌ {A = List Event} (event_of place base (if b then Wrap row.amount else Reserved)) []
+      by_case : (b : _) → ◌≡◌ {A = List Event} (event_of place base (if b then Wrap (unit * row.wraps) else Reserved)) []
       by_case true = refl
       by_case false = refl
 
   -- the event in its row, if it is one
-  pub event-row : event_of place base (raw_of row) ≡ (if nat_lt row.code 512 then event_by place row.code row.dtime (base + row.time) ∷ [] else [])
+  pub event-row : event_of place base (raw_of unit row) ≡ (if nat_lt row.code 512 then event_by place row.code row.dtime (base + row.time) ∷ [] else [])
   event-row = search (rules, arith, cases_lt)
 
   -- the greatest time with it
-  pub greatest-row : (mode : Mode) (top : ℕ) → greatest_with mode top (event_of place base (raw_of row)) ≡ greatest_with_row (ordered_below mode) top base row
+  pub greatest-row : (mode : Mode) (top : ℕ) → greatest_with mode top (event_of place base (raw_of unit row)) ≡ greatest_with_row (ordered_below mode) top base row
   greatest-row mode top = search (rules, arith, event-row, cases_lt)
 
   -- those in order alone
-  ordered-row : (mode : Mode) → ordered mode (event_of place base (raw_of row)) ≡ event_below (ordered_below mode) place base row
+  ordered-row : (mode : Mode) → ordered mode (event_of place base (raw_of unit row)) ≡ event_below (ordered_below mode) place base row
   ordered-row mode = search (rules, arith, event-row, cases_lt)
 
-  pub chosen-row : (only : Bool) (mode : Mode) → event_below (gathered_below only mode) place base row ≡ chosen only mode (event_of place base (raw_of row))
+  pub chosen-row : (only : Bool) (mode : Mode) → event_below (gathered_below only mode) place base row ≡ chosen only mode (event_of place base (raw_of unit row))
   chosen-row only mode = search (rules, arith, event-row, ordered-row)
 
   -- It is not late where the greatest time does not fall.
   pub on_time-row : (mode : Mode) (top : ℕ) → nat_le top (greatest_with_row (ordered_below mode) top base row) ≡ true
-      → IsOnTime mode top (event_of place base (raw_of row))
+      → IsOnTime mode top (event_of place base (raw_of unit row))
   on_time-row mode top on = search (rules, arith, event-row, leb-true, cases_lt)
 
 -- One word more in a block.
@@ -52,7 +52,7 @@ and_false : (a b : Bool) → (b ≡ true → a ≡ false) → (a && b) ≡ false
 and_false a b unless = search (rules, arith)
 
 -- no word is refused as reserved
-pub none-reserved : (how : Reading) (meaning : ℕ → Raw) (words : List (List ℕ)) (i : ℕ) (d : List ℕ) (w : ℕ)
+pub none-reserved : (how : StreamSettings) (meaning : ℕ → Raw) (words : List (List ℕ)) (i : ℕ) (d : List ℕ) (w : ℕ)
     → meaning ≡ how.meaning → i < length words → w ≡ from_le_bytes w32 (get_or words i d)
     → (stops_reserved how.policy.reserved ≡ true → count_by is_reserved (map meaning (numbers words)) ≡ 0)
     → (is_reserved (how.meaning w) && stops_reserved how.policy.reserved) ≡ false
@@ -63,40 +63,40 @@ both true true h = (refl, refl)
 both true false h = cc
 both false b h = cc
 
-module _ (how : Reading) (low base top base' top' n : ℕ) (in_order in_order' : Bool) (es es' : List Event) (row : Row)
-    (base_is : base' ≡ base + row.amount) (top_is : top' ≡ greatest_with_row (ordered_below how.mode) top base row)
-    (in_order_is : in_order' ≡ (in_order && nat_le top top')) (events_are : es' ≡ es ++ event_of (n + 1) base (raw_of row)) where
-  pub in_line-more : (w : ℕ) → raw_of row ≡ how.meaning w → Fits how.mode (how.meaning w) → base ≤ wrap_limit → (in_order ≡ true → IsInLine how.mode low top es)
+module _ (how : StreamSettings) (low base top base' top' n unit : ℕ) (in_order in_order' : Bool) (es es' : List Event) (row : Row)
+    (base_is : base' ≡ base + unit * row.wraps) (top_is : top' ≡ greatest_with_row (ordered_below how.mode) top base row)
+    (in_order_is : in_order' ≡ (in_order && nat_le top top')) (events_are : es' ≡ es ++ event_of (n + 1) base (raw_of unit row)) where
+  pub in_line-more : (w : ℕ) → raw_of unit row ≡ how.meaning w → Fits how.mode (how.meaning w) → base ≤ wrap_limit → (in_order ≡ true → IsInLine how.mode low top es)
       → in_order' ≡ true → IsInLine how.mode low top' es'
   in_line-more w means fits few line sure =
       let two = both in_order (nat_le top top') (sym in_order_is ∙ sure) in
-      let on = on_time-row (n + 1) base row how.mode top (rw top_is at two.1) in
-      rw (top_is, events_are, ← (greatest-row (n + 1) base row how.mode top))
-      (in_line-push how.mode low top (n + 1) base es (raw_of row) (line two.0) (rw means fits) few on)
+      let on = on_time-row (n + 1) base unit row how.mode top (rw top_is at two.1) in
+      rw (top_is, events_are, ← (greatest-row (n + 1) base unit row how.mode top))
+      (in_line-push how.mode low top (n + 1) base es (raw_of unit row) (line two.0) (rw means fits) few on)
 
-  pub adds-more : (next : ℕ) (before ws : List ℕ) (w : ℕ) → next ≡ n + 1 → raw_of row ≡ how.meaning w
-      → row.amount ≡ amount (how.meaning w) → n < how.policy.records → base + row.amount ≤ wrap_limit
+  pub adds-more : (next : ℕ) (before ws : List ℕ) (w : ℕ) → next ≡ n + 1 → raw_of unit row ≡ how.meaning w
+      → unit * row.wraps ≡ amount (how.meaning w) → n < how.policy.records → base + unit * row.wraps ≤ wrap_limit
       → (is_reserved (how.meaning w) && stops_reserved how.policy.reserved) ≡ false → (in_order ≡ true → Adds how n base top before ws es)
       → in_order' ≡ true → Adds how next base' top' before (ws ++ w ∷ []) es'
   adds-more next before ws w counted means amounts room few go adds sure =
       let two = both in_order (nat_le top top') (sym in_order_is ∙ sure) in
-      let on = on_time-row (n + 1) base row how.mode top (rw top_is at two.1) in
-      let same : row.amount ≡ amount (raw_of row) = amounts ∙ ap amount (sym means) in
-      let pushed = adds-push how n base top before ws w es (adds two.0) room (raw_of row) means (rw means go) (rw (← same) few) on in
-      let sum : base' ≡ base + amount (raw_of row) = base_is ∙ ap (λ k. base + k) same in
-      let greatest : top' ≡ greatest_with how.mode top (event_of (n + 1) base (raw_of row)) = top_is ∙ sym (greatest-row (n + 1) base row how.mode top) in
+      let on = on_time-row (n + 1) base unit row how.mode top (rw top_is at two.1) in
+      let same : unit * row.wraps ≡ amount (raw_of unit row) = amounts ∙ ap amount (sym means) in
+      let pushed = adds-push how n base top before ws w es (adds two.0) room (raw_of unit row) means (rw means go) (rw (← same) few) on in
+      let sum : base' ≡ base + amount (raw_of unit row) = base_is ∙ ap (λ k. base + k) same in
+      let greatest : top' ≡ greatest_with how.mode top (event_of (n + 1) base (raw_of unit row)) = top_is ∙ sym (greatest-row (n + 1) base unit row how.mode top) in
       rw (counted, sum, greatest, events_are) pushed
 
-  pub leads-more : (next : ℕ) (records : List Raw) (ws : List ℕ) (w : ℕ) → next ≡ n + 1 → raw_of row ≡ how.meaning w → row.amount ≡ amount (how.meaning w) → (in_order ≡ true → IsClock how.mode n base top (records ++ map how.meaning ws))
+  pub leads-more : (next : ℕ) (records : List Raw) (ws : List ℕ) (w : ℕ) → next ≡ n + 1 → raw_of unit row ≡ how.meaning w → unit * row.wraps ≡ amount (how.meaning w) → (in_order ≡ true → IsClock how.mode n base top (records ++ map how.meaning ws))
       → in_order' ≡ true → IsClock how.mode next base' top' (records ++ map how.meaning (ws ++ w ∷ []))
   leads-more next records ws w counted means amounts clock sure =
       let two = both in_order (nat_le top top') (sym in_order_is ∙ sure) in
-      let on = on_time-row (n + 1) base row how.mode top (rw top_is at two.1) in
-      let sum : base' ≡ base + amount (raw_of row) = base_is ∙ ap (λ k. base + k) (amounts ∙ ap amount (sym means)) in
-      let greatest : top' ≡ greatest_with how.mode top (event_of (n + 1) base (raw_of row)) = top_is ∙ sym (greatest-row (n + 1) base row how.mode top) in
-      let pushed = clock-push how.mode n base top (records ++ map how.meaning ws) (raw_of row) (clock two.0) on in
-      let all : (records ++ map how.meaning ws) ++ raw_of row ∷ [] ≡ records ++ map how.meaning (ws ++ w ∷ []) =
-      append_assoc records (map how.meaning ws) (raw_of row ∷ []) ∙ ap (λ (r : Raw). records ++ (map how.meaning ws ++ r ∷ [])) means
+      let on = on_time-row (n + 1) base unit row how.mode top (rw top_is at two.1) in
+      let sum : base' ≡ base + amount (raw_of unit row) = base_is ∙ ap (λ k. base + k) (amounts ∙ ap amount (sym means)) in
+      let greatest : top' ≡ greatest_with how.mode top (event_of (n + 1) base (raw_of unit row)) = top_is ∙ sym (greatest-row (n + 1) base unit row how.mode top) in
+      let pushed = clock-push how.mode n base top (records ++ map how.meaning ws) (raw_of unit row) (clock two.0) on in
+      let all : (records ++ map how.meaning ws) ++ raw_of unit row ∷ [] ≡ records ++ map how.meaning (ws ++ w ∷ []) =
+      append_assoc records (map how.meaning ws) (raw_of unit row ∷ []) ∙ ap (λ (r : Raw). records ++ (map how.meaning ws ++ r ∷ [])) means
       ∙ ap (λ l. records ++ l) (sym (map_push how.meaning ws w)) in
       rw (counted, sum, greatest, ← all) pushed
 
@@ -123,23 +123,23 @@ gathers-lead {walk = walk} {words = words} n g sure count = ∣ (map (how_of wal
 -- What is gathered of one word more.
 
 module _ (walk : Walk) (words : List (List ℕ)) (meaning : ℕ → Raw) (same : meaning ≡ (how_of walk).meaning) (passes : LetsPass walk meaning words)
-    (only : Bool) (i : ℕ) (lt : i < length words) (row : Row) (is : IsRow meaning row (from_le_bytes w32 (get_or words i []))) where
+    (only : Bool) (i : ℕ) (lt : i < length words) (unit : ℕ) (row : Row) (is : IsRow meaning unit row (from_le_bytes w32 (get_or words i []))) where
   w : ℕ
   w = from_le_bytes w32 (get_or words i [])
 
-  amounts : row.amount ≡ amount ((how_of walk).meaning w)
+  amounts : unit * row.wraps ≡ amount ((how_of walk).meaning w)
   unfolding w
   amounts = is.amounts ∙ ap (λ (f : ℕ → Raw). amount (f w)) same
 
-  means : raw_of row ≡ (how_of walk).meaning w
+  means : raw_of unit row ≡ (how_of walk).meaning w
   unfolding w
   means = is.raw ∙ ap (λ (f : ℕ → Raw). f w) same
 
-  pub small : row.amount < 2 ^ 50
+  pub small : unit * row.wraps < 2 ^ 50
   small = rw amounts (amount-small walk.record_type w)
 
   -- one word more
-  pub gathers-row : (in_order in_order' : Bool) (base base' top top' : ℕ) (es es' : List Event) → base + row.amount ≤ wrap_limit → base' ≡ base + row.amount
+  pub gathers-row : (in_order in_order' : Bool) (base base' top top' : ℕ) (es es' : List Event) → base + unit * row.wraps ≤ wrap_limit → base' ≡ base + unit * row.wraps
       → top' ≡ greatest_with_row (ordered_below (how_of walk).mode) top base row → in_order' ≡ (in_order && nat_le top top')
       → es' ≡ es ++ event_below (gathered_below only (how_of walk).mode) (placed_by (clock_in walk) + i + 1) base row
       → Gathers walk (take i words) only in_order base top es → Gathers walk (take (i + 1) words) only in_order' base' top' es'
@@ -148,32 +148,32 @@ module _ (walk : Walk) (words : List (List ℕ)) (meaning : ℕ → Raw) (same :
       let how = how_of walk in
       let n = placed_by (clock_in walk) + i in
       let below : base ≤ wrap_limit = omega (arith, few) in
-      let more = event_of (n + 1) base (raw_of row) in
+      let more = event_of (n + 1) base (raw_of unit row) in
       let came = old.came ++ more in
       let chosen_is : es' ≡ chosen only how.mode came =
-      es_are ∙ ap (λ l. es ++ l) (chosen-row (n + 1) base row only how.mode)
+      es_are ∙ ap (λ l. es ++ l) (chosen-row (n + 1) base unit row only how.mode)
       ∙ ap (λ l. l ++ chosen only how.mode more) old.chosen ∙ sym (chosen-append only how.mode old.came more) in
       let count : length (take i words) ≡ i = length-take-le i words (omega (arith, lt)) in
       let next : length (take (i + 1) words) ≡ i + 1 = length-take-le (i + 1) words (omega (arith, lt)) in
       let room : n < how.policy.records = omega (arith, passes.room, walk.few_placed, lt) in
       let go = none-reserved how meaning words i [] w same lt refl passes.reserved in
-      let places = places-push (placed_by (clock_in walk)) n base old.came (raw_of row) (rw count at old.places) in
+      let places = places-push (placed_by (clock_in walk)) n base old.came (raw_of unit row) (rw count at old.places) in
       record {
         limit = omega (arith, few, base_is);
         came = came;
         chosen = chosen_is;
         places = record { rises = places.rises; last = omega (arith, places.last, next) };
-        in_line = in_line-more how (greatest_of walk) base top base' top' n in_order in_order' old.came came row base_is top_is in_order_is refl w means
+        in_line = in_line-more how (greatest_of walk) base top base' top' n unit in_order in_order' old.came came row base_is top_is in_order_is refl w means
             (meaning-fits walk.record_type w) below old.in_line;
         leads = λ sure records h.
             more_at (λ l. IsClock (mode_of (clock_in walk)) (placed_by (clock_in walk) + length (take (i + 1) words)) base' top' (records ++ map how.meaning l))
             [] words i [] w lt refl
             (subst (λ m. IsClock m (placed_by (clock_in walk) + length (take (i + 1) words)) base' top' (records ++ map how.meaning (numbers (take i words) ++ w ∷ []))) (sym walk.same_mode)
-            (leads-more how (greatest_of walk) base top base' top' n in_order in_order' old.came came row base_is top_is in_order_is refl
+            (leads-more how (greatest_of walk) base top base' top' n unit in_order in_order' old.came came row base_is top_is in_order_is refl
             (placed_by (clock_in walk) + length (take (i + 1) words)) records (numbers (take i words)) w (omega (arith, next)) means amounts (λ o. subst (λ m. IsClock m n base top (records ++ map how.meaning (numbers (take i words)))) walk.same_mode (rw count at (old.leads o records h))) sure));
         adds = λ sure before h.
             more_at (λ l. Adds how (placed_by (clock_in walk) + length (take (i + 1) words)) base' top' before l came) before words i [] w lt refl
-            (adds-more how (greatest_of walk) base top base' top' n in_order in_order' old.came came row base_is top_is in_order_is refl
+            (adds-more how (greatest_of walk) base top base' top' n unit in_order in_order' old.came came row base_is top_is in_order_is refl
             (placed_by (clock_in walk) + length (take (i + 1) words)) before (before ++ numbers (take i words)) w (omega (arith, next)) means amounts room few go (λ o. rw count at (old.adds o before h)) sure);
       }
 

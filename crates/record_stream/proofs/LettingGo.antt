@@ -1,7 +1,7 @@
 -- Events in order, of which none is late, and those that are let go with them.
 use Rattle.std.{proofs.Common.{rules}, proofs.Common.{◌≡◌, ◌≢◌, ◌+◌, ◌<◌, ◌≤◌, ℕ, zero, suc, List, [], ◌∷◌, ◌++◌, Bool, true, false, None, Some, length, map, refl, sym, ap, subst, ◌∙◌, append_assoc, append-nil, arith, length-append, ⊎_elim, ◌&&◌, not, is_some, nat_lt, IfSome, IsTrue, if◌then◌else◌}, specs.Option.option_to_list, specs.List.{All, list_any}, specs.declared.option.Option.Option, proofs.lemmas.Bool.ne_eqb, proofs.lemmas.Bool.Decides.nat_tests, proofs.lemmas.List.map-append, proofs.lemmas.List.Elements.filter-append}
 use Rattle.tally_base.{specs.declared.event.Event.Event, specs.declared.header.Mode.Mode, specs.Events.is_ordered, specs.Tally.{moves_floor, floor_after, InOrder}, specs.Columns.rows, proofs.Floors.{order-at, order-parts}, proofs.BlockRows.rows-split}
-use Rattle.ptu_definitions.{specs.Kept.{Marked, floor_of, greatest, is_late}, specs.Settled.{delivered, is_overtaken, not_marked, ordered, put_in, settles}, specs.Streams.{Reading, events_in}, specs.Times.events, proofs.DeliveredLaws.{delivered-append, delivered_after, delivered_after-ordered, not_marked-append, not_marked-false}, proofs.StreamLemmas.later}
+use Rattle.ptu_definitions.{specs.Kept.{Marked, floor_of, greatest, is_late}, specs.Settled.{delivered, is_overtaken, not_marked, ordered, put_in, settles}, specs.Streams.{StreamSettings, events_in}, specs.Times.events, proofs.DeliveredLaws.{delivered-append, delivered_after, delivered_after-ordered, not_marked-append, not_marked-false}, proofs.StreamLemmas.later}
 use Rattle.abs_time.{specs.Placing.IsSmall, specs.Floors.orders_markers, proofs.Floors.moves_by}
 use Rattle.record_stream.{specs.Blocks.{on_time, IsInLine, PlacesRise}, specs.Keeping.{CanWait, HasCome}, specs.LettingGo.{LetsGo, IsDelivered}, proofs.Steps.{on_time-push, in_line-event}, proofs.Gathering.{not_late, last_or, floor_of-block}, proofs.Placed.not_late as not_late_by, proofs.Settles.{ordered-on, that_goes, those_waiting, count_going, count_waiting}}
 use Rattle.settle.{specs.Settling.told, specs.Standing.{HasSettled, kept_back, next_place, last_time, reach_of, was_popped}, specs.declared.settle.Settle.Settle, specs.Passing.place_after}
@@ -109,10 +109,10 @@ module _ (mode : Mode) (low : ℕ) (from old new : Settle) (came went : List Eve
         (omega (arith, count_going (Some x) x (kept_back old) (kept_back new) e refl (kept refl))) time rises
 
 -- the events of these words
-abbrev came_before : Reading → List ℕ → List Event
+abbrev came_before : StreamSettings → List ℕ → List Event
 came_before how words = events (map how.meaning words)
 
-module _ (how : Reading) (old new : Settle) (words : List ℕ) (came went : List Event)
+module _ (how : StreamSettings) (old new : Settle) (words : List ℕ) (came went : List Event)
     (e : Event) (some : how.policy.settle ≢ 0) (d : IsDelivered how old words came went) where
   ordered-more : ordered how.mode (came_before how words ++ (came ++ e ∷ [])) ≡ ordered how.mode (came_before how words ++ came) ++ ordered how.mode (e ∷ [])
   ordered-more = search (rules, arith, append_assoc, came_before, filter-append)
@@ -142,7 +142,7 @@ module _ (how : Reading) (old new : Settle) (words : List ℕ) (came went : List
       }
 
 -- Behind the words of a block.
-module _ (how : Reading) (settle : Settle) (words now : List ℕ) (came went : List Event)
+module _ (how : StreamSettings) (settle : Settle) (words now : List ℕ) (came went : List Event)
     (adds : events (map how.meaning now) ≡ events (map how.meaning words) ++ came) (d : IsDelivered how settle words came went) where
   pub block_delivers : events_in how now ≡ events_in how words ++ on_time went
   block_delivers = ap (delivered how.policy.settle how.mode) adds ∙ d.delivers

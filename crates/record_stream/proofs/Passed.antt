@@ -1,7 +1,7 @@
 -- Events in order behind all that are kept back, and those that are let go with them.
 use Rattle.std.{proofs.Common.{rules}, proofs.Common.{◌≡◌, ◌≢◌, ◌+◌, ◌-◌, ◌<◌, ◌≤◌, ℕ, suc, List, [], ◌∷◌, ◌++◌, true, false, cond, drop, length, map, refl, sym, ap, subst, ◌∙◌, append_assoc, append-nil, arith, length-append, if◌then◌else◌}, specs.List.{All, AllByRecursion}, specs.List.Sorted.IsNonDecreasingBy, proofs.Math.Seq.drop-append_seam, proofs.lemmas.Bool.ne_eqb, proofs.lemmas.List.Elements.{All-tail, All-from_recursion, filter-append, recursion_from_All}}
 use Rattle.tally_base.{specs.declared.event.Event.Event, specs.declared.header.Mode.Mode, specs.Events.is_ordered, specs.Tally.{moves_floor, floor_after, InOrder}, specs.Columns.rows, proofs.Floors.{order-lower, order-append, order-parts}, proofs.BlockRows.{length-rows, rows-split}}
-use Rattle.ptu_definitions.{specs.Layouts.KindFits, specs.Kept.mark, specs.Prefixes.each_after, specs.Settled.{not_marked, ordered, Rises, settles}, specs.Streams.{Reading, events_in}, specs.Times.events, proofs.DeliveredLaws.{delivered-append, delivered_after}, proofs.SettledLemmas.IsNonDecreasingBy-Rises, proofs.SettlingLemmas.each-weaker}
+use Rattle.ptu_definitions.{specs.Layouts.KindFits, specs.Kept.mark, specs.Prefixes.each_after, specs.Settled.{not_marked, ordered, Rises, settles}, specs.Streams.{StreamSettings, events_in}, specs.Times.events, proofs.DeliveredLaws.{delivered-append, delivered_after}, proofs.SettledLemmas.IsNonDecreasingBy-Rises, proofs.SettlingLemmas.each-weaker}
 use Rattle.abs_time.{specs.Placing.placed_by, specs.Floors.orders_markers, proofs.Floors.moves_by}
 use Rattle.record_stream.{specs.Blocks.{on_time, AllFit, PlacesRise}, specs.Keeping.{CanWait, IsKeeping}, specs.LettingGo.{AreOrdered, ComesNext, IsFull, LetsGo, IsDelivered}, specs.Walking.{how_of, greatest_of, clock_in}, specs.declared.walk.Walk.Walk, proofs.LettingGo.place-push}
 use Rattle.settle.{specs.Passing.{ComesBehind, ComesOn, HasPassed, next_after, place_after, time_after}, specs.Standing.{HasSettled, kept_back, next_place, last_time, reach_of, was_popped}, specs.declared.settle.Settle.Settle}
@@ -214,7 +214,7 @@ module _ (walk : Walk) (from : Settle) (came went stay : List Event) (settles : 
       }
 
 -- What is delivered then.
-pub delivers_passed : (how : Reading) (from new : Settle) (words : List ℕ) (came went : List Event)
+pub delivers_passed : (how : StreamSettings) (from new : Settle) (words : List ℕ) (came went : List Event)
     → how.policy.settle ≢ 0 → reach_of from ≡ how.policy.settle → AreOrdered how.mode came
     → HasPassed from new (ordered how.mode (events (map how.meaning words))) (not_marked (events_in how words)) came went → IsDelivered how new words came went
 delivers_passed how from new words came went some reach all p =

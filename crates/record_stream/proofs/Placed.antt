@@ -1,12 +1,12 @@
 -- What the clock's answer says of a word: its refusal and its event.
 use Rattle.std.{proofs.Common.{rules}, proofs.Common.{◌≡◌, ◌≢◌, ◌+◌, ◌<◌, ℕ, List, [], ◌∷◌, Bool, true, false, cond, None, Some, Ok, Err, length, map, refl, sym, ap, ◌∙◌, ◌⊎◌, ⊎_elim, arith, ◌&&◌, ◌==◌, if◌then◌else◌}, specs.declared.option.Option.Option, specs.declared.result.Result.Result, proofs.lemmas.Bool.ne_eqb}
 use Rattle.tally_base.{specs.declared.event.Event.Event, specs.declared.fault.Fault.Fault, specs.declared.fault.Fault.TheVariants.{RecordLimit, ReservedRecord, BackwardTime}, specs.declared.header.Mode.Mode, specs.Events.{is_ordered, stops_late, stops_reserved}}
-use Rattle.ptu_definitions.{specs.declared.records.Raw.Raw, specs.declared.records.Raw.TheVariants.{Photon, Marker, Wrap, Reserved}, specs.Kinds.is_reserved, specs.Times.{event_after, events}, specs.Kept.{is_late, greatest, Marked}, specs.Settled.{is_late_by, ordered}, specs.Streams.{Reading, refusal, late_refusal}, proofs.DeliveredLaws.{delivered_after, delivered_after-ordered, delivered_after-unordered, is_late_by-0, is_late-by}, proofs.StreamLemmas.fresh}
+use Rattle.ptu_definitions.{specs.declared.records.Raw.Raw, specs.declared.records.Raw.TheVariants.{Photon, Marker, Wrap, Reserved}, specs.Kinds.is_reserved, specs.Times.{event_after, events}, specs.Kept.{is_late, greatest, Marked}, specs.Settled.{is_late_by, ordered}, specs.Streams.{StreamSettings, refusal, late_refusal}, proofs.DeliveredLaws.{delivered_after, delivered_after-ordered, delivered_after-unordered, is_late_by-0, is_late-by}, proofs.StreamLemmas.fresh}
 use Rattle.abs_time.{specs.declared.clock.Placed.Placed, specs.declared.clock.Placed.TheVariants.Event as InOrder, specs.declared.clock.Placed.TheVariants.Late, specs.declared.clock.Placed.TheVariants.Wrap as WrapPlaced, specs.declared.clock.Placed.TheVariants.Reserved as ReservedPlaced, specs.Placing.place_answer}
 use Rattle.record_stream.{specs.Keeping.{tells, refused_for}, specs.Rows.refused_late}
 
 -- the refusal that a placed record calls for, where no event is put in its place
-abbrev pub refused_by : Reading → Placed → Option Fault
+abbrev pub refused_by : StreamSettings → Placed → Option Fault
 refused_by how (InOrder e) = None
 refused_by how (Late e top) = if stops_late how.policy.order then Some (BackwardTime e.place e.time top) else None
 refused_by how WrapPlaced = None
@@ -33,12 +33,12 @@ IsSo mode before (Late e top) = (is_late mode before e ≡ true) × (top ≡ gre
 IsSo mode before WrapPlaced = Unit {0}
 IsSo mode before ReservedPlaced = Unit {0}
 
-pub refusal-limit : (how : Reading) (ws : List ℕ) (w n : ℕ) → n ≡ length (map how.meaning ws)
+pub refusal-limit : (how : StreamSettings) (ws : List ℕ) (w n : ℕ) → n ≡ length (map how.meaning ws)
     → n ≡ how.policy.records → refusal how ws w ≡ Some (RecordLimit how.policy.records)
 unfolding refusal
 refusal-limit how ws w n is full = search (rules, arith)
 
-pub refusal-reserved : (how : Reading) (ws : List ℕ) (w n : ℕ) (raw : Raw) → n ≡ length (map how.meaning ws)
+pub refusal-reserved : (how : StreamSettings) (ws : List ℕ) (w n : ℕ) (raw : Raw) → n ≡ length (map how.meaning ws)
     → n < how.policy.records → raw ≡ how.meaning w → (is_reserved raw && stops_reserved how.policy.reserved) ≡ true
     → refusal how ws w ≡ Some (ReservedRecord (n + 1) w)
 unfolding refusal
@@ -53,13 +53,13 @@ passing-err : (b : Bool) (fault other : Fault) (q : Placed) (late : Option Fault
 passing-err b fault other q late h = search (rules, arith)
 
 -- the refusal of a word by the clock's answer
-pub refusal-ok : (how : Reading) (ws : List ℕ) (w n : ℕ) (raw : Raw) (p : Placed) → n ≡ length (map how.meaning ws)
+pub refusal-ok : (how : StreamSettings) (ws : List ℕ) (w n : ℕ) (raw : Raw) (p : Placed) → n ≡ length (map how.meaning ws)
     → n < how.policy.records → raw ≡ how.meaning w → (is_reserved raw && stops_reserved how.policy.reserved) ≡ false
     → place_answer how.mode (map how.meaning ws) raw ≡ Ok p → refusal how ws w ≡ refused_late how (map how.meaning ws) (how.meaning w)
 unfolding refusal place_answer
 refusal-ok how ws w n raw p is room means go answer = search (rules, arith, passing-ok)
 
-pub refusal-err : (how : Reading) (ws : List ℕ) (w n : ℕ) (raw : Raw) (fault : Fault) → n ≡ length (map how.meaning ws)
+pub refusal-err : (how : StreamSettings) (ws : List ℕ) (w n : ℕ) (raw : Raw) (fault : Fault) → n ≡ length (map how.meaning ws)
     → n < how.policy.records → raw ≡ how.meaning w → (is_reserved raw && stops_reserved how.policy.reserved) ≡ false
     → place_answer how.mode (map how.meaning ws) raw ≡ Err fault → refusal how ws w ≡ Some fault
 unfolding refusal place_answer
@@ -92,29 +92,29 @@ pub nothing : (s : Bool) → ◌≡◌ {A = Option Fault} (if s then None else N
 nothing true = refl
 nothing false = refl
 
-abbrev pub late_if : Reading → Bool → Event → ℕ → Option Fault
+abbrev pub late_if : StreamSettings → Bool → Event → ℕ → Option Fault
 late_if how b e top = if stops_late how.policy.order then (if b then Some (BackwardTime e.place e.time top) else None) else None
 
 -- Where no event is put in its place.
-refused-so : (how : Reading) (before : List Event) (p : Placed) → how.policy.settle ≡ 0 → IsSo how.mode before p
+refused-so : (how : StreamSettings) (before : List Event) (p : Placed) → how.policy.settle ≡ 0 → IsSo how.mode before p
     → (if stops_late how.policy.order then late_refusal how.policy.settle how.mode before (event_in p) else None) ≡ refused_by how p
 refused-so how before (InOrder e) zero so = search (rules, arith, late_if, is_late_by-0)
 refused-so how before (Late e top) zero so = search (rules, arith, late_if, is_late_by-0)
 refused-so how before WrapPlaced zero so = nothing (stops_late how.policy.order)
 refused-so how before ReservedPlaced zero so = nothing (stops_late how.policy.order)
 
-fresh-so : (how : Reading) (before : List Event) (p : Placed) → how.policy.settle ≡ 0
+fresh-so : (how : StreamSettings) (before : List Event) (p : Placed) → how.policy.settle ≡ 0
     → IsSo how.mode before p → delivered_after how.policy.settle how.mode before (event_in p) ≡ marks_of p
 fresh-so how before p h1 so = search (rules, arith)
 
-pub refused-plain : (how : Reading) (before : List Raw) (raw : Raw) (p : Placed) → how.policy.settle ≡ 0
+pub refused-plain : (how : StreamSettings) (before : List Raw) (raw : Raw) (p : Placed) → how.policy.settle ≡ 0
     → place_answer how.mode before raw ≡ Ok p → refused_late how before raw ≡ refused_by how p
 refused-plain how before raw p zero answer =
     let c = comes how.mode before raw p answer in
     ap (λ es. if stops_late how.policy.order then late_refusal how.policy.settle how.mode (events before) es else None) c.0
     ∙ refused-so how (events before) p zero c.1
 
-pub fresh-plain : (how : Reading) (ws : List ℕ) (raw : Raw) (p : Placed) → how.policy.settle ≡ 0
+pub fresh-plain : (how : StreamSettings) (ws : List ℕ) (raw : Raw) (p : Placed) → how.policy.settle ≡ 0
     → place_answer how.mode (map how.meaning ws) raw ≡ Ok p → fresh how ws raw ≡ marks_of p
 fresh-plain how ws raw p zero answer =
     let c = comes how.mode (map how.meaning ws) raw p answer in
@@ -133,7 +133,7 @@ IsEarly (Late e top) = ⊥
 IsEarly WrapPlaced = Unit {0}
 IsEarly ReservedPlaced = Unit {0}
 
-early-so : (how : Reading) (before : List Event) (p : Placed) → IsEarly p → IsSo how.mode before p
+early-so : (how : StreamSettings) (before : List Event) (p : Placed) → IsEarly p → IsSo how.mode before p
     → (if stops_late how.policy.order then late_refusal how.policy.settle how.mode before (event_in p) else None) ≡ None
 early-so how before (InOrder e) early so =
     ap (λ b. late_if how b e (greatest how.mode before)) (not_late _ how.policy.settle how.mode before e refl so) ∙ nothing (stops_late how.policy.order)
@@ -141,7 +141,7 @@ early-so how before (Late e top) early so = absurd early
 early-so how before WrapPlaced early so = nothing (stops_late how.policy.order)
 early-so how before ReservedPlaced early so = nothing (stops_late how.policy.order)
 
-pub refused-early : (how : Reading) (before : List Raw) (raw : Raw) (p : Placed) → IsEarly p
+pub refused-early : (how : StreamSettings) (before : List Raw) (raw : Raw) (p : Placed) → IsEarly p
     → place_answer how.mode before raw ≡ Ok p → refused_late how before raw ≡ None
 refused-early how before raw p early answer =
     let c = comes how.mode before raw p answer in
@@ -155,7 +155,7 @@ top_in (Late e top) = top
 top_in WrapPlaced = 0
 top_in ReservedPlaced = 0
 
-by_top : (how : Reading) (before : List Event) (p : Placed) (e : Event) → event_in p ≡ e ∷ [] → IsSo how.mode before p → late_if how (is_late_by how.policy.settle how.mode before e) e (greatest how.mode before) ≡ late_if how (is_late_by how.policy.settle how.mode before e) e (top_in p)
+by_top : (how : StreamSettings) (before : List Event) (p : Placed) (e : Event) → event_in p ≡ e ∷ [] → IsSo how.mode before p → late_if how (is_late_by how.policy.settle how.mode before e) e (greatest how.mode before) ≡ late_if how (is_late_by how.policy.settle how.mode before e) e (top_in p)
 by_top how before (InOrder x) e is so =
     let same : x ≡ e = cc in
     let late : is_late how.mode before e ≡ false = rw same at so in
@@ -165,7 +165,7 @@ by_top how before (Late x top) e is so = ap (late_if how (is_late_by how.policy.
 by_top how before WrapPlaced e is so = cc
 by_top how before ReservedPlaced e is so = cc
 
-pub refused-placed : (how : Reading) (before : List Raw) (raw : Raw) (p : Placed) (e : Event) → place_answer how.mode before raw ≡ Ok p → event_in p ≡ e ∷ [] → refused_late how before raw ≡ refused_for how (ordered how.mode (events before)) e (top_in p)
+pub refused-placed : (how : StreamSettings) (before : List Raw) (raw : Raw) (p : Placed) (e : Event) → place_answer how.mode before raw ≡ Ok p → event_in p ≡ e ∷ [] → refused_late how before raw ≡ refused_for how (ordered how.mode (events before)) e (top_in p)
 refused-placed how before raw p e answer is =
     let c = comes how.mode before raw p answer in
     ap (λ es. if stops_late how.policy.order then late_refusal how.policy.settle how.mode (events before) es else None) (c.0 ∙ is)
@@ -175,7 +175,7 @@ tells-pick : (k : ℕ) (mode : Mode) (before : List Event) (e : Event) (b : Bool
     → is_ordered mode e ≡ b → delivered_after k mode before (e ∷ []) ≡ tells k mode (ordered mode before) e
 tells-pick k mode before e b some is = search (rules, arith, delivered_after-ordered, delivered_after-unordered)
 
-pub fresh-placed : (how : Reading) (ws : List ℕ) (raw : Raw) (p : Placed) (e : Event) → how.policy.settle ≢ 0 → place_answer how.mode (map how.meaning ws) raw ≡ Ok p → event_in p ≡ e ∷ [] → fresh how ws raw ≡ tells how.policy.settle how.mode (ordered how.mode (events (map how.meaning ws))) e
+pub fresh-placed : (how : StreamSettings) (ws : List ℕ) (raw : Raw) (p : Placed) (e : Event) → how.policy.settle ≢ 0 → place_answer how.mode (map how.meaning ws) raw ≡ Ok p → event_in p ≡ e ∷ [] → fresh how ws raw ≡ tells how.policy.settle how.mode (ordered how.mode (events (map how.meaning ws))) e
 fresh-placed how ws raw p e some answer is =
     let c = comes how.mode (map how.meaning ws) raw p answer in
     ap (delivered_after how.policy.settle how.mode (events (map how.meaning ws))) (c.0 ∙ is)
@@ -189,13 +189,13 @@ none_pick false = refl
 pub skipped-event : (p : Placed) → (p ≡ WrapPlaced) ⊎ (p ≡ ReservedPlaced) → event_in p ≡ []
 skipped-event p is = ⊎_elim (λ (e : p ≡ WrapPlaced). rw e refl) (λ (e : p ≡ ReservedPlaced). rw e refl) is
 
-pub skipped-refusal : (how : Reading) (before : List Raw) (raw : Raw) (p : Placed)
+pub skipped-refusal : (how : StreamSettings) (before : List Raw) (raw : Raw) (p : Placed)
     → place_answer how.mode before raw ≡ Ok p → event_in p ≡ [] → refused_late how before raw ≡ None
 skipped-refusal how before raw p answer is =
     ap (λ es. if stops_late how.policy.order then late_refusal how.policy.settle how.mode (events before) es else None)
     ((comes how.mode before raw p answer).0 ∙ is) ∙ nothing (stops_late how.policy.order)
 
-pub skipped-fresh : (how : Reading) (ws : List ℕ) (raw : Raw) (p : Placed)
+pub skipped-fresh : (how : StreamSettings) (ws : List ℕ) (raw : Raw) (p : Placed)
     → place_answer how.mode (map how.meaning ws) raw ≡ Ok p → event_in p ≡ [] → fresh how ws raw ≡ []
 skipped-fresh how ws raw p answer is =
     ap (delivered_after how.policy.settle how.mode (events (map how.meaning ws))) ((comes how.mode (map how.meaning ws) raw p answer).0 ∙ is)

@@ -1,7 +1,7 @@
 -- The events that are kept back, given one after another at the end.
 use Rattle.std.{proofs.Common.{rules}, proofs.Common.{◌≡◌, ◌+◌, ◌≤◌, ℕ, suc, List, [], ◌∷◌, ◌++◌, Bool, true, false, cond, Ok, Err, OnErr, IfErr, length, map, refl, sym, ap, subst, ◌∙◌, append_assoc, append-nil, arith, length-append, ◌==◌}, specs.List.All, specs.declared.result.Result.Result, proofs.lemmas.Bool.eqb-true, proofs.lemmas.List.{map-append, length-map}, proofs.lemmas.List.Elements.All-tail}
 use Rattle.tally_base.{specs.declared.event.Event.Event, specs.declared.fault.Fault.Fault, specs.declared.fault.Fault.TheVariants.WriteFault, specs.FaultCounts.{FailsOnce, Rose}}
-use Rattle.ptu_definitions.{specs.Kept.Marked, specs.Settled.{delivered_last, in_time, last_of, marked_as, ordered}, specs.Streams.{Reading, last_in}, specs.Times.events, proofs.DeliveredLaws.delivered_last-0, proofs.SettlingLemmas.waits-is}
+use Rattle.ptu_definitions.{specs.Kept.Marked, specs.Settled.{delivered_last, in_time, last_of, marked_as, ordered}, specs.Streams.{StreamSettings, last_in}, specs.Times.events, proofs.DeliveredLaws.delivered_last-0, proofs.SettlingLemmas.waits-is}
 use Rattle.settle.{specs.Standing.{kept_back, reach_of, was_popped}, specs.declared.settle.Settle.Settle}
 use Rattle.record_stream.{specs.Ending.{GaveFirst, BrokeFirst}, specs.Feeding.Follows, specs.Keeping.{CanWait, Settles}, specs.OneMore.{with_event, with_marks}, specs.Walking.{how_of, given_by, records_of, summary_in, Notes, KeepsPlace}, specs.declared.taker.EventTaker.Ghosts, specs.declared.walk.Walk.Walk, proofs.Steps.on_time-push, proofs.Lasts.some-settle, proofs.Summaries.with_marks-append}
 
@@ -38,7 +38,7 @@ module _ {T : Type 0} (g : Ghosts T) (walk : Walk) (start : T) (all : List Event
       → g.faults new ≡ g.faults taker → g.same start new → GaveFirst g walk start all next new rest low
   gave_one x now next taker new left rest last low e h is gives notes place follows kept same =
       let count : length left ≡ suc (length rest) = ap length is in
-      let mode : (how_of next).mode ≡ (how_of now).mode = ap (λ (how : Reading). how.mode) place.same_how in
+      let mode : (how_of next).mode ≡ (how_of now).mode = ap (λ (how : StreamSettings). how.mode) place.same_how in
       record {
         front = h.front ++ e ∷ [];
         adds = parts_one all h.front left rest e h.adds is;
@@ -55,7 +55,7 @@ module _ {T : Type 0} (g : Ghosts T) (walk : Walk) (start : T) (all : List Event
       }
 
 -- What is kept back is what is delivered at the end.
-rest_pick : (how : Reading) (settle : Settle) (words : List ℕ) (b : Bool) → (how.policy.settle == 0) ≡ b
+rest_pick : (how : StreamSettings) (settle : Settle) (words : List ℕ) (b : Bool) → (how.policy.settle == 0) ≡ b
     → reach_of settle ≡ how.policy.settle → was_popped settle ≡ false → Settles how settle words
     → marked_as false (kept_back settle) ≡ cond b []
     (marked_as false (last_of how.policy.settle (in_time how.policy.settle (ordered how.mode (events (map how.meaning words))))))
@@ -69,11 +69,11 @@ rest_pick how settle words true is reach still come =
     nothing (x ∷ l) h = absurd (omega arith)
 rest_pick how settle words false is reach still come = search (rules, arith, some-settle, waits-is)
 
-pub rest-is : (how : Reading) (settle : Settle) (words : List ℕ) → reach_of settle ≡ how.policy.settle
+pub rest-is : (how : StreamSettings) (settle : Settle) (words : List ℕ) → reach_of settle ≡ how.policy.settle
     → was_popped settle ≡ false → Settles how settle words → marked_as false (kept_back settle) ≡ last_in how words
 unfolding delivered_last
 rest-is how settle words reach still come = rest_pick how settle words (how.policy.settle == 0) refl reach still come
 
 -- and nothing where no event is put in its place
-pub none-is : (how : Reading) (words : List ℕ) → how.policy.settle ≡ 0 → last_in how words ≡ []
+pub none-is : (how : StreamSettings) (words : List ℕ) → how.policy.settle ≡ 0 → last_in how words ≡ []
 none-is how words zero = ap (λ k. delivered_last k how.mode (events (map how.meaning words))) zero ∙ delivered_last-0 how.mode (events (map how.meaning words))

@@ -1,7 +1,7 @@
 -- One event more where events are put in their places.
 use Rattle.std.{proofs.Common.{rules, ◌≡◌, ◌+◌, ◌<◌, ◌≤◌, ℕ, suc, List, [], ◌∷◌, ◌++◌, Bool, true, false, cond, None, Some, Ok, Err, OnOk, OnErr, IfErr, length, map, max, sym, ap, subst, ◌∙◌, inr, append-nil, add-zero, arith, ◌&&◌, not, is_some, IsTrue, if◌then◌else◌, ◌≢◌, refl, ◌==◌}, specs.List.All, specs.Option.option_to_list, specs.declared.option.Option.Option, specs.declared.result.Result.Result, proofs.lemmas.List.map-append, proofs.lemmas.List.Elements.{filter-append, All-tail, All-from_recursion, recursion_from_All}, proofs.lemmas.Bool.ne_eqb}
 use Rattle.tally_base.{specs.declared.event.Event.Event, specs.declared.fault.Fault.Fault, specs.declared.fault.Fault.TheVariants.{BackwardTime, WriteFault}, specs.declared.header.Mode.Mode, specs.Events.{is_ordered, stops_late}, specs.FaultCounts.FailsOnce}
-use Rattle.ptu_definitions.{specs.Kept.{Marked, floor_of}, specs.Settled.{is_overtaken, ordered, settles, put_in, not_marked}, specs.Streams.{Reading, events_in}, specs.Times.{event_after, events}, proofs.DeliveredLaws.not_marked-append, proofs.SettledLemmas.length-put_in, proofs.SettlingLemmas.each-put_in, proofs.StreamLemmas.{events-push, events_in-push, fresh}}
+use Rattle.ptu_definitions.{specs.Kept.{Marked, floor_of}, specs.Settled.{is_overtaken, ordered, settles, put_in, not_marked}, specs.Streams.{StreamSettings, events_in}, specs.Times.{event_after, events}, proofs.DeliveredLaws.not_marked-append, proofs.SettledLemmas.length-put_in, proofs.SettlingLemmas.each-put_in, proofs.StreamLemmas.{events-push, events_in-push, fresh}}
 use Rattle.abs_time.{specs.Placing.{mode_of as clock_mode, placed_by}, specs.Floors.moved_floor, proofs.Floors.moved_floor-push}
 use Rattle.record_stream.{specs.Keeping.{CanWait, IsKeeping, HasCome, tells, refused_for, Settles}, proofs.Placed.{late_if, nothing}, specs.OneMore.with_marks, specs.Settling.{Tells, Told}, specs.Walking.{how_of, given_by, records_of, summary_in, clock_in, Gave}, specs.declared.taker.EventTaker.Ghosts, specs.declared.walk.Walk.Walk, specs.Feeding.Follows}
 use Rattle.settle.{specs.Standing.{HasSettled, kept_back, next_place, last_time, reach_of, was_popped}, specs.declared.settle.Settle.Settle}
@@ -29,17 +29,17 @@ ordered-off mode e off = ap (λ b. cond b (e ∷ []) []) off
 and_false : (a b : Bool) → b ≡ false → (a && b) ≡ false
 and_false a b is = search (rules, arith)
 
-pub unrefused-off : (how : Reading) (before : List Event) (e : Event) (top : ℕ) → is_ordered how.mode e ≡ false → refused_for how before e top ≡ None
+pub unrefused-off : (how : StreamSettings) (before : List Event) (e : Event) (top : ℕ) → is_ordered how.mode e ≡ false → refused_for how before e top ≡ None
 unrefused-off how before e top off = ap (λ b. late_if how (b && is_overtaken how.policy.settle before e) e top) off ∙ nothing (stops_late how.policy.order)
 
-pub unrefused-early : (how : Reading) (reach : ℕ) (before : List Event) (e : Event) (top : ℕ) (late : Bool)
+pub unrefused-early : (how : StreamSettings) (reach : ℕ) (before : List Event) (e : Event) (top : ℕ) (late : Bool)
     → reach ≡ how.policy.settle → late ≡ is_overtaken reach before e → late ≡ false → refused_for how before e top ≡ None
 unrefused-early how reach before e top late same is early = search (rules, arith, late_if, and_false)
 
-pub unrefused-passed : (how : Reading) (before : List Event) (e : Event) (top : ℕ) → stops_late how.policy.order ≡ false → refused_for how before e top ≡ None
+pub unrefused-passed : (how : StreamSettings) (before : List Event) (e : Event) (top : ℕ) → stops_late how.policy.order ≡ false → refused_for how before e top ≡ None
 unrefused-passed how before e top passes = search (rules, arith)
 
-pub refused-stopped : (how : Reading) (reach : ℕ) (before : List Event) (e : Event) (top : ℕ) (late : Bool) → reach ≡ how.policy.settle → is_ordered how.mode e ≡ true → late ≡ is_overtaken reach before e → late ≡ true → stops_late how.policy.order ≡ true
+pub refused-stopped : (how : StreamSettings) (reach : ℕ) (before : List Event) (e : Event) (top : ℕ) (late : Bool) → reach ≡ how.policy.settle → is_ordered how.mode e ≡ true → late ≡ is_overtaken reach before e → late ≡ true → stops_late how.policy.order ≡ true
     → refused_for how before e top ≡ Some (BackwardTime e.place e.time top)
 refused-stopped how reach before e top late same on is sure stops = search (rules, arith)
 
@@ -95,7 +95,7 @@ count_going (Some y) x w new e some is = let n : suc (length new) ≡ length (pu
 
 module _ {T : Type 0} (g : Ghosts T) where
   -- an event that adds nothing
-  pub told_none : (how : Reading) (walk : Walk) (from settle : Settle) (t : T) (before given all : List Event) (e : Event) (top : ℕ)
+  pub told_none : (how : StreamSettings) (walk : Walk) (from settle : Settle) (t : T) (before given all : List Event) (e : Event) (top : ℕ)
       → refused_for how before e top ≡ None → tells how.policy.settle how.mode before e ≡ []
       → ordered how.mode (e ∷ []) ≡ all → HasSettled settle (before ++ all) (given ++ [])
       → last_time settle ≡ last_time from → Told g how walk walk from settle t t before given e top
@@ -134,7 +134,7 @@ module _ {T : Type 0} (g : Ghosts T) where
       )
 
 -- Behind one word more.
-pub come_event : (how : Reading) (settle settle' : Settle) (ws : List ℕ) (w : ℕ) (e : Event)
+pub come_event : (how : StreamSettings) (settle settle' : Settle) (ws : List ℕ) (w : ℕ) (e : Event)
     → HasCome how settle ws → event_after (map how.meaning ws) (how.meaning w) ≡ e ∷ []
     → fresh how ws (how.meaning w) ≡ tells how.policy.settle how.mode (ordered how.mode (events (map how.meaning ws))) e
     → HasSettled settle' (ordered how.mode (events (map how.meaning ws)) ++ ordered how.mode (e ∷ [])) (not_marked (events_in how ws) ++ not_marked (tells how.policy.settle how.mode (ordered how.mode (events (map how.meaning ws))) e))
@@ -155,7 +155,7 @@ come_event how settle settle' ws w e come is adds settled moves =
       greatest = moves (events_in how ws) come.greatest ∙ ap (floor_of how.mode) (sym delivers);
     }
 
-pub come_none : (how : Reading) (settle : Settle) (ws : List ℕ) (w : ℕ) → HasCome how settle ws
+pub come_none : (how : StreamSettings) (settle : Settle) (ws : List ℕ) (w : ℕ) → HasCome how settle ws
     → event_after (map how.meaning ws) (how.meaning w) ≡ [] → fresh how ws (how.meaning w) ≡ [] → HasCome how settle (ws ++ w ∷ [])
 come_none how settle ws w come is adds = search (rules, arith, events_in-push, append-nil, map-append, events-push)
 
@@ -171,12 +171,12 @@ plain-is k a b zero = rw zero refl
 pub some-is : (k a b : ℕ) → k ≢ 0 → (if k == 0 then a else b) ≡ b
 some-is k a b some = rw (ne_eqb k 0 some) refl
 
-pub plain-settles : (how now : Reading) (settle : Settle) (words : List ℕ) → now ≡ how → how.policy.settle ≡ 0 → Settles now settle words
-plain-settles how now settle words same zero = λ some. absurd (some (ap (λ (h : Reading). h.policy.settle) same ∙ zero))
+pub plain-settles : (how now : StreamSettings) (settle : Settle) (words : List ℕ) → now ≡ how → how.policy.settle ≡ 0 → Settles now settle words
+plain-settles how now settle words same zero = λ some. absurd (some (ap (λ (h : StreamSettings). h.policy.settle) same ∙ zero))
 
 pub none-is : (b : Bool) (x y : ℕ) → x ≡ 0 → y ≡ 0 → (if b then x else y) ≡ 0
 none-is b x y one other = search (rules, arith)
 
 module _ {T : Type 0} (g : Ghosts T) where
-  pub follows_to : (how : Reading) (count top top' : ℕ) (t : T) → Follows g how.mode count top t → top' ≡ top → Follows g how.mode count top' t
+  pub follows_to : (how : StreamSettings) (count top top' : ℕ) (t : T) → Follows g how.mode count top t → top' ≡ top → Follows g how.mode count top' t
   follows_to how count top top' t h same = record { mode_is = h.mode_is; few = h.few; before = omega (arith, h.before, same) }

@@ -1,18 +1,18 @@
 -- One word more.
 use Rattle.std.{proofs.Common.{rules, ◌≡◌, ◌+◌, ◌<◌, ℕ, List, [], ◌∷◌, ◌++◌, Bool, false, None, Some, Ok, Err, OnOk, OnErr, IfOk, IfErr, length, map, refl, sym, ap, subst, ◌∙◌, inr, append-nil, add-zero, arith, length-append, ◌&&◌, ◌≤◌, true, is_err, ◌^◌, max, append_assoc, IsTrue, if◌then◌else◌}, specs.declared.result.Result.Result, proofs.lemmas.List.{map-append, map_push}, proofs.lemmas.List.Elements.All-push}
 use Rattle.tally_base.{specs.declared.event.Event.Event, specs.declared.fault.Fault.Fault, specs.declared.fault.Fault.TheVariants.WriteFault, specs.FaultCounts.{FailsOnce, Rose}, specs.Events.{stops_reserved, is_ordered}, specs.declared.header.Mode.Mode, specs.Tally.floor_after, proofs.Floors.{floor-lower, floor-push, order-push}, specs.declared.event.EventKind.TheVariants.{Photon as PhotonEvent, Marker as MarkerEvent}, specs.declared.header.Mode.TheVariants.{T2, T3}, specs.Limits.{time_limit, wrap_limit}}
-use Rattle.ptu_definitions.{specs.declared.records.Summary.Summary, specs.declared.records.Raw.Raw, specs.Kept.{Marked, ordered_time}, specs.Streams.{Reading, refusal, refusals, record_refusal, given, events_in}, proofs.StreamLemmas.{fresh, events_in-push, clear-push, refused-push, given-clear, given-refused, events-push}, specs.Kinds.{is_reserved, counts_of}, specs.declared.records.KindCounts.KindCounts, specs.declared.records.Raw.TheVariants.{Photon, Marker, Wrap, Reserved}, specs.Times.{event_after, event_of, events, amount}, specs.Layouts.{Fits, KindFits}}
+use Rattle.ptu_definitions.{specs.declared.records.Summary.Summary, specs.declared.records.Raw.Raw, specs.Kept.{Marked, ordered_time}, specs.Streams.{StreamSettings, refusal, refusals, record_refusal, given, events_in}, proofs.StreamLemmas.{fresh, events_in-push, clear-push, refused-push, given-clear, given-refused, events-push}, specs.Kinds.{is_reserved, counts_of}, specs.declared.records.KindCounts.KindCounts, specs.declared.records.Raw.TheVariants.{Photon, Marker, Wrap, Reserved}, specs.Times.{event_after, event_of, events, amount}, specs.Layouts.{Fits, KindFits}}
 use Rattle.abs_time.{specs.declared.clock.Clock.Clock, specs.declared.clock.Placed.Placed, specs.Placing.{HasPlaced, place_answer, mode_of, placed_by, base_of, greatest_by, IsClock, against}, specs.Floors.orders_markers, specs.declared.clock.Placed.TheVariants.{Event as InOrderPlaced, Wrap as WrapPlaced, Reserved as ReservedPlaced}, proofs.ClockLemmas.{IsClock-photon, IsClock-marker, IsClock-wrap, IsClock-reserved, answer-photon, answer-marker, answer-wrap, answer-reserved}, proofs.Floors.moves_by}
 use Rattle.record_stream.{specs.Rows.{IsPlaced, refused_late}, specs.Walking.{how_of, given_by, summary_in, clock_in, Gave, IsBehind, KeepsPlace}, proofs.Placed.{refusal-ok, refusal-err, event_in, marks_of, refused_by, refused-plain, fresh-plain, skipped-refusal, skipped-fresh, IsEarly, comes, refused-early}, specs.declared.taker.EventTaker.Ghosts, specs.Feeding.{IsAt, GaveOn, BrokeOn, Fed}, specs.OneMore.{with_raw, with_marks, so_far, with_block}, specs.declared.walk.Walk.Walk, proofs.Summaries.{so_far-push, so_far-records, so_far-more}, specs.Blocks.{on_time, Adds, BrokeAmong, greatest_with, IsOnTime, IsInLine, PlacesRise, RisesWithin}}
 use Rattle.settle.specs.Passing.{place_after}
 
 -- as many records as words
-pub records-is : (how : Reading) (clock : Clock) (sum : Summary) (count : ℕ) (ws : List ℕ)
+pub records-is : (how : StreamSettings) (clock : Clock) (sum : Summary) (count : ℕ) (ws : List ℕ)
     → IsAt how clock sum count ws → sum.records ≡ length (map how.meaning ws)
 records-is how clock sum count ws h = ap (λ (s : Summary). s.records) h.summary ∙ so_far-records how ws
 
 -- what the clock's answer says of a word
-pub word_refused : (how : Reading) (ws : List ℕ) (w n : ℕ) (raw : Raw) (r : Result Placed Fault) → n ≡ length (map how.meaning ws) → n < how.policy.records → raw ≡ how.meaning w → (is_reserved raw && stops_reserved how.policy.reserved) ≡ false
+pub word_refused : (how : StreamSettings) (ws : List ℕ) (w n : ℕ) (raw : Raw) (r : Result Placed Fault) → n ≡ length (map how.meaning ws) → n < how.policy.records → raw ≡ how.meaning w → (is_reserved raw && stops_reserved how.policy.reserved) ≡ false
     → r ≡ place_answer how.mode (map how.meaning ws) raw → IfErr r (λ fault. refusal how ws w ≡ Some fault)
 word_refused how ws w n raw r is room means go answers = search (rules, arith, refusal-err)
 
@@ -27,7 +27,7 @@ word_placed old new ws w n raw (Ok p) is room means go answers clock sum = recor
 }
 
 -- a word that is refused
-pub refused_fed : {T : Type 0} (g : Ghosts T) (X : Type 0) (how : Reading) (t : T) (ws : List ℕ) (w : ℕ) (fault : Fault)
+pub refused_fed : {T : Type 0} (g : Ghosts T) (X : Type 0) (how : StreamSettings) (t : T) (ws : List ℕ) (w : ℕ) (fault : Fault)
     → refusals how ws ≡ [] → refusal how ws w ≡ Some fault → Fed g {X = X} how t t ws (ws ++ w ∷ []) (Err fault)
 refused_fed g X how t ws w fault clear some = search (rules, arith, refused-push, given-refused, given-clear, append-nil)
 
@@ -108,7 +108,7 @@ length-on_time [] = refl
 length-on_time (e ∷ es) = omega (arith, length-on_time es)
 
 -- where the stream stands behind a block
-pub block_at : {how : Reading} {clock clock' : Clock} {sum sum' : Summary} {count count' n base top : ℕ} {before : List ℕ} {came : List Event} {k : KindCounts}
+pub block_at : {how : StreamSettings} {clock clock' : Clock} {sum sum' : Summary} {count count' n base top : ℕ} {before : List ℕ} {came : List Event} {k : KindCounts}
     (ws : List ℕ) (es : List Event) → IsAt how clock sum count before → Adds how n base top before (before ++ ws) came
     → events_in how (before ++ ws) ≡ events_in how before ++ on_time es
     → mode_of clock' ≡ how.mode → placed_by clock' ≡ n → base_of clock' ≡ base → greatest_by clock' ≡ top
@@ -127,7 +127,7 @@ pub floors_below : (mode : Mode) (low floor top : ℕ) (es : List Event) → low
     → floor_after (orders_markers mode) floor es ≡ top → floor_after (orders_markers mode) low es ≤ top
 floors_below mode low floor top es below is = omega (arith, floor-lower (orders_markers mode) low floor es below, is)
 
-module _ {how : Reading} {n base top : ℕ} {before now : List ℕ} {came : List Event} (es : List Event) (clear : refusals how before ≡ [])
+module _ {how : StreamSettings} {n base top : ℕ} {before now : List ℕ} {came : List Event} (es : List Event) (clear : refusals how before ≡ [])
     (a : Adds how n base top before now came) (delivers : events_in how now ≡ events_in how before ++ on_time es) where
   given-block : given how now ≡ given how before ++ on_time es
   given-block = given-clear how now a.clear ∙ delivers ∙ ap (λ l. l ++ on_time es) (sym (given-clear how before clear))
@@ -171,7 +171,7 @@ clock-push mode n base top records Reserved clock on = rw add-zero (IsClock-rese
 pub on_time-push : (es more : List Event) (l : Marked) → (l ++ on_time es) ++ on_time more ≡ l ++ on_time (es ++ more)
 on_time-push es more l = append_assoc l (on_time es) (on_time more) ∙ ap (λ m. l ++ m) (sym (map-append (λ (e : Event). (e, false)) es more))
 
-module _ (how : Reading) (n base top : ℕ) (before ws : List ℕ) (w : ℕ) (es : List Event)
+module _ (how : StreamSettings) (n base top : ℕ) (before ws : List ℕ) (w : ℕ) (es : List Event)
     (a : Adds how n base top before ws es) (room : n < how.policy.records) where
   adds-placed : (raw : Raw) (p : Placed) → raw ≡ how.meaning w → (is_reserved raw && stops_reserved how.policy.reserved) ≡ false
       → Ok p ≡ place_answer how.mode (map how.meaning ws) raw → IsEarly p → event_in p ≡ event_of (n + 1) base raw

@@ -1,7 +1,7 @@
 -- The summary grows: by a record and its events, by a block, and by what is delivered at the end.
 use Rattle.std.{proofs.Common.{◌≡◌, ◌+◌, ◌-◌, ◌<◌, ℕ, suc, List, [], ◌∷◌, ◌++◌, Bool, true, false, Some, None, cond, length, map, refl, sym, ap, ◌∙◌, arith, length-append, add-zero, zero-add, count_by, if◌then◌else◌}, specs.declared.option.Option.Option, proofs.lemmas.List.map-append, proofs.lemmas.List.Sums.{sum_by-append, sum_by_push}}
 use Rattle.tally_base.{specs.declared.event.Event.Event, specs.Columns.rows, proofs.BlockRows.{rows-first, rows-last}}
-use Rattle.ptu_definitions.{specs.declared.records.KindCounts.KindCounts, specs.declared.records.Raw.Raw, specs.declared.records.Raw.TheVariants.{Photon, Marker, Wrap, Reserved}, specs.declared.records.Summary.Summary, specs.Kinds.{counts_of, is_photon, is_marker, is_wrap, is_reserved}, specs.Kept.Marked, specs.Prefixes.{first, last_after}, specs.Settled.{delivered, delivered_last, kept_by, late_by, not_marked, those_marked}, specs.Streams.{Reading, events_in, last_in, summary, time_of}, specs.Times.events, proofs.DeliveredLaws.{delivered-kept, delivered-late, delivered_last-late}, proofs.StreamLemmas.{events_in-push, fresh}}
+use Rattle.ptu_definitions.{specs.declared.records.KindCounts.KindCounts, specs.declared.records.Raw.Raw, specs.declared.records.Raw.TheVariants.{Photon, Marker, Wrap, Reserved}, specs.declared.records.Summary.Summary, specs.Kinds.{counts_of, is_photon, is_marker, is_wrap, is_reserved}, specs.Kept.Marked, specs.Prefixes.{first, last_after}, specs.Settled.{delivered, delivered_last, kept_by, late_by, not_marked, those_marked}, specs.Streams.{StreamSettings, events_in, last_in, summary, time_of}, specs.Times.events, proofs.DeliveredLaws.{delivered-kept, delivered-late, delivered_last-late}, proofs.StreamLemmas.{events_in-push, fresh}}
 use Rattle.record_stream.{specs.OneMore.{with_raw, with_event, with_marks, with_block, first_with, last_with, or_time, eventless, so_far, time_if}, specs.Blocks.on_time}
 
 pub with_marks-append : (s : Summary) (a b : Marked) → with_marks s (a ++ b) ≡ with_marks (with_marks s a) b
@@ -17,7 +17,7 @@ pub marks-records : (s : Summary) (l : Marked) → (with_marks s l).records ≡ 
 marks-records s [] = refl
 marks-records s (x ∷ l) = marks-records (with_event s x.0 x.1) l ∙ event-records s x.0 x.1
 
-pub so_far-records : (how : Reading) (words : List ℕ) → (so_far how words).records ≡ length (map how.meaning words)
+pub so_far-records : (how : StreamSettings) (words : List ℕ) → (so_far how words).records ≡ length (map how.meaning words)
 unfolding so_far
 so_far-records how words = marks-records (eventless (map how.meaning words)) (events_in how words)
 
@@ -46,7 +46,7 @@ eventless-push records (Wrap amount) = simp (length-append, count_by-push, add-z
 eventless-push records Reserved = simp (length-append, count_by-push, add-zero)
 
 -- One word more.
-pub so_far-push : (how : Reading) (ws : List ℕ) (w : ℕ)
+pub so_far-push : (how : StreamSettings) (ws : List ℕ) (w : ℕ)
     → so_far how (ws ++ w ∷ []) ≡ with_marks (with_raw (so_far how ws) (how.meaning w)) (fresh how ws (how.meaning w))
 unfolding so_far
 so_far-push how ws w =
@@ -86,7 +86,7 @@ on_time-marks : (s : Summary) (es : List Event) → with_marks s (on_time es) �
 on_time-marks s [] = refl
 on_time-marks s (e ∷ es) = on_time-marks (with_event s e false) es ∙ rw (first-after s.first e.time es) refl
 
-pub so_far-more : (how : Reading) (words more : List ℕ) (es : List Event) → events_in how (words ++ more) ≡ events_in how words ++ on_time es
+pub so_far-more : (how : StreamSettings) (words more : List ℕ) (es : List Event) → events_in how (words ++ more) ≡ events_in how words ++ on_time es
     → so_far how (words ++ more) ≡ with_block (so_far how words) (counts_of (map how.meaning more)) es
 unfolding so_far
 so_far-more how words more es is =
@@ -149,7 +149,7 @@ with_marks-is s ((e, true) ∷ l) =
     with_marks-is (with_event s e true) l ∙ (let n : (s.late + 1) + length (those_marked l) ≡ s.late + suc (length (those_marked l)) = omega arith in rw n refl)
 with_marks-is s ((e, false) ∷ l) = with_marks-is (with_event s e false) l ∙ rw (one_more s.first e (not_marked l)) refl
 
-pub summary-end : (how : Reading) (words : List ℕ) → with_marks (so_far how words) (last_in how words) ≡ summary how words
+pub summary-end : (how : StreamSettings) (words : List ℕ) → with_marks (so_far how words) (last_in how words) ≡ summary how words
 unfolding first_time so_far summary
 summary-end how words =
     let k : ℕ = how.policy.settle in

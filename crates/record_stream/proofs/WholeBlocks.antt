@@ -1,9 +1,9 @@
 -- What is gathered of a whole block.
 use Rattle.std.{proofs.Common.{◌≡◌, ◌+◌, ◌*◌, ◌^◌, ◌%◌, ◌<◌, ◌≤◌, ◌++◌, ◌&&◌, [], ◌∷◌, ℕ, zero, suc, Bool, true, false, List, length, map, take, get_or, cond, nat_le, nat_lt, refl, sym, ap, subst, ◌∙◌, append-nil, arith, slice_index, ⊎_elim}, specs.List.{filter, range_with_len}, specs.Prelude.{if◌then◌else◌}, specs.Int.{from_le_bytes, w32}, proofs.lemmas.Grind.common_steps, proofs.lemmas.Bool.{cases_Bool, le-ltb, le-leb, ltb-true, ltb-false}, proofs.lemmas.Bool.Decides.nat_tests, proofs.lemmas.List.{map-append, take_more, take_all, get_or-take}}
 use Rattle.ptu_definitions.{specs.declared.records.Raw.Raw, specs.Times.amount}
-use Rattle.tally_base.{specs.declared.event.Event.Event, specs.declared.header.Mode.Mode, specs.declared.header.Mode.TheVariants.{T2, T3}, specs.Columns.event_by, specs.Limits.wrap_limit}
+use Rattle.tally_base.{specs.declared.event.Event.Event, specs.declared.header.Mode.Mode, specs.declared.header.Mode.TheVariants.{T2, T3}, specs.Codes.{code_in, dtime_in}, specs.Columns.event_by, specs.Limits.wrap_limit}
 use Rattle.abs_time.specs.Placing.{placed_by, base_of}
-use Rattle.record_layout.{specs.declared.row.Row.Row, specs.declared.columns.Columns.Columns, specs.Rowed.raw_of, specs.InColumns.{HasRows, IsRow, row_at, code_in, dtime_in, wraps_at, sum_to, HasSums, time_in, before, Rises}, specs.declared.close.Close.Close, specs.InClose.{stays, staying, HasStayed, code_at, dtime_at, place_at, time_at}, proofs.Chosen.{place-more, place-below, map-places, at-stayed}, proofs.Added.sum-more}
+use Rattle.record_layout.{specs.declared.row.Row.Row, specs.declared.columns.Columns.Columns, specs.Rowed.raw_of, specs.InColumns.{HasRows, IsRow, row_at, wraps_at, sum_to, HasSums, time_in, before, Rises}, specs.declared.close.Close.Close, specs.InClose.{stays, staying, HasStayed, code_at, mark_at, place_at, time_at}, proofs.Chosen.{place-more, place-below, map-places, at-stayed}, proofs.Added.sum-more}
 use Rattle.record_stream.{specs.Whole.{close_event, last_below}, specs.Rows.{ordered_below, gathered_below, event_below, greatest_with_row}, specs.Walking.{how_of, greatest_of, clock_in, Gathers, LetsPass}, specs.declared.walk.Walk.Walk, proofs.Gathering.{gathers-none, small, gathers-row}}
 
 -- the last time of some records whose code is below this one, or else a lower time
@@ -18,8 +18,8 @@ last-more ordered codes times low [] k = refl
 last-more ordered codes times low (x ∷ ks) k = last-more ordered codes times (if nat_lt (codes x) ordered then times x else low) ks k
 
 -- an event adds no wraps
-event-amount : (row : Row) → row.code < 512 → amount (raw_of row) ≡ 0
-event-amount row lt = grind (arith, common_steps, nat_tests, lt)
+event-amount : (unit : ℕ) (row : Row) → row.code < 512 → amount (raw_of unit row) ≡ 0
+event-amount unit row lt = grind (arith, common_steps, nat_tests, lt)
 
 below-few : (only : Bool) (mode : Mode) → gathered_below only mode ≤ 512
 below-few false mode = omega arith
@@ -62,7 +62,7 @@ module _ (walk : Walk) (words : List (List ℕ)) (meaning : ℕ → Raw) (same :
   time = time_in (base_of (clock_in walk)) unit columns
 
   abbrev row : ℕ → Row
-  row = row_at unit columns
+  row = row_at columns
 
   abbrev code : ℕ → ℕ
   code i = code_in (slice_index columns.marks i)
@@ -81,11 +81,11 @@ module _ (walk : Walk) (words : List (List ℕ)) (meaning : ℕ → Raw) (same :
   pub events_at : ℕ → List Event
   events_at n = map event (staying below columns n)
 
-  base-more : (n : ℕ) → base_at (n + 1) ≡ base_at n + (row n).amount
+  base-more : (n : ℕ) → base_at (n + 1) ≡ base_at n + unit * (row n).wraps
   unfolding base_at
   base-more n = ap (λ s. start + unit * s) (sum-more (wraps_at columns) n) ∙ omega arith
 
-  their-row : (n : ℕ) → n < 64 → IsRow meaning (row n) (from_le_bytes w32 (get_or words n []))
+  their-row : (n : ℕ) → n < 64 → IsRow meaning unit (row n) (from_le_bytes w32 (get_or words n []))
   their-row n lt = rows n (omega (arith, whole, lt))
 
   base-few : (n : ℕ) → n ≤ 64 → base_at n ≤ start + n * 2 ^ 50
@@ -93,7 +93,7 @@ module _ (walk : Walk) (words : List (List ℕ)) (meaning : ℕ → Raw) (same :
   base-few zero le = omega arith
   base-few (suc n) le =
       let next : n + 1 ≡ suc n = omega arith in
-      let one = small walk words meaning same passes only n (omega (arith, whole, le)) (row n) (their-row n (omega (arith, le))) in
+      let one = small walk words meaning same passes only n (omega (arith, whole, le)) unit (row n) (their-row n (omega (arith, le))) in
       subst (λ k. base_at k ≤ start + k * 2 ^ 50) next (omega (arith, base-few n (omega (arith, le)), base-more n, one))
 
   -- the time of an event, by the wraps before it
@@ -102,7 +102,7 @@ module _ (walk : Walk) (words : List (List ℕ)) (meaning : ℕ → Raw) (same :
   value n lt few =
       let is = their-row n lt in
       let none : unit * wraps_at columns n ≡ 0 =
-      is.amounts ∙ ap amount (sym is.raw) ∙ event-amount (row n) (omega (arith, few, below-few only (how_of walk).mode)) in
+      is.amounts ∙ ap amount (sym is.raw) ∙ event-amount unit (row n) (omega (arith, few, below-few only (how_of walk).mode)) in
       let all : slice_index columns.sums n ≡ sum_to (wraps_at columns) n + wraps_at columns n = sums n lt ∙ sum-more (wraps_at columns) n in
       ap (λ s. start + unit * s + slice_index columns.times n) all ∙ omega (arith, none)
 
@@ -158,13 +158,13 @@ module _ (walk : Walk) (words : List (List ℕ)) (meaning : ℕ → Raw) (same :
   gathers-upto (suc n) le =
       let next : n + 1 ≡ suc n = omega arith in
       let lt : n < 64 = omega (arith, le) in
-      let one = small walk words meaning same passes only n (omega (arith, whole, le)) (row n) (their-row n lt) in
-      let few : base_at n + (row n).amount ≤ wrap_limit = omega (arith, base-few n (omega (arith, le)), one, passes.base, le) in
-      let base_is : base_at (suc n) ≡ base_at n + (row n).amount = ap base_at (sym next) ∙ base-more n in
+      let one = small walk words meaning same passes only n (omega (arith, whole, le)) unit (row n) (their-row n lt) in
+      let few : base_at n + unit * (row n).wraps ≤ wrap_limit = omega (arith, base-few n (omega (arith, le)), one, passes.base, le) in
+      let base_is : base_at (suc n) ≡ base_at n + unit * (row n).wraps = ap base_at (sym next) ∙ base-more n in
       let events_are : events_at (suc n) ≡ events_at n ++ event_below below (placed_by (clock_in walk) + n + 1) (base_at n) (row n) =
       ap events_at (sym next) ∙ events-more n lt in
       subst (λ k. Gathers walk (take k words) only sure (base_at (suc n)) (top_at (suc n)) (events_at (suc n))) next
-      (gathers-row walk words meaning same passes only n (omega (arith, whole, le)) (row n) (their-row n lt) sure sure (base_at n) (base_at (suc n)) (top_at n) (top_at (suc n)) (events_at n) (events_at (suc n))
+      (gathers-row walk words meaning same passes only n (omega (arith, whole, le)) unit (row n) (their-row n lt) sure sure (base_at n) (base_at (suc n)) (top_at n) (top_at (suc n)) (events_at n) (events_at (suc n))
       few base_is (top-more n (nat_lt (code n) ordered) refl) (unless sure (nat_le (top_at n) (top_at (suc n))) (top-rises n lt)) events_are (gathers-upto n (omega (arith, le))))
 
   their-staying : (n : ℕ) → staying below columns (n + 1) ≡ staying below columns n ++ cond (nat_lt (code n) below) (n ∷ []) []
@@ -229,7 +229,7 @@ module _ (walk : Walk) (words : List (List ℕ)) (meaning : ℕ → Raw) (same :
 
     event-same : (j : ℕ) → j < len → close_event (placed_by (clock_in walk) + 1) start unit close j ≡ event (at j)
     event-same j lt =
-        same_event ((placed_by (clock_in walk) + 1 + place_at close j) % 2 ^ 64) (placed_by (clock_in walk) + at j + 1) (code_at close j) (code (at j)) (dtime_at close j) (dtime_in (slice_index columns.marks (at j))) (time_at start unit close j % 2 ^ 64) (time (at j))
+        same_event ((placed_by (clock_in walk) + 1 + place_at close j) % 2 ^ 64) (placed_by (clock_in walk) + at j + 1) (code_at close j) (code (at j)) (dtime_in (mark_at close j)) (dtime_in (slice_index columns.marks (at j))) (time_at start unit close j % 2 ^ 64) (time (at j))
         (place-same j lt) (ap code_in (mark-same j lt)) (ap dtime_in (mark-same j lt)) (time-same j lt)
 
     pub all-events : map (close_event (placed_by (clock_in walk) + 1) start unit close) (range_with_len 0 len) ≡ events_at n

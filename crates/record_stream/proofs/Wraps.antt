@@ -1,7 +1,7 @@
 -- How much one wrap adds at most.
 use Rattle.std.{proofs.Common.{rules, ◌<◌, ◌^◌, ℕ, true, false, arith, ◌≡◌, ◌+◌, List, [], ◌∷◌, ◌++◌, Some, length, take, drop, get_or, take-append-drop, refl, sym, ap, ◌∙◌, append_assoc}, proofs.lemmas.Grind.common_steps, proofs.lemmas.Bool.Decides.nat_tests, specs.Int.{from_le_bytes, w32}, proofs.lemmas.List.{take_more, map-append}}
 use Rattle.tally_base.{specs.declared.header.RecordType.RecordType, specs.declared.fault.Fault.Fault}
-use Rattle.ptu_definitions.{specs.Layouts.{pico_t2, pico_t3, hydra_t2, hydra_t3, meaning_of}, specs.Times.amount, specs.Words.{words_of, rest_of, numbers}, proofs.WordsLemmas.{words_of-append, rest_of-append}, specs.Streams.{Reading, record_refusal}, proofs.StreamLemmas.refused-more}
+use Rattle.ptu_definitions.{specs.Layouts.{pico_t2, pico_t3, hydra_t2, hydra_t3, meaning_of}, specs.Times.amount, specs.Words.{words_of, rest_of, numbers}, proofs.WordsLemmas.{words_of-append, rest_of-append}, specs.Streams.{StreamSettings, record_refusal}, proofs.StreamLemmas.refused-more}
 
 pico_t2-small : (word : ℕ) → amount (pico_t2 word) < 2 ^ 50
 unfolding pico_t2
@@ -69,6 +69,6 @@ module _ (carried bytes piece : List ℕ) (is : carried ≡ rest_of bytes) where
   cut-rest rest cut = cut ∙ ap (λ l. rest_of (l ++ piece)) is ∙ sym (rest_of-append bytes piece)
 
 -- bytes of a refused stream, and more
-pub refused-bytes : (how : Reading) (bytes piece : List ℕ) (fault : Fault)
+pub refused-bytes : (how : StreamSettings) (bytes piece : List ℕ) (fault : Fault)
     → record_refusal how (words_of bytes) ≡ Some fault → record_refusal how (words_of (bytes ++ piece)) ≡ Some fault
 refused-bytes how bytes piece fault h = rw (words_of-append bytes piece) (refused-more how (words_of bytes) _ fault h)

@@ -1,7 +1,7 @@
 -- What words add of which none is refused and no event is late.
 use Rattle.std.specs.Prelude.{ℕ, ◌≡◌, ◌<◌, ◌≤◌, IsTrue, true, false, Bool, List, [], ◌∷◌, ◌++◌, All, length, map, if◌then◌else◌}
 use Rattle.tally_base.{specs.declared.event.Event.Event, specs.declared.header.Mode.Mode, specs.Events.is_ordered, specs.Tally.{floor_after, InOrder}}
-use Rattle.ptu_definitions.{specs.Kept.Marked, specs.Layouts.KindFits, specs.Settled.ordered, specs.Streams.{Reading, refusals, events_in}, specs.Times.events}
+use Rattle.ptu_definitions.{specs.Kept.Marked, specs.Layouts.KindFits, specs.Settled.ordered, specs.Streams.{StreamSettings, refusals, events_in}, specs.Times.events}
 use Rattle.abs_time.{specs.Placing.IsClock, specs.Floors.orders_markers}
 use Rattle.settle.specs.Passing.{place_after}
 
@@ -30,7 +30,7 @@ IsOnTime mode greatest [] = Unit {0}
 IsOnTime mode greatest (e ∷ es) = IsTrue (is_ordered mode e) → greatest ≤ e.time
 
 -- Up to `now` no word is refused, and behind the first ones come these events, none of them late.
-pub record Adds (how : Reading) (count sum greatest : ℕ) (words now : List ℕ) (es : List Event) : Type 0 where
+pub record Adds (how : StreamSettings) (count sum greatest : ℕ) (words now : List ℕ) (es : List Event) : Type 0 where
   pub clear : refusals how now ≡ []
   pub clock : IsClock how.mode count sum greatest (map how.meaning now)
   pub came : events (map how.meaning now) ≡ events (map how.meaning words) ++ es

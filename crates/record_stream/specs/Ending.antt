@@ -1,7 +1,7 @@
 -- What the end of a stream does.
 use Rattle.std.{specs.Prelude.{ℕ, ◌≡◌, ◌+◌, ◌<◌, ◌≤◌, false, List, [], ◌++◌, length, Result, Ok, Err, ◌⊎◌}, specs.List.All}
 use Rattle.tally_base.{specs.declared.event.Event.Event, specs.declared.fault.Fault.Fault, specs.declared.fault.Fault.TheVariants.WriteFault, specs.FaultCounts.Rose}
-use Rattle.ptu_definitions.{specs.declared.records.Summary.Summary, specs.Kept.Marked, specs.Settled.marked_as, specs.Streams.{Reading, last_in, streamed}, specs.Words.{words_of, rest_of}}
+use Rattle.ptu_definitions.{specs.declared.records.Summary.Summary, specs.Kept.Marked, specs.Settled.marked_as, specs.Streams.{StreamSettings, last_in, streamed}, specs.Words.{words_of, rest_of}}
 use Rattle.record_stream.{specs.Keeping.CanWait, specs.OneMore.with_marks, specs.Walking.{how_of, given_by, records_of, summary_in}, specs.declared.taker.EventTaker.Ghosts, specs.declared.walk.Walk.Walk}
 
 module _ {T : Type 0} (g : Ghosts T) where
@@ -30,14 +30,14 @@ module _ {T : Type 0} (g : Ghosts T) where
     pub rose : Rose (g.faults old) (g.faults new)
 
   -- The bytes have this summary, and the taker got what was kept back.
-  pub record GaveRest (how : Reading) (old new : T) (bytes : List ℕ) (summary : Summary) : Type 0 where
+  pub record GaveRest (how : StreamSettings) (old new : T) (bytes : List ℕ) (summary : Summary) : Type 0 where
     pub streams : streamed how bytes ≡ Ok summary
     pub follows : (start : T) (l : Marked) → g.got start old l → g.got start new (l ++ last_in how (words_of bytes))
     pub kept : g.faults new ≡ g.faults old
 
   -- What the end of a stream of these bytes did, by its answer: a refusal leaves the taker as it was, and a write fails
   -- only where no byte is left over.
-  abbrev pub Ended : Reading → T → T → List ℕ → Result Summary Fault → Type 0
+  abbrev pub Ended : StreamSettings → T → T → List ℕ → Result Summary Fault → Type 0
   Ended how old new bytes (Ok summary) = GaveRest how old new bytes summary
   Ended how old new bytes (Err fault) =
       ((streamed how bytes ≡ Err fault) × (new ≡ old)) ⊎ ((fault ≡ WriteFault) × BrokeFirst old new (last_in how (words_of bytes)) × (rest_of bytes ≡ []))

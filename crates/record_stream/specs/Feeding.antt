@@ -1,12 +1,12 @@
 -- What a taker is given by words that come behind others.
 use Rattle.std.specs.Prelude.{ℕ, ◌≡◌, ◌<◌, ◌≤◌, List, [], ◌++◌, length, map, None, Some, Result, Ok, Err, OnOk, ◌⊎◌}
-use Rattle.ptu_definitions.{specs.declared.records.Summary.Summary, specs.Kept.Marked, specs.Words.words_of, specs.Streams.{Reading, refusals, record_refusal, given, events_in}}
+use Rattle.ptu_definitions.{specs.declared.records.Summary.Summary, specs.Kept.Marked, specs.Words.words_of, specs.Streams.{StreamSettings, refusals, record_refusal, given, events_in}}
 use Rattle.tally_base.{specs.declared.fault.Fault.Fault, specs.declared.fault.Fault.TheVariants.WriteFault, specs.declared.header.Mode.Mode, specs.FaultCounts.Rose}
 use Rattle.abs_time.{specs.declared.clock.Clock.Clock, specs.Placing.HasPlaced}
 use Rattle.record_stream.{specs.OneMore.so_far, specs.declared.taker.EventTaker.Ghosts}
 
 -- Where a stream stands that took these words and refused none.
-pub record IsAt (how : Reading) (clock : Clock) (sum : Summary) (count : ℕ) (words : List ℕ) : Type 0 where
+pub record IsAt (how : StreamSettings) (clock : Clock) (sum : Summary) (count : ℕ) (words : List ℕ) : Type 0 where
   pub clear : refusals how words ≡ []
   pub placed : HasPlaced clock (map how.meaning words)
   pub summary : sum ≡ so_far how words
@@ -20,14 +20,14 @@ module _ {T : Type 0} (g : Ghosts T) where
     pub before : g.floor taker ≤ greatest
 
   -- It got what the words call for that came behind others.
-  pub record GaveOn (how : Reading) (old new : T) (words now : List ℕ) : Type 0 where
+  pub record GaveOn (how : StreamSettings) (old new : T) (words now : List ℕ) : Type 0 where
     pub more : Marked
     pub adds : given how now ≡ given how words ++ more
     pub follows : (start : T) (l : Marked) → g.got start old l → g.got start new (l ++ more)
     pub kept : g.faults new ≡ g.faults old
 
   -- It broke at one of these.
-  pub record BrokeOn (how : Reading) (old new : T) (words now : List ℕ) : Type 0 where
+  pub record BrokeOn (how : StreamSettings) (old new : T) (words now : List ℕ) : Type 0 where
     pub front : Marked
     pub back : Marked
     pub some : 0 < length front
@@ -36,16 +36,16 @@ module _ {T : Type 0} (g : Ghosts T) where
     pub rose : Rose (g.faults old) (g.faults new)
 
   -- What feeding words did that came behind others, by its answer.
-  abbrev pub Fed : {X : Type 0} → Reading → T → T → List ℕ → List ℕ → Result X Fault → Type 0
+  abbrev pub Fed : {X : Type 0} → StreamSettings → T → T → List ℕ → List ℕ → Result X Fault → Type 0
   Fed how old new words now (Ok x) = (record_refusal how now ≡ None) × GaveOn how old new words now
   Fed how old new words now (Err fault) =
       ((record_refusal how now ≡ Some fault) × GaveOn how old new words now) ⊎ ((fault ≡ WriteFault) × BrokeOn how old new words now)
 
   -- What taking more words did behind any where it stood, by its answer.
-  pub record Delivers {X : Type 0} (how : Reading) (stood stands : List ℕ → Type 0) (old new : T) (more : List ℕ) (answer : Result X Fault) : Type 0 where
+  pub record Delivers {X : Type 0} (how : StreamSettings) (stood stands : List ℕ → Type 0) (old new : T) (more : List ℕ) (answer : Result X Fault) : Type 0 where
     pub at : (before : List ℕ) → stood before → OnOk answer (stands (before ++ more))
     pub fed : (before : List ℕ) → stood before → Fed how old new before (before ++ more) answer
 
   -- The same of the words of bytes behind which a piece came.
-  abbrev pub FedPiece : {X : Type 0} → Reading → T → T → List ℕ → List ℕ → Result X Fault → Type 0
+  abbrev pub FedPiece : {X : Type 0} → StreamSettings → T → T → List ℕ → List ℕ → Result X Fault → Type 0
   FedPiece how old new bytes piece answer = Fed how old new (words_of bytes) (words_of (bytes ++ piece)) answer

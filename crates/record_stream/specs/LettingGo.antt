@@ -1,7 +1,7 @@
 -- What events in order let go, none of them late.
 use Rattle.std.{specs.Prelude.{ℕ, ◌≡◌, ◌+◌, ◌≤◌, true, false, List, ◌++◌, length, map}, specs.List.{All, AllByRecursion}}
 use Rattle.tally_base.{specs.declared.event.Event.Event, specs.declared.header.Mode.Mode, specs.Events.is_ordered, specs.Tally.InOrder}
-use Rattle.ptu_definitions.{specs.Settled.{delivered, not_marked, ordered}, specs.Streams.{Reading, events_in}, specs.Times.events}
+use Rattle.ptu_definitions.{specs.Settled.{delivered, not_marked, ordered}, specs.Streams.{StreamSettings, events_in}, specs.Times.events}
 use Rattle.abs_time.{specs.Placing.placed_by, specs.Floors.orders_markers}
 use Rattle.record_stream.{specs.Blocks.{on_time, AllFit, IsInLine, PlacesRise}, specs.Keeping.CanWait, specs.Walking.{how_of, greatest_of, clock_in}, specs.declared.walk.Walk.Walk}
 use Rattle.settle.{specs.Standing.{HasSettled, kept_back, next_place, last_time, reach_of, was_popped}, specs.declared.settle.Settle.Settle, specs.Passing.place_after}
@@ -34,6 +34,6 @@ pub record LetsGo (mode : Mode) (low : ℕ) (from settle : Settle) (came went : 
   pub count : length went + length (kept_back settle) ≤ length (kept_back from) + length came
 
 -- Behind the events of these words these came, and with them these are delivered, none of them late.
-pub record IsDelivered (how : Reading) (settle : Settle) (words : List ℕ) (came went : List Event) : Type 0 where
+pub record IsDelivered (how : StreamSettings) (settle : Settle) (words : List ℕ) (came went : List Event) : Type 0 where
   pub settled : HasSettled settle (ordered how.mode (events (map how.meaning words) ++ came)) (not_marked (events_in how words) ++ went)
   pub delivers : delivered how.policy.settle how.mode (events (map how.meaning words) ++ came) ≡ events_in how words ++ on_time went

@@ -1,7 +1,7 @@
 -- A summary with one more record, and with its event.
 use Rattle.std.{specs.Prelude.{ℕ, ◌+◌, Bool, true, false, List, [], ◌∷◌, None, Some, length, map, count_by}, specs.declared.option.Option.Option}
 use Rattle.tally_base.specs.declared.event.Event.{Event}
-use Rattle.ptu_definitions.{specs.declared.records.Summary.Summary, specs.declared.records.KindCounts.KindCounts, specs.declared.records.Raw.Raw, specs.declared.records.Raw.TheVariants.{Photon, Marker, Wrap, Reserved}, specs.Kept.Marked, specs.Kinds.{is_photon, is_marker, is_wrap, is_reserved}, specs.Streams.{Reading, events_in}}
+use Rattle.ptu_definitions.{specs.declared.records.Summary.Summary, specs.declared.records.KindCounts.KindCounts, specs.declared.records.Raw.Raw, specs.declared.records.Raw.TheVariants.{Photon, Marker, Wrap, Reserved}, specs.Kept.Marked, specs.Kinds.{is_photon, is_marker, is_wrap, is_reserved}, specs.Streams.{StreamSettings, events_in}}
 use Rattle.record_stream.specs.declared.count.Sums.{Sums}
 
 abbrev pub with_raw : Summary → Raw → Summary
@@ -60,7 +60,7 @@ eventless records = record {
 }
 
 -- The summary of these words, with the events that are delivered so far.
-unfoldable pub so_far : Reading → List ℕ → Summary
+unfoldable pub so_far : StreamSettings → List ℕ → Summary
 so_far how words = with_marks (eventless (map how.meaning words)) (events_in how words)
 
 -- The summary that sums stand for.

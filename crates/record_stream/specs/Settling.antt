@@ -1,7 +1,7 @@
 -- How far a walk is whose events are put in their places.
 use Rattle.std.specs.Prelude.{ℕ, ◌≡◌, ◌≢◌, ◌+◌, ◌<◌, ◌≤◌, Result, Ok, Err, List, [], ◌∷◌, ◌++◌, length, None, Some, ◌⊎◌}
 use Rattle.tally_base.{specs.declared.event.Event.Event, specs.declared.fault.Fault.Fault, specs.declared.fault.Fault.TheVariants.WriteFault, specs.FaultCounts.Rose}
-use Rattle.ptu_definitions.{specs.Kept.{Marked, floor_of}, specs.Settled.{ordered, not_marked}, specs.Streams.Reading}
+use Rattle.ptu_definitions.{specs.Kept.{Marked, floor_of}, specs.Settled.{ordered, not_marked}, specs.Streams.StreamSettings}
 use Rattle.abs_time.specs.Placing.{placed_by, IsSmall}
 use Rattle.settle.{specs.Standing.{HasSettled, kept_back, next_place, last_time}, specs.declared.settle.Settle.Settle}
 use Rattle.record_stream.{specs.Feeding.Follows, specs.Keeping.{HasCome, IsKeeping, tells, refused_for}, specs.OneMore.with_marks, specs.Walking.{how_of, given_by, records_of, clock_in, summary_in, IsBehind, Stays}, specs.declared.taker.EventTaker.Ghosts, specs.declared.walk.Walk.Walk}
@@ -35,7 +35,7 @@ module _ {T : Type 0} (g : Ghosts T) where
     pub keeps : IsKeeping new settle
 
   -- Behind these events in order one more came, and what it adds was given.
-  pub record Told (how : Reading) (old new : Walk) (from settle : Settle) (taker now : T) (before given : List Event) (e : Event) (latest : ℕ) : Type 0 where
+  pub record Told (how : StreamSettings) (old new : Walk) (from settle : Settle) (taker now : T) (before given : List Event) (e : Event) (latest : ℕ) : Type 0 where
     pub unrefused : refused_for how before e latest ≡ None
     pub settled : HasSettled settle (before ++ ordered how.mode (e ∷ [])) (given ++ not_marked (tells how.policy.settle how.mode before e))
     pub greatest : (l : Marked) → last_time from ≡ floor_of how.mode l → last_time settle ≡ floor_of how.mode (l ++ tells how.policy.settle how.mode before e)
@@ -45,14 +45,14 @@ module _ {T : Type 0} (g : Ghosts T) where
     pub kept : g.faults now ≡ g.faults taker
 
   -- It broke the taker.
-  pub record BrokeAt (how : Reading) (taker now : T) (before : List Event) (e : Event) (latest : ℕ) : Type 0 where
+  pub record BrokeAt (how : StreamSettings) (taker now : T) (before : List Event) (e : Event) (latest : ℕ) : Type 0 where
     pub unrefused : refused_for how before e latest ≡ None
     pub some : 0 < length (tells how.policy.settle how.mode before e)
     pub broken : (start : T) (l : Marked) → g.got start taker l → g.broke start now (l ++ tells how.policy.settle how.mode before e)
     pub rose : Rose (g.faults taker) (g.faults now)
 
   -- It is refused, or it broke the taker.
-  abbrev pub Untold : Reading → T → T → List Event → Event → ℕ → Fault → Type 0
+  abbrev pub Untold : StreamSettings → T → T → List Event → Event → ℕ → Fault → Type 0
   Untold how taker now before e latest fault =
       ((refused_for how before e latest ≡ Some fault) × (now ≡ taker)) ⊎ ((fault ≡ WriteFault) × BrokeAt how taker now before e latest)
 

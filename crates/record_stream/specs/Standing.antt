@@ -1,13 +1,13 @@
 -- What a stream stands for.
 use Rattle.std.{specs.Prelude.{ℕ, ◌≡◌, ◌≢◌, ◌+◌, ◌*◌, ◌≤◌, ◌==◌, List, length, None, Some, if◌then◌else◌}, specs.declared.option.Option.Option}
-use Rattle.ptu_definitions.{specs.declared.records.Summary.Summary, specs.Streams.{Reading, reading, record_refusal, given}, specs.Kept.Marked, specs.Words.{words_of, rest_of}}
+use Rattle.ptu_definitions.{specs.declared.records.Summary.Summary, specs.Streams.{StreamSettings, reading, record_refusal, given}, specs.Kept.Marked, specs.Words.{words_of, rest_of}}
 use Rattle.tally_base.{specs.declared.fault.Fault.Fault, specs.declared.fault.Fault.TheVariants.WriteFault, specs.declared.event.Event.Event}
 use Rattle.record_layout.specs.Counting.{begun_in}
 use Rattle.abs_time.{specs.declared.clock.Clock.Clock, specs.Placing.greatest_by}
 use Rattle.settle.{specs.Standing.{kept_back, last_time}, specs.declared.settle.Settle.Settle}
 use Rattle.record_stream.{specs.Feeding.Follows, specs.Keeping.StandsAt, specs.declared.taker.EventTaker.Ghosts, specs.OneMore.summed, specs.declared.stream.RecordStream.RecordStream}
 
-abbrev pub how_of : RecordStream → Reading
+abbrev pub how_of : RecordStream → StreamSettings
 how_of stream = reading stream.walk.record_type stream.walk.policy
 
 -- what is given of these bytes, as it reads
@@ -54,7 +54,7 @@ abbrev pub CarriesOn : RecordStream → List ℕ → Type 0
 CarriesOn stream bytes = (begun_in stream.carried ≡ rest_of bytes) × IsBehind stream (words_of bytes)
 
 -- After a refusal nothing more is taken: the bytes are any that begin with those that were refused.
-abbrev pub Stands : Reading → Clock → Summary → ℕ → Settle → List ℕ → Option Fault → List ℕ → Type 0
+abbrev pub Stands : StreamSettings → Clock → Summary → ℕ → Settle → List ℕ → Option Fault → List ℕ → Type 0
 Stands how clock sum count settle carried None bytes = (carried ≡ rest_of bytes) × StandsAt how clock sum count settle (words_of bytes)
 Stands how clock sum count settle carried (Some fault) bytes = fault ≢ WriteFault → record_refusal how (words_of bytes) ≡ Some fault
 

@@ -1,11 +1,11 @@
 -- How far a walk is.
 use Rattle.std.specs.Prelude.{ℕ, Bool, true, not, IsTrue, ◌&&◌, ◌≡◌, ◌+◌, ◌^◌, ◌<◌, ◌≤◌, List, [], ◌∷◌, ◌++◌, length, map, count_by}
 use Rattle.tally_base.{specs.declared.event.Event.Event, specs.Columns.{count, sorted}, specs.declared.block.Block.Block, specs.Events.{is_ordered, stops_reserved}, specs.Limits.wrap_limit}
-use Rattle.ptu_definitions.{specs.declared.records.Raw.Raw, specs.declared.records.Summary.Summary, specs.Kept.Marked, specs.Kinds.is_reserved, specs.Streams.{Reading, reading}, specs.Words.numbers}
+use Rattle.ptu_definitions.{specs.declared.records.Raw.Raw, specs.declared.records.Summary.Summary, specs.Kept.Marked, specs.Kinds.is_reserved, specs.Streams.{StreamSettings, reading}, specs.Words.numbers}
 use Rattle.abs_time.{specs.declared.clock.Clock.Clock, specs.Placing.{base_of, greatest_by, placed_by, IsSmall, LeadsOn}, specs.Floors.moved_floor}
 use Rattle.record_stream.{specs.Blocks.{chosen as chosen_of, Adds, IsInLine, RisesWithin}, specs.Feeding.{IsAt, Follows, GaveOn}, specs.declared.taker.EventTaker.Ghosts, specs.OneMore.{with_event, summed}, specs.declared.walk.Walk.Walk}
 
-abbrev pub how_of : Walk → Reading
+abbrev pub how_of : Walk → StreamSettings
 how_of walk = reading walk.record_type walk.policy
 
 -- how many events it has given
@@ -68,7 +68,7 @@ pub record LetsPass (walk : Walk) (meaning : ℕ → Raw) (words : List (List �
   pub reserved : stops_reserved (how_of walk).policy.reserved ≡ true → count_by is_reserved (map meaning (numbers words)) ≡ 0
 
 -- A block with no events, of which no groups are known.
-pub record IsBlank (block : Block) : Type 0 where
+pub record IsBlank {N : ℕ} (block : Block N) : Type 0 where
   pub empty : count block ≡ 0
   pub unsorted : sorted block ≡ 0
 

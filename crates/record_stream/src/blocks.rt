@@ -1,17 +1,17 @@
 // The words of a piece in blocks, without a branch on what each record is.
-ghost use Rattle.std.specs.Prelude.{◌≡◌, ◌+◌, ◌*◌, ◌^◌, ◌<◌, ◌≤◌, ◌++◌, ◌∷◌, ◌&&◌, [], List, ℕ, length, map, count_by, true, false, nat_lt, nat_le, if◌then◌else◌, OnOk, OnErr, IfErr};
-ghost use Rattle.tally_base.{specs.declared.header.Mode.Mode, specs.declared.fault.Fault.TheVariants.WriteFault, specs.FaultCounts.FailsOnce, specs.Events.stops_reserved, specs.Limits.wrap_limit, specs.Columns.{count, sorted, gathered, written}};
+ghost use Rattle.std.specs.Prelude.{◌≡◌, ◌+◌, ◌*◌, ◌%◌, ◌^◌, ◌<◌, ◌≤◌, ◌++◌, ◌∷◌, ◌&&◌, [], List, ℕ, length, map, count_by, true, false, nat_lt, nat_le, if◌then◌else◌, OnOk, OnErr, IfErr};
+ghost use Rattle.tally_base.{specs.declared.header.Mode.Mode, specs.declared.fault.Fault.TheVariants.WriteFault, specs.FaultCounts.FailsOnce, specs.Events.stops_reserved, specs.Limits.{record_limit, wrap_limit}, specs.Columns.{count, sorted, gathered, written}};
 ghost use Rattle.ptu_definitions.{specs.Words.numbers, specs.Kinds.{is_reserved, counts_of}, specs.Kept.Marked, specs.Times.event_of};
 ghost use Rattle.abs_time.specs.Placing.{base_of, placed_by};
-ghost use Rattle.record_layout.{specs.InColumns.HasRows, specs.Rowed.raw_of};
-ghost use Rattle.record_stream.{specs.Blocks.{on_time, BrokeAmong}, specs.Rows.{ordered_below, gathered_below, event_below, GoesBy}, specs.Feeding.Delivers, specs.Walking.{how_of, given_by, greatest_of, records_of, summary_in, clock_in, IsBehind, Gathers, IsBlank, IsReady, LetsPass, WalksOn, Stays}};
+ghost use Rattle.record_layout.{specs.InColumns.HasRows, specs.Sums.IsSplit, specs.InClose.{code_at, time_at}};
+ghost use Rattle.record_stream.{specs.Blocks.{on_time, BrokeAmong}, specs.Rows.{ordered_below, gathered_below, event_below, GoesBy}, specs.Feeding.Delivers, specs.OneMore.{summed, with_block}, specs.Whole.last_below, specs.Walking.{how_of, given_by, greatest_of, records_of, summary_in, clock_in, IsBehind, Gathers, IsBlank, IsReady, LetsPass, WalksOn, Stays}};
 
-use crate::count::{add_block, stops_reserved};
+use crate::count::{Sums, stops_reserved};
 use crate::taker::EventTaker;
 use crate::walk::Walk;
-use crate::whole::gather_whole;
+use ptu_definitions::KindCounts;
 use record_layout::{Close, Columns, RecordLayout, Row};
-use tally_base::{BLOCK_SIZE, Block, Fault, Mode, WRAP_LIMIT};
+use tally_base::{BLOCK_SIZE, Block, Fault, Mode, WRAP_LIMIT, joined};
 
 /// The greatest sum of wraps that those of a block of words can't make greater than 2^62.
 pub(crate) const EARLY_ENOUGH: u64 = WRAP_LIMIT - (1 << 56);
@@ -33,18 +33,25 @@ impl Ahead {
     /// Places a record. Its row is written in any case, and where its code isn't below `below` the next one is
     /// written over it. So no branch tests what the record is.
     #[inline(always)]
-    fn place(&mut self, row: &Row, place: u64, ordered: u16, below: u16, block: &mut Block)
+    fn place<R: RecordLayout>(
+        &mut self,
+        row: &Row,
+        place: u64,
+        ordered: u16,
+        below: u16,
+        block: &mut Block<BLOCK_SIZE>,
+    )
         requires room { self.old.len < BLOCK_SIZE }
         requires behind { count block.old ≤ self.old.len }
-        requires base { self.old.base + row.now.amount ≤ wrap_limit }
-        ensures goes { GoesBy ordered row.now self.old self.new }
+        requires base { self.old.base + R.UNIT * row.now.wraps ≤ wrap_limit }
+        ensures goes { GoesBy ordered R.UNIT row.now self.old self.new }
         ensures events { written block.new self.new.len ≡ written block.old self.old.len
             ++ event_below below place self.old.base row.now }
         ensures count { count block.new ≡ count block.old }
         ensures unsorted { sorted block.new ≡ sorted block.old }
     {
         let time = self.base + row.time as u64;
-        block.write(self.len, place, row.code, row.dtime, time);
+        block.write(self.len, place, joined(row.code, row.dtime), time);
         let greatest = if row.code < ordered {
             time
         } else {
@@ -53,7 +60,7 @@ impl Ahead {
         self.in_order &= self.greatest <= greatest;
         self.greatest = greatest;
         self.len += (row.code < below) as usize;
-        self.base += row.amount;
+        self.base += R::UNIT * row.wraps as u64;
     }
 }
 
@@ -89,7 +96,7 @@ pub(crate) fn gather<R: RecordLayout>(
     columns: &mut Columns,
     close: &mut Close,
     only_ordered: bool,
-    block: &mut Block,
+    block: &mut Block<BLOCK_SIZE>,
 ) -> Ahead
     requires meaning { R.meaning ≡ (how_of walk.now).meaning }
     requires rows { HasRows R.meaning R.UNIT columns.old words.now }
@@ -110,14 +117,73 @@ pub(crate) fn gather<R: RecordLayout>(
     gather_each::<R>(walk, words, columns, only_ordered, block)
 }
 
-/// The same, one record after the other.
+/// The time of the last of the first so many records whose code is below `ordered`, or else this one.
+#[inline(always)]
+fn last_time<R: RecordLayout>(close: &Close, len: usize, ordered: u16, base: u64, low: u64) -> u64
+    requires { len ≤ 64 }
+    ensures { result ≡ last_below ordered low (code_at close.now)
+        (λ i. time_at base R.UNIT close.now i % 2 ^ 64) len }
+{
+    let mut at = len;
+    'back: while at > 0 {
+        at -= 1;
+        if close.code(at) < ordered {
+            return close.time::<R>(base, at);
+        }
+    }
+    low
+}
+
+/// The same as `gather` of a whole block, several records at once. What it writes behind the events has no meaning. It
+/// may also say that an event is late where none is: if the last one is at 2^63 or later, behind a time that is longer
+/// than a wrap, at or behind a marker of T2 out of order, or at a reserved record.
+#[inline(never)]
+fn gather_whole<R: RecordLayout>(
+    walk: &Walk,
+    words: &[[u8; 4]],
+    columns: &mut Columns,
+    close: &mut Close,
+    only_ordered: bool,
+    block: &mut Block<BLOCK_SIZE>,
+) -> Ahead
+    requires meaning { R.meaning ≡ (how_of walk.now).meaning }
+    requires rows { HasRows R.meaning R.UNIT columns.old words.now }
+    requires whole { length words.now ≡ BLOCK_SIZE }
+    requires passes { LetsPass walk.now R.meaning words.now }
+    ensures gathers { Gathers walk.now words.now only_ordered result.in_order result.base
+        result.greatest (written block.new result.len) }
+    ensures blank { IsBlank block.new }
+    ensures kept { (result.len ≤ length words.now) × (HasRows R.meaning R.UNIT columns.new words.now) }
+{
+    block.clear();
+    let base = walk.clock.base();
+    let low = walk.clock.greatest();
+    let ordered = ordered_below(walk.clock.mode());
+    let below = gathered_below(only_ordered, walk.clock.mode());
+    let wraps = columns.add_up();
+    let in_order = columns.rises::<R>(base, low);
+    let len = close.fill(columns, below);
+    let first = walk.clock.placed() + 1;
+    for i in 0..BLOCK_SIZE {
+        let place = first.wrapping_add(close.place(i));
+        block.write(i, place, close.mark(i), close.time::<R>(base, i));
+    }
+    Ahead {
+        base: base + R::UNIT * u64::from(wraps),
+        greatest: last_time::<R>(close, len, ordered, base, low),
+        len,
+        in_order,
+    }
+}
+
+/// The same as `gather`, one record after the other.
 #[inline(never)]
 fn gather_each<R: RecordLayout>(
     walk: &Walk,
     words: &[[u8; 4]],
     columns: &Columns,
     only_ordered: bool,
-    block: &mut Block,
+    block: &mut Block<BLOCK_SIZE>,
 ) -> Ahead
     requires meaning { R.meaning ≡ (how_of walk.now).meaning }
     requires rows { HasRows R.meaning R.UNIT columns.now words.now }
@@ -139,10 +205,42 @@ fn gather_each<R: RecordLayout>(
         in_order: true,
     };
     for i in 0..words.len() {
-        let row = columns.get::<R>(i);
-        ahead.place(&row, placed + i as u64 + 1, ordered, below, block);
+        let row = columns.get(i);
+        ahead.place::<R>(&row, placed + i as u64 + 1, ordered, below, block);
     }
     ahead
+}
+
+/// Counts the records of a block, of which these are the kinds and the block has the events. None is late.
+pub(crate) fn add_block(sums: &mut Sums, counts: &KindCounts, block: &Block<BLOCK_SIZE>)
+    requires few { sums.old.records + counts.now.records ≤ record_limit }
+    requires split { IsSplit counts.now }
+    requires parts { sums.old.photons + sums.old.markers + sums.old.wraps + sums.old.reserved ≡
+        sums.old.records }
+    ensures value { summed sums.new ≡ with_block (summed sums.old) counts.now (gathered block.now) }
+    ensures records { sums.new.records ≡ sums.old.records + counts.now.records }
+    ensures parts { sums.new.photons + sums.new.markers + sums.new.wraps + sums.new.reserved ≡
+        sums.new.records }
+    ensures late { sums.new.late ≡ sums.old.late }
+{
+    sums.records += counts.records;
+    sums.photons += counts.photons;
+    sums.markers += counts.markers;
+    sums.wraps += counts.wraps;
+    sums.reserved += counts.reserved;
+    let len = block.len();
+    if len > 0 {
+        sums.first = first_kept(sums.kept, sums.first, block.time(0));
+        sums.last = block.time(len - 1);
+        sums.kept = true;
+    }
+}
+
+/// The time of the first event that was kept, where one more is kept now.
+fn first_kept(kept: bool, first: u64, time: u64) -> u64
+    ensures { result ≡ (if kept then first else time) }
+{
+    if kept { first } else { time }
 }
 
 /// Takes at most as many words as a block has places, with columns for their records, room for
@@ -153,7 +251,7 @@ fn take_block<R: RecordLayout, S: EventTaker>(
     words: &[[u8; 4]],
     columns: &mut Columns,
     close: &mut Close,
-    block: &mut Block,
+    block: &mut Block<BLOCK_SIZE>,
     taker: &mut S,
 ) -> Result<(), Fault>
     requires few { length words.now ≤ BLOCK_SIZE }

@@ -1,12 +1,11 @@
 // The summary of a stream, one record and one event at a time.
 ghost use Rattle.std.specs.Prelude.{◌≡◌, ◌+◌, ◌<◌, ◌≤◌, ◌&&◌, if◌then◌else◌};
-ghost use Rattle.tally_base.{specs.Events.{stops_late, stops_reserved}, specs.Limits.record_limit, specs.Columns.gathered};
+ghost use Rattle.tally_base.{specs.Events.{stops_late, stops_reserved}, specs.Limits.record_limit};
 ghost use Rattle.ptu_definitions.specs.Kinds.{is_reserved};
-ghost use Rattle.record_layout.specs.Sums.{IsSplit};
-ghost use Rattle.record_stream.specs.OneMore.{with_raw, with_event, with_block, time_if, summed};
+ghost use Rattle.record_stream.specs.OneMore.{with_raw, with_event, time_if, summed};
 
-use ptu_definitions::{KindCounts, Raw, Summary};
-use tally_base::{Block, Event, OnReserved, Order};
+use ptu_definitions::{Raw, Summary};
+use tally_base::{Event, OnReserved, Order};
 
 /// What a stream counted so far: a summary, whose times mean nothing until an event is kept. So the loop
 /// over the words keeps each field in a register.
@@ -109,38 +108,6 @@ pub(crate) fn stops_late(order: Order) -> bool
         Order::Drop => false,
         Order::Stop => true,
     }
-}
-
-/// Counts the records of a block, of which these are the kinds and the block has the events. None is late.
-pub(crate) fn add_block(sums: &mut Sums, counts: &KindCounts, block: &Block)
-    requires few { sums.old.records + counts.now.records ≤ record_limit }
-    requires split { IsSplit counts.now }
-    requires parts { sums.old.photons + sums.old.markers + sums.old.wraps + sums.old.reserved ≡
-        sums.old.records }
-    ensures value { summed sums.new ≡ with_block (summed sums.old) counts.now (gathered block.now) }
-    ensures records { sums.new.records ≡ sums.old.records + counts.now.records }
-    ensures parts { sums.new.photons + sums.new.markers + sums.new.wraps + sums.new.reserved ≡
-        sums.new.records }
-    ensures late { sums.new.late ≡ sums.old.late }
-{
-    sums.records += counts.records;
-    sums.photons += counts.photons;
-    sums.markers += counts.markers;
-    sums.wraps += counts.wraps;
-    sums.reserved += counts.reserved;
-    let len = block.len();
-    if len > 0 {
-        sums.first = first_kept(sums.kept, sums.first, block.time(0));
-        sums.last = block.time(len - 1);
-        sums.kept = true;
-    }
-}
-
-/// The time of the first event that was kept, where one more is kept now.
-fn first_kept(kept: bool, first: u64, time: u64) -> u64
-    ensures { result ≡ (if kept then first else time) }
-{
-    if kept { first } else { time }
 }
 
 /// Whether reserved records are refused.

@@ -1,7 +1,7 @@
 // Laws of streams, each as the contract of a function that does nothing.
 ghost use Rattle.std.specs.Prelude.{◌≡◌, ◌++◌, ℕ, List, length, None, Some, Err};
 ghost use Rattle.tally_base.specs.declared.fault.Fault.{Fault};
-ghost use Rattle.ptu_definitions.{specs.Words.words_of, specs.Kept.floor_of, specs.Headers.Shows, specs.Streams.{Reading, record_refusal, streamed}};
+ghost use Rattle.ptu_definitions.{specs.Words.words_of, specs.Kept.floor_of, specs.Headers.Shows, specs.Streams.{StreamSettings, record_refusal, streamed}};
 ghost use Rattle.record_stream.{specs.declared.stream.RecordStream.RecordStream, specs.Standing.{how_of, given_in, given_by, greatest_of, refused_with, HasStreamed}};
 
 /// The two numbers of a stream that has refused nothing: how many events it has given, and the greatest
@@ -18,10 +18,10 @@ pub fn stream_numbers()
 /// A refusal of records stays, whatever comes behind: that of words, and what their bytes answer. What is
 /// given then is what those before it deliver (`first_refusal` of the definitions), and stays too.
 pub fn a_refusal_stays()
-    ensures words { (how : Reading) (words more : List ℕ) (fault : Fault)
+    ensures words { (how : StreamSettings) (words more : List ℕ) (fault : Fault)
         → record_refusal how words ≡ Some fault
         → record_refusal how (words ++ more) ≡ Some fault }
-    ensures bytes { (how : Reading) (bytes : List ℕ) (fault : Fault)
+    ensures bytes { (how : StreamSettings) (bytes : List ℕ) (fault : Fault)
         → record_refusal how (words_of bytes) ≡ Some fault
         → Shows (streamed how) bytes (Err fault) }
 {}

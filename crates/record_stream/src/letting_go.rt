@@ -11,7 +11,7 @@ use tally_base::{BLOCK_SIZE, Block, Event};
 
 /// Puts an event behind the others, if there is one.
 #[inline(always)]
-fn push_some(block: &mut Block, event: Option<Event>)
+fn push_some(block: &mut Block<BLOCK_SIZE>, event: Option<Event>)
     requires room { length (gathered block.old) < BLOCK_SIZE }
     ensures more { gathered block.new ≡ gathered block.old ++ option_to_list event }
     ensures unsorted { sorted block.new ≡ sorted block.old }
@@ -23,7 +23,7 @@ fn push_some(block: &mut Block, event: Option<Event>)
 
 /// Puts events behind the others.
 #[inline(always)]
-fn push_all(block: &mut Block, events: &[Event])
+fn push_all(block: &mut Block<BLOCK_SIZE>, events: &[Event])
     requires room { length (gathered block.old) + length events.now ≤ BLOCK_SIZE }
     ensures more { gathered block.new ≡ gathered block.old ++ events.now }
     ensures unsorted { sorted block.new ≡ sorted block.old }
@@ -46,7 +46,7 @@ fn stay_all(stay: &mut ArrayVec<Event, 64>, events: &[Event])
 
 /// Puts the events of a block from one on behind the others.
 #[inline(always)]
-fn stay_back(stay: &mut ArrayVec<Event, 64>, block: &Block, from: usize)
+fn stay_back(stay: &mut ArrayVec<Event, 64>, block: &Block<BLOCK_SIZE>, from: usize)
     requires inside { from ≤ count block.now }
     requires room { length stay.old.items + (count block.now - from) ≤ 64 }
     ensures { stay.new.items ≡ stay.old.items ++ drop from (gathered block.now) }
@@ -72,7 +72,12 @@ fn is_full(walk: &Walk, settle: &Settle) -> bool
 
 /// Takes the events of a block, all in order and none late, one by one, and puts those that are let go with
 /// them into another, in place of its own.
-fn push_block(walk: &Walk, block: &Block, settle: &mut Settle, out: &mut Block)
+fn push_block(
+    walk: &Walk,
+    block: &Block<BLOCK_SIZE>,
+    settle: &mut Settle,
+    out: &mut Block<BLOCK_SIZE>,
+)
     requires settles { (how_of walk.now).policy.settle ≢ 0 }
     requires keeps { IsKeeping walk.now settle.old }
     requires comes { ComesNext walk.now (gathered block.now) }
@@ -93,9 +98,9 @@ fn push_block(walk: &Walk, block: &Block, settle: &mut Settle, out: &mut Block)
 /// an array first.
 fn pass_block(
     walk: &Walk,
-    block: &Block,
+    block: &Block<BLOCK_SIZE>,
     settle: &mut Settle,
-    out: &mut Block,
+    out: &mut Block<BLOCK_SIZE>,
     stay: &mut ArrayVec<Event, 64>,
 )
     requires settles { (how_of walk.now).policy.settle ≢ 0 }
@@ -131,9 +136,9 @@ fn pass_block(
 /// another, in place of its own. It has an array for those that stay.
 pub(crate) fn let_go(
     walk: &Walk,
-    block: &Block,
+    block: &Block<BLOCK_SIZE>,
     settle: &mut Settle,
-    out: &mut Block,
+    out: &mut Block<BLOCK_SIZE>,
     stay: &mut ArrayVec<Event, 64>,
 )
     requires settles { (how_of walk.now).policy.settle ≢ 0 }

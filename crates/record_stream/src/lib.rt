@@ -11,7 +11,6 @@ mod settled_blocks;
 mod stream;
 mod taker;
 mod walk;
-mod whole;
 
 pub use ptu_definitions::Summary;
 pub use stream::RecordStream;

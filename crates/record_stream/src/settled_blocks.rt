@@ -6,8 +6,8 @@ ghost use Rattle.abs_time.{specs.Placing.placed_by, specs.Floors.orders_markers}
 ghost use Rattle.record_stream.{specs.Blocks.{on_time, AllFit, PlacesRise}, specs.Feeding.{Follows, Delivers}, specs.Keeping.IsKeeping, specs.LettingGo.{LetsGo, IsDelivered}, specs.Settling.{IsSettledBehind, IsReady, StaysKept}, specs.Walking.{how_of, given_by, greatest_of, records_of, clock_in, summary_in, WalksOn, IsBlank}};
 ghost use Rattle.settle.specs.Standing.{last_time};
 
-use crate::blocks::{EARLY_ENOUGH, gather};
-use crate::count::{add_block, stops_reserved};
+use crate::blocks::{EARLY_ENOUGH, add_block, gather};
+use crate::count::stops_reserved;
 use crate::letting_go::let_go;
 use crate::settled::settle_words;
 use crate::taker::EventTaker;
@@ -25,9 +25,9 @@ struct Room {
     /// Those of them that are events in order.
     close: Close,
     /// Their events in order.
-    block: Block,
+    block: Block<BLOCK_SIZE>,
     /// Those that are let go with them.
-    out: Block,
+    out: Block<BLOCK_SIZE>,
     /// Those that stay.
     stay: ArrayVec<Event, 64>,
 }

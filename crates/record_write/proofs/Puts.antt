@@ -3,7 +3,7 @@ use Rattle.std.{proofs.Common.{◌≡◌, ◌≢◌, ◌+◌, ◌-◌, ◌/◌, 
 use Rattle.tally_base.{specs.declared.event.Event.Event, specs.declared.event.EventKind.TheVariants.Photon, specs.declared.header.Mode.Mode}
 use Rattle.bench_io.{specs.Sinks.{AppendsShort, PassesOn}, proofs.Bytes.{PassesOn-held, PassesOn-trans, AppendsShort-passed, AppendsShort-more, AppendsShort-same, AppendsShort-flushed}}
 use Rattle.ptu_definitions.proofs.PrefixLemmas.{last_after-push}
-use Rattle.short_file.{specs.ShortFiles.bytes_in, proofs.ShortHeaders.bytes_in-append}
+use Rattle.minimal_file.{specs.ShortFiles.bytes_in, proofs.ShortHeaders.bytes_in-append}
 use Rattle.record_write.{specs.Picked.{unit_of, wrap_word, wraps, photon_word, words_behind, time_or_none, last_time}, specs.Writing.{PutsWords, CutsWords}}
 
 more-bytes : (held xs ys : List ℕ) → (held ++ bytes_in xs) ++ bytes_in ys ≡ held ++ bytes_in (xs ++ ys)

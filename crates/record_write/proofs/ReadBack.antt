@@ -1,8 +1,8 @@
 -- Photons are read back from their words.
 use Rattle.std.{proofs.Common.{◌≡◌, ◌∙◌, ◌+◌, ◌*◌, ◌/◌, ◌%◌, ◌^◌, ◌<◌, ◌≤◌, ℕ, Bool, true, false, None, List, [], ◌∷◌, ◌++◌, length, map, refl, ap, arith, nat_lt, nat_le, ◌&&◌, not, if◌then◌else◌, subst, append_assoc, append-nil, rules}, specs.declared.option.Option.Option, specs.List.{AllByRecursion, filter}, proofs.lemmas.List.{length-map, length_push, map_push, map-append}, proofs.lemmas.List.Sums.sum_by-append, proofs.lemmas.List.Elements.recursion_from_All, proofs.lemmas.Bool.Decides.nat_tests}
 use Rattle.tally_base.{specs.declared.event.Event.Event, specs.declared.event.EventKind.TheVariants.Photon as PhotonEvent, specs.declared.event.Policy.Policy, specs.declared.fault.Fault.Fault, specs.declared.header.Mode.Mode, specs.Events.{is_ordered}, specs.Limits.wrap_limit}
-use Rattle.ptu_definitions.{specs.declared.records.Raw.TheVariants.Photon, specs.Kept.{mark, marked, kept, is_late, greatest, ordered_time}, specs.Prefixes.{each_after, listed}, specs.Settled.{Rises, delivered}, specs.Streams.{Reading, late_refusal, refusal, refusals, record_refusal, given}, specs.Times.{amount, base, event_after, events}, proofs.DeliveredLaws.is_late_by-0, proofs.Firsts.given-all, proofs.SettledLemmas.Rises-IsNonDecreasingBy, proofs.StreamLemmas.{later, greatest-push}}
-use Rattle.short_file.{specs.ShortFiles.{Timed, timed}, proofs.ShortHeaders.IsWord}
+use Rattle.ptu_definitions.{specs.declared.records.Raw.TheVariants.Photon, specs.Kept.{mark, marked, kept, is_late, greatest, ordered_time}, specs.Prefixes.{each_after, listed}, specs.Settled.{Rises, delivered}, specs.Streams.{StreamSettings, late_refusal, refusal, refusals, record_refusal, given}, specs.Times.{amount, base, event_after, events}, proofs.DeliveredLaws.is_late_by-0, proofs.Firsts.given-all, proofs.SettledLemmas.Rises-IsNonDecreasingBy, proofs.StreamLemmas.{later, greatest-push}}
+use Rattle.minimal_file.{specs.ShortFiles.{Timed, timed}, proofs.ShortHeaders.IsWord}
 use Rattle.record_write.{specs.Picked.{unit_of, wrap_word, photon_word, picked_words, picked_events, is_too_late, meaning_in, IsPhotonOf, IsPhotonOrWrap, CanBePicked, StaysWithin}, proofs.Meanings.{wrap-meaning, photon-meaning, wrap-small, photon-small}, proofs.Walks.{Walks, IsAt, records_of, walk, at-wrap, at-photon}}
 
 pub rising : (mode : Mode) (photons : List Event) → CanBePicked mode photons → Rises 0 photons
@@ -82,7 +82,7 @@ events-photons mode = over mode (AreEvents mode) (record {
 })
 
 -- No record is refused.
-abbrev how_in : Mode → Policy → Reading
+abbrev how_in : Mode → Policy → StreamSettings
 how_in mode policy = record { mode = mode; meaning = meaning_in mode; policy = policy }
 
 abbrev AreUnrefused : Mode → Policy → List ℕ → List ℕ → List Event → Type 0

@@ -2,7 +2,7 @@
 use Rattle.std.{specs.Prelude.{ℕ, ◌+◌, ◌-◌, ◌*◌, ◌/◌, ◌%◌, ◌^◌, ◌==◌, ◌≡◌, ◌≤◌, ◌||◌, nat_lt, length, Bool, true, false, List, [], ◌∷◌, ◌++◌, None, Some, map, replicate, if◌then◌else◌}, specs.List.All, specs.List.Sorted.IsNonDecreasingBy, specs.declared.option.Option.Option}
 use Rattle.tally_base.{specs.declared.event.Event.Event, specs.declared.event.Policy.Policy, specs.declared.event.EventKind.EventKind, specs.declared.event.EventKind.TheVariants.{Photon, Marker}, specs.declared.header.Mode.Mode, specs.declared.header.Mode.TheVariants.{T2, T3}, specs.Events.is_photon, specs.Limits.wrap_limit}
 use Rattle.ptu_definitions.{specs.declared.records.Raw.Raw, specs.Layouts.{KindFits, meaning_of}, specs.Kinds.{is_wrap, is_photon as is_record_photon}, specs.Prefixes.{each, last}, specs.Streams.{reading, record_refusal, given}, specs.Times.{base, events}}
-use Rattle.short_file.specs.ShortFiles.{short_file, short_type}
+use Rattle.minimal_file.specs.ShortFiles.{minimal_file, short_type}
 
 -- how many ticks one unit of a wrap has
 abbrev pub unit_of : Mode → ℕ
@@ -50,7 +50,7 @@ picked_words mode photons = each (photon_words mode) photons
 
 -- The file of these photons.
 abbrev pub picked_file : Mode → List Event → List ℕ
-picked_file mode photons = short_file mode (picked_words mode photons)
+picked_file mode photons = minimal_file mode (picked_words mode photons)
 
 -- The wraps before a photon of this time add up to more than 2^62 (`wrap_limit`).
 abbrev pub is_too_late : Mode → ℕ → Bool

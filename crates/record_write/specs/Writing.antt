@@ -2,7 +2,7 @@
 use Rattle.std.{specs.Prelude.{ℕ, ◌≡◌, ◌≤◌, ◌⊎◌, Err, List, [], ◌++◌, OnOk, IfErr}, specs.declared.option.Option.Option, specs.declared.result.Result.Result, specs.Io.KnownBytes.{Appends}}
 use Rattle.tally_base.{specs.declared.fault.Fault.Fault, specs.declared.fault.Fault.TheVariants.{PickTime, WriteFault}, specs.FaultCounts.Rose}
 use Rattle.bench_io.specs.Sinks.{AppendsShort, PassesOn}
-use Rattle.short_file.specs.ShortFiles.{bytes_in}
+use Rattle.minimal_file.specs.ShortFiles.{bytes_in}
 
 -- The bytes of the words come behind those that a block held, and what it passed on and what it holds are all of these.
 abbrev pub PutsWords : Option (List ℕ) → Option (List ℕ) → List ℕ → List ℕ → List ℕ → Type 0

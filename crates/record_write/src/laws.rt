@@ -2,7 +2,7 @@
 ghost use Rattle.std.{specs.Prelude.{◌≡◌, List, Ok, map}, specs.List.{All}};
 ghost use Rattle.tally_base.{specs.declared.event.Event.Event, specs.declared.event.Policy.Policy, specs.declared.header.Mode.Mode};
 ghost use Rattle.ptu_definitions.{specs.Headers.header_answer, specs.Kept.kept, specs.Words.words_of};
-ghost use Rattle.short_file.specs.ShortFiles.{bytes_in, short_fields, timed};
+ghost use Rattle.minimal_file.specs.ShortFiles.{bytes_in, short_fields, timed};
 ghost use Rattle.record_write.specs.Picked.{picked_words, picked_file, picked_events, CanBePicked, IsPhotonOrWrap, StaysWithin, TakesAll, GivesAll};
 
 /// Photons that can be written are read back: from their file come their words, each word is one of

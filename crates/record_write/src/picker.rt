@@ -3,12 +3,12 @@ ghost use Rattle.std.{specs.Prelude.{◌≡◌, ◌≤◌, ◌↔◌, ◌++◌, 
 ghost use Rattle.tally_base.{specs.declared.event.Event.Event, specs.declared.fault.Fault.TheVariants.{PickTime, WriteFault}, specs.Events.is_photon, specs.FaultCounts.FailsOnce};
 ghost use Rattle.bench_io.specs.Sinks.{AppendsShort};
 ghost use Rattle.ptu_definitions.specs.Layouts.{KindFits};
-ghost use Rattle.short_file.specs.ShortFiles.{bytes_in, short_header};
+ghost use Rattle.minimal_file.specs.ShortFiles.{bytes_in, short_header};
 ghost use Rattle.record_write.{specs.Picked.is_too_late, specs.Writing.{PutsOrCuts, WritesOrCuts, PickCause}};
 
 use crate::words::{is_too_late, put_photon};
-use bench_io::{Block, Sink, write_all};
-use short_file::short_header;
+use bench_io::{OutBuffer, Sink, write_all};
+use minimal_file::short_header;
 use tally_base::{Event, EventKind, Failed, Fault, Mode};
 
 /// Writes a file of photons: first its header, and then the photons in order of time. A T2 file has the
@@ -71,7 +71,7 @@ impl Picker {
 
     /// Puts the words of a photon into a block.
     #[inline(always)]
-    fn put_words<O: Sink>(&self, e: &Event, block: &mut Block, out: &mut O) -> Result<(), Fault>
+    fn put_words<O: Sink>(&self, e: &Event, block: &mut OutBuffer, out: &mut O) -> Result<(), Fault>
         requires next { IsNext self.now e.now }
         ensures puts { OnWordsOf self.now e.now (λ words. PutsOrCuts (O.written out.old)
             (O.written out.new) block.old block.new words result) }
@@ -101,7 +101,12 @@ impl Picker {
     /// time no less than that of the photon before it. Refuses with `PickTime` one whose wraps would add up to
     /// more than 2^62, and then puts nothing. Where a write fails, a front of the bytes that are held and of
     /// this photon's words was written, and the block holds none.
-    pub fn put<O: Sink>(&mut self, e: &Event, block: &mut Block, out: &mut O) -> Result<(), Fault>
+    pub fn put<O: Sink>(
+        &mut self,
+        e: &Event,
+        block: &mut OutBuffer,
+        out: &mut O,
+    ) -> Result<(), Fault>
         requires next { IsNext self.old e.now }
         ensures picks { OnOk result (Picks self.old self.new e.now) }
         ensures puts { OnWordsOf self.old e.now (λ words. PutsOrCuts (O.written out.old)
@@ -137,7 +142,7 @@ impl Picker {
         ensures cause { PickCause e.now.place (O.faults out.old) (O.faults out.new) result }
         ensures closes { OnErr result (Closes self.old self.new) }
     {
-        let mut block = Block::new();
+        let mut block = OutBuffer::new();
         match self.put_words(e, &mut block, out) {
             Ok(()) => match block.flush(out) {
                 Ok(()) => {

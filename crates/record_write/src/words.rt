@@ -4,7 +4,7 @@ ghost use Rattle.tally_base.{specs.declared.event.EventKind.TheVariants.{Photon}
 ghost use Rattle.ptu_definitions.specs.Layouts.{KindFits};
 ghost use Rattle.record_write.{specs.Picked.{is_too_late, unit_of, wraps, photon_word, words_behind}, specs.Writing.{PutsWords, CutsWords}};
 
-use bench_io::{Block, Sink};
+use bench_io::{OutBuffer, Sink};
 use tally_base::{Failed, Mode, WRAP_LIMIT};
 
 /// A wrap of no unit, to which the units are added.
@@ -33,28 +33,18 @@ pub(crate) fn is_too_late(mode: Mode, time: u64) -> bool
     }
 }
 
-/// The greatest number of units of one wrap.
+/// How many units have begun from one time to another, behind the greatest number of units of one wrap.
 #[inline(always)]
-fn most_of(mode: Mode) -> u64
-    ensures value { result ≡ unit_of mode - 1 }
-    ensures some { 0 < result }
-    ensures small { result < 33554432 }
-{
-    match mode {
-        Mode::T2 => T2_UNIT - 1,
-        Mode::T3 => T3_UNIT - 1,
-    }
-}
-
-/// How many units have begun from one time to another.
-#[inline(always)]
-fn units_between(mode: Mode, before: u64, time: u64) -> u64
+fn units_between(mode: Mode, before: u64, time: u64) -> (u64, u64)
     requires { before ≤ time }
-    ensures { result ≡ time / unit_of mode - before / unit_of mode }
+    ensures most { result.0 ≡ unit_of mode - 1 }
+    ensures some { 0 < result.0 }
+    ensures small { result.0 < 33554432 }
+    ensures units { result.1 ≡ time / unit_of mode - before / unit_of mode }
 {
     match mode {
-        Mode::T2 => time / T2_UNIT - before / T2_UNIT,
-        Mode::T3 => time / T3_UNIT - before / T3_UNIT,
+        Mode::T2 => (T2_UNIT - 1, time / T2_UNIT - before / T2_UNIT),
+        Mode::T3 => (T3_UNIT - 1, time / T3_UNIT - before / T3_UNIT),
     }
 }
 
@@ -78,7 +68,7 @@ fn photon_word(mode: Mode, input: u8, dtime: u16, time: u64) -> u32
 }
 
 #[inline(always)]
-fn put_word<O: Sink>(word: u32, block: &mut Block, out: &mut O) -> Result<(), Failed>
+fn put_word<O: Sink>(word: u32, block: &mut OutBuffer, out: &mut O) -> Result<(), Failed>
     ensures all { OnOk result (PutsWords (O.written out.old) (O.written out.new)
         block.old block.new (word ∷ [])) }
     ensures cut { OnErr result (CutsWords (O.written out.old) (O.written out.new)
@@ -89,7 +79,12 @@ fn put_word<O: Sink>(word: u32, block: &mut Block, out: &mut O) -> Result<(), Fa
 }
 
 /// Puts the same word so many times.
-fn put_copies<O: Sink>(count: u64, word: u32, block: &mut Block, out: &mut O) -> Result<(), Failed>
+fn put_copies<O: Sink>(
+    count: u64,
+    word: u32,
+    block: &mut OutBuffer,
+    out: &mut O,
+) -> Result<(), Failed>
     ensures all { OnOk result (PutsWords (O.written out.old) (O.written out.new)
         block.old block.new (replicate count word)) }
     ensures cut { OnErr result (CutsWords (O.written out.old) (O.written out.new)
@@ -103,7 +98,12 @@ fn put_copies<O: Sink>(count: u64, word: u32, block: &mut Block, out: &mut O) ->
 }
 
 /// Puts the wraps of so many units, each of at most `most` of them.
-fn put_wraps<O: Sink>(most: u64, units: u64, block: &mut Block, out: &mut O) -> Result<(), Failed>
+fn put_wraps<O: Sink>(
+    most: u64,
+    units: u64,
+    block: &mut OutBuffer,
+    out: &mut O,
+) -> Result<(), Failed>
     requires some { 0 < most }
     requires small { most < 33554432 }
     ensures all { OnOk result (PutsWords (O.written out.old) (O.written out.new)
@@ -129,7 +129,7 @@ pub(crate) fn put_photon<O: Sink>(
     input: u8,
     dtime: u16,
     time: u64,
-    block: &mut Block,
+    block: &mut OutBuffer,
     out: &mut O,
 ) -> Result<(), Failed>
     requires fits { KindFits mode (Photon input dtime) }
@@ -140,7 +140,7 @@ pub(crate) fn put_photon<O: Sink>(
         block.old block.new (words_behind mode before (Photon input dtime) time)) }
     ensures cause { FailsOnce (O.faults out.old) (O.faults out.new) result }
 {
-    let units = units_between(mode, before, time);
-    put_wraps(most_of(mode), units, block, out)?;
+    let (most, units) = units_between(mode, before, time);
+    put_wraps(most, units, block, out)?;
     put_word(photon_word(mode, input, dtime, time), block, out)
 }

@@ -3,13 +3,13 @@ use Rattle.std.{proofs.Common.{◌≡◌, ◌≤◌, ◌++◌, ℕ, List, None, 
 use Rattle.tally_base.{specs.declared.fault.Fault.Fault, specs.declared.fault.Fault.TheVariants.{OutOfMemory, WriteFault}, specs.declared.slot.Slot.TheVariants.Data, specs.declared.header.Mode.TheVariants.T2, specs.declared.header.RecordType.TheVariants.HydraHarp2T2, specs.Faults.{is_outside, fault_in}, specs.RecordTypes.mode_of, proofs.Reasons.HasReason-follows, specs.declared.header.Header.Header, specs.FaultCounts.FailsOnce}
 use Rattle.bench_io.{specs.Given.{Given, no_bytes, Consumes, MayFollow}, specs.Inputs.InputState, proofs.Bytes.{Appends-same, Appends-nil, Keeps-from_none}, specs.Sinks.AppendsShort}
 use Rattle.ptu_definitions.{specs.Headers.header_answer, specs.Words.words_of, specs.Streams.{record_refusal, streamed, summary}}
-use Rattle.plan_text.{specs.declared.plan.Plan.Plan, specs.Plan.PlanView, specs.Reading.{plan_view, plan_answer}, specs.Fits.fits, proofs.Called.plan_on_literals}
+use Rattle.plan_text.{specs.declared.plan.Plan.Plan, specs.Plan.PlanView, specs.ReadPlan.{plan_view, plan_answer}, specs.Fits.fits, proofs.Called.plan_on_literals}
 use Rattle.gate_plan.specs.Histories.{policy_of, reading_by, history}
 use Rattle.ptu_made.{specs.Generator.{made_words, photon_limit}, specs.Records.{made_file, made_header}, specs.declared.made.Made.Made, specs.Made.{made_state, made_agrees}, proofs.MadeEvents.{all-made, words-bytes, few-words, unrefused}}
-use Rattle.short_file.{specs.ShortFiles.{short_header, short_file, bytes_in}, proofs.ShortHeaders.short-answer}
+use Rattle.minimal_file.{specs.ShortFiles.{short_header, minimal_file, bytes_in}, proofs.ShortHeaders.short-answer}
 use Rattle.report_work.{specs.Reports.{file_report, report_outcome, reporting, report_of, reports, reports_by, MayWant, CountsBy}, specs.Demo.{demo_text, demo_plan, demo_reading, demo_report}}
 use Rattle.command_work.{specs.Outcomes.{Outcome, written}, specs.Behaviours.{Alone, AtEnd, ForTables}, specs.Endings.{Cuts, EndsWith, HasCauses, WantsBehind, outcome}, specs.Works.{AnswersWork, WorkReason}, proofs.Told.all-taken, specs.Tellings.{WritesPiece, WritesEnd, Opens, unless_declined}, proofs.RestEnds.opens-misfit}
-use Rattle.told_text.proofs.Texts.{WroteText-none}
+use Rattle.streamed_text.proofs.Texts.{WroteText-none}
 use Rattle.tally_engine.{specs.declared.engine.Engine.Engine, specs.Engine.{header_of, engine_sorting, reading_of, refused_by, HasFed, IsFor, SameEngine, IsCounted, OpensAs}}
 use Rattle.plan_parts.{specs.declared.results.Results.Results, specs.Parts.settings_in}
 use Rattle.table_out.{specs.Report.{Table, report, with_events, EachHolds}, proofs.Putting.each_holds_all}
@@ -48,7 +48,7 @@ made-streamed seed count few =
 
 -- the report is that of a run over these files
 pub made-report : (seed count : ℕ) → count ≤ photon_limit → file_report demo_plan (made_file seed count) ≡ Ok (demo_report seed count)
-unfolding made_file short_file demo_report
+unfolding made_file minimal_file demo_report
 made-report seed count few =
     let answer : header_answer (short_header T2 ++ bytes_in (made_words seed count)) ≡ Ok (made_header, bytes_in (made_words seed count)) =
     short-answer T2 (bytes_in (made_words seed count)) in

@@ -1,7 +1,7 @@
 -- What `demo` counts, and its report.
 use Rattle.std.specs.Prelude.{ℕ, List, [], ◌∷◌, codes}
 use Rattle.tally_base.{specs.declared.event.Order.TheVariants.Drop, specs.declared.event.OnReserved.TheVariants.Skip, specs.Settings.PartSettings.{TraceSettings, StartStopSettings, CoincidenceSettings, CorrelationSettings}}
-use Rattle.ptu_definitions.{specs.Words.record_limit, specs.Streams.{Reading, summary}}
+use Rattle.ptu_definitions.{specs.Words.record_limit, specs.Streams.{StreamSettings, summary}}
 use Rattle.plan_text.specs.Plan.{PlanView, parts_of}
 use Rattle.gate_plan.{specs.Shifting.sorting, specs.Histories.{history, reading_by}}
 use Rattle.table_out.specs.Report.{report, with_events}
@@ -30,7 +30,7 @@ demo_plan = record {
 }
 
 -- how the made words are read
-abbrev pub demo_reading : Reading
+abbrev pub demo_reading : StreamSettings
 demo_reading = reading_by demo_plan made_header
 
 -- the report of this plan over the made file of a seed and a number of photons

@@ -2,9 +2,8 @@
 //! `run.rt`, and with `specs/Reports.antt` for what they print.
 #![tactic(auto)]
 
-mod command;
 mod made;
 mod run;
 
-pub use command::Reporting;
 pub use made::{DEMO_PLAN, demo};
+pub use run::Reporting;

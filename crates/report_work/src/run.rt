@@ -1,12 +1,13 @@
-// Counts the records of a file by a plan.
+// The command `run`: the records of a file are counted by a plan.
 ghost use Rattle.std.specs.Prelude.{◌≡◌, ◌+◌, ◌*◌, ◌<◌, ◌≤◌, List, ℕ, length, ◌++◌, None, OnOk};
 ghost use Rattle.tally_base.specs.Faults.{fault_in};
 ghost use Rattle.ptu_definitions.{specs.Words.{record_limit, words_of}, specs.Streams.record_refusal};
 ghost use Rattle.tally_engine.specs.Engine.{HasFed, SameEngine, Finishes, reading_of, refused_by, bytes_fed};
-ghost use Rattle.report_work.specs.Reports.{IsLedger};
+ghost use Rattle.command_work.specs.Behaviours.{AtEnd, ForTables};
+ghost use Rattle.report_work.specs.Reports.{IsLedger, any_plan, reporting};
 
-use bench_io::Sink;
-use command_work::{Job, Reader};
+use bench_io::{Inputs, Sink};
+use command_work::{Job, PlanWork, Reader, read_file};
 use plan_text::Plan;
 use std::alloc::Global;
 use std::marker::Brand;
@@ -48,7 +49,7 @@ pub(crate) struct RunReader<'p> {
 
 impl<'p> Reader for RunReader<'p> {
     ghost use Rattle.std.specs.Prelude.{◌-◌};
-    ghost use Rattle.plan_text.specs.Reading.{plan_view};
+    ghost use Rattle.plan_text.specs.ReadPlan.{plan_view};
     ghost use Rattle.tally_engine.specs.Engine.{header_of};
     ghost use Rattle.report_work.{specs.Reports.{reports, CountsBy}, specs.RunLaws.{reports-law, counts-clear}};
 
@@ -81,7 +82,7 @@ pub(crate) struct RunJob<'p> {
 }
 
 impl<'p> Job for RunJob<'p> {
-    ghost use Rattle.plan_text.specs.Reading.{plan_view};
+    ghost use Rattle.plan_text.specs.ReadPlan.{plan_view};
     ghost use Rattle.command_work.{specs.Behaviours.{AtEnd, ForTables}, specs.Endings.WantsBehind};
     ghost use Rattle.report_work.{specs.Reports.{reporting, reports_by, MayWant}, specs.RunLaws.reporting-suits};
 
@@ -106,4 +107,33 @@ impl<'p> Job for RunJob<'p> {
     }
 
     ghost law = { λ job. reporting-suits (plan_view job.plan.now) };
+}
+
+/// Counts what a plan asks for in a file, and writes the report. Nothing is written before the data
+/// are read to their end.
+#[derive(Clone, Copy)]
+pub struct Reporting;
+
+impl PlanWork for Reporting {
+    ghost lacking = { λ it. any_plan };
+
+    ghost work = { λ it. reporting };
+
+    ghost writing = { λ it. AtEnd };
+
+    ghost memory = { ForTables };
+
+    fn lacks(&self, _plan: &Plan) -> Option<Fault> {
+        None
+    }
+
+    fn read<I: Inputs, O: Sink>(
+        &self,
+        alloc: Global,
+        inputs: &mut I,
+        out: &mut O,
+        plan: &Plan,
+    ) -> Result<(), Fault> {
+        read_file(&RunJob { alloc, plan }, inputs, out)
+    }
 }

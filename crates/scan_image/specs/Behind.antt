@@ -23,7 +23,7 @@ pub record IsBehind (over : HowMany → Type 0) (set : ImageView) (lines : Lines
   pub saw : Saw lines (markers h)
 
 -- Where some counts are behind the events up to one place of a block, others are behind those up to another.
-abbrev pub CountsOn : (HowMany → Type 0) → (HowMany → Type 0) → ImageView → Lines → Block → ℕ → ℕ → Type 0
+abbrev pub CountsOn : {N : ℕ} → (HowMany → Type 0) → (HowMany → Type 0) → ImageView → Lines → Block N → ℕ → ℕ → Type 0
 CountsOn before after set lines block from at = (h : History) → IsBehind before set lines (h ++ rows (item block) from) → IsBehind after set lines (h ++ rows (item block) at)
 
 -- The strip tells where photons are behind the markers that the lines saw.
@@ -40,15 +40,15 @@ abbrev pub CountsMore : (HowMany → Type 0) → (HowMany → Type 0) → ImageV
 CountsMore before after set lines lines' more = (h : History) → IsBehind before set lines h → IsBehind after set lines' (h ++ more)
 
 -- The same up to another place of a block, for all lines that the strip tells the places of.
-abbrev pub CountsOnStrip : (HowMany → Type 0) → (HowMany → Type 0) → ImageView → Strip → Block → ℕ → ℕ → Type 0
+abbrev pub CountsOnStrip : {N : ℕ} → (HowMany → Type 0) → (HowMany → Type 0) → ImageView → Strip → Block N → ℕ → ℕ → Type 0
 CountsOnStrip before after set strip block from at = (lines : Lines) → IsStripOf lines strip → image_of lines ≡ set → CountsOn before after set lines block from at
 
 -- The events of a block from a place in it on come in order, and not before this time.
-abbrev pub ComesFrom : Block → ℕ → ℕ → Type 0
+abbrev pub ComesFrom : {N : ℕ} → Block N → ℕ → ℕ → Type 0
 ComesFrom block from start = IsSorted block × (from ≤ count block) × ((i : ℕ) → from ≤ i → i < count block → start ≤ time_at block i)
 
 -- the place of the next marker from a place on, or the end of the block
-abbrev pub StopsAt : Block → ℕ → ℕ → Type 0
+abbrev pub StopsAt : {N : ℕ} → Block N → ℕ → ℕ → Type 0
 StopsAt block from at = (from ≤ at) × (at ≤ count block) × (at < count block → 256 ≤ code_at block at)
 
 -- The counts are of the size of the image, and have room for so many photons more.
@@ -67,7 +67,7 @@ pub record LinesHaveRoom (set : ImageView) (lines : Lines) (more : ℕ) : Type 0
   pub few : markers_given lines + more ≤ record_limit
 
 -- The lines saw no more markers than the block has events, and begin no later than these come.
-pub record LinesGoOn (old new : Lines) (block : Block) : Type 0 where
+pub record LinesGoOn {N : ℕ} (old new : Lines) (block : Block N) : Type 0 where
   pub of_set : image_of new ≡ image_of old
   pub few : markers_given new ≤ markers_given old + length (gathered block)
   pub begun : line_start new ≤ floor_after true (line_start old) (gathered block)

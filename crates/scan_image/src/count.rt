@@ -6,12 +6,17 @@ ghost use Rattle.scan_image.specs.Behind.{CountsMore, CountsOn, CountsOnStrip, I
 
 use crate::pixels::Pixels;
 use marker_map::{Lines, Strip, Way};
-use tally_base::{BLOCK_SIZE, Block};
+use tally_base::{Block, TABLE_BLOCK};
 
 /// Counts the photons of a block.
 // Not inlined, so that its loops have the registers for themselves.
 #[inline(never)]
-pub fn count_block<P: Pixels>(pixels: &P, lines: &mut Lines, counts: &mut P::Counts, block: &Block)
+pub fn count_block<P: Pixels>(
+    pixels: &P,
+    lines: &mut Lines,
+    counts: &mut P::Counts,
+    block: &Block<TABLE_BLOCK>,
+)
     requires sorted { IsSorted block.now }
     requires room { HasRoom (P.fits pixels.now counts.old) (P.total counts.old)
         (length (gathered block.now)) }
@@ -24,7 +29,7 @@ pub fn count_block<P: Pixels>(pixels: &P, lines: &mut Lines, counts: &mut P::Cou
         (P.total counts.new) (length (gathered block.now)) }
     ensures lines { LinesGoOn lines.old lines.new block.now }
 {
-    let len = block.len().min(BLOCK_SIZE);
+    let len = block.len().min(TABLE_BLOCK);
     let mut from = 0;
     'runs: loop {
         let at = count_run(pixels, lines, counts, block, from);
@@ -43,7 +48,7 @@ fn count_run<P: Pixels>(
     pixels: &P,
     lines: &Lines,
     counts: &mut P::Counts,
-    block: &Block,
+    block: &Block<TABLE_BLOCK>,
     from: usize,
 ) -> usize
     requires places { ComesFrom block.now from (line_start lines.now) }
@@ -70,7 +75,7 @@ fn count_on<P: Pixels>(
     pixels: &P,
     strip: &Strip,
     counts: &mut P::Counts,
-    block: &Block,
+    block: &Block<TABLE_BLOCK>,
     from: usize,
 ) -> usize
     requires places { ComesFrom block.now from (start_of strip.now) }
@@ -86,7 +91,7 @@ fn count_on<P: Pixels>(
     // Copies, so that no field is read again for each photon.
     let own = *pixels;
     let line = *strip;
-    let len = block.len().min(BLOCK_SIZE);
+    let len = block.len().min(TABLE_BLOCK);
     for at in from..len {
         if block.code(at) >= 256 {
             return at;

@@ -8,7 +8,7 @@ use crate::pixels::{PixelCounts, Pixels, cell_of};
 use marker_map::Lines;
 use std::alloc::{AllocError, Global};
 use std::sync::ledger::Ledger;
-use tally_base::{Block, ImageSet, Steps, Tally};
+use tally_base::{Block, ImageSet, Steps, TABLE_BLOCK, Tally};
 
 /// Counts the photons of a group by their places in a scan.
 ///
@@ -108,7 +108,7 @@ impl Tally for Image {
 
     ghost marker_groups = { marker_groups };
 
-    fn events<L: Ledger>(&mut self, block: &Block, _steps: &mut Steps<L>) {
+    fn events<L: Ledger>(&mut self, block: &Block<TABLE_BLOCK>, _steps: &mut Steps<L>) {
         self.taken += block.len() as u64;
         self.floor = block.floor_after(true, self.floor);
         count_block(&self.set, &mut self.lines, &mut self.counts, block);

@@ -5,7 +5,7 @@ ghost use Rattle.list_out.specs.Lines.{line};
 ghost use Rattle.table_out.{specs.Printed.{cell_line, pair_line, row_lines, cell_lines, first_line}, specs.Report.{PutsText, CutsText, printed, part_text}};
 
 use arrayvec::ArrayVec;
-use bench_io::{Block, Sink};
+use bench_io::{OutBuffer, Sink};
 use list_out::{LINE_SIZE, put_count, write_newline, write_number, write_text, write_wide};
 use tally_base::{Failed, Tally, put_decimal, put_text};
 
@@ -85,7 +85,7 @@ pub(crate) fn pair_line<'l>(
 fn put_row<T: Prints, O: Sink>(
     table: &T,
     row: u32,
-    block: &mut Block,
+    block: &mut OutBuffer,
     out: &mut O,
 ) -> Result<(), Failed>
     requires closed { T.closed table.now ≡ true }
@@ -106,7 +106,7 @@ fn put_row<T: Prints, O: Sink>(
 }
 
 /// Puts the lines of the cells, row by row.
-fn put_rows<T: Prints, O: Sink>(table: &T, block: &mut Block, out: &mut O) -> Result<(), Failed>
+fn put_rows<T: Prints, O: Sink>(table: &T, block: &mut OutBuffer, out: &mut O) -> Result<(), Failed>
     requires closed { T.closed table.now ≡ true }
     ensures all { OnOk result (PutsText (T.holds table.now)
         (cell_lines (printed (T.settings table.now)))
@@ -139,7 +139,7 @@ fn first_line<T: Prints>(number: u64, table: &T) -> ArrayVec<u8, 224>
 pub(crate) fn put_table<T: Prints, O: Sink>(
     number: u64,
     table: &T,
-    block: &mut Block,
+    block: &mut OutBuffer,
     out: &mut O,
 ) -> Result<(), Failed>
     requires closed { T.closed table.now ≡ true }

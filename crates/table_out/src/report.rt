@@ -7,7 +7,7 @@ ghost use Rattle.table_out.specs.Report.{Table, EachHolds, printed, same_kind, p
 
 use crate::cells::{Prints, put_table};
 use crate::report_head::report_head;
-use bench_io::{Block, Sink};
+use bench_io::{OutBuffer, Sink};
 use plan_parts::{Part, Results, in_part};
 use tally_base::{Failed, Fault, Tally};
 
@@ -41,7 +41,12 @@ fn number_of(before: &[Part], part: &Part) -> u64
 }
 
 /// Puts the lines of a table.
-fn put_part<O: Sink>(number: u64, part: &Part, block: &mut Block, out: &mut O) -> Result<(), Failed>
+fn put_part<O: Sink>(
+    number: u64,
+    part: &Part,
+    block: &mut OutBuffer,
+    out: &mut O,
+) -> Result<(), Failed>
     requires closed { ⟦<Part as Tally>⟧.closed part.now ≡ true }
     ensures all { OnOk result (PutsText (⟦<Part as Tally>⟧.holds part.now)
         (part_text number (⟦<Part as Tally>⟧.settings part.now))
@@ -55,7 +60,7 @@ fn put_part<O: Sink>(number: u64, part: &Part, block: &mut Block, out: &mut O) -
 }
 
 /// Puts the lines of all tables.
-fn put_parts<O: Sink>(parts: &[Part], block: &mut Block, out: &mut O) -> Result<(), Failed>
+fn put_parts<O: Sink>(parts: &[Part], block: &mut OutBuffer, out: &mut O) -> Result<(), Failed>
     requires closed { AllClosed parts.now }
     ensures all { OnOk result (PutsText (EachHolds parts.now) parts_text
         (O.written out.old) (O.written out.new) block.old block.new) }
@@ -81,7 +86,7 @@ fn put_report<O: Sink>(results: &Results, out: &mut O) -> Result<(), Failed>
         (report_of results.now tables)) }
     ensures cause { FailsOnce (O.faults out.old) (O.faults out.new) result }
 {
-    let mut block = Block::new();
+    let mut block = OutBuffer::new();
     let head = report_head(&results.header, &results.summary);
     block.put(out, head.as_slice())?;
     put_parts(&results.parts, &mut block, out)?;

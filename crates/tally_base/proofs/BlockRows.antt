@@ -1,13 +1,13 @@
 -- One row more.
 use Rattle.std.{proofs.Common.{◌≡◌, ◌∙◌, ℕ, zero, suc, ◌+◌, ◌-◌, ◌^◌, ◌<◌, ◌≤◌, List, [], ◌∷◌, ◌++◌, length, get_or, set, ap, refl, arith, length-append, append_assoc, append-nil, ◌⊎◌, ⊎_elim, rules}, proofs.lemmas.Grind.common_steps, proofs.lemmas.List.get_or-set_same}
-use Rattle.tally_base.{specs.declared.event.Event.Event, specs.declared.event.EventKind.EventKind, specs.Codes.{code_of, dtime_of, kind_of, joined, code_in, dtime_in, IsByte}, specs.Columns.{row, rows, event_at, gathered}, specs.declared.block.Block.Block}
+use Rattle.tally_base.{specs.declared.event.Event.Event, specs.declared.event.EventKind.EventKind, specs.Codes.{code_of, dtime_of, kind_of, joined, code_in, dtime_in, IsByte}, specs.Columns.{row, rows, event_at, event_by, gathered}, specs.declared.block.Block.Block}
 
 pub length-rows : {A : Type 0} (f : ℕ → A) (n : ℕ) → length (rows f n) ≡ n
 length-rows f zero = refl
 length-rows f (suc n) = omega (arith, length-append (rows f n) (f n ∷ []), length-rows f n)
 
 -- a block of no events
-pub gathered-none : (b : Block) → b.len ≡ 0 → gathered b ≡ []
+pub gathered-none : {N : ℕ} (b : Block N) → b.len ≡ 0 → gathered b ≡ []
 gathered-none b none = ap (rows (event_at b)) none
 
 pub same-rows : {A : Type 0} (f g : ℕ → A) (n : ℕ) → ((i : ℕ) → i < n → f i ≡ g i) → rows f n ≡ rows g n
@@ -42,17 +42,17 @@ pub rows-before : (places times marks : List ℕ) (n place time mark : ℕ)
 rows-before places times marks n place time mark = search (rules, arith, same-rows, other)
 
 -- with the row that is written
-pub rows-written : (places times marks : List ℕ) (n place time mark code dtime : ℕ)
-    → n < length places → n < length times → n < length marks → mark ≡ joined code dtime → code < 2 ^ 16
+pub rows-written : (places times marks : List ℕ) (n place time mark : ℕ)
+    → n < length places → n < length times → n < length marks
     → rows (row (set places n place) (set times n time) (set marks n mark)) (n + 1)
-    ≡ rows (row places times marks) n ++ record { place = place; kind = kind_of code dtime; time = time } ∷ []
-rows-written places times marks n place time mark code dtime in1 in2 in3 is few = search (rules, arith, rows-before, here, kind-joined, more_rows)
+    ≡ rows (row places times marks) n ++ event_by place (code_in mark) (dtime_in mark) time ∷ []
+rows-written places times marks n place time mark in1 in2 in3 = search (rules, arith, rows-before, here, more_rows)
 
 pub rows-push : (places times marks : List ℕ) (n place time mark code dtime : ℕ) (e : Event)
     → n < length places → n < length times → n < length marks → mark ≡ joined code dtime → code < 2 ^ 16
     → IsByte e.kind → place ≡ e.place → time ≡ e.time → code ≡ code_of e.kind → dtime ≡ dtime_of e.kind
     → rows (row (set places n place) (set times n time) (set marks n mark)) (n + 1) ≡ rows (row places times marks) n ++ e ∷ []
-rows-push places times marks n place time mark code dtime e in1 in2 in3 is few byte p t c d = search (rules, arith, kind-again, rows-written)
+rows-push places times marks n place time mark code dtime e in1 in2 in3 is few byte p t c d = search (rules, arith, kind-again, kind-joined, rows-written)
 
 -- the rows up to one, and those behind it
 pub rows-split : {A : Type 0} (f : ℕ → A) (i n : ℕ) → i ≤ n → (back : List A) × (rows f n ≡ rows f i ++ back)

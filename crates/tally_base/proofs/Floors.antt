@@ -66,10 +66,10 @@ in_order-prop strict floor (e ∷ es) = let rest = in_order-prop strict (if move
 photon_if : (b : Bool) (input dtime bits : ℕ) → is_photon_kind (if b then Photon input dtime else Marker bits) ≡ b
 photon_if b input dtime bits = search (rules, arith)
 
-pub moves_row : (strict : Bool) (b : Block) (i : ℕ) → moves_floor strict (event_at b i) ≡ (strict || nat_lt (code_at b i) 256)
+pub moves_row : (strict : Bool) {N : ℕ} (b : Block N) (i : ℕ) → moves_floor strict (event_at b i) ≡ (strict || nat_lt (code_at b i) 256)
 moves_row strict b i = ap (λ k. strict || k) (photon_if (nat_lt (code_at b i) 256) (code_at b i) (dtime_at b i) _)
 
-pub back_step : (strict : Bool) (floor : ℕ) (b : Block) (at : ℕ) (m : Bool) → 0 < at → (strict || nat_lt (code_at b (at - 1)) 256) ≡ m
+pub back_step : (strict : Bool) (floor : ℕ) {N : ℕ} (b : Block N) (at : ℕ) (m : Bool) → 0 < at → (strict || nat_lt (code_at b (at - 1)) 256) ≡ m
     → floor_after strict floor (rows (event_at b) at) ≡ (if m then slice_index b.times (at - 1) else floor_after strict floor (rows (event_at b) (at - 1)))
 back_step strict floor b at m some is = search (rules, arith, floor-more, moves_row)
 
@@ -95,7 +95,7 @@ greatest-rows strict h f (suc n) all =
     ∙ sym (floor-push strict floor es (f n).0)
 
 -- the greatest time behind a block
-pub greatest_block : (strict : Bool) (h : History) (b : Block) (floor now : ℕ) → floor ≡ greatest_time strict h → InOrder strict floor (gathered b) → now ≡ floor_after strict floor (gathered b) → now ≡ greatest_time strict (h ++ events_in b)
+pub greatest_block : (strict : Bool) (h : History) {N : ℕ} (b : Block N) (floor now : ℕ) → floor ≡ greatest_time strict h → InOrder strict floor (gathered b) → now ≡ floor_after strict floor (gathered b) → now ≡ greatest_time strict (h ++ events_in b)
 greatest_block strict h b floor now is ordered after = search (rules, arith, greatest-rows)
 
 -- Events in order behind a floor are in order behind a lower one.

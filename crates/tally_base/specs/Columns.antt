@@ -11,33 +11,33 @@ abbrev pub rows : {A : Type 0} → (ℕ → A) → ℕ → List A
 rows f zero = []
 rows f (suc n) = rows f n ++ f n ∷ []
 
-abbrev pub event_at : Block → ℕ → Event
+abbrev pub event_at : {N : ℕ} → Block N → ℕ → Event
 event_at b i = row b.places b.times b.marks i
 
-abbrev pub groups_at : Block → ℕ → ℕ
+abbrev pub groups_at : {N : ℕ} → Block N → ℕ → ℕ
 groups_at b i = slice_index b.groups i
 
-abbrev pub code_at : Block → ℕ → ℕ
+abbrev pub code_at : {N : ℕ} → Block N → ℕ → ℕ
 code_at b i = code_in (slice_index b.marks i)
 
-abbrev pub dtime_at : Block → ℕ → ℕ
+abbrev pub dtime_at : {N : ℕ} → Block N → ℕ → ℕ
 dtime_at b i = dtime_in (slice_index b.marks i)
 
-abbrev pub time_at : Block → ℕ → ℕ
+abbrev pub time_at : {N : ℕ} → Block N → ℕ → ℕ
 time_at b i = slice_index b.times i
 
-abbrev pub item : Block → ℕ → Event × ℕ
+abbrev pub item : {N : ℕ} → Block N → ℕ → Event × ℕ
 item b i = (event_at b i, groups_at b i)
 
-abbrev pub count : Block → ℕ
+abbrev pub count : {N : ℕ} → Block N → ℕ
 count b = b.len
 
 -- how many of its events have their groups
-abbrev pub sorted : Block → ℕ
+abbrev pub sorted : {N : ℕ} → Block N → ℕ
 sorted b = b.sorted
 
 -- each of its events has its groups
-abbrev pub IsSorted : Block → Type 0
+abbrev pub IsSorted : {N : ℕ} → Block N → Type 0
 IsSorted b = b.sorted ≡ b.len
 
 -- the event of a place, a code, a dtime and a time
@@ -45,13 +45,13 @@ abbrev pub event_by : ℕ → ℕ → ℕ → ℕ → Event
 event_by place code dtime time = record { place = place; kind = kind_of code dtime; time = time }
 
 -- the first so many rows, also those behind its end
-abbrev pub written : Block → ℕ → List Event
+abbrev pub written : {N : ℕ} → Block N → ℕ → List Event
 written b n = rows (event_at b) n
 
 -- its events
-abbrev pub gathered : Block → List Event
+abbrev pub gathered : {N : ℕ} → Block N → List Event
 gathered b = rows (event_at b) b.len
 
 -- its events, each with its groups
-abbrev pub events_in : Block → History
+abbrev pub events_in : {N : ℕ} → Block N → History
 events_in b = rows (item b) b.len

@@ -1,5 +1,5 @@
 -- What the gates of a group and the groups of a fold are.
-use Rattle.std.{specs.Prelude.{ℕ, ◌<◌, ◌≤◌, List, [], ◌∷◌, ⊤}, specs.Coded.{Unit-prop, le_prop}}
+use Rattle.std.{specs.Prelude.{ℕ, ◌<◌, ◌≤◌, ◌&&◌, nat_le, nat_lt, if◌then◌else◌, List, [], ◌∷◌, ⊤}, specs.Coded.{Unit-prop, le_prop}}
 
 -- ranges of dtimes, each from its first on and below its second, that rise from low on
 abbrev pub AreGates : ℕ → List (ℕ × ℕ) → Type 0
@@ -20,3 +20,7 @@ AreGroups low (group ∷ groups) = (low < group) × (group ≤ 64) × AreGroups 
 pub AreGroups-prop : (low : ℕ) (groups : List ℕ) → IsProp (AreGroups low groups)
 AreGroups-prop low [] one other = Unit-prop one other
 AreGroups-prop low (group ∷ groups) one other = λ i. (le_prop one.0 other.0 i, le_prop one.1 other.1 i, AreGroups-prop group groups one.2 other.2 i)
+
+-- the side of a gate that a dtime is on: 1 from its first on and below its second, else 0
+abbrev pub side_of : ℕ × ℕ → ℕ → ℕ
+side_of gate dtime = if nat_le gate.0 dtime && nat_lt dtime gate.1 then 1 else 0

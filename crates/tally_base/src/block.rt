@@ -1,57 +1,48 @@
 // Events in columns.
-ghost use Rattle.std.specs.Prelude.{◌≡◌, ◌≤◌, ◌≢◌, ◌+◌, ◌<◌, ◌++◌, ◌∷◌, ◌&&◌, [], length, ℕ, nat_lt, slice_index, if◌then◌else◌};
-ghost use Rattle.tally_base.{specs.Size.block_size, specs.Codes.{code_of, dtime_of, kind_of, joined, code_in, dtime_in, IsByte, InNoGroup}};
+ghost use Rattle.std.specs.Prelude.{◌≡◌, ◌≤◌, ◌≢◌, ◌+◌, ◌<◌, ◌++◌, ◌∷◌, ◌&&◌, [], length, take, drop, min, ℕ, nat_lt, slice_index, slice_index_or, if◌then◌else◌};
+ghost use Rattle.tally_base.{specs.Codes.{code_of, dtime_of, kind_of, joined, code_in, dtime_in, IsByte, InNoGroup}};
 
 use crate::event::{Event, EventKind, is_in};
 
-/// The most events of a block.
+/// The most events of a block that a stream gives at once.
 pub const BLOCK_SIZE: usize = 64;
 
-/// Up to 64 events in columns, each with its groups, so that a table reads only the columns that it needs.
+/// The most events of a block that tables count at once.
+pub const TABLE_BLOCK: usize = 512;
+
+/// Up to `N` events in columns, each with its groups, so that a table reads only the columns that it needs.
 #[derive(Clone, Copy)]
-pub struct Block {
+pub struct Block<const N: usize> {
     len: usize,
-    places: [u64; BLOCK_SIZE],
-    times: [u64; BLOCK_SIZE],
+    places: [u64; N],
+    times: [u64; N],
     // The input of a photon, or 256 and the bits of a marker, and its dtime in the upper half: one column, so
     // that an event takes a store less.
-    marks: [u32; BLOCK_SIZE],
-    groups: [u64; BLOCK_SIZE],
+    marks: [u32; N],
+    groups: [u64; N],
     // How many have their groups.
     sorted: usize,
-    ghost few: { len ≤ block_size },
+    ghost few: { len ≤ N },
     ghost some: { sorted ≤ len },
     ghost markers: { InNoGroup sorted marks groups },
 }
 
-impl Block {
-    ghost use Rattle.tally_base.{specs.Events.{is_photon, is_in}, specs.Columns.{events_in, IsSorted, count, sorted, event_at, groups_at, code_at, dtime_at, time_at, item, gathered, event_by, written}, specs.Tally.floor_after};
+impl<const N: usize> Block<N> {
+    ghost use Rattle.tally_base.{specs.Events.{is_photon, is_in}, specs.Gates.side_of, specs.Columns.{events_in, IsSorted, count, sorted, event_at, groups_at, code_at, dtime_at, time_at, item, gathered, event_by, written}, specs.Tally.floor_after};
 
     /// No events.
-    pub fn new() -> Block
+    pub fn new() -> Block<N>
         ensures empty { gathered result ≡ [] }
         ensures unsorted { sorted result ≡ 0 }
     {
         Block {
             len: 0,
-            places: [0; BLOCK_SIZE],
-            times: [0; BLOCK_SIZE],
-            marks: [0; BLOCK_SIZE],
-            groups: [0; BLOCK_SIZE],
+            places: [0; N],
+            times: [0; N],
+            marks: [0; N],
+            groups: [0; N],
             sorted: 0,
         }
-    }
-
-    /// This event alone, with its groups, or with none where it is a marker.
-    pub fn of_one(e: &Event, groups: u64) -> Block
-        ensures sorted { IsSorted result }
-        ensures event { gathered result ≡ e.now ∷ [] }
-        ensures events { events_in result ≡ (e.now, if is_photon e.now then groups else 0) ∷ [] }
-    {
-        let mut block = Block::new();
-        block.push(e);
-        block.put(0, if e.is_photon() { groups } else { 0 });
-        block
     }
 
     /// How many events there are.
@@ -59,7 +50,7 @@ impl Block {
     pub fn len(&self) -> usize
         ensures value { result ≡ length (gathered self.now) }
         ensures count { result ≡ count self.now }
-        ensures few { result ≤ BLOCK_SIZE }
+        ensures few { result ≤ N }
     {
         self.len
     }
@@ -138,7 +129,7 @@ impl Block {
     pub fn floor_after(&self, strict: bool, floor: u64) -> u64
         ensures { result ≡ floor_after strict floor (gathered self.now) }
     {
-        let mut at = self.len().min(BLOCK_SIZE);
+        let mut at = self.len().min(N);
         'back: while at > 0 {
             at -= 1;
             let moves = strict | (code_in(self.marks[at]) < 256);
@@ -152,25 +143,25 @@ impl Block {
     /// Writes an event to a place, from 0, at or behind the end. Those behind the end are no events of the
     /// block before `keep` takes them in.
     #[inline(always)]
-    pub fn write(&mut self, at: usize, place: u64, code: u16, dtime: u16, time: u64)
+    pub fn write(&mut self, at: usize, place: u64, mark: u32, time: u64)
         requires behind { count self.old ≤ at }
-        requires room { at < BLOCK_SIZE }
+        requires room { at < N }
         ensures same { written self.new at ≡ written self.old at }
         ensures more { written self.new (at + 1)
-            ≡ written self.old at ++ event_by place code dtime time ∷ [] }
+            ≡ written self.old at ++ event_by place (code_in mark) (dtime_in mark) time ∷ [] }
         ensures count { count self.new ≡ count self.old }
         ensures unsorted { sorted self.new ≡ sorted self.old }
     {
         self.places[at] = place;
         self.times[at] = time;
-        self.marks[at] = joined(code, dtime);
+        self.marks[at] = mark;
     }
 
     /// Takes in what was written up to this place.
     #[inline(always)]
     pub fn keep(&mut self, len: usize)
         requires behind { count self.old ≤ len }
-        requires room { len ≤ BLOCK_SIZE }
+        requires room { len ≤ N }
         ensures kept { gathered self.new ≡ written self.old len }
         ensures unsorted { sorted self.new ≡ sorted self.old }
     {
@@ -180,11 +171,11 @@ impl Block {
     /// Puts an event behind the others. There are fewer than 64. Its groups are to be put.
     #[inline(always)]
     pub fn push(&mut self, e: &Event)
-        requires { length (gathered self.old) < BLOCK_SIZE }
+        requires { length (gathered self.old) < N }
         ensures more { gathered self.new ≡ gathered self.old ++ e.now ∷ [] }
         ensures unsorted { sorted self.new ≡ sorted self.old }
     {
-        let at = self.len;
+        let at = self.len();
         self.places[at] = e.place;
         self.times[at] = e.time;
         self.marks[at] = joined(code_of(&e.kind), dtime_of(&e.kind));
@@ -194,18 +185,17 @@ impl Block {
     /// Puts the first so many events of another block behind the others, each column at once. Their groups are
     /// to be put.
     #[inline(always)]
-    pub fn push_front(&mut self, other: &Block, front: usize)
+    pub fn push_front<const M: usize>(&mut self, other: &Block<M>, front: usize)
         requires inside { front ≤ count other.now }
-        requires room { length (gathered self.old) + front ≤ BLOCK_SIZE }
+        requires room { length (gathered self.old) + front ≤ N }
         ensures more { gathered self.new ≡ gathered self.old ++ written other.now front }
         ensures unsorted { sorted self.new ≡ sorted self.old }
     {
         let start = self.len();
-        let end = start + front;
-        self.places[start..end].copy_from_slice(&other.places[..front]);
-        self.times[start..end].copy_from_slice(&other.times[..front]);
-        self.marks[start..end].copy_from_slice(&other.marks[..front]);
-        self.len = end;
+        copy_front(&mut self.places, start, &other.places, front);
+        copy_front(&mut self.times, start, &other.times, front);
+        copy_front(&mut self.marks, start, &other.marks, front);
+        self.len = start + front;
     }
 
     /// Gives the event at a place, from 0, another dtime. That of a marker has no meaning.
@@ -240,7 +230,7 @@ impl Block {
     /// Puts the groups of all events, each at its place. A marker has none. What stands behind the last event
     /// has no meaning.
     #[inline(always)]
-    pub fn put_all(&mut self, groups: &[u64; BLOCK_SIZE])
+    pub fn put_all(&mut self, groups: &[u64; N])
         requires { (i : ℕ) → i < count self.old → 256 ≤ code_at self.old i
             → slice_index groups.now i ≡ 0 }
         ensures same { (i : ℕ) → event_at self.new i ≡ event_at self.old i }
@@ -249,6 +239,49 @@ impl Block {
         ensures sorted { sorted self.new ≡ count self.old }
     {
         self.groups = *groups;
+        self.sorted = self.len;
+    }
+
+    /// Finds the groups of all events by a table, which has those of the photons of each input, and none behind
+    /// them, where markers are looked up.
+    #[inline(always)]
+    pub fn sort_by(&mut self, groups: &[u64; 257])
+        requires unsorted { sorted self.old ≡ 0 }
+        requires markers { slice_index groups.now 256 ≡ 0 }
+        ensures same { (i : ℕ) → event_at self.new i ≡ event_at self.old i }
+        ensures count { count self.new ≡ count self.old }
+        ensures there { (i : ℕ) → i < count self.old
+            → groups_at self.new i ≡ slice_index groups.now (min (code_at self.old i) 256) }
+        ensures sorted { sorted self.new ≡ count self.old }
+    {
+        for at in 0..self.len.min(N) {
+            let code = code_in(self.marks[at]) as usize;
+            self.groups[at] = groups[code.min(256)];
+        }
+        self.sorted = self.len;
+    }
+
+    /// Finds the groups of all events by a gate, a range of dtimes from its first number on and below its second,
+    /// and a table. It has those of the photons of each input, first of those whose dtimes aren't in the gate and
+    /// then of those whose are, and none behind them, where markers are looked up.
+    #[inline(always)]
+    pub fn sort_by_gate(&mut self, gate: (u16, u16), groups: &[[u64; 2]; 257])
+        requires unsorted { sorted self.old ≡ 0 }
+        requires markers { slice_index_or groups.now 256 [] ≡ 0 ∷ 0 ∷ [] }
+        ensures same { (i : ℕ) → event_at self.new i ≡ event_at self.old i }
+        ensures count { count self.new ≡ count self.old }
+        ensures there { (i : ℕ) → i < count self.old → groups_at self.new i
+            ≡ slice_index (slice_index_or groups.now (min (code_at self.old i) 256) [])
+            (side_of gate (dtime_at self.old i)) }
+        ensures sorted { sorted self.new ≡ count self.old }
+    {
+        for at in 0..self.len.min(N) {
+            let dtime = dtime_in(self.marks[at]);
+            // No branch on the dtime, which is as good as random from photon to photon.
+            let inside = (gate.0 <= dtime) & (dtime < gate.1);
+            let code = code_in(self.marks[at]) as usize;
+            self.groups[at] = groups[code.min(256)][inside as usize];
+        }
         self.sorted = self.len;
     }
 
@@ -261,6 +294,32 @@ impl Block {
         self.len = 0;
         self.sorted = 0;
     }
+}
+
+impl Block<TABLE_BLOCK> {
+    ghost use Rattle.tally_base.{specs.Events.is_photon, specs.Columns.{events_in, IsSorted, gathered}};
+
+    /// This event alone, with its groups, or with none where it is a marker.
+    pub fn of_one(e: &Event, groups: u64) -> Block<TABLE_BLOCK>
+        ensures sorted { IsSorted result }
+        ensures event { gathered result ≡ e.now ∷ [] }
+        ensures events { events_in result ≡ (e.now, if is_photon e.now then groups else 0) ∷ [] }
+    {
+        let mut block = Block::new();
+        block.push(e);
+        block.put(0, if e.is_photon() { groups } else { 0 });
+        block
+    }
+}
+
+/// Copies the first so many numbers of a column into another one, from a place on.
+#[inline(always)]
+fn copy_front<T: Copy>(column: &mut [T], start: usize, other: &[T], front: usize)
+    requires inside { (front ≤ length other.now) × (start + front ≤ length column.old) }
+    ensures { column.new
+        ≡ take start column.old ++ (take front other.now ++ drop (start + front) column.old) }
+{
+    column[start..start + front].copy_from_slice(&other[..front]);
 }
 
 #[inline(always)]
@@ -300,25 +359,26 @@ fn kind_of(code: u16, dtime: u16) -> EventKind
     }
 }
 
-/// A code and a dtime as one number.
+/// What an event is as one number, its mark: the input of a photon, or 256 and the bits of a marker, and its dtime in the
+/// upper half.
 #[inline(always)]
-fn joined(code: u16, dtime: u16) -> u32
+pub fn joined(code: u16, dtime: u16) -> u32
     ensures { result ≡ joined code dtime }
 {
     u32::from(code) + 0x1_0000 * u32::from(dtime)
 }
 
-/// The code in such a number.
+/// The code in a mark.
 #[inline(always)]
-fn code_in(mark: u32) -> u16
+pub fn code_in(mark: u32) -> u16
     ensures { result ≡ code_in mark }
 {
     (mark % 0x1_0000) as u16
 }
 
-/// The dtime in such a number.
+/// The dtime in a mark.
 #[inline(always)]
-fn dtime_in(mark: u32) -> u16
+pub fn dtime_in(mark: u32) -> u16
     ensures { result ≡ dtime_in mark }
 {
     (mark / 0x1_0000) as u16

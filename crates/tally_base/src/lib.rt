@@ -16,7 +16,7 @@ mod slot;
 mod steps;
 mod tally;
 
-pub use block::{BLOCK_SIZE, Block};
+pub use block::{BLOCK_SIZE, Block, TABLE_BLOCK, code_in, dtime_in, joined};
 pub use divisor::Divisor;
 pub use event::{Event, EventKind, OnReserved, Order, Policy, is_in};
 pub use fault::{Fault, fault_line};

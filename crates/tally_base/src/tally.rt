@@ -2,7 +2,7 @@
 ghost use Rattle.std.specs.Prelude.{◌≡◌, ℕ, Bool, true, false, ◌+◌, ◌<◌, ◌≤◌, [], ◌∷◌, ◌++◌, IsTrue, length, if◌then◌else◌};
 ghost use Rattle.tally_base.{specs.declared.event.Event.Event, specs.Settings.{PartSettings, entries, is_strict}, specs.Tally.{History, moves_floor, greatest_time, floor_after, InOrder}, specs.Limits.{record_limit, time_limit}, specs.Events.is_photon, specs.Columns.{gathered, events_in, IsSorted}};
 
-use crate::block::Block;
+use crate::block::{Block, TABLE_BLOCK};
 use crate::event::Event;
 use crate::steps::Steps;
 use std::sync::ledger::Ledger;
@@ -39,7 +39,7 @@ pub trait Tally {
     /// Takes the events of a block, in which each has its groups, in their order. The table is open, and no
     /// more than 2^40 events are given to it. The times are at most 2^62 + 2^28, and no photon, in a strict
     /// table no event, comes at a smaller time than one before it.
-    fn events<L: Ledger>(&mut self, block: &Block, steps: &mut Steps<L>)
+    fn events<L: Ledger>(&mut self, block: &Block<TABLE_BLOCK>, steps: &mut Steps<L>)
         requires sorted { IsSorted block.now }
         requires open { closed self.old ≡ false }
         requires room { taken self.old + length (gathered block.now) ≤ record_limit }

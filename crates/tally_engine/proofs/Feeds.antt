@@ -1,7 +1,7 @@
 -- What the words of a piece give to the tables.
 use Rattle.std.{proofs.Common.{◌≡◌, ◌≢◌, ℕ, false, List, [], ◌++◌, None, Some, Ok, Err, IfErr, OnOk, refl, sym, ap, subst, ◌∙◌, ⊎_elim, arith, rules, suc, ◌<◌, ◌∷◌, length, get_or, map, true, ◌≤◌, ◌+◌, ◌*◌, sum_by}, specs.declared.option.Option.Option, specs.declared.result.Result.Result}
 use Rattle.tally_base.{specs.declared.fault.Fault.Fault, specs.declared.fault.Fault.TheVariants.WriteFault, specs.FaultCounts.Rose, specs.Tally.History, specs.Faults.{fault_in, is_outside}, specs.Settings.entries}
-use Rattle.ptu_definitions.{specs.declared.records.Summary.Summary, specs.Kept.Marked, specs.Streams.{Reading, record_refusal, given, last_in}, specs.Words.words_of, proofs.StreamLemmas.given-clear, proofs.DeliveredLaws.delivered-settled, specs.Settled.not_marked}
+use Rattle.ptu_definitions.{specs.declared.records.Summary.Summary, specs.Kept.Marked, specs.Streams.{StreamSettings, record_refusal, given, last_in}, specs.Words.words_of, proofs.StreamLemmas.given-clear, proofs.DeliveredLaws.delivered-settled, specs.Settled.not_marked}
 use Rattle.abs_time.specs.declared.clock.Clock.{Clock}
 use Rattle.record_stream.{specs.declared.taker.EventTaker.Ghosts, specs.Feeding.{GaveOn, BrokeOn, Fed}, specs.Ending.Ended, specs.Standing.Stands, proofs.Summaries.so_far-records}
 use Rattle.settle.specs.declared.settle.Settle.{Settle}
@@ -10,7 +10,7 @@ use Rattle.plan_parts.{specs.Parts.{AllHold, settings_in, entries_in}, specs.dec
 use Rattle.tally_engine.{specs.Pieces.Ends, specs.declared.engine.Engine.Engine, specs.Engine.{held, bound}}
 
 -- a taker that never breaks was given all that the words call for
-pub fed_whole : {T : Type 0} (g : Ghosts T) {X : Type 0} (how : Reading) (old new : T) (words now : List ℕ) (r : Result X Fault)
+pub fed_whole : {T : Type 0} (g : Ghosts T) {X : Type 0} (how : StreamSettings) (old new : T) (words now : List ℕ) (r : Result X Fault)
     → g.got old old [] → ((l : Marked) → g.broke old new l → ⊥) → Fed g how old new words now r
     → (fault_in r ≡ record_refusal how now) × ((more : Marked) × (given how now ≡ given how words ++ more) × g.got old new more)
 fed_whole g how old new words now (Ok x) none unbroken fed = (sym fed.0, (fed.1.more, fed.1.adds, fed.1.follows old [] none))
@@ -21,12 +21,12 @@ fed_whole g how old new words now (Err fault) none unbroken fed =
     fed
 
 -- what is settled is what was given and isn't marked late
-pub history-given : (by : Sorting) (how : Reading) (clock : Clock) (sum : Summary) (count : ℕ) (settle : Settle) (carried : List ℕ) (refused : Option Fault) (bytes : List ℕ) → Stands how clock sum count settle carried refused bytes → refused ≡ None
+pub history-given : (by : Sorting) (how : StreamSettings) (clock : Clock) (sum : Summary) (count : ℕ) (settle : Settle) (carried : List ℕ) (refused : Option Fault) (bytes : List ℕ) → Stands how clock sum count settle carried refused bytes → refused ≡ None
     → settled_history by how (words_of bytes) ≡ with_groups by (not_marked (given how (words_of bytes)))
 unfolding settled_history
 history-given by how clock sum count settle carried refused bytes h none = search (rules, arith, given-clear, delivered-settled)
 
-history-adds : (by : Sorting) (how : Reading) (before now : List ℕ) (more : Marked) → given how now ≡ given how before ++ more
+history-adds : (by : Sorting) (how : StreamSettings) (before now : List ℕ) (more : Marked) → given how now ≡ given how before ++ more
     → with_groups by (not_marked (given how now)) ≡ with_groups by (not_marked (given how before)) ++ with_groups by (not_marked more)
 history-adds by how before now more adds = ap (λ l. with_groups by (not_marked l)) adds ∙ with_groups-append by (given how before) more
 
@@ -39,7 +39,7 @@ both_on_ok r f p q = search (rules, arith)
 on_ok : {X : Type 0} {A : Type 0} (r : Result X Fault) → ((x : X) → r ≡ Ok x → A) → OnOk r A
 on_ok r f = search (rules, arith)
 
-module _ (by : Sorting) (how : Reading) {X : Type 0} (r : Result X Fault) (before after : History → Type 0) (bytes piece : List ℕ) where
+module _ (by : Sorting) (how : StreamSettings) {X : Type 0} (r : Result X Fault) (before after : History → Type 0) (bytes piece : List ℕ) where
   -- the events of a piece behind those that were given
   counts_more : (clock clock' : Clock) (sum sum' : Summary) (count count' : ℕ) (settle settle' : Settle) (carried carried' : List ℕ) (refused' : Option Fault) → Stands how clock sum count settle carried None bytes → Stands how clock' sum' count' settle' carried' refused' (bytes ++ piece) → refused' ≡ None
       → (more : Marked) → given how (words_of (bytes ++ piece)) ≡ given how (words_of bytes) ++ more
@@ -63,7 +63,7 @@ module _ (by : Sorting) (how : Reading) {X : Type 0} (r : Result X Fault) (befor
 -- ## The end
 
 -- a taker that never breaks was given the rest
-pub ends_by : {T : Type 0} (g : Ghosts T) (by : Sorting) (how : Reading) (a b : T) (bytes : List ℕ) (old new : List Part) (r : Result Summary Fault)
+pub ends_by : {T : Type 0} (g : Ghosts T) (by : Sorting) (how : StreamSettings) (a b : T) (bytes : List ℕ) (old new : List Part) (r : Result Summary Fault)
     → g.got a a [] → ((l : Marked) → g.broke a b l → ⊥)
     → (g.got a b (last_in how (words_of bytes)) → AllHold old (settled_history by how (words_of bytes)) → AllHold new (history by how (words_of bytes)))
     → Ended g how a b bytes r → Ends by how bytes old new r
@@ -76,7 +76,7 @@ inside_of r inside cause = search (rules, arith)
 
 -- An engine of no bytes.
 
-pub none_taken : (how : Reading) (clock : Clock) (sum : Summary) (count : ℕ) (settle : Settle) (carried : List ℕ) (refused : Option Fault) → Stands how clock sum count settle carried refused [] → refused ≡ None → 4 * sum.records + length carried ≡ 0
+pub none_taken : (how : StreamSettings) (clock : Clock) (sum : Summary) (count : ℕ) (settle : Settle) (carried : List ℕ) (refused : Option Fault) → Stands how clock sum count settle carried refused [] → refused ≡ None → 4 * sum.records + length carried ≡ 0
 none_taken how clock sum count settle carried refused stands none = search (rules, arith, so_far-records)
 
 -- What an engine of these tables keeps, with the carried bytes and the events kept back, is within its bound.

@@ -1,7 +1,7 @@
 -- What an engine stands for.
 use Rattle.std.{specs.Prelude.{◌≡◌, ◌<◌, ℕ, All, ◌+◌, List, length, sum_by, None, Result, Ok, Err, ◌⊎◌}, specs.declared.option.Option.Option}
 use Rattle.tally_base.{specs.declared.fault.Fault.Fault, specs.declared.header.Header.Header, specs.declared.header.Mode.Mode, specs.Settings.{PartSettings, entries}, specs.declared.fault.Fault.TheVariants.OutOfMemory}
-use Rattle.ptu_definitions.{specs.Streams.{Reading, streamed}, specs.Words.words_of}
+use Rattle.ptu_definitions.{specs.Streams.{StreamSettings, streamed}, specs.Words.words_of}
 use Rattle.record_stream.specs.Standing.{how_of, refused_with, carried_by, kept_back_by, bytes_in, HasStreamed}
 use Rattle.plan_text.{specs.Plan.{PlanView, parts_of}, specs.Fits.fits}
 use Rattle.gate_plan.{specs.Shifting.{Sorting, sorting}, specs.Groups.sorting_of, specs.Histories.{history, settled_history, reading_by}}
@@ -18,7 +18,7 @@ abbrev pub engine_sorting : Engine → Sorting
 engine_sorting engine = sorting_of engine.gates
 
 -- how it reads the records
-abbrev pub reading_of : Engine → Reading
+abbrev pub reading_of : Engine → StreamSettings
 reading_of engine = how_of engine.stream
 
 -- the settings of its tables

@@ -1,6 +1,6 @@
 -- What a piece of the bytes does to a stream and to the tables behind it.
 use Rattle.tally_base.{specs.declared.fault.Fault.Fault, specs.declared.fault.Fault.TheVariants.WriteFault, specs.declared.header.Mode.Mode, specs.Faults.fault_in, specs.Limits.record_limit, specs.declared.tally.Tally.Ghosts}
-use Rattle.ptu_definitions.{specs.Headers.Shows, specs.Streams.{record_refusal, streamed, Reading}, specs.Words.words_of, specs.declared.records.Summary.Summary}
+use Rattle.ptu_definitions.{specs.Headers.Shows, specs.Streams.{record_refusal, streamed, StreamSettings}, specs.Words.words_of, specs.declared.records.Summary.Summary}
 use Rattle.record_stream.{specs.declared.stream.RecordStream.RecordStream, specs.Standing.{how_of, given_by, greatest_of, bytes_in, HasStreamed}}
 use Rattle.gate_plan.{specs.Shifting.Sorting, specs.Histories.{history, settled_history}}
 use Rattle.plan_parts.{specs.declared.part.Part.Part, specs.contracts.part.PartTally.TheImpl.ghosts, specs.Parts.AllHold}
@@ -41,16 +41,16 @@ module _ {T : Type 0} (g : Ghosts T) where
   }
 
 -- Where the old tables hold the events of these words, the new ones hold those of more words.
-abbrev pub HoldOn : Sorting → Reading → List ℕ → List ℕ → List Part → List Part → Type 0
+abbrev pub HoldOn : Sorting → StreamSettings → List ℕ → List ℕ → List Part → List Part → Type 0
 HoldOn by how words now old new = AllHold old (settled_history by how words) → AllHold new (settled_history by how now)
 
 -- The bytes have this summary, and where the old tables hold what is settled of them, the new ones hold all that is
 -- kept.
-pub record EndsWith (by : Sorting) (how : Reading) (bytes : List ℕ) (old new : List Part) (summary : Summary) : Type 0 where
+pub record EndsWith (by : Sorting) (how : StreamSettings) (bytes : List ℕ) (old new : List Part) (summary : Summary) : Type 0 where
   pub streams : streamed how bytes ≡ Ok summary
   pub follows : AllHold old (settled_history by how (words_of bytes)) → AllHold new (history by how (words_of bytes))
 
-abbrev pub Ends : Sorting → Reading → List ℕ → List Part → List Part → Result Summary Fault → Type 0
+abbrev pub Ends : Sorting → StreamSettings → List ℕ → List Part → List Part → Result Summary Fault → Type 0
 Ends by how bytes old new (Ok summary) = EndsWith by how bytes old new summary
 Ends by how bytes old new (Err fault) = streamed how bytes ≡ Err fault
 

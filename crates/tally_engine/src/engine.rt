@@ -3,7 +3,7 @@ ghost use Rattle.std.specs.Prelude.{◌≡◌, ℕ, All, List, None, Some, false
 ghost use Rattle.tally_base.{specs.declared.fault.Fault.Fault, specs.Faults.{is_outside, fault_in}, specs.RecordTypes.mode_of, specs.Limits.record_limit};
 ghost use Rattle.record_stream.specs.Standing.{how_of, given_by, greatest_of, refused_with, HasStreamed};
 ghost use Rattle.fed_parts.specs.Ahead.{Standing};
-ghost use Rattle.plan_text.{specs.Reading.plan_view, specs.Bound.bound as plan_bound};
+ghost use Rattle.plan_text.{specs.ReadPlan.plan_view, specs.Bound.bound as plan_bound};
 ghost use Rattle.ptu_definitions.{specs.Headers.Shows, specs.Streams.{record_refusal, streamed}, specs.Words.words_of};
 
 use crate::part_taker::{feed_parts, finish_parts};

@@ -6,16 +6,15 @@ ghost use Rattle.fed_parts.specs.Ahead.{taken_with, floor_with, Standing, Waits}
 ghost use Rattle.gate_plan.specs.Groups.{sorting_of};
 ghost use Rattle.tally_engine.specs.Pieces.{Ends, AnswersPiece, StaysSame, TablesFollow, SameTables};
 
-use fed_parts::{Reached, flush_waiting, gather, give_behind};
+use fed_parts::{Reached, flush, gather, gather_block};
 use gate_plan::Gates;
 use plan_parts::Part;
 use record_stream::{EventTaker, RecordStream, Summary};
 use std::sync::ledger::Ledger;
-use tally_base::{Block, Event, Failed, Fault, Mode, Steps, Tally};
+use tally_base::{BLOCK_SIZE, Block, Event, Failed, Fault, Mode, Steps, TABLE_BLOCK, Tally};
 
-/// Gives each event that isn't late to every table, with its groups. A block of them it passes on as it is;
-/// those that come one by one it gathers in a block of its own, so that the kind of a table is tested once
-/// for many events. It lives for one piece, or for the end.
+/// Gives each event that isn't late to every table, with its groups. It gathers them in a block of its own, so that a
+/// table is given many at once. It lives for one piece, or for the end.
 #[derive(Drop)]
 struct PartTaker<'g, 'p, 's, L: Ledger> {
     gates: &'g Gates,
@@ -24,7 +23,7 @@ struct PartTaker<'g, 'p, 's, L: Ledger> {
     mode: Mode,
     // How far the tables are, and behind that come the events of the block.
     reached: Reached,
-    block: Block,
+    block: Block<TABLE_BLOCK>,
     ghost waiting: { All (Waits ⟦<Part as Tally>⟧ mode (taken_with reached (gathered block)) (floor_with mode reached (gathered block)) (gathered block)) parts.now } by { Prim.hlevel (props, in_order-prop) },
     ghost limit: { 0 < length (gathered block) → taken_with reached (gathered block) ≤ record_limit },
     ghost idle: { length parts.now ≡ 0 → gathered block ≡ [] },
@@ -78,8 +77,8 @@ impl<'g, 'p, 's, L: Ledger> EventTaker for PartTaker<'g, 'p, 's, L> {
         Ok(())
     }
 
-    fn take_block(&mut self, block: &mut Block) -> Result<(), Failed> {
-        give_behind(
+    fn take_block(&mut self, block: &mut Block<BLOCK_SIZE>) -> Result<(), Failed> {
+        gather_block(
             self.gates,
             self.mode,
             block,
@@ -134,7 +133,7 @@ pub(crate) fn feed_parts<L: Ledger>(
         mut reached,
         mut block,
     } = taker;
-    flush_waiting(gates, mode, parts, &mut reached, &mut block, steps);
+    flush(gates, mode, parts, &mut reached, &mut block, steps);
     fed
 }
 
@@ -176,6 +175,6 @@ pub(crate) fn finish_parts<L: Ledger>(
         mut reached,
         mut block,
     } = taker;
-    flush_waiting(gates, mode, parts, &mut reached, &mut block, steps);
+    flush(gates, mode, parts, &mut reached, &mut block, steps);
     finished
 }

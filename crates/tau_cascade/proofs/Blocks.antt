@@ -62,7 +62,7 @@ flip false true = refl
 flip false false = refl
 
 -- the weight of an event of a block
-pub weight_row : (b : Block) (i group : ℕ)
+pub weight_row : {N : ℕ} (b : Block N) (i group : ℕ)
     → ◌≡◌ {A = ℕ} (cond (is_in (groups_at b i) group && nat_lt (code_at b i) 256) 1 0) (cond (is_photon (event_at b i) && is_in (groups_at b i) group) 1 0)
 weight_row b i group =
     flip (is_in (groups_at b i) group) (nat_lt (code_at b i) 256) ∙ ap (λ p. cond (p && is_in (groups_at b i) group) 1 0) (sym (moves_row false b i))
@@ -111,7 +111,7 @@ module _ (set : CorrelationView) where
       ]) refl)
 
 -- the photons of a block may come to the levels
-pub block_comes : (set : CorrelationView) (ls : List Level) (b : Block) (h : History) → CanGiveBlock set ls b h
+pub block_comes : (set : CorrelationView) (ls : List Level) (b : Block 512) (h : History) → CanGiveBlock set ls b h
     → CanCome set 0 ls (map (raised 0) (photon_bins set (events_in b))) (photons_of set h) (photons_of set (events_in b))
 block_comes set ls b h can = search (rules, arith, few_photons, raised-none, come_rows)
 
@@ -119,12 +119,12 @@ pub photons-append : (set : CorrelationView) (h es : History) → photons_of set
 photons-append set h es = filter-append (λ y. in_first set y || in_second set y) h es
 
 -- what a correlation that isn't closed may be given
-pub may_give_block : (closed : Bool) → closed ≡ false → (set : CorrelationSet) (ls : List Level) (count time : ℕ) (h : History) (b : Block) → StandsFor closed set ls count time h → count + length (gathered b) ≤ record_limit → InOrder false time (gathered b) → CanGiveBlock (correlation_view set) ls b h
+pub may_give_block : (closed : Bool) → closed ≡ false → (set : CorrelationSet) (ls : List Level) (count time : ℕ) (h : History) (b : Block 512) → StandsFor closed set ls count time h → count + length (gathered b) ≤ record_limit → InOrder false time (gathered b) → CanGiveBlock (correlation_view set) ls b h
 may_give_block true still set ls count time h b is few order = absurd (false≢true (sym still))
 may_give_block false still set ls count time h b is few order = search (rules, arith, length-rows)
 
 -- what it stands for then
-pub block_counts : (closed : Bool) → closed ≡ false → (set : CorrelationSet) (ls ls' : List Level) (count time : ℕ) (h : History) (b : Block)
+pub block_counts : (closed : Bool) → closed ≡ false → (set : CorrelationSet) (ls ls' : List Level) (count time : ℕ) (h : History) (b : Block 512)
     → StandsFor closed set ls count time h → InOrder false time (gathered b)
     → Chain (correlation_view set) 0 ls' (photons_of (correlation_view set) (h ++ events_in b))
     → StandsFor closed set ls' (count + b.len) (floor_after false time (gathered b)) (h ++ events_in b)

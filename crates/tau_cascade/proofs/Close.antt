@@ -1,7 +1,7 @@
 -- Bins that are laid close together.
-use Rattle.std.{proofs.Common.{◌≡◌, ◌∙◌, ℕ, zero, suc, ◌+◌, ◌-◌, ◌*◌, ◌<◌, ◌≤◌, true, false, eqb, ltb, cond, min, List, [], ◌∷◌, ◌++◌, length, get_or, take, drop, refl, sym, ap, arith, append_assoc, rules}, specs.List.{sum_by, AllByRecursion}, proofs.Math.Nat.{mul-le-mul, mul-le-mul_left}, proofs.lemmas.Bool.Decides.nat_tests, proofs.lemmas.List.{take-append-drop, length-drop, length-take-le, drop_more}, proofs.lemmas.List.Sums.{sum_by-append, sum_by_push}}
-use Rattle.lag_ring.{specs.declared.ring.Entry.Entry, specs.declared.window.Side.TheVariants.{First, Second}, specs.Ring.IsRising, specs.Bytes.{weight_at, product_at, IsLight}, proofs.Rising.{all_weaker, all_push, rising_front, rising_back}, proofs.Sums.{sum_by-agree, sum_by-same, sum_by-zero, window-before}}
-use Rattle.tau_cascade.{specs.Levels.weight_before, specs.Dense.{paired, laid, laid_pairs, IsBehind}, proofs.Nexts.paired-append, proofs.Together.paired-all}
+use Rattle.std.{proofs.Common.{◌≡◌, ◌∙◌, ℕ, zero, suc, ◌+◌, ◌-◌, ◌*◌, ◌%◌, ◌<◌, ◌≤◌, Bool, true, false, eqb, ltb, cond, min, List, [], ◌∷◌, ◌++◌, length, get_or, take, drop, refl, sym, ap, arith, append_assoc, rules}, specs.List.{sum_by, AllByRecursion}, proofs.Math.Nat.{mul-le-mul, mul-le-mul_left}, proofs.lemmas.Bool.Decides.nat_tests, proofs.lemmas.List.{take-append-drop, length-drop, length-take-le, drop_more}, proofs.lemmas.List.Sums.{sum_by-append, sum_by_push}}
+use Rattle.lag_ring.{specs.declared.ring.Entry.Entry, specs.declared.window.Side.TheVariants.{First, Second}, specs.Ring.IsRising, specs.Bytes.{weight_at, product_at, IsLight}, proofs.Lists.{all_join}, proofs.Rising.{all_weaker, all_push, rising_front, rising_back}, proofs.Sums.{light-at, sum_by-agree, sum_by-same, sum_by-zero, window-before}}
+use Rattle.tau_cascade.{specs.Levels.weight_before, specs.Dense.{paired, laid, laid_on, laid_pairs, HaveRoom, IsBehind}, specs.declared.laid.Laid.Laid, proofs.Nexts.paired-append, proofs.Together.paired-all}
 
 -- a bin that is laid at a place
 abbrev pub laid_at : ℕ → Entry → Entry
@@ -23,6 +23,15 @@ module _ (reach index place i p : ℕ) (front : List Entry) (e : Entry) (next : 
 
   pub sums_next : (window : List ℕ) (from : ℕ) → sum_by (product_at Second window 0 from) (laid reach index place (front ++ e ∷ [])) ≡ sum_by (product_at Second window 0 from) (laid reach index place front) + get_or window (p + min (e.index - i) reach + from) 0 * e.b
   sums_next window from = search (rules, arith, laid_push, sum_by_push, front, laid_at)
+
+-- a byte to which a weight is added, where it has room
+pub put_byte : (here : Bool) (old a : ℕ) → old + cond here a 0 < 256 → cond here ((old + a) % 256) old ≡ old + cond here a 0
+put_byte true old a fits = omega (arith, fits)
+put_byte false old a fits = omega arith
+
+pub byte_below : (here : Bool) (sum old : ℕ) → old < 256 → cond here (sum % 256) old < 256
+byte_below true sum old small = omega arith
+byte_below false sum old small = small
 
 -- a bin is laid at most so far behind
 pub laid_upto : (reach index place : ℕ) (es : List Entry) (most : ℕ) → place + reach * length es ≤ most
@@ -47,6 +56,24 @@ laid_rising reach index place [] some rising = tt
 laid_rising reach index place (e ∷ es) some rising =
     let here : ℕ = place + min (e.index - index) reach in
     (laid_behind reach e.index here es some rising.0 rising.1, laid_rising reach e.index here es some rising.1)
+
+-- light bins fit in bytes where they are laid
+laid_light : (reach index place : ℕ) (es : List Entry) → IsLight 255 es → IsLight 255 (laid reach index place es)
+laid_light reach index place [] light = tt
+laid_light reach index place (e ∷ es) light = (light.0, laid_light reach e.index (place + min (e.index - index) reach) es light.1)
+
+byte_room : (reach p : ℕ) (es fs : List Entry) → 0 < reach → IsRising (es ++ fs) → IsLight 255 es → weight_at First 32 0 p (laid reach 0 0 es) ≤ 255
+byte_room reach p es fs some rising light = light-at First 32 0 p 255 (laid reach 0 0 es) (laid_rising reach 0 0 es some (rising_front es fs rising)) (laid_light reach 0 0 es light)
+
+pub have_room : (reach : ℕ) (was : Laid) (window : List ℕ) (front back : List Entry) → 0 < reach → IsRising (front ++ back) → IsLight 255 front
+    → ((es : List Entry) → laid reach 0 0 (front ++ es) ≡ laid reach 0 0 front ++ laid_on reach was es)
+    → ((p : ℕ) → p < 1408 → get_or window p 0 ≡ weight_at First 32 0 p (laid reach 0 0 front)) → HaveRoom reach was window back
+have_room reach was window front back some rising light next has n more p inside =
+    let es : List Entry = take n back in
+    let whole : IsRising ((front ++ es) ++ drop n back) = rw (append_assoc front es (drop n back), take-append-drop n back) rising in
+    let all = byte_room reach p (front ++ es) (drop n back) some whole (all_join (λ (f : Entry). (f.a ≤ 255) × (f.b ≤ 255)) front es light more) in
+    let parts = sum_by-append (λ (f : Entry). cond (eqb (f.index + 32) (0 + p)) f.a 0) (laid reach 0 0 front) (laid_on reach was es) in
+    omega (arith, (rw (next es) at all), parts, has p inside)
 
 -- what stands so far before a bin, less than the reach, stands as far before the place where it is laid
 pub record Alike (reach index place : ℕ) (before beside : List Entry) : Type 0 where

@@ -76,6 +76,16 @@ paired-far lags k few before (e ∷ es) far spaced =
     let next : AllByRecursion (λ g. AllByRecursion (λ f. f.index + lags < g.index) (before ++ e ∷ [])) es = all_both (λ g. AllByRecursion (λ f. f.index + lags < g.index) before) (λ g. e.index + (lags + 1) ≤ g.index) (λ g. AllByRecursion (λ f. f.index + lags < g.index) (before ++ e ∷ [])) (λ g back apart. all_push (λ f. f.index + lags < g.index) before e back (omega arith)) es far.1 spaced.0 in
     rw (none, paired-far lags k few (before ++ e ∷ []) es next spaced.1) (grind arith)
 
+none_before : (lags : ℕ) (es : List Entry) → AllByRecursion (λ e. AllByRecursion (λ (f : Entry). f.index + lags < e.index) []) es
+none_before lags [] = tt
+none_before lags (e ∷ es) = (tt, none_before lags es)
+
+pub paired_apart : (lags k start : ℕ) (list : List Entry) → k ≤ lags → IsSpaced (lags + 1) list → paired k (take start list) (drop start list) ≡ 0
+paired_apart lags k start list few spaced =
+    let all : paired k [] (take start list ++ drop start list) ≡ 0 =
+    rw (take-append-drop start list) (paired-far lags k few [] list (none_before lags list) spaced) in
+    omega (arith, all, paired-append k [] (take start list) (drop start list))
+
 -- what is out of reach of an index is out of reach of bins that are not before it
 pub all_behind : (lags i : ℕ) (before es : List Entry) → AllByRecursion (λ f. f.index + lags < i) before
     → AllByRecursion (λ e. i ≤ e.index) es → AllByRecursion (λ e. AllByRecursion (λ f. f.index + lags < e.index) before) es

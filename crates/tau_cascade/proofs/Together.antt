@@ -1,5 +1,5 @@
 -- Pairs of dense bins, lag by lag.
-use Rattle.std.{proofs.Common.{◌≡◌, ◌∙◌, ℕ, ◌+◌, ◌-◌, ◌*◌, ◌^◌, ◌<◌, ◌≤◌, true, false, ltb, List, [], ◌∷◌, ◌++◌, length, get_or, take, drop, refl, sym, ap, arith, append_assoc, rules}, specs.List.{sum_by, filter, AllByRecursion}, proofs.Math.Nat.mul-le-mul_left, proofs.lemmas.Bool.Decides.nat_tests, proofs.lemmas.List.{take-append-drop, take_more, take_all, drop_more, length-drop}, proofs.lemmas.List.Sums.{sum_by-cons, sum_by-append, sum_by-le-sum_by}}
+use Rattle.std.{proofs.Common.{◌≡◌, ◌∙◌, ℕ, ◌+◌, ◌-◌, ◌*◌, ◌^◌, ◌<◌, ◌≤◌, true, false, ltb, List, [], ◌∷◌, ◌++◌, length, get_or, take, drop, refl, sym, ap, arith, append_assoc, rules}, specs.List.{sum_by, AllByRecursion}, proofs.Math.Nat.mul-le-mul_left, proofs.lemmas.Bool.Decides.nat_tests, proofs.lemmas.List.{take-append-drop, take_more, take_all, drop_more, length-drop}, proofs.lemmas.List.Sums.{sum_by-cons, sum_by-append}}
 use Rattle.lag_ring.{specs.declared.ring.Entry.Entry, specs.declared.window.Side.TheVariants.First, specs.Cells.{Cells, added_at}, specs.Ring.IsRising, specs.Bytes.{weight_at, behind}, proofs.Lists.{all_back, all_both}, proofs.Rising.{all_weaker, all_push, rising_back}, proofs.Sums.{sum_by-agree, sum_by-zero, window-before}}
 use Rattle.tau_cascade.{specs.Levels.weight_before, specs.Dense.{paired, spot_pairs, FitsWindow, AddsOnce}, proofs.Nexts.{below_bins, rising_drop}}
 

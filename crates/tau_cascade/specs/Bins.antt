@@ -98,7 +98,7 @@ abbrev pub Carries : CorrelationView → ℕ → List Level → List Level → L
 Carries set level old new es = (came xs : History) → CanCome set level old es came xs → Chain set level new (came ++ xs)
 
 -- the events of a block may be given, after those that were
-pub record CanGiveBlock (set : CorrelationView) (ls : List Level) (block : Block) (h : History) : Type 0 where
+pub record CanGiveBlock (set : CorrelationView) (ls : List Level) (block : Block 512) (h : History) : Type 0 where
   pub few : length h + length (events_in block) ≤ record_limit
   pub chain : Chain set 0 ls (photons_of set h)
   pub order : InOrder false (greatest_time false h) (gathered block)

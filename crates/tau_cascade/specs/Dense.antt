@@ -1,6 +1,6 @@
 -- Pairs of bins with what stands in a window.
-use Rattle.std.{specs.Prelude.{ℕ, ◌≡◌, ◌+◌, ◌-◌, ◌*◌, ◌^◌, ◌<◌, ◌≤◌, min, List, [], ◌∷◌, length, slice_index, sum_by, ◌++◌}, specs.List.AllByRecursion}
-use Rattle.lag_ring.{specs.declared.ring.Entry.Entry, specs.declared.window.Side.TheVariants.Second, specs.Ring.IsRising, specs.Cells.{Cells, added_at}, specs.Bytes.{weight_of, IsLight, behind, product_at}}
+use Rattle.std.{specs.Prelude.{ℕ, ◌≡◌, ◌+◌, ◌-◌, ◌*◌, ◌^◌, ◌<◌, ◌≤◌, min, List, [], ◌∷◌, length, slice_index, sum_by, take, ◌++◌}, specs.List.AllByRecursion}
+use Rattle.lag_ring.{specs.declared.ring.Entry.Entry, specs.declared.window.Side.TheVariants.{First, Second}, specs.Ring.IsRising, specs.Cells.{Cells, added_at}, specs.Bytes.{weight_of, weight_at, IsLight, behind, product_at}}
 use Rattle.tau_cascade.{specs.Levels.weight_before, specs.declared.laid.Laid.Laid}
 
 -- what stands so many lags before photons at some spots in a window of 192 lags
@@ -15,7 +15,7 @@ pub record FitsWindow (lags low most : ℕ) (list later : List Entry) : Type 0 w
   pub light : IsLight most list
   pub early : AllByRecursion (λ e. e.index + 192 < 2 ^ 64) list
   pub near : AllByRecursion (λ e. (low ≤ e.index) × (e.index - low + 192 ≤ 1024)) later
-  pub few : sum_by (weight_of Second) later ≤ 256
+  pub few : sum_by (weight_of Second) later ≤ 1024
 
 -- so many cells from one on may have changed, and no others
 abbrev pub SameOutside : ℕ → ℕ → List ℕ → List ℕ → Type 0
@@ -58,10 +58,10 @@ IsBehind index es = IsRising es × AllByRecursion (λ e. index ≤ e.index) es
 abbrev pub laid_pairs : List ℕ → List Entry → ℕ → ℕ
 laid_pairs window es lag = sum_by (product_at Second window 0 (32 - lag)) es
 
--- light bins that are laid behind this place, each with all lags, have places in a window of 1408 small weights
+-- light bins that are laid behind this place, each with all lags, have places in a window of 1408 bytes
 pub record IsLaid (window : List ℕ) (reach index place : ℕ) (es : List Entry) : Type 0 where
   pub sized : length window ≡ 1408
-  pub small : (p : ℕ) → p < 1408 → slice_index window p < 2 ^ 15
+  pub small : (p : ℕ) → p < 1408 → slice_index window p < 2 ^ 8
   pub light : IsLight 255 es
   pub few : length es ≤ 80
   pub behind : IsBehind index es
@@ -70,3 +70,7 @@ pub record IsLaid (window : List ℕ) (reach index place : ℕ) (es : List Entry
 -- bins behind the last one that was laid
 abbrev pub laid_on : ℕ → Laid → List Entry → List Entry
 laid_on reach last es = laid reach last.index last.place es
+
+-- the first of these bins, where they are light, fit in the bytes of a window where they are laid
+abbrev pub HaveRoom : ℕ → Laid → List ℕ → List Entry → Type 0
+HaveRoom reach was window es = (n : ℕ) → IsLight 255 (take n es) → (p : ℕ) → p < 1408 → slice_index window p + weight_at First 32 0 p (laid_on reach was (take n es)) < 2 ^ 8

@@ -34,6 +34,6 @@ open_bin set level h = open_of set level (photons_of set h)
 
 -- They are in the list, come from no further down than there are levels, and are as far apart as is said.
 pub record IsComing (coming : Coming) (level : ℕ) (bins : List Entry) : Type 0 where
-  pub places : (coming.closed.from ≤ 128) × (coming.closed.count ≤ 64)
+  pub places : (coming.closed.from ≤ 128) × (coming.closed.count ≤ 512)
   pub up : coming.levels ≤ level + 1
   pub spaced : 0 < coming.apart → IsSpaced coming.apart (take coming.closed.count (drop coming.closed.from bins))

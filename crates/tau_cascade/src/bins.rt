@@ -4,16 +4,13 @@ ghost use Rattle.tally_base.{specs.Settings.correlation_view, specs.Columns.{eve
 ghost use Rattle.tau_cascade.specs.Bins.{raised, FitCounts, IsSpaced, merged, merged_onto, photon_bins};
 
 use lag_ring::{Entry, LagRing};
-use tally_base::{Block, CorrelationSet};
+use tally_base::{Block, CorrelationSet, TABLE_BLOCK};
 
 /// How many bins a list has room for: those of a ring, and behind them those of a block.
-pub(crate) const LIST: usize = 192;
+pub(crate) const LIST: usize = RING + TABLE_BLOCK;
 
 /// How many bins a ring has at most.
 pub(crate) const RING: usize = 128;
-
-/// How many bins a block brings at most.
-pub(crate) const FULL_BLOCK: usize = 64;
 
 /// How many levels there are at most.
 pub(crate) const LEVELS: usize = 40;
@@ -29,17 +26,22 @@ pub(crate) struct Merged {
 
 /// Puts the photons of either group that a block has into bins of one photon, in a list from a place on,
 /// and answers how many there are.
-pub(crate) fn gather(set: &CorrelationSet, block: &Block, bins: &mut [Entry], start: usize) -> usize
+pub(crate) fn gather(
+    set: &CorrelationSet,
+    block: &Block<TABLE_BLOCK>,
+    bins: &mut [Entry],
+    start: usize,
+) -> usize
     requires sorted { IsSorted block.now }
-    requires room { start + FULL_BLOCK ≤ length bins.old }
+    requires room { start + TABLE_BLOCK ≤ length bins.old }
     ensures bins { take result (drop start bins.new)
         ≡ photon_bins (correlation_view set.now) (events_in block.now) }
-    ensures few { result ≤ FULL_BLOCK }
+    ensures few { result ≤ TABLE_BLOCK }
 {
     let first = set.first;
     let second = set.second;
     let mut count = 0;
-    for at in 0..block.len().min(FULL_BLOCK) {
+    for at in 0..block.len().min(TABLE_BLOCK) {
         // No branch on the groups, which are as good as random from photon to photon.
         let a = block.photons_in(at, first);
         let b = block.photons_in(at, second);

@@ -3,7 +3,7 @@ ghost use Rattle.std.specs.Prelude.{◌≡◌, ◌+◌, ◌<◌, ◌≤◌, ◌�
 ghost use Rattle.tally_base.{specs.Settings.correlation_view, specs.Tally.History};
 ghost use Rattle.tau_cascade.{specs.Levels.{CanEnd, Chain, Complete, LevelDone, spent}, specs.Bins.{stretch, CanCome, Carries}, specs.Opens.IsComing};
 
-use crate::bins::{FULL_BLOCK, LEVELS, LIST, RING};
+use crate::bins::{LEVELS, LIST, RING};
 use crate::level::{Closed, Level};
 use lag_ring::Entry;
 use std::sync::ledger::Ledger;

@@ -9,7 +9,7 @@ use crate::level::{Closed, Level, skipped_lags};
 use lag_ring::{Entry, PairCells};
 use std::alloc::{AllocError, Global};
 use std::sync::ledger::Ledger;
-use tally_base::{Block, CorrelationSet, Steps, Tally};
+use tally_base::{Block, CorrelationSet, Steps, TABLE_BLOCK, Tally};
 
 /// Counts the pairs of a photon of the first group and one of the second by how far the second is behind
 /// the first, on levels of coarser and coarser time.
@@ -122,7 +122,7 @@ impl Cascade {
 fn give_block<L: Ledger>(
     levels: &mut [Level],
     set: &CorrelationSet,
-    block: &Block,
+    block: &Block<TABLE_BLOCK>,
     steps: &mut Steps<L>,
 )
     requires sorted { IsSorted block.now }
@@ -182,7 +182,7 @@ impl Tally for Cascade {
 
     ghost marker_groups = { marker_groups };
 
-    fn events<L: Ledger>(&mut self, block: &Block, steps: &mut Steps<L>) {
+    fn events<L: Ledger>(&mut self, block: &Block<TABLE_BLOCK>, steps: &mut Steps<L>) {
         self.taken += block.len() as u64;
         self.floor = block.floor_after(false, self.floor);
         give_block(&mut self.levels, &self.set, block, steps);

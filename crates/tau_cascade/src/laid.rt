@@ -2,7 +2,7 @@
 // just out of reach, so that all have places in a short window.
 ghost use Rattle.std.specs.Prelude.{◌≡◌, ℕ, ◌+◌, ◌-◌, ◌*◌, ◌%◌, ◌^◌, ◌<◌, ◌≤◌, ◌==◌, ◌++◌, true, false, List, length, min, slice_index, sum_by, take, drop, if◌then◌else◌};
 ghost use Rattle.lag_ring.{specs.Ring.IsRising, specs.declared.window.Side.TheVariants.{First, Second}, specs.Bytes.{weight_at, product_at, IsLight}, specs.Cells.Spends};
-ghost use Rattle.tau_cascade.specs.Dense.{paired, AddsAtMost, laid, laid_on, laid_pairs, IsBehind, IsLaid};
+ghost use Rattle.tau_cascade.specs.Dense.{paired, AddsAtMost, laid, laid_on, laid_pairs, HaveRoom, IsBehind, IsLaid};
 
 use crate::dense::add_sums;
 use lag_ring::{Entry, PairCells};
@@ -12,7 +12,10 @@ use tally_base::Steps;
 /// How many lags at most a window serves.
 pub(crate) const CLOSE_LAGS: u32 = 16;
 
-/// How many bins at most a window serves.
+/// How many bins are paired over a window at most.
+pub(crate) const CLOSE_PART: usize = 64;
+
+/// How many bins at most a window serves: those, and before them one for each lag.
 const CLOSE_BINS: usize = 80;
 
 /// How many places a window has before that of the first bin: one for each lag.
@@ -46,8 +49,6 @@ pub(crate) struct Laying {
     pub(crate) last: Laid,
     /// A number that no bin has more photons of either group than.
     pub(crate) heaviest: u64,
-    /// Two neighbours are in reach of one another.
-    pub(crate) near: bool,
 }
 
 /// Lays a bin behind another one: as far behind it as it is, and no further than just out of reach.
@@ -67,40 +68,40 @@ fn lay_behind(was: Laid, bin: &Entry, reach: u64) -> Laid
 
 /// Lays a bin behind another one, and adds its weight in the first group to the window at its place.
 #[inline(always)]
-fn lay_one(window: &mut [u16], was: Laying, bin: &Entry, reach: u64) -> Laying
+fn lay_one(window: &mut [u8], was: Laying, bin: &Entry, reach: u64) -> Laying
     requires place { (was.last.place + reach + TOP < length window.old)
         × (was.last.index ≤ bin.now.index) }
     requires sized { length window.old ≡ PLACES }
-    requires fits { (p : ℕ) → p < PLACES → slice_index window.old p + TOO_HEAVY ≤ 2 ^ 16 }
     ensures last { (result.last.index ≡ bin.now.index) × (result.last.place
         ≡ was.last.place + min (bin.now.index - was.last.index) reach) }
     ensures heaviest { (was.heaviest ≤ result.heaviest) × (bin.now.a ≤ result.heaviest)
         × (bin.now.b ≤ result.heaviest) }
-    ensures weights { (p : ℕ) → p < PLACES → slice_index window.new p ≡ slice_index window.old p
-        + (if result.last.place + TOP == p then bin.now.a % TOO_HEAVY else 0) }
+    ensures weights { (p : ℕ) → p < PLACES → slice_index window.new p
+        ≡ (if result.last.place + TOP == p then (slice_index window.old p + bin.now.a % TOO_HEAVY)
+        % 2 ^ 8 else slice_index window.old p) }
     ensures same { length window.new ≡ length window.old }
 {
     let last = lay_behind(was.last, bin, reach);
-    window[last.place as usize + TOP] += (bin.a % TOO_HEAVY) as u16;
+    let at = last.place as usize + TOP;
+    window[at] = window[at].wrapping_add((bin.a % TOO_HEAVY) as u8);
     Laying {
         last,
         heaviest: was.heaviest | bin.a | bin.b,
-        near: was.near | (last.place - was.last.place < reach),
     }
 }
 
 /// Lays bins one behind the other, and adds their weights in the first group to the window at their places.
-fn lay_all(window: &mut [u16], list: &[Entry], reach: u64, was: Laying) -> Laying
+fn lay_all(window: &mut [u8], list: &[Entry], reach: u64, was: Laying) -> Laying
     requires room { (length window.old ≡ PLACES) × (reach ≤ CLOSE_LAGS + 1)
         × (was.last.place + reach * length list.now + TOP < PLACES)
         × IsBehind was.last.index list.now }
-    requires fits { (p : ℕ) → p < PLACES
-        → slice_index window.old p + 255 * length list.now < 2 ^ 16 }
+    requires fits { (was.heaviest < TOO_HEAVY → HaveRoom reach was.last window.old list.now)
+        × ((p : ℕ) → p < PLACES → slice_index window.old p < 2 ^ 8) }
     ensures weights { result.heaviest < TOO_HEAVY → (p : ℕ) → p < PLACES → slice_index window.new p
         ≡ slice_index window.old p
         + weight_at First TOP 0 p (laid_on reach was.last list.now) }
     ensures light { (length window.new ≡ length window.old) × ((p : ℕ) → p < PLACES
-        → slice_index window.new p ≤ slice_index window.old p + 255 * length list.now) }
+        → slice_index window.new p < 2 ^ 8) }
     ensures next { (es : List Entry) → laid_on reach was.last (list.now ++ es)
         ≡ laid_on reach was.last list.now
         ++ laid_on reach result.last es }
@@ -118,7 +119,7 @@ fn lay_all(window: &mut [u16], list: &[Entry], reach: u64, was: Laying) -> Layin
 
 /// Adds so many times each of a part of a window to a sum.
 #[inline(always)]
-fn add_laid(sums: &mut [u32], part: &[u16], times: u32)
+fn add_laid(sums: &mut [u32], part: &[u8], times: u32)
     requires all { length part.now ≡ length sums.old }
     requires fits { (q : ℕ) → q < length sums.old
         → slice_index sums.old q + slice_index part.now q * times < 2 ^ 32 }
@@ -134,10 +135,10 @@ fn add_laid(sums: &mut [u32], part: &[u16], times: u32)
 /// Sums the products of the weights in the second group of bins with those in the window, for some lags.
 /// Sum `q` takes for a bin the place `from + q` behind that where it is laid.
 #[inline(always)]
-fn sum_laid(sums: &mut [u32], window: &[u16], list: &[Entry], reach: u64, was: Laid, from: usize)
+fn sum_laid(sums: &mut [u32], window: &[u8], list: &[Entry], reach: u64, was: Laid, from: usize)
     requires zeros { (q : ℕ) → q < length sums.old → slice_index sums.old q ≡ 0 }
     requires window { (length window.now ≡ PLACES)
-        × ((p : ℕ) → p < PLACES → slice_index window.now p < 2 ^ 15) }
+        × ((p : ℕ) → p < PLACES → slice_index window.now p < 2 ^ 8) }
     requires light { (IsLight 255 list.now) × (length list.now ≤ CLOSE_BINS) }
     requires place { (was.place + reach * length list.now + from + length sums.old ≤ PLACES)
         × IsBehind was.index list.now }
@@ -161,7 +162,7 @@ fn pair_sums<L: Ledger>(
     cells: &mut PairCells,
     skipped: u32,
     lags: u32,
-    window: &[u16],
+    window: &[u8],
     list: &[Entry],
     was: Laid,
     sums: &mut [u32],
@@ -190,7 +191,7 @@ fn pair_laid<L: Ledger>(
     cells: &mut PairCells,
     skipped: u32,
     lags: u32,
-    window: &[u16],
+    window: &[u8],
     list: &[Entry],
     was: Laid,
     steps: &mut Steps<L>,
@@ -216,16 +217,9 @@ fn pair_laid<L: Ledger>(
     }
 }
 
-/// Whether bins that were laid are worth a window: two are near one another, and none is too heavy.
-fn is_close(laying: Laying) -> bool
-    ensures { result ≡ true → laying.heaviest < TOO_HEAVY }
-{
-    laying.near && laying.heaviest < TOO_HEAVY
-}
-
 /// Pairs the bins of a list from `start` on with those before them, at the lags above `skipped` and up to
-/// `lags`, over one window, and answers true. Where the bins are too heavy for it, or none is near another
-/// one, nothing is paired, and the answer is false.
+/// `lags`, over one window, and answers true. Where the bins are too heavy for it, nothing is paired, and the
+/// answer is false.
 fn pair_light<L: Ledger>(
     cells: &mut PairCells,
     skipped: u32,
@@ -251,12 +245,11 @@ fn pair_light<L: Ledger>(
     let none = Laying {
         last: Laid { index: 0, place: 0 },
         heaviest: 0,
-        near: false,
     };
     let reach = u64::from(lags) + 1;
     let before = lay_all(&mut window, &list[..start], reach, none);
     let all = lay_all(&mut window, &list[start..], reach, before);
-    if is_close(all) {
+    if all.heaviest < TOO_HEAVY {
         pair_laid(
             cells,
             skipped,

@@ -1,10 +1,10 @@
 // Pairs of bins with those before them.
-ghost use Rattle.std.{specs.Prelude.{◌≡◌, ℕ, ◌+◌, ◌-◌, ◌*◌, ◌^◌, ◌<◌, ◌≤◌, length, take, drop, slice_index, if◌then◌else◌, ◌==◌, ◌&&◌, nat_lt, nat_le}, specs.List.{AllByRecursion}};
+ghost use Rattle.std.{specs.Prelude.{◌≡◌, true, ℕ, ◌+◌, ◌-◌, ◌*◌, ◌^◌, ◌<◌, ◌≤◌, length, take, drop, slice_index, if◌then◌else◌, ◌==◌, ◌&&◌, nat_lt, nat_le}, specs.List.{AllByRecursion}};
 ghost use Rattle.lag_ring.{specs.Ring.IsRising, specs.Cells.{Spends, added_at}};
-ghost use Rattle.tau_cascade.{specs.Levels.{weight_before, entries_at_lags}, specs.Dense.{paired, AddsAtMost}};
+ghost use Rattle.tau_cascade.{specs.Levels.{weight_before, entries_at_lags}, specs.Dense.{paired, AddsAtMost}, specs.Bins.IsSpaced};
 
 use crate::dense::{ROOM, is_dense, pair_together, window_from};
-use crate::laid::{CLOSE_LAGS, pair_close};
+use crate::laid::{CLOSE_LAGS, CLOSE_PART, pair_close};
 use lag_ring::{Entry, PairCells};
 use std::sync::ledger::Ledger;
 use tally_base::Steps;
@@ -194,8 +194,8 @@ fn pair_each<L: Ledger>(
     }
 }
 
-/// The same: over a window, where they have places in one.
-fn pair_run<L: Ledger>(
+/// The same: lag by lag over a window, where the bins are dense and have places in one.
+fn pair_dense<L: Ledger>(
     cells: &mut PairCells,
     skipped: u32,
     lags: u32,
@@ -221,7 +221,55 @@ fn pair_run<L: Ledger>(
     }
 }
 
-/// The place behind the bins from `at` on that have places in one window.
+/// Whether no two bins are in reach of one another.
+#[inline(always)]
+fn is_apart(list: &[Entry], lags: u32) -> bool
+    ensures { result ≡ true → IsSpaced (lags + 1) list.now }
+{
+    for at in 1..list.len() {
+        if list[at].index.saturating_sub(list[at - 1].index) <= u64::from(lags) {
+            return false;
+        }
+    }
+    true
+}
+
+/// The same, by how they are to be paired.
+#[inline(always)]
+fn pair_part<L: Ledger>(
+    cells: &mut PairCells,
+    skipped: u32,
+    lags: u32,
+    list: &[Entry],
+    start: usize,
+    dense: bool,
+    steps: &mut Steps<L>,
+)
+    requires lags { (skipped ≤ lags) × (length cells.old.cells ≡ lags - skipped) }
+    requires start { start ≤ length list.now }
+    requires rising { IsRising list.now }
+    requires fits { (p : ℕ) → p < lags - skipped → slice_index cells.old.cells p
+        + paired (p + skipped + 1) (take start list.now) (drop start list.now) ≤ 2 ^ 80 }
+    ensures cells { (p : ℕ) → p < lags - skipped → slice_index cells.new.cells p
+        ≡ slice_index cells.old.cells p
+        + paired (p + skipped + 1) (take start list.now) (drop start list.now) }
+    ensures spends { Spends cells.old cells.new steps.old steps.new
+        ((lags - skipped) * (length list.now - start)) }
+    ensures each { AddsAtMost (length list.now - start) cells.old cells.new }
+{
+    if is_apart(list, lags) {
+        return;
+    }
+    if dense {
+        pair_dense(cells, skipped, lags, list, start, steps);
+    } else {
+        if !pair_close(cells, skipped, lags, list, start, steps) {
+            pair_each(cells, skipped, lags, list, start, steps);
+        }
+    }
+}
+
+/// The place behind the bins from `at` on that have places in one window of dense bins.
 #[inline(always)]
 fn run_end(list: &[Entry], at: usize) -> usize
     requires inside { at < length list.now }
@@ -240,67 +288,28 @@ fn run_end(list: &[Entry], at: usize) -> usize
     list.len()
 }
 
-/// The same, window by window.
-fn pair_runs<L: Ledger>(
-    cells: &mut PairCells,
-    skipped: u32,
-    lags: u32,
-    list: &[Entry],
-    start: usize,
-    steps: &mut Steps<L>,
-)
-    requires lags { (skipped ≤ lags) × (length cells.old.cells ≡ lags - skipped) }
-    requires start { start ≤ length list.now }
-    requires rising { IsRising list.now }
-    requires fits { (p : ℕ) → p < lags - skipped → slice_index cells.old.cells p
-        + paired (p + skipped + 1) (take start list.now) (drop start list.now) ≤ 2 ^ 80 }
-    ensures cells { (p : ℕ) → p < lags - skipped → slice_index cells.new.cells p
-        ≡ slice_index cells.old.cells p
-        + paired (p + skipped + 1) (take start list.now) (drop start list.now) }
-    ensures spends { Spends cells.old cells.new steps.old steps.new
-        ((lags - skipped) * (length list.now - start)) }
-    ensures each { AddsAtMost (length list.now - start) cells.old cells.new }
+/// The place behind the bins from `at` on that are paired together.
+#[inline(always)]
+fn part_end(lags: u32, list: &[Entry], at: usize, dense: bool) -> usize
+    requires inside { at < length list.now }
+    ensures more { at < result }
+    ensures within { result ≤ length list.now }
 {
-    let mut at = start;
-    'runs: while at < list.len() {
-        let end = run_end(list, at);
-        let from = first_in_reach(list, at, list[at].index, lags);
-        pair_run(cells, skipped, lags, &list[from..end], at - from, steps);
-        at = end;
-    }
-}
-
-/// The same: lag by lag over windows, where the bins are dense.
-fn pair_by_density<L: Ledger>(
-    cells: &mut PairCells,
-    skipped: u32,
-    lags: u32,
-    list: &[Entry],
-    start: usize,
-    steps: &mut Steps<L>,
-)
-    requires lags { (skipped ≤ lags) × (length cells.old.cells ≡ lags - skipped) }
-    requires start { start ≤ length list.now }
-    requires rising { IsRising list.now }
-    requires fits { (p : ℕ) → p < lags - skipped → slice_index cells.old.cells p
-        + paired (p + skipped + 1) (take start list.now) (drop start list.now) ≤ 2 ^ 80 }
-    ensures cells { (p : ℕ) → p < lags - skipped → slice_index cells.new.cells p
-        ≡ slice_index cells.old.cells p
-        + paired (p + skipped + 1) (take start list.now) (drop start list.now) }
-    ensures spends { Spends cells.old cells.new steps.old steps.new
-        ((lags - skipped) * (length list.now - start)) }
-    ensures each { AddsAtMost (length list.now - start) cells.old cells.new }
-{
-    if is_dense(skipped, lags, list, start) {
-        pair_runs(cells, skipped, lags, list, start, steps);
+    if dense {
+        run_end(list, at)
     } else {
-        pair_each(cells, skipped, lags, list, start, steps);
+        if lags <= CLOSE_LAGS {
+            list.len().min(at + CLOSE_PART)
+        } else {
+            list.len()
+        }
     }
 }
 
 /// Pairs the bins of a list from `start` on with those before them, at the lags above `skipped` and up
-/// to `lags`. Where there are few lags, and bins are near one another, over one window in which they are laid
-/// close together.
+/// to `lags`. Where there are few lags, and bins are near one another, part by part over windows in which they
+/// are laid close together; where there are many, and the bins are dense, over windows that have a place for
+/// each index.
 pub(crate) fn pair_all<L: Ledger>(
     cells: &mut PairCells,
     skipped: u32,
@@ -321,7 +330,20 @@ pub(crate) fn pair_all<L: Ledger>(
         ((lags - skipped) * (length list.now - start)) }
     ensures each { AddsAtMost (length list.now - start) cells.old cells.new }
 {
-    if !pair_close(cells, skipped, lags, list, start, steps) {
-        pair_by_density(cells, skipped, lags, list, start, steps);
+    let dense = lags > CLOSE_LAGS && is_dense(skipped, lags, list, start);
+    let mut at = start;
+    'parts: while at < list.len() {
+        let end = part_end(lags, list, at, dense);
+        let from = first_in_reach(list, at, list[at].index, lags);
+        pair_part(
+            cells,
+            skipped,
+            lags,
+            &list[from..end],
+            at - from,
+            dense,
+            steps,
+        );
+        at = end;
     }
 }

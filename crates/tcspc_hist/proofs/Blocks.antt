@@ -17,7 +17,7 @@ pub count-append : (set : HistView) (test : ℕ → Bool) (h m : History) → co
 count-append set test h m = sum_by-append (λ (x : Event × ℕ). cond (is_in x.1 set.group && dtime_passes test x.0.kind) 1 0) h m
 
 -- one row more
-pub count-row : (set : HistView) (test : ℕ → Bool) (b : Block) (n : ℕ) → count_dtimes set test (rows (item b) (n + 1)) ≡ count_dtimes set test (rows (item b) n) + (if test (dtime_at b n) then (if is_in (groups_at b n) set.group && nat_lt (code_at b n) 256 then 1 else 0) else 0)
+pub count-row : (set : HistView) (test : ℕ → Bool) {N : ℕ} (b : Block N) (n : ℕ) → count_dtimes set test (rows (item b) (n + 1)) ≡ count_dtimes set test (rows (item b) n) + (if test (dtime_at b n) then (if is_in (groups_at b n) set.group && nat_lt (code_at b n) 256 then 1 else 0) else 0)
 count-row set test b n = search (rules, arith, more_rows, sum_by_push)
 
 pub one_at_most : (b : Bool) → (if b then 1 else 0) ≤ 1

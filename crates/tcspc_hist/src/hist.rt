@@ -5,7 +5,7 @@ ghost use Rattle.tcspc_hist.specs.HistogramCounts.{in_bin, count_over};
 
 use std::alloc::{AllocError, Global};
 use std::sync::ledger::Ledger;
-use tally_base::{BLOCK_SIZE, Block, HistSet, Steps, Tally};
+use tally_base::{Block, HistSet, Steps, TABLE_BLOCK, Tally};
 
 /// Counts the photons of a group by their dtimes, that is by the ticks since their syncs.
 ///
@@ -71,7 +71,7 @@ impl Hist {
 }
 
 /// Counts the photons of a block, and answers how many are now past the last bin.
-fn count_block(set: &HistSet, cells: &mut [u64], over: u64, block: &Block) -> u64
+fn count_block(set: &HistSet, cells: &mut [u64], over: u64, block: &Block<TABLE_BLOCK>) -> u64
     requires sorted { IsSorted block.now }
     requires sized { length cells.old ≡ set.now.bins }
     requires room { sum cells.old + over + length (gathered block.now) ≤ record_limit }
@@ -83,7 +83,7 @@ fn count_block(set: &HistSet, cells: &mut [u64], over: u64, block: &Block) -> u6
     let group = set.group;
     let width = set.width;
     let mut over = over;
-    for at in 0..block.len().min(BLOCK_SIZE) {
+    for at in 0..block.len().min(TABLE_BLOCK) {
         // No branch on the group, which is as good as random from photon to photon.
         let more = block.photons_in(at, group);
         let bin = bin_of(width, block.dtime(at));
@@ -147,7 +147,7 @@ impl Tally for Hist {
 
     ghost marker_groups = { marker_groups };
 
-    fn events<L: Ledger>(&mut self, block: &Block, _steps: &mut Steps<L>) {
+    fn events<L: Ledger>(&mut self, block: &Block<TABLE_BLOCK>, _steps: &mut Steps<L>) {
         self.taken += block.len() as u64;
         self.floor = block.floor_after(false, self.floor);
         self.over = count_block(&self.set, &mut self.cells, self.over, block);

@@ -1,9 +1,9 @@
 -- What a piece, and the end of a stream, write of a trace.
 use Rattle.std.{proofs.Common.{◌≡◌, ◌≢◌, ◌∙◌, ◌<◌, ◌⊎◌, ℕ, List, [], ◌++◌, None, Some, Ok, Err, refl, sym, ap, subst, inl, inr, ⊎_elim, append_assoc, Result, OnOk, OnErr, IfErr, false}, specs.declared.option.Option.Option, specs.Io.KnownBytes.{Appends, Keeps}}
 use Rattle.tally_base.{specs.declared.fault.Fault.Fault, specs.declared.fault.Fault.TheVariants.WriteFault, specs.Faults.{is_outside, fault_in}, specs.Settings.{TraceView, trace_view}, specs.Tally.History, specs.declared.slot.Failed.Failed, specs.FaultCounts.{FailsOnce, Rose}}
-use Rattle.told_text.specs.Texts.{WroteText, WritesText}
+use Rattle.streamed_text.specs.Texts.{WroteText, WritesText}
 use Rattle.bench_io.{specs.Sinks.{AppendsShort, PassesOn}, specs.declared.sink.Sink.Ghosts as SinkGhosts, proofs.Bytes.{Appends-flushed, AppendsShort-flushed, AppendsShort-more, AppendsShort-kept, Keeps-from_none}}
-use Rattle.ptu_definitions.{specs.declared.records.Summary.Summary, specs.Kept.Marked, specs.Settled.not_marked, specs.Words.{words_of, rest_of}, specs.Streams.{Reading, record_refusal, last_in, streamed}, proofs.DeliveredLaws.not_marked-append, proofs.Firsts.streamed-inside}
+use Rattle.ptu_definitions.{specs.declared.records.Summary.Summary, specs.Kept.Marked, specs.Settled.not_marked, specs.Words.{words_of, rest_of}, specs.Streams.{StreamSettings, record_refusal, last_in, streamed}, proofs.DeliveredLaws.not_marked-append, proofs.Firsts.streamed-inside}
 use Rattle.record_stream.{specs.declared.taker.EventTaker.Ghosts, specs.Feeding.{GaveOn, BrokeOn, Fed}, specs.Ending.{GaveRest, BrokeFirst, Ended}}
 use Rattle.gate_plan.{specs.Shifting.Sorting, specs.Histories.{with_groups, history}, proofs.Histories.with_groups-more}
 use Rattle.long_trace.{specs.declared.trace.LongTrace.LongTrace, specs.LongTrace.{Holds, GivenMore, set_of}, specs.Texts.open_text, proofs.Rising.{RisesFrom, open-front}}
@@ -14,11 +14,11 @@ use Rattle.photon_pick.proofs.Ends.{clear-from_ok}
 with-parts : (by : Sorting) (l m : Marked) → with_groups by (not_marked (l ++ m)) ≡ with_groups by (not_marked l) ++ with_groups by (not_marked m)
 with-parts by l m = ap (with_groups by) (not_marked-append l m) ∙ with_groups-more by (not_marked l) (not_marked m)
 
-clear-whole : (how : Reading) (bytes : List ℕ) → record_refusal how (words_of bytes) ≡ None → rest_of bytes ≡ [] → fault_in (streamed how bytes) ≡ None
+clear-whole : (how : StreamSettings) (bytes : List ℕ) → record_refusal how (words_of bytes) ≡ None → rest_of bytes ≡ [] → fault_in (streamed how bytes) ≡ None
 unfolding streamed
 clear-whole how bytes none whole = rw (none, whole) refl
 
-streamed-no_write : (how : Reading) (bytes : List ℕ) (fault : Fault) → streamed how bytes ≡ Err fault → fault ≢ WriteFault
+streamed-no_write : (how : StreamSettings) (bytes : List ℕ) (fault : Fault) → streamed how bytes ≡ Err fault → fault ≢ WriteFault
 streamed-no_write how bytes fault is e = let inside =
     streamed-inside how bytes fault (ap fault_in is) in let bad : is_outside WriteFault ≡ false = rw e at inside in cc
 
@@ -46,7 +46,7 @@ some-lines set by h all l m lines some up is closed =
     (front.0, ap (open_text set) parts ∙ front.1 ∙ ap (λ t. t ++ front.0) closed ∙ append_assoc (open_text set h) lines front.0)
 
 module _ {T : Type 0} (g : Ghosts T) (trace : T → LongTrace) (told : T → Option (List ℕ)) (held : T
-    → List ℕ) (by : Sorting) (how : Reading) (a b : T) (c : Option (List ℕ)) (faults : ℕ)
+    → List ℕ) (by : Sorting) (how : StreamSettings) (a b : T) (c : Option (List ℕ)) (faults : ℕ)
     (none : g.got a a []) (gets : (l : Marked) → g.got a b l → Gets by (trace a) (trace b) (told a) (told b) (held b) l) (breaks : (l : Marked)
     → g.broke a b l → Breaks by (trace a) (told a) (told b) (held b) l) where
   abbrev set : TraceView

@@ -1,7 +1,7 @@
 -- What holds of the trace of bytes that grow.
 use Rattle.std.proofs.Common.{◌≡◌, ◌∙◌, ℕ, List, None, Some, refl, sym, ap}
 use Rattle.tally_base.{specs.declared.settings.TraceSet.TraceSet, specs.declared.header.Header.Header, specs.RecordTypes.mode_of, specs.Settings.trace_view}
-use Rattle.ptu_definitions.{specs.Headers.header_answer, specs.Words.words_of, specs.Streams.{Reading, record_refusal}, proofs.Firsts.{record_refusal-inside, streamed-inside}}
+use Rattle.ptu_definitions.{specs.Headers.header_answer, specs.Words.words_of, specs.Streams.{StreamSettings, record_refusal}, proofs.Firsts.{record_refusal-inside, streamed-inside}}
 use Rattle.plan_text.{specs.Plan.PlanView, specs.Fits.fits}
 use Rattle.gate_plan.{specs.Shifting.{Sorting, sorting}, specs.Histories.reading_by}
 use Rattle.record_stream.{specs.declared.stream.RecordStream.RecordStream, specs.Standing.how_of, proofs.Lasts.streamed-clear}
@@ -9,7 +9,7 @@ use Rattle.long_trace.specs.declared.trace.LongTrace.{LongTrace}
 use Rattle.command_work.{specs.Outcomes.MayChange, specs.Behaviours.AsItReads, specs.Works.WantsNone, specs.Tellings.{Telling, IsText, Suits}, proofs.RestEnds.{fits-law, ends-headed, text-headed, goes-headed, ends-fit, text-fit, goes-fit, streamed-open}}
 use Rattle.trace_work.{specs.TraceOutcomes.{trace_of, words_traced, records_traced, traced_if_fits, traced_behind, open_if_fits, open_behind, trace_so_far, tracing}, specs.TracePieces.{traces, traces_by, HasTraced}, specs.TraceTexts.{text-front, refused-ends, ends-fault}}
 
-pub traces-law : (set : TraceSet) (by : Sorting) (how : Reading) → IsText (traces (trace_view set) by how)
+pub traces-law : (set : TraceSet) (by : Sorting) (how : StreamSettings) → IsText (traces (trace_view set) by how)
 traces-law set by how = record {
   refused = refused-ends by how (Some (trace_view set));
   front = text-front by how (trace_view set) set.some_width.0;

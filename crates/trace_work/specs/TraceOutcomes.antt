@@ -1,7 +1,7 @@
 -- What `trace` ends with over the bytes of a file.
 use Rattle.std.{specs.Prelude.{ℕ, ◌≡◌, List, [], ◌∷◌, None, Some, Result, Ok, Err, ◌+◌, max, ◌++◌, length, refl}, specs.declared.option.Option.Option, proofs.Common.{append-nil, arith}}
 use Rattle.tally_base.{specs.declared.fault.Fault.Fault, specs.declared.fault.Fault.TheVariants.NoTrace, specs.declared.header.Header.Header, specs.RecordTypes.mode_of, specs.Settings.{PartSettings, TraceView, trace_view}, specs.Settings.PartSettings.TraceSettings, specs.Tally.History, specs.declared.header.Mode.Mode}
-use Rattle.ptu_definitions.{specs.declared.records.Summary.Summary, specs.Headers.header_answer, specs.Words.words_of, specs.Streams.{Reading, unrefused_after, streamed}, specs.Kept.{Marked, floor_of}, specs.Settled.not_marked}
+use Rattle.ptu_definitions.{specs.declared.records.Summary.Summary, specs.Headers.header_answer, specs.Words.words_of, specs.Streams.{StreamSettings, unrefused_after, streamed}, specs.Kept.{Marked, floor_of}, specs.Settled.not_marked}
 use Rattle.plan_text.{specs.Plan.{PlanView, parts_of}, specs.Fits.fits}
 use Rattle.gate_plan.{specs.Shifting.{Sorting, sorting}, specs.Histories.{history, settled_history, reading_by, with_groups}}
 use Rattle.long_trace.{specs.Texts.{open_text, whole_text}, specs.declared.trace.LongTrace.LongTrace, specs.LongTrace.{Holds, GivenMore, set_of}, proofs.Steps.GivenMore-nil}
@@ -37,20 +37,20 @@ whole_by None h = []
 whole_by (Some set) h = whole_text set h
 
 -- the events that are settled by the words before the first that is refused
-abbrev pub settled_before : Sorting → Reading → List ℕ → History
+abbrev pub settled_before : Sorting → StreamSettings → List ℕ → History
 settled_before by how words = settled_history by how (unrefused_after how [] words)
 
 -- what has been printed of these words, where the next read fails
-abbrev pub words_traced : Option TraceView → Sorting → Reading → List ℕ → List ℕ
+abbrev pub words_traced : Option TraceView → Sorting → StreamSettings → List ℕ → List ℕ
 words_traced set by how words = open_by set (settled_before by how words)
 
 -- by the answer of the records
-abbrev pub traced : Option TraceView → Sorting → Reading → List ℕ → Result Summary Fault → Outcome
+abbrev pub traced : Option TraceView → Sorting → StreamSettings → List ℕ → Result Summary Fault → Outcome
 traced set by how bytes (Ok summary) = written (whole_by set (history by how (words_of bytes)))
 traced set by how bytes (Err fault) = record { text = words_traced set by how (words_of bytes); fault = Some fault }
 
 -- what the bytes behind a header end with
-abbrev pub records_traced : Option TraceView → Sorting → Reading → List ℕ → Outcome
+abbrev pub records_traced : Option TraceView → Sorting → StreamSettings → List ℕ → Outcome
 records_traced set by how bytes = traced set by how bytes (streamed how bytes)
 
 -- by whether the plan's parts suit the file

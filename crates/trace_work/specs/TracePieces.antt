@@ -2,7 +2,7 @@
 use Rattle.std.{specs.Prelude.{ℕ, ◌≡◌, ◌⊎◌, ◌≤◌, List, ◌++◌, OnOk, true, false, None, Some, Result, Ok, Err}, specs.Io.KnownBytes.{Appends, Keeps}}
 use Rattle.tally_base.{specs.declared.fault.Fault.Fault, specs.declared.fault.Fault.TheVariants.WriteFault, specs.FaultCounts.Rose, specs.Faults.{is_outside, fault_in}, specs.Settings.{TraceView, trace_view}, specs.declared.header.Header.Header, specs.RecordTypes.mode_of}
 use Rattle.bench_io.{specs.Sinks.AppendsShort, specs.declared.sink.Sink.Ghosts}
-use Rattle.ptu_definitions.{specs.Words.words_of, specs.Streams.{Reading, record_refusal, streamed}}
+use Rattle.ptu_definitions.{specs.Words.words_of, specs.Streams.{StreamSettings, record_refusal, streamed}}
 use Rattle.plan_text.{specs.Plan.PlanView, specs.Fits.fits}
 use Rattle.gate_plan.{specs.Shifting.{Sorting, sorting}, specs.Histories.{history, reading_by}}
 use Rattle.record_stream.{specs.declared.stream.RecordStream.RecordStream, specs.Standing.{how_of, given_by, greatest_of, refused_with, HasStreamed}}
@@ -11,7 +11,7 @@ use Rattle.command_work.specs.Tellings.{Telling, WritesPiece, WritesEnd, unless_
 use Rattle.trace_work.specs.TraceOutcomes.{settled_before, words_traced, records_traced}
 
 -- the trace of the settings
-abbrev pub traces : TraceView → Sorting → Reading → Telling
+abbrev pub traces : TraceView → Sorting → StreamSettings → Telling
 traces set by how = record {
   text = λ bytes. words_traced (Some set) by how (words_of bytes);
   ends = λ bytes. records_traced (Some set) by how bytes;
@@ -29,7 +29,7 @@ pub record IsBehindStream (stream : RecordStream) (trace : LongTrace) : Type 0 w
   pub before : floor_of trace ≤ greatest_of stream
 
 -- The trace stands for what the words of these bytes give.
-abbrev pub TracesBytes : Sorting → Reading → LongTrace → List ℕ → Type 0
+abbrev pub TracesBytes : Sorting → StreamSettings → LongTrace → List ℕ → Type 0
 TracesBytes by how trace bytes = Holds trace (settled_before by how (words_of bytes))
 
 -- The stream was given these bytes and refused none, and the trace stands for what they give.
@@ -50,7 +50,7 @@ TracesPiece o by stream trace now piece old new result =
     refused_with stream ≡ None → (bytes : List ℕ) → HasStreamed stream bytes → TracesBytes by (how_of stream) trace bytes → TracedPiece o by stream trace now bytes piece old new result
 
 -- The trace was given what the stream kept back, and the lines of the bins that this closed were written. Then it stands for the whole kept list.
-pub record WroteLast {O : Type 0} (o : Ghosts O) (by : Sorting) (how : Reading) (trace now : LongTrace) (old new : O) (bytes : List ℕ) : Type 0 where
+pub record WroteLast {O : Type 0} (o : Ghosts O) (by : Sorting) (how : StreamSettings) (trace now : LongTrace) (old new : O) (bytes : List ℕ) : Type 0 where
   pub clear : fault_in (streamed how bytes) ≡ None
   pub stands : Holds now (history by how (words_of bytes))
   pub more : List ℕ
@@ -59,7 +59,7 @@ pub record WroteLast {O : Type 0} (o : Ghosts O) (by : Sorting) (how : Reading) 
   pub kept : o.faults new ≡ o.faults old
 
 -- The lines were cut short.
-pub record CutLast {O : Type 0} (o : Ghosts O) (by : Sorting) (how : Reading) (trace : LongTrace) (old new : O) (bytes : List ℕ) : Type 0 where
+pub record CutLast {O : Type 0} (o : Ghosts O) (by : Sorting) (how : StreamSettings) (trace : LongTrace) (old new : O) (bytes : List ℕ) : Type 0 where
   pub clear : fault_in (streamed how bytes) ≡ None
   pub more : List ℕ
   pub adds : open_text (trace_view (set_of trace)) (history by how (words_of bytes)) ≡ words_traced (Some (trace_view (set_of trace))) by how (words_of bytes) ++ more
@@ -67,7 +67,7 @@ pub record CutLast {O : Type 0} (o : Ghosts O) (by : Sorting) (how : Reading) (t
   pub rose : Rose (o.faults old) (o.faults new)
 
 -- what giving it what a stream keeps back wrote, by the answer
-abbrev pub WritesLast : {O : Type 0} → Ghosts O → Sorting → Reading → LongTrace → LongTrace → O → O → List ℕ → Result (Unit {0}) Fault → Type 0
+abbrev pub WritesLast : {O : Type 0} → Ghosts O → Sorting → StreamSettings → LongTrace → LongTrace → O → O → List ℕ → Result (Unit {0}) Fault → Type 0
 WritesLast o by how trace now old new bytes (Ok done) = WroteLast o by how trace now old new bytes
 WritesLast o by how trace now old new bytes (Err fault) =
     ((is_outside fault ≡ false) × (fault_in (streamed how bytes) ≡ Some fault) × Keeps (o.written old) (o.written new) × (o.faults new ≡ o.faults old)) ⊎ ((fault ≡ WriteFault) × CutLast o by how trace old new bytes)

@@ -2,7 +2,7 @@
 ghost use Rattle.std.specs.Prelude.{◌≡◌, ◌<◌, ◌≤◌, ℕ, List, true, OnOk, None, Some};
 ghost use Rattle.tally_base.specs.Settings.{trace_view};
 ghost use Rattle.ptu_definitions.specs.Words.{record_limit};
-ghost use Rattle.plan_text.specs.Reading.{plan_view};
+ghost use Rattle.plan_text.specs.ReadPlan.{plan_view};
 ghost use Rattle.record_stream.{specs.Standing.{how_of, refused_with, HasStreamed}, specs.Pieces.{TakesOn, StaysOpen, Begins}};
 ghost use Rattle.gate_plan.specs.Groups.{sorting_of};
 ghost use Rattle.long_trace.specs.LongTrace.{set_of, taken_of, floor_of, is_going};
@@ -11,13 +11,13 @@ ghost use Rattle.trace_work.{specs.TraceOutcomes.trace_of, specs.TracePieces.{tr
 
 use abs_time::{moved_floor, orders_markers};
 use arrayvec::ArrayVec;
-use bench_io::{Block, Sink};
+use bench_io::{OutBuffer, Sink};
 use command_work::{Job, Reader};
 use gate_plan::{Gates, sort_events};
 use long_trace::{LINES_SIZE, LongTrace};
 use plan_text::Plan;
 use record_stream::{EventTaker, RecordStream, Summary};
-use tally_base::{Event, Failed, Fault, Header, Mode, TraceSet};
+use tally_base::{BLOCK_SIZE, Block, Event, Failed, Fault, Header, Mode, TABLE_BLOCK, TraceSet};
 
 /// Gives each event that isn't late to a trace, with its groups, and writes the lines of the bins that it closes,
 /// through a block. It lives for one piece, or for the end.
@@ -26,8 +26,9 @@ struct TraceLines<'g, 't, 'o, O: Sink> {
     gates: &'g Gates,
     trace: &'t mut LongTrace,
     out: &'o mut O,
-    block: Block,
-    // Room for the lines of a block of events.
+    block: OutBuffer,
+    // Room for a block of events with their groups, and for their lines.
+    events: Block<TABLE_BLOCK>,
     lines: ArrayVec<u8, LINES_SIZE>,
     mode: Mode,
     taken: u64,
@@ -82,15 +83,17 @@ impl<'g, 't, 'o, O: Sink> EventTaker for TraceLines<'g, 't, 'o, O> {
         Ok(())
     }
 
-    fn take_block(&mut self, block: &mut tally_base::Block) -> Result<(), Failed> {
-        if block.len() == 0 {
+    fn take_block(&mut self, block: &mut Block<BLOCK_SIZE>) -> Result<(), Failed> {
+        let len = block.len();
+        if len == 0 {
             return Ok(());
         }
-        self.taken += block.len() as u64;
+        self.taken += len as u64;
         self.floor = block.floor_after(orders_markers(self.mode), self.floor);
-        sort_events(self.gates, block);
-        self.lines.clear();
-        self.trace.take_block(block, &mut self.lines);
+        self.events.clear();
+        self.events.push_front(block, len);
+        sort_events(self.gates, &mut self.events);
+        self.trace.take_block(&self.events, &mut self.lines);
         self.block.put(self.out, self.lines.as_slice())?;
         Ok(())
     }
@@ -142,7 +145,8 @@ fn trace_piece<O: Sink>(
         gates,
         trace,
         out,
-        block: Block::new(),
+        block: OutBuffer::new(),
+        events: Block::new(),
         lines: ArrayVec::new(),
         mode,
         taken: stream.given(),
@@ -222,7 +226,8 @@ fn last_lines<O: Sink>(
         gates,
         trace,
         out,
-        block: Block::new(),
+        block: OutBuffer::new(),
+        events: Block::new(),
         lines: ArrayVec::new(),
         mode,
         taken: stream.given(),

@@ -1,7 +1,7 @@
 use Rattle.std.proofs.Common.{◌≡◌, List, ℕ, ◌-◌, ◌^◌, true, None}
 use Rattle.tally_base.specs.declared.slot.Slot.TheVariants.{Data}
 use Rattle.bench_io.{specs.Given.Consumes, specs.Inputs.OnlyReads}
-use Rattle.ptu_header.specs.Reading.{HasRead, bytes_taken, is_open}
+use Rattle.ptu_header.specs.ReadHeader.{HasRead, bytes_taken, is_open}
 use Rattle.command_work.specs.Outcomes.{SaysNoEnd, IsCut, InputsOnce}
 use Rattle.command_work.proofs.data.read_header.Given as goal
 

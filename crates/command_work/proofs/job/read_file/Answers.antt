@@ -1,8 +1,8 @@
-use Rattle.std.{proofs.Common.{arith, ◌≡◌, ◌∙◌, ◌<◌, ℕ, List, [], ◌++◌, None, Some, Ok, Err, refl, sym, ap, subst, inl, inr, ⊎_elim, append_assoc, append-nil, length, ◌⊎◌, true, Result, IsErrAnd, rules}, proofs.lemmas.Result.{err_from_is_err_and, IfErr-weaker}, specs.declared.option.Option.Option}
+use Rattle.std.{proofs.Common.{arith, ◌≡◌, ◌∙◌, ◌<◌, ℕ, List, [], ◌++◌, None, Some, Ok, Err, refl, sym, ap, subst, inl, inr, ⊎_elim, append_assoc, append-nil, length, ◌⊎◌, true, Result, IsErrAnd, rules, slice_range}, proofs.lemmas.Result.{err_from_is_err_and, IfErr-weaker}, specs.declared.option.Option.Option}
 use Rattle.tally_base.{specs.declared.fault.Fault.Fault, specs.declared.slot.Slot.TheVariants.Data, specs.declared.header.Header.Header, specs.Faults.{is_outside, fault_in}, proofs.Reasons.{HasReason-follows, HasReason-with}}
 use Rattle.bench_io.{specs.Given.{Given, Consumes}, specs.Inputs.InputState, proofs.States.Consumes-trans, proofs.Bytes.AppendsShort-same}
 use Rattle.ptu_definitions.specs.Headers.{header_answer}
-use Rattle.command_work.{specs.Endings.{span, Span}, proofs.Pieces.{few_behind, ShowsHeader, few-map, few-behind, still}, specs.Outcomes.{Says, SaysNoEnd, InputsOnce, Outcome, IsCut}, specs.Behaviours.{piece_limit, Work, Writing}, specs.Works.{AnswersWork, ReadsWork, CutsWork, WantsWork, TakesFew, LeavesWork}, specs.Pieces.{ReadReason, StopsSoon}, specs.Tellings.{Telling, HeadedGoes, Suits}, specs.Rests.{EndsText, ReadsText, CutsText, WantsMemory, ReadsRest}, proofs.Once.{Rose-kept, out-unwritten, once-behind}}
+use Rattle.command_work.{specs.Endings.{span, Span}, proofs.Pieces.{WritesText-behind, front-fails, open-fails, rest-follows, few_behind, ShowsHeader, few-map, few-behind, still}, specs.Outcomes.{Says, SaysNoEnd, InputsOnce, Outcome, IsCut}, specs.Behaviours.{piece_limit, Work, Writing}, specs.Works.{AnswersWork, ReadsWork, CutsWork, WantsWork, TakesFew, LeavesWork}, specs.Pieces.{ReadReason, StopsSoon}, specs.Tellings.{Telling, HeadedGoes, Suits}, specs.Rests.{EndsText, ReadsText, CutsText, WantsMemory, ReadsRest}, proofs.Once.{Rose-kept, out-unwritten, once-behind}}
 use Rattle.command_work.proofs.job.read_file.Goals as goal
 
 -- a header, and what reading all data after it leaves
@@ -110,12 +110,53 @@ returns-in_err-found-clause-leaves g c =
     rw (p.1, p.2) (leaves-unheaded _ _ _ _ _ (g.met.J.Job.law c.args.job.now) _ _ _ _ front.0 c.in_err-found.field-0.0
     front.1 front.2 c.in_err-found.ensures.reason c.in_err-found.ensures.once c.in_err-found.ensures.stops)
 
+pub returns-in_err-reader-clause-leaves : goal.returns-in_err-reader-clause-leaves
+returns-in_err-reader-clause-leaves g c =
+    let found = c.in_ok-found.found in
+    let read = c.in_ok-found.ensures in
+    let law = g.met.J.Job.law c.args.job.now in
+    let tells = g.J.Job.tells c.args.job.now found.header in
+    let first = slice_range c.read_header.new.buffer found.used found.len in
+    let few = few_behind c.read_header.new.buffer found.used found.len 8192 (omega arith) read.part.ended read.part.order read.part.within in
+    let p = err_from_is_err_and c.from_residual-in_err-reader.result c.from_residual-in_err-reader.ensures.1 in
+    rw (p.1, p.2) (leaves-rest _ _ _ _ _ law _ (span g.I.Inputs g.O.Sink c.read_header.new.inputs c.read_header.new.inputs c.args.out.now c.«open».new.out)
+    read.answer.0 first found.header read.answer.2 read.answer.1 (Err c.in_err-reader.field-0.0) few read.once read.stops.few read.stops.done
+    (open-fails tells (law.is found.header) _ _ _ _ _ _ first c.in_err-reader.field-0.0 c.in_err-reader.ensures.opens))
+
+pub returns-in_err-piece-clause-leaves : goal.returns-in_err-piece-clause-leaves
+returns-in_err-piece-clause-leaves g c =
+    let found = c.in_ok-found.found in
+    let read = c.in_ok-found.ensures in
+    let law = g.met.J.Job.law c.args.job.now in
+    let tells = g.J.Job.tells c.args.job.now found.header in
+    let first = slice_range c.read_header.new.buffer found.used found.len in
+    let few = few_behind c.read_header.new.buffer found.used found.len 8192 (omega arith) read.part.ended read.part.order read.part.within in
+    let p = err_from_is_err_and c.from_residual-in_err-piece.result c.from_residual-in_err-piece.ensures.1 in
+    let writes = rw c.in_ok-reader.ensures.tells at (c.in_err-piece.ensures.writes [] c.in_ok-reader.ensures.stands) in
+    rw (p.1, p.2) (leaves-rest _ _ _ _ _ law _ (span g.I.Inputs g.O.Sink c.read_header.new.inputs c.read_header.new.inputs c.args.out.now c.piece.new.out)
+    read.answer.0 first found.header read.answer.2 read.answer.1 (Err c.in_err-piece.field-0.0) few read.once read.stops.few read.stops.done
+    (front-fails tells (law.is found.header) _ _ _ _ _ _ first first [] c.in_err-piece.field-0.0 (sym (append-nil first))
+    (WritesText-behind _ _ _ _ _ _ _ _ _ _ (Err c.in_err-piece.field-0.0) c.in_ok-reader.ensures.opens.1 writes)))
+
 pub returns-clause-leaves : goal.returns-clause-leaves
 returns-clause-leaves g c =
-    let front = c.in_ok-found.ensures.answer in
     let found = c.in_ok-found.found in
-    let part = c.in_ok-found.ensures.part in
-    leaves-rest _ _ _ _ _ (g.met.J.Job.law c.args.job.now) _ (span g.I.Inputs g.O.Sink c.read_header.new.inputs
-    c.read_after.new.inputs c.args.out.now c.read_after.new.out) front.0 _ found.header front.2 front.1 c.read_after.result
-    (few_behind c.read_header.new.buffer found.used found.len 8192 (omega arith) part.ended part.order part.within)
-    c.in_ok-found.ensures.once c.in_ok-found.ensures.stops.few c.in_ok-found.ensures.stops.done c.read_after.ensures.rest
+    let read = c.in_ok-found.ensures in
+    let law = g.met.J.Job.law c.args.job.now in
+    let tells = g.J.Job.tells c.args.job.now found.header in
+    let first = slice_range c.read_header.new.buffer found.used found.len in
+    let few = few_behind c.read_header.new.buffer found.used found.len 8192 (omega arith) read.part.ended read.part.order read.part.within in
+    let writes = rw c.in_ok-reader.ensures.tells at (c.in_ok-piece.ensures.writes [] c.in_ok-reader.ensures.stands) in
+    let wrote = WritesText-behind _ _ _ _ _ _ _ _ _ _ (Ok tt) c.in_ok-reader.ensures.opens.1 writes in
+    let rest = rw (c.piece.ensures.same, c.in_ok-reader.ensures.tells) at
+    (c.read_rest.ensures.rest first (c.in_ok-piece.ensures.takes [] c.in_ok-reader.ensures.stands)) in
+    leaves-rest _ _ _ _ _ law _ (span g.I.Inputs g.O.Sink c.read_header.new.inputs c.read_rest.new.inputs c.args.out.now c.read_rest.new.out)
+    read.answer.0 first found.header read.answer.2 read.answer.1 c.read_rest.result few read.once read.stops.few read.stops.done
+    (rest-follows tells (g.J.Job.wants c.args.job.now found.header) first _ _ _ c.read_rest.result wrote.1 rest)
+
+pub piece-requires : goal.piece-requires
+piece-requires g c = ([], c.in_ok-reader.ensures.stands)
+
+pub read_rest-requires-clause-stands : goal.read_rest-requires-clause-stands
+read_rest-requires-clause-stands g c =
+    (slice_range c.read_header.new.buffer c.in_ok-found.found.used c.in_ok-found.found.len, c.in_ok-piece.ensures.takes [] c.in_ok-reader.ensures.stands)

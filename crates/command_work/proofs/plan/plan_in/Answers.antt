@@ -1,6 +1,6 @@
 use Rattle.std.{proofs.Common.{◌+◌, rules, None, take, arith, sym, ap, ◌∙◌}, proofs.lemmas.Result.{err_from_is_err_and}, proofs.lemmas.List.length-take-le}
 use Rattle.tally_base.specs.declared.slot.Slot.TheVariants.{Plan as PlanSlot}
-use Rattle.plan_text.specs.Reading.{text_limit}
+use Rattle.plan_text.specs.ReadPlan.{text_limit}
 use Rattle.command_work.{proofs.PlanTold.{uses-read, plan_told, plan-reasons, plan-quiet, ended_short}, proofs.Told.{all-taken, none-ended}, proofs.Once.{quiet-none, once-refl, once-none, once-behind, once-opened, once-unopened}}
 use Rattle.command_work.proofs.plan.plan_in.Goals as goal
 

@@ -1,7 +1,7 @@
 use Rattle.std.{proofs.Common.{ℕ, List, refl, sym, ap, ◌∙◌, subst, inl}, specs.declared.option.Option.Option, proofs.lemmas.Result.{IfErr-weaker, err_from_is_err_and}}
 use Rattle.tally_base.specs.declared.slot.Slot.TheVariants.{Data}
 use Rattle.bench_io.{specs.Inputs.{File, IsOpened}, proofs.Bytes.{Appends-nil, Keeps-from_none}}
-use Rattle.plan_text.specs.Reading.{plan_view}
+use Rattle.plan_text.specs.ReadPlan.{plan_view}
 use Rattle.command_work.{specs.Endings.{Span, HasCauses}, proofs.PlanTold.{has-plan, has-later, none-lacking, names-later, takes-later, answers-unplanned, unplanned-causes, answers-lacking, lacking-causes, plan-answers, plan-causes, plan-files}, proofs.Told.few-told, proofs.Once.{Rose-kept, quiet-inside, out-inside, out-unwritten, once-none, once-behind, once-opened, once-unopened}}
 use Rattle.command_work.proofs.work.by_plan.Goals as goal
 

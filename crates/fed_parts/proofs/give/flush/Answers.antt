@@ -19,11 +19,11 @@ pub give_all-requires : goal.give_all-requires
 give_all-requires g c = record {
   sorted = c.sort_events.ensures.ready;
   may = λ k d within. can_take-shifted ghosts (sorting_of c.args.gates.now) (gathered c.args.block.now)
-      (gathered c.sort_events.new.block) _ c.sort_events.ensures.shifted (c.requires.may k d within);
+      (gathered c.sort_events.new.block) _ c.sort_events.ensures.shifted (c.requires.may (search (rules, arith)) k d within);
 }
 
 pub pass_block-requires : goal.pass_block-requires
 pass_block-requires g c = search (rules, arith, length-map)
 
-pub returns : goal.returns
-returns g c = search (rules, arith, length-map, took-shifted, floor-shifted)
+pub returns-then-len-gt0 : goal.returns-then-len-gt0
+returns-then-len-gt0 g c = search (rules, arith, length-map, took-shifted, floor-shifted)

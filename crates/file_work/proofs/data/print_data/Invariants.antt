@@ -1,7 +1,7 @@
 use Rattle.std.{proofs.Common.{◌≡◌, List, ℕ, ◌-◌, ◌^◌, true, None}, specs.Io.KnownBytes.{Appends}}
 use Rattle.tally_base.specs.declared.slot.Slot.TheVariants.{Data}
 use Rattle.bench_io.{specs.Given.Consumes, specs.Inputs.OnlyReads}
-use Rattle.ptu_header.specs.Reading.{bytes_taken, is_open}
+use Rattle.ptu_header.specs.ReadHeader.{bytes_taken, is_open}
 use Rattle.list_out.specs.HeaderText.{header_text}
 use Rattle.command_work.specs.Outcomes.{SaysNoEnd, IsCut, InputsOnce}
 use Rattle.file_work.specs.BodyPieces.{Prints}

@@ -5,6 +5,7 @@ use Rattle.gate_plan.proofs.table.plain_table.Given as goal
 
 abbrev pub invariant-loop-input : goal.invariant-loop-input
 invariant-loop-input l = record {
-  sized : length l.table ≡ 256;
+  sized : length l.table ≡ 257;
   filled : (input : ℕ) → input < l.input → get_or l.table input 0 ≡ plain_bits (map group_view l.groups) input;
+  markers : get_or l.table 256 0 ≡ 0;
 }

@@ -1,4 +1,4 @@
-use Rattle.std.{proofs.Common.{◌≡◌, ◌+◌, ◌-◌, ◌<◌, ◌≤◌, ℕ, true, eqb, cond, get_or, length, arith}, proofs.lemmas.Bool.Decides.nat_tests, proofs.lemmas.List.Sums.sum_by_more_le}
+use Rattle.std.{proofs.Common.{◌≡◌, ◌+◌, ◌-◌, ◌<◌, ℕ, true, eqb, cond, get_or, length, arith}, proofs.lemmas.Bool.Decides.nat_tests, proofs.lemmas.List.Sums.sum_by_more_le}
 use Rattle.lag_ring.{specs.declared.ring.Entry.Entry, specs.Bytes.weight_of}
 use Rattle.lag_ring.proofs.bytes.put_side.Goals as goal
 

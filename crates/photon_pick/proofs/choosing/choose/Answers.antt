@@ -1,21 +1,29 @@
 use Rattle.std.{proofs.Common.{◌≡◌, ◌+◌, ◌<◌, ◌≤◌, ℕ, Bool, true, false, length, sym, rules, arith, if◌then◌else◌, ◌∙◌, List, [], ◌∷◌, ◌++◌, ap, refl, get_or, set, append-nil, ◌⊎◌, inr, slice_index}, specs.List.filter, proofs.lemmas.Grind.common_steps, proofs.lemmas.List.get_or-set_same, proofs.lemmas.List.Elements.filter-append}
-use Rattle.tally_base.{specs.Columns.{event_at, rows}, specs.declared.event.Event.Event, specs.declared.block.Block.Block, proofs.BlockRows.{same-rows, more_rows}}
-use Rattle.gate_plan.specs.Groups.{sorting_of}
+use Rattle.tally_base.{specs.Columns.{event_at, rows}, specs.Events.is_in, specs.declared.event.Event.Event, specs.declared.event.EventKind.EventKind, specs.declared.event.EventKind.TheVariants.{Photon, Marker}, specs.declared.block.Block.Block, proofs.BlockRows.{same-rows, more_rows}}
+use Rattle.gate_plan.{specs.Groups.sorting_of, specs.Shifting.Sorting, specs.Taking.groups_in, proofs.Parts.of_shifted_marker}
 use Rattle.photon_pick.{specs.Chosen.is_chosen, specs.Giving.events_at}
 use Rattle.photon_pick.proofs.choosing.choose.Goals as goal
+
+-- a marker is in no group
+none-in : (group : ℕ) → is_in 0 group ≡ false
+none-in group = search (rules, arith)
+
+chosen-kind : (by : Sorting) (group : ℕ) (e : Event) (kind : EventKind) → e.kind ≡ kind → is_chosen by group e ≡ is_in (groups_in by e) group
+chosen-kind by group e (Photon input dtime) is = rw is refl
+chosen-kind by group e (Marker bits) is = rw (of_shifted_marker by e bits is, is) (sym (none-in group))
 
 -- one place more among those that are chosen
 other : (xs : List ℕ) (n k v : ℕ) → k < n → get_or (set xs n v) k 0 ≡ get_or xs k 0
 other xs n k v lt = grind (arith, common_steps)
 
 -- those before it stay
-before : (b : Block) (places : List ℕ) (n at : ℕ) → events_at b (set places n at) n ≡ events_at b places n
+before : (b : Block 64) (places : List ℕ) (n at : ℕ) → events_at b (set places n at) n ≡ events_at b places n
 before b places n at = search (rules, arith, same-rows, other)
 
 one-more : (p : Event → Bool) (xs : List Event) (e : Event) → filter p (xs ++ e ∷ []) ≡ filter p xs ++ filter p (e ∷ [])
 one-more p xs e = filter-append p xs (e ∷ [])
 
-chosen-more : (p : Event → Bool) (b : Block) (places : List ℕ) (n at : ℕ) (test : Bool)
+chosen-more : (p : Event → Bool) (b : Block 64) (places : List ℕ) (n at : ℕ) (test : Bool)
     → n < length places → events_at b places n ≡ filter p (rows (event_at b) at) → p (event_at b at) ≡ test
     → events_at b (set places n at) (n + (if test then 1 else 0)) ≡ filter p (rows (event_at b) (at + 1))
 chosen-more p b places n at true inside are is =
@@ -41,11 +49,13 @@ loop-at-preserved c =
     let b = c.args.block.now in
     let at = c.loop-at.at in
     let n = c.loop-at.chosen in
-    let test = c.is_chosen.result in
+    let test = c.is_in.result in
     let few : at < 64 = search (rules, arith) in
     let inside : n < length c.loop-at.places = omega (arith, inv.sized, inv.few, few) in
     let more : c.from-chosen.result ≡ (if test then 1 else 0) = search rules in
-    let is : is_chosen (sorting_of c.args.gates.now) c.args.group (event_at b at) ≡ test = rw c.event.ensures at (sym c.is_chosen.ensures) in
+    let is : is_chosen (sorting_of c.args.gates.now) c.args.group (event_at b at) ≡ test =
+    rw c.event.ensures at (chosen-kind (sorting_of c.args.gates.now) c.args.group c.event.result c.event.result.kind refl
+    ∙ ap (λ groups. is_in groups c.args.group) (sym c.groups_of-groups.ensures) ∙ sym c.is_in.ensures) in
     rw more (record {
       sized = search (rules, arith, inv.sized);
       few = few-more test n at inv.few;

@@ -1,7 +1,8 @@
 use Rattle.std.{proofs.Common.{◌≡◌, ◌^◌, ◌<◌, ◌==◌, ℕ, List, Bool, true, false, length, map, get_or, replicate, cond, refl, ap, subst, ◌∙◌, arith, ltb, w32}, proofs.lemmas.Nat.{and_mask}, proofs.lemmas.Simd.{bitmask_splat, bit_mask_l, mask_l-lt, length-zip2, get_or-zip2, get_or-replicate}, proofs.lemmas.List.{length-map, get_or-map}}
 use lib.Lanes.{zip2, mask_l}
 use lib.Bits.{bit_and}
-use Rattle.record_layout.{specs.InClose.has_bit, specs.InColumns.code_in}
+use Rattle.tally_base.specs.Codes.{code_in}
+use Rattle.record_layout.specs.InClose.{has_bit}
 use Rattle.record_layout.proofs.close.bits_below.Goals as goal
 
 abbrev codes : List ℕ → List ℕ

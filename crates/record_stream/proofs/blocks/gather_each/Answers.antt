@@ -1,5 +1,4 @@
-use Rattle.std.{proofs.Common.{◌≡◌, ◌+◌, ◌≤◌, ◌++◌, [], ℕ, length, take, get_or, refl, sym, ap, subst, ◌∙◌, arith, rules, ◌^◌, ◌<◌, ◌∷◌}, proofs.lemmas.List.take_all, specs.Int.{from_le_bytes, w32}}
-use Rattle.ptu_definitions.specs.Times.{amount}
+use Rattle.std.{proofs.Common.{◌≡◌, ◌+◌, ◌*◌, ◌≤◌, ◌++◌, [], ℕ, length, take, get_or, refl, sym, ap, subst, ◌∙◌, arith, rules}, proofs.lemmas.List.take_all, specs.Int.{from_le_bytes, w32}}
 use Rattle.tally_base.{specs.Limits.wrap_limit, specs.Columns.{event_at, written}, proofs.BlockRows.length-rows}
 use Rattle.abs_time.specs.Placing.{placed_by}
 use Rattle.record_layout.{specs.declared.row.Row.Row, specs.InColumns.IsRow}
@@ -9,10 +8,10 @@ use Rattle.record_stream.proofs.blocks.gather_each.Goals as goal
 pub place-requires-clause-base : goal.place-requires-clause-base
 place-requires-clause-base g c =
     let i = c.loop-i.i in
-    let row = subst (λ (r : Row). IsRow g.R.RecordLayout.meaning r (from_le_bytes w32 (get_or c.args.words.now i [])))
+    let row = subst (λ (r : Row). IsRow g.R.RecordLayout.meaning g.R.RecordLayout.UNIT r (from_le_bytes w32 (get_or c.args.words.now i [])))
     (sym c.get-row.ensures) (c.requires.rows i c.loop-i-test.true) in
     let less = small c.args.walk.now c.args.words.now g.R.RecordLayout.meaning c.requires.meaning
-    c.requires.passes c.args.only_ordered i c.loop-i-test.true c.get-row.result row in
+    c.requires.passes c.args.only_ordered i c.loop-i-test.true g.R.RecordLayout.UNIT c.get-row.result row in
     omega (arith, less, c.loop-i.invariant.base, c.requires.passes.base, c.requires.few, c.loop-i-test.true)
 
 pub loop-i-preserved : goal.loop-i-preserved
@@ -28,9 +27,9 @@ loop-i-preserved g c =
     let row = c.get-row.result in
     let now = c.place.new.self in
     let goes = c.place.ensures.goes in
-    let is = subst (λ (r : Row). IsRow g.R.RecordLayout.meaning r (from_le_bytes w32 (get_or words i []))) (sym c.get-row.ensures) (c.requires.rows i lt) in
-    let less = small walk words g.R.RecordLayout.meaning c.requires.meaning c.requires.passes only i lt row is in
-    let few : ahead.base + row.amount ≤ wrap_limit = omega (arith, less, inv.base, c.requires.passes.base, c.requires.few, lt) in
+    let is = subst (λ (r : Row). IsRow g.R.RecordLayout.meaning g.R.RecordLayout.UNIT r (from_le_bytes w32 (get_or words i []))) (sym c.get-row.ensures) (c.requires.rows i lt) in
+    let less = small walk words g.R.RecordLayout.meaning c.requires.meaning c.requires.passes only i lt g.R.RecordLayout.UNIT row is in
+    let few : ahead.base + g.R.RecordLayout.UNIT * row.wraps ≤ wrap_limit = omega (arith, less, inv.base, c.requires.passes.base, c.requires.few, lt) in
     let ordered_is : c.ordered_below-ordered.result ≡ ordered_below how.mode =
     c.ordered_below-ordered.ensures ∙ ap ordered_below (c.mode.ensures ∙ walk.same_mode) in
     let below_is : c.gathered_below-below.result ≡ gathered_below only how.mode =
@@ -49,7 +48,7 @@ loop-i-preserved g c =
       unsorted = c.place.ensures.unsorted ∙ inv.unsorted;
       gathers =
           gathers-row walk words g.R.RecordLayout.meaning c.requires.meaning c.requires.passes only
-          i lt row is ahead.in_order now.in_order ahead.base now.base ahead.greatest now.greatest
+          i lt g.R.RecordLayout.UNIT row is ahead.in_order now.in_order ahead.base now.base ahead.greatest now.greatest
           (written c.loop-i.block ahead.len) (written c.place.new.block now.len) few goes.base top_is goes.in_order events_are inv.gathers;
     }
 

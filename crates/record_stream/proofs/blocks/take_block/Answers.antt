@@ -1,4 +1,4 @@
-use Rattle.std.proofs.Common.{◌≡◌, ◌+◌, ◌++◌, ℕ, true, length, map, refl, ap, sym, inr, ◌∙◌, arith, rules}
+use Rattle.std.proofs.Common.{◌≡◌, ◌+◌, ℕ, true, length, map, refl, ap, sym, inr, ◌∙◌, arith, rules}
 use Rattle.ptu_definitions.{specs.Words.numbers, specs.Kinds.counts_of}
 use Rattle.abs_time.specs.Placing.{placed_by}
 use Rattle.record_stream.{specs.OneMore.{with_block, summed}, specs.Walking.{how_of, greatest_of, clock_in}, proofs.Gathering.{gathers-all, gathers-lead}, proofs.Feeds.delivers-both, proofs.Steps.{ok_of, err_of, block_at, block_fed, block_broke, floors_below}}

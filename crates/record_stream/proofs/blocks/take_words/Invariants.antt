@@ -1,4 +1,4 @@
-use Rattle.std.proofs.Common.{◌≡◌, ◌++◌, List, ℕ, length, ◌+◌, ◌≤◌}
+use Rattle.std.proofs.Common.{◌≡◌, ◌++◌, List, ℕ, length}
 use Rattle.ptu_definitions.specs.Words.{numbers}
 use Rattle.record_stream.specs.Walking.{greatest_of, IsBehind, Took}
 use Rattle.record_stream.proofs.blocks.take_words.Given as goal

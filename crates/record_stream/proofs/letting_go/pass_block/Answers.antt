@@ -7,7 +7,7 @@ use Rattle.record_stream.{specs.Walking.{how_of, clock_in}, proofs.Passed.{block
 use Rattle.record_stream.proofs.letting_go.pass_block.Goals as goal
 
 -- what is written behind no events
-goes_is : (out : Block) (pushed went gone front : List Event) → gathered out ≡ []
+goes_is : (out : Block 64) (pushed went gone front : List Event) → gathered out ≡ []
     → pushed ≡ gathered out ++ gone → went ≡ pushed ++ front → went ≡ gone ++ front
 goes_is out pushed went gone front blank is more = more ∙ ap (λ l. l ++ front) (is ∙ ap (λ l. l ++ gone) blank)
 
@@ -16,13 +16,13 @@ stays_is : (cleared waiting items stay rest back : List Event) → cleared ≡ [
 stays_is cleared waiting items stay rest back none is more same = same ∙ more ∙ ap (λ l. l ++ back) (is ∙ ap (λ l. l ++ rest) none)
 
 -- As many as come go, and as many as were kept back stay: the first of both together, and the last.
-record IsCut (b went : Block) (s : Settle) (stay : List Event) (len : ℕ) : Type 0 where
+record IsCut (b went : Block 64) (s : Settle) (stay : List Event) (len : ℕ) : Type 0 where
   joined : kept_back s ++ gathered b ≡ gathered went ++ stay
   many : went.len ≡ len
   as_many : length stay ≡ length (kept_back s)
   last : (time : ℕ) → 0 < b.len → time ≡ time_at went (len - 1) → time ≡ time_after (last_time s) (gathered went)
 
-module _ (b out went : Block) (s : Settle) (len held least : ℕ) (pushed waiting all gone rest cleared items stay : List Event) (blank : gathered out ≡ [])
+module _ (b out went : Block 64) (s : Settle) (len held least : ℕ) (pushed waiting all gone rest cleared items stay : List Event) (blank : gathered out ≡ [])
     (first : pushed ≡ gathered out ++ gone) (more : gathered went ≡ pushed ++ rows (event_at b) (len - least))
     (none : cleared ≡ []) (left : waiting ≡ cleared ++ rest) (back : items ≡ waiting ++ drop (len - least) (gathered b)) (same : stay ≡ items)
     (whole : all ≡ kept_back s) (parts : all ≡ gone ++ rest) (front_len : length gone ≡ len - (len - least))
@@ -51,7 +51,7 @@ module _ (b out went : Block) (s : Settle) (len held least : ℕ) (pushed waitin
         is ∙ sym (time-rows (last_time s) (event_at went) went.len (omega (arith, many_go, count, some)) ∙ ap (λ n. (event_at went (n - 1)).time) many_go);
   }
 
-place_is : (b : Block) (place len : ℕ) (e : Event) → 0 < b.len → len ≡ b.len → e ≡ event_at b (len - 1) → e.place ≡ place_after place (gathered b)
+place_is : (b : Block 64) (place len : ℕ) (e : Event) → 0 < b.len → len ≡ b.len → e ≡ event_at b (len - 1) → e.place ≡ place_after place (gathered b)
 place_is b place len e some count is = search (rules, arith, place-rows)
 
 pub time-requires : goal.time-requires

@@ -1,17 +1,17 @@
 use Rattle.std.{proofs.Common.{refl, ◌≡◌, ◌≢◌, ℕ, List, [], ◌∷◌, ◌++◌, Some, Ok, Err, OnOk, map, subst, sym, ◌∙◌, inr, ⊎_elim}, proofs.lemmas.Result.err_from_is_err_and, specs.declared.result.Result.Result}
 use Rattle.abs_time.{specs.declared.clock.Placed.Placed}
 use Rattle.tally_base.{specs.declared.event.Event.Event, specs.declared.fault.Fault.Fault, specs.declared.fault.Fault.TheVariants.WriteFault}
-use Rattle.ptu_definitions.{specs.Settled.{ordered, not_marked}, specs.Kept.Marked, specs.Streams.{Reading, refusal, events_in}, specs.Times.events, proofs.StreamLemmas.fresh}
+use Rattle.ptu_definitions.{specs.Settled.{ordered, not_marked}, specs.Kept.Marked, specs.Streams.{StreamSettings, refusal, events_in}, specs.Times.events, proofs.StreamLemmas.fresh}
 use Rattle.settle.specs.declared.settle.Settle.{Settle}
 use Rattle.record_stream.{specs.Walking.{how_of, given_by, KeepsPlace}, proofs.Feeds.delivers-both, proofs.Placed.{skipped-event, event_in, top_in, comes, refused-placed, fresh-placed, skipped-fresh}, proofs.Steps.{refused_fed, word_at, word_gave, word_broke, skipped_word}, specs.Feeding.Fed, specs.Keeping.{HasCome, tells, refused_for}, specs.Rows.IsPlaced, specs.Settling.{IsSettledBehind, BrokeAt, Tells, Told, Untold}, specs.declared.taker.EventTaker.Ghosts, specs.declared.walk.Walk.Walk, proofs.Settles.{come_event, come_none}}
 use Rattle.record_stream.proofs.settled.settle_word.Goals as goal
 
 -- the events in order of these words
-abbrev came_in : Reading → List ℕ → List Event
+abbrev came_in : StreamSettings → List ℕ → List Event
 came_in how ws = ordered how.mode (events (map how.meaning ws))
 
 -- and those of them that were let go
-abbrev gone_in : Reading → List ℕ → List Event
+abbrev gone_in : StreamSettings → List ℕ → List Event
 gone_in how ws = not_marked (events_in how ws)
 
 -- One word more where events are put in their places.

@@ -1,4 +1,4 @@
-use Rattle.std.proofs.Common.{take, ◌≡◌, ◌+◌, ◌≤◌, ◌++◌, ℕ}
+use Rattle.std.proofs.Common.{take}
 use Rattle.ptu_definitions.specs.Words.{numbers}
 use Rattle.settle.specs.Standing.{last_time}
 use Rattle.record_stream.{specs.Keeping.IsKeeping, specs.Settling.IsSettledBehind, specs.Walking.Took}

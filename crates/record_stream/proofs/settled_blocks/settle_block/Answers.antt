@@ -1,5 +1,5 @@
 use Rattle.std.{proofs.Common.{◌≡◌, ◌+◌, ◌≤◌, ◌++◌, ℕ, List, true, length, map, refl, ap, sym, subst, inr, ◌∙◌, arith, rules, ◌≢◌, ◌<◌, [], ◌∷◌, Bool, false, cond, if◌then◌else◌}, specs.List.AllByRecursion, proofs.lemmas.Bool.ne_eqb, proofs.lemmas.List.Elements.{All-from_recursion, filter-append, recursion_from_All}}
-use Rattle.ptu_definitions.{specs.Words.numbers, specs.Kinds.counts_of, specs.Layouts.KindFits, specs.Kept.mark, specs.Prefixes.each_after, specs.Settled.{delivered, not_marked, ordered, settles}, specs.Streams.{Reading, events_in}, specs.Times.events, proofs.DeliveredLaws.{delivered-append, delivered_after}}
+use Rattle.ptu_definitions.{specs.Words.numbers, specs.Kinds.counts_of, specs.Layouts.KindFits, specs.Kept.mark, specs.Prefixes.each_after, specs.Settled.{delivered, not_marked, ordered, settles}, specs.Streams.{StreamSettings, events_in}, specs.Times.events, proofs.DeliveredLaws.{delivered-append, delivered_after}}
 use Rattle.abs_time.{specs.Placing.placed_by, specs.Floors.orders_markers, proofs.Floors.moves_by}
 use Rattle.tally_base.{specs.Columns.{event_at, gathered}, proofs.BlockRows.length-rows, proofs.Floors.order-lower, specs.declared.event.Event.Event, specs.declared.header.Mode.Mode, specs.Events.is_ordered, specs.Tally.{moves_floor, InOrder}}
 use Rattle.settle.{specs.Passing.place_after, specs.Standing.{last_time, HasSettled}, specs.declared.settle.Settle.Settle}
@@ -74,7 +74,7 @@ comes-ordered walk es rises line fit =
     }
 
 -- What they let go all let go.
-delivers-ordered : (how : Reading) (settle : Settle) (words : List ℕ) (came went : List Event) → how.policy.settle ≢ 0
+delivers-ordered : (how : StreamSettings) (settle : Settle) (words : List ℕ) (came went : List Event) → how.policy.settle ≢ 0
     → IsDelivered how settle words (ordered how.mode came) went → IsDelivered how settle words came went
 delivers-ordered how settle words came went some d =
     let mode = how.mode in

@@ -1,4 +1,4 @@
-use Rattle.std.{proofs.Common.{◌++◌, [], refl, length, length-append, ◌≡◌, ℕ, ◌∙◌}, specs.Int.{from_le_bytes, w32}, proofs.lemmas.List.map-append, proofs.lemmas.Result.err_from_is_err_and}
+use Rattle.std.{proofs.Common.{◌++◌, [], refl, length, length-append}, specs.Int.{from_le_bytes, w32}, proofs.lemmas.List.map-append, proofs.lemmas.Result.err_from_is_err_and}
 use Rattle.ptu_definitions.specs.Words.{numbers}
 use Rattle.record_stream.{proofs.Feeds.{took-none, took-more, took-last, took-stop}, proofs.Wraps.{parted, parted-numbers, both-numbers}}
 use Rattle.record_stream.proofs.settled_blocks.settle_blocks.Goals as goal

@@ -1,4 +1,4 @@
-use Rattle.std.proofs.Common.{◌≡◌, ◌++◌, List, ℕ, length, ◌+◌, ◌≤◌}
+use Rattle.std.proofs.Common.{◌≡◌, ◌++◌, List, ℕ, length}
 use Rattle.ptu_definitions.specs.Words.{numbers}
 use Rattle.settle.specs.Standing.{last_time}
 use Rattle.record_stream.{specs.Keeping.IsKeeping, specs.Settling.IsSettledBehind, specs.Walking.Took}

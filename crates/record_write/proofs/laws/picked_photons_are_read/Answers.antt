@@ -1,7 +1,7 @@
 use Rattle.std.{proofs.Common.{◌≡◌, ◌≤◌, List, false, length, map, None, arith, rules}, proofs.lemmas.List.Elements.All-from_recursion}
 use Rattle.tally_base.{specs.declared.event.Event.Event, specs.declared.event.Policy.Policy, specs.declared.header.Mode.Mode}
 use Rattle.ptu_definitions.specs.Streams.{reading, record_refusal, given}
-use Rattle.short_file.{specs.ShortFiles.{short_file, short_type, bytes_in}, proofs.ShortHeaders.{short-answer, words_of-bytes_in}}
+use Rattle.minimal_file.{specs.ShortFiles.{minimal_file, short_type, bytes_in}, proofs.ShortHeaders.{short-answer, words_of-bytes_in}}
 use Rattle.record_write.{specs.Picked.{picked_words, picked_events, CanBePicked, IsPhotonOrWrap}, proofs.ReadBack.{small-words, photons-and-wraps, within, events-photons, kept-events, unrefused, given-events}}
 use Rattle.record_write.proofs.laws.picked_photons_are_read.Goals as goal
 
@@ -14,7 +14,7 @@ given_by_mode : (mode : Mode) (photons : List Event) (policy : Policy) → CanBe
 given_by_mode mode photons policy can first room = search (rules, arith, given-events)
 
 pub returns : goal.returns
-unfolding short_file
+unfolding minimal_file
 returns c = record {
   header = λ mode photons. short-answer mode (bytes_in (picked_words mode photons));
   words = λ mode photons can. words_of-bytes_in (picked_words mode photons) (small-words mode photons can);

@@ -1,7 +1,7 @@
 use Rattle.std.{proofs.Common.{◌≡◌, refl, ap, ◌∙◌, inl}, proofs.lemmas.Result.err_from_is_err_and}
 use Rattle.tally_base.specs.declared.slot.Slot.TheVariants.{Data}
 use Rattle.bench_io.proofs.Bytes.{Appends-nil, Keeps-from_none}
-use Rattle.plan_text.specs.Reading.{plan_view}
+use Rattle.plan_text.specs.ReadPlan.{plan_view}
 use Rattle.report_work.{specs.Demo.demo_plan, proofs.Reports.{demo-view, plan-wanted, ends-demo, demo-causes}}
 use Rattle.command_work.{specs.Endings.HasCauses, proofs.Told.alone-answers}
 use Rattle.report_work.proofs.made.demo.Goals as goal

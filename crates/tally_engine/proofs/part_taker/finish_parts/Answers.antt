@@ -14,26 +14,26 @@ returns-clause-ends g c = λ bytes h.
     let by = sorting_of c.args.gates.now in
     let how = how_of c.args.stream in
     let taker = c.finish-finished.new.taker in
-    at_same (λ parts. Ends by how bytes c.args.parts.now parts c.finish-finished.result) c.flush_waiting.new.parts _
-    (ends_by _ by how _ taker bytes c.args.parts.now c.flush_waiting.new.parts c.finish-finished.result (gave_none ghosts _ _ _ _ _ _) (λ l broke. broke)
+    at_same (λ parts. Ends by how bytes c.args.parts.now parts c.finish-finished.result) c.flush.new.parts _
+    (ends_by _ by how _ taker bytes c.args.parts.now c.flush.new.parts c.finish-finished.result (gave_none ghosts _ _ _ _ _ _) (λ l broke. broke)
     (λ got held. λ k d inside.
-    let same : length c.flush_waiting.new.parts ≡ length taker.parts.now = search rules in
+    let same : length c.flush.new.parts ≡ length taker.parts.now = search rules in
     let within : k < length taker.parts.now = omega (arith, same, inside) in
     rw (history-ends by how (words_of bytes))
     (holding_all ghosts by (gathered taker.block) _ _ _
     (got.follows (settled_history by how (words_of bytes)) (λ k d within. holding_none ghosts by _ _ _ c.new.ensures.empty (held k d within)) k d within)
-    (subst (λ (by : Sorting). HasTaken ghosts (gathered taker.block) (with_groups by (gathered taker.block)) (get_or taker.parts.now k d) (get_or c.flush_waiting.new.parts k d)) got.same_sorting (c.flush_waiting.ensures.took k d within))))
+    (subst (λ (by : Sorting). HasTaken ghosts (gathered taker.block) (with_groups by (gathered taker.block)) (get_or taker.parts.now k d) (get_or c.flush.new.parts k d)) got.same_sorting (c.flush.ensures.took k d within))))
     (fin.answer (search rules) bytes h))
     (search rules)
 
 pub returns-clause-still_open : goal.returns-clause-still_open
 returns-clause-still_open g c =
     let taker = c.finish-finished.new.taker in
-    at_same (λ parts. All (λ t. ghosts.closed t ≡ false) parts) c.flush_waiting.new.parts _
+    at_same (λ parts. All (λ t. ghosts.closed t ≡ false) parts) c.flush.new.parts _
     (λ k d inside.
-    let same : length c.flush_waiting.new.parts ≡ length taker.parts.now = search rules in
+    let same : length c.flush.new.parts ≡ length taker.parts.now = search rules in
     let within : k < length taker.parts.now = omega (arith, same, inside) in
-    (c.flush_waiting.ensures.took k d within).still_open)
+    (c.flush.ensures.took k d within).still_open)
     (search rules)
 
 pub returns-clause-inside : goal.returns-clause-inside

@@ -85,7 +85,7 @@ carry_all-requires-in-None g t c κs within =
     let from = c.args.coming.closed.from in
     let count = c.args.coming.closed.count in
     let es = stretch from count c.args.coming.levels c.args.bins.now in
-    let few : c.take-closed.result.count ≤ 64 =
+    let few : c.take-closed.result.count ≤ 512 =
     omega (arith, c.take-closed.ensures.places.1, c.requires.comes.places, length-take (from + count - from) (drop from c.args.bins.now)) in (
       search rules,
       (

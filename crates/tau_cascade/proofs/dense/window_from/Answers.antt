@@ -1,4 +1,4 @@
-use Rattle.std.{proofs.Common.{◌≡◌, ◌-◌, ◌<◌, drop, length, refl, arith}, proofs.lemmas.List.{take_rest, length-drop}}
+use Rattle.std.{proofs.Common.{◌<◌, length, refl, arith}, proofs.lemmas.List.{take_rest, length-drop}}
 use Rattle.lag_ring.specs.declared.ring.Entry.{Entry}
 use Rattle.tau_cascade.proofs.Together.{all_early, all_near}
 use Rattle.tau_cascade.proofs.dense.window_from.Goals as goal

@@ -42,9 +42,9 @@ loop-bin-preserved c =
       small = λ q inside.
           let room = room_at c.args.reach i (length es) was.place at.place from count _ c.loop-bin-test.true inv.place c.requires.place.0 in
           let few = c.requires.window.1 (to + (from + q)) (omega (arith, room, one.place, inside)) in
-          let low : get_or window (to + (from + q)) 0 ≤ 32768 = omega (arith, few) in
+          let low : get_or window (to + (from + q)) 0 ≤ 255 = omega (arith, few) in
           let light : e.b ≤ 255 = (is_light_at 255 es i none c.loop-bin-test.true c.requires.light.0).1 in
-          let most : get_or window (to + (from + q)) 0 * e.b ≤ 32768 * 255 = mul-le-mul low light in
+          let most : get_or window (to + (from + q)) 0 * e.b ≤ 255 * 255 = mul-le-mul low light in
           let more = (rw (part q inside) at (c.add_laid.ensures.sums q (omega (arith, inv.same, inside)))) in
           omega (arith, more, most, inv.small q inside);
       next = λ rest. rw (one.index, one.place, cut) (laid_next c.args.reach was.index was.place at.index at.place (take i es) e inv.next rest);

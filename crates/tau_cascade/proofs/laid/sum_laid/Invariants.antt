@@ -7,7 +7,7 @@ abbrev pub invariant-loop-bin : goal.invariant-loop-bin
 invariant-loop-bin l = record {
   sums : (q : ℕ) → q < length l.fn.sums
       → get_or l.sums q 0 ≡ sum_by (product_at Second l.window 0 (l.from + q)) (laid l.reach l.fn.was.index l.fn.was.place (take l.bin-index l.list));
-  small : (q : ℕ) → q < length l.fn.sums → get_or l.sums q 0 ≤ 8355840 * l.bin-index;
+  small : (q : ℕ) → q < length l.fn.sums → get_or l.sums q 0 ≤ 65025 * l.bin-index;
   next : (es : List Entry) → laid l.reach l.fn.was.index l.fn.was.place (take l.bin-index l.list ++ es) ≡ laid l.reach l.fn.was.index l.fn.was.place
       (take l.bin-index l.list) ++ laid l.reach l.last.index l.last.place es;
   after : (es : List Entry) → IsBehind l.fn.was.index (take l.bin-index l.list ++ es) → IsBehind l.last.index es;

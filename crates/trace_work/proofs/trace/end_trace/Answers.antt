@@ -3,7 +3,7 @@ use Rattle.gate_plan.{specs.Groups.sorting_of, specs.Shifting.Sorting, specs.His
 use Rattle.record_stream.specs.Standing.{how_of}
 use Rattle.tally_base.{specs.declared.fault.Fault.Fault, specs.declared.fault.Fault.TheVariants.WriteFault, specs.Faults.fault_in, specs.FaultCounts.Rose, specs.Settings.{TraceView, trace_view}, specs.Tally.History}
 use Rattle.bench_io.{specs.declared.sink.Sink.Ghosts, proofs.Bytes.{Appends-trans, AppendsShort-behind, AppendsShort-more}}
-use Rattle.ptu_definitions.{specs.Words.words_of, specs.Streams.{Reading, streamed}}
+use Rattle.ptu_definitions.{specs.Words.words_of, specs.Streams.{StreamSettings, streamed}}
 use Rattle.long_trace.{specs.declared.trace.LongTrace.LongTrace, specs.LongTrace.set_of, specs.Texts.{open_text, whole_text}, specs.Written.{AppendsRest, CutsRest}, proofs.Rising.whole-front}
 use Rattle.command_work.{specs.Outcomes.{Outcome, written}, specs.Tellings.WritesEnd}
 use Rattle.trace_work.{specs.TraceOutcomes.{words_traced, records_traced}, specs.TracePieces.{traces, WroteLast, WritesLast}}
@@ -16,7 +16,7 @@ Keeps-append a b k = search (rules, arith, append-nil)
 abbrev end_with : List ℕ → Option Fault → Outcome
 end_with text fault = record { text = text; fault = fault }
 
-module _ {O : Type 0} (o : Ghosts O) (by : Sorting) (how : Reading) (trace now : LongTrace) (bytes : List ℕ) where
+module _ {O : Type 0} (o : Ghosts O) (by : Sorting) (how : StreamSettings) (trace now : LongTrace) (bytes : List ℕ) where
   abbrev set : TraceView
   set = trace_view (set_of trace)
 

@@ -1,5 +1,5 @@
 use Rattle.std.proofs.Common.{[], arith}
-use Rattle.told_text.proofs.Texts.{WroteText-none}
+use Rattle.streamed_text.proofs.Texts.{WroteText-none}
 use Rattle.file_work.specs.CountLaws.{counts-clear}
 use Rattle.file_work.proofs.counting.CountingJob.open.Goals as goal
 

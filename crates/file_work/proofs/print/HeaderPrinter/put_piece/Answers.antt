@@ -5,7 +5,7 @@ use Rattle.command_work.{specs.Outcomes.IsCut, proofs.Pieces.whole-piece}
 use Rattle.tally_base.{specs.declared.fault.Fault.Fault, specs.declared.header.Header.Header}
 use Rattle.bench_io.{specs.Sinks.{AppendsShort, PassesOn}, proofs.Bytes.{PassesOn-trans, AppendsShort-passed, AppendsShort-more, AppendsShort-same}}
 use Rattle.ptu_tag.{specs.declared.kind.TagKind.TagKind, specs.declared.head.TagHead.TagHead}
-use Rattle.ptu_header.{specs.declared.reader.HeaderReader.HeaderReader, specs.declared.step.HeaderStep.TheVariants.{More, Preamble, Tag, Body, Done, Refused}, specs.Reading.{Steps, bytes_taken}}
+use Rattle.ptu_header.{specs.declared.reader.HeaderReader.HeaderReader, specs.declared.step.HeaderStep.TheVariants.{More, Preamble, Tag, Body, Done, Refused}, specs.ReadHeader.{Steps, bytes_taken}}
 use Rattle.file_work.{specs.BodyPieces.{Prints, PutsHeader, CutsHeader, end_line}, specs.declared.print.HeaderPrinter.HeaderPrinter, proofs.Ends.{no_items, last_item}}
 use Rattle.file_work.proofs.print.HeaderPrinter.put_piece.Goals as goal
 

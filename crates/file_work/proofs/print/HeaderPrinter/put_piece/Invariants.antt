@@ -1,5 +1,5 @@
 use Rattle.std.proofs.Common.{◌≡◌, ◌+◌, ◌-◌, ◌≤◌, ◌++◌, List, ℕ, length, take}
-use Rattle.ptu_header.specs.Reading.{bytes_taken}
+use Rattle.ptu_header.specs.ReadHeader.{bytes_taken}
 use Rattle.file_work.specs.BodyPieces.{Prints, PutsHeader}
 use Rattle.file_work.proofs.print.HeaderPrinter.put_piece.Given as goal
 

@@ -7,19 +7,19 @@ pub invariant_of-result-clause-shifts_are : goal.invariant_of-result-clause-shif
 invariant_of-result-clause-shifts_are c = rw c.as_slice-2.ensures.value at c.shift_table-shift_by_input.ensures
 
 pub invariant_of-result-clause-plain_is : goal.invariant_of-result-clause-plain_is
-invariant_of-result-clause-plain_is c = rw c.as_slice-4.ensures.value at c.plain_table-plain.ensures
+invariant_of-result-clause-plain_is c = rw c.as_slice-4.ensures.value at c.plain_table-plain.ensures.inputs
 
 pub invariant_of-result-clause-gated_is : goal.invariant_of-result-clause-gated_is
 invariant_of-result-clause-gated_is c = rw c.as_slice-5.ensures.value at c.gated_of-gated.ensures.bits
 
 pub invariant_of-result-clause-only_is : goal.invariant_of-result-clause-only_is
 invariant_of-result-clause-only_is c = λ gate is input dtime below.
-    let groups = map group_view c.groups_again-groups.result.items in
-    let plain = (rw c.as_slice-4.ensures.value at c.plain_table-plain.ensures) input below in
+    let groups = map group_view c.clone_groups-groups.result.items in
+    let plain = (rw c.as_slice-4.ensures.value at c.plain_table-plain.ensures.inputs) input below in
     let gated = (rw c.as_slice-5.ensures.value at c.gated_of-gated.ensures.bits) input dtime in
     let same : get_or c.plain_table-plain.result input 0 + gated_sum c.as_slice-6.result.now input dtime ≡ plain_bits
     groups input + gated_bits groups input dtime = rw (c.as_slice-6.ensures.value, plain, gated) refl in
-    let fits = parted_fits groups input dtime (few_groups c.groups_again-groups.result.items c.groups_again-groups.ensures.few) in
+    let fits = parted_fits groups input dtime (few_groups c.clone_groups-groups.result.items c.clone_groups-groups.ensures.few) in
     c.only_gate-only.ensures.groups gate is input dtime below (rw same fits) ∙ same
 
 pub invariant_of-result-clause-gates_are : goal.invariant_of-result-clause-gates_are

@@ -1,6 +1,6 @@
 use Rattle.std.{proofs.Common.{◌∙◌, sym, ap, arith, rules}, proofs.lemmas.Result.{err_from_is_err_and}}
-use Rattle.ptu_definitions.specs.Streams.{Reading}
-use Rattle.plan_text.specs.Reading.{plan_view}
+use Rattle.ptu_definitions.specs.Streams.{StreamSettings}
+use Rattle.plan_text.specs.ReadPlan.{plan_view}
 use Rattle.gate_plan.{specs.Histories.reading_by, specs.Groups.sorting_of}
 use Rattle.record_stream.specs.Standing.{how_of}
 use Rattle.photon_pick.proofs.Stays.{has-none}
@@ -40,7 +40,7 @@ returns-clause-stands g c =
       going = c.new-stream.ensures.unrefused;
       behind = record {
         going = starts.going;
-        same_mode = starts.same_mode ∙ c.new-picker.ensures.mode ∙ c.mode-mode.ensures ∙ sym (ap (λ (how : Reading). how.mode) c.new-stream.ensures.how);
+        same_mode = starts.same_mode ∙ c.new-picker.ensures.mode ∙ c.mode-mode.ensures ∙ sym (ap (λ (how : StreamSettings). how.mode) c.new-stream.ensures.how);
         before = omega (arith, none);
       };
       streamed = c.new-stream.ensures.empty;

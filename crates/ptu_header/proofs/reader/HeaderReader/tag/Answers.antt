@@ -2,7 +2,7 @@ use Rattle.std.{proofs.Common.{Err, refl, ap, subst, ◌∙◌, arith, ◌≡◌
 use Rattle.tally_base.specs.declared.fault.Fault.TheVariants.{HeaderLimit, TruncatedHeader}
 use Rattle.ptu_definitions.specs.Headers.{header_answer}
 use Rattle.ptu_header.specs.declared.reader.Phase.TheVariants as Phases
-use Rattle.ptu_header.{specs.Reading.{goes_on, Reads, InTag}, proofs.Reading.{is_not, takes-whole, whole_piece, tag-stays, reads-at, reads-of, steps-refused, steps-whole, more-clause, tag-more, limit-shown}}
+use Rattle.ptu_header.{specs.ReadHeader.{goes_on, Reads, InTag}, proofs.ReadHeader.{is_not, takes-whole, whole_piece, tag-stays, reads-at, reads-of, steps-refused, steps-whole, more-clause, tag-more, limit-shown}}
 use Rattle.ptu_header.proofs.reader.HeaderReader.tag.Goals as goal
 
 pub returns-then-len-eq48-clause-step : goal.returns-then-len-eq48-clause-step

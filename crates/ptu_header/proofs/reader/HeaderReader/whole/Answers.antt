@@ -2,7 +2,7 @@ use Rattle.std.{proofs.Common.{refl, sym, ap, subst, ◌∙◌, arith, ◌≡◌
 use Rattle.tally_base.specs.declared.fault.Fault.TheVariants.{TagType, TagLength}
 use Rattle.ptu_definitions.specs.TagList.{code_in, value_in, is_known, is_negative, body_size, is_end}
 use Rattle.ptu_tag.specs.Kinds.{IsHead, code_of}
-use Rattle.ptu_header.{specs.Phases.phase_after, proofs.Tags.{same_test, name_is, size-negative, size-positive}, proofs.Reading.{whole-refused, tag-bad_type, tag-bad_length, tag-whole, tag-ends, tag-adds, unknown-nothing, negative-nothing, after-reads, reads-join}}
+use Rattle.ptu_header.{specs.Phases.phase_after, proofs.Tags.{same_test, name_is, size-negative, size-positive}, proofs.ReadHeader.{whole-refused, tag-bad_type, tag-bad_length, tag-whole, tag-ends, tag-adds, unknown-nothing, negative-nothing, after-reads, reads-join}}
 use Rattle.ptu_header.proofs.reader.HeaderReader.whole.Goals as goal
 
 pub returns-in_default-clause-step : goal.returns-in_default-clause-step

@@ -1,6 +1,7 @@
 use Rattle.std.{proofs.Common.{◌≡◌, ◌+◌, ◌*◌, ◌<◌, ◌≤◌, ◌++◌, ℕ, List, Bool, length, map, take, get_or, refl, sym, ap, subst, ◌∙◌, arith}, specs.Prelude.{count_ones, nat_lt}, proofs.lemmas.Simd.{get_or-chunk}, proofs.lemmas.List.FromFn.{get_or-range_with_len}, specs.List.{filter, range_with_len}}
 use lib.Lanes.{chunk}
-use Rattle.record_layout.{specs.InClose.{has_bit, bits_in, lanes_by, stays, staying}, specs.InColumns.code_in, proofs.Chosen.{column-more, few-staying, length-more, ones-bits, map-same}, specs.declared.columns.Columns.Columns, specs.declared.close.TheConstants.PLACES}
+use Rattle.tally_base.specs.Codes.{code_in}
+use Rattle.record_layout.{specs.InClose.{has_bit, bits_in, lanes_by, stays, staying}, proofs.Chosen.{column-more, few-staying, length-more, ones-bits, map-same}, specs.declared.columns.Columns.Columns, specs.declared.close.TheConstants.PLACES}
 use Rattle.record_layout.proofs.close.Close.fill.Goals as goal
 
 few : (below : ℕ) (columns : Columns) (k len : ℕ) → k < 8 → len ≡ length (staying below columns (8 * k)) → len + 8 ≤ 64

@@ -3,4 +3,4 @@ use Rattle.record_layout.specs.InColumns.{IsRow, row_at}
 use Rattle.record_layout.proofs.columns.Columns.fill.Given as goal
 
 abbrev pub invariant-loop-i : goal.invariant-loop-i
-invariant-loop-i g l = (k : ℕ) → k < l.i → IsRow g.R.RecordLayout.meaning (row_at g.R.RecordLayout.UNIT l.self k) (from_le_bytes w32 (get_or l.words k []))
+invariant-loop-i g l = (k : ℕ) → k < l.i → IsRow g.R.RecordLayout.meaning g.R.RecordLayout.UNIT (row_at l.self k) (from_le_bytes w32 (get_or l.words k []))

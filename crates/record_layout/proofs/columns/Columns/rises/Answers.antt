@@ -32,11 +32,11 @@ loop-i-preserved g c =
     let i = c.loop-i.i in
     let base = c.args.base in
     let f = time_in base r.UNIT c.args.self.now in
-    let x = base + c.unit.result * get_or c.args.self.now.sums i 0 + get_or c.args.self.now.times i 0 in
-    let is : x ≡ f i = ap (λ u. base + u * get_or c.args.self.now.sums i 0 + get_or c.args.self.now.times i 0) c.unit.ensures in
+    let x = base + c.UNIT.result * get_or c.args.self.now.sums i 0 + get_or c.args.self.now.times i 0 in
+    let is : x ≡ f i = ap (λ u. base + u * get_or c.args.self.now.sums i 0 + get_or c.args.self.now.times i 0) c.UNIT.ensures in
     let sum = get_or c.args.self.now.sums i 0 in
-    let unit_few : c.unit.result ≤ 2 ^ 28 = omega (arith, c.unit.ensures, g.met.R.RecordLayout.unit_small) in
-    let product : c.unit.result * sum ≤ 2 ^ 28 * sum = mul-le-mul_right sum unit_few in
+    let unit_few : c.UNIT.result ≤ 2 ^ 28 = omega (arith, c.UNIT.ensures, g.met.R.RecordLayout.unit_small) in
+    let product : c.UNIT.result * sum ≤ 2 ^ 28 * sum = mul-le-mul_right sum unit_few in
     let time_few : get_or c.args.self.now.times i 0 < 2 ^ 32 = search (rules, arith, c.loop-i-test.true) in
     let small : x < 2 ^ 63 = omega (arith, product, time_few, c.requires.base, c.requires.sums i c.loop-i-test.true) in
     record {

@@ -1,6 +1,6 @@
 use Rattle.std.{proofs.Common.{◌≡◌, false, true, refl, ap, sym, ◌∙◌, map}, proofs.lemmas.Result.err_from_is_err_and}
 use Rattle.tally_base.specs.Events.{stops_late}
-use Rattle.ptu_definitions.specs.Streams.{Reading}
+use Rattle.ptu_definitions.specs.Streams.{StreamSettings}
 use Rattle.record_stream.{specs.Walking.how_of, proofs.Feeds.delivers-both, proofs.Placed.{refused-plain, skipped-event}, proofs.Steps.{refused_fed, skipped_word, plain_word}}
 use Rattle.record_stream.proofs.walk.Walk.step.Goals as goal
 
@@ -14,7 +14,7 @@ returns-then-stops_late-clause-delivers g c = delivers-both g.S.EventTaker (λ w
     let how = how_of c.args.self.now in
     let placed = rw c.in-Late.is at (c.in_ok-event.ensures.placed words h) in
     let stops : stops_late how.policy.order ≡ true =
-    sym (ap (λ (r : Reading). stops_late r.policy.order) c.place_next.ensures.keeps.same_how) ∙ sym c.stops_late.ensures ∙ c.if-stops_late.true in (
+    sym (ap (λ (r : StreamSettings). stops_late r.policy.order) c.place_next.ensures.keeps.same_how) ∙ sym c.stops_late.ensures ∙ c.if-stops_late.true in (
       tt,
       refused_fed g.S.EventTaker (Unit {0}) how _ words c.args.word _ h.clear
           (placed.refusal ∙ refused-plain how (map how.meaning words) (how.meaning c.args.word) _ c.requires.ready.plain placed.answer ∙ rw stops refl),
@@ -32,7 +32,7 @@ returns-else-stops_late-clause-delivers g c = delivers-both g.S.EventTaker (λ w
     let how = how_of c.args.self.now in
     let give = c.give_event-in-Late.ensures in
     let passes : stops_late how.policy.order ≡ false =
-    sym (ap (λ (r : Reading). stops_late r.policy.order) c.place_next.ensures.keeps.same_how) ∙ sym c.stops_late.ensures ∙ c.if-stops_late.false in
+    sym (ap (λ (r : StreamSettings). stops_late r.policy.order) c.place_next.ensures.keeps.same_how) ∙ sym c.stops_late.ensures ∙ c.if-stops_late.false in
     plain_word g.S.EventTaker (rw c.in-Late.is at (c.in_ok-event.ensures.placed words h))
     c.place_next.ensures.keeps.same_how c.place_next.ensures.keeps.same_given h _ _ _ c.in-Late.event true
     c.requires.ready.plain (rw passes refl) refl give.keeps c.give_event-in-Late.result give.gave give.broken give.fault give.cause)

@@ -1,4 +1,4 @@
-use Rattle.std.{proofs.Common.{◌+◌, take, drop, ap, sym, refl, arith, rules, ◌++◌, ◌∙◌}, proofs.lemmas.Result.err_from_is_err_and, proofs.lemmas.List.take_all}
+use Rattle.std.{proofs.Common.{◌+◌, take, drop, ap, sym, refl, arith, rules}, proofs.lemmas.Result.err_from_is_err_and, proofs.lemmas.List.take_all}
 use Rattle.ptu_definitions.specs.Words.{numbers}
 use Rattle.record_stream.{proofs.Feeds.{took-none, took-more, took-stop, took-all}, proofs.Wraps.{step-numbers, whole-numbers}}
 use Rattle.record_stream.proofs.walk.Walk.words.Goals as goal

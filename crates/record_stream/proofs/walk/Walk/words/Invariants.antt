@@ -1,4 +1,4 @@
-use Rattle.std.proofs.Common.{take, ◌≡◌, ◌+◌, ◌≤◌, ◌++◌, ℕ}
+use Rattle.std.proofs.Common.{take}
 use Rattle.ptu_definitions.specs.Words.{numbers}
 use Rattle.record_stream.specs.Walking.{greatest_of, IsBehind, Took}
 use Rattle.record_stream.proofs.walk.Walk.words.Given as goal

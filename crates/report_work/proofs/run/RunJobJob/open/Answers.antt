@@ -1,6 +1,6 @@
 use Rattle.std.proofs.lemmas.Result.{err_from_is_err_and}
-use Rattle.plan_text.specs.Reading.{plan_view}
-use Rattle.told_text.proofs.Texts.{WroteText-none}
+use Rattle.plan_text.specs.ReadPlan.{plan_view}
+use Rattle.streamed_text.proofs.Texts.{WroteText-none}
 use Rattle.command_work.proofs.RestEnds.{refused-none}
 use Rattle.report_work.proofs.Reports.{for-own, reports-same, opens-unopened}
 use Rattle.report_work.proofs.run.RunJobJob.open.Goals as goal

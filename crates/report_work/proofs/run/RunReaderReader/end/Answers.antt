@@ -1,5 +1,5 @@
 use Rattle.std.proofs.lemmas.Result.{err_from_is_err_and}
-use Rattle.plan_text.specs.Reading.{plan_view}
+use Rattle.plan_text.specs.ReadPlan.{plan_view}
 use Rattle.report_work.proofs.Reports.{ends-refused, ends-reported}
 use Rattle.report_work.proofs.run.RunReaderReader.end.Goals as goal
 

@@ -1,5 +1,5 @@
 use Rattle.std.proofs.Common.{ap}
-use Rattle.plan_text.specs.Reading.{plan_view}
+use Rattle.plan_text.specs.ReadPlan.{plan_view}
 use Rattle.report_work.{specs.Reports.reports, proofs.Reports.{writes-fed, takes-fed}}
 use Rattle.report_work.proofs.run.RunReaderReader.piece.Goals as goal
 

@@ -3,14 +3,14 @@ use Rattle.tally_base.{specs.Columns.{code_at, count}, proofs.Floors.back_step}
 use Rattle.tally_base.proofs.block.Block.floor_after.Goals as goal
 
 pub returns-then-moves : goal.returns-then-moves
-returns-then-moves c =
+returns-then-moves g c =
     let b = c.args.self.now in
     let some : 0 < c.back.at = search (rules, arith) in
     let is : (c.args.strict || nat_lt (code_at b (c.back.at - 1)) 256) ≡ true = search rules in
     sym (c.back.invariant.same ∙ back_step c.args.strict c.args.floor b c.back.at true some is)
 
 pub back-preserved : goal.back-preserved
-back-preserved c =
+back-preserved g c =
     let b = c.args.self.now in
     let some : 0 < c.back.at = search (rules, arith) in
     let is : (c.args.strict || nat_lt (code_at b (c.back.at - 1)) 256) ≡ false = search rules in

@@ -3,10 +3,10 @@ use Rattle.tally_base.{specs.Columns.{event_at, rows, count, gathered}, specs.Ta
 use Rattle.tally_base.proofs.block.Block.floor_after.Given as goal
 
 abbrev pub invariant-back : goal.invariant-back
-invariant-back l = record {
+invariant-back g l = record {
   few : l.at ≤ count l.self;
   same : floor_after l.strict l.floor (gathered l.self) ≡ floor_after l.strict l.floor (rows (event_at l.self) l.at);
 }
 
 abbrev pub decreases-back : goal.decreases-back
-decreases-back l = l.at
+decreases-back g l = l.at

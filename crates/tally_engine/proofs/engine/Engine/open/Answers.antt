@@ -1,6 +1,6 @@
 use Rattle.std.proofs.Common.{[], ◌≡◌, Ok, ◌≤◌, length, rules, arith}
 use Rattle.tally_base.specs.RecordTypes.{mode_of}
-use Rattle.plan_text.{specs.Fits.fits, specs.Reading.plan_view}
+use Rattle.plan_text.{specs.Fits.fits, specs.ReadPlan.plan_view}
 use Rattle.record_stream.specs.Standing.{carried_by}
 use Rattle.tally_engine.proofs.Feeds.{kept_within, none_taken}
 use Rattle.gate_plan.proofs.Histories.{history-none}

@@ -1,7 +1,7 @@
 use Rattle.std.{proofs.Common.{rules, arith, ◌≡◌, ◌<◌, length, ◌+◌, ◌≤◌, ℕ, List, [], ◌∷◌, ◌++◌, Bool, false, refl, ap, ◌∙◌, append_assoc, length-append, IsTrue, slice_index_or}, proofs.lemmas.List.map-append, proofs.lemmas.List.Elements.filter-append}
 use Rattle.tally_base.{specs.Columns.gathered, specs.declared.event.Event.Event, specs.declared.header.Mode.Mode, specs.declared.header.Mode.TheVariants.T2, specs.declared.tally.Tally.Ghosts, specs.Settings.is_strict, specs.Limits.record_limit, specs.Tally.{floor_after, InOrder}, proofs.Floors.{floor-append, order-append, order-looser}}
 use Rattle.gate_plan.{specs.Groups.sorting_of, specs.Shifting.Sorting, proofs.Histories.with_groups-more}
-use Rattle.fed_parts.{specs.Ahead.{taken_with, floor_with, Waits, Gave}, proofs.OneByOne.at_none, specs.Give.{Moves, MayTake}}
+use Rattle.fed_parts.{specs.Ahead.{taken_with, floor_with, Waits, Gave}, specs.Give.{Moves, MayTake}}
 use Rattle.plan_parts.specs.contracts.part.PartTally.TheImpl.{ghosts}
 use Rattle.ptu_definitions.{specs.Kept.Marked, specs.Settled.not_marked}
 use Rattle.abs_time.specs.Floors.{orders_markers}
@@ -59,8 +59,8 @@ module _ {T : Type 0} (g : Ghosts T) where
         ((rw gave.same_sorting at (moves k d within)).follows _ (gave.follows h held k d within));
   }
 
-pub give_behind-requires : goal.give_behind-requires
-give_behind-requires g c =
+pub gather_block-requires : goal.gather_block-requires
+gather_block-requires g c =
     let t = c.args.self.now in
     let es = gathered t.block in
     record {
@@ -69,25 +69,24 @@ give_behind-requires g c =
       room = c.requires.room;
       idle = t.idle;
       unsorted = t.unsorted;
-      more_unsorted = c.requires.unsorted;
     }
 
 pub invariant_of-self : goal.invariant_of-self
 invariant_of-self g c =
     let t = c.args.self.now in
     let es = gathered t.block in
-    let same : length c.give_behind.new.parts ≡ length t.parts.now = search rules in
-    let given = at_none t.mode _ _ _ _ c.give_behind.ensures.given in
+    let same : length c.gather_block.new.parts ≡ length t.parts.now = search rules in
+    let given = c.gather_block.ensures.stands in
     record {
       waiting = λ k d inside.
           let within : k < length t.parts.now = omega (arith, same, inside) in
-          waits_block ghosts (sorting_of t.gates.now) t.mode (taken_with t.reached es) _ (floor_with t.mode t.reached es) _ es (gathered c.give_behind.new.block) (gathered c.args.block.now) _ _ (t.waiting k d within) (c.give_behind.ensures.moves k d within) c.requires.in_order given.taken given.floor;
+          waits_block ghosts (sorting_of t.gates.now) t.mode (taken_with t.reached es) _ (floor_with t.mode t.reached es) _ es (gathered c.gather_block.new.block) (gathered c.args.block.now) _ _ (t.waiting k d within) (c.gather_block.ensures.moves k d within) c.requires.in_order given.taken given.floor;
       limit = λ some. omega (arith, c.requires.room, given.taken);
-      idle = λ _. c.give_behind.ensures.given.empty;
+      idle = c.gather_block.ensures.idle;
       unsorted = given.unsorted;
     }
 
 pub returns-clause-follows : goal.returns-clause-follows
 returns-clause-follows g c = λ start l gave.
-    let given = at_none c.args.self.now.mode _ _ _ _ c.give_behind.ensures.given in
-    gave_block ghosts _ _ _ _ _ _ _ _ _ _ _ _ _ _ _ _ _ l gave (search rules) c.give_behind.ensures.moves c.requires.in_order given.taken given.floor
+    let given = c.gather_block.ensures.stands in
+    gave_block ghosts _ _ _ _ _ _ _ _ _ _ _ _ _ _ _ _ _ l gave (search rules) c.gather_block.ensures.moves c.requires.in_order given.taken given.floor

@@ -1,0 +1,60 @@
+-- Photons that are alone in their reach make no pair.
+use Rattle.std.{proofs.Common.{◌≡◌, ℕ, zero, suc, ◌+◌, ◌-◌, ◌*◌, ◌<◌, ◌≤◌, Bool, true, ◌&&◌, ◌||◌, cond, [], ◌∷◌, ◌++◌, refl, arith, rules, Some}}
+use Rattle.tally_base.{specs.Settings.CoincidenceView, specs.Tally.History, specs.declared.block.Block.Block, specs.Columns.{rows, item, time_at, gathered}}
+use Rattle.lag_ring.{specs.Cells.Cells, specs.Ring.{Ring, ring}}
+use Rattle.coincidence.{specs.declared.pairing.Bin.Bin, specs.declared.pairing.Pairing.Pairing, specs.Pairs.photons_of_groups, specs.Pairing.{bin_pairs, pairing_of, Came}, specs.StandsFor.CanTake, specs.Lone.{has_photon, bin_at, IsAlone, IsLone}, proofs.Blockwise.{put_row, came_more}, proofs.Shut.{cells_alone, ring_alone}, proofs.Visits.{can_shut, moved_on}}
+
+no_pairs : (set : CoincidenceView) (c : ℕ) (bin : Bin) → bin.both ≡ bin.weights.a * bin.weights.b → bin_pairs set c bin [] ≡ 0
+no_pairs set c bin is = search (rules, arith)
+
+one_both : (x y : Bool) → cond (x && y) 1 0 ≡ cond x 1 0 * cond y 1 0
+one_both x y = search (rules, arith)
+
+early_at : {N : ℕ} (set : CoincidenceView) (b : Block N) (i j : ℕ) → i - 1 ≡ j → IsLone set b i → time_at b j + set.reach < time_at b i
+early_at set b i j is lone = rw is at lone.1
+
+module _ {N : ℕ} (set : CoincidenceView) (p : Pairing) (b : Block N) (h : History) (can : CanTake set p (gathered b) h) (some : 0 < set.reach) (cells : Cells) where
+  -- a photon comes after an open bin that is alone
+  lone_next : (r : Ring) (bin : Bin) (at next : ℕ) → next ≡ at + 1 → at < b.len → IsAlone set r.entries bin
+      → bin.weights.index + set.reach < time_at b at → (has_photon b at set.first || has_photon b at set.second) ≡ true
+      → Came set (pairing_of (Some bin) r cells) (photons_of_groups set (h ++ rows (item b) at))
+      → Came set (pairing_of (Some (bin_at set b at)) (ring (bin.weights ∷ []) r.reach) cells) (photons_of_groups set (h ++ rows (item b) next))
+  lone_next r bin at next is inside alone early either came =
+      let p' = pairing_of (Some bin) r cells in
+      let new = bin_at set b at in
+      let can_put = put_row set p p' b h at inside can came (has_photon b at set.first) (has_photon b at set.second) refl refl either new (time_at b at) refl refl in
+      let may = can_shut set p' bin new refl came.0 came.1 (item b at ∷ []) can_put in
+      let after = moved_on set p' bin new refl came.0 came.1 (item b at ∷ []) can_put (omega (arith, early)) in
+      rw is (came_more set p p' b h at inside can came (has_photon b at set.first) (has_photon b at set.second) refl refl either (pairing_of (Some new) (ring (bin.weights ∷ []) r.reach) cells) (
+        _,
+        item b at ∷ [],
+        refl,
+        record {
+          opened = (can_put.is, after);
+          ring = ring_alone set r bin came.0 came.1 may.keep alone.1 some;
+          cells = cells_alone set r cells bin came.0 came.1 may alone.1 cells (λ c in_range. omega (arith, no_pairs set c bin alone.0)) refl (omega arith);
+        },
+      ))
+
+  -- rows after an open bin that is alone
+  pub lone_run : (r : Ring) (bin : Bin) (k : ℕ) → bin.weights.index ≡ time_at b k → IsAlone set r.entries bin
+      → (n to : ℕ) → to ≡ k + n + 3 → to ≤ b.len → ((i : ℕ) → k + 1 ≤ i → i < to → IsLone set b i)
+      → Came set (pairing_of (Some bin) r cells) (photons_of_groups set (h ++ rows (item b) (k + 1)))
+      → Came set (pairing_of (Some (bin_at set b (to - 1))) (ring ((bin_at set b (to - 2)).weights ∷ []) r.reach) cells) (photons_of_groups set (h ++ rows (item b) to))
+  lone_run r bin k here alone zero to is within lones came =
+      let first = lones (to - 2) (omega (arith, is)) (omega (arith, is)) in
+      let second = lones (to - 1) (omega (arith, is)) (omega (arith, is)) in
+      let early : bin.weights.index + set.reach < time_at b (to - 2) = omega (arith, here, early_at set b (to - 2) k (omega (arith, is)) first) in
+      let start : k + 1 ≡ to - 2 = omega (arith, is) in
+      let one = lone_next r bin (to - 2) (to - 1) (omega (arith, is)) (omega (arith, is, within)) alone early first.0 (rw start at came) in
+      lone_next (ring (bin.weights ∷ []) r.reach) (bin_at set b (to - 2)) (to - 1) to (omega (arith, is)) (omega (arith, is, within))
+      (one_both (has_photon b (to - 2) set.first) (has_photon b (to - 2) set.second), (early, tt))
+      (early_at set b (to - 1) (to - 2) (omega (arith, is)) second) second.0 one
+  lone_run r bin k here alone (suc n) to is within lones came =
+      let was = lone_run r bin k here alone n (to - 1) (omega (arith, is)) (omega (arith, is, within)) (λ i from below. lones i from (omega (arith, below))) came in
+      let first = lones (to - 1 - 1) (omega (arith, is)) (omega (arith, is)) in
+      let second = lones (to - 1) (omega (arith, is)) (omega (arith, is)) in
+      let same : to - 2 ≡ to - 1 - 1 = omega (arith, is) in
+      rw same (lone_next (ring ((bin_at set b (to - 1 - 2)).weights ∷ []) r.reach) (bin_at set b (to - 1 - 1)) (to - 1) to (omega (arith, is)) (omega (arith, is, within))
+      (one_both (has_photon b (to - 1 - 1) set.first) (has_photon b (to - 1 - 1) set.second), (early_at set b (to - 1 - 1) (to - 1 - 2) (omega (arith, is)) first, tt))
+      (early_at set b (to - 1) (to - 1 - 1) (omega (arith, is)) second) second.0 was)

@@ -1,0 +1,24 @@
+// The header of a short file.
+ghost use Rattle.std.specs.Prelude.{◌≡◌};
+ghost use Rattle.minimal_file.specs.ShortFiles.{short_header};
+
+use tally_base::Mode;
+
+/// How many bytes the header has.
+pub const HEADER_SIZE: usize = 112;
+
+/// The bytes of the header: the magic, the version, the record type (HydraHarp2T2 in T2, HydraHarp2T3 in
+/// T3) and the end.
+#[tactic(auto, unfolding(crate::specs::ShortFiles::short_header))]
+pub fn short_header(mode: Mode) -> [u8; HEADER_SIZE]
+    ensures { result ≡ short_header mode }
+{
+    match mode {
+        Mode::T2 => *b"PQTTTR\x00\x001.0.00\x00\x00\
+        TTResultFormat_TTTRRecType\x00\x00\x00\x00\x00\x00\xff\xff\xff\xff\x08\x00\x00\x10\x04\x02\x01\x01\x00\x00\x00\x00\
+        Header_End\x00\x00\x00\x00\x00\x00\x00\x00\x00\x00\x00\x00\x00\x00\x00\x00\x00\x00\x00\x00\x00\x00\xff\xff\xff\xff\x08\x00\xff\xff\x00\x00\x00\x00\x00\x00\x00\x00",
+        Mode::T3 => *b"PQTTTR\x00\x001.0.00\x00\x00\
+        TTResultFormat_TTTRRecType\x00\x00\x00\x00\x00\x00\xff\xff\xff\xff\x08\x00\x00\x10\x04\x03\x01\x01\x00\x00\x00\x00\
+        Header_End\x00\x00\x00\x00\x00\x00\x00\x00\x00\x00\x00\x00\x00\x00\x00\x00\x00\x00\x00\x00\x00\x00\xff\xff\xff\xff\x08\x00\xff\xff\x00\x00\x00\x00\x00\x00\x00\x00",
+    }
+}
