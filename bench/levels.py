@@ -7,7 +7,7 @@ prints, for each photon of the two inputs,
 - the closings: how often the bin of a level was closed, once for each occupied bin;
 - the pairs of bins: of a closing bin with photons of the second input and an occupied bin at a lag of its level;
 - the additions, which are the steps that the contracts count (`spent`): ptu adds each pair of bins to its cell
-  where bins are far apart, and where some are near the pairs of a part of a list at one lag together, once for each
+  where bins are heavy or sparse, and else the pairs of a list, or of a part of it, at one lag together, once for each
   lag. They are counted here by going through the file as the program does: by pieces of 8,192 bytes, blocks of 64
   records, and blocks of up to 512 events that its tables are given;
 - the bound on additions, `work`: lags times the occupied bins of level 0, and half of that for each level above;
@@ -25,9 +25,9 @@ import tempfile
 import numpy
 
 # As in the program: how many events a block of the tables has, how many lags a window of bins that are laid close
-# serves, how many bins are paired over one, how many indices those of a dense window span, and how many photons of the
-# second input they have.
-TABLE_BLOCK, CLOSE_LAGS, CLOSE_PART, ROOM, MOST_SPOTS = 512, 16, 64, 832, 1024
+# serves, how many bins are paired over one, how many photons of an input are too many for one, how many indices those of
+# a dense window span, how many photons of an input are too many for it, and how many of the second input it has.
+TABLE_BLOCK, CLOSE_LAGS, CLOSE_PART, TOO_HEAVY, ROOM, NOT_A_BYTE, MOST_SPOTS = 512, 16, 64, 2048, 832, 256, 1024
 
 PLAN = """[[group]]
 inputs = [1]
@@ -135,9 +135,9 @@ def near_count(bins, start, lags):
     return sum(bins[at][0] - bins[at - 1][0] <= lags for at in range(max(start, 1), len(bins)))
 
 
-def is_light(bins):
-    """Whether no bin has many photons of a group."""
-    return all(first < 256 and second < 256 for _, first, second in bins)
+def is_light(bins, too_many):
+    """Whether no bin has so many photons of a group."""
+    return all(first < too_many and second < too_many for _, first, second in bins)
 
 
 def is_dense(bins, start, skipped, lags):
@@ -150,10 +150,18 @@ def is_dense(bins, start, skipped, lags):
     return count * len(bins) * (lags - skipped) >= (bins[-1][0] - bins[0][0] + 1) * 192
 
 
-def part_end(bins, at, lags, dense):
+def is_close(bins, start, lags):
+    """Whether bins of few lags can be laid close together from a place on, part by part."""
+    parts = ((near_from(bins, at, lags), min(at + CLOSE_PART, len(bins))) for at in range(start, len(bins), CLOSE_PART))
+    return lags <= CLOSE_LAGS and all(
+        near_count(bins[early:end], 0, lags) == 0 or is_light(bins[early:end], TOO_HEAVY) for early, end in parts
+    )
+
+
+def part_end(bins, at, dense):
     """The place behind the bins from a place on that are paired together."""
     if not dense:
-        return min(at + CLOSE_PART, len(bins)) if lags <= CLOSE_LAGS else len(bins)
+        return len(bins)
     end = at + 1
     while end < len(bins) and bins[end][0] - bins[at][0] <= ROOM:
         end += 1
@@ -164,20 +172,19 @@ def part_additions(bins, start, skipped, lags, dense):
     """The additions that pair the bins of a part from a place on with those before them."""
     if near_count(bins, 0, lags) == 0:
         return 0
-    if dense:
-        few = sum(second for _, _, second in bins[start:]) <= MOST_SPOTS
-        together = len(bins) - start > 1 and lags <= 128 and few and is_light(bins)
-    else:
-        together = lags <= CLOSE_LAGS and is_light(bins)
+    few = sum(second for _, _, second in bins[start:]) <= MOST_SPOTS
+    together = dense and len(bins) - start > 1 and lags <= 128 and few and is_light(bins, NOT_A_BYTE)
     return lags - skipped if together else each(bins, start, skipped, lags)
 
 
 def paired(bins, start, skipped, lags):
-    """The additions that pair the bins from a place on with those before them: part by part."""
+    """The additions that pair the bins from a place on with those before them: together, or part by part."""
+    if start < len(bins) and is_close(bins, start, lags):
+        return lags - skipped
     dense = is_dense(bins, start, skipped, lags)
     added, at = 0, start
     while at < len(bins):
-        end = part_end(bins, at, lags, dense)
+        end = part_end(bins, at, dense)
         early = near_from(bins, at, lags)
         added += part_additions(bins[early:end], at - early, skipped, lags, dense)
         at = end

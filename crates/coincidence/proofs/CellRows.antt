@@ -1,5 +1,5 @@
 -- The sums of a strip, row by row.
-use Rattle.std.{proofs.Common.{◌≡◌, ◌≢◌, ◌∙◌, ℕ, ◌+◌, ◌-◌, ◌*◌, ◌/◌, ◌<◌, ◌≤◌, true, false, ◌&&◌, leb, ltb, eqb, cond, List, length, get_or, take, drop, refl, sym, ap, arith, length-drop}, specs.List.{sum_by, range_with_len}, proofs.lemmas.Grind.common_steps, proofs.lemmas.Bool.Decides.nat_tests, proofs.lemmas.List.{get_or-drop, get_or_past, take_all}}
+use Rattle.std.{proofs.Common.{rules}, proofs.Common.{◌≡◌, ◌≢◌, ◌∙◌, ℕ, ◌+◌, ◌-◌, ◌*◌, ◌/◌, ◌<◌, ◌≤◌, false, ◌&&◌, leb, ltb, eqb, cond, List, length, get_or, take, drop, refl, ap, arith, length-drop}, specs.List.{sum_by, range_with_len}, proofs.lemmas.Grind.common_steps, proofs.lemmas.Bool.Decides.nat_tests, proofs.lemmas.List.{get_or-drop, get_or_past, take_all}}
 use Rattle.tally_base.specs.Settings.{CoincidenceView}
 use Rattle.lag_ring.{specs.Cells.{upwards_at, downwards_at}, proofs.Sums.{sum_by-agree, sum_by-same}}
 use Rattle.coincidence.{specs.declared.pairing.Direction.TheVariants.{Forward, Backward}, specs.Closing.strip_pairs, proofs.LagPairs.{at_one, range-within}}
@@ -26,10 +26,7 @@ module _ (sums : List ℕ) (full : length sums ≡ 256) (reach c least count : �
 
   between : (k : ℕ) → least < k → k ≤ least + count
       → cond (leb (least + 1) k && ltb k (least + 1 + count)) (get_or sums (least + 256 - k) 0) 0 ≡ get_or sums (least + 256 - k) 0
-  between k over under =
-      let first : leb (least + 1) k ≡ true = grind (arith, nat_tests) in
-      let last : ltb k (least + 1 + count) ≡ true = grind (arith, nat_tests) in
-      rw (first, last) refl
+  between k over under = search (rules, arith)
 
   -- the term that counts, among so many
   abbrev counted : ℕ → ℕ
@@ -37,49 +34,13 @@ module _ (sums : List ℕ) (full : length sums ≡ 256) (reach c least count : �
 
   -- it stands in the row, or the row has nothing there
   row-counted : (k j : ℕ) → j + k ≡ least + count → get_or (drop (256 - count) sums) j 0 ≡ counted k
-  row-counted k j is = last-at sums count j ∙ (elim (leb k least) as (λ b. leb k least ≡ b → get_or sums (256 - count + j) 0 ≡ counted k) [
-    | true ↦ λ low.
-        let under : k ≤ least = grind (arith, nat_tests, low) in
-        rw (below k under) (past (256 - count + j) (omega arith))
-    | false ↦ λ high.
-        let over : least < k = grind (arith, nat_tests, high) in
-        let place : 256 - count + j ≡ least + 256 - k = omega arith in
-        rw (between k over (omega arith), place) refl
-  ]) refl
+  row-counted k j is = search (rules, arith, last-at, below, past, between)
 
   forward-row : counted (c - reach) ≡ downwards_at (reach + (least + count)) (drop (256 - count) sums) c
-  forward-row = (elim (leb c (reach + (least + count))) as (λ b. leb c (reach + (least + count)) ≡ b → counted (c - reach) ≡ cond b (get_or (drop (256 - count) sums) (reach + (least + count) - c) 0) 0) [
-    | true ↦ λ low.
-        let upto_most : c ≤ reach + (least + count) = grind (arith, nat_tests, low) in
-        (elim (leb c reach) as (λ b. leb c reach ≡ b → counted (c - reach) ≡ get_or (drop (256 - count) sums) (reach + (least + count) - c) 0) [
-          | true ↦ λ at.
-              let no : c ≤ reach = grind (arith, nat_tests, at) in
-              rw (below (c - reach) (omega arith), last-at sums count (reach + (least + count) - c), past (256 - count + (reach + (least + count) - c)) (omega arith)) refl
-          | false ↦ λ at.
-              let over : reach < c = grind (arith, nat_tests, at) in
-              sym (row-counted (c - reach) (reach + (least + count) - c) (omega arith))
-        ]) refl
-    | false ↦ λ high.
-        let over : reach + (least + count) < c = grind (arith, nat_tests, high) in
-        above (c - reach) (omega arith)
-  ]) refl
+  forward-row = search (rules, arith, below, last-at, past, row-counted, above)
 
   backward-row : counted (reach - c) ≡ upwards_at (reach - (least + count)) (drop (256 - count) sums) c
-  backward-row = (elim (leb (reach - (least + count)) c) as (λ b. leb (reach - (least + count)) c ≡ b → counted (reach - c) ≡ cond b (get_or (drop (256 - count) sums) (c - (reach - (least + count))) 0) 0) [
-    | true ↦ λ low.
-        let from_most : reach - (least + count) ≤ c = grind (arith, nat_tests, low) in
-        (elim (leb reach c) as (λ b. leb reach c ≡ b → counted (reach - c) ≡ get_or (drop (256 - count) sums) (c - (reach - (least + count))) 0) [
-          | true ↦ λ at.
-              let no : reach ≤ c = grind (arith, nat_tests, at) in
-              rw (below (reach - c) (omega arith), last-at sums count (c - (reach - (least + count))), past (256 - count + (c - (reach - (least + count)))) (omega arith)) refl
-          | false ↦ λ at.
-              let under : c < reach = grind (arith, nat_tests, at) in
-              sym (row-counted (reach - c) (c - (reach - (least + count))) (omega arith))
-        ]) refl
-    | false ↦ λ high.
-        let under : c < reach - (least + count) = grind (arith, nat_tests, high) in
-        above (reach - c) (omega arith)
-  ]) refl
+  backward-row = search (rules, arith, below, last-at, past, row-counted, above)
 
   forward-none : (lag : ℕ) → lag ≢ c - reach → forward_term lag ≡ 0
   forward-none lag other = let away : eqb (reach + lag) c ≡ false = grind (arith, nat_tests) in rw away refl
@@ -89,28 +50,10 @@ module _ (sums : List ℕ) (full : length sums ≡ 256) (reach c least count : �
 
   -- at the one lag that may have the cell, the test of the cell changes nothing
   forward-one : cond (leb (least + 1) (c - reach) && ltb (c - reach) (least + 1 + count)) (forward_term (c - reach)) 0 ≡ counted (c - reach)
-  forward-one = (elim (leb c reach) as (λ b. leb c reach ≡ b → cond (leb (least + 1) (c - reach) && ltb (c - reach) (least + 1 + count)) (forward_term (c - reach)) 0 ≡ counted (c - reach)) [
-    | true ↦ λ at.
-        let no : c ≤ reach = grind (arith, nat_tests, at) in
-        let first : leb (least + 1) (c - reach) ≡ false = grind (arith, nat_tests) in
-        rw first refl
-    | false ↦ λ at.
-        let over : reach < c = grind (arith, nat_tests, at) in
-        let here : eqb (reach + (c - reach)) c ≡ true = grind (arith, nat_tests) in
-        rw here refl
-  ]) refl
+  forward-one = search (rules, arith)
 
   backward-one : cond (leb (least + 1) (reach - c) && ltb (reach - c) (least + 1 + count)) (backward_term (reach - c)) 0 ≡ counted (reach - c)
-  backward-one = (elim (leb reach c) as (λ b. leb reach c ≡ b → cond (leb (least + 1) (reach - c) && ltb (reach - c) (least + 1 + count)) (backward_term (reach - c)) 0 ≡ counted (reach - c)) [
-    | true ↦ λ at.
-        let no : reach ≤ c = grind (arith, nat_tests, at) in
-        let first : leb (least + 1) (reach - c) ≡ false = grind (arith, nat_tests) in
-        rw first refl
-    | false ↦ λ at.
-        let under : c < reach = grind (arith, nat_tests, at) in
-        let here : eqb (reach - c + c) reach ≡ true = grind (arith, nat_tests) in
-        rw here refl
-  ]) refl
+  backward-one = search (rules, arith)
 
 -- the row of the last sums
 pub last-all : (sums : List ℕ) (count : ℕ) → length sums ≡ 256 → count ≤ 256 → take (256 - (256 - count)) (drop (256 - count) sums) ≡ drop (256 - count) sums
@@ -148,16 +91,10 @@ strip-backward set c least count sums single full few upto =
 
 -- a cell of a row has its number
 pub downwards-here : (from q : ℕ) (row : List ℕ) → q ≤ from → downwards_at from row (from - q) ≡ get_or row q 0
-downwards-here from q row upto =
-    let here : leb (from - q) from ≡ true = grind (arith, nat_tests) in
-    let place : from - (from - q) ≡ q = omega arith in
-    rw (here, place) refl
+downwards-here from q row upto = search (rules, arith)
 
 pub upwards-here : (from q : ℕ) (row : List ℕ) → upwards_at from row (from + q) ≡ get_or row q 0
-upwards-here from q row =
-    let here : leb from (from + q) ≡ true = grind (arith, nat_tests) in
-    let place : from + q - from ≡ q = omega arith in
-    rw (here, place) refl
+upwards-here from q row = search (rules, arith)
 
 -- a difference in reach has a cell of its own
 pub single-inside : (reach width n : ℕ) → width ≡ 1 → n ≤ 2 * reach → n < 2 * reach / width + 1

@@ -102,10 +102,7 @@ lags_in_turn d set c es (l ∷ ls) rising below =
 
 -- a range and the one behind it
 pub range-append : (a m n : ℕ) → range_with_len a (m + n) ≡ range_with_len a m ++ range_with_len (a + m) n
-range-append a zero n =
-    let e : a + 0 ≡ a = omega arith in
-    let z : 0 + n ≡ n = omega arith in
-    rw (e, z) refl
+range-append a zero n = search (rules, arith)
 range-append a (suc m) n =
     let e : a + suc m ≡ a + 1 + m = omega arith in
     let k : suc m + n ≡ suc (m + n) = omega arith in
@@ -123,18 +120,13 @@ range-le f a i n upto =
 -- a strip more
 pub range-strip : (f : ℕ → ℕ) (least count : ℕ)
     → sum_by f (range_with_len 1 (least + count)) ≡ sum_by f (range_with_len 1 least) + sum_by f (range_with_len (least + 1) count)
-range-strip f least count =
-    let e : 1 + least ≡ least + 1 = omega arith in
-    ap (sum_by f) (range-append 1 least count) ∙ sum_by-append f (range_with_len 1 least) (range_with_len (1 + least) count) ∙ rw e refl
+range-strip f least count = search (rules, arith, range-append, sum_by-append)
 
 -- the sum of one lag
 pub strip-term : (d : Direction) (set : CoincidenceView) (c least i shifted pairs : ℕ) (sums : List ℕ)
     → shifted ≡ shifted_by d set.reach (least + 1 + i) → pairs ≡ get_or sums (256 - 1 - i) 0
     → strip_pairs d set c least sums (least + 1 + i) ≡ cond (eqb (shifted / set.width) c) (pairs * 1) 0
-strip-term d set c least i shifted pairs sums is_shifted is_pairs =
-    let place : least + 256 - (least + 1 + i) ≡ 256 - 1 - i = omega arith in
-    let once : pairs * 1 ≡ pairs = omega arith in
-    rw (place, once, is_shifted, is_pairs) refl
+strip-term d set c least i shifted pairs sums is_shifted is_pairs = search (rules, arith)
 
 -- the sums of a strip are those of the window
 pub strip-window : (d : Direction) (set : CoincidenceView) (c least count top : ℕ) (sums window spots : List ℕ) → count ≤ 256 → least + 256 ≤ top
@@ -169,14 +161,12 @@ window-lags d set c top low window spots es later small has near photons =
 -- a sum over three lists
 pub three-sums : (f : Entry → ℕ) (front back ring later : List Entry) → front ++ back ≡ ring
     → sum_by f (ring ++ later) ≡ sum_by f front + sum_by f back + sum_by f later
-three-sums f front back ring later is =
-    sum_by-append f ring later ∙ ap (λ es. sum_by f es + sum_by f later) (sym is) ∙ ap (λ n. n + sum_by f later) (sum_by-append f front back)
+three-sums f front back ring later is = search (rules, arith, sum_by-append)
 
 -- the entries that fit have few photons on each side
 pub few_later : (d : Direction) (set : CoincidenceView) (most low : ℕ) (es later : List Entry)
     → FitsWindow set most low es later → sum_by (weight_of (later_side d)) later ≤ 1024
-few_later Forward set most low es later fits = fits.seconds
-few_later Backward set most low es later fits = fits.firsts
+few_later d set most low es later fits = search (rules, arith)
 
 -- entries behind others rise with them
 pub rising_join : (es later : List Entry) → IsRising es → IsRising later

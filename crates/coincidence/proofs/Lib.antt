@@ -10,3 +10,4 @@ pub mod LagPairs
 pub mod Together
 pub mod CellRows
 pub mod Passed
+pub mod Picked

@@ -1,8 +1,8 @@
 -- What a bin brings when it is closed.
 use Rattle.std.{proofs.Common.{◌≡◌, ℕ, ◌+◌, ◌-◌, ◌*◌, ◌/◌, ◌^◌, ◌<◌, ◌≤◌, Bool, true, false, ◌&&◌, leb, eqb, cond, List, [], ◌∷◌, ◌++◌, length, get_or, refl, sym, ◌∙◌, arith, length-append, rules}, specs.List.{sum_by, filter, AllByRecursion}, proofs.Math.Nat.{mul-le-mul, mul-le-mul_right}, proofs.lemmas.Grind.common_steps}
 use Rattle.tally_base.{specs.Settings.{CoincidenceView, coincidence_cells}, specs.Tally.History, specs.Limits.record_limit}
-use Rattle.lag_ring.{specs.declared.ring.Entry.Entry, specs.Cells.Cells, specs.Ring.{Ring, ring, IsRising, weight_where, IsInReach}, proofs.Kept.{room_after, kept_after}, proofs.Rising.all_weaker, proofs.Sums.{sum_by-same, sum_by-times, sum_by-zero}}
-use Rattle.coincidence.{specs.declared.pairing.Bin.Bin, specs.declared.pairing.Direction.Direction, specs.declared.pairing.Direction.TheVariants.{Forward, Backward}, specs.Pairs.{in_first, in_second, is_in_cell, is_coincidence, coincidences}, specs.Pairing.{pairs_of_all, pairs_with, bin_pairs, RingIs, CellsAre, CanKeep, CanShut}, proofs.Hits.{pairs_in, hits-append, pairs_in-one, pairs_in-le}, proofs.Mirror.pairs_apart-in, proofs.Visits.pairs_far}
+use Rattle.lag_ring.{specs.declared.ring.Entry.Entry, specs.Cells.Cells, specs.Ring.{Ring, ring, IsRising, weight_where, IsInReach}, proofs.Kept.{room_after, kept_after, kept_more, kept_left}, proofs.Lists.{all_back, of_some}, proofs.Rising.all_weaker, proofs.Sums.{sum_by-same, sum_by-times, sum_by-zero}}
+use Rattle.coincidence.{specs.declared.pairing.Bin.Bin, specs.declared.pairing.Direction.Direction, specs.declared.pairing.Direction.TheVariants.{Forward, Backward}, specs.Pairs.{in_first, in_second, is_in_cell, is_coincidence, coincidences}, specs.Pairing.{pairs_of_all, pairs_with, bin_pairs, RingIs, CellsAre, CanKeep, CanShut}, specs.Closing.Reaches, proofs.Hits.{pairs_in, hits-append, pairs_in-one, pairs_in-le}, proofs.Mirror.pairs_apart-in, proofs.Visits.pairs_far}
 
 scaled : (b : Bool) (n w : ℕ) → cond b (n * w) 0 ≡ cond b n 0 * w
 scaled b n w = search (rules, arith)
@@ -58,8 +58,20 @@ module _ (set : CoincidenceView) (r : Ring) (bin : Bin) (closed xs : History) (c
   pub before : AllByRecursion (λ e. e.index < bin.weights.index) r.entries
   before = can.were.keeps.bounded bin.weights.index can.after
 
+  pub reaches_on : Reaches bin.weights.index (closed ++ xs)
+  reaches_on m some all =
+      of_some (λ x. x.0.time) bin.weights.index (λ k. k < m) xs can.is.weighs.some can.is.weighs.here (all_back (λ x. x.0.time < m) closed xs all)
+
   pub entries_within : length r.entries ≤ set.reach
   entries_within = omega (arith, can.were.keeps.within, can.were.reach)
+
+  -- the ring keeps the bin too, where it has room for it at once
+  pub ring_more : length r.entries < set.reach → RingIs set (ring (r.entries ++ bin.weights ∷ []) r.reach) (closed ++ xs)
+  ring_more room =
+      record { reach = can.were.reach; keeps = kept_more (in_first set) (in_second set) (λ x. x.0.time) r bin.weights closed some can.were.keeps can.after xs can.is.weighs (omega (arith, room, can.were.reach)) }
+    where
+      some : 0 < r.reach
+      some = omega (arith, room, can.were.reach)
 
   -- the ring has room for the bin, and keeps it, once what is further back than the reach is gone
   module _ (some : 0 < set.reach) (es : List Entry)
@@ -92,6 +104,14 @@ module _ (set : CoincidenceView) (r : Ring) (bin : Bin) (closed xs : History) (c
     ring_alone some =
         let none : filter (λ f. leb (bin.weights.index - (set.reach - 1)) f.index) r.entries ≡ [] = filter_none (λ f. leb (bin.weights.index - (set.reach - 1)) f.index) r.entries (all_weaker (λ f. f.index + set.reach < bin.weights.index) (λ f. leb (bin.weights.index - (set.reach - 1)) f.index ≡ false) (λ f under. grind arith) r.entries far) in
         ring_shut some [] (sym none) tt
+
+-- a ring keeps the bins in reach, once those are gone that nothing after a tick reaches, where photons came from there on
+pub ring_left : (set : CoincidenceView) (r : Ring) (closed : History) (index : ℕ) → 0 < set.reach → Reaches index closed → RingIs set r closed
+    → RingIs set (ring (filter (λ f. leb (index - (set.reach - 1)) f.index) r.entries) r.reach) closed
+ring_left set r closed index some reaches were = record {
+  reach = were.reach;
+  keeps = rw (← were.reach) (kept_left (in_first set) (in_second set) (λ x. x.0.time) r closed index (omega (arith, some, were.reach)) reaches were.keeps);
+}
 
 module _ (set : CoincidenceView) (r : Ring) (old : Cells) (bin : Bin) (closed xs : History) (can : CanShut set r old bin closed xs) where
   -- no sum passes the greatest count

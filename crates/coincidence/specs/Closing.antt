@@ -4,6 +4,10 @@ use Rattle.tally_base.{specs.Settings.CoincidenceView, specs.Tally.History, spec
 use Rattle.lag_ring.{specs.declared.ring.Entry.Entry, specs.declared.window.Side.Side, specs.declared.window.Side.TheVariants.{First, Second}, specs.Cells.Cells, specs.Ring.Ring, specs.Bytes.{weight_of, weight_at, weight_before, IsLight, behind}}
 use Rattle.coincidence.{specs.declared.pairing.Bin.Bin, specs.declared.pairing.Direction.Direction, specs.declared.pairing.Direction.TheVariants.{Forward, Backward}, specs.Pairing.{BinIs, OpenIs, RingIs, CellsAre, bin_pairs, shifted_by}}
 
+-- A photon came at this tick or later, or the tick is 0.
+abbrev pub Reaches : ℕ → History → Type 0
+Reaches index closed = (m : ℕ) → 0 < m → AllByRecursion (λ x. x.0.time < m) closed → index < m
+
 -- the entries of bins
 abbrev pub weights_in : List Bin → List Entry
 weights_in bins = map (λ bin. bin.weights) bins

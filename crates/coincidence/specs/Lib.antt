@@ -7,3 +7,4 @@ pub mod Coincidence
 pub mod Starts
 pub mod Closing
 pub mod Lone
+pub mod Picked

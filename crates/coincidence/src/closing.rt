@@ -2,10 +2,10 @@
 ghost use Rattle.std.{specs.Prelude.{◌≡◌, ℕ, ◌+◌, ◌-◌, ◌^◌, ◌<◌, ◌≤◌, ◌++◌, [], IsTrue, length, slice_index, sum_by}, specs.List.{AllByRecursion}};
 ghost use Rattle.tally_base.{specs.Settings.{coincidence_view, coincidence_cells}, specs.Tally.History};
 ghost use Rattle.lag_ring.{specs.Ring.IsRising, specs.Bytes.{weight_of, IsLight}, specs.Cells.Spends};
-ghost use Rattle.coincidence.{specs.Pairing.{RingIs, CellsAre, bin_pairs, HasRoom, CountsMore}, specs.Closing.{weights_in, BinsAre, CanKeepAll, CanShutAll, FitsWindow}};
+ghost use Rattle.coincidence.{specs.Pairing.{RingIs, CellsAre, bin_pairs, CanKeep, HasRoom, CountsMore}, specs.Closing.{weights_in, BinsAre, CanKeepAll, CanShutAll, FitsWindow, Reaches}};
 
 use crate::lags::{TOP, are_near, pair_lags};
-use crate::pairing::{Bin, keep, pair_inside, shut};
+use crate::pairing::{Bin, keep, least_kept, pair_inside, shut};
 use arrayvec::ArrayVec;
 use lag_ring::{Entry, LagRing, MOST_SPOTS, RowCells, Side, total_weight, weight_bound};
 use std::sync::ledger::Ledger;
@@ -64,7 +64,35 @@ fn fits_window(set: &CoincidenceSet, ring: &LagRing, low: u64, later: &[Entry], 
         && are_few(Side::Second, later)
 }
 
-/// Pairs the photons of each bin with one another, and puts the bins into the ring.
+/// Puts a bin into the ring behind the others, where there is a place, and else in place of those that no later
+/// photon reaches.
+#[inline(always)]
+fn put_behind(ring: &mut LagRing, set: &CoincidenceSet, bin: &Bin)
+    requires stands { ∥ ((closed : History) × (xs : History)
+        × CanKeep (coincidence_view set.now) ring.old bin.now closed xs) ∥₁ }
+    ensures ring { (closed xs : History)
+        → CanKeep (coincidence_view set.now) ring.old bin.now closed xs
+        → RingIs (coincidence_view set.now) ring.new (closed ++ xs) }
+{
+    if ring.len() < set.reach {
+        let weights = bin.weights;
+        ring.push(weights.index, weights.a, weights.b);
+    } else {
+        keep(ring, set, bin);
+    }
+}
+
+/// Removes the bins from the ring that no photon after the one at a tick reaches.
+#[inline(always)]
+fn forget(ring: &mut LagRing, set: &CoincidenceSet, index: u64)
+    ensures { (closed : History) → Reaches index closed → RingIs (coincidence_view set.now) ring.old closed
+        → RingIs (coincidence_view set.now) ring.new closed }
+{
+    ring.retire(least_kept(set, index));
+}
+
+/// Pairs the photons of each bin with one another, and puts the bins into the ring. Those that no later photon reaches
+/// are removed at the end, all at once, or before that where a bin has no place.
 fn keep_all<L: Ledger>(
     ring: &mut LagRing,
     cells: &mut RowCells,
@@ -84,10 +112,13 @@ fn keep_all<L: Ledger>(
         (λ c. sum_by (λ bin. bin_pairs (coincidence_view set.now) c bin []) bins.now) }
     ensures spends { Spends cells.old cells.new steps.old steps.new (length bins.now) }
 {
+    let mut last = 0;
     for bin in bins {
         pair_inside(cells, set, bin, steps);
-        keep(ring, set, bin);
+        put_behind(ring, set, bin);
+        last = bin.weights.index;
     }
+    forget(ring, set, last);
 }
 
 /// Pairs bins over a window, and puts them among the closed ones.

@@ -1,12 +1,14 @@
 // The intervals that the photons of a block end.
 ghost use Rattle.std.specs.Prelude.{◌≡◌, ◌+◌, ◌/◌, ◌^◌, ◌<◌, ◌≤◌, ◌++◌, ◌==◌, ℕ, false, length, nat_le, slice_index, sum, if◌then◌else◌};
-ghost use Rattle.tally_base.{specs.Settings.startstop_view, specs.Limits.record_limit, specs.Columns.{gathered, events_in, IsSorted}, specs.Tally.{floor_after, InOrder}};
+ghost use Rattle.tally_base.{specs.Settings.{divisor_of, startstop_view}, specs.Limits.record_limit, specs.Columns.{gathered, events_in, IsSorted}, specs.Tally.{floor_after, InOrder}};
 ghost use Rattle.coincidence.{specs.StartStop.CountsMore, specs.Starts.since_in};
 
 use crate::start::{Start, ended, start_behind};
 use tally_base::{Block, Divisor, StartStopSet, TABLE_BLOCK};
 
 /// Counts the intervals that the photons of a block end, and answers how many are now past the last bin.
+// Not inlined, so that its loop has the registers for itself.
+#[inline(never)]
 pub(crate) fn count_block(
     set: &StartStopSet,
     cells: &mut [u64],
@@ -25,7 +27,7 @@ pub(crate) fn count_block(
 {
     // Copies, so that no field is read again for each photon.
     let own = *set;
-    let width = Divisor::new(set.width);
+    let by = Divisor::new(set.width);
     let mut last = *start;
     let mut over = over;
     for at in 0..block.len().min(TABLE_BLOCK) {
@@ -34,7 +36,7 @@ pub(crate) fn count_block(
             let starts = block.has_photon(at, own.start);
             let stops = block.has_photon(at, own.stop);
             let time = block.time(at);
-            let bin = width.quotient(time - last.since);
+            let bin = bin_of(time - last.since, own.width, &by);
             over += put(cells, bin, ended(last, stops));
             last = start_behind(last, time, starts, stops);
         }
@@ -43,13 +45,13 @@ pub(crate) fn count_block(
     over
 }
 
-/// The bin of a time. Bins of one tick need no division.
+/// The bin of a time, by the divisor for the width. Bins of one tick need no product.
 #[inline(always)]
-pub(crate) fn bin_of(time: u64, width: u64) -> u64
-    requires { 0 < width }
+fn bin_of(time: u64, width: u64, by: &Divisor) -> u64
+    requires { divisor_of by.now ≡ width }
     ensures { result ≡ time / width }
 {
-    if width == 1 { time } else { time / width }
+    if width == 1 { time } else { by.quotient(time) }
 }
 
 /// Adds to the cell of a bin, or answers what is to be added past the last. It takes no branch.

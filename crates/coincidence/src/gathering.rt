@@ -1,9 +1,9 @@
 // Bins that the photons of a block close.
-ghost use Rattle.std.specs.Prelude.{◌≡◌, ◌+◌, ◌<◌, ◌≤◌, ◌++◌, []};
-ghost use Rattle.tally_base.{specs.Settings.{CoincidenceView, coincidence_view}, specs.Tally.History, specs.Columns.{gathered, events_in, IsSorted}};
+ghost use Rattle.std.specs.Prelude.{◌≡◌, ◌+◌, ◌<◌, ◌≤◌, ◌++◌, [], take};
+ghost use Rattle.tally_base.{specs.Settings.{CoincidenceView, coincidence_view}, specs.Tally.History, specs.Columns.{count, gathered, events_in, IsSorted}};
 ghost use Rattle.lag_ring.{specs.Cells.Cells, specs.Ring.Ring};
 ghost use Rattle.arrayvec.specs.ArrayVec.{array_vec_len};
-ghost use Rattle.coincidence.{specs.StandsFor.{CanTake, Gathers}, specs.Pairing.pairing_of, specs.Closing.{Gathered, CanGather}};
+ghost use Rattle.coincidence.{specs.StandsFor.{CanTake, Gathers}, specs.Pairing.pairing_of, specs.Closing.{Gathered, CanGather}, specs.Picked.ArePicked};
 
 use crate::pairing::Bin;
 use arrayvec::ArrayVec;
@@ -34,6 +34,25 @@ fn gather_bin(waiting: Option<Bin>, bins: &mut ArrayVec<Bin, TABLE_BLOCK>, bin: 
     }
 }
 
+/// Puts the rows of a block that have a photon of either group behind one another, and answers how many there are. What
+/// stands behind them has no meaning.
+#[inline(always)]
+fn pick(set: CoincidenceSet, block: &Block<TABLE_BLOCK>, rows: &mut [u16; TABLE_BLOCK]) -> usize
+    requires sorted { IsSorted block.now }
+    ensures few { result ≤ TABLE_BLOCK }
+    ensures picked { ArePicked (coincidence_view set) block.now (take result rows.new) 0 (count block.now) }
+{
+    let mut picked = 0;
+    for at in 0..block.len().min(TABLE_BLOCK) {
+        // No branch on which group it is, which is as good as random from photon to photon.
+        let first = block.has_photon(at, set.first);
+        let second = block.has_photon(at, set.second);
+        rows[picked] = at as u16;
+        picked += usize::from(first | second);
+    }
+    picked
+}
+
 /// Takes the photons of a block, and puts the bins that they close into a list. The answer is the bin
 /// that is open then.
 pub(crate) fn gather_block(
@@ -52,14 +71,15 @@ pub(crate) fn gather_block(
 {
     // Copies, so that no field is read again for each photon.
     let own = *set;
+    let mut rows = [0; TABLE_BLOCK];
+    let picked = pick(own, block, &mut rows);
     let mut open = waiting;
-    for at in 0..block.len().min(TABLE_BLOCK) {
+    for row in &rows[..picked] {
+        let at = *row as usize;
         let first = block.has_photon(at, own.first);
         let second = block.has_photon(at, own.second);
-        if first | second {
-            let bin = Bin::of_photon(block.time(at), first, second);
-            open = gather_bin(open, bins, bin);
-        }
+        let bin = Bin::of_photon(block.time(at), first, second);
+        open = gather_bin(open, bins, bin);
     }
     open
 }

@@ -125,7 +125,7 @@ fn is_near(set: CoincidenceSet, apart: u64) -> bool
 }
 
 /// The least index of a bin that is still in reach of a bin after the one at `index`.
-fn least_kept(set: &CoincidenceSet, index: u64) -> u64
+pub(crate) fn least_kept(set: &CoincidenceSet, index: u64) -> u64
     ensures { result ≡ index - (set.now.reach - 1) }
 {
     index.saturating_sub(u64::from(set.reach) - 1)

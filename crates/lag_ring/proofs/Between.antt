@@ -1,5 +1,5 @@
 -- How many entries have an index in a range.
-use Rattle.std.{proofs.Common.{◌≡◌, ℕ, ◌+◌, ◌-◌, ◌<◌, ◌≤◌, Bool, true, ◌&&◌, ltb, leb, List, [], ◌∷◌, length, cond, sym, ap, ◌∙◌, arith, ◌++◌, map}, specs.List.{count_by, AllByRecursion, range_with_len}, proofs.lemmas.Grind.common_steps, proofs.lemmas.List.Sums.{sum_by-cons, length-filter}, proofs.lemmas.List.{append_assoc, length-append}, proofs.lemmas.List.FromFn.{map-range_with_len_more, length-map-range_with_len}}
+use Rattle.std.{proofs.Common.{rules}, proofs.Common.{◌≡◌, ℕ, ◌+◌, ◌-◌, ◌<◌, ◌≤◌, Bool, true, ◌&&◌, ltb, leb, List, [], ◌∷◌, length, cond, sym, ap, ◌∙◌, arith, ◌++◌, map}, specs.List.{count_by, AllByRecursion, range_with_len}, proofs.lemmas.Grind.common_steps, proofs.lemmas.List.Sums.{sum_by-cons, length-filter}, proofs.lemmas.List.{append_assoc, length-append}, proofs.lemmas.List.FromFn.{map-range_with_len_more, length-map-range_with_len}}
 use Rattle.lag_ring.{specs.declared.ring.Entry.Entry, specs.Ring.IsRising, proofs.Rising.filter_passed, proofs.Lists.all_both, proofs.Sums.sum_by-agree, specs.Cells.{upwards_from, downwards_from}}
 
 abbrev pub between : ℕ → ℕ → Entry → Bool
@@ -32,8 +32,7 @@ few_kept es low index rising from below =
 -- Places that were noted one after the other.
 
 more_of : (f : ℕ → ℕ) (xs ys : List ℕ) (n : ℕ) → ys ≡ xs ++ map f (range_with_len 0 n) → ys ++ f n ∷ [] ≡ xs ++ map f (range_with_len 0 (n + 1))
-more_of f xs ys n is = ap (λ zs. zs ++ f n ∷ []) is ∙ append_assoc xs (map f (range_with_len 0 n)) (f n ∷ [])
-    ∙ ap (λ zs. xs ++ zs) (sym (map-range_with_len_more f 0 n n (omega arith)))
+more_of f xs ys n is = search (rules, arith, append_assoc, map-range_with_len_more)
 
 pub upwards_more : (xs ys : List ℕ) (from n : ℕ) → ys ≡ xs ++ upwards_from from n → ys ++ (from + n) ∷ [] ≡ xs ++ upwards_from from (n + 1)
 upwards_more xs ys from n = more_of (λ q. from + q) xs ys n

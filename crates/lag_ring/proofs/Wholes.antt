@@ -1,5 +1,5 @@
 -- Counts in two parts.
-use Rattle.std.{proofs.Common.{◌≡◌, ◌≢◌, ℕ, zero, suc, ◌+◌, ◌-◌, ◌^◌, ◌<◌, ◌≤◌, true, false, eqb, leb, cond, List, [], ◌∷◌, length, get_or, replicate, set, refl, ap, arith}, proofs.lemmas.Bool.Decides.{nat_tests}, proofs.lemmas.List.{ext_get_or, get_or-set_same, get_or-set_other, get_or_past, length-set}}
+use Rattle.std.{proofs.Common.{rules}, proofs.Common.{◌≡◌, ◌≢◌, ℕ, zero, suc, ◌+◌, ◌-◌, ◌^◌, ◌<◌, ◌≤◌, true, false, eqb, cond, List, [], ◌∷◌, length, get_or, replicate, set, refl, ap, arith}, proofs.lemmas.Bool.Decides.{nat_tests}, proofs.lemmas.List.{ext_get_or, get_or-set_same, get_or-set_other, get_or_past, length-set}}
 use Rattle.lag_ring.specs.Cells.{part_sum, whole, AreParts, upwards_at, downwards_at}
 
 pub whole-length : (lows highs : List ℕ) → length highs ≡ length lows → length (whole lows highs) ≡ length lows
@@ -43,45 +43,17 @@ whole-set lows highs lows' highs' at more same long same' inside grew =
 -- No count that a row is added to passes the greatest.
 pub upwards-few : (lows highs : List ℕ) (from c : ℕ) (row : List ℕ) → AreParts lows highs → c < length lows
     → ((q : ℕ) → q < length row → part_sum lows highs (from + q) + get_or row q 0 ≤ 2 ^ 80) → part_sum lows highs c + upwards_at from row c ≤ 2 ^ 80
-upwards-few lows highs from c row are inside fits =
-    (elim (leb from c) as (λ b. leb from c ≡ b → part_sum lows highs c + cond b (get_or row (c - from) 0) 0 ≤ 2 ^ 80) [
-      | true ↦ λ upto.
-          let above : from ≤ c = grind (arith, nat_tests, upto) in
-          let q : ℕ = c - from in
-          let place : from + q ≡ c = omega arith in
-          (elim (leb (length row) q) as (λ b. leb (length row) q ≡ b → part_sum lows highs c + get_or row q 0 ≤ 2 ^ 80) [
-            | true ↦ λ long. (let past : length row ≤ q = grind (arith, nat_tests, long) in rw (get_or_past row q 0 past) (omega (arith, are.few c inside)))
-            | false ↦ λ short. rw place at (fits q (grind (arith, nat_tests, short)))
-          ]) refl
-      | false ↦ λ below. omega (arith, are.few c inside)
-    ]) refl
+upwards-few lows highs from c row are inside fits = search (rules, arith, get_or_past)
 
 pub downwards-few : (lows highs : List ℕ) (from c : ℕ) (row : List ℕ) → AreParts lows highs → c < length lows
     → ((q : ℕ) → q < length row → part_sum lows highs (from - q) + get_or row q 0 ≤ 2 ^ 80) → part_sum lows highs c + downwards_at from row c ≤ 2 ^ 80
-downwards-few lows highs from c row are inside fits =
-    (elim (leb c from) as (λ b. leb c from ≡ b → part_sum lows highs c + cond b (get_or row (from - c) 0) 0 ≤ 2 ^ 80) [
-      | true ↦ λ upto.
-          let below : c ≤ from = grind (arith, nat_tests, upto) in
-          let q : ℕ = from - c in
-          let place : from - q ≡ c = omega arith in
-          (elim (leb (length row) q) as (λ b. leb (length row) q ≡ b → part_sum lows highs c + get_or row q 0 ≤ 2 ^ 80) [
-            | true ↦ λ long. (let past : length row ≤ q = grind (arith, nat_tests, long) in rw (get_or_past row q 0 past) (omega (arith, are.few c inside)))
-            | false ↦ λ short. rw place at (fits q (grind (arith, nat_tests, short)))
-          ]) refl
-      | false ↦ λ above. omega (arith, are.few c inside)
-    ]) refl
+downwards-few lows highs from c row are inside fits = search (rules, arith, get_or_past)
 
 -- A number that is set among small ones is small, and so are all.
 pub small-set : (lows : List ℕ) (at v : ℕ) → at < length lows → v < 2 ^ 63
     → ((c : ℕ) → get_or lows c 0 < 2 ^ 63) → (c : ℕ) → get_or (set lows at v) c 0 < 2 ^ 63
-small-set lows at v inside small all c = (elim (eqb at c) as (λ b. eqb at c ≡ b → get_or (set lows at v) c 0 < 2 ^ 63) [
-  | true ↦ λ here. (let is : c ≡ at = grind (arith, nat_tests, here) in rw (is, get_or-set_same lows at v 0 inside) small)
-  | false ↦ λ away. (let other : c ≢ at = grind (arith, nat_tests, away) in rw (get_or-set_other lows at c v 0 other) (all c))
-]) refl
+small-set lows at v inside small all c = search (rules, arith, get_or-set_same, get_or-set_other)
 
 -- Past the last place stands 0.
 pub small-all : (lows : List ℕ) → ((c : ℕ) → c < length lows → get_or lows c 0 < 2 ^ 63) → (c : ℕ) → get_or lows c 0 < 2 ^ 63
-small-all lows small c = (elim (leb (length lows) c) as (λ b. leb (length lows) c ≡ b → get_or lows c 0 < 2 ^ 63) [
-  | true ↦ λ out. (let past : length lows ≤ c = grind (arith, nat_tests, out) in rw (get_or_past lows c 0 past) (omega arith))
-  | false ↦ λ in_. small c (grind (arith, nat_tests, in_))
-]) refl
+small-all lows small c = search (rules, arith, get_or_past)

@@ -1,5 +1,5 @@
 // Weights by tick in bytes, and the pairs that single photons make over them at many lags at once.
-ghost use Rattle.std.{specs.Prelude.{◌≡◌, ℕ, ◌+◌, ◌-◌, ◌*◌, ◌^◌, ◌<◌, ◌≤◌, ◌==◌, length, slice_index, sum_by, if◌then◌else◌}, specs.List.{AllByRecursion}};
+ghost use Rattle.std.{specs.Prelude.{◌≡◌, ℕ, ◌+◌, ◌-◌, ◌*◌, ◌^◌, ◌<◌, ◌≤◌, ◌==◌, [], ◌∷◌, ◌++◌, take, length, slice_index, sum_by, if◌then◌else◌}, specs.List.{AllByRecursion}};
 ghost use Rattle.lag_ring.{specs.declared.window.Side.TheVariants.{First, Second}, specs.Bytes.{weight_of, weight_at, IsLight, behind, Fit, Have, BothFit, BothHave}};
 ghost use Rattle.arrayvec.specs.ArrayVec.{array_vec_len};
 
@@ -95,18 +95,48 @@ pub fn put_side(window: &mut [u8], side: Side, top: u64, low: u64, entries: &[En
     }
 }
 
+/// Puts a spot behind others, where there is a place.
+#[inline(always)]
+fn put_once(spots: &mut [u16; MOST_SPOTS], count: usize, spot: u16)
+    ensures others { take count spots.new ≡ take count spots.old }
+    ensures once { count < MOST_SPOTS → take (count + 1) spots.new ≡ take count spots.old ++ spot ∷ [] }
+{
+    if count < MOST_SPOTS {
+        spots[count] = spot;
+    }
+}
+
 /// Puts a spot behind others so many times.
 #[inline(always)]
-fn put_spot(spots: &mut ArrayVec<u16, MOST_SPOTS>, spot: u16, times: u64)
-    requires room { array_vec_len spots.old + times ≤ MOST_SPOTS }
-    ensures sums { (f : ℕ → ℕ) → sum_by f spots.new.items ≡ sum_by f spots.old.items + f spot * times }
-    ensures len { array_vec_len spots.new ≡ array_vec_len spots.old + times }
-    ensures within { (n : ℕ) → spot ≤ n → AllByRecursion (λ s. s ≤ n) spots.old.items
-        → AllByRecursion (λ s. s ≤ n) spots.new.items }
+fn put_times(spots: &mut [u16; MOST_SPOTS], count: usize, spot: u16, times: u64)
+    requires room { count + times ≤ MOST_SPOTS }
+    ensures sums { (f : ℕ → ℕ) → sum_by f (take (count + times) spots.new)
+        ≡ sum_by f (take count spots.old) + f spot * times }
+    ensures within { (n : ℕ) → spot ≤ n → AllByRecursion (λ s. s ≤ n) (take count spots.old)
+        → AllByRecursion (λ s. s ≤ n) (take (count + times) spots.new) }
 {
-    for _time in 0..times {
-        spots.push(spot);
+    for time in 0..times {
+        spots[count + time as usize] = spot;
     }
+}
+
+/// Puts a spot behind others so many times, and answers how many there are then. It takes no branch on whether that is
+/// none or one, which is as good as random.
+#[inline(always)]
+fn put_spot(spots: &mut [u16; MOST_SPOTS], count: usize, spot: u16, times: u64) -> usize
+    requires room { count + times ≤ MOST_SPOTS }
+    ensures len { result ≡ count + times }
+    ensures sums { (f : ℕ → ℕ) → sum_by f (take result spots.new)
+        ≡ sum_by f (take count spots.old) + f spot * times }
+    ensures within { (n : ℕ) → spot ≤ n → AllByRecursion (λ s. s ≤ n) (take count spots.old)
+        → AllByRecursion (λ s. s ≤ n) (take result spots.new) }
+{
+    if times > 1 {
+        put_times(spots, count, spot, times);
+    } else {
+        put_once(spots, count, spot);
+    }
+    count + times as usize
 }
 
 /// The spot of each photon that entries have on one side, in a window that begins at `low`.
@@ -119,11 +149,15 @@ pub fn spots_of(side: Side, low: u64, entries: &[Entry]) -> ArrayVec<u16, MOST_S
     ensures within { (n : ℕ) → AllByRecursion (λ e. e.index - low ≤ n) entries.now
         → AllByRecursion (λ s. s ≤ n) result.items }
 {
-    let mut spots = ArrayVec::new();
+    let mut spots = [0; MOST_SPOTS];
+    let mut count = 0;
     for entry in entries {
-        put_spot(&mut spots, (entry.index - low) as u16, side.weight(entry));
+        let spot = (entry.index - low) as u16;
+        count = put_spot(&mut spots, count, spot, side.weight(entry));
     }
-    spots
+    let mut filled = ArrayVec::from(spots);
+    filled.truncate(count);
+    filled
 }
 
 /// Adds each byte of a part of a window to a sum.

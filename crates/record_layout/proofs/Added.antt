@@ -1,12 +1,10 @@
 -- Wraps, added.
-use Rattle.std.proofs.Common.{◌≡◌, ◌+◌, ◌*◌, ◌<◌, ◌≤◌, ℕ, zero, suc, ap, arith}
+use Rattle.std.proofs.Common.{◌≡◌, ◌+◌, ◌*◌, ◌<◌, ◌≤◌, ℕ, zero, suc, arith, rules}
 use Rattle.record_layout.specs.InColumns.{sum_to}
 
 pub sum-more : (f : ℕ → ℕ) (n : ℕ) → sum_to f (n + 1) ≡ sum_to f n + f n
 unfolding sum_to
-sum-more f n =
-    let next : n + 1 ≡ suc n = omega arith in
-    ap (sum_to f) next
+sum-more f n = search (rules, arith)
 
 -- few of each are few together
 pub sum-few : (f : ℕ → ℕ) (most n : ℕ) → ((i : ℕ) → i < n → f i ≤ most) → sum_to f n ≤ n * most

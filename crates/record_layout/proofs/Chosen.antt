@@ -1,7 +1,7 @@
 -- Places that stay, eight at a time.
-use Rattle.std.{proofs.Common.{◌≡◌, ◌+◌, ◌<◌, ◌≤◌, ◌++◌, [], ◌∷◌, ℕ, zero, suc, List, Bool, true, false, length, map, take, get_or, replicate, cond, refl, sym, ap, subst, ◌∙◌, arith, ltb}, specs.Prelude.{count_ones}, specs.Prelude.{◌&&◌, nat_le}, specs.List.{filter, range_with_len}, proofs.lemmas.List.FromFn.{get_or-map-range_with_len, length-range_with_len}, proofs.lemmas.List.Elements.{filter-append}, proofs.lemmas.Simd.{get_or-replicate, get_or-chunk}, proofs.lemmas.Bool.{leb-true, ltb-true}, proofs.lemmas.List.{map-append, length-map, length-append, get_or-map, get_or-take}, proofs.lemmas.List.Sums.{length-filter, count_by-le-length}}
+use Rattle.std.{proofs.Common.{rules}, proofs.Common.{◌≡◌, ◌+◌, ◌<◌, ◌≤◌, ◌++◌, [], ◌∷◌, ℕ, zero, suc, List, Bool, true, false, length, map, take, get_or, replicate, cond, refl, sym, ap, subst, ◌∙◌, arith, ltb}, specs.Prelude.{count_ones}, specs.Prelude.{◌&&◌, nat_le}, specs.List.{filter, range_with_len}, proofs.lemmas.List.FromFn.{get_or-map-range_with_len, length-range_with_len}, proofs.lemmas.List.Elements.{filter-append}, proofs.lemmas.Simd.{get_or-replicate}, proofs.lemmas.Bool.{leb-true, ltb-true}, proofs.lemmas.List.{map-append, length-map, length-append, get_or-map, get_or-take}, proofs.lemmas.List.Sums.{length-filter, count_by-le-length}}
 use lib.Count.{ones}
-use lib.Lanes.{Each1, chunk, all_below}
+use lib.Lanes.{Each1, all_below}
 use Rattle.record_layout.specs.InClose.{has_bit, bits_in, lanes_by}
 
 -- what holds of each number below 256
@@ -15,9 +15,7 @@ both false b h = cc
 
 pub below-all : (n : ℕ) (ks : List ℕ) → all_below n ks ≡ true → Each1 (λ j. j < n) ks
 below-all n [] t = tt
-below-all n (k ∷ ks) t =
-    let two = both (ltb k n) (all_below n ks) t in
-    (ltb-true k n two.0, below-all n ks two.1)
+below-all n (k ∷ ks) t = search (rules, arith, ltb-true, below-all n ks (both (ltb k n) (all_below n ks) t).1)
 
 bits_few : map (λ m. nat_le (length (bits_in m)) 8) (range_with_len 0 256) ≡ replicate 256 true
 unfolding bits_in has_bit
@@ -44,10 +42,7 @@ module _ (bits : ℕ) (lt : bits < 256) where
       ∙ get_or-map-range_with_len (λ m. length (bits_in m)) 0 256 bits bits 0 lt (omega arith)
 
 range-append : (a n m : ℕ) → range_with_len a (n + m) ≡ range_with_len a n ++ range_with_len (a + n) m
-range-append a zero m =
-    let none : 0 + m ≡ m = omega arith in
-    let same : a ≡ a + 0 = omega arith in
-    ap (range_with_len a) none ∙ ap (λ k. range_with_len k m) same
+range-append a zero m = search (rules, arith)
 range-append a (suc n) m =
     let more : suc n + m ≡ suc (n + m) = omega arith in
     let same : a + 1 + n ≡ a + suc n = omega arith in
@@ -78,20 +73,22 @@ stay-more f a bits same =
     ∙ ap (λ l. filter f (range_with_len 0 a) ++ l)
     (ap (λ k. filter f (range_with_len k 8)) from ∙ filter-shift f (has_bit bits) a 0 8 (λ j le lt. sym (same j (omega (arith, lt)))))
 
-lanes-at : (xs ks : List ℕ) (a : ℕ) → Each1 (λ j. j < 8) ks → map (λ i. get_or (chunk a 8 xs) i 0) ks ≡ map (λ i. get_or xs i 0) (map (λ i. a + i) ks)
-lanes-at xs [] a lt = refl
-lanes-at xs (k ∷ ks) a lt = rw (get_or-chunk a 8 xs k 0 lt.0) (ap (λ l. get_or xs (a + k) 0 ∷ l) (lanes-at xs ks a lt.1))
+lanes-at : (h : ℕ → ℕ) (eight ks : List ℕ) (a : ℕ) → ((j : ℕ) → j < 8 → get_or eight j 0 ≡ h (a + j)) → Each1 (λ j. j < 8) ks
+    → map (λ i. get_or eight i 0) ks ≡ map h (map (λ i. a + i) ks)
+lanes-at h eight [] a is lt = refl
+lanes-at h eight (k ∷ ks) a is lt = rw (is k lt.0) (ap (λ l. h (a + k) ∷ l) (lanes-at h eight ks a is lt.1))
 
--- a column with eight more of another
-pub column-more : (f : ℕ → Bool) (xs old new : List ℕ) (a bits len : ℕ) → bits < 256 → ((i : ℕ) → i < 8 → has_bit bits i ≡ f (a + i))
-    → take len old ≡ map (λ i. get_or xs i 0) (filter f (range_with_len 0 a))
-    → take (len + length (bits_in bits)) new ≡ take len old ++ lanes_by (chunk a 8 xs) bits
-    → take (len + length (bits_in bits)) new ≡ map (λ i. get_or xs i 0) (filter f (range_with_len 0 (a + 8)))
-column-more f xs old new a bits len few same is put =
-    put ∙ ap (λ l. l ++ lanes_by (chunk a 8 xs) bits) is
-    ∙ ap (λ l. map (λ i. get_or xs i 0) (filter f (range_with_len 0 a)) ++ l) (lanes-at xs (bits_in bits) a (below-bits bits few))
-    ∙ sym (map-append (λ i. get_or xs i 0) (filter f (range_with_len 0 a)) (map (λ i. a + i) (bits_in bits)))
-    ∙ ap (map (λ i. get_or xs i 0)) (sym (stay-more f a bits same))
+-- a column with eight more numbers, each by its place
+pub column-more : (f : ℕ → Bool) (h : ℕ → ℕ) (old new eight : List ℕ) (a bits len : ℕ) → bits < 256 → ((i : ℕ) → i < 8 → has_bit bits i ≡ f (a + i))
+    → ((j : ℕ) → j < 8 → get_or eight j 0 ≡ h (a + j))
+    → take len old ≡ map h (filter f (range_with_len 0 a))
+    → take (len + length (bits_in bits)) new ≡ take len old ++ lanes_by eight bits
+    → take (len + length (bits_in bits)) new ≡ map h (filter f (range_with_len 0 (a + 8)))
+column-more f h old new eight a bits len few same lanes is put =
+    put ∙ ap (λ l. l ++ lanes_by eight bits) is
+    ∙ ap (λ l. map h (filter f (range_with_len 0 a)) ++ l) (lanes-at h eight (bits_in bits) a lanes (below-bits bits few))
+    ∙ sym (map-append h (filter f (range_with_len 0 a)) (map (λ i. a + i) (bits_in bits)))
+    ∙ ap (map h) (sym (stay-more f a bits same))
 
 pub few-staying : (f : ℕ → Bool) (n : ℕ) → length (filter f (range_with_len 0 n)) ≤ n
 few-staying f n = omega (arith, length-filter f (range_with_len 0 n), count_by-le-length f (range_with_len 0 n), length-range_with_len 0 n)
@@ -116,10 +113,7 @@ map-same f g a (suc n) is = by_case (f a) (map-same f g (a + 1) n (λ j le lt. i
 
 -- one place more
 pub place-more : (f : ℕ → Bool) (n : ℕ) → filter f (range_with_len 0 (n + 1)) ≡ filter f (range_with_len 0 n) ++ cond (f n) (n ∷ []) []
-place-more f n =
-    let from : 0 + n ≡ n = omega arith in
-    ap (filter f) (range-append 0 n 1) ∙ filter-append f (range_with_len 0 n) (range_with_len (0 + n) 1)
-    ∙ ap (λ k. filter f (range_with_len 0 n) ++ cond (f k) (k ∷ []) []) from
+place-more f n = search (rules, arith, range-append, filter-append)
 
 -- none of the places is too great
 pub place-below : (f : ℕ → Bool) (a n j : ℕ) → j < length (filter f (range_with_len a n)) → get_or (filter f (range_with_len a n)) j 0 < a + n
@@ -146,6 +140,5 @@ map-places f g (k ∷ ks) a same =
     rw here (ap (λ l. g k ∷ l) rest)
 
 -- what is put at a place is of the place that it has in the columns
-pub at-stayed : (xs ys ks : List ℕ) (len j : ℕ) → take len xs ≡ map (λ i. get_or ys i 0) ks
-    → j < len → j < length ks → get_or xs j 0 ≡ get_or ys (get_or ks j 0) 0
-at-stayed xs ys ks len j is lt few = sym (get_or-take len xs j 0 lt) ∙ ap (λ l. get_or l j 0) is ∙ get_or-map (λ i. get_or ys i 0) ks j 0 0 few
+pub at-stayed : (h : ℕ → ℕ) (xs ks : List ℕ) (len j : ℕ) → take len xs ≡ map h ks → j < len → j < length ks → get_or xs j 0 ≡ h (get_or ks j 0)
+at-stayed h xs ks len j is lt few = sym (get_or-take len xs j 0 lt) ∙ ap (λ l. get_or l j 0) is ∙ get_or-map h ks j 0 0 few

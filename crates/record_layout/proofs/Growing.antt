@@ -1,8 +1,8 @@
 -- A counter's bytes grow.
+use Rattle.std.{proofs.Common.{rules}, proofs.Common.{◌≡◌, ◌+◌, ◌-◌, ◌*◌, ◌<◌, ◌≤◌, ℕ, List, [], ◌++◌, length, map, Ok, Err, refl, sym, ap, ◌∙◌, arith, length-append, ◌∷◌, take, drop, get_or, take-append-drop, append_assoc, Option, MatchOption}, proofs.lemmas.List.{length-map, map-append}, proofs.lemmas.Bool.Decides.nat_tests}
 use Rattle.tally_base.{specs.declared.fault.Fault.TheVariants.{RecordLimit, TruncatedRecord}, specs.declared.header.RecordType.RecordType}
 use Rattle.ptu_definitions.{specs.declared.records.KindCounts.KindCounts, specs.Words.{words_of, rest_of, numbers, counted, records_of, record_limit}, specs.Layouts.meaning_of, specs.Kinds.counts_of, specs.Headers.Shows, proofs.WordsLemmas.{words_of-append, rest_of-append, length-words_of, length-rest_of, length-words_of-append, rest_of-four}, specs.Prefixes.listed}
 use Rattle.record_layout.{specs.Sums.sum_of, specs.Counting.AreCounts, proofs.KindLemmas.counts_of-append}
-use Rattle.std.{proofs.Common.{◌≡◌, ◌+◌, ◌-◌, ◌*◌, ◌<◌, ◌≤◌, ℕ, List, [], ◌++◌, length, map, Ok, Err, refl, sym, ap, ◌∙◌, arith, length-append, false, nat_lt, nat_eq, ◌∷◌, take, drop, get_or, take-append-drop, append_assoc, Option, None, Some, MatchOption}, specs.Int.{from_le_bytes, w32}, proofs.lemmas.List.{length-map, map-append}, proofs.lemmas.Bool.Decides.nat_tests}
 
 module _ (record_type : RecordType) (carried : List ℕ) (counts : KindCounts) (bytes : List ℕ) (h : AreCounts record_type carried counts bytes) where
   -- each word is counted
@@ -15,9 +15,7 @@ module _ (record_type : RecordType) (carried : List ℕ) (counts : KindCounts) (
 
   -- each byte is counted or carried
   bytes-taken : 4 * counts.records + length carried ≡ length bytes
-  bytes-taken =
-      let rest : length carried ≡ length (rest_of bytes) = ap length h.rest in
-      omega (arith, records-counted, rest, length-words_of bytes, length-rest_of bytes)
+  bytes-taken = search (rules, arith, records-counted, length-words_of, length-rest_of)
 
   -- a piece that there is room for
   pub words-fit : (piece : List ℕ) → length piece ≤ 4 * (record_limit - counts.records) + 3 - length carried → length (words_of (bytes ++ piece)) ≤ record_limit
@@ -33,29 +31,15 @@ module _ (record_type : RecordType) (carried : List ℕ) (counts : KindCounts) (
       → more ≡ counts_of (map (meaning_of record_type) (words_of (carried ++ piece)))
       → AreCounts record_type (rest_of (carried ++ piece)) (sum_of counts more) (bytes ++ piece)
   unfolding records_of
-  AreCounts-append piece more fits counted_more = record {
-    rest = sym (rest_of-append bytes piece ∙ ap (λ l. rest_of (l ++ piece)) (sym h.rest));
-    kinds =
-        rw (counted_more, h.kinds, h.rest)
-        (sym (ap (λ l. counts_of (map (meaning_of record_type) l)) (words_of-append bytes piece)
-        ∙ ap counts_of (map-append (meaning_of record_type) (words_of bytes) (words_of (rest_of bytes ++ piece)))
-        ∙ counts_of-append (map (meaning_of record_type) (words_of bytes)) (map (meaning_of record_type) (words_of (rest_of bytes ++ piece)))));
-    few = words-fit piece fits;
-  }
+  AreCounts-append piece more fits counted_more = search (rules, arith, rest_of-append, words_of-append, map-append, counts_of-append, words-fit)
 
   pub counted-whole : length carried ≡ 0 → Ok counts ≡ counted record_type bytes
   unfolding counted
-  counted-whole none =
-      let rest : length (rest_of bytes) ≡ 0 = rw (← h.rest) none in
-      let few : nat_lt record_limit (length (words_of bytes)) ≡ false = grind (arith, nat_tests, h.few) in
-      rw (few, rest) (ap Ok h.kinds)
+  counted-whole none = search (rules, arith)
 
   pub counted-cut : (length carried ≡ 0 → ⊥) → Err (TruncatedRecord (length carried)) ≡ counted record_type bytes
   unfolding counted
-  counted-cut some =
-      let few : nat_lt record_limit (length (words_of bytes)) ≡ false = grind (arith, nat_tests, h.few) in
-      let left : nat_eq (length (rest_of bytes)) 0 ≡ false = rw (← h.rest) (grind (arith, nat_tests)) in
-      rw (few, left, h.rest) refl
+  counted-cut some = search (rules, arith)
 
 -- no bytes
 pub AreCounts-none : (record_type : RecordType) → AreCounts record_type [] (record { records = 0; photons = 0; markers = 0; wraps = 0; reserved = 0 }) []
@@ -66,10 +50,7 @@ AreCounts-none record_type = record { rest = refl; kinds = refl; few = omega ari
 pub counts_of-both : (record_type : RecordType) (first others : List (List ℕ)) (words : List ℕ) (counts more : KindCounts)
     → counts ≡ counts_of (map (meaning_of record_type) (numbers first)) → more ≡ counts_of (map (meaning_of record_type) (numbers others))
     → numbers (first ++ others) ≡ words → sum_of counts more ≡ counts_of (map (meaning_of record_type) words)
-counts_of-both record_type first others words counts more of_first of_others are =
-    let meaning = meaning_of record_type in
-    rw (of_first, of_others, ← are, map-append (from_le_bytes w32) first others, map-append meaning (numbers first) (numbers others))
-    (sym (counts_of-append (map meaning (numbers first)) (map meaning (numbers others))))
+counts_of-both record_type first others words counts more of_first of_others are = search (rules, arith, map-append, counts_of-append)
 
 -- too many words stay too many
 pub words-more : (bytes more : List ℕ) → record_limit < length (words_of bytes) → record_limit < length (words_of (bytes ++ more))
@@ -93,8 +74,7 @@ none_of (x ∷ xs) none = absurd (omega arith)
 
 -- a value in a slice of its own
 pub slice-listed : {X : Type 0} (o : Option X) (xs : List X) → MatchOption o (xs ≡ []) (λ x. xs ≡ x ∷ []) → xs ≡ listed o
-slice-listed None xs is = is
-slice-listed (Some x) xs is = is
+slice-listed o xs is = search (rules, arith)
 
 -- the only word of a list
 pub only-word : (words : List (List ℕ)) (d : List ℕ) → length words ≡ 1 → words ≡ get_or words 0 d ∷ []
@@ -108,10 +88,7 @@ module _ (begun piece : List ℕ) (n : ℕ) (four : length (begun ++ take n piec
 
   -- the word that a piece completes comes first
   pub words-completed : words_of (begun ++ piece) ≡ words_of (begun ++ take n piece) ++ words_of (drop n piece)
-  words-completed =
-      ap words_of parted ∙ words_of-append (begun ++ take n piece) (drop n piece)
-      ∙ ap (λ l. words_of (begun ++ take n piece) ++ words_of (l ++ drop n piece)) (rest_of-four (begun ++ take n piece) four)
+  words-completed = search (rules, arith, parted, words_of-append, rest_of-four)
 
   pub rest-completed : rest_of (begun ++ piece) ≡ rest_of (drop n piece)
-  rest-completed = ap rest_of parted ∙ rest_of-append (begun ++ take n piece) (drop n piece)
-      ∙ ap (λ l. rest_of (l ++ drop n piece)) (rest_of-four (begun ++ take n piece) four)
+  rest-completed = search (rules, arith, parted, rest_of-append, rest_of-four)

@@ -1,5 +1,5 @@
 -- How many of some words are of each kind.
-use Rattle.std.{proofs.Common.{◌≡◌, ◌+◌, ◌-◌, ◌<◌, ◌≤◌, ℕ, zero, suc, get_or, take, List, [], ◌∷◌, ◌++◌, Bool, cond, length, map, refl, sym, ap, ◌∙◌, arith, count_by}, specs.Int.{from_le_bytes, w32}, proofs.lemmas.List.{length-append, length-map}, proofs.lemmas.List.Sums.sum_by-append}
+use Rattle.std.{proofs.Common.{rules}, proofs.Common.{◌≡◌, ◌+◌, ◌-◌, ◌<◌, ◌≤◌, ℕ, zero, suc, get_or, take, List, [], ◌∷◌, ◌++◌, Bool, cond, length, map, refl, ◌∙◌, arith, count_by}, specs.Int.{from_le_bytes, w32}, proofs.lemmas.List.{length-append, length-map}, proofs.lemmas.List.Sums.sum_by-append}
 use Rattle.ptu_definitions.{specs.declared.records.Raw.Raw, specs.declared.records.Raw.TheVariants.{Photon, Marker, Wrap, Reserved}, specs.Words.numbers, specs.Kinds.{is_photon, is_marker, is_wrap, is_reserved, counts_of}}
 use Rattle.record_layout.specs.Sums.{IsSplit, sum_of}
 
@@ -34,9 +34,7 @@ counts_of-split (Reserved ∷ records) = omega (arith, counts_of-split records, 
 count_by-meanings : (p : Raw → Bool) (meaning : ℕ → Raw) (words : List (List ℕ))
     → count_by (λ bytes. p (meaning (from_le_bytes w32 bytes))) words ≡ count_by p (map meaning (numbers words))
 count_by-meanings p meaning [] = refl
-count_by-meanings p meaning (bytes ∷ words) =
-    count_by-cons _ bytes words ∙ ap (λ n. cond (p (meaning (from_le_bytes w32 bytes))) 1 0 + n) (count_by-meanings p meaning words)
-    ∙ sym (count_by-cons p _ (map meaning (numbers words)))
+count_by-meanings p meaning (bytes ∷ words) = search (rules, arith, count_by-cons, count_by-meanings p meaning words)
 
 pub length-meanings : (meaning : ℕ → Raw) (words : List (List ℕ)) → length (map meaning (numbers words)) ≡ length words
 length-meanings meaning words = length-map (numbers words) meaning ∙ length-map words (from_le_bytes w32)
@@ -47,16 +45,7 @@ module _ (meaning : ℕ → Raw) (words : List (List ℕ)) (photons markers wrap
     (markers_are : markers ≡ count_by (λ bytes. is_marker (meaning (from_le_bytes w32 bytes))) words)
     (wraps_are : wraps ≡ count_by (λ bytes. is_wrap (meaning (from_le_bytes w32 bytes))) words) where
   others : photons + markers + wraps + count_by is_reserved (map meaning (numbers words)) ≡ length words
-  others =
-      rw (
-        photons_are,
-        markers_are,
-        wraps_are,
-        count_by-meanings is_photon meaning words,
-        count_by-meanings is_marker meaning words,
-        count_by-meanings is_wrap meaning words,
-      )
-      (counts_of-split (map meaning (numbers words)) ∙ length-meanings meaning words)
+  others = search (rules, arith, count_by-meanings, counts_of-split, length-meanings)
 
   pub others-fit : photons + markers + wraps ≤ length words
   others-fit = let h = others in omega (arith, h)

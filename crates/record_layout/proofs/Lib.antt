@@ -4,3 +4,4 @@ pub mod Growing
 mod Rows
 pub mod Chosen
 pub mod Added
+mod Prefix

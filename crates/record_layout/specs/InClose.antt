@@ -1,6 +1,6 @@
 -- Records that stay, put close together.
 use Rattle.tally_base.specs.Codes.{code_in}
-use Rattle.record_layout.{specs.declared.columns.Columns.Columns, specs.declared.close.Close.Close}
+use Rattle.record_layout.{specs.declared.columns.Columns.Columns, specs.declared.close.Close.Close, specs.InColumns.{wraps_at, sum_to}}
 use Rattle.std.{specs.Prelude.{ℕ, ◌/◌, ◌%◌, ◌^◌, ◌==◌, ◌++◌, ◌-◌, Bool, List, length, map, slice_index, replicate, ◌+◌, ◌*◌, ◌≡◌, take, nat_lt}, specs.List.{filter, range_with_len}}
 
 -- whether the code of the record at a place is below this one
@@ -16,7 +16,7 @@ pub record HasStayed (below : ℕ) (columns : Columns) (n : ℕ) (close : Close)
   pub count : len ≡ length (staying below columns n)
   pub marks : take len close.marks ≡ map (λ i. slice_index columns.marks i) (staying below columns n)
   pub times : take len close.times ≡ map (λ i. slice_index columns.times i) (staying below columns n)
-  pub sums : take len close.sums ≡ map (λ i. slice_index columns.sums i) (staying below columns n)
+  pub sums : take len close.sums ≡ map (λ i. sum_to (wraps_at columns) (i + 1)) (staying below columns n)
   pub places : take len close.places ≡ staying below columns n
 
 -- the code and the dtime as one number

@@ -31,13 +31,9 @@ unfoldable pub sum_to : (ℕ → ℕ) → ℕ → ℕ
 sum_to f zero = 0
 sum_to f (suc n) = sum_to f n + f n
 
--- The wraps up to each of 64 records are added.
-abbrev pub HasSums : Columns → Type 0
-HasSums rows = (i : ℕ) → i < 64 → slice_index rows.sums i ≡ sum_to (wraps_at rows) (i + 1)
-
 -- the time of the record at a place, with the wraps before it and its own
 abbrev pub time_in : ℕ → ℕ → Columns → ℕ → ℕ
-time_in base unit rows i = base + unit * slice_index rows.sums i + slice_index rows.times i
+time_in base unit rows i = base + unit * sum_to (wraps_at rows) (i + 1) + slice_index rows.times i
 
 -- the time before the one at a place
 abbrev pub before : ℕ → (ℕ → ℕ) → ℕ → ℕ

@@ -1,7 +1,7 @@
 // Records put close together.
 ghost use Rattle.std.{specs.Prelude.{◌≡◌, ◌+◌, ◌%◌, ◌^◌, ◌<◌, ◌≤◌, ◌++◌, ℕ, length, take, nat_lt, slice_index}, specs.Simd.Lanes.chunk};
 ghost use Rattle.tally_base.specs.Codes.{code_in};
-ghost use Rattle.record_layout.specs.InClose.{has_bit, bits_in, lanes_in, lanes_by};
+ghost use Rattle.record_layout.{specs.InClose.{has_bit, bits_in, lanes_in, lanes_by}, specs.InColumns.{wraps_at, sum_to}};
 
 use crate::columns::Columns;
 use crate::layout::RecordLayout;
@@ -122,24 +122,30 @@ impl Close {
         }
     }
 
-    /// Puts those records whose codes are below `below`, and answers how many they are.
+    /// Puts those records whose codes are below `below`. Answers how many they are, and how many wraps the 64 records
+    /// stand for.
     #[inline(always)]
-    pub fn fill(&mut self, columns: &Columns, below: u16) -> usize
-        ensures { HasStayed below columns.now 64 self.new result }
+    pub fn fill(&mut self, columns: &Columns, below: u16) -> (usize, u32)
+        requires few { (i : ℕ) → i < 64 → wraps_at columns.now i ≤ 2 ^ 25 }
+        ensures stayed { HasStayed below columns.now 64 self.new result.0 }
+        ensures wraps { result.1 ≡ sum_to (wraps_at columns.now) 64 }
     {
         // No branch tests what a record is.
         let mut len = 0usize;
+        let mut before = u32x8::splat(0);
         for k in 0..8usize {
             let at = 8 * k;
             let marks = eight_at(&columns.marks, at);
             let bits = bits_below(marks, below);
+            let sums = sums_up_to(eight_at(&columns.wraps, at));
             put_close(&mut self.marks, len, marks, bits);
             put_close(&mut self.times, len, eight_at(&columns.times, at), bits);
-            put_close(&mut self.sums, len, eight_at(&columns.sums, at), bits);
+            put_close(&mut self.sums, len, before + sums, bits);
             put_close(&mut self.places, len, eight_at(&PLACES, at), bits);
             len += bits.count_ones() as usize;
+            before = before + sums.swizzle([7, 7, 7, 7, 7, 7, 7, 7]);
         }
-        len
+        (len, before[0])
     }
 
     /// The code of the record at a place, 0 to 63.
@@ -188,6 +194,21 @@ fn eight_at(column: &[u32; 64], at: usize) -> u32x8
     ensures { result ≡ chunk at 8 column.now }
 {
     u32x8::from_slice(&column[at..])
+}
+
+/// The sum of the numbers up to each of eight.
+#[inline(always)]
+fn sums_up_to(eight: u32x8) -> u32x8
+    requires lanes { length eight ≡ 8 }
+    requires few { (i : ℕ) → i < 8 → slice_index eight i ≤ 2 ^ 25 }
+    ensures lanes { length result ≡ 8 }
+    ensures sums { (i : ℕ) → i < 8
+        → slice_index result i ≡ sum_to (λ k. slice_index eight k) (i + 1) }
+{
+    // Within four and four: each number and the one before it, then the two before these. Then the lower four's sum.
+    let twos = eight + eight.shuffle(u32x8::splat(0), [8, 0, 1, 2, 8, 4, 5, 6]);
+    let fours = twos + twos.shuffle(u32x8::splat(0), [8, 8, 0, 1, 8, 8, 4, 5]);
+    fours + fours.shuffle(u32x8::splat(0), [8, 8, 8, 8, 3, 3, 3, 3])
 }
 
 /// Which of eight marks have a code below `below`, a bit for each.

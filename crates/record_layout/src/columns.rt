@@ -1,5 +1,5 @@
 // The records of a few words, by their parts.
-ghost use Rattle.std.{specs.Prelude.{◌≡◌, ◌*◌, ◌^◌, ◌<◌, ◌≤◌, ℕ, [], true, nat_lt, if◌then◌else◌, length, map, slice_index, slice_index_or}, specs.Int.{from_le_bytes, w32}};
+ghost use Rattle.std.{specs.Prelude.{◌≡◌, ◌+◌, ◌*◌, ◌^◌, ◌<◌, ◌≤◌, ℕ, [], true, nat_lt, if◌then◌else◌, length, map, slice_index, slice_index_or}, specs.Int.{from_le_bytes, w32}};
 ghost use Rattle.ptu_definitions.{specs.Words.numbers, specs.Kinds.counts_of};
 ghost use Rattle.record_layout.specs.Sums.{IsSplit};
 
@@ -16,13 +16,11 @@ pub struct Columns {
     pub(crate) marks: [u32; 64],
     pub(crate) times: [u32; 64],
     // How many wraps each record stands for: narrower than how much later the times behind it are.
-    wraps: [u32; 64],
-    // How many wraps there are up to each record, with its own, once they are added.
-    pub(crate) sums: [u32; 64],
+    pub(crate) wraps: [u32; 64],
 }
 
 impl Columns {
-    ghost use Rattle.record_layout.specs.InColumns.{HasRows, row_at, wraps_at, sum_to, HasSums, time_in, Rises};
+    ghost use Rattle.record_layout.specs.InColumns.{HasRows, row_at, time_in, Rises};
 
     /// Columns for records, which say nothing yet.
     pub fn new() -> Columns {
@@ -30,7 +28,6 @@ impl Columns {
             marks: [0; 64],
             times: [0; 64],
             wraps: [0; 64],
-            sums: [0; 64],
         }
     }
 
@@ -49,40 +46,28 @@ impl Columns {
         }
     }
 
-    /// Adds the wraps up to each of 64 records, and answers how many there are in all.
-    #[inline(always)]
-    pub fn add_up(&mut self) -> u32
-        requires few { (i : ℕ) → i < 64 → wraps_at self.old i ≤ 2 ^ 25 }
-        ensures sums { HasSums self.new }
-        ensures value { result ≡ sum_to (wraps_at self.new) 64 }
-        ensures same { (i : ℕ) → row_at self.new i ≡ row_at self.old i }
-        ensures wraps { self.new.wraps ≡ self.old.wraps }
-    {
-        let mut sum = 0u32;
-        for i in 0..64usize {
-            sum += self.wraps[i];
-            self.sums[i] = sum;
-        }
-        sum
-    }
-
-    /// True only where no time of the 64 records falls, from this one on. The sign of each difference tells it, and a
-    /// first time from 2^63 on counts as one that falls.
+    /// True only where no time of the 64 records falls, from this one on. It needs no sum of wraps: the time before a
+    /// wrap counts as one that falls behind it only where it is longer than a wrap.
     #[inline(always)]
     pub fn rises<R: RecordLayout>(&self, base: u64, low: u64) -> bool
-        requires base { base ≤ 2 ^ 62 }
-        requires sums { (i : ℕ) → i < 64 → slice_index self.now.sums i ≤ 2 ^ 31 }
         ensures rises { result ≡ true → Rises low (time_in base R.UNIT self.now) 64 }
         ensures few { (i : ℕ) → i < 64 → slice_index self.now.times i < 2 ^ 32 }
     {
-        let mut last = low;
-        let mut falls = low;
+        let ahead = low.saturating_sub(base);
+        let mut last = (ahead % (1 << 32)) as u32;
+        let mut falls = (ahead >> 32) as u32;
         for i in 0..64usize {
-            let time = base + R::UNIT * self.sums[i] as u64 + self.times[i] as u64;
-            falls |= time.wrapping_sub(last);
+            let time = self.times[i];
+            // A time that the record does not fall behind, of those that are known without its wraps.
+            let most = if self.wraps[i] == 0 {
+                time
+            } else {
+                R::UNIT as u32
+            };
+            falls |= u32::from(most < last);
             last = time;
         }
-        falls < (1 << 63)
+        falls == 0
     }
 
     /// How many of the words are of each kind whose records it has. It reads their codes alone.
@@ -94,14 +79,14 @@ impl Columns {
         ensures records { result.records ≡ length words.now }
         ensures split { IsSplit result }
     {
-        let mut photons = 0u16;
-        let mut markers = 0u16;
-        let mut wraps = 0u16;
+        let mut photons = 0u32;
+        let mut markers = 0u32;
+        let mut wraps = 0u32;
         for i in 0..words.len() {
-            let code = code_in(self.marks[i]);
-            photons += (code < 256) as u16;
-            markers += ((256 <= code) & (code < 512)) as u16;
-            wraps += (code == 512) as u16;
+            let code = u32::from(code_in(self.marks[i]));
+            photons += (code < 256) as u32;
+            markers += ((256 <= code) & (code < 512)) as u32;
+            wraps += (code == 512) as u32;
         }
         let records = words.len() as u64;
         let others = photons as u64 + markers as u64 + wraps as u64;

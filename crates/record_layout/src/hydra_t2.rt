@@ -104,11 +104,11 @@ impl<const OLD: bool> RecordLayout for HydraT2<OLD> {
 fn code_of(top: u8) -> u16
     ensures { result ≡ hydra_t2_code top }
 {
-    let top = u16::from(top);
+    let top = u32::from(top);
     let marker = if top < 80 { 192 + top } else { 513 };
     let special = if top == 127 { 512 } else { marker };
     let other = if top == 64 { 0 } else { special };
-    if top < 64 { top + 1 } else { other }
+    (if top < 64 { top + 1 } else { other }) as u16
 }
 
 /// How many wraps a record stands for, by the top seven bits of its word and its time field.

@@ -98,11 +98,11 @@ impl<const OLD: bool> RecordLayout for HydraT3<OLD> {
 fn code_of(top: u8) -> u16
     ensures { result ≡ hydra_t3_code top }
 {
-    let top = u16::from(top);
+    let top = u32::from(top);
     let marker = if top < 80 { 192 + top } else { 513 };
     let special = if top == 127 { 512 } else { marker };
     let other = if top == 64 { 513 } else { special };
-    if top < 64 { top } else { other }
+    (if top < 64 { top } else { other }) as u16
 }
 
 /// What a wrap record says, by its time field.

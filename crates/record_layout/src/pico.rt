@@ -176,14 +176,14 @@ fn code_of(channel: u8, marker: u8) -> u16
     let special = if marker == 0 {
         512
     } else {
-        256 + u16::from(marker)
+        256 + u32::from(marker)
     };
     let plain = if channel <= 4 {
-        u16::from(channel)
+        u32::from(channel)
     } else {
         513
     };
-    if channel == 15 { special } else { plain }
+    (if channel == 15 { special } else { plain }) as u16
 }
 
 /// How many wraps a record stands for.

@@ -3,7 +3,7 @@ use Rattle.std.{proofs.Common.{◌≡◌, ◌+◌, ◌*◌, ◌^◌, ◌%◌, �
 use Rattle.ptu_definitions.{specs.declared.records.Raw.Raw, specs.Times.amount}
 use Rattle.tally_base.{specs.declared.event.Event.Event, specs.declared.header.Mode.Mode, specs.declared.header.Mode.TheVariants.{T2, T3}, specs.Codes.{code_in, dtime_in}, specs.Columns.event_by, specs.Limits.wrap_limit}
 use Rattle.abs_time.specs.Placing.{placed_by, base_of}
-use Rattle.record_layout.{specs.declared.row.Row.Row, specs.declared.columns.Columns.Columns, specs.Rowed.raw_of, specs.InColumns.{HasRows, IsRow, row_at, wraps_at, sum_to, HasSums, time_in, before, Rises}, specs.declared.close.Close.Close, specs.InClose.{stays, staying, HasStayed, code_at, mark_at, place_at, time_at}, proofs.Chosen.{place-more, place-below, map-places, at-stayed}, proofs.Added.sum-more}
+use Rattle.record_layout.{specs.declared.row.Row.Row, specs.declared.columns.Columns.Columns, specs.Rowed.raw_of, specs.InColumns.{HasRows, IsRow, row_at, wraps_at, sum_to, time_in, before, Rises}, specs.declared.close.Close.Close, specs.InClose.{stays, staying, HasStayed, code_at, mark_at, place_at, time_at}, proofs.Chosen.{place-more, place-below, map-places, at-stayed}, proofs.Added.sum-more}
 use Rattle.record_stream.{specs.Whole.{close_event, last_below}, specs.Rows.{ordered_below, gathered_below, event_below, greatest_with_row}, specs.Walking.{how_of, greatest_of, clock_in, Gathers, LetsPass}, specs.declared.walk.Walk.Walk, proofs.Gathering.{gathers-none, small, gathers-row}}
 
 -- the last time of some records whose code is below this one, or else a lower time
@@ -41,7 +41,7 @@ unless true b is = sym (is refl)
 unless false b is = refl
 
 module _ (walk : Walk) (words : List (List ℕ)) (meaning : ℕ → Raw) (same : meaning ≡ (how_of walk).meaning) (passes : LetsPass walk meaning words) (only : Bool)
-    (unit : ℕ) (columns : Columns) (rows : HasRows meaning unit columns words) (whole : length words ≡ 64) (sums : HasSums columns)
+    (unit : ℕ) (columns : Columns) (rows : HasRows meaning unit columns words) (whole : length words ≡ 64)
     (sure : Bool) (rises : sure ≡ true → Rises (greatest_of walk) (time_in (base_of (clock_in walk)) unit columns) 64) where
   mode : Mode
   mode = (how_of walk).mode
@@ -103,8 +103,7 @@ module _ (walk : Walk) (words : List (List ℕ)) (meaning : ℕ → Raw) (same :
       let is = their-row n lt in
       let none : unit * wraps_at columns n ≡ 0 =
       is.amounts ∙ ap amount (sym is.raw) ∙ event-amount unit (row n) (omega (arith, few, below-few only (how_of walk).mode)) in
-      let all : slice_index columns.sums n ≡ sum_to (wraps_at columns) n + wraps_at columns n = sums n lt ∙ sum-more (wraps_at columns) n in
-      ap (λ s. start + unit * s + slice_index columns.times n) all ∙ omega (arith, none)
+      ap (λ s. start + unit * s + slice_index columns.times n) (sum-more (wraps_at columns) n) ∙ omega (arith, none)
 
   top-more : (n : ℕ) (b : Bool) → nat_lt (code n) ordered ≡ b → top_at (suc n) ≡ cond b (base_at n + (row n).time) (top_at n)
   unfolding top_at
@@ -207,15 +206,15 @@ module _ (walk : Walk) (words : List (List ℕ)) (meaning : ℕ → Raw) (same :
 
     mark-same : (j : ℕ) → j < len → slice_index close.marks j ≡ slice_index columns.marks (at j)
     unfolding at
-    mark-same j lt = at-stayed close.marks columns.marks ks len j has.marks lt (omega (arith, lt, has.count))
+    mark-same j lt = at-stayed (λ i. slice_index columns.marks i) close.marks ks len j has.marks lt (omega (arith, lt, has.count))
 
     time-same : (j : ℕ) → j < len → time_at start unit close j % 2 ^ 64 ≡ time (at j)
     unfolding at
     time-same j lt =
         let few : j < length ks = omega (arith, lt, has.count) in
         let is : time_at start unit close j ≡ time (get_or ks j 0) =
-        ap (λ x. start + unit * x + slice_index close.times j) (at-stayed close.sums columns.sums ks len j has.sums lt few)
-        ∙ ap (λ x. start + unit * slice_index columns.sums (get_or ks j 0) + x) (at-stayed close.times columns.times ks len j has.times lt few) in
+        ap (λ x. start + unit * x + slice_index close.times j) (at-stayed (λ i. sum_to (wraps_at columns) (i + 1)) close.sums ks len j has.sums lt few)
+        ∙ ap (λ x. start + unit * sum_to (wraps_at columns) (get_or ks j 0 + 1) + x) (at-stayed (λ i. slice_index columns.times i) close.times ks len j has.times lt few) in
         ap (λ x. x % 2 ^ 64) is ∙ omega (arith, fits (get_or ks j 0) (in-columns j lt))
 
     place-same : (j : ℕ) → j < len → (placed_by (clock_in walk) + 1 + place_at close j) % 2 ^ 64 ≡ placed_by (clock_in walk) + at j + 1

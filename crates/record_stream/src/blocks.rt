@@ -93,13 +93,13 @@ pub(crate) fn gathered_below(only_ordered: bool, mode: Mode) -> u16
 pub(crate) fn gather<R: RecordLayout>(
     walk: &Walk,
     words: &[[u8; 4]],
-    columns: &mut Columns,
+    columns: &Columns,
     close: &mut Close,
     only_ordered: bool,
     block: &mut Block<BLOCK_SIZE>,
 ) -> Ahead
     requires meaning { R.meaning ≡ (how_of walk.now).meaning }
-    requires rows { HasRows R.meaning R.UNIT columns.old words.now }
+    requires rows { HasRows R.meaning R.UNIT columns.now words.now }
     requires few { length words.now ≤ BLOCK_SIZE }
     requires passes { LetsPass walk.now R.meaning words.now }
     ensures gathers { Gathers walk.now words.now only_ordered result.in_order result.base
@@ -135,34 +135,34 @@ fn last_time<R: RecordLayout>(close: &Close, len: usize, ordered: u16, base: u64
 }
 
 /// The same as `gather` of a whole block, several records at once. What it writes behind the events has no meaning. It
-/// may also say that an event is late where none is: if the last one is at 2^63 or later, behind a time that is longer
-/// than a wrap, at or behind a marker of T2 out of order, or at a reserved record.
-#[inline(never)]
+/// may also say that an event is late where none is: behind a time that is longer than a wrap, at or behind a marker
+/// of T2 out of order, or at a reserved record. It stands in its callers, where the compiler knows that the rows that
+/// stay and the block don't overlap.
+#[inline(always)]
 fn gather_whole<R: RecordLayout>(
     walk: &Walk,
     words: &[[u8; 4]],
-    columns: &mut Columns,
+    columns: &Columns,
     close: &mut Close,
     only_ordered: bool,
     block: &mut Block<BLOCK_SIZE>,
 ) -> Ahead
     requires meaning { R.meaning ≡ (how_of walk.now).meaning }
-    requires rows { HasRows R.meaning R.UNIT columns.old words.now }
+    requires rows { HasRows R.meaning R.UNIT columns.now words.now }
     requires whole { length words.now ≡ BLOCK_SIZE }
     requires passes { LetsPass walk.now R.meaning words.now }
     ensures gathers { Gathers walk.now words.now only_ordered result.in_order result.base
         result.greatest (written block.new result.len) }
     ensures blank { IsBlank block.new }
-    ensures kept { (result.len ≤ length words.now) × (HasRows R.meaning R.UNIT columns.new words.now) }
+    ensures few { result.len ≤ length words.now }
 {
     block.clear();
     let base = walk.clock.base();
     let low = walk.clock.greatest();
     let ordered = ordered_below(walk.clock.mode());
     let below = gathered_below(only_ordered, walk.clock.mode());
-    let wraps = columns.add_up();
     let in_order = columns.rises::<R>(base, low);
-    let len = close.fill(columns, below);
+    let (len, wraps) = close.fill(columns, below);
     let first = walk.clock.placed() + 1;
     for i in 0..BLOCK_SIZE {
         let place = first.wrapping_add(close.place(i));

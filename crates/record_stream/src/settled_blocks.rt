@@ -73,7 +73,7 @@ fn settle_block<R: RecordLayout, S: EventTaker>(
     let ahead = gather::<R>(
         walk,
         words,
-        &mut room.columns,
+        &room.columns,
         &mut room.close,
         true,
         &mut room.block,

@@ -13,7 +13,7 @@ use record_stream::{EventTaker, RecordStream, Summary};
 use std::sync::ledger::Ledger;
 use tally_base::{BLOCK_SIZE, Block, Event, Failed, Fault, Mode, Steps, TABLE_BLOCK, Tally};
 
-/// Gives each event that isn't late to every table, with its groups. It gathers them in a block of its own, so that a
+/// Gives each event that isn't late to every table, with its groups. It gathers them in a block, so that a
 /// table is given many at once. It lives for one piece, or for the end.
 #[derive(Drop)]
 struct PartTaker<'g, 'p, 's, L: Ledger> {
@@ -23,11 +23,11 @@ struct PartTaker<'g, 'p, 's, L: Ledger> {
     mode: Mode,
     // How far the tables are, and behind that come the events of the block.
     reached: Reached,
-    block: Block<TABLE_BLOCK>,
-    ghost waiting: { All (Waits ⟦<Part as Tally>⟧ mode (taken_with reached (gathered block)) (floor_with mode reached (gathered block)) (gathered block)) parts.now } by { Prim.hlevel (props, in_order-prop) },
-    ghost limit: { 0 < length (gathered block) → taken_with reached (gathered block) ≤ record_limit },
-    ghost idle: { length parts.now ≡ 0 → gathered block ≡ [] },
-    ghost unsorted: { sorted block ≡ 0 },
+    block: &'p mut Block<TABLE_BLOCK>,
+    ghost waiting: { All (Waits ⟦<Part as Tally>⟧ mode (taken_with reached (gathered block.now)) (floor_with mode reached (gathered block.now)) (gathered block.now)) parts.now } by { Prim.hlevel (props, in_order-prop) },
+    ghost limit: { 0 < length (gathered block.now) → taken_with reached (gathered block.now) ≤ record_limit },
+    ghost idle: { length parts.now ≡ 0 → gathered block.now ≡ [] },
+    ghost unsorted: { sorted block.now ≡ 0 },
 }
 
 impl<'g, 'p, 's, L: Ledger> EventTaker for PartTaker<'g, 'p, 's, L> {
@@ -35,17 +35,17 @@ impl<'g, 'p, 's, L: Ledger> EventTaker for PartTaker<'g, 'p, 's, L> {
     ghost use Rattle.fed_parts.specs.Ahead.{Gave, gave_none};
 
     ghost got = { λ s t l. Gave ⟦<Part as Tally>⟧ (sorting_of s.gates.now) (sorting_of t.gates.now) s.mode
-        t.mode (taken_with s.reached (gathered s.block)) (taken_with t.reached (gathered t.block))
-        (floor_with s.mode s.reached (gathered s.block)) (floor_with t.mode t.reached (gathered t.block))
-        (gathered s.block) (gathered t.block) s.parts.now t.parts.now l };
+        t.mode (taken_with s.reached (gathered s.block.now)) (taken_with t.reached (gathered t.block.now))
+        (floor_with s.mode s.reached (gathered s.block.now)) (floor_with t.mode t.reached (gathered t.block.now))
+        (gathered s.block.now) (gathered t.block.now) s.parts.now t.parts.now l };
 
     ghost broke = { λ s t l. ⊥ };
 
     ghost mode = { λ t. t.mode };
 
-    ghost taken = { λ t. taken_with t.reached (gathered t.block) };
+    ghost taken = { λ t. taken_with t.reached (gathered t.block.now) };
 
-    ghost floor = { λ t. floor_with t.mode t.reached (gathered t.block) };
+    ghost floor = { λ t. floor_with t.mode t.reached (gathered t.block.now) };
 
     ghost faults = { λ t. 0 };
 
@@ -71,7 +71,7 @@ impl<'g, 'p, 's, L: Ledger> EventTaker for PartTaker<'g, 'p, 's, L> {
             late,
             self.parts,
             &mut self.reached,
-            &mut self.block,
+            self.block,
             self.steps,
         );
         Ok(())
@@ -84,7 +84,7 @@ impl<'g, 'p, 's, L: Ledger> EventTaker for PartTaker<'g, 'p, 's, L> {
             block,
             self.parts,
             &mut self.reached,
-            &mut self.block,
+            self.block,
             self.steps,
         );
         Ok(())
@@ -113,6 +113,7 @@ pub(crate) fn feed_parts<L: Ledger>(
         (TablesFollow mode stream.old stream.new parts.new (length piece.now)) }
     ensures stays { StaysSame stream.old stream.new parts.old parts.new }
 {
+    let mut block = Block::new();
     let mut taker = PartTaker {
         gates,
         parts,
@@ -122,7 +123,7 @@ pub(crate) fn feed_parts<L: Ledger>(
             taken: stream.given(),
             floor: stream.greatest(),
         },
-        block: Block::new(),
+        block: &mut block,
     };
     let fed = stream.feed(piece, &mut taker);
     let PartTaker {
@@ -131,9 +132,9 @@ pub(crate) fn feed_parts<L: Ledger>(
         steps,
         mode,
         mut reached,
-        mut block,
+        block,
     } = taker;
-    flush(gates, mode, parts, &mut reached, &mut block, steps);
+    flush(gates, mode, parts, &mut reached, block, steps);
     fed
 }
 
@@ -155,6 +156,7 @@ pub(crate) fn finish_parts<L: Ledger>(
     ensures inside { IfErr result (λ fault. is_outside fault ≡ false) }
     ensures same_tables { SameTables ⟦<Part as Tally>⟧ parts.old parts.new }
 {
+    let mut block = Block::new();
     let mut taker = PartTaker {
         gates,
         parts,
@@ -164,7 +166,7 @@ pub(crate) fn finish_parts<L: Ledger>(
             taken: stream.given(),
             floor: stream.greatest(),
         },
-        block: Block::new(),
+        block: &mut block,
     };
     let finished = stream.finish(&mut taker);
     let PartTaker {
@@ -173,8 +175,8 @@ pub(crate) fn finish_parts<L: Ledger>(
         steps,
         mode,
         mut reached,
-        mut block,
+        block,
     } = taker;
-    flush(gates, mode, parts, &mut reached, &mut block, steps);
+    flush(gates, mode, parts, &mut reached, block, steps);
     finished
 }

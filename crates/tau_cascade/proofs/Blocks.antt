@@ -120,16 +120,14 @@ photons-append set h es = filter-append (λ y. in_first set y || in_second set y
 
 -- what a correlation that isn't closed may be given
 pub may_give_block : (closed : Bool) → closed ≡ false → (set : CorrelationSet) (ls : List Level) (count time : ℕ) (h : History) (b : Block 512) → StandsFor closed set ls count time h → count + length (gathered b) ≤ record_limit → InOrder false time (gathered b) → CanGiveBlock (correlation_view set) ls b h
-may_give_block true still set ls count time h b is few order = absurd (false≢true (sym still))
-may_give_block false still set ls count time h b is few order = search (rules, arith, length-rows)
+may_give_block closed still set ls count time h b is few order = search (rules, arith, false≢true, length-rows)
 
 -- what it stands for then
 pub block_counts : (closed : Bool) → closed ≡ false → (set : CorrelationSet) (ls ls' : List Level) (count time : ℕ) (h : History) (b : Block 512)
     → StandsFor closed set ls count time h → InOrder false time (gathered b)
     → Chain (correlation_view set) 0 ls' (photons_of (correlation_view set) (h ++ events_in b))
     → StandsFor closed set ls' (count + b.len) (floor_after false time (gathered b)) (h ++ events_in b)
-block_counts true still set ls ls' count time h b is order through = absurd (false≢true (sym still))
-block_counts false still set ls ls' count time h b is order through = search (rules, arith, length-append, length-rows, greatest-rows)
+block_counts closed still set ls ls' count time h b is order through = search (rules, arith, false≢true, length-append, length-rows, greatest-rows)
 
 -- a photon of either group has some weight
 pub some_weight : (a b : ℕ) (x y : Bool) → a ≡ cond x 1 0 → b ≡ cond y 1 0 → (n : ℕ) → n ≡ bool_byte (ltb 0 (a + b)) → n ≡ cond (x || y) 1 0

@@ -18,7 +18,6 @@ module _ (set : CorrelationView) (level : ℕ) where
   pub is_after : (e : Entry) (n : ℕ) (closed open' : History) → IsBin set level e open' → AllByRecursion (λ x. bin level x < e.index) closed → AllByRecursion (λ x. bin level x ≤ n) (closed ++ open') → e.index ≢ n → AllByRecursion (λ x. bin level x < n) (closed ++ open')
   is_after e n closed open' is before after other =
       let upto : e.index ≤ n = of_some (bin level) e.index (λ m. m ≤ n) open' is.some is.here (all_back (λ x. bin level x ≤ n) closed open' after) in
-      let below : e.index < n = omega arith in
       search (rules, arith, all_join, all_weaker)
 
   -- the bins that an open one and those that come are merged into
@@ -83,8 +82,7 @@ module _ (set : CorrelationView) (level : ℕ) where
 pub merge_step : (closed : List Entry) (count : ℕ) (open' x : Entry) (rest : List Entry)
     → count < length closed → (same : Bool) → eqb open'.index x.index ≡ same
     → take (count + cond same 0 1) (slice_set closed count open') ++ merged (cond same (both_of open' x) x) rest ≡ take count closed ++ merged open' (x ∷ rest)
-merge_step closed count open' x rest inside true is = rw is (ap (λ ys. ys ++ merged (both_of open' x) rest) (grind (arith, common_steps)))
-merge_step closed count open' x rest inside false is = search (rules, arith, take_more_set, append_assoc)
+merge_step closed count open' x rest inside same is = grind (arith, common_steps, take_more_set, append_assoc)
 
 -- the first weight is within that of the merged ones
 pub head_first : (e : Entry) (es : List Entry) → e.a ≤ sum_by (λ f. f.a) (merged e es)

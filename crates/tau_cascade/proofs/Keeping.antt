@@ -57,8 +57,7 @@ module _ (set : CorrelationView) (level : ℕ) (some : 0 < set.lags) where
   ring_all e (f ∷ fs) r closed xs was follow rising =
       let one = ring_one e r closed follow.0 was follow.3 follow.4 in
       let rest = ring_all f fs (ring (filter (from_last e) r.entries ++ e ∷ []) r.reach) (closed ++ follow.0) follow.1 one follow.5 rising.1 in
-      let upto : e.index ≤ (last_of f fs).index = upto_last e (f ∷ fs) rising in
-      search (rules, arith, from_last, last_of, keep_more, append_assoc)
+      search (rules, arith, from_last, last_of, upto_last, keep_more, append_assoc)
 
   -- the same by what the last is read to be
   pub ring_last : (es : List Entry) (last : Entry) → slice_get es (length es - 1) ≡ Some last → (r : Ring) (closed xs : History) → RingIs set level r closed → Follow set level closed es xs → IsRising es → RingIs set level (ring (filter (from_last last) (r.entries ++ es)) r.reach) (closed ++ xs)

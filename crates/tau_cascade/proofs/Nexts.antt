@@ -1,7 +1,7 @@
 -- The pairs of one bin more with the ring and the bins before it.
 use Rattle.lag_ring.{specs.declared.ring.Entry.Entry, specs.Ring.IsRising, proofs.Lists.all_back, proofs.Rising.{all_weaker, rising_front, rising_back}, proofs.Between.{between, count-between}, proofs.Sums.sum_by-zero}
 use Rattle.tau_cascade.{specs.Levels.{weight_before, entries_at_lags}, specs.Dense.paired, proofs.Keeping.{all_below, split_at}, proofs.Work.{few_at_lags, at_lags}}
-use Rattle.std.{proofs.Common.{length, ◌≡◌, ℕ, zero, suc, [], ◌∷◌, drop, refl, ◌+◌, ◌-◌, ◌*◌, ◌<◌, ◌≤◌, true, false, ◌&&◌, eqb, ltb, leb, List, get_or, take, cond, arith, rules, ◌++◌, ap, ◌∙◌, append_assoc, append-nil, subst}, specs.List.{sum_by, count_by, AllByRecursion}, proofs.Math.Nat.mul-le-mul_right, proofs.lemmas.Grind.common_steps, proofs.lemmas.List.{drop_more, take_more, take-append-drop, take-take, drop-take, drop-append-le, drop_all, length-take-le}, proofs.lemmas.List.Elements.All-from_recursion, proofs.lemmas.List.Sums.{sum_by-le-sum_by, sum_by_more, sum_by_more_le, sum_by-take-le, sum_by-take-drop, sum_by-append}}
+use Rattle.std.{proofs.Common.{length, ◌≡◌, ℕ, zero, suc, [], ◌∷◌, drop, refl, ◌+◌, ◌-◌, ◌*◌, ◌<◌, ◌≤◌, true, false, ◌&&◌, eqb, ltb, leb, List, get_or, take, cond, arith, rules, ◌++◌, ap, ◌∙◌, append_assoc, append-nil, subst}, specs.List.{count_by, AllByRecursion}, proofs.Math.Nat.mul-le-mul_right, proofs.lemmas.Grind.common_steps, proofs.lemmas.List.{drop_more, take_more, take-append-drop, take-take, drop-take, drop-append-le, drop_all, length-take-le}, proofs.lemmas.List.Elements.All-from_recursion, proofs.lemmas.List.Sums.{sum_by-le-sum_by, sum_by_more, sum_by_more_le, sum_by-take-le, sum_by-take-drop, sum_by-append}}
 
 -- One entry more in the loop over entries.
 
@@ -76,8 +76,7 @@ rest_near es i none inside rising skipped n near k above =
     let later : IsRising (e ∷ drop (i + 1) es) = (rw split at (rising_drop es i rising)) in
     let all : AllByRecursion (λ f. n ≤ f.index + skipped) (drop i es) =
     rw split (omega arith, all_weaker (λ f. e.index < f.index) (λ f. n ≤ f.index + skipped) (λ f up. omega arith) (drop (i + 1) es) later.0) in
-    let zeros : sum_by (λ f. cond (eqb (f.index + k) n) f.a 0) (drop i es) ≡ 0 = sum_by-zero (λ f. n ≤ f.index + skipped) (λ f. cond (eqb (f.index + k) n) f.a 0) (drop i es) all (λ f close. let not : eqb (f.index + k) n ≡ false = grind arith in rw not refl) in
-    search (rules, arith, sum_by-take-drop)
+    search (rules, arith, sum_by-zero, sum_by-take-drop)
 
 -- where each entry stands before the index by more than the lags, none stands at one
 pub none_at_lag : (es : List Entry) (lags n k : ℕ) → AllByRecursion (λ f. f.index + lags < n) es → k ≤ lags → weight_before k n es ≡ 0

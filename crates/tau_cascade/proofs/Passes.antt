@@ -2,7 +2,7 @@
 use Rattle.tally_base.{specs.Settings.CorrelationView, specs.Tally.History}
 use Rattle.lag_ring.{specs.declared.ring.Entry.Entry, specs.Ring.{ring, Ring, IsRising}, proofs.Rising.{all_weaker, all_push, rising_front}, proofs.Lists.{all_map, all_both, all_front, all_back}}
 use Rattle.tau_cascade.{specs.declared.level.Level.Level, specs.Correlation.{bin, skipped_lags}, specs.Levels.{IsBin, RingIs, weight_before}, specs.Bins.{raised, lowered, merged_onto, stretch, IsSpaced, Follow, CanTake, Took, merged}, proofs.Keeping.last_of, proofs.Paired.cells_all, proofs.Follows.{parts, may_shut, took}, specs.Dense.paired, proofs.Closes.ring_begun, proofs.Nexts.{none_at_lag, rising_drop, paired-append, take_parts, paired_part}, proofs.Together.from_first}
-use Rattle.std.{proofs.Common.{◌≡◌, ℕ, suc, ◌+◌, ◌-◌, ◌*◌, ◌/◌, ◌^◌, ◌<◌, ◌≤◌, Some, List, [], ◌∷◌, ◌++◌, length, map, take, drop, set, get_or, refl, sym, ap, ◌∙◌, subst, arith, rules, cond, eqb, append_assoc, zero, append-nil}, specs.List.AllByRecursion, proofs.Math.Nat.{div-le_self, div-mul-le_self}, proofs.lemmas.Nat.{shl-shr, shr-shr, le-div, pow_pos}, proofs.lemmas.List.{take_more, take-take, map_push, get_or-drop, get_or-take, get_or-map, drop-set, drop_more, length-map, length-drop, length-set, length-take-le, take-append-drop, drop-take, drop-append-le, drop-drop}, proofs.lemmas.List.Sums.sum_by-append, proofs.lemmas.Grind.common_steps}
+use Rattle.std.{proofs.Common.{◌≡◌, ℕ, suc, ◌+◌, ◌-◌, ◌*◌, ◌/◌, ◌^◌, ◌<◌, ◌≤◌, Some, List, [], ◌∷◌, ◌++◌, length, map, take, drop, set, get_or, refl, sym, ap, ◌∙◌, subst, arith, rules, append_assoc, zero, append-nil}, specs.List.AllByRecursion, proofs.Math.Nat.{div-le_self, div-mul-le_self}, proofs.lemmas.Nat.{shl-shr, shr-shr, le-div, pow_pos}, proofs.lemmas.List.{take_more, take-take, map_push, get_or-drop, get_or-take, get_or-map, drop-set, drop_more, length-map, length-drop, length-set, length-take-le, take-append-drop, drop-take, drop-append-le, drop-drop}, proofs.lemmas.List.Sums.sum_by-append, proofs.lemmas.Grind.common_steps}
 
 -- Bins that are further apart than the lags.
 
@@ -110,9 +110,7 @@ paired_far k lags index far near (e ∷ es) few out from =
     let further : AllByRecursion (λ f. f.index + lags < e.index) far =
     all_weaker (λ f. f.index + lags < index) (λ f. f.index + lags < e.index) (λ f under. omega (arith, from.0)) far out in
     let no : weight_before k e.index far ≡ 0 = none_at_lag far lags e.index k further few in
-    let both : weight_before k e.index (far ++ near) ≡ weight_before k e.index far + weight_before k e.index near =
-    sum_by-append (λ f. cond (eqb (f.index + k) e.index) f.a 0) far near in
-    search (rules, arith, near, append_assoc, paired_far k lags index far (near ++ e ∷ []) es few out from.1)
+    search (rules, arith, near, sum_by-append, append_assoc, paired_far k lags index far (near ++ e ∷ []) es few out from.1)
 
 -- the bins of a list from one place to another, behind those from a place on that are near
 module _ (list : List Entry) (from at' end' lags : ℕ) (none : Entry) (within : from ≤ at')
@@ -225,9 +223,7 @@ module _ (bins : List Entry) (from count up : ℕ) (o none : Entry) (place : 0 <
       let more : take (count - 1 + 1) (drop from bins) ≡ take (count - 1) (drop from bins) ++ get_or (drop from bins) (count - 1) none ∷ [] =
       take_more (drop from bins) (count - 1) none long in
       let there : from + (count - 1) ≡ from + count - 1 = omega arith in
-      let read : get_or (drop from bins) (count - 1) none ≡ get_or bins (from + count - 1) none =
-      get_or-drop from bins (count - 1) none ∙ ap (λ n. get_or bins n none) there in
-      search (rules, arith, map_push)
+      search (rules, arith, get_or-drop, map_push)
 
   -- what is closed, and the bin that is open then
   pub moved_on : (o ∷ map (raised up) (take (count - 1) (drop from bins)))
@@ -264,9 +260,7 @@ module _ (bins : List Entry) (from count up : ℕ) (o none : Entry) (place : 0 <
     here_spaced lags far before =
         let own : IsSpaced apart (get_or bins from none ∷ take (count - 1) (drop (from + 1) bins)) = subst (λ ys. IsSpaced apart ys) first_bin spaced in
         let above = spaced_nearer (apart / 2 ^ up) (lags + 1) (map (raised up) (get_or bins from none ∷ take (count - 1) (drop (from + 1) bins))) (omega arith) (spaced-raised apart up (get_or bins from none ∷ take (count - 1) (drop (from + 1) bins)) own) in
-        let all = spaced_behind (lags + 1) o.index (raised up (get_or bins from none))
-        (map (raised up) (take (count - 1) (drop (from + 1) bins))) (omega arith) above in
-        search (rules, arith, first_bin)
+        search (rules, arith, first_bin, spaced_behind)
 
     -- and as they stand in the list
     pub next_spaced : (near : ℕ) → near ≤ apart → o.index * 2 ^ up + near ≤ (get_or bins from none).index → IsSpaced near (take count (drop (from - 1) written))

@@ -62,8 +62,7 @@ module _ (list : List Entry) (start low last : ℕ) (none : Entry) (inside : sta
       let from : AllByRecursion (λ e. low ≤ e.index) (drop start list) = rw is_low (from_first list start none inside rising) in
       let under : AllByRecursion (λ e. e.index ≤ last) (drop start list) =
       all_back (λ e. e.index ≤ last) (take start list) (drop start list) (rw (take-append-drop start list) upto) in
-      all_both (λ e. low ≤ e.index) (λ e. e.index ≤ last) (λ e. (low ≤ e.index) × (e.index - low + 192 ≤ 1024))
-      (λ e over below. (over, omega (arith, near))) (drop start list) from under
+      search (rules, arith, all_both)
 
 -- the cells after one strip of lags more
 pub strip_more : (at' count n skipped : ℕ) (old cells new : List ℕ) (f : ℕ → ℕ)

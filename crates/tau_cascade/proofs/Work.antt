@@ -30,8 +30,7 @@ distinct-again : (ns ms : List ℕ) (n : ℕ) → appears n ns ≡ true → AllB
 distinct-again ns [] n there all = grind (arith, common_steps)
 distinct-again ns (m ∷ ms) n there all =
     let push : distinct (ns ++ m ∷ []) ≡ distinct ns = rw (distinct-push ns m, all.0, there) (omega arith) in
-    let same : (ns ++ m ∷ []) ++ ms ≡ ns ++ m ∷ ms = append_assoc ns (m ∷ []) ms in
-    sym (ap distinct same) ∙ distinct-again (ns ++ m ∷ []) ms n (rw (appears-push n m ns, there) refl) all.1 ∙ push
+    search (rules, arith, append_assoc, appears-push, distinct-again (ns ++ m ∷ []) ms n (rw (appears-push n m ns, there) refl) all.1)
 
 -- one different number more, if the new ones are one that is above all
 pub distinct-late : (ns ms : List ℕ) (n : ℕ) → AllByRecursion (λ m. m < n) ns

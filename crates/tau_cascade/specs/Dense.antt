@@ -1,7 +1,7 @@
 -- Pairs of bins with what stands in a window.
-use Rattle.std.{specs.Prelude.{ℕ, ◌≡◌, ◌+◌, ◌-◌, ◌*◌, ◌^◌, ◌<◌, ◌≤◌, min, List, [], ◌∷◌, length, slice_index, sum_by, take, ◌++◌}, specs.List.AllByRecursion}
-use Rattle.lag_ring.{specs.declared.ring.Entry.Entry, specs.declared.window.Side.TheVariants.{First, Second}, specs.Ring.IsRising, specs.Cells.{Cells, added_at}, specs.Bytes.{weight_of, weight_at, IsLight, behind, product_at}}
-use Rattle.tau_cascade.{specs.Levels.weight_before, specs.declared.laid.Laid.Laid}
+use Rattle.std.{specs.Prelude.{ℕ, ◌≡◌, ◌+◌, ◌-◌, ◌*◌, ◌^◌, ◌<◌, ◌≤◌, min, List, [], ◌∷◌, length, slice_index, sum_by, ◌++◌}, specs.List.AllByRecursion}
+use Rattle.lag_ring.{specs.declared.ring.Entry.Entry, specs.declared.window.Side.TheVariants.{First, Second}, specs.Ring.IsRising, specs.Cells.{Cells, added_at}, specs.Bytes.{weight_of, weight_at, IsLight, behind}}
+use Rattle.tau_cascade.{specs.Levels.weight_before, specs.declared.laid.Laying.Laying}
 
 -- what stands so many lags before photons at some spots in a window of 192 lags
 abbrev pub spot_pairs : List ℕ → List ℕ → ℕ → ℕ
@@ -54,23 +54,34 @@ laid reach index place (e ∷ es) = record { index = place + min (e.index - inde
 abbrev pub IsBehind : ℕ → List Entry → Type 0
 IsBehind index es = IsRising es × AllByRecursion (λ e. index ≤ e.index) es
 
--- the second weights of bins times what stands so many lags before each in a window, whose place 32 is that of a bin laid at place 0
-abbrev pub laid_pairs : List ℕ → List Entry → ℕ → ℕ
-laid_pairs window es lag = sum_by (product_at Second window 0 (32 - lag)) es
+-- bins as they are laid at these places
+abbrev pub placed : List Entry → List ℕ → List Entry
+placed [] ps = []
+placed (e ∷ es) [] = []
+placed (e ∷ es) (p ∷ ps) = record { index = p; a = e.a; b = e.b } ∷ placed es ps
 
--- light bins that are laid behind this place, each with all lags, have places in a window of 1408 bytes
-pub record IsLaid (window : List ℕ) (reach index place : ℕ) (es : List Entry) : Type 0 where
-  pub sized : length window ≡ 1408
-  pub small : (p : ℕ) → p < 1408 → slice_index window p < 2 ^ 8
-  pub light : IsLight 255 es
-  pub few : length es ≤ 80
-  pub behind : IsBehind index es
-  pub room : place + reach * length es + 32 < 1408
+-- a window of 1408 places has nothing
+abbrev pub IsZero : List ℕ → Type 0
+IsZero window = (p : ℕ) → p < 1408 → slice_index window p ≡ 0
 
--- bins behind the last one that was laid
-abbrev pub laid_on : ℕ → Laid → List Entry → List Entry
-laid_on reach last es = laid reach last.index last.place es
+-- bins were laid at these places in a window, whose place 32 is that of a bin laid at place 0
+pub record IsLaid (window places : List ℕ) (reach : ℕ) (laying : Laying) (es : List Entry) : Type 0 where
+  pub weights : laying.heaviest < 2048 → (p : ℕ) → p < 1408 → slice_index window p ≡ weight_at First 32 0 p (laid reach 0 0 es)
+  pub light : (p : ℕ) → p < 1408 → slice_index window p ≤ laying.heaviest
+  pub behind : (p : ℕ) → laying.last.place + 32 < p → p < 1408 → slice_index window p ≡ 0
+  pub at_places : placed es places ≡ laid reach 0 0 es
+  pub near : (i : ℕ) → slice_index places i ≤ laying.last.place
+  pub place : laying.last.place ≤ reach * length es
+  pub heaviest : IsLight laying.heaviest es
 
--- the first of these bins, where they are light, fit in the bytes of a window where they are laid
-abbrev pub HaveRoom : ℕ → Laid → List ℕ → List Entry → Type 0
-HaveRoom reach was window es = (n : ℕ) → IsLight 255 (take n es) → (p : ℕ) → p < 1408 → slice_index window p + weight_at First 32 0 p (laid_on reach was (take n es)) < 2 ^ 8
+-- sums in so many lanes, of which the last is that of the first lag above those skipped, have the pairs of bins with those before them more than they had
+abbrev pub HavePaired : ℕ → ℕ → ℕ → List ℕ → List ℕ → List Entry → List Entry → Type 0
+HavePaired lanes skipped lags old new before es = (p : ℕ) → p < lags - skipped → slice_index new (lanes - 1 - p) ≡ slice_index old (lanes - 1 - p) + paired (p + skipped + 1) before es
+
+-- and no more than so many bins of fewer than 2048 photons have
+abbrev pub AreWithin : ℕ → ℕ → List ℕ → List ℕ → Type 0
+AreWithin lanes bins old new = (q : ℕ) → q < lanes → slice_index new q ≤ slice_index old q + 4190209 * bins
+
+-- as much as those have fits in them
+abbrev pub HaveRoom : ℕ → ℕ → List ℕ → Type 0
+HaveRoom lanes bins sums = (q : ℕ) → q < lanes → slice_index sums q + 4190209 * bins < 2 ^ 32

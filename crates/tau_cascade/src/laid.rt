@@ -1,13 +1,11 @@
 // Pairs of bins that are laid close together: a bin further from the one before it than the lags reach is laid
 // just out of reach, so that all have places in a short window.
-ghost use Rattle.std.specs.Prelude.{◌≡◌, ℕ, ◌+◌, ◌-◌, ◌*◌, ◌%◌, ◌^◌, ◌<◌, ◌≤◌, ◌==◌, ◌++◌, true, false, List, length, min, slice_index, sum_by, take, drop, if◌then◌else◌};
-ghost use Rattle.lag_ring.{specs.Ring.IsRising, specs.declared.window.Side.TheVariants.{First, Second}, specs.Bytes.{weight_at, product_at, IsLight}, specs.Cells.Spends};
-ghost use Rattle.tau_cascade.specs.Dense.{paired, AddsAtMost, laid, laid_on, laid_pairs, HaveRoom, IsBehind, IsLaid};
+ghost use Rattle.std.specs.Prelude.{◌≡◌, ℕ, ◌+◌, ◌-◌, ◌*◌, ◌%◌, ◌^◌, ◌<◌, ◌≤◌, ◌==◌, true, length, min, slice_index, sum_by, take, drop, if◌then◌else◌};
+ghost use Rattle.lag_ring.{specs.Ring.IsRising, specs.declared.window.Side.TheVariants.Second, specs.Bytes.{product_at, IsLight}};
+ghost use Rattle.tau_cascade.specs.Dense.{placed, IsLaid, IsZero, HavePaired, AreWithin, HaveRoom};
 
-use crate::dense::add_sums;
-use lag_ring::{Entry, PairCells};
-use std::sync::ledger::Ledger;
-use tally_base::Steps;
+use lag_ring::Entry;
+use std::simd::Simd;
 
 /// How many lags at most a window serves.
 pub(crate) const CLOSE_LAGS: u32 = 16;
@@ -16,22 +14,19 @@ pub(crate) const CLOSE_LAGS: u32 = 16;
 pub(crate) const CLOSE_PART: usize = 64;
 
 /// How many bins at most a window serves: those, and before them one for each lag.
-const CLOSE_BINS: usize = 80;
+pub(crate) const CLOSE_BINS: usize = 80;
 
-/// How many places a window has before that of the first bin: one for each lag.
+/// How many places a window has before that of the first bin: no fewer than it has lanes and lags are skipped.
 const TOP: usize = 32;
 
 /// How many places a window has.
-const PLACES: usize = 1408;
+pub(crate) const PLACES: usize = 1408;
 
 /// How many photons of one group are too many for a bin that is laid.
-const TOO_HEAVY: u64 = 256;
+const TOO_HEAVY: u64 = 2048;
 
-/// How many lags are summed at once on the first level.
-const FEW_LAGS: usize = 16;
-
-/// How many lags are summed at once on a level that leaves the first half of the lags to those below it.
-const HALF_LAGS: usize = 8;
+/// How many photons of one group are too many where products are summed in 16 bits.
+const NOT_LIGHT: u64 = 32;
 
 /// Where a bin was laid.
 #[derive(Clone, Copy)]
@@ -66,228 +61,199 @@ fn lay_behind(was: Laid, bin: &Entry, reach: u64) -> Laid
     }
 }
 
-/// Lays a bin behind another one, and adds its weight in the first group to the window at its place.
+/// Lays a bin behind another one, and puts the lowest 16 bits of its weight in the first group into the window at its
+/// place.
 #[inline(always)]
-fn lay_one(window: &mut [u8], was: Laying, bin: &Entry, reach: u64) -> Laying
-    requires place { (was.last.place + reach + TOP < length window.old)
-        × (was.last.index ≤ bin.now.index) }
-    requires sized { length window.old ≡ PLACES }
+fn lay_one(window: &mut [u16; PLACES], was: Laying, bin: &Entry, reach: u64) -> Laying
+    requires place { (was.last.place + reach + TOP < PLACES) × (was.last.index ≤ bin.now.index) }
     ensures last { (result.last.index ≡ bin.now.index) × (result.last.place
         ≡ was.last.place + min (bin.now.index - was.last.index) reach) }
     ensures heaviest { (was.heaviest ≤ result.heaviest) × (bin.now.a ≤ result.heaviest)
         × (bin.now.b ≤ result.heaviest) }
     ensures weights { (p : ℕ) → p < PLACES → slice_index window.new p
-        ≡ (if result.last.place + TOP == p then (slice_index window.old p + bin.now.a % TOO_HEAVY)
-        % 2 ^ 8 else slice_index window.old p) }
-    ensures same { length window.new ≡ length window.old }
+        ≡ (if result.last.place + TOP == p then bin.now.a % 2 ^ 16 else slice_index window.old p) }
 {
     let last = lay_behind(was.last, bin, reach);
-    let at = last.place as usize + TOP;
-    window[at] = window[at].wrapping_add((bin.a % TOO_HEAVY) as u8);
+    window[last.place as usize + TOP] = (bin.a % (1 << 16)) as u16;
     Laying {
         last,
         heaviest: was.heaviest | bin.a | bin.b,
     }
 }
 
-/// Lays bins one behind the other, and adds their weights in the first group to the window at their places.
-fn lay_all(window: &mut [u8], list: &[Entry], reach: u64, was: Laying) -> Laying
-    requires room { (length window.old ≡ PLACES) × (reach ≤ CLOSE_LAGS + 1)
-        × (was.last.place + reach * length list.now + TOP < PLACES)
-        × IsBehind was.last.index list.now }
-    requires fits { (was.heaviest < TOO_HEAVY → HaveRoom reach was.last window.old list.now)
-        × ((p : ℕ) → p < PLACES → slice_index window.old p < 2 ^ 8) }
-    ensures weights { result.heaviest < TOO_HEAVY → (p : ℕ) → p < PLACES → slice_index window.new p
-        ≡ slice_index window.old p
-        + weight_at First TOP 0 p (laid_on reach was.last list.now) }
-    ensures light { (length window.new ≡ length window.old) × ((p : ℕ) → p < PLACES
-        → slice_index window.new p < 2 ^ 8) }
-    ensures next { (es : List Entry) → laid_on reach was.last (list.now ++ es)
-        ≡ laid_on reach was.last list.now
-        ++ laid_on reach result.last es }
-    ensures last { (result.last.place ≤ was.last.place + reach * length list.now)
-        × (was.heaviest ≤ result.heaviest) × IsLight result.heaviest list.now }
-    ensures after { (es : List Entry) → IsBehind was.last.index (list.now ++ es)
-        → IsBehind result.last.index es }
+/// Lays bins one behind the other, puts their weights in the first group into the window, and keeps their places.
+fn lay_all(
+    window: &mut [u16; PLACES],
+    places: &mut [u16; CLOSE_BINS],
+    list: &[Entry],
+    reach: u64,
+) -> Laying
+    requires list { (length list.now ≤ CLOSE_BINS) × IsRising list.now }
+    requires reach { (0 < reach) × (reach ≤ CLOSE_LAGS + 1) }
+    requires zeros { IsZero window.old × ((i : ℕ) → slice_index places.old i ≡ 0) }
+    ensures { IsLaid window.new places.new reach result list.now }
 {
-    let mut laying = was;
-    for bin in list {
-        laying = lay_one(window, laying, bin, reach);
+    let mut laying = Laying {
+        last: Laid { index: 0, place: 0 },
+        heaviest: 0,
+    };
+    for i in 0..list.len() {
+        laying = lay_one(window, laying, &list[i], reach);
+        places[i] = laying.last.place as u16;
     }
     laying
 }
 
+/// Makes a window zero again, in which nothing was laid behind a place.
+#[inline(always)]
+fn clear(window: &mut [u16; PLACES], place: u64)
+    requires room { place + TOP < PLACES }
+    requires behind { (p : ℕ) → place + TOP < p → p < PLACES → slice_index window.old p ≡ 0 }
+    ensures { IsZero window.new }
+{
+    window[..place as usize + TOP + 1].fill(0);
+}
+
 /// Adds so many times each of a part of a window to a sum.
 #[inline(always)]
-fn add_laid(sums: &mut [u32], part: &[u8], times: u32)
-    requires all { length part.now ≡ length sums.old }
-    requires fits { (q : ℕ) → q < length sums.old
+fn add_laid<const N: usize>(sums: &mut [u32; N], part: &[u16], times: u32)
+    requires all { length part.now ≡ N }
+    requires fits { (q : ℕ) → q < N
         → slice_index sums.old q + slice_index part.now q * times < 2 ^ 32 }
-    ensures sums { (q : ℕ) → q < length sums.old → slice_index sums.new q
+    ensures { (q : ℕ) → q < N → slice_index sums.new q
         ≡ slice_index sums.old q + slice_index part.now q * times }
-    ensures same { length sums.new ≡ length sums.old }
 {
-    for q in 0..sums.len() {
+    for q in 0..N {
         sums[q] += u32::from(part[q]) * times;
     }
+}
+
+/// The same in lanes of 16 bits.
+#[inline(always)]
+fn add_lanes<const N: usize>(sums: Simd<u16, N>, part: &[u16], times: u16) -> Simd<u16, N>
+    requires all { (length sums ≡ N) × (length part.now ≡ N) }
+    requires fits { (q : ℕ) → q < N
+        → slice_index sums q + slice_index part.now q * times < 2 ^ 16 }
+    ensures same { length result ≡ N }
+    ensures sums { (q : ℕ) → q < N → slice_index result q
+        ≡ slice_index sums.entry q + slice_index part.now q * times }
+{
+    sums + Simd::<u16, N>::from_slice(part) * Simd::<u16, N>::splat(times)
 }
 
 /// Sums the products of the weights in the second group of bins with those in the window, for some lags.
 /// Sum `q` takes for a bin the place `from + q` behind that where it is laid.
 #[inline(always)]
-fn sum_laid(sums: &mut [u32], window: &[u8], list: &[Entry], reach: u64, was: Laid, from: usize)
-    requires zeros { (q : ℕ) → q < length sums.old → slice_index sums.old q ≡ 0 }
-    requires window { (length window.now ≡ PLACES)
-        × ((p : ℕ) → p < PLACES → slice_index window.now p < 2 ^ 8) }
-    requires light { (IsLight 255 list.now) × (length list.now ≤ CLOSE_BINS) }
-    requires place { (was.place + reach * length list.now + from + length sums.old ≤ PLACES)
-        × IsBehind was.index list.now }
-    ensures sums { (q : ℕ) → q < length sums.old → slice_index sums.new q ≡ sum_by
-        (product_at Second window.now 0 (from + q)) (laid reach was.index was.place list.now) }
-    ensures same { length sums.new ≡ length sums.old }
+fn sum_light<const N: usize>(
+    window: &[u16; PLACES],
+    places: &[u16],
+    list: &[Entry],
+    from: usize,
+) -> [u16; N]
+    requires light { ((p : ℕ) → p < PLACES → slice_index window.now p ≤ NOT_LIGHT - 1)
+        × IsLight (NOT_LIGHT - 1) list.now }
+    requires few { (length list.now ≤ CLOSE_PART) × (length list.now ≤ length places.now) }
+    requires room { (from ≤ PLACES)
+        × ((i : ℕ) → slice_index places.now i + from + N ≤ PLACES) }
+    ensures { (q : ℕ) → q < N → slice_index result q ≡ sum_by
+        (product_at Second window.now 0 (from + q)) (placed list.now places.now) }
 {
-    let count = sums.len();
-    let mut last = was;
-    for bin in list {
-        last = lay_behind(last, bin, reach);
-        let at = last.place as usize + from;
-        add_laid(sums, &window[at..at + count], bin.b as u32);
+    let rows = &window[from..];
+    let mut sums = Simd::<u16, N>::splat(0);
+    for i in 0..list.len() {
+        let at = places[i] as usize;
+        sums = add_lanes(sums, &rows[at..at + N], list[i].b as u16);
     }
+    sums.to_array()
 }
 
-/// Pairs bins behind those in the window, at the lags above `skipped` and up to `lags`, of which there are
-/// no more than sums.
+/// Adds the same to sums of 32 bits.
 #[inline(always)]
-fn pair_sums<L: Ledger>(
-    cells: &mut PairCells,
-    skipped: u32,
-    lags: u32,
-    window: &[u8],
+fn sum_heavy<const N: usize>(
+    sums: &mut [u32; N],
+    window: &[u16; PLACES],
+    places: &[u16],
     list: &[Entry],
-    was: Laid,
-    sums: &mut [u32],
-    steps: &mut Steps<L>,
+    from: usize,
 )
-    requires lags { (skipped ≤ lags) × (lags ≤ CLOSE_LAGS) × (lags - skipped ≤ length sums.old)
-        × (length sums.old ≤ FEW_LAGS) × (length cells.old.cells ≡ lags - skipped) }
-    requires zeros { (q : ℕ) → q < length sums.old → slice_index sums.old q ≡ 0 }
-    requires bins { IsLaid window.now (lags + 1) was.index was.place list.now }
-    requires fits { (p : ℕ) → p < lags - skipped → slice_index cells.old.cells p
-        + laid_pairs window.now (laid (lags + 1) was.index was.place list.now) (p + skipped + 1)
-        ≤ 2 ^ 80 }
-    ensures cells { (p : ℕ) → p < lags - skipped → slice_index cells.new.cells p
-        ≡ slice_index cells.old.cells p
-        + laid_pairs window.now (laid (lags + 1) was.index was.place list.now) (p + skipped + 1) }
-    ensures spends { Spends cells.old cells.new steps.old steps.new (lags - skipped) }
-    ensures each { AddsAtMost 1 cells.old cells.new }
+    requires light { ((p : ℕ) → p < PLACES → slice_index window.now p ≤ TOO_HEAVY - 1)
+        × IsLight (TOO_HEAVY - 1) list.now }
+    requires few { HaveRoom N (length list.now) sums.old × (length list.now ≤ length places.now) }
+    requires room { (from ≤ PLACES)
+        × ((i : ℕ) → slice_index places.now i + from + N ≤ PLACES) }
+    ensures { (q : ℕ) → q < N → slice_index sums.new q ≡ slice_index sums.old q
+        + sum_by (product_at Second window.now 0 (from + q)) (placed list.now places.now) }
 {
-    let from = TOP - sums.len() - skipped as usize;
-    sum_laid(sums, window, list, u64::from(lags) + 1, was, from);
-    add_sums(cells, 0, lags - skipped, sums, steps);
-}
-
-/// The same, for half of the lags or for all.
-fn pair_laid<L: Ledger>(
-    cells: &mut PairCells,
-    skipped: u32,
-    lags: u32,
-    window: &[u8],
-    list: &[Entry],
-    was: Laid,
-    steps: &mut Steps<L>,
-)
-    requires lags { (skipped ≤ lags) × (lags ≤ CLOSE_LAGS)
-        × (length cells.old.cells ≡ lags - skipped) }
-    requires bins { IsLaid window.now (lags + 1) was.index was.place list.now }
-    requires fits { (p : ℕ) → p < lags - skipped → slice_index cells.old.cells p
-        + laid_pairs window.now (laid (lags + 1) was.index was.place list.now) (p + skipped + 1)
-        ≤ 2 ^ 80 }
-    ensures cells { (p : ℕ) → p < lags - skipped → slice_index cells.new.cells p
-        ≡ slice_index cells.old.cells p
-        + laid_pairs window.now (laid (lags + 1) was.index was.place list.now) (p + skipped + 1) }
-    ensures spends { Spends cells.old cells.new steps.old steps.new (lags - skipped) }
-    ensures each { AddsAtMost 1 cells.old cells.new }
-{
-    if lags - skipped <= HALF_LAGS as u32 {
-        let mut sums = [0; HALF_LAGS];
-        pair_sums(cells, skipped, lags, window, list, was, &mut sums, steps);
-    } else {
-        let mut sums = [0; FEW_LAGS];
-        pair_sums(cells, skipped, lags, window, list, was, &mut sums, steps);
+    let rows = &window[from..];
+    for i in 0..list.len() {
+        let at = places[i] as usize;
+        add_laid(sums, &rows[at..at + N], list[i].b as u32);
     }
 }
 
-/// Pairs the bins of a list from `start` on with those before them, at the lags above `skipped` and up to
-/// `lags`, over one window, and answers true. Where the bins are too heavy for it, nothing is paired, and the
-/// answer is false.
-fn pair_light<L: Ledger>(
-    cells: &mut PairCells,
+/// The same, in 16 bits first where all are light.
+#[inline(always)]
+fn sum_laid<const N: usize>(
+    sums: &mut [u32; N],
+    window: &[u16; PLACES],
+    places: &[u16],
+    list: &[Entry],
+    from: usize,
+    heaviest: u64,
+)
+    requires light { (heaviest < TOO_HEAVY) × IsLight heaviest list.now
+        × ((p : ℕ) → p < PLACES → slice_index window.now p ≤ heaviest) }
+    requires few { HaveRoom N (length list.now) sums.old × (length list.now ≤ CLOSE_PART)
+        × (length list.now ≤ length places.now) }
+    requires room { (i : ℕ) → slice_index places.now i + from + N ≤ PLACES }
+    ensures sums { (q : ℕ) → q < N → slice_index sums.new q ≡ slice_index sums.old q
+        + sum_by (product_at Second window.now 0 (from + q)) (placed list.now places.now) }
+    ensures within { AreWithin N (length list.now) sums.old sums.new }
+{
+    if heaviest < NOT_LIGHT {
+        let more = sum_light::<N>(window, places, list, from);
+        add_laid(sums, &more, 1);
+    } else {
+        sum_heavy(sums, window, places, list, from);
+    }
+}
+
+/// Adds the pairs of the bins of a list from `start` on with those before them, at the lags above `skipped` and
+/// up to `lags`, to sums, and answers true. The last sum is that of the first lag. Where bins are too heavy,
+/// the answer is false.
+pub(crate) fn sum_part<const N: usize>(
+    sums: &mut [u32; N],
+    window: &mut [u16; PLACES],
     skipped: u32,
     lags: u32,
     list: &[Entry],
     start: usize,
-    steps: &mut Steps<L>,
 ) -> bool
-    requires lags { (skipped ≤ lags) × (lags ≤ CLOSE_LAGS)
-        × (length cells.old.cells ≡ lags - skipped) }
+    requires lags { (skipped ≤ lags) × (lags ≤ CLOSE_LAGS) × (lags - skipped ≤ N)
+        × (N ≤ CLOSE_LAGS) }
     requires list { (start ≤ length list.now) × (length list.now ≤ CLOSE_BINS)
-        × IsRising list.now }
-    requires fits { (p : ℕ) → p < lags - skipped → slice_index cells.old.cells p
-        + paired (p + skipped + 1) (take start list.now) (drop start list.now) ≤ 2 ^ 80 }
-    ensures cells { result ≡ true → (p : ℕ) → p < lags - skipped → slice_index cells.new.cells p
-        ≡ slice_index cells.old.cells p
-        + paired (p + skipped + 1) (take start list.now) (drop start list.now) }
-    ensures none { result ≡ false → (cells.new ≡ cells.old) × (steps.new ≡ steps.old) }
-    ensures spends { Spends cells.old cells.new steps.old steps.new (lags - skipped) }
-    ensures each { AddsAtMost 1 cells.old cells.new }
+        × (length list.now - start ≤ CLOSE_PART) × IsRising list.now }
+    requires room { IsZero window.old × HaveRoom N (length list.now - start) sums.old }
+    ensures sums { result ≡ true → HavePaired N skipped lags sums.old sums.new
+        (take start list.now) (drop start list.now) }
+    ensures within { AreWithin N (length list.now - start) sums.old sums.new }
+    ensures zeros { IsZero window.new }
 {
-    let mut window = [0; PLACES];
-    let none = Laying {
-        last: Laid { index: 0, place: 0 },
-        heaviest: 0,
-    };
-    let reach = u64::from(lags) + 1;
-    let before = lay_all(&mut window, &list[..start], reach, none);
-    let all = lay_all(&mut window, &list[start..], reach, before);
-    if all.heaviest < TOO_HEAVY {
-        pair_laid(
-            cells,
-            skipped,
-            lags,
-            &window,
-            &list[start..],
-            before.last,
-            steps,
-        );
-        true
-    } else {
-        false
-    }
-}
-
-/// The same, where there are few lags and few bins; else nothing is paired either.
-pub(crate) fn pair_close<L: Ledger>(
-    cells: &mut PairCells,
-    skipped: u32,
-    lags: u32,
-    list: &[Entry],
-    start: usize,
-    steps: &mut Steps<L>,
-) -> bool
-    requires lags { (skipped ≤ lags) × (length cells.old.cells ≡ lags - skipped) }
-    requires list { (start ≤ length list.now) × IsRising list.now }
-    requires fits { (p : ℕ) → p < lags - skipped → slice_index cells.old.cells p
-        + paired (p + skipped + 1) (take start list.now) (drop start list.now) ≤ 2 ^ 80 }
-    ensures cells { result ≡ true → (p : ℕ) → p < lags - skipped → slice_index cells.new.cells p
-        ≡ slice_index cells.old.cells p
-        + paired (p + skipped + 1) (take start list.now) (drop start list.now) }
-    ensures none { result ≡ false → (cells.new ≡ cells.old) × (steps.new ≡ steps.old) }
-    ensures spends { Spends cells.old cells.new steps.old steps.new
-        ((lags - skipped) * (length list.now - start)) }
-    ensures each { AddsAtMost (length list.now - start) cells.old cells.new }
-{
-    if start >= list.len() || list.len() > CLOSE_BINS || lags > CLOSE_LAGS {
+    let mut places = [0; CLOSE_BINS];
+    let laying = lay_all(window, &mut places, list, u64::from(lags) + 1);
+    if laying.heaviest >= TOO_HEAVY {
+        clear(window, laying.last.place);
         return false;
     }
-    pair_light(cells, skipped, lags, list, start, steps)
+    let from = TOP - N - skipped as usize;
+    sum_laid(
+        sums,
+        window,
+        &places[start..],
+        &list[start..],
+        from,
+        laying.heaviest,
+    );
+    clear(window, laying.last.place);
+    true
 }

@@ -1,13 +1,22 @@
 // Pairs of bins with those before them.
-ghost use Rattle.std.{specs.Prelude.{◌≡◌, true, ℕ, ◌+◌, ◌-◌, ◌*◌, ◌^◌, ◌<◌, ◌≤◌, length, take, drop, slice_index, if◌then◌else◌, ◌==◌, ◌&&◌, nat_lt, nat_le}, specs.List.{AllByRecursion}};
+ghost use Rattle.std.{specs.Prelude.{◌≡◌, true, false, ℕ, ◌+◌, ◌-◌, ◌*◌, ◌^◌, ◌<◌, ◌≤◌, length, take, drop, slice_index, if◌then◌else◌, ◌==◌, ◌&&◌, nat_lt, nat_le}, specs.List.{AllByRecursion}};
 ghost use Rattle.lag_ring.{specs.Ring.IsRising, specs.Cells.{Spends, added_at}};
-ghost use Rattle.tau_cascade.{specs.Levels.{weight_before, entries_at_lags}, specs.Dense.{paired, AddsAtMost}, specs.Bins.IsSpaced};
+ghost use Rattle.tau_cascade.{specs.Levels.{weight_before, entries_at_lags}, specs.Dense.{paired, EndsFrom, AddsAtMost, IsZero, HavePaired, AreWithin, HaveRoom}, specs.Bins.IsSpaced};
 
-use crate::dense::{ROOM, is_dense, pair_together, window_from};
-use crate::laid::{CLOSE_LAGS, CLOSE_PART, pair_close};
+use crate::dense::{ROOM, add_sums, is_dense, pair_together, window_from};
+use crate::laid::{CLOSE_BINS, CLOSE_LAGS, CLOSE_PART, PLACES, sum_part};
 use lag_ring::{Entry, PairCells};
 use std::sync::ledger::Ledger;
 use tally_base::Steps;
+
+/// How many bins at most have sums that fit.
+const CLOSE_LIST: usize = 1024;
+
+/// In how many lanes many lags are summed.
+const LANES: usize = 16;
+
+/// In how many lanes few lags are summed.
+const FEW_LANES: usize = 8;
 
 /// Adds the pairs of so many photons of an earlier bin and so many of a later one to the cell of their lag,
 /// where the level has that lag.
@@ -263,9 +272,7 @@ fn pair_part<L: Ledger>(
     if dense {
         pair_dense(cells, skipped, lags, list, start, steps);
     } else {
-        if !pair_close(cells, skipped, lags, list, start, steps) {
-            pair_each(cells, skipped, lags, list, start, steps);
-        }
+        pair_each(cells, skipped, lags, list, start, steps);
     }
 }
 
@@ -290,27 +297,17 @@ fn run_end(list: &[Entry], at: usize) -> usize
 
 /// The place behind the bins from `at` on that are paired together.
 #[inline(always)]
-fn part_end(lags: u32, list: &[Entry], at: usize, dense: bool) -> usize
+fn part_end(list: &[Entry], at: usize, dense: bool) -> usize
     requires inside { at < length list.now }
     ensures more { at < result }
     ensures within { result ≤ length list.now }
 {
-    if dense {
-        run_end(list, at)
-    } else {
-        if lags <= CLOSE_LAGS {
-            list.len().min(at + CLOSE_PART)
-        } else {
-            list.len()
-        }
-    }
+    if dense { run_end(list, at) } else { list.len() }
 }
 
-/// Pairs the bins of a list from `start` on with those before them, at the lags above `skipped` and up
-/// to `lags`. Where there are few lags, and bins are near one another, part by part over windows in which they
-/// are laid close together; where there are many, and the bins are dense, over windows that have a place for
-/// each index.
-pub(crate) fn pair_all<L: Ledger>(
+/// Pairs the bins of a list from `start` on with those before them without laying them close together: where there
+/// are many lags, and the bins are dense, over windows that have a place for each index, else bin by bin.
+fn pair_runs<L: Ledger>(
     cells: &mut PairCells,
     skipped: u32,
     lags: u32,
@@ -333,7 +330,7 @@ pub(crate) fn pair_all<L: Ledger>(
     let dense = lags > CLOSE_LAGS && is_dense(skipped, lags, list, start);
     let mut at = start;
     'parts: while at < list.len() {
-        let end = part_end(lags, list, at, dense);
+        let end = part_end(list, at, dense);
         let from = first_in_reach(list, at, list[at].index, lags);
         pair_part(
             cells,
@@ -345,5 +342,137 @@ pub(crate) fn pair_all<L: Ledger>(
             steps,
         );
         at = end;
+    }
+}
+
+/// Adds the pairs of a part of a list to sums, as `sum_part` does, where some are in reach.
+#[inline(always)]
+fn sum_near<const N: usize>(
+    sums: &mut [u32; N],
+    window: &mut [u16; PLACES],
+    skipped: u32,
+    lags: u32,
+    list: &[Entry],
+    start: usize,
+) -> bool
+    requires lags { (skipped ≤ lags) × (lags ≤ CLOSE_LAGS) × (lags - skipped ≤ N)
+        × (N ≤ CLOSE_LAGS) }
+    requires list { (start ≤ length list.now) × (length list.now - start ≤ CLOSE_PART)
+        × IsRising list.now }
+    requires room { IsZero window.old × HaveRoom N (length list.now - start) sums.old }
+    ensures sums { result ≡ true → HavePaired N skipped lags sums.old sums.new
+        (take start list.now) (drop start list.now) }
+    ensures within { AreWithin N (length list.now - start) sums.old sums.new }
+    ensures zeros { IsZero window.new }
+{
+    if is_apart(list, lags) {
+        return true;
+    }
+    if list.len() > CLOSE_BINS {
+        return false;
+    }
+    sum_part(sums, window, skipped, lags, list, start)
+}
+
+/// The same for a whole list, part by part over one window.
+fn sum_parts<const N: usize>(
+    sums: &mut [u32; N],
+    skipped: u32,
+    lags: u32,
+    list: &[Entry],
+    start: usize,
+) -> bool
+    requires lags { (skipped ≤ lags) × (lags ≤ CLOSE_LAGS) × (lags - skipped ≤ N)
+        × (N ≤ CLOSE_LAGS) }
+    requires list { (start ≤ length list.now) × (length list.now - start ≤ CLOSE_LIST)
+        × IsRising list.now }
+    requires zeros { (q : ℕ) → q < N → slice_index sums.old q ≡ 0 }
+    ensures { result ≡ true → HavePaired N skipped lags sums.old sums.new
+        (take start list.now) (drop start list.now) }
+{
+    let mut window = [0; PLACES];
+    let mut at = start;
+    'parts: while at < list.len() {
+        let end = list.len().min(at + CLOSE_PART);
+        let near = first_in_reach(list, at, list[at].index, lags);
+        let part = &list[near..end];
+        if !sum_near(sums, &mut window, skipped, lags, part, at - near) {
+            return false;
+        }
+        at = end;
+    }
+    true
+}
+
+/// Pairs the bins of a list from `start` on with those before them over a window in which they are laid close
+/// together, and answers true. Where there are many lags or bins, or they are too heavy for it, nothing is
+/// paired, and the answer is false.
+fn pair_close<L: Ledger, const N: usize>(
+    cells: &mut PairCells,
+    skipped: u32,
+    lags: u32,
+    list: &[Entry],
+    start: usize,
+    steps: &mut Steps<L>,
+) -> bool
+    requires lags { (skipped ≤ lags) × (length cells.old.cells ≡ lags - skipped)
+        × (N ≤ CLOSE_LAGS) }
+    requires list { EndsFrom start list.now }
+    requires fits { (p : ℕ) → p < lags - skipped → slice_index cells.old.cells p
+        + paired (p + skipped + 1) (take start list.now) (drop start list.now) ≤ 2 ^ 80 }
+    ensures cells { result ≡ true → (p : ℕ) → p < lags - skipped → slice_index cells.new.cells p
+        ≡ slice_index cells.old.cells p
+        + paired (p + skipped + 1) (take start list.now) (drop start list.now) }
+    ensures none { result ≡ false → (cells.new ≡ cells.old) × (steps.new ≡ steps.old) }
+    ensures spends { Spends cells.old cells.new steps.old steps.new
+        ((lags - skipped) * (length list.now - start)) }
+    ensures each { AddsAtMost (length list.now - start) cells.old cells.new }
+{
+    let all = lags - skipped;
+    if lags > CLOSE_LAGS || all as usize > N {
+        return false;
+    }
+    if start >= list.len() || list.len() - start > CLOSE_LIST {
+        return false;
+    }
+    let mut sums = [0; N];
+    let summed = sum_parts(&mut sums, skipped, lags, list, start);
+    if summed {
+        add_sums(cells, 0, all, &sums, steps);
+    }
+    summed
+}
+
+/// Pairs the bins of a list from `start` on with those before them, at the lags above `skipped` and up
+/// to `lags`. Where there are few lags, and bins are near one another, part by part over a window in which they
+/// are laid close together; where there are many, and the bins are dense, over windows that have a place for
+/// each index.
+pub(crate) fn pair_all<L: Ledger>(
+    cells: &mut PairCells,
+    skipped: u32,
+    lags: u32,
+    list: &[Entry],
+    start: usize,
+    steps: &mut Steps<L>,
+)
+    requires lags { (skipped ≤ lags) × (length cells.old.cells ≡ lags - skipped) }
+    requires start { start ≤ length list.now }
+    requires rising { IsRising list.now }
+    requires fits { (p : ℕ) → p < lags - skipped → slice_index cells.old.cells p
+        + paired (p + skipped + 1) (take start list.now) (drop start list.now) ≤ 2 ^ 80 }
+    ensures cells { (p : ℕ) → p < lags - skipped → slice_index cells.new.cells p
+        ≡ slice_index cells.old.cells p
+        + paired (p + skipped + 1) (take start list.now) (drop start list.now) }
+    ensures spends { Spends cells.old cells.new steps.old steps.new
+        ((lags - skipped) * (length list.now - start)) }
+    ensures each { AddsAtMost (length list.now - start) cells.old cells.new }
+{
+    let close = if lags - skipped <= FEW_LANES as u32 {
+        pair_close::<L, FEW_LANES>(cells, skipped, lags, list, start, steps)
+    } else {
+        pair_close::<L, LANES>(cells, skipped, lags, list, start, steps)
+    };
+    if !close {
+        pair_runs(cells, skipped, lags, list, start, steps);
     }
 }

@@ -1,11 +1,11 @@
 // A histogram of photons by their dtimes.
 ghost use Rattle.std.specs.Prelude.{◌≡◌, ◌+◌, ◌*◌, ◌/◌, ◌^◌, ◌<◌, ◌≤◌, ℕ, vec_len, sum, length, slice_index, nat_le, ◌==◌, if◌then◌else◌, IfOk, [], false};
-ghost use Rattle.tally_base.{specs.Settings.hist_view, specs.Tally.History, specs.Limits.record_limit, specs.Columns.{gathered, events_in, IsSorted}, specs.Settings.PartSettings.HistSettings};
+ghost use Rattle.tally_base.{specs.Settings.{divisor_of, hist_view}, specs.Tally.History, specs.Limits.record_limit, specs.Columns.{gathered, events_in, IsSorted}, specs.Settings.PartSettings.HistSettings};
 ghost use Rattle.tcspc_hist.specs.HistogramCounts.{in_bin, count_over};
 
 use std::alloc::{AllocError, Global};
 use std::sync::ledger::Ledger;
-use tally_base::{Block, HistSet, Steps, TABLE_BLOCK, Tally};
+use tally_base::{Block, Divisor, HistSet, Steps, TABLE_BLOCK, Tally};
 
 /// Counts the photons of a group by their dtimes, that is by the ticks since their syncs.
 ///
@@ -71,6 +71,8 @@ impl Hist {
 }
 
 /// Counts the photons of a block, and answers how many are now past the last bin.
+// Not inlined, so that its loop has the registers for itself.
+#[inline(never)]
 fn count_block(set: &HistSet, cells: &mut [u64], over: u64, block: &Block<TABLE_BLOCK>) -> u64
     requires sorted { IsSorted block.now }
     requires sized { length cells.old ≡ set.now.bins }
@@ -82,11 +84,12 @@ fn count_block(set: &HistSet, cells: &mut [u64], over: u64, block: &Block<TABLE_
 {
     let group = set.group;
     let width = set.width;
+    let by = Divisor::new(u64::from(width));
     let mut over = over;
     for at in 0..block.len().min(TABLE_BLOCK) {
         // No branch on the group, which is as good as random from photon to photon.
         let more = block.photons_in(at, group);
-        let bin = bin_of(width, block.dtime(at));
+        let bin = bin_of(width, &by, block.dtime(at));
         put(cells, &mut over, bin, more);
     }
     over
@@ -94,7 +97,7 @@ fn count_block(set: &HistSet, cells: &mut [u64], over: u64, block: &Block<TABLE_
 
 /// Adds to the cell of a bin, or past the last.
 #[inline(always)]
-fn put(cells: &mut [u64], over: &mut u64, bin: u32, more: u64)
+fn put(cells: &mut [u64], over: &mut u64, bin: u64, more: u64)
     requires { sum cells.old + over.old + more < 2 ^ 64 }
     ensures cells { (b : ℕ) → b < length cells.old → slice_index cells.new b
         ≡ slice_index cells.old b + (if bin == b then more else 0) }
@@ -109,16 +112,18 @@ fn put(cells: &mut [u64], over: &mut u64, bin: u32, more: u64)
     }
 }
 
-/// The bin of a dtime, or the one where it would be behind the last. Bins of one tick need no division.
+/// The bin of a dtime, or the one where it would be behind the last, by the divisor for the width. Bins of one tick need
+/// no product.
 #[inline(always)]
-fn bin_of(width: u32, dtime: u16) -> u32
-    requires { 0 < width }
+fn bin_of(width: u32, by: &Divisor, dtime: u16) -> u64
+    requires { divisor_of by.now ≡ width }
     ensures { result ≡ dtime / width }
 {
+    let dtime = u64::from(dtime);
     if width == 1 {
-        u32::from(dtime)
+        dtime
     } else {
-        u32::from(dtime) / width
+        by.quotient(dtime)
     }
 }
 

@@ -1,6 +1,6 @@
-use Rattle.std.{proofs.Common.{◌++◌, [], append_assoc, arith}, proofs.Props.props, proofs.Math.Logic.{∥∥₁_map, ∥∥₁_elim}, proofs.lemmas.List.Sums.{sum_by_more, sum_by_more_le}}
+use Rattle.std.{proofs.Common.{◌≡◌, ◌∙◌, ◌≤◌, ◌++◌, [], length, append-nil, append_assoc, arith, rules}, proofs.Math.ListN.drop_of_length-le, proofs.Props.props, proofs.Math.Logic.{∥∥₁_map, ∥∥₁_elim}, proofs.lemmas.List.Sums.{sum_by_more, sum_by_more_le}}
 use Rattle.tally_base.specs.Settings.{coincidence_view}
-use Rattle.coincidence.{specs.declared.pairing.Bin.Bin, specs.Pairing.bin_pairs, proofs.Shut.both_fit, proofs.Together.{next_keep, three_runs}}
+use Rattle.coincidence.{specs.declared.pairing.Bin.Bin, specs.Pairing.bin_pairs, proofs.Shut.{both_fit, reaches_on}, proofs.Together.{next_keep, three_runs}}
 use Rattle.coincidence.proofs.closing.keep_all.Goals as goal
 
 pub pair_inside-requires-clause-both : goal.pair_inside-requires-clause-both
@@ -18,8 +18,8 @@ pair_inside-requires-clause-fits g c = λ at inside.
     let more = sum_by_more_le (λ bin. bin_pairs (coincidence_view c.args.set.now) at bin []) c.args.bins.now c.loop-bin.bin-index none c.loop-bin-test.true in
     omega (arith, more, c.loop-bin.invariant.cells at inside, c.requires.fits at inside)
 
-pub keep-requires : goal.keep-requires
-keep-requires g c =
+pub put_behind-requires : goal.put_behind-requires
+put_behind-requires g c =
     let none : Bin = record { weights = record { index = 0; a = 0; b = 0 }; both = 0 } in
     record {
       stands = ∥∥₁_map c.requires.stands (λ w.
@@ -38,7 +38,7 @@ loop-bin-preserved g c =
           let was = inv.ring closed xs can in
           let next = next_keep (coincidence_view c.args.set.now) c.loop-bin.ring c.args.bins.now c.loop-bin.bin-index none
           (closed ++ was.0) was.1 c.loop-bin-test.true was.3 in
-          (was.0 ++ next.0, next.1, three_runs xs was.0 next.0 next.1 was.1 was.2 next.2, rw (← append_assoc closed was.0 next.0) (next.4 c.keep.new.ring (c.keep.ensures.ring (closed ++ was.0) next.0 next.3)));
+          (was.0 ++ next.0, next.1, three_runs xs was.0 next.0 next.1 was.1 was.2 next.2, rw (← append_assoc closed was.0 next.0) (next.4 c.put_behind.new.ring (c.put_behind.ensures.ring (closed ++ was.0) next.0 next.3)), rw (← append_assoc closed was.0 next.0) (reaches_on (coincidence_view c.args.set.now) c.loop-bin.ring _ (closed ++ was.0) next.0 next.3));
       cells = λ at inside.
           let more =
           sum_by_more (λ bin. bin_pairs (coincidence_view c.args.set.now) at bin []) c.args.bins.now c.loop-bin.bin-index none c.loop-bin-test.true in
@@ -47,3 +47,11 @@ loop-bin-preserved g c =
       added = omega (arith, inv.added, c.pair_inside.ensures.spends.added);
       steps = omega (arith, inv.steps, c.pair_inside.ensures.spends.steps);
     }
+
+pub returns-clause-ring : goal.returns-clause-ring
+returns-clause-ring g c = λ closed xs can.
+    let was = c.loop-bin.invariant.ring closed xs can in
+    let end : length c.args.bins.now ≤ c.loop-bin.bin-index = search (rules, arith) in
+    let none : was.1 ≡ [] = rw (drop_of_length-le c.args.bins.now end) at was.3.are in
+    let all : xs ≡ was.0 = was.2 ∙ rw none (append-nil was.0) in
+    rw all (c.forget.ensures (closed ++ was.0) was.4 was.3.were)

@@ -1,12 +1,9 @@
-use Rattle.std.{proofs.Common.{◌≤◌, ℕ, bit_or, arith}, proofs.lemmas.Nat.{le_or_l, le_or_r}}
+use Rattle.std.{proofs.Common.{rules}, proofs.Common.{◌≤◌, ℕ, bit_or, arith}, proofs.lemmas.Nat.{le_or_l, le_or_r}}
 use Rattle.lag_ring.{specs.declared.ring.Entry.Entry, proofs.Lists.all_join, proofs.Rising.all_weaker}
 use Rattle.coincidence.proofs.closing.weight_bound_of.Goals as goal
 
 pub returns-clause-some : goal.returns-clause-some
-returns-clause-some c =
-    let a : ℕ = c.weight_bound.result in
-    let b : ℕ = c.weight_bound-2.result in
-    omega (arith, c.weight_bound.ensures.some, le_or_l a b, le_or_l (bit_or a b) c.weight_bound-3.result)
+returns-clause-some c = search (rules, arith, le_or_l)
 
 pub returns-clause-light : goal.returns-clause-light
 returns-clause-light c =

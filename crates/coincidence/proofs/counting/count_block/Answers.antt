@@ -30,13 +30,13 @@ loop-at-preserved c =
           let photon : nat_lt code 256 ≡ true = grind (arith, nat_tests, w.if-code-lt256.true, c.code.ensures) in
           let moves = moves_row false b at ∙ photon in
           let is_time : w.time-time.result ≡ time = w.time-time.ensures in
-          let is_bin = rw (is_time, c.new-width.ensures) at w.quotient-bin.ensures in
+          let is_bin = rw is_time at w.bin_of-bin.ensures in
           let put = w.put-over.ensures in
           let behind = rw is_time at w.start_behind-last.ensures in
           let starts = in_group (is_in (groups_at b at) set.start) (nat_lt code 256) w.has_photon-starts.result photon w.has_photon-starts.ensures in
           let stops = in_group (is_in (groups_at b at) set.stop) (nat_lt code 256) w.has_photon-stops.result photon w.has_photon-stops.ensures in
           rw (w.cells-is, w.last-is, w.over-is) (record {
-            counted = λ h is. rw (more_rows (item b) at, ← append_assoc) (photon_step set c.loop-at.cells w.put-over.new.cells c.loop-at.over _ w.quotient-bin.result w.ended.result last w.start_behind-last.result (h ++ rows (item b) at) (item b at) w.has_photon-starts.result w.has_photon-stops.result moves starts stops is_bin w.ended.ensures.value (λ n lt. put.cells n (rw same lt)) (ap (λ n. c.loop-at.over + n) (rw same at put.rest)) behind.value (inv.counted h is));
+            counted = λ h is. rw (more_rows (item b) at, ← append_assoc) (photon_step set c.loop-at.cells w.put-over.new.cells c.loop-at.over _ w.bin_of-bin.result w.ended.result last w.start_behind-last.result (h ++ rows (item b) at) (item b at) w.has_photon-starts.result w.has_photon-stops.result moves starts stops is_bin w.ended.ensures.value (λ n lt. put.cells n (rw same lt)) (ap (λ n. c.loop-at.over + n) (rw same at put.rest)) behind.value (inv.counted h is));
             few = omega (arith, put.sum, inv.few, w.ended.ensures.one);
             begun = rw moved (later (moves_floor false (event_at b at)) moves (since_in w.start_behind-last.result) (since_in last) time (floor_after false low (rows (event_at b) at)) w.has_photon-starts.result behind.since (omega (arith, inv.begun, next.1 moves)));
           })

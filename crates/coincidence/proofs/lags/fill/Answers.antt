@@ -1,4 +1,4 @@
-use Rattle.std.proofs.Common.{◌<◌, ◌+◌, ◌^◌, eqb, cond, length, arith}
+use Rattle.std.proofs.Common.{◌<◌, ◌+◌, eqb, cond, length, arith, rules}
 use Rattle.lag_ring.{specs.declared.ring.Entry.Entry, proofs.Lists.all_back}
 use Rattle.coincidence.proofs.LagPairs.{three-sums}
 use Rattle.coincidence.proofs.lags.fill.Goals as goal
@@ -10,33 +10,13 @@ put_bytes-requires-clause-fit c = (
 )
 
 pub put_bytes-requires-2-clause-early : goal.put_bytes-requires-2-clause-early
-put_bytes-requires-2-clause-early c =
-    all_back (λ (e : Entry). e.index + c.args.top < 2 ^ 64) c.slices.result.0.now c.slices.result.1.now (rw c.slices.ensures.entries c.requires.early)
+put_bytes-requires-2-clause-early c = search (rules, arith, all_back)
 
 pub put_bytes-requires-2-clause-fit : goal.put_bytes-requires-2-clause-fit
-put_bytes-requires-2-clause-fit c =
-    let one = c.put_bytes.ensures in (
-      λ p inside.
-          let at : p < length c.args.firsts.now = omega (arith, inside, one.same.0) in
-          omega (arith, one.have.0 p at, c.requires.fit.0 p at, three-sums (λ (e : Entry). cond (eqb (e.index + c.args.top) (c.args.low + p)) e.a 0) c.slices.result.0.now c.slices.result.1.now c.args.ring.now.entries c.args.later.now c.slices.ensures.entries),
-      λ p inside.
-          let at : p < length c.args.seconds.now = omega (arith, inside, one.same.1, c.requires.sized) in
-          omega (arith, one.have.1 p at, c.requires.fit.1 p at, three-sums (λ (e : Entry). cond (eqb (e.index + c.args.top) (c.args.low + p)) e.b 0) c.slices.result.0.now c.slices.result.1.now c.args.ring.now.entries c.args.later.now c.slices.ensures.entries),
-    )
+put_bytes-requires-2-clause-fit c = search (rules, arith, three-sums)
 
 pub put_bytes-requires-3-clause-fit : goal.put_bytes-requires-3-clause-fit
-put_bytes-requires-3-clause-fit c =
-    let one = c.put_bytes.ensures in
-    let two = c.put_bytes-2.ensures in (
-      λ p inside.
-          let middle : p < length c.put_bytes.new.firsts = omega (arith, inside, two.same.0) in
-          let at : p < length c.args.firsts.now = omega (arith, middle, one.same.0) in
-          omega (arith, two.have.0 p middle, one.have.0 p at, c.requires.fit.0 p at, three-sums (λ (e : Entry). cond (eqb (e.index + c.args.top) (c.args.low + p)) e.a 0) c.slices.result.0.now c.slices.result.1.now c.args.ring.now.entries c.args.later.now c.slices.ensures.entries),
-      λ p inside.
-          let middle : p < length c.put_bytes.new.seconds = omega (arith, inside, two.same.1, one.same.0, one.same.1) in
-          let at : p < length c.args.seconds.now = omega (arith, middle, one.same.1, c.requires.sized) in
-          omega (arith, two.have.1 p middle, one.have.1 p at, c.requires.fit.1 p at, three-sums (λ (e : Entry). cond (eqb (e.index + c.args.top) (c.args.low + p)) e.b 0) c.slices.result.0.now c.slices.result.1.now c.args.ring.now.entries c.args.later.now c.slices.ensures.entries),
-    )
+put_bytes-requires-3-clause-fit c = search (rules, arith, three-sums)
 
 pub returns-clause-have : goal.returns-clause-have
 returns-clause-have c =

@@ -1,12 +1,11 @@
-use Rattle.std.{proofs.Common.{◌≡◌, ◌≤◌, ◌+◌, ◌-◌, ◌++◌, ◌*◌, ℕ, length, arith}, specs.List.{sum_by}}
+use Rattle.std.{proofs.Common.{rules}, proofs.Common.{◌≡◌, ◌≤◌, ◌+◌, ◌-◌, ◌++◌, ◌*◌, ℕ, length, arith}, specs.List.{sum_by}}
 use Rattle.tally_base.specs.Settings.{coincidence_view}
 use Rattle.lag_ring.{specs.declared.ring.Entry.Entry, specs.Bytes.weight_of, proofs.Rising.all_weaker}
 use Rattle.coincidence.{specs.Closing.{earlier_side, later_side}, proofs.LagPairs.{window-lags, few_later}}
 use Rattle.coincidence.proofs.lags.pair_side.Goals as goal
 
 pub spots_of-spots-requires-clause-few : goal.spots_of-spots-requires-clause-few
-spots_of-spots-requires-clause-few g c = rw c.requires.photons.2 (few_later c.args.direction
-    (coincidence_view c.args.set) c.args.places.most c.args.places.low c.args.ring.now.entries c.args.later.now c.requires.photons.0)
+spots_of-spots-requires-clause-few g c = search (rules, arith, few_later)
 
 pub pair_window-requires-clause-window : goal.pair_window-requires-clause-window
 pair_window-requires-clause-window g c = record {

@@ -1,13 +1,11 @@
-use Rattle.std.proofs.Common.{◌≤◌, ◌+◌, ◌-◌, length, arith}
+use Rattle.std.proofs.Common.{arith, rules}
 use Rattle.tally_base.specs.Settings.{coincidence_view}
 use Rattle.lag_ring.{proofs.Rising.all_weaker}
 use Rattle.coincidence.proofs.LagPairs.{strip-window}
 use Rattle.coincidence.proofs.lags.pair_strip.Goals as goal
 
 pub byte_lag_sums-sums-requires : goal.byte_lag_sums-sums-requires
-byte_lag_sums-sums-requires g c =
-    let inside = all_weaker (λ s. s + c.args.top ≤ length c.args.window.now) (λ s. s + (c.args.top - 256 - c.args.least) + 256 ≤ length c.args.window.now) (λ s is. omega (arith, is, c.requires.inside.2)) c.args.spots.now c.requires.window.near in
-    (omega arith, (omega arith, (c.requires.window.weighed, (c.requires.window.light, (omega (arith, c.requires.window.few), inside)))))
+byte_lag_sums-sums-requires g c = search (rules, arith, all_weaker)
 
 pub add_sums-requires-clause-fits : goal.add_sums-requires-clause-fits
 add_sums-requires-clause-fits g c = λ at inside.

@@ -1,14 +1,10 @@
-use Rattle.std.{proofs.Common.{◌≡◌, ◌∙◌, ◌+◌, ◌*◌, ◌/◌, ◌<◌, ◌≤◌, ℕ, List, [], ◌++◌, length, sym, ap, arith, rules, append_assoc}, specs.List.{sum_by, AllByRecursion}, specs.Slice.Iter.chunks_rest, proofs.Math.Nat.{mul-div-le, mul-le-mul_left}, proofs.lemmas.List.get_or-replicate, proofs.lemmas.List.Sums.sum_by-append}
+use Rattle.std.{proofs.Common.{◌≡◌, ◌∙◌, ◌+◌, ◌*◌, ◌/◌, ◌≤◌, ℕ, List, [], ◌++◌, length, sym, ap, arith, rules, append_assoc}, specs.List.{sum_by, AllByRecursion}, specs.Slice.Iter.chunks_rest, proofs.Math.Nat.{mul-div-le, mul-le-mul_left}, proofs.lemmas.List.get_or-replicate, proofs.lemmas.List.Sums.sum_by-append}
 use Rattle.lag_ring.{specs.Bytes.behind, proofs.Lists.{all_front, all_back}, proofs.Sums.behind-le}
 use Rattle.lag_ring.proofs.bytes.byte_lag_sums.Goals as goal
 
-some-per : (most : ℕ) → 0 < most → most ≤ 255 → 0 < 255 / most
-some-per most some few = let one = mul-div-le 255 most in grind (arith, one)
-
 -- the sum over the spots that are done, a part, and those left
 three : (f : ℕ → ℕ) (done part rest all left : List ℕ) → done ++ left ≡ all → left ≡ part ++ rest → sum_by f done + sum_by f part ≤ sum_by f all
-three f done part rest all left is parts =
-    omega (arith, ap (sum_by f) is, sum_by-append f done left, ap (sum_by f) parts, sum_by-append f part rest)
+three f done part rest all left is parts = search (rules, arith, sum_by-append)
 
 inside-part : (P : ℕ → Type 0) (done part rest all left : List ℕ) → done ++ left ≡ all → left ≡ part ++ rest → AllByRecursion P all → AllByRecursion P part
 inside-part P done part rest all left is parts holds = all_front P part rest (rw parts at (all_back P done left (rw (sym is) at holds)))

@@ -1,4 +1,4 @@
-use Rattle.std.{proofs.Common.{◌<◌, ◌+◌, ◌∙◌, eqb, cond, length, arith}, proofs.lemmas.List.Sums.{sum_by_more, sum_by_more_le}}
+use Rattle.std.{proofs.Common.{rules}, proofs.Common.{◌+◌, ◌∙◌, eqb, cond, arith}, proofs.lemmas.List.Sums.{sum_by_more, sum_by_more_le}}
 use Rattle.lag_ring.specs.declared.ring.Entry.{Entry}
 use Rattle.lag_ring.proofs.bytes.put_bytes.Goals as goal
 
@@ -6,18 +6,10 @@ abbrev none : Entry
 none = record { index = 0; a = 0; b = 0 }
 
 pub put_entry-requires-clause-first : goal.put_entry-requires-clause-first
-put_entry-requires-clause-first c = λ p inside.
-    let within : p < length c.args.firsts.now = omega (arith, inside, c.loop-entry.invariant.first) in
-    let more = sum_by_more_le
-    (λ (e : Entry). cond (eqb (e.index + c.args.top) (c.args.low + p)) e.a 0) c.args.entries.now c.loop-entry.entry-index none c.loop-entry-test.true in
-    omega (arith, c.loop-entry.invariant.have.0 p within, more, c.requires.fit.0 p within)
+put_entry-requires-clause-first c = search (rules, arith, sum_by_more_le, none)
 
 pub put_entry-requires-clause-second : goal.put_entry-requires-clause-second
-put_entry-requires-clause-second c = λ p inside.
-    let within : p < length c.args.seconds.now = omega (arith, inside, c.loop-entry.invariant.first, c.requires.sized) in
-    let more = sum_by_more_le
-    (λ (e : Entry). cond (eqb (e.index + c.args.top) (c.args.low + p)) e.b 0) c.args.entries.now c.loop-entry.entry-index none c.loop-entry-test.true in
-    omega (arith, c.loop-entry.invariant.have.1 p within, more, c.requires.fit.1 p within)
+put_entry-requires-clause-second c = search (rules, arith, sum_by_more_le, none)
 
 pub loop-entry-preserved : goal.loop-entry-preserved
 loop-entry-preserved c =

@@ -3,14 +3,7 @@ use Rattle.lag_ring.{proofs.Between.downwards_more, proofs.Wholes.{small-all, sm
 use Rattle.lag_ring.proofs.rows.add_row_downwards.Goals as goal
 
 pub loop-q-init : goal.loop-q-init
-loop-q-init g c = record {
-  done = search rules;
-  left = search rules;
-  same = search rules;
-  greatest = λ none. small-all c.args.low.now c.requires.small;
-  places = search rules;
-  steps = search rules;
-}
+loop-q-init g c = search (rules, arith, small-all)
 
 pub loop-q-preserved : goal.loop-q-preserved
 loop-q-preserved g c =

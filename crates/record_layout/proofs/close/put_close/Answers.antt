@@ -1,4 +1,4 @@
-use Rattle.std.{proofs.Common.{◌≡◌, ◌+◌, ◌*◌, ◌/◌, ◌-◌, ◌<◌, ◌≤◌, ◌++◌, [], ◌∷◌, ℕ, suc, List, true, false, length, map, take, drop, get_or, replicate, refl, ap, ◌∙◌, arith, w32}, specs.List.{range_with_len}, proofs.lemmas.List.FromFn.{get_or-map-range_with_len}, proofs.lemmas.Simd.{SwzOk-from_below, swz_l, length-swz_l, put_chunk_is, length-put_chunk}, proofs.Math.Seq.{take-append-add}, proofs.lemmas.List.{take-append-le, length-take-le, length-drop}}
+use Rattle.std.{proofs.Common.{rules}, proofs.Common.{◌≡◌, ◌+◌, ◌-◌, ◌<◌, ◌≤◌, ◌++◌, [], ◌∷◌, ℕ, suc, List, true, false, length, map, take, drop, get_or, replicate, refl, ap, ◌∙◌, arith, w32}, specs.List.{range_with_len}, proofs.lemmas.List.FromFn.{get_or-map-range_with_len}, proofs.lemmas.Simd.{SwzOk-from_below, swz_l, length-swz_l, put_chunk_is, length-put_chunk}, proofs.Math.Seq.{take-append-add}, proofs.lemmas.List.{take-append-le, length-take-le, length-drop}}
 use lib.Lanes.{put_chunk, all_below}
 use Rattle.record_layout.{specs.InClose.{has_bit, bits_in, lanes_in, lanes_by}, proofs.Chosen.{each, below-all, few-bits}, specs.declared.close.TheConstants.LANES}
 use borrow.Rule.Slice.PartMut.{mid_of}
@@ -24,10 +24,7 @@ places_below = refl
 -- the lanes at some places
 lanes-taken : (xs ks zs : List ℕ) (i : ℕ) → i + length ks ≤ 8 → take (length ks) (swz_l w32 8 xs i (ks ++ zs)) ≡ map (λ j. get_or xs j 0) ks
 lanes-taken xs [] zs i le = refl
-lanes-taken xs (k ∷ ks) zs i le =
-    let here : 8 * (i / 8) + k ≡ k = omega (arith, le) in
-    let rest = lanes-taken xs ks zs (suc i) (omega (arith, le)) in
-    rw here (ap (λ l. get_or xs k 0 ∷ l) rest)
+lanes-taken xs (k ∷ ks) zs i le = search (rules, arith, lanes-taken xs ks zs (suc i) (omega (arith, le)))
 
 module _ (bits : ℕ) (lt : bits < 256) where
   lanes-below : all_below 8 (lanes_in bits) ≡ true
@@ -45,8 +42,7 @@ swizzle-close c =
 -- what is put into the middle of a list
 put-taken : (xs ys zs ws ks : List ℕ) (n : ℕ) → length xs ≡ n → length ks ≤ length ys
     → take (length ks) ys ≡ ws → take (n + length ks) (xs ++ (ys ++ zs)) ≡ xs ++ ws
-put-taken xs ys zs ws ks n long few is =
-    rw (← long) (take-append-add xs (ys ++ zs) (length ks) ∙ ap (λ l. xs ++ l) (take-append-le (length ks) ys zs few ∙ is))
+put-taken xs ys zs ws ks n long few is = search (rules, arith, take-append-add, take-append-le)
 
 pub returns : goal.returns
 returns c =

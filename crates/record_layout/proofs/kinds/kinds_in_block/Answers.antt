@@ -1,4 +1,4 @@
-use Rattle.std.{proofs.Common.{arith}, proofs.lemmas.List.{take_all}}
+use Rattle.std.{proofs.Common.{rules}, proofs.Common.{arith}, proofs.lemmas.List.{take_all}}
 use Rattle.record_layout.proofs.KindLemmas.{others-fit, counts_of-three}
 use Rattle.record_layout.proofs.kinds.kinds_in_block.Goals as goal
 
@@ -9,10 +9,7 @@ overflow_sub-result g c =
     others-fit g.R.RecordLayout.meaning c.args.words.now _ _ _ (rw all at seen.photons) (rw all at seen.markers) (rw all at seen.wraps)
 
 pub returns-clause-value : goal.returns-clause-value
-returns-clause-value g c =
-    let all = take_all c.loop-bytes.bytes-index c.args.words.now c.loop-bytes-test.false in
-    let seen = c.loop-bytes.invariant in
-    counts_of-three g.R.RecordLayout.meaning c.args.words.now _ _ _ (rw all at seen.photons) (rw all at seen.markers) (rw all at seen.wraps)
+returns-clause-value g c = search (rules, arith, take_all, counts_of-three)
 
 pub returns-clause-split : goal.returns-clause-split
 returns-clause-split g c =

@@ -1,7 +1,7 @@
 use Rattle.std.{proofs.Common.{◌≡◌, ◌+◌, ◌*◌, ◌^◌, ◌%◌, ◌<◌, ◌≤◌, ◌++◌, [], ◌∷◌, ℕ, List, true, length, map, take, get_or, refl, sym, ap, subst, ◌∙◌, arith, rules, slice_index}, specs.List.{range_with_len}, specs.Int.{from_le_bytes, w32}, proofs.Math.Nat.mul-le-mul_right, proofs.Math.Seq.take-append_seam, proofs.lemmas.List.take_all, proofs.lemmas.List.FromFn.{take-map-range_with_len, map-range_with_len_more}}
 use Rattle.tally_base.{specs.declared.event.Event.Event, specs.Codes.{code_in, dtime_in}, specs.Columns.{event_at, event_by, rows, written}, proofs.BlockRows.{length-rows, rows-split}}
 use Rattle.abs_time.specs.Placing.{placed_by, base_of}
-use Rattle.record_layout.{specs.declared.columns.Columns.Columns, specs.InColumns.{HasRows, IsRow, wraps_at, sum_to, time_in, Rises}, specs.InClose.{staying, stays, HasStayed, code_at, time_at}, proofs.Chosen.few-staying, proofs.Added.sum-few}
+use Rattle.record_layout.{specs.declared.columns.Columns.Columns, specs.InColumns.{wraps_at, sum_to, time_in, Rises}, specs.InClose.{staying, stays, HasStayed, code_at, time_at}, proofs.Chosen.few-staying, proofs.Added.sum-few}
 use Rattle.record_stream.{specs.Rows.{ordered_below, gathered_below}, specs.Whole.{close_event, last_below}, specs.Walking.{how_of, greatest_of, clock_in}, proofs.WholeBlocks.gathers-close}
 use Rattle.record_stream.proofs.blocks.gather_whole.Goals as goal
 
@@ -16,17 +16,15 @@ first-rows f g m n le is =
     sym (take-append_seam (rows f n) split.0) ∙ ap (λ k. take k (rows f n ++ split.0)) (length-rows f n)
     ∙ ap (take n) (sym split.1 ∙ is) ∙ take-map-range_with_len g 0 m n le
 
-few-sums : (columns : Columns) → ((i : ℕ) → i < 64 → wraps_at columns i ≤ 2 ^ 25)
-    → ((i : ℕ) → i < 64 → slice_index columns.sums i ≡ sum_to (wraps_at columns) (i + 1)) → (i : ℕ) → i < 64 → slice_index columns.sums i ≤ 2 ^ 31
-few-sums columns few sums i lt = omega (arith, sums i lt, sum-few (wraps_at columns) (2 ^ 25) (i + 1) (λ k less. few k (omega (arith, less, lt))), lt)
+few-sums : (columns : Columns) → ((i : ℕ) → i < 64 → wraps_at columns i ≤ 2 ^ 25) → (i : ℕ) → i < 64 → sum_to (wraps_at columns) (i + 1) ≤ 2 ^ 31
+few-sums columns few i lt = omega (arith, sum-few (wraps_at columns) (2 ^ 25) (i + 1) (λ k less. few k (omega (arith, less, lt))), lt)
 
-pub rises-in_order-requires-clause-sums : goal.rises-in_order-requires-clause-sums
-rises-in_order-requires-clause-sums g c =
-    let few : (i : ℕ) → i < 64 → wraps_at c.add_up-wraps.new.self i ≤ 2 ^ 25 = λ i lt.
-    let is = c.requires.rows i (omega (arith, c.requires.whole, lt)) in
-    let some = g.met.R.RecordLayout.wraps_few (from_le_bytes w32 (get_or c.args.words.now i [])) (wraps_at c.args.columns.now i) is.amounts in
-    omega (arith, some, ap (λ l. get_or l i 0) c.add_up-wraps.ensures.wraps) in
-    few-sums c.add_up-wraps.new.self few c.add_up-wraps.ensures.sums
+pub fill-len-requires : goal.fill-len-requires
+fill-len-requires g c = record {
+  few = λ i lt.
+      let is = c.requires.rows i (omega (arith, c.requires.whole, lt)) in
+      g.met.R.RecordLayout.wraps_few (from_le_bytes w32 (get_or c.args.words.now i [])) (wraps_at c.args.columns.now i) is.amounts;
+}
 
 same_event : (p p' m m' t t' : ℕ) → p ≡ p' → m ≡ m' → t ≡ t' → event_by p (code_in m) (dtime_in m) t ≡ event_by p' (code_in m') (dtime_in m') t'
 same_event p p' m m' t t' ps ms ts = rw (ps, ms, ts) refl
@@ -60,14 +58,10 @@ loop-i-preserved g c =
     }
 
 pub last_time-requires : goal.last_time-requires
-last_time-requires g c = omega (arith, c.fill-len.ensures.count, few-stay c.gathered_below-below.result c.add_up-wraps.new.self 64)
+last_time-requires g c = omega (arith, c.fill-len.ensures.stayed.count, few-stay c.gathered_below-below.result c.args.columns.now 64)
 
-pub returns-clause-kept : goal.returns-clause-kept
-returns-clause-kept g c = (
-  omega (arith, c.fill-len.ensures.count, few-stay c.gathered_below-below.result c.add_up-wraps.new.self 64, c.requires.whole),
-  λ i lt. subst (λ r. IsRow g.R.RecordLayout.meaning g.R.RecordLayout.UNIT r (from_le_bytes w32 (get_or c.args.words.now i [])))
-      (sym (c.add_up-wraps.ensures.same i)) (c.requires.rows i lt),
-)
+pub returns-clause-few : goal.returns-clause-few
+returns-clause-few g c = omega (arith, c.fill-len.ensures.stayed.count, few-stay c.gathered_below-below.result c.args.columns.now 64, c.requires.whole)
 
 pub returns-clause-gathers : goal.returns-clause-gathers
 returns-clause-gathers g c =
@@ -76,14 +70,12 @@ returns-clause-gathers g c =
     let only = c.args.only_ordered in
     let unit = g.R.RecordLayout.UNIT in
     let meaning = g.R.RecordLayout.meaning in
-    let columns = c.add_up-wraps.new.self in
+    let columns = c.args.columns.now in
     let close = c.fill-len.new.self in
-    let len = c.fill-len.result in
+    let len = c.fill-len.result.0 in
     let sure = c.rises-in_order.result in
     let whole = c.requires.whole in
     let start = base_of (clock_in walk) in
-    let rows : HasRows meaning unit columns words = λ i lt.
-    subst (λ r. IsRow meaning unit r (from_le_bytes w32 (get_or words i []))) (sym (c.add_up-wraps.ensures.same i)) (c.requires.rows i lt) in
     let rises : sure ≡ true → Rises (greatest_of walk) (time_in start unit columns) 64 = λ is.
     subst (λ b. Rises (greatest_of walk) (time_in b unit columns) 64) c.base-base.ensures.value
     (subst (λ l. Rises l (time_in c.base-base.result unit columns) 64) c.greatest-low.ensures (c.rises-in_order.ensures.rises is)) in
@@ -92,19 +84,18 @@ returns-clause-gathers g c =
     let below_is : c.gathered_below-below.result ≡ gathered_below only (how_of walk).mode =
     c.gathered_below-below.ensures ∙ ap (gathered_below only) (c.mode-2.ensures ∙ walk.same_mode) in
     let has : HasStayed (gathered_below only (how_of walk).mode) columns 64 close len =
-    subst (λ b. HasStayed b columns 64 close len) below_is c.fill-len.ensures in
+    subst (λ b. HasStayed b columns 64 close len) below_is c.fill-len.ensures.stayed in
     let few_placed : placed_by (clock_in walk) + 100 ≤ 2 ^ 64 = omega (arith, walk.few_placed, walk.few, walk.limit) in
     let few : (i : ℕ) → i < 64 → wraps_at columns i ≤ 2 ^ 25 = λ i lt.
     let is = c.requires.rows i (omega (arith, whole, lt)) in
-    let some = g.met.R.RecordLayout.wraps_few (from_le_bytes w32 (get_or words i [])) (wraps_at c.args.columns.now i) is.amounts in
-    omega (arith, some, ap (λ l. get_or l i 0) c.add_up-wraps.ensures.wraps) in
+    g.met.R.RecordLayout.wraps_few (from_le_bytes w32 (get_or words i [])) (wraps_at columns i) is.amounts in
     let fits : (i : ℕ) → i < 64 → time_in start unit columns i < 2 ^ 64 = λ i lt.
-    let sum = slice_index columns.sums i in
+    let sum = sum_to (wraps_at columns) (i + 1) in
     let unit_few : unit ≤ 2 ^ 28 = omega (arith, g.met.R.RecordLayout.unit_small) in
     let product : unit * sum ≤ 2 ^ 28 * sum = mul-le-mul_right sum unit_few in
     let time_few : slice_index columns.times i < 2 ^ 32 = c.rises-in_order.ensures.few i lt in
-    omega (arith, product, time_few, few-sums columns few c.add_up-wraps.ensures.sums i lt, c.requires.passes.base) in
-    let wraps : c.from.result ≡ sum_to (wraps_at columns) 64 = c.from.ensures ∙ c.add_up-wraps.ensures.value in
+    omega (arith, product, time_few, few-sums columns few i lt, c.requires.passes.base) in
+    let wraps : c.from.result ≡ sum_to (wraps_at columns) 64 = c.from.ensures ∙ c.fill-len.ensures.wraps in
     let sum_is : c.base-base.result + c.UNIT.result * c.from.result ≡ start + unit * sum_to (wraps_at columns) 64 =
     ap (λ b. b + c.UNIT.result * c.from.result) c.base-base.ensures.value
     ∙ ap (λ u. start + u * c.from.result) c.UNIT.ensures ∙ ap (λ w. start + unit * w) wraps in
@@ -122,7 +113,7 @@ returns-clause-gathers g c =
     first-rows (event_at c.loop-i.block) (close_event (c.placed-first.result + 1) c.base-base.result unit close) 64 len len_few all
     ∙ ap (λ p. map (close_event (p + 1) c.base-base.result unit close) (range_with_len 0 len)) c.placed-first.ensures.value
     ∙ ap (λ b. map (close_event (placed_by (clock_in walk) + 1) b unit close) (range_with_len 0 len)) c.base-base.ensures.value in
-    gathers-close walk words meaning c.requires.meaning c.requires.passes only unit columns rows whole c.add_up-wraps.ensures.sums sure rises 64
+    gathers-close walk words meaning c.requires.meaning c.requires.passes only unit columns c.requires.rows whole sure rises 64
     (omega arith) close len has few_placed fits
     (c.base-base.result + c.UNIT.result * c.from.result) c.last_time.result
     (written c.loop-i.block len) (take_all 64 words (omega (arith, whole))) sum_is top_is es_are

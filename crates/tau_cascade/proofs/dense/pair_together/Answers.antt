@@ -1,4 +1,4 @@
-use Rattle.std.{proofs.Common.{◌≡◌, ◌<◌, ◌≤◌, ◌+◌, ◌-◌, ◌*◌, ℕ, length, get_or, drop, arith}, specs.List.sum_by, proofs.lemmas.List.{get_or-replicate, take_rest}}
+use Rattle.std.{proofs.Common.{rules}, proofs.Common.{◌≡◌, ◌<◌, ◌≤◌, ◌+◌, ◌-◌, ◌*◌, ℕ, length, get_or, drop, arith}, specs.List.sum_by, proofs.lemmas.List.{get_or-replicate, take_rest}}
 use Rattle.lag_ring.{specs.declared.ring.Entry.Entry, specs.declared.window.Side.TheVariants.First, specs.Bytes.weight_at, proofs.Rising.all_weaker, proofs.Sums.light-at}
 use Rattle.tau_cascade.proofs.Together.{spots-paired}
 use Rattle.tau_cascade.proofs.dense.pair_together.Goals as goal
@@ -11,8 +11,7 @@ put_side-requires-clause-fit g c = λ p inside.
     omega (arith, get_or-replicate {A = ℕ} 1024 p 0 0 inside, light-at First c.from-top.result c.args.places.low p c.args.places.most c.args.list.now c.requires.list.1 c.requires.window.light, c.requires.window.weighed.1)
 
 pub spots_of-spots-requires-clause-near : goal.spots_of-spots-requires-clause-near
-spots_of-spots-requires-clause-near g c =
-    rw (take_rest c.args.list.now c.args.start) (all_weaker (λ (e : Entry). (c.args.places.low ≤ e.index) × (e.index - c.args.places.low + 192 ≤ 1024)) (λ (e : Entry). (c.args.places.low ≤ e.index) × (e.index - c.args.places.low < 4096)) (λ e at. (at.0, omega (arith, at.1))) (drop c.args.start c.args.list.now) c.requires.window.near)
+spots_of-spots-requires-clause-near g c = search (rules, arith, take_rest, all_weaker)
 
 pub spots_of-spots-requires-clause-few : goal.spots_of-spots-requires-clause-few
 spots_of-spots-requires-clause-few g c = rw (take_rest c.args.list.now c.args.start) c.requires.window.few

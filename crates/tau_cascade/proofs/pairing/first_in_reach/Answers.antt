@@ -1,4 +1,4 @@
-use Rattle.std.proofs.Common.{◌+◌, ◌-◌, ◌<◌, take, get_or, arith}
+use Rattle.std.proofs.Common.{◌-◌, ◌<◌, get_or, arith, rules}
 use Rattle.lag_ring.{specs.declared.ring.Entry.Entry, proofs.Rising.all_weaker}
 use Rattle.tau_cascade.proofs.Keeping.{left_behind}
 use Rattle.tau_cascade.proofs.pairing.first_in_reach.Goals as goal
@@ -13,5 +13,4 @@ returns-then-saturating_sub-from-clause-far c =
     omega (arith, c.if-saturating_sub-from.true, c.saturating_sub.ensures, c.from.ensures) in
     let below = left_behind (c.args.index - c.args.lags) c.back.place bins none c.back-test.true
     (omega (arith, c.back.invariant, c.requires.place)) c.requires.rising here in
-    all_weaker (λ (e : Entry). e.index < c.args.index - c.args.lags)
-    (λ e. e.index + c.args.lags < c.args.index) (λ e under. omega arith) (take c.back.place bins) below
+    search (rules, arith, all_weaker)

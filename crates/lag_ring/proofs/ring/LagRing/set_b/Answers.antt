@@ -1,4 +1,4 @@
-use Rattle.std.{proofs.Common.{◌≡◌, ◌∙◌, ◌<◌, ◌≤◌, ap, length, get_or, slice_get, slice_set, List, Some}, proofs.lemmas.Option.{slice_get-get_or}}
+use Rattle.std.{proofs.Common.{arith, rules}, proofs.Common.{◌≡◌, ◌∙◌, ◌<◌, ap, length, get_or, slice_get, slice_set, List, Some}, proofs.lemmas.Option.{slice_get-get_or}}
 use Rattle.lag_ring.{specs.declared.ring.Entry.Entry, specs.Ring.{Ring, kept_or}, proofs.Rising.{all_at, all_set}}
 use Rattle.lag_ring.proofs.ring.LagRing.set_b.Goals as goal
 
@@ -16,5 +16,4 @@ invariant_of-self c =
     let now : Entry = record { index = e.index; a = e.a; b = c.args.b } in
     let put = c.set_b.ensures.set e (rw laid at) in
     let left : c.set_b.new.self.entries ≡ slice_set was i now = ap (λ (x : Ring). x.entries) put ∙ ap (λ (xs : List Entry). slice_set xs i now) laid in
-    let same : c.set_b.new.self.reach ≡ r.kept.reach = ap (λ (x : Ring). x.reach) put ∙ reach in
-    (rw left (all_set (λ f. f.index ≤ r.last.index) was i now c.self.invariant.0 (all_at (λ f. f.index ≤ r.last.index) was i e at c.self.invariant.0)), rw same c.self.invariant.1, rw same c.self.invariant.2, λ is. cc)
+    search (rules, arith, all_set, all_at)

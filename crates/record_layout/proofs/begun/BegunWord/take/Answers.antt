@@ -1,4 +1,4 @@
-use Rattle.std.proofs.Common.{◌≡◌, ◌-◌, ◌++◌, ◌∙◌, take, length, ap, sym, refl, arith, length-append}
+use Rattle.std.proofs.Common.{◌≡◌, ◌-◌, ◌++◌, ◌∙◌, take, length, ap, sym, refl, arith, length-append, rules}
 use Rattle.ptu_definitions.{specs.Words.rest_of, proofs.WordsLemmas.{words_of-few, rest_of-few}}
 use Rattle.record_layout.{specs.Counting.begun_in, proofs.Growing.{none_of, words-completed, rest-completed}}
 use Rattle.record_layout.proofs.begun.BegunWord.take.Goals as goal
@@ -10,14 +10,10 @@ pub returns-then-begun-eq0-clause-rest : goal.returns-then-begun-eq0-clause-rest
 returns-then-begun-eq0-clause-rest c = rw (none_of (begun_in c.args.self.now) (omega arith)) c.cut.ensures.rest
 
 pub returns-then-piece-missing-clause-words : goal.returns-then-piece-missing-clause-words
-returns-then-piece-missing-clause-words c =
-    let bytes = begun_in c.args.self.now ++ c.args.piece.now in
-    sym (words_of-few bytes (omega (arith, length-append (begun_in c.args.self.now) c.args.piece.now)))
+returns-then-piece-missing-clause-words c = search (rules, arith, words_of-few, length-append)
 
 pub returns-then-piece-missing-clause-rest : goal.returns-then-piece-missing-clause-rest
-returns-then-piece-missing-clause-rest c =
-    let bytes = begun_in c.args.self.now ++ c.args.piece.now in
-    c.put_text.ensures.items ∙ sym (rest_of-few bytes (omega (arith, length-append (begun_in c.args.self.now) c.args.piece.now)))
+returns-then-piece-missing-clause-rest c = search (rules, arith, rest_of-few, length-append)
 
 pub returns-clause-words : goal.returns-clause-words
 returns-clause-words c =

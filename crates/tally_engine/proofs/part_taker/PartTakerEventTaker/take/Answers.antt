@@ -8,7 +8,7 @@ use Rattle.tally_engine.proofs.part_taker.PartTakerEventTaker.take.Goals as goal
 pub gather-requires : goal.gather-requires
 gather-requires g c =
     let t = c.args.self.now in
-    let es = gathered t.block in
+    let es = gathered t.block.now in
     record {
       may = λ k d within. can_take ghosts t.mode (taken_with t.reached es) (floor_with t.mode t.reached es) es c.args.event.now c.args.late _
           (t.waiting k d within) c.requires.room c.requires.in_time c.requires.in_order;
@@ -20,7 +20,7 @@ gather-requires g c =
 pub invariant_of-self : goal.invariant_of-self
 invariant_of-self g c =
     let t = c.args.self.now in
-    let es = gathered t.block in
+    let es = gathered t.block.now in
     let same : length c.gather.new.parts ≡ length t.parts.now = search rules in
     record {
       waiting = λ k d inside.

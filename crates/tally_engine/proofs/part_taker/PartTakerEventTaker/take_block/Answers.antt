@@ -62,7 +62,7 @@ module _ {T : Type 0} (g : Ghosts T) where
 pub gather_block-requires : goal.gather_block-requires
 gather_block-requires g c =
     let t = c.args.self.now in
-    let es = gathered t.block in
+    let es = gathered t.block.now in
     record {
       may = λ k d within. can_block ghosts t.mode (taken_with t.reached es) (floor_with t.mode t.reached es) es
           (gathered c.args.block.now) _ (t.waiting k d within) c.requires.room c.requires.in_order;
@@ -74,7 +74,7 @@ gather_block-requires g c =
 pub invariant_of-self : goal.invariant_of-self
 invariant_of-self g c =
     let t = c.args.self.now in
-    let es = gathered t.block in
+    let es = gathered t.block.now in
     let same : length c.gather_block.new.parts ≡ length t.parts.now = search rules in
     let given = c.gather_block.ensures.stands in
     record {

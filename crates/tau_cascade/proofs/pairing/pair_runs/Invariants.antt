@@ -1,7 +1,7 @@
 use Rattle.std.proofs.Common.{◌≡◌, ℕ, ◌+◌, ◌-◌, ◌*◌, ◌<◌, ◌≤◌, length, get_or, take, drop}
 use Rattle.lag_ring.specs.Cells.{added_at}
 use Rattle.tau_cascade.specs.Dense.{paired}
-use Rattle.tau_cascade.proofs.pairing.pair_all.Given as goal
+use Rattle.tau_cascade.proofs.pairing.pair_runs.Given as goal
 
 abbrev pub invariant-parts : goal.invariant-parts
 invariant-parts g l = record {

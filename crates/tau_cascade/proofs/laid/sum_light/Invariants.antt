@@ -1,0 +1,10 @@
+use Rattle.std.{proofs.Common.{◌≡◌, ℕ, ◌+◌, ◌<◌, length, get_or, take}, specs.List.sum_by}
+use Rattle.lag_ring.{specs.declared.window.Side.TheVariants.Second, specs.Bytes.product_at}
+use Rattle.tau_cascade.specs.Dense.{placed}
+use Rattle.tau_cascade.proofs.laid.sum_light.Given as goal
+
+abbrev pub invariant-loop-i : goal.invariant-loop-i
+invariant-loop-i g l = record {
+  same : length l.sums ≡ g.row.N;
+  sums : (q : ℕ) → q < g.row.N → get_or l.sums q 0 ≡ sum_by (product_at Second l.window 0 (l.from + q)) (placed (take l.i l.list) l.places);
+}

@@ -1,0 +1,15 @@
+use Rattle.std.proofs.Common.{ℕ, ◌-◌, ◌*◌, ◌<◌, ◌≤◌, length, get_or, take, drop}
+use Rattle.tau_cascade.specs.Dense.{IsZero, HavePaired}
+use Rattle.tau_cascade.proofs.pairing.sum_parts.Given as goal
+
+abbrev pub invariant-parts : goal.invariant-parts
+invariant-parts g l = record {
+  behind : l.start ≤ l.at;
+  within : l.at ≤ length l.list;
+  zeros : IsZero l.window;
+  few : (q : ℕ) → q < g.row.N → get_or l.sums q 0 ≤ 4190209 * (l.at - l.start);
+  sums : HavePaired g.row.N l.skipped l.lags l.initial.sums l.sums (take l.start l.list) (drop l.start (take l.at l.list));
+}
+
+abbrev pub decreases-parts : goal.decreases-parts
+decreases-parts g l = length l.list - l.at
