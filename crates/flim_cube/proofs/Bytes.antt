@@ -1,5 +1,5 @@
 -- Bytes that are put, and the counts that they make.
-use Rattle.std.{proofs.Common.{◌≡◌, ◌∙◌, ℕ, zero, suc, ◌+◌, ◌-◌, ◌*◌, ◌/◌, ◌%◌, ◌<◌, ◌≤◌, List, [], ◌∷◌, ◌++◌, length, get_or, set, take, replicate, refl, ap, sym, zero-add, inl, inr, arith, ◌≢◌, slice_index, rules}, specs.Int.{w16, w64, byte_worth, sum_through, from_le_bytes, div_ceil}, proofs.lemmas.Bool.{cases_eq, cases_lt}, proofs.lemmas.List.{ext_get_or, get_or-set_same, get_or-set_other, get_or_past, get_or-replicate, get_or_append_left, get_or-append_right, length-set, length-replicate, take_all}, proofs.lemmas.List.FromFn.get_or-map-range_with_len, proofs.lemmas.Nat.{mod-mul-add, mul-le, row_fits}}
+use Rattle.std.{proofs.Common.{◌≡◌, ◌∙◌, ℕ, zero, suc, ◌+◌, ◌*◌, ◌/◌, ◌%◌, ◌<◌, ◌≤◌, List, [], ◌∷◌, ◌++◌, length, get_or, set, take, replicate, refl, ap, sym, zero-add, inl, inr, arith, ◌≢◌, slice_index, rules}, specs.Int.{w16, w64, byte_worth, sum_through, from_le_bytes, div_ceil}, proofs.lemmas.Bool.{cases_eq, cases_lt}, proofs.lemmas.List.{ext_get_or, get_or-set_same, get_or-set_other, get_or_past, get_or-replicate, get_or_append_left, get_or-append_right, length-set, length-replicate, take_all}, proofs.lemmas.List.FromFn.get_or-map-range_with_len, proofs.lemmas.Nat.{mod-mul-add, mul-le, row_fits}}
 use Rattle.flim_cube.specs.Bytes.{byte_in, count_in, counts_in, length_counts}
 
 -- A byte that is put in a list of lists is there, and the others are as before.
@@ -32,14 +32,7 @@ pub more_zeros : (bytes : List (List ℕ)) (n count place : ℕ) → length byte
 unfolding byte_in
 more_zeros bytes n count place all =
     let entry = place / 8 in
-    ap (λ front. get_or (get_or (front ++ replicate count eight_zeros) entry []) (place % 8) 0) (take_all n bytes all)
-    ∙ elim (cases_lt entry (length bytes)) [
-      | inl inside ↦ ap (λ e. get_or e (place % 8) 0) (get_or_append_left bytes (replicate count eight_zeros) [] entry inside)
-      | inr past ↦
-          ap (λ e. get_or e (place % 8) 0) (get_or-append_right bytes (replicate count eight_zeros) (length bytes) entry [] refl past)
-          ∙ zeros_read count (entry - length bytes) (place % 8)
-          ∙ sym (ap (λ e. get_or e (place % 8) 0) (get_or_past bytes entry [] past))
-    ]
+    search (rules, arith, eight_zeros, take_all, cases_lt, get_or_append_left, get_or-append_right, zeros_read, get_or_past)
 
 pub nothing_there : (place : ℕ) → byte_in [] place ≡ 0
 unfolding byte_in
@@ -50,15 +43,13 @@ sum_agree : (f g : ℕ → ℕ) (k : ℕ) → ((i : ℕ) → i ≤ k → f i ≡
 sum_agree f g zero same = same 0 (omega arith)
 sum_agree f g (suc k) same =
     let so_far = sum_agree f g k (λ i le. same i (omega (arith, le))) in
-    let here = same (suc k) (omega arith) in
-    omega (arith, so_far, here)
+    search (rules, arith)
 
 sum_first : (f g : ℕ → ℕ) (more k : ℕ) → f 0 ≡ g 0 + more → ((i : ℕ) → 0 < i → i ≤ k → f i ≡ g i) → sum_through f k ≡ sum_through g k + more
 sum_first f g more zero first same = first
 sum_first f g more (suc k) first same =
     let so_far = sum_first f g more k first (λ i some le. same i some (omega (arith, le))) in
-    let here = same (suc k) (omega arith) (omega arith) in
-    omega (arith, so_far, here)
+    search (rules, arith)
 
 sum_low : (f : ℕ → ℕ) (k : ℕ) → f 0 ≤ sum_through f k
 sum_low f zero = omega arith

@@ -25,8 +25,7 @@ pub joined_none : (bins : List Entry) → joined 0 bins ≡ bins
 joined_none [] = refl
 joined_none (e ∷ bins) =
     let here : join 0 e ≡ e = join_same 0 e (or_zero_r e.b) in
-    let rest : joined 0 bins ≡ bins = joined_none bins in
-    ap (λ x. x ∷ joined 0 bins) here ∙ ap (λ xs. e ∷ xs) rest
+    search (rules, arith, joined_none bins)
 
 pub below_joined : (groups index : ℕ) (bins : List Entry) → AllByRecursion (λ e. e.index < index) bins
     → AllByRecursion (λ e. e.index < index) (joined groups bins)
@@ -100,8 +99,7 @@ partly_all i groups [] e nested at is = cc
 partly_all zero groups (x ∷ bins) e nested at is = search (rules, arith, join_same)
 partly_all (suc i) groups (x ∷ bins) e nested at is =
     let here : bit_or x.b e.b ≡ x.b = all_at (λ f. bit_or x.b f.b ≡ x.b) bins i e (sym (partly_at i groups bins) ∙ at) nested.0 in
-    ap (λ y. y ∷ partly (suc i) groups bins) (sym (join_same groups x (or_within x.b e.b groups here is)))
-    ∙ ap (λ xs. join groups x ∷ xs) (partly_all i groups bins e nested.1 at is)
+    search (rules, arith, partly, join_same, or_within, join, partly_all i groups bins e nested.1)
 
 -- the same at a place that is not 0
 pub partly_next : (at groups : ℕ) (bins : List Entry) (e : Entry) → 0 < at → slice_get (partly at groups bins) (at - 1) ≡ Some e

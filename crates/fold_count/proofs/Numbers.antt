@@ -1,6 +1,6 @@
 -- Sets as numbers, and sets taken together.
 use Rattle.fold_count.specs.FoldCounts.{number_of}
-use Rattle.std.{proofs.Common.{◌≡◌, ℕ, zero, suc, ◌+◌, ◌*◌, ◌^◌, ◌<◌, Bool, true, false, cond, List, [], ◌∷◌, length, get_or, take, refl, arith, rules, ◌∙◌, ◌/◌, ◌%◌, max, ◌||◌, sym, ap, bit_or, ◌++◌}, specs.List.{list_any, count_by, AllByRecursion}, proofs.lemmas.Grind.pow_more, specs.Int.Bits.{or_step, or_self}, proofs.Math.Arith.bin_ind, proofs.lemmas.Nat.{or_shr, or_comm}, proofs.lemmas.List.Sums.{sum_by-cons, sum_by_push}, proofs.lemmas.List.Folds.list_any-append}
+use Rattle.std.{proofs.Common.{◌≡◌, ℕ, zero, suc, ◌+◌, ◌*◌, ◌^◌, ◌<◌, Bool, true, false, cond, List, [], ◌∷◌, length, get_or, take, refl, arith, rules, ◌∙◌, ◌/◌, ◌%◌, max, ◌||◌, sym, ap, bit_or, ◌++◌}, specs.List.{list_any, count_by, AllByRecursion}, proofs.lemmas.Grind.pow_more, specs.Int.Bits.{or_step, or_self}, proofs.Math.Arith.bin_ind, proofs.lemmas.Nat.{or_shr, or_comm}, proofs.lemmas.List.Sums.{sum_by-cons, sum_by_push}, proofs.lemmas.List.Folds.list_any-append, proofs.lemmas.Grind.common_steps}
 
 pow_suc : (i : ℕ) → 2 ^ suc i ≡ 2 * 2 ^ i
 pow_suc i = grind arith
@@ -116,10 +116,7 @@ any_same p xs x is = any_push p xs x ∙ or_false (list_any p xs) (p x) is
 pub count_agree : {X : Type 0} (P : X → Type 0) (p q : X → Bool) (xs : List X)
     → AllByRecursion P xs → ((x : X) → P x → p x ≡ q x) → count_by p xs ≡ count_by q xs
 count_agree P p q [] all same = refl
-count_agree P p q (x ∷ xs) all same =
-    let here : p x ≡ q x = same x all.0 in
-    let rest : count_by p xs ≡ count_by q xs = count_agree P p q xs all.1 same in
-    rw (sum_by-cons (λ x. cond (p x) 1 0) x xs, sum_by-cons (λ x. cond (q x) 1 0) x xs, here, rest) refl
+count_agree P p q (x ∷ xs) all same = grind (arith, common_steps, sum_by-cons, count_agree P p q xs all.1 same)
 
 -- each that passes the last test passes one of the first two, and none passes both
 pub count_parts : {X : Type 0} (P : X → Type 0) (p q r : X → Bool) (xs : List X) → AllByRecursion P xs

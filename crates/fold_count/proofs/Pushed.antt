@@ -1,18 +1,14 @@
 -- One event more.
-use Rattle.std.{proofs.Common.{◌≡◌, ◌∙◌, ℕ, zero, suc, ◌+◌, ◌-◌, ◌<◌, ◌≤◌, Bool, true, false, ◌&&◌, ◌||◌, cond, ltb, leb, eqb, List, [], ◌∷◌, ◌++◌, length, get_or, replicate, refl, sym, ap, arith, slice_index, bit_or, rules}, specs.List.{list_any, AllByRecursion}, proofs.lemmas.Bool.cases_lt, proofs.lemmas.Bool.Decides.nat_tests, proofs.lemmas.List.Sums.sum_by-cons}
+use Rattle.std.{proofs.Common.{◌≡◌, ◌∙◌, ℕ, zero, suc, ◌+◌, ◌-◌, ◌<◌, ◌≤◌, Bool, true, false, ◌&&◌, ◌||◌, cond, ltb, leb, eqb, List, [], ◌∷◌, ◌++◌, length, get_or, replicate, refl, sym, ap, arith, slice_index, bit_or, rules}, specs.List.{list_any, AllByRecursion}, proofs.lemmas.Bool.cases_lt, proofs.lemmas.Bool.Decides.nat_tests, proofs.lemmas.List.Sums.sum_by-cons, proofs.lemmas.Grind.common_steps}
 use Rattle.tally_base.{specs.declared.event.Event.Event, specs.Events.{is_photon, is_in}, specs.Settings.FoldView, specs.Tally.History}
 use Rattle.lag_ring.{specs.declared.ring.Entry.Entry, proofs.Rising.{all_push, all_weaker}, proofs.Lists.all_front, specs.Ring.Ring}
-use Rattle.fold_count.{specs.FoldCounts.{is_of, is_of_any, is_seen, number_of, seen_set}, specs.Folded.{is_from, met_from, joined, Parted, Stands, Counts}, specs.Fold.number_same, proofs.Numbers.{number_agree, number_none, number_or, any_push, any_same, count_agree, count_push, count_same}, proofs.Bins.where_push, proofs.Nested.{where_joined, met_joined, last_of}, proofs.Settled.of_any}
+use Rattle.fold_count.{specs.FoldCounts.{is_of, is_of_any, is_seen, number_of, seen_set}, specs.Folded.{is_from, met_from, joined, Parted, Stands, Counts}, specs.Fold.number_same, proofs.Numbers.{number_agree, number_none, number_or, any_push, any_same, count_agree, count_push, count_same}, proofs.Bins.where_push, proofs.Nested.{where_joined, met_joined, last_of}}
 
 none_first : (a b : Bool) → a ≡ false → (a && b) ≡ false
 none_first a b is = ap (λ a. a && b) is
 
 not_of : (groups : List ℕ) (x : Event × ℕ) (k : ℕ) → k < length groups → is_of_any groups x ≡ false → is_of (get_or groups k 0) x ≡ false
-not_of groups x k inside none = by_case (is_of (get_or groups k 0) x) refl
-  where
-    by_case : (b : Bool) → is_of (get_or groups k 0) x ≡ b → b ≡ false
-    by_case false is = refl
-    by_case true is = sym (of_any groups x k inside is) ∙ none
+not_of groups x k inside none = grind (arith, common_steps)
 
 -- A fold of no events.
 pub parted_empty : (set : FoldView) (cells : List ℕ) (front : ℕ) → ((s : ℕ) → slice_index cells s ≡ 0)

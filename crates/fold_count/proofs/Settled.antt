@@ -1,5 +1,5 @@
 -- The bins before a tick are counted.
-use Rattle.std.{proofs.Common.{◌≡◌, ◌∙◌, ℕ, ◌+◌, ◌^◌, ◌<◌, ◌≤◌, Bool, true, false, ◌&&◌, cond, ltb, leb, eqb, List, [], ◌∷◌, ◌++◌, filter, length, get_or, refl, sym, arith, slice_index, rules}, specs.List.{list_any, count_by, AllByRecursion}, proofs.lemmas.Bool.cases_lt, proofs.lemmas.Bool.Decides.nat_tests, proofs.lemmas.List.Folds.list_any_at}
+use Rattle.std.{proofs.Common.{◌≡◌, ◌∙◌, ℕ, ◌+◌, ◌^◌, ◌<◌, ◌≤◌, Bool, true, false, ◌&&◌, cond, ltb, leb, eqb, List, [], ◌∷◌, ◌++◌, filter, length, get_or, refl, sym, arith, slice_index, rules}, specs.List.{list_any, count_by, AllByRecursion}, proofs.lemmas.Bool.cases_lt, proofs.lemmas.List.Folds.list_any_at, proofs.lemmas.Grind.common_steps}
 use Rattle.tally_base.{specs.declared.event.Event.Event, specs.Settings.FoldView, specs.Tally.History}
 use Rattle.lag_ring.{specs.declared.ring.Entry.Entry, proofs.Rising.{all_push, all_weaker}, proofs.Lists.all_filter}
 use Rattle.fold_count.{specs.FoldCounts.{is_of, is_of_any, is_seen, seen_set}, specs.Folded.{photons_of, photons_where, is_from, met_from, Parted, AreCounts}, proofs.Numbers.{number_agree, number_none, any_agree, any_none, count_agree, count_parts}, proofs.Bins.{where_push, where_kept, of_known}}
@@ -9,8 +9,7 @@ pub of_any : (groups : List ℕ) (x : Event × ℕ) (k : ℕ) → k < length gro
 of_any groups x k inside is = search (rules, arith, list_any_at)
 
 within : (of from to : Bool) → (of ≡ true → to ≡ true) → (of && (from && to)) ≡ (of && from)
-within false from to is = refl
-within true from to is = search (rules, arith)
+within of from to is = search (rules, arith)
 
 -- a photon that is seen by a time is one from there on, where no photon comes behind the window
 seen_from : (set : FoldView) (tick front t k : ℕ) (x : Event × ℕ) → tick ≤ front + set.window → front ≤ t → k < length set.groups → (is_of_any set.groups x ≡ true → x.0.time ≤ tick) → is_seen set.window t (get_or set.groups k 0) x ≡ is_from (get_or set.groups k 0) t x
@@ -28,13 +27,7 @@ known set tick front h near upto t from =
 -- no photon of a group comes behind the last tick
 none_behind : (set : FoldView) (tick t k : ℕ) (h : History) → k < length set.groups → tick < t
     → AllByRecursion (λ x. is_of_any set.groups x ≡ true → x.0.time ≤ tick) h → list_any (is_from (get_or set.groups k 0) t) h ≡ false
-none_behind set tick t k h inside lt upto = any_none (λ x. is_of_any set.groups x ≡ true
-    → x.0.time ≤ tick) (is_from (get_or set.groups k 0) t) h upto (λ x le. by_case x le (is_of (get_or set.groups k 0) x) refl)
-  where
-    by_case : (x : Event × ℕ) → (is_of_any set.groups x ≡ true → x.0.time ≤ tick)
-        → (b : Bool) → is_of (get_or set.groups k 0) x ≡ b → (b && leb t x.0.time) ≡ false
-    by_case x le false is = refl
-    by_case x le true is = let below : x.0.time ≤ tick = le (of_any set.groups x k inside is) in grind (arith, nat_tests, lt, below)
+none_behind set tick t k h inside lt upto = grind (arith, common_steps, any_none)
 
 pub met_none : (set : FoldView) (tick t : ℕ) (h : History) → tick < t
     → AllByRecursion (λ x. is_of_any set.groups x ≡ true → x.0.time ≤ tick) h → met_from set.groups h t ≡ 0
@@ -44,17 +37,14 @@ met_none set tick t h lt upto = number_none (λ group. list_any (is_from group t
 pieces : (any : Bool) (t front before pat digits s : ℕ) → front ≤ before → (any ≡ true → front ≤ t → pat ≡ digits)
     → cond (any && (ltb t front && eqb pat s)) 1 0 + cond
     (any && (leb front t && (ltb t before && eqb digits s))) 1 0 ≡ cond (any && (ltb t before && eqb pat s)) 1 0
-pieces false t front before pat digits s le same = refl
-pieces true t front before pat digits s le same = search (rules, arith, cases_lt)
+pieces any t front before pat digits s le same = search (rules, arith, cases_lt)
 
 -- what is kept from a later front on
 later : (any : Bool) (t front before : ℕ) (test : Bool) → front ≤ before → (any && (leb front t && (leb before t && test))) ≡ (any && (leb before t && test))
-later false t front before test le = refl
-later true t front before test le = search (rules, arith, cases_lt)
+later any t front before test le = search (rules, arith, cases_lt)
 
 everywhere : (any : Bool) (t tick before : ℕ) (test : Bool) → tick < before → (any ≡ true → t ≤ tick) → (any && (ltb t before && test)) ≡ (any && test)
-everywhere false t tick before test lt upto = refl
-everywhere true t tick before test lt upto = search (rules, arith)
+everywhere any t tick before test lt upto = search (rules, arith)
 
 module _ (set : FoldView) (cells : List ℕ) (bins : List Entry) (tick front : ℕ) (h : History)
     (is : Parted set cells bins tick front h) (near : tick ≤ front + set.window) (before : ℕ) (le : front ≤ before) where

@@ -1,11 +1,10 @@
 -- The cells of a fold add up, and the first of them is 0.
-use Rattle.std.{proofs.Common.{◌≡◌, ◌∙◌, ℕ, ◌+◌, ◌*◌, ◌^◌, ◌<◌, Bool, true, false, ◌&&◌, ◌||◌, cond, eqb, leb, List, [], ◌∷◌, ◌++◌, length, refl, ap, arith, append_assoc}, specs.List.{list_any, count_by, AllByRecursion}, proofs.lemmas.Bool.Decides.nat_tests, proofs.lemmas.List.Folds.list_any-append}
+use Rattle.std.{proofs.Common.{rules}, proofs.Common.{◌≡◌, ◌∙◌, ℕ, ◌+◌, ◌*◌, ◌^◌, ◌<◌, Bool, true, false, ◌&&◌, ◌||◌, cond, eqb, leb, List, [], ◌∷◌, ◌++◌, length, refl, arith, append_assoc}, specs.List.{list_any, count_by, AllByRecursion}, proofs.lemmas.List.Folds.list_any-append}
 use Rattle.tally_base.{proofs.Sums.{sum_none, count_none, parts}, specs.declared.event.Event.Event, specs.Events.{is_photon, is_in}, specs.Settings.FoldView, specs.Tally.History}
 use Rattle.fold_count.{specs.FoldCounts.{is_of_any, is_seen, number_of, seen_set, in_set, in_all_sets}, proofs.Numbers.{number_below, count_agree}}
 
 not_behind : (b : Bool) (a n : ℕ) → a < n → (b && leb n a) ≡ false
-not_behind true a n few = grind (arith, nat_tests, few)
-not_behind false a n few = refl
+not_behind b a n few = search (rules, arith)
 
 pub add_up : (set : FoldView) (h : History) → in_all_sets set h ≡ count_by (is_of_any set.groups) h
 add_up set h =
@@ -16,8 +15,7 @@ add_up set h =
     omega (arith, none, parts (is_of_any set.groups) (λ x. seen_set set h x.0.time) (2 ^ length set.groups) h)
 
 or_true : (a b c : Bool) → b ≡ true → (a || (b || c)) ≡ true
-or_true true b c is = refl
-or_true false b c is = ap (λ b. b || c) is
+or_true a b c is = search (rules, arith)
 
 -- a test that an element of a list passes is passed by some element
 members : (front h : History) → AllByRecursion (λ x. (p : Event × ℕ → Bool) → p x ≡ true → list_any p (front ++ h) ≡ true) h
@@ -28,35 +26,23 @@ members front (x ∷ h) = (
 )
 
 positive : (b : Bool) (n : ℕ) → 0 < n → 0 < cond b 1 0 + 2 * n
-positive true n some = omega (arith, some)
-positive false n some = omega (arith, some)
+positive b n some = search (rules, arith)
 
 digit_case : (p q : ℕ → Bool) (g n : ℕ) (any : Bool) (b : Bool) → ((g : ℕ) → q g ≡ true → p g ≡ true)
     → q g ≡ b → (b || any) ≡ true → (any ≡ true → 0 < n) → 0 < cond (p g) 1 0 + 2 * n
-digit_case p q g n any true follows here is rest = let e : p g ≡ true = follows g here in rw e (omega arith)
-digit_case p q g n any false follows here is rest = positive (p g) n (rest is)
+digit_case p q g n any b follows here is rest = search (rules, arith, positive)
 
 some_digit : (p q : ℕ → Bool) → ((g : ℕ) → q g ≡ true → p g ≡ true) → (groups : List ℕ) → list_any q groups ≡ true → 0 < number_of p groups
 some_digit p q follows [] is = cc
 some_digit p q follows (g ∷ groups) is = digit_case p q g (number_of p groups) (list_any q groups) (q g) follows refl is (some_digit p q follows groups)
 
-second_true : (a b : Bool) → (a && b) ≡ true → (a ≡ true) × (b ≡ true)
-second_true true b is = (refl, is)
-second_true false b is = (is, cc)
-
 own_window : (window : ℕ) (x : Event × ℕ) (g : ℕ) → is_photon x.0 ≡ true → is_in x.1 g ≡ true → is_seen window x.0.time g x ≡ true
-own_window window x g photon is =
-    let from : leb x.0.time x.0.time ≡ true = grind (arith, nat_tests) in
-    let to : leb x.0.time (x.0.time + window) ≡ true = grind (arith, nat_tests) in
-    rw (photon, is, from, to) refl
+own_window window x g photon is = search (rules, arith)
 
 not_zero : (set : FoldView) (h : History) (x : Event × ℕ) → ((p : Event × ℕ → Bool) → p x ≡ true → list_any p h ≡ true)
     → (b : Bool) → is_of_any set.groups x ≡ b → (b && eqb (seen_set set h x.0.time) 0) ≡ false
 not_zero set h x member false is = refl
-not_zero set h x member true is =
-    let parts = second_true (is_photon x.0) (list_any (λ group. is_in x.1 group) set.groups) is in
-    let some : 0 < seen_set set h x.0.time = some_digit (λ group. list_any (is_seen set.window x.0.time group) h) (λ group. is_in x.1 group) (λ g is. member (is_seen set.window x.0.time g) (own_window set.window x g parts.0 is)) set.groups parts.1 in
-    grind (arith, nat_tests, some)
+not_zero set h x member true is = search (rules, arith, some_digit, own_window)
 
 pub none_empty : (set : FoldView) (h : History) → in_set set 0 h ≡ 0
 none_empty set h =

@@ -4,6 +4,10 @@ use Rattle.tally_base.{specs.Settings.CorrelationView, specs.Tally.History}
 use Rattle.lag_ring.{specs.declared.ring.Entry.Entry, specs.Ring.{Ring, ring, IsRising}, proofs.Kept.{room_after, kept_after}, proofs.Lists.{all_filter, all_join}, proofs.Rising.{all_weaker, rising_push}}
 use Rattle.tau_cascade.{specs.Correlation.{bin, in_first, in_second}, specs.Levels.{RingIs, CanClose, IsBin, CanFinish}, specs.declared.level.Level.Level, specs.Bins.CanShutAll}
 
+-- what a list reads where it has nothing
+abbrev pub none : Entry
+none = record { index = 0; a = 0; b = 0 }
+
 module _ (set : CorrelationView) (level : ℕ) (r : Ring) (e : Entry) (closed xs : History) (some : 0 < set.lags) (can : CanClose set level r e closed xs) where
   abbrev stays : Entry → Bool
   stays f = leb (e.index - (set.lags - 1)) f.index

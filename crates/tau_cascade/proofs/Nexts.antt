@@ -159,8 +159,8 @@ module _ (list : List Entry) (from at' lags : ℕ) (none : Entry) (inside : at' 
       all_weaker (λ f. f.index + lags < e.index) (λ f. f.index + lags < n) (λ f under. omega arith) (take from list) far
 
 -- before the first bin nothing is added
-pub none_paired : (k start : ℕ) (list : List Entry) → start ≤ length list → paired k (take start list) (drop start (take start list)) ≡ 0
-none_paired k start list inside = rw (drop_all start (take start list) (omega (arith, length-take-le start list inside))) refl
+pub none_paired : (k start : ℕ) (before list : List Entry) → start ≤ length list → paired k before (drop start (take start list)) ≡ 0
+none_paired k start before list inside = rw (drop_all start (take start list) (omega (arith, length-take-le start list inside))) refl
 
 -- one bin more has room among the additions
 pub added_next : (lags skipped start i before now few : ℕ) → start ≤ i → now ≤ before + (lags - skipped) * (i - start)

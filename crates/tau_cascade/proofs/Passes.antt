@@ -1,8 +1,8 @@
 -- Bins that pass a level with no pair.
 use Rattle.tally_base.{specs.Settings.CorrelationView, specs.Tally.History}
-use Rattle.lag_ring.{specs.declared.ring.Entry.Entry, specs.Ring.{ring, Ring, IsRising}, proofs.Rising.{all_weaker, all_push, rising_front}, proofs.Lists.{all_map, all_both, all_front, all_back}}
-use Rattle.tau_cascade.{specs.declared.level.Level.Level, specs.Correlation.{bin, skipped_lags}, specs.Levels.{IsBin, RingIs, weight_before}, specs.Bins.{raised, lowered, merged_onto, stretch, IsSpaced, Follow, CanTake, Took, merged}, proofs.Keeping.last_of, proofs.Paired.cells_all, proofs.Follows.{parts, may_shut, took}, specs.Dense.paired, proofs.Closes.ring_begun, proofs.Nexts.{none_at_lag, rising_drop, paired-append, take_parts, paired_part}, proofs.Together.from_first}
-use Rattle.std.{proofs.Common.{◌≡◌, ℕ, suc, ◌+◌, ◌-◌, ◌*◌, ◌/◌, ◌^◌, ◌<◌, ◌≤◌, Some, List, [], ◌∷◌, ◌++◌, length, map, take, drop, set, get_or, refl, sym, ap, ◌∙◌, subst, arith, rules, append_assoc, zero, append-nil}, specs.List.AllByRecursion, proofs.Math.Nat.{div-le_self, div-mul-le_self}, proofs.lemmas.Nat.{shl-shr, shr-shr, le-div, pow_pos}, proofs.lemmas.List.{take_more, take-take, map_push, get_or-drop, get_or-take, get_or-map, drop-set, drop_more, length-map, length-drop, length-set, length-take-le, take-append-drop, drop-take, drop-append-le, drop-drop}, proofs.lemmas.List.Sums.sum_by-append, proofs.lemmas.Grind.common_steps}
+use Rattle.lag_ring.{specs.declared.ring.Entry.Entry, specs.Ring.{ring, Ring, IsRising}, proofs.Rising.{all_weaker, all_push}, proofs.Lists.{all_map, all_both, all_front, all_back, each_at}}
+use Rattle.tau_cascade.{specs.declared.level.Level.Level, specs.Correlation.{bin, skipped_lags}, specs.Levels.{IsBin, RingIs, weight_before}, specs.Bins.{raised, lowered, merged_onto, stretch, IsSpaced, Follow, CanTake, Took, merged}, proofs.Keeping.last_of, proofs.Paired.cells_all, proofs.Follows.{parts, may_shut, took}, specs.Dense.{paired, paired_from}, proofs.Closes.ring_begun, proofs.Nexts.{none_at_lag, paired-append, take_parts}}
+use Rattle.std.{proofs.Common.{◌≡◌, ℕ, suc, ◌+◌, ◌-◌, ◌*◌, ◌/◌, ◌^◌, ◌<◌, ◌≤◌, Some, List, [], ◌∷◌, ◌++◌, length, map, take, drop, set, get_or, refl, sym, ap, ◌∙◌, subst, arith, rules, append_assoc, zero, append-nil}, specs.List.AllByRecursion, proofs.Math.Nat.{div-le_self, div-mul-le_self}, proofs.lemmas.Nat.{shl-shr, shr-shr, le-div, pow_pos}, proofs.lemmas.List.{take_more, take-take, take-map, drop-map, map_push, get_or-drop, get_or-take, get_or-map, drop-set, drop_more, length-map, length-drop, length-set, length-take-le, take-append-drop, drop-take, drop-drop}, proofs.lemmas.List.Sums.sum_by-append, proofs.lemmas.Grind.common_steps}
 
 -- Bins that are further apart than the lags.
 
@@ -17,6 +17,11 @@ spaced-raised d up (e ∷ es) spaced = grind (arith, common_steps, all_map, all_
 pub spaced_nearer : (d near : ℕ) (es : List Entry) → near ≤ d → IsSpaced d es → IsSpaced near es
 spaced_nearer d near [] less spaced = tt
 spaced_nearer d near (e ∷ es) less spaced = search (rules, arith, all_weaker, spaced_nearer d near es less spaced.1)
+
+-- bins that rise do not fall
+pub spaced-rising : (es : List Entry) → IsRising es → IsSpaced 0 es
+spaced-rising [] rising = tt
+spaced-rising (e ∷ es) rising = search (rules, arith, all_weaker, spaced-rising es rising.1)
 
 -- bins that are apart are not merged
 pub merged-apart : (d : ℕ) (e : Entry) (es : List Entry) → 0 < d → IsSpaced d (e ∷ es) → merged e es ≡ e ∷ es
@@ -36,6 +41,11 @@ pub spaced_take : (d n : ℕ) (es : List Entry) → IsSpaced d es → IsSpaced d
 spaced_take d zero es spaced = tt
 spaced_take d (suc n) [] spaced = tt
 spaced_take d (suc n) (e ∷ es) spaced = (all_take (λ f. e.index + d ≤ f.index) n es spaced.0, spaced_take d n es spaced.1)
+
+pub spaced_drop : (d n : ℕ) (es : List Entry) → IsSpaced d es → IsSpaced d (drop n es)
+spaced_drop d zero es spaced = spaced
+spaced_drop d (suc n) [] spaced = tt
+spaced_drop d (suc n) (e ∷ es) spaced = spaced_drop d n es spaced.1
 
 pub spaced_front : (d : ℕ) (es fs : List Entry) → IsSpaced d (es ++ fs) → IsSpaced d es
 spaced_front d [] fs spaced = tt
@@ -80,11 +90,13 @@ none_before : (lags : ℕ) (es : List Entry) → AllByRecursion (λ e. AllByRecu
 none_before lags [] = tt
 none_before lags (e ∷ es) = (tt, none_before lags es)
 
-pub paired_apart : (lags k start : ℕ) (list : List Entry) → k ≤ lags → IsSpaced (lags + 1) list → paired k (take start list) (drop start list) ≡ 0
+-- what the bins from a place on add to what those before it do
+paired-whole : (k start : ℕ) (es : List Entry) → paired k [] es ≡ paired k [] (take start es) + paired_from start k es
+paired-whole k start es = (rw (take-append-drop start es) at (paired-append k [] (take start es) (drop start es)))
+
+pub paired_apart : (lags k start : ℕ) (list : List Entry) → k ≤ lags → IsSpaced (lags + 1) list → paired_from start k list ≡ 0
 paired_apart lags k start list few spaced =
-    let all : paired k [] (take start list ++ drop start list) ≡ 0 =
-    rw (take-append-drop start list) (paired-far lags k few [] list (none_before lags list) spaced) in
-    omega (arith, all, paired-append k [] (take start list) (drop start list))
+    omega (arith, paired-whole k start list, paired-far lags k few [] list (none_before lags list) spaced)
 
 -- what is out of reach of an index is out of reach of bins that are not before it
 pub all_behind : (lags i : ℕ) (before es : List Entry) → AllByRecursion (λ f. f.index + lags < i) before
@@ -100,7 +112,24 @@ ring_far set level some e (f ∷ fs) r closed xs was follow far spaced =
     rw (follow.2, ← append_assoc closed follow.0 follow.1)
     (ring_far set level some f fs (ring (e ∷ []) r.reach) (closed ++ follow.0) follow.1 one follow.5 (near, tt) spaced.1)
 
--- Runs of bins, one window after the other.
+-- Lists that do not fall, part by part.
+
+-- no bin from a place on is before the one there
+from_place : (es : List Entry) (at' : ℕ) (none : Entry) → at' < length es → IsSpaced 0 es
+    → AllByRecursion (λ e. (get_or es at' none).index ≤ e.index) (drop at' es)
+from_place [] at' none inside sorted = absurd (omega (arith, inside))
+from_place (e ∷ es) zero none inside sorted = search (rules, arith, all_weaker)
+from_place (e ∷ es) (suc i) none inside sorted = from_place es i none (omega (arith, inside)) sorted.1
+
+-- where one is out of reach, so are those before it
+pub far_place : (lags index at' : ℕ) (es : List Entry) (none : Entry) → at' < length es → IsSpaced 0 es
+    → (get_or es at' none).index + lags < index → AllByRecursion (λ e. e.index + lags < index) (take (suc at') es)
+far_place lags index at' [] none inside sorted far = absurd (omega (arith, inside))
+far_place lags index zero (e ∷ es) none inside sorted far = (far, tt)
+far_place lags index (suc i) (e ∷ es) none inside sorted far = (
+  omega (arith, far, each_at (λ f. e.index + 0 ≤ f.index) es i none (omega (arith, inside)) sorted.0),
+  far_place lags index i es none (omega (arith, inside)) sorted.1 far,
+)
 
 -- bins that are out of reach add nothing
 paired_far : (k lags index : ℕ) (far near es : List Entry) → k ≤ lags → AllByRecursion (λ f. f.index + lags < index) far
@@ -112,62 +141,53 @@ paired_far k lags index far near (e ∷ es) few out from =
     let no : weight_before k e.index far ≡ 0 = none_at_lag far lags e.index k further few in
     search (rules, arith, near, sum_by-append, append_assoc, paired_far k lags index far (near ++ e ∷ []) es few out from.1)
 
--- the bins of a list from one place to another, behind those from a place on that are near
-module _ (list : List Entry) (from at' end' lags : ℕ) (none : Entry) (within : from ≤ at')
-    (more : at' < end') (inside : end' ≤ length list) (rising : IsRising list) where
-  abbrev pub run : List Entry
-  run = take (end' - from) (drop from list)
+-- the bins of a list from a place on pair with those before it that are not out of reach
+paired_near : (k lags from at' : ℕ) (es : List Entry) (none : Entry) → k ≤ lags → from ≤ at' → at' < length es → IsSpaced 0 es
+    → AllByRecursion (λ f. f.index + lags < (get_or es at' none).index) (take from es)
+    → paired_from at' k es ≡ paired_from (at' - from) k (drop from es)
+paired_near k lags from at' es none few within inside sorted far =
+    let back : drop at' es ≡ drop (at' - from) (drop from es) = search (rules, arith, drop-drop) in
+    let near : List Entry = take (at' - from) (drop from es) in
+    rw (take_parts es from at' within) (paired_far k lags (get_or es at' none).index (take from es) near (drop at' es) few far
+    (from_place es at' none inside sorted) ∙ ap (paired k near) back)
 
-  abbrev near : List Entry
-  near = take (at' - from) (drop from list)
+-- the bins of a list from one place to another, some levels up, and those before them that are not out of reach
+module _ (levels : ℕ) (list : List Entry) (from at' end' : ℕ) (none : Entry) (within : from ≤ at')
+    (more : at' < end') (inside : end' ≤ length list) where
+  abbrev up : List Entry
+  up = map (raised levels) list
 
-  abbrev here : List Entry
-  here = take (end' - at') (drop at' list)
+  abbrev part : List Entry
+  part = take (end' - from) (drop from list)
 
-  pub run_rising : IsRising run
-  run_rising = rising_front run (drop (end' - from) (drop from list)) (rw (take-append-drop (end' - from) (drop from list)) (rising_drop list from rising))
+  pub part_long : length part ≡ end' - from
+  part_long = length-take-le (end' - from) (drop from list) (omega (arith, length-drop from list))
 
-  pub run_long : length run ≡ end' - from
-  run_long = length-take-le (end' - from) (drop from list) (omega (arith, length-drop from list))
+  is_part : drop from (take end' up) ≡ map (raised levels) part
+  is_part =
+      let cut : drop from (take end' list) ≡ part = subst (λ n. drop from (take n list) ≡ part) (omega arith) (drop-take from (end' - from) list) in
+      rw (take-map (raised levels) end' list, drop-map (raised levels) from (take end' list), cut) refl
 
-  run_front : take (at' - from) run ≡ near
-  run_front = take-take (at' - from) (end' - from) (drop from list) (omega arith)
+  module _ (sorted : IsSpaced 0 up) where
+    pub part_sorted : IsSpaced 0 (map (raised levels) part)
+    part_sorted = rw (← is_part) (spaced_drop 0 from (take end' up) (spaced_take 0 end' up sorted))
 
-  run_back : drop (at' - from) run ≡ here
-  run_back =
-      let parts : (at' - from) + (end' - at') ≡ end' - from = omega arith in
-      search (rules, arith, drop-take, drop-drop)
-
-  from_here : AllByRecursion (λ e. (get_or list at' none).index ≤ e.index) here
-  from_here = all_front (λ e. (get_or list at' none).index ≤ e.index) here (drop (end' - at') (drop at' list))
-      (rw (take-append-drop (end' - at') (drop at' list)) (from_first list at' none (omega arith) rising))
-
-  module _ (start : ℕ) (behind : start ≤ at') where
-    -- what the run adds
-    pub paired_run : AllByRecursion (λ f. f.index + lags < (get_or list at' none).index) (take from list) → (k : ℕ) → k ≤ lags
-        → paired k (take start list) (drop start (take end' list)) ≡ paired k (take start list)
-        (drop start (take at' list)) + paired k (take (at' - from) run) (drop (at' - from) run)
-    paired_run far k few =
-        let long : length (take at' list) ≡ at' = length-take-le at' list (omega arith) in
-        let parted : drop start (take end' list) ≡ drop start (take at' list) ++ here =
-        ap (drop start) (take_parts list at' end' (omega arith)) ∙ drop-append-le start (take at' list) here (omega (arith, long)) in
-        let front : take start (take at' list) ≡ take start list = take-take start at' list behind in
-        let whole : take start list ++ drop start (take at' list) ≡ take at' list = (rw front at (take-append-drop start (take at' list))) in
-        let two = paired-append k (take start list) (drop start (take at' list)) here in
-        let all : paired k (take start list) (drop start (take end' list)) ≡ paired k (take start list)
-        (drop start (take at' list)) + paired k (take at' list) here = ap (paired k (take start list)) parted ∙ (rw whole at two) in
-        let reach : paired k (take at' list) here ≡ paired k near here = ap (λ ys. paired k ys here) (take_parts list from at' within)
-        ∙ paired_far k lags (get_or list at' none).index (take from list) near here few far from_here in
-        rw (run_front, run_back) (omega (arith, all, reach))
-
-    -- and it is among what all add
-    pub paired_upto : (k : ℕ) → paired k (take start list) (drop start (take end' list)) ≤ paired k (take start list) (drop start list)
-    paired_upto k = search (rules, arith, paired_part)
-
--- the additions of a run more
-pub runs_added : (n start at' end' before now few : ℕ) → start ≤ at' → at' ≤ end'
-    → now ≤ before + n * (at' - start) → few ≤ n * (end' - at') → now + few ≤ before + n * (end' - start)
-runs_added n start at' end' before now few behind more so_far some = search (rules, arith)
+    -- what they add
+    pub paired_between : (k lags start : ℕ) → k ≤ lags → start ≤ at'
+        → AllByRecursion (λ f. f.index + lags < (raised levels (get_or list at' none)).index) (take from up)
+        → paired_from start k (take end' up) ≡ paired_from start k (take at' up) + paired_from (at' - from) k (map (raised levels) part)
+    paired_between k lags start few behind far =
+        let cut : List Entry = take end' up in
+        let long : length cut ≡ end' = length-take-le end' up (omega (arith, inside, length-map list (raised levels))) in
+        let read : get_or cut at' none ≡ raised levels (get_or list at' none) =
+        get_or-take end' up at' none more ∙ get_or-map (raised levels) list at' none none (omega arith) in
+        let out : AllByRecursion (λ f. f.index + lags < (get_or cut at' none).index) (take from cut) = rw (take-take from end' up (omega arith), read) far in
+        let near = paired_near k lags from at' cut none few within (omega (arith, long, more)) (spaced_take 0 end' up sorted) out in
+        let first : paired k [] (take start cut) ≡ paired k [] (take start up) = ap (paired k []) (take-take start end' up (omega arith)) in
+        let second : paired k [] (take start (take at' up)) ≡ paired k [] (take start up) = ap (paired k []) (take-take start at' up behind) in
+        let third : paired k [] (take at' cut) ≡ paired k [] (take at' up) = ap (paired k []) (take-take at' end' up (omega arith)) in
+        rw (← is_part)
+        (omega (arith, near, first, second, third, paired-whole k start cut, paired-whole k start (take at' up), paired-whole k at' cut))
 
 -- Bins that pass a level with no pair.
 

@@ -1,9 +1,10 @@
 // What goes from level to level.
 ghost use Rattle.std.specs.Prelude.{◌≡◌, ◌+◌, ◌<◌, ◌≤◌, ◌∷◌, ◌++◌, length, take, drop};
 ghost use Rattle.tally_base.{specs.Settings.correlation_view, specs.Tally.History};
-ghost use Rattle.tau_cascade.{specs.Levels.{CanEnd, Chain, Complete, LevelDone, spent}, specs.Bins.{stretch, CanCome, Carries}, specs.Opens.IsComing};
+ghost use Rattle.tau_cascade.{specs.Levels.{CanEnd, Chain, Complete, LevelDone, spent}, specs.Bins.{stretch, CanCome, Carries}, specs.Dense.IsZero, specs.Opens.IsComing};
 
 use crate::bins::{LEVELS, LIST, RING};
+use crate::laid::PLACES;
 use crate::level::{Closed, Level};
 use lag_ring::Entry;
 use std::sync::ledger::Ledger;
@@ -29,15 +30,17 @@ pub(crate) fn carry_all<L: Ledger>(
     bins: &mut [Entry],
     coming: Coming,
     spare: &mut [Entry],
+    window: &mut [u16; PLACES],
     steps: &mut Steps<L>,
 )
-    requires sized { (length bins.old ≡ LIST) × (length spare.old ≡ LIST) }
+    requires sized { (length bins.old ≡ LIST) × (length spare.old ≡ LIST) × IsZero window.old }
     requires comes { IsComing coming level bins.old }
     requires stands { ∥ ((came : History) × (xs : History) × CanCome (correlation_view set.now) level
         levels.old (stretch coming.closed.from coming.closed.count coming.levels bins.old) came xs) ∥₁ }
     requires depth { level + length levels.old ≤ LEVELS }
     ensures follows { Carries (correlation_view set.now) level levels.old levels.new
         (stretch coming.closed.from coming.closed.count coming.levels bins.old) }
+    ensures zeros { IsZero window.new }
     ensures steps { steps.new + spent levels.old ≡ steps.old + spent levels.new }
 {
     let Closed { from, count } = coming.closed;
@@ -55,7 +58,7 @@ pub(crate) fn carry_all<L: Ledger>(
                         levels: up + 1,
                         apart: alone.apart,
                     };
-                    carry_all(rest, set, level + 1, bins, next, spare, steps);
+                    carry_all(rest, set, level + 1, bins, next, spare, window, steps);
                 }
                 None => {
                     let closed = first.take(
@@ -64,6 +67,7 @@ pub(crate) fn carry_all<L: Ledger>(
                         &bins[from..from + count],
                         up,
                         spare,
+                        window,
                         steps,
                     );
                     let next = Coming {
@@ -71,7 +75,7 @@ pub(crate) fn carry_all<L: Ledger>(
                         levels: 1,
                         apart: 0,
                     };
-                    carry_all(rest, set, level + 1, spare, next, bins, steps);
+                    carry_all(rest, set, level + 1, spare, next, bins, window, steps);
                 }
             }
         }
@@ -107,14 +111,24 @@ fn end_first<L: Ledger>(
         b: 0,
     };
     let mut spare = [none; LIST];
-    if let Some(last) = first.end(set, level, &mut spare, steps) {
+    let mut window = [0; PLACES];
+    if let Some(last) = first.end(set, level, &mut spare, &mut window, steps) {
         let mut bins = [last; LIST];
         let one = Coming {
             closed: Closed { from: 0, count: 1 },
             levels: 1,
             apart: 0,
         };
-        carry_all(rest, set, level + 1, &mut bins, one, &mut spare, steps);
+        carry_all(
+            rest,
+            set,
+            level + 1,
+            &mut bins,
+            one,
+            &mut spare,
+            &mut window,
+            steps,
+        );
     }
 }
 

@@ -5,6 +5,7 @@ ghost use Rattle.tau_cascade.{specs.StandsFor.{StandsFor, HasTaken}, specs.Level
 
 use crate::bins::{LEVELS, LIST, gather, spacing};
 use crate::carry::{Coming, carry_all, end_all};
+use crate::laid::PLACES;
 use crate::level::{Closed, Level, skipped_lags};
 use lag_ring::{Entry, PairCells};
 use std::alloc::{AllocError, Global};
@@ -141,6 +142,7 @@ fn give_block<L: Ledger>(
     };
     let mut bins = [none; LIST];
     let mut spare = [none; LIST];
+    let mut window = [0; PLACES];
     // Each level puts at most one bin before the list.
     let count = gather(set, block, &mut bins, LEVELS);
     let all = Coming {
@@ -151,7 +153,16 @@ fn give_block<L: Ledger>(
         levels: 0,
         apart: spacing(&bins[LEVELS..LEVELS + count]),
     };
-    carry_all(levels, set, 0, &mut bins, all, &mut spare, steps);
+    carry_all(
+        levels,
+        set,
+        0,
+        &mut bins,
+        all,
+        &mut spare,
+        &mut window,
+        steps,
+    );
 }
 
 impl Tally for Cascade {

@@ -1,26 +1,26 @@
 // Pairs of bins that are laid close together: a bin further from the one before it than the lags reach is laid
 // just out of reach, so that all have places in a short window.
-ghost use Rattle.std.specs.Prelude.{◌≡◌, ℕ, ◌+◌, ◌-◌, ◌*◌, ◌%◌, ◌^◌, ◌<◌, ◌≤◌, ◌==◌, true, length, min, slice_index, sum_by, take, drop, if◌then◌else◌};
-ghost use Rattle.lag_ring.{specs.Ring.IsRising, specs.declared.window.Side.TheVariants.Second, specs.Bytes.{product_at, IsLight}};
-ghost use Rattle.tau_cascade.specs.Dense.{placed, IsLaid, IsZero, HavePaired, AreWithin, HaveRoom};
+ghost use Rattle.std.{specs.Prelude.{◌≡◌, ℕ, ◌+◌, ◌-◌, ◌*◌, ◌/◌, ◌%◌, ◌^◌, ◌<◌, ◌≤◌, ◌==◌, true, length, map, min, slice_index, sum_by, take, drop, if◌then◌else◌}, specs.List.AllByRecursion};
+ghost use Rattle.lag_ring.{specs.declared.window.Side.TheVariants.Second, specs.Bytes.{product_at, IsLight}};
+ghost use Rattle.tau_cascade.{specs.Dense.{placed, IsLaid, IsZero, HavePaired, AreWithin, HaveRoom}, specs.Bins.{IsSpaced, raised}};
 
 use lag_ring::Entry;
 use std::simd::Simd;
 
 /// How many lags at most a window serves.
-pub(crate) const CLOSE_LAGS: u32 = 16;
+pub(crate) const CLOSE_LAGS: u32 = 128;
 
 /// How many bins are paired over a window at most.
 pub(crate) const CLOSE_PART: usize = 64;
 
 /// How many bins at most a window serves: those, and before them one for each lag.
-pub(crate) const CLOSE_BINS: usize = 80;
+pub(crate) const CLOSE_BINS: usize = 192;
 
 /// How many places a window has before that of the first bin: no fewer than it has lanes and lags are skipped.
-const TOP: usize = 32;
+const TOP: usize = 192;
 
 /// How many places a window has.
-pub(crate) const PLACES: usize = 1408;
+pub(crate) const PLACES: usize = 8640;
 
 /// How many photons of one group are too many for a bin that is laid.
 const TOO_HEAVY: u64 = 2048;
@@ -46,59 +46,78 @@ pub(crate) struct Laying {
     pub(crate) heaviest: u64,
 }
 
-/// Lays a bin behind another one: as far behind it as it is, and no further than just out of reach.
+/// Lays a bin, so many levels up, behind another one: as far behind it as it is, and no further than just out of reach.
 #[inline(always)]
-fn lay_behind(was: Laid, bin: &Entry, reach: u64) -> Laid
-    requires fits { was.place + reach < 2 ^ 64 }
-    requires after { was.index ≤ bin.now.index }
-    ensures index { result.index ≡ bin.now.index }
-    ensures place { result.place ≡ was.place + min (bin.now.index - was.index) reach }
+fn lay_behind(was: Laid, bin: &Entry, levels: u32, reach: u64) -> Laid
+    requires fits { (was.place + reach < 2 ^ 64) × (levels < 64) }
+    requires after { was.index ≤ bin.now.index / 2 ^ levels }
+    ensures index { result.index ≡ bin.now.index / 2 ^ levels }
+    ensures place { result.place ≡ was.place + min (bin.now.index / 2 ^ levels - was.index) reach }
 {
-    let apart = bin.index - was.index;
+    let index = bin.index >> levels;
+    let apart = index - was.index;
     Laid {
-        index: bin.index,
+        index,
         place: was.place + apart.min(reach),
     }
 }
 
-/// Lays a bin behind another one, and puts the lowest 16 bits of its weight in the first group into the window at its
-/// place.
+/// Lays a bin behind another one, and adds the lowest 16 bits of its weight in the first group to what the window has
+/// at its place.
 #[inline(always)]
-fn lay_one(window: &mut [u16; PLACES], was: Laying, bin: &Entry, reach: u64) -> Laying
-    requires place { (was.last.place + reach + TOP < PLACES) × (was.last.index ≤ bin.now.index) }
-    ensures last { (result.last.index ≡ bin.now.index) × (result.last.place
-        ≡ was.last.place + min (bin.now.index - was.last.index) reach) }
+fn lay_one(window: &mut [u16; PLACES], was: Laying, bin: &Entry, levels: u32, reach: u64) -> Laying
+    requires place { (was.last.place + reach + TOP < PLACES) × (levels < 64)
+        × (was.last.index ≤ bin.now.index / 2 ^ levels) }
+    ensures last { (result.last.index ≡ bin.now.index / 2 ^ levels) × (result.last.place
+        ≡ was.last.place + min (bin.now.index / 2 ^ levels - was.last.index) reach) }
     ensures heaviest { (was.heaviest ≤ result.heaviest) × (bin.now.a ≤ result.heaviest)
         × (bin.now.b ≤ result.heaviest) }
     ensures weights { (p : ℕ) → p < PLACES → slice_index window.new p
-        ≡ (if result.last.place + TOP == p then bin.now.a % 2 ^ 16 else slice_index window.old p) }
+        ≡ (if result.last.place + TOP == p
+        then (slice_index window.old p + bin.now.a % 2 ^ 16) % 2 ^ 16 else slice_index window.old p) }
+    ensures light { slice_index window.old (result.last.place + TOP) + bin.now.a % 2 ^ 16
+        ≤ result.heaviest }
 {
-    let last = lay_behind(was.last, bin, reach);
-    window[last.place as usize + TOP] = (bin.a % (1 << 16)) as u16;
+    let last = lay_behind(was.last, bin, levels, reach);
+    let at = last.place as usize + TOP;
+    let all = u64::from(window[at]) + bin.a % (1 << 16);
+    window[at] = (all % (1 << 16)) as u16;
     Laying {
         last,
-        heaviest: was.heaviest | bin.a | bin.b,
+        heaviest: was.heaviest | all | bin.a | bin.b,
     }
 }
 
-/// Lays bins one behind the other, puts their weights in the first group into the window, and keeps their places.
+/// Lays bins, so many levels up, one behind the other, puts their weights in the first group into the window, and
+/// keeps their places. Those before `start` are no further behind the index `first` than the lags.
 fn lay_all(
     window: &mut [u16; PLACES],
     places: &mut [u16; CLOSE_BINS],
+    first: u64,
     list: &[Entry],
-    reach: u64,
+    start: usize,
+    levels: u32,
+    lags: u32,
 ) -> Laying
-    requires list { (length list.now ≤ CLOSE_BINS) × IsRising list.now }
-    requires reach { (0 < reach) × (reach ≤ CLOSE_LAGS + 1) }
+    requires list { (length list.now ≤ CLOSE_BINS) × (length list.now ≤ start + CLOSE_PART)
+        × IsSpaced 0 (map (raised levels) list.now) }
+    requires near { AllByRecursion (λ e. first ≤ e.index) (map (raised levels) list.now)
+        × AllByRecursion (λ e. e.index ≤ first + lags) (take start (map (raised levels) list.now)) }
+    requires lags { (lags ≤ CLOSE_LAGS) × (levels < 64) }
     requires zeros { IsZero window.old × ((i : ℕ) → slice_index places.old i ≡ 0) }
-    ensures { IsLaid window.new places.new reach result list.now }
+    ensures { IsLaid window.new places.new (lags + 1) first result
+        (map (raised levels) list.now) }
 {
+    let reach = u64::from(lags) + 1;
     let mut laying = Laying {
-        last: Laid { index: 0, place: 0 },
+        last: Laid {
+            index: first,
+            place: 0,
+        },
         heaviest: 0,
     };
     for i in 0..list.len() {
-        laying = lay_one(window, laying, &list[i], reach);
+        laying = lay_one(window, laying, &list[i], levels, reach);
         places[i] = laying.last.place as u16;
     }
     laying
@@ -218,9 +237,9 @@ fn sum_laid<const N: usize>(
     }
 }
 
-/// Adds the pairs of the bins of a list from `start` on with those before them, at the lags above `skipped` and
-/// up to `lags`, to sums, and answers true. The last sum is that of the first lag. Where bins are too heavy,
-/// the answer is false.
+/// Adds the pairs of the bins of a list, so many levels up, from `start` on with those before them, at the lags above
+/// `skipped` and up to `lags`, to sums, and answers true. The last sum is that of the first lag. Where there are too
+/// many bins before those, or bins are too heavy, the answer is false.
 pub(crate) fn sum_part<const N: usize>(
     sums: &mut [u32; N],
     window: &mut [u16; PLACES],
@@ -228,32 +247,37 @@ pub(crate) fn sum_part<const N: usize>(
     lags: u32,
     list: &[Entry],
     start: usize,
+    levels: u32,
 ) -> bool
     requires lags { (skipped ≤ lags) × (lags ≤ CLOSE_LAGS) × (lags - skipped ≤ N)
-        × (N ≤ CLOSE_LAGS) }
-    requires list { (start ≤ length list.now) × (length list.now ≤ CLOSE_BINS)
-        × (length list.now - start ≤ CLOSE_PART) × IsRising list.now }
+        × (N ≤ 64) }
+    requires list { (start < length list.now) × (length list.now - start ≤ CLOSE_PART)
+        × IsSpaced 0 (map (raised levels) list.now) × (levels < 64) }
     requires room { IsZero window.old × HaveRoom N (length list.now - start) sums.old }
     ensures sums { result ≡ true → HavePaired N skipped lags sums.old sums.new
-        (take start list.now) (drop start list.now) }
+        start (map (raised levels) list.now) }
     ensures within { AreWithin N (length list.now - start) sums.old sums.new }
     ensures zeros { IsZero window.new }
 {
-    let mut places = [0; CLOSE_BINS];
-    let laying = lay_all(window, &mut places, list, u64::from(lags) + 1);
-    if laying.heaviest >= TOO_HEAVY {
-        clear(window, laying.last.place);
+    let first = list[0].index >> levels;
+    let span = (list[start].index >> levels) - first;
+    if list.len() > CLOSE_BINS || span > u64::from(lags) {
         return false;
     }
-    let from = TOP - N - skipped as usize;
-    sum_laid(
-        sums,
-        window,
-        &places[start..],
-        &list[start..],
-        from,
-        laying.heaviest,
-    );
+    let mut places = [0; CLOSE_BINS];
+    let laying = lay_all(window, &mut places, first, list, start, levels, lags);
+    let light = laying.heaviest < TOO_HEAVY;
+    if light {
+        let from = TOP - N - skipped as usize;
+        sum_laid(
+            sums,
+            window,
+            &places[start..],
+            &list[start..],
+            from,
+            laying.heaviest,
+        );
+    }
     clear(window, laying.last.place);
-    true
+    light
 }

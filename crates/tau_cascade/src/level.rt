@@ -2,9 +2,10 @@
 ghost use Rattle.std.{specs.Prelude.{◌≡◌, ◌+◌, ◌<◌, ◌≤◌, ◌++◌, filter, length, nat_le, take, drop, ℕ, ◌*◌, ◌/◌, ◌^◌, ◌-◌, ◌∷◌, [], IfOk, IfSome, Some, map, slice_set}, specs.List.AllByRecursion};
 ghost use Rattle.lag_ring.specs.Ring.{IsRising, ring as ring_of};
 ghost use Rattle.tally_base.{specs.Settings.correlation_view, specs.Tally.History};
-ghost use Rattle.tau_cascade.{specs.Correlation.skipped_lags, specs.Levels.{RingIs, CellsAre}};
+ghost use Rattle.tau_cascade.{specs.Correlation.skipped_lags, specs.Dense.IsZero, specs.Levels.{RingIs, CellsAre}};
 
 use crate::bins::{RING, lay_out, merge_onto, raised};
+use crate::laid::PLACES;
 use crate::pairing::pair_all;
 use lag_ring::{Entry, LagRing, PairCells};
 use std::alloc::{AllocError, Global};
@@ -99,9 +100,10 @@ impl Level {
         level: u32,
         list: &[Entry],
         start: usize,
+        window: &mut [u16; PLACES],
         steps: &mut Steps<L>,
     )
-        requires start { start ≤ length list.now }
+        requires start { (start ≤ length list.now) × IsZero window.old }
         requires ring { take start list.now ≡ self.old.ring.entries }
         requires stands { ∥ ((closed : History) × (xs : History) × CanShutAll
             (correlation_view set.now) level self.old.ring self.old.cells (drop start list.now)
@@ -110,13 +112,21 @@ impl Level {
             (drop start list.now) (RingIs (correlation_view set.now) level self.new.ring) }
         ensures cells { HoldsOfAll (correlation_view set.now) level self.old.ring self.old.cells
             (drop start list.now) (CellsAre (correlation_view set.now) level self.new.cells) }
-        ensures open { self.new.open ≡ self.old.open }
+        ensures others { (self.new.open ≡ self.old.open) × IsZero window.new }
         ensures steps { steps.new + self.old.cells.added ≡ steps.old + self.new.cells.added }
     {
         let bins = &list[start..];
         if let Some(last) = bins.last() {
             let skipped = skipped_lags(set, level);
-            pair_all(&mut self.cells, skipped, set.lags, list, start, steps);
+            pair_all(
+                &mut self.cells,
+                window,
+                skipped,
+                set.lags,
+                list,
+                start,
+                steps,
+            );
             let before = last.index.saturating_sub(u64::from(set.lags) - 1);
             keep_all(&mut self.ring, list, before);
         }
@@ -131,23 +141,31 @@ impl Level {
         came: &[Entry],
         levels: u32,
         list: &mut [Entry],
+        window: &mut [u16; PLACES],
         steps: &mut Steps<L>,
     ) -> Closed
-        requires some { 0 < length came.now }
-        requires levels { levels < 64 }
-        requires room { RING + length came.now ≤ length list.old }
+        requires some { (0 < length came.now) × (levels < 64) }
+        requires room { (RING + length came.now ≤ length list.old) × IsZero window.old }
         requires stands { ∥ ((shut : History) × (open' : History) × (xs : History)
             × CanTake (correlation_view set.now) level self.old (map (raised levels) came.now)
             shut open' xs) ∥₁ }
         ensures follows { Takes (correlation_view set.now) level self.old self.new
             (map (raised levels) came.now) (take result.count (drop result.from list.new)) }
         ensures places { (result.from ≤ RING) × (result.count ≤ length came.now) }
+        ensures zeros { IsZero window.new }
         ensures steps { steps.new + self.old.cells.added ≡ steps.old + self.new.cells.added }
     {
         let from = lay_out(&self.ring, list);
         let merged = merge_onto(&self.open, came, levels, list, from);
         self.open = Some(merged.open);
-        self.shut_all(set, level, &list[..from + merged.closed], from, steps);
+        self.shut_all(
+            set,
+            level,
+            &list[..from + merged.closed],
+            from,
+            window,
+            steps,
+        );
         Closed {
             from,
             count: merged.closed,
@@ -236,21 +254,23 @@ impl Level {
         set: &CorrelationSet,
         level: u32,
         list: &mut [Entry],
+        window: &mut [u16; PLACES],
         steps: &mut Steps<L>,
     ) -> Option<Entry>
-        requires room { RING < length list.old }
+        requires room { (RING < length list.old) × IsZero window.old }
         requires stands { ∥ ((closed : History) × (open' : History)
             × CanFinish (correlation_view set.now) level self.old closed open') ∥₁ }
         ensures follows { (closed open' : History)
             → CanFinish (correlation_view set.now) level self.old closed open'
             → Finished (correlation_view set.now) level self.new result closed open' }
+        ensures zeros { IsZero window.new }
         ensures steps { steps.new + self.old.cells.added ≡ steps.old + self.new.cells.added }
     {
         match self.open {
             Some(last) => {
                 let from = lay_out(&self.ring, list);
                 list[from] = last;
-                self.shut_all(set, level, &list[..from + 1], from, steps);
+                self.shut_all(set, level, &list[..from + 1], from, window, steps);
                 self.open = None;
                 Some(last)
             }

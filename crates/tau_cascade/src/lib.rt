@@ -5,7 +5,6 @@
 mod bins;
 mod carry;
 mod cascade;
-mod dense;
 mod laid;
 mod level;
 mod pairing;

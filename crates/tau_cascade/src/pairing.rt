@@ -1,22 +1,15 @@
 // Pairs of bins with those before them.
-ghost use Rattle.std.{specs.Prelude.{◌≡◌, true, false, ℕ, ◌+◌, ◌-◌, ◌*◌, ◌^◌, ◌<◌, ◌≤◌, length, take, drop, slice_index, if◌then◌else◌, ◌==◌, ◌&&◌, nat_lt, nat_le}, specs.List.{AllByRecursion}};
+ghost use Rattle.std.{specs.Prelude.{◌≡◌, ◌≢◌, true, false, ℕ, ◌+◌, ◌-◌, ◌*◌, ◌/◌, ◌^◌, ◌<◌, ◌≤◌, length, map, take, drop, slice_index, if◌then◌else◌, ◌==◌, ◌&&◌, nat_lt, nat_le}, specs.List.{AllByRecursion}};
 ghost use Rattle.lag_ring.{specs.Ring.IsRising, specs.Cells.{Spends, added_at}};
-ghost use Rattle.tau_cascade.{specs.Levels.{weight_before, entries_at_lags}, specs.Dense.{paired, EndsFrom, AddsAtMost, IsZero, HavePaired, AreWithin, HaveRoom}, specs.Bins.IsSpaced};
+ghost use Rattle.tau_cascade.{specs.Levels.{weight_before, entries_at_lags}, specs.Dense.{paired, paired_from, ArePaired, AddsAtMost, AddsOnce, SameOutside, IsZero, HavePaired, AreWithin, HaveRoom}, specs.Bins.{IsSpaced, raised}};
 
-use crate::dense::{ROOM, add_sums, is_dense, pair_together, window_from};
-use crate::laid::{CLOSE_BINS, CLOSE_LAGS, CLOSE_PART, PLACES, sum_part};
+use crate::laid::{CLOSE_LAGS, CLOSE_PART, PLACES, sum_part};
 use lag_ring::{Entry, PairCells};
 use std::sync::ledger::Ledger;
 use tally_base::Steps;
 
 /// How many bins at most have sums that fit.
 const CLOSE_LIST: usize = 1024;
-
-/// In how many lanes many lags are summed.
-const LANES: usize = 16;
-
-/// In how many lanes few lags are summed.
-const FEW_LANES: usize = 8;
 
 /// Adds the pairs of so many photons of an earlier bin and so many of a later one to the cell of their lag,
 /// where the level has that lag.
@@ -110,25 +103,6 @@ fn pair_some<L: Ledger>(
     }
 }
 
-/// The place, at most `at`, of the first bin that is no more than `lags` before the index. Mostly that is
-/// `at` itself.
-#[inline(always)]
-fn first_in_reach(bins: &[Entry], at: usize, index: u64, lags: u32) -> usize
-    requires place { at ≤ length bins.now }
-    requires rising { IsRising bins.now }
-    ensures place { result ≤ at }
-    ensures far { AllByRecursion (λ e. e.index + lags < index) (take result bins.now) }
-{
-    let mut place = at;
-    'back: while place > 0 {
-        if index.saturating_sub(bins[place - 1].index) > u64::from(lags) {
-            return place;
-        }
-        place -= 1;
-    }
-    place
-}
-
 /// The place, from `from` on and at most `at`, of the first bin that is no more than `lags` before the
 /// index.
 #[inline(always)]
@@ -147,24 +121,6 @@ fn next_in_reach(bins: &[Entry], from: usize, at: usize, index: u64, lags: u32) 
     at
 }
 
-/// The same. Where there are few lags, hardly a bin is in reach. Else there are many, and a search that
-/// goes on from the last place passes each bin but once.
-#[inline(always)]
-fn search_reach(bins: &[Entry], from: usize, at: usize, index: u64, lags: u32) -> usize
-    requires places { (from ≤ at) × (at ≤ length bins.now) }
-    requires rising { IsRising bins.now }
-    requires after { AllByRecursion (λ e. e.index < index) (take at bins.now) }
-    requires far { AllByRecursion (λ e. e.index + lags < index) (take from bins.now) }
-    ensures place { result ≤ at }
-    ensures far { AllByRecursion (λ e. e.index + lags < index) (take result bins.now) }
-{
-    if lags <= CLOSE_LAGS {
-        first_in_reach(bins, at, index, lags)
-    } else {
-        next_in_reach(bins, from, at, index, lags)
-    }
-}
-
 /// Pairs the bins of a list from `start` on with those before them, at the lags above `skipped` and up
 /// to `lags`: bin by bin.
 fn pair_each<L: Ledger>(
@@ -180,9 +136,7 @@ fn pair_each<L: Ledger>(
     requires rising { IsRising list.now }
     requires fits { (p : ℕ) → p < lags - skipped → slice_index cells.old.cells p
         + paired (p + skipped + 1) (take start list.now) (drop start list.now) ≤ 2 ^ 80 }
-    ensures cells { (p : ℕ) → p < lags - skipped → slice_index cells.new.cells p
-        ≡ slice_index cells.old.cells p
-        + paired (p + skipped + 1) (take start list.now) (drop start list.now) }
+    ensures cells { ArePaired skipped lags start cells.old.cells cells.new.cells list.now }
     ensures spends { Spends cells.old cells.new steps.old steps.new
         ((lags - skipped) * (length list.now - start)) }
     ensures each { AddsAtMost (length list.now - start) cells.old cells.new }
@@ -190,7 +144,7 @@ fn pair_each<L: Ledger>(
     let mut from = 0;
     for at in start..list.len() {
         let bin = list[at];
-        from = search_reach(list, from, at, bin.index, lags);
+        from = next_in_reach(list, from, at, bin.index, lags);
         pair_some(
             cells,
             skipped,
@@ -203,146 +157,77 @@ fn pair_each<L: Ledger>(
     }
 }
 
-/// The same: lag by lag over a window, where the bins are dense and have places in one.
-fn pair_dense<L: Ledger>(
+/// Adds pairs to a cell, also where there are none: a branch on that would cost more.
+#[inline(always)]
+fn add_some<L: Ledger>(cells: &mut PairCells, at: u32, pairs: u32, steps: &mut Steps<L>)
+    requires inside { at < length cells.old.cells }
+    requires sum { slice_index cells.old.cells at + pairs ≤ 2 ^ 80 }
+    ensures cell { slice_index cells.new.cells at ≡ slice_index cells.old.cells at + pairs }
+    ensures others { (p : ℕ) → p ≢ at
+        → slice_index cells.new.cells p ≡ slice_index cells.old.cells p }
+    ensures spends { Spends cells.old cells.new steps.old steps.new 1 }
+    ensures once { AddsOnce at 1 cells.old cells.new }
+{
+    cells.add(at, u128::from(pairs), steps);
+}
+
+/// Adds sums to so many cells from one on. They stand in the other order: the first cell has the last
+/// sum.
+#[inline(always)]
+fn add_sums<L: Ledger>(
     cells: &mut PairCells,
-    skipped: u32,
-    lags: u32,
-    list: &[Entry],
-    start: usize,
+    at: u32,
+    count: u32,
+    sums: &[u32],
     steps: &mut Steps<L>,
 )
-    requires lags { (skipped ≤ lags) × (length cells.old.cells ≡ lags - skipped) }
-    requires start { start ≤ length list.now }
-    requires rising { IsRising list.now }
-    requires fits { (p : ℕ) → p < lags - skipped → slice_index cells.old.cells p
-        + paired (p + skipped + 1) (take start list.now) (drop start list.now) ≤ 2 ^ 80 }
-    ensures cells { (p : ℕ) → p < lags - skipped → slice_index cells.new.cells p
-        ≡ slice_index cells.old.cells p
-        + paired (p + skipped + 1) (take start list.now) (drop start list.now) }
-    ensures spends { Spends cells.old cells.new steps.old steps.new
-        ((lags - skipped) * (length list.now - start)) }
-    ensures each { AddsAtMost (length list.now - start) cells.old cells.new }
+    requires inside { (count ≤ length sums.now) × (at + count ≤ length cells.old.cells) }
+    requires places { at + count < 2 ^ 32 }
+    requires fits { (i : ℕ) → i < count → slice_index cells.old.cells (at + i)
+        + slice_index sums.now (length sums.now - 1 - i) ≤ 2 ^ 80 }
+    ensures cells { (i : ℕ) → i < count → slice_index cells.new.cells (at + i)
+        ≡ slice_index cells.old.cells (at + i) + slice_index sums.now (length sums.now - 1 - i) }
+    ensures others { SameOutside at count cells.old.cells cells.new.cells }
+    ensures spends { Spends cells.old cells.new steps.old steps.new count }
+    ensures once { AddsOnce at count cells.old cells.new }
 {
-    match window_from(lags, list, start) {
-        Some(places) => pair_together(cells, skipped, lags, list, start, places, steps),
-        None => pair_each(cells, skipped, lags, list, start, steps),
+    for i in 0..count {
+        add_some(cells, at + i, sums[sums.len() - 1 - i as usize], steps);
     }
 }
 
-/// Whether no two bins are in reach of one another.
+/// The place, at most `at`, of the first of the bins, so many levels up, that is no more than `lags` before the index.
+/// Mostly that is `at` itself.
 #[inline(always)]
-fn is_apart(list: &[Entry], lags: u32) -> bool
-    ensures { result ≡ true → IsSpaced (lags + 1) list.now }
+fn first_in_reach(bins: &[Entry], at: usize, index: u64, levels: u32, lags: u32) -> usize
+    requires place { (at ≤ length bins.now) × (levels < 64) }
+    requires sorted { IsSpaced 0 (map (raised levels) bins.now) }
+    ensures place { result ≤ at }
+    ensures far { AllByRecursion (λ e. e.index + lags < index) (take result (map (raised levels) bins.now)) }
+{
+    let mut place = at;
+    'back: while place > 0 {
+        if index.saturating_sub(bins[place - 1].index >> levels) > u64::from(lags) {
+            return place;
+        }
+        place -= 1;
+    }
+    place
+}
+
+/// Whether no two bins, so many levels up, are in reach of one another.
+#[inline(always)]
+fn is_apart(list: &[Entry], levels: u32, lags: u32) -> bool
+    requires { levels < 64 }
+    ensures { result ≡ true → IsSpaced (lags + 1) (map (raised levels) list.now) }
 {
     for at in 1..list.len() {
-        if list[at].index.saturating_sub(list[at - 1].index) <= u64::from(lags) {
+        let apart = (list[at].index >> levels).saturating_sub(list[at - 1].index >> levels);
+        if apart <= u64::from(lags) {
             return false;
         }
     }
     true
-}
-
-/// The same, by how they are to be paired.
-#[inline(always)]
-fn pair_part<L: Ledger>(
-    cells: &mut PairCells,
-    skipped: u32,
-    lags: u32,
-    list: &[Entry],
-    start: usize,
-    dense: bool,
-    steps: &mut Steps<L>,
-)
-    requires lags { (skipped ≤ lags) × (length cells.old.cells ≡ lags - skipped) }
-    requires start { start ≤ length list.now }
-    requires rising { IsRising list.now }
-    requires fits { (p : ℕ) → p < lags - skipped → slice_index cells.old.cells p
-        + paired (p + skipped + 1) (take start list.now) (drop start list.now) ≤ 2 ^ 80 }
-    ensures cells { (p : ℕ) → p < lags - skipped → slice_index cells.new.cells p
-        ≡ slice_index cells.old.cells p
-        + paired (p + skipped + 1) (take start list.now) (drop start list.now) }
-    ensures spends { Spends cells.old cells.new steps.old steps.new
-        ((lags - skipped) * (length list.now - start)) }
-    ensures each { AddsAtMost (length list.now - start) cells.old cells.new }
-{
-    if is_apart(list, lags) {
-        return;
-    }
-    if dense {
-        pair_dense(cells, skipped, lags, list, start, steps);
-    } else {
-        pair_each(cells, skipped, lags, list, start, steps);
-    }
-}
-
-/// The place behind the bins from `at` on that have places in one window of dense bins.
-#[inline(always)]
-fn run_end(list: &[Entry], at: usize) -> usize
-    requires inside { at < length list.now }
-    ensures more { at < result }
-    ensures within { result ≤ length list.now }
-{
-    let low = list[at].index;
-    if list[list.len() - 1].index.saturating_sub(low) <= ROOM {
-        return list.len();
-    }
-    for end in at + 1..list.len() {
-        if list[end].index.saturating_sub(low) > ROOM {
-            return end;
-        }
-    }
-    list.len()
-}
-
-/// The place behind the bins from `at` on that are paired together.
-#[inline(always)]
-fn part_end(list: &[Entry], at: usize, dense: bool) -> usize
-    requires inside { at < length list.now }
-    ensures more { at < result }
-    ensures within { result ≤ length list.now }
-{
-    if dense { run_end(list, at) } else { list.len() }
-}
-
-/// Pairs the bins of a list from `start` on with those before them without laying them close together: where there
-/// are many lags, and the bins are dense, over windows that have a place for each index, else bin by bin.
-fn pair_runs<L: Ledger>(
-    cells: &mut PairCells,
-    skipped: u32,
-    lags: u32,
-    list: &[Entry],
-    start: usize,
-    steps: &mut Steps<L>,
-)
-    requires lags { (skipped ≤ lags) × (length cells.old.cells ≡ lags - skipped) }
-    requires start { start ≤ length list.now }
-    requires rising { IsRising list.now }
-    requires fits { (p : ℕ) → p < lags - skipped → slice_index cells.old.cells p
-        + paired (p + skipped + 1) (take start list.now) (drop start list.now) ≤ 2 ^ 80 }
-    ensures cells { (p : ℕ) → p < lags - skipped → slice_index cells.new.cells p
-        ≡ slice_index cells.old.cells p
-        + paired (p + skipped + 1) (take start list.now) (drop start list.now) }
-    ensures spends { Spends cells.old cells.new steps.old steps.new
-        ((lags - skipped) * (length list.now - start)) }
-    ensures each { AddsAtMost (length list.now - start) cells.old cells.new }
-{
-    let dense = lags > CLOSE_LAGS && is_dense(skipped, lags, list, start);
-    let mut at = start;
-    'parts: while at < list.len() {
-        let end = part_end(list, at, dense);
-        let from = first_in_reach(list, at, list[at].index, lags);
-        pair_part(
-            cells,
-            skipped,
-            lags,
-            &list[from..end],
-            at - from,
-            dense,
-            steps,
-        );
-        at = end;
-    }
 }
 
 /// Adds the pairs of a part of a list to sums, as `sum_part` does, where some are in reach.
@@ -354,49 +239,46 @@ fn sum_near<const N: usize>(
     lags: u32,
     list: &[Entry],
     start: usize,
+    levels: u32,
 ) -> bool
     requires lags { (skipped ≤ lags) × (lags ≤ CLOSE_LAGS) × (lags - skipped ≤ N)
-        × (N ≤ CLOSE_LAGS) }
-    requires list { (start ≤ length list.now) × (length list.now - start ≤ CLOSE_PART)
-        × IsRising list.now }
+        × (N ≤ 64) }
+    requires list { (start < length list.now) × (length list.now - start ≤ CLOSE_PART)
+        × IsSpaced 0 (map (raised levels) list.now) × (levels < 64) }
     requires room { IsZero window.old × HaveRoom N (length list.now - start) sums.old }
     ensures sums { result ≡ true → HavePaired N skipped lags sums.old sums.new
-        (take start list.now) (drop start list.now) }
+        start (map (raised levels) list.now) }
     ensures within { AreWithin N (length list.now - start) sums.old sums.new }
     ensures zeros { IsZero window.new }
 {
-    if is_apart(list, lags) {
-        return true;
-    }
-    if list.len() > CLOSE_BINS {
-        return false;
-    }
-    sum_part(sums, window, skipped, lags, list, start)
+    is_apart(list, levels, lags) || sum_part(sums, window, skipped, lags, list, start, levels)
 }
 
-/// The same for a whole list, part by part over one window.
+/// The same for a whole list, part by part.
 fn sum_parts<const N: usize>(
     sums: &mut [u32; N],
+    window: &mut [u16; PLACES],
     skipped: u32,
     lags: u32,
     list: &[Entry],
     start: usize,
+    levels: u32,
 ) -> bool
     requires lags { (skipped ≤ lags) × (lags ≤ CLOSE_LAGS) × (lags - skipped ≤ N)
-        × (N ≤ CLOSE_LAGS) }
+        × (N ≤ 64) }
     requires list { (start ≤ length list.now) × (length list.now - start ≤ CLOSE_LIST)
-        × IsRising list.now }
-    requires zeros { (q : ℕ) → q < N → slice_index sums.old q ≡ 0 }
-    ensures { result ≡ true → HavePaired N skipped lags sums.old sums.new
-        (take start list.now) (drop start list.now) }
+        × IsSpaced 0 (map (raised levels) list.now) × (levels < 64) }
+    requires zeros { IsZero window.old × ((q : ℕ) → q < N → slice_index sums.old q ≡ 0) }
+    ensures sums { result ≡ true → HavePaired N skipped lags sums.old sums.new
+        start (map (raised levels) list.now) }
+    ensures zeros { IsZero window.new }
 {
-    let mut window = [0; PLACES];
     let mut at = start;
     'parts: while at < list.len() {
         let end = list.len().min(at + CLOSE_PART);
-        let near = first_in_reach(list, at, list[at].index, lags);
+        let near = first_in_reach(list, at, list[at].index >> levels, levels, lags);
         let part = &list[near..end];
-        if !sum_near(sums, &mut window, skipped, lags, part, at - near) {
+        if !sum_near(sums, window, skipped, lags, part, at - near, levels) {
             return false;
         }
         at = end;
@@ -404,51 +286,90 @@ fn sum_parts<const N: usize>(
     true
 }
 
-/// Pairs the bins of a list from `start` on with those before them over a window in which they are laid close
-/// together, and answers true. Where there are many lags or bins, or they are too heavy for it, nothing is
-/// paired, and the answer is false.
+/// Pairs the bins of a list, so many levels up, from `start` on with those before them, over a window in which they are
+/// laid close together, and answers true. Where there are too many lags or bins, or they are too heavy for it, nothing
+/// is paired, and the answer is false. The lags are summed `N` at once, in two parts where there are more.
 fn pair_close<L: Ledger, const N: usize>(
     cells: &mut PairCells,
+    window: &mut [u16; PLACES],
     skipped: u32,
     lags: u32,
     list: &[Entry],
     start: usize,
+    levels: u32,
     steps: &mut Steps<L>,
 ) -> bool
-    requires lags { (skipped ≤ lags) × (length cells.old.cells ≡ lags - skipped)
-        × (N ≤ CLOSE_LAGS) }
-    requires list { EndsFrom start list.now }
+    requires lags { (skipped ≤ lags) × (length cells.old.cells ≡ lags - skipped) × (N ≤ 64) }
+    requires list { (start ≤ length list.now) × IsSpaced 0 (map (raised levels) list.now)
+        × (levels < 64) × IsZero window.old }
     requires fits { (p : ℕ) → p < lags - skipped → slice_index cells.old.cells p
-        + paired (p + skipped + 1) (take start list.now) (drop start list.now) ≤ 2 ^ 80 }
-    ensures cells { result ≡ true → (p : ℕ) → p < lags - skipped → slice_index cells.new.cells p
-        ≡ slice_index cells.old.cells p
-        + paired (p + skipped + 1) (take start list.now) (drop start list.now) }
+        + paired_from start (p + skipped + 1) (map (raised levels) list.now) ≤ 2 ^ 80 }
+    ensures cells { result ≡ true → (start < length list.now) × ArePaired skipped lags start
+        cells.old.cells cells.new.cells (map (raised levels) list.now) }
     ensures none { result ≡ false → (cells.new ≡ cells.old) × (steps.new ≡ steps.old) }
-    ensures spends { Spends cells.old cells.new steps.old steps.new
-        ((lags - skipped) * (length list.now - start)) }
-    ensures each { AddsAtMost (length list.now - start) cells.old cells.new }
+    ensures spends { Spends cells.old cells.new steps.old steps.new (lags - skipped)
+        × AddsAtMost 1 cells.old cells.new }
+    ensures zeros { IsZero window.new }
 {
-    let all = lags - skipped;
-    if lags > CLOSE_LAGS || all as usize > N {
+    if lags > CLOSE_LAGS || start >= list.len() || list.len() - start > CLOSE_LIST {
         return false;
     }
-    if start >= list.len() || list.len() - start > CLOSE_LIST {
+    let middle = lags.min(skipped + N as u32);
+    if lags - middle > N as u32 {
         return false;
     }
-    let mut sums = [0; N];
-    let summed = sum_parts(&mut sums, skipped, lags, list, start);
-    if summed {
-        add_sums(cells, 0, all, &sums, steps);
+    let mut near = [0; N];
+    if !sum_parts(&mut near, window, skipped, middle, list, start, levels) {
+        return false;
     }
-    summed
+    if middle == lags {
+        add_sums(cells, 0, lags - skipped, &near, steps);
+        return true;
+    }
+    let mut far = [0; N];
+    if !sum_parts(&mut far, window, middle, lags, list, start, levels) {
+        return false;
+    }
+    add_sums(cells, 0, middle - skipped, &near, steps);
+    add_sums(cells, middle - skipped, lags - middle, &far, steps);
+    true
 }
 
-/// Pairs the bins of a list from `start` on with those before them, at the lags above `skipped` and up
-/// to `lags`. Where there are few lags, and bins are near one another, part by part over a window in which they
-/// are laid close together; where there are many, and the bins are dense, over windows that have a place for
-/// each index.
+/// The same, by the number of lags.
+pub(crate) fn pair_lanes<L: Ledger>(
+    cells: &mut PairCells,
+    window: &mut [u16; PLACES],
+    skipped: u32,
+    lags: u32,
+    list: &[Entry],
+    start: usize,
+    levels: u32,
+    steps: &mut Steps<L>,
+) -> bool
+    requires lags { (skipped ≤ lags) × (length cells.old.cells ≡ lags - skipped) }
+    requires list { (start ≤ length list.now) × IsSpaced 0 (map (raised levels) list.now)
+        × (levels < 64) × IsZero window.old }
+    requires fits { (p : ℕ) → p < lags - skipped → slice_index cells.old.cells p
+        + paired_from start (p + skipped + 1) (map (raised levels) list.now) ≤ 2 ^ 80 }
+    ensures cells { result ≡ true → (start < length list.now) × ArePaired skipped lags start
+        cells.old.cells cells.new.cells (map (raised levels) list.now) }
+    ensures none { result ≡ false → (cells.new ≡ cells.old) × (steps.new ≡ steps.old) }
+    ensures spends { Spends cells.old cells.new steps.old steps.new (lags - skipped)
+        × AddsAtMost 1 cells.old cells.new }
+    ensures zeros { IsZero window.new }
+{
+    match lags - skipped {
+        0..=8 => pair_close::<L, 8>(cells, window, skipped, lags, list, start, levels, steps),
+        9..=16 => pair_close::<L, 16>(cells, window, skipped, lags, list, start, levels, steps),
+        _ => pair_close::<L, 64>(cells, window, skipped, lags, list, start, levels, steps),
+    }
+}
+
+/// Pairs the bins of a list from `start` on with those before them, at the lags above `skipped` and up to `lags`: over
+/// a window in which they are laid close together, or else bin by bin.
 pub(crate) fn pair_all<L: Ledger>(
     cells: &mut PairCells,
+    window: &mut [u16; PLACES],
     skipped: u32,
     lags: u32,
     list: &[Entry],
@@ -456,23 +377,16 @@ pub(crate) fn pair_all<L: Ledger>(
     steps: &mut Steps<L>,
 )
     requires lags { (skipped ≤ lags) × (length cells.old.cells ≡ lags - skipped) }
-    requires start { start ≤ length list.now }
-    requires rising { IsRising list.now }
+    requires list { (start ≤ length list.now) × IsRising list.now × IsZero window.old }
     requires fits { (p : ℕ) → p < lags - skipped → slice_index cells.old.cells p
         + paired (p + skipped + 1) (take start list.now) (drop start list.now) ≤ 2 ^ 80 }
-    ensures cells { (p : ℕ) → p < lags - skipped → slice_index cells.new.cells p
-        ≡ slice_index cells.old.cells p
-        + paired (p + skipped + 1) (take start list.now) (drop start list.now) }
+    ensures cells { ArePaired skipped lags start cells.old.cells cells.new.cells list.now }
     ensures spends { Spends cells.old cells.new steps.old steps.new
         ((lags - skipped) * (length list.now - start)) }
     ensures each { AddsAtMost (length list.now - start) cells.old cells.new }
+    ensures zeros { IsZero window.new }
 {
-    let close = if lags - skipped <= FEW_LANES as u32 {
-        pair_close::<L, FEW_LANES>(cells, skipped, lags, list, start, steps)
-    } else {
-        pair_close::<L, LANES>(cells, skipped, lags, list, start, steps)
-    };
-    if !close {
-        pair_runs(cells, skipped, lags, list, start, steps);
+    if !pair_lanes(cells, window, skipped, lags, list, start, 0, steps) {
+        pair_each(cells, skipped, lags, list, start, steps);
     }
 }

@@ -1,4 +1,4 @@
-use Rattle.std.{proofs.Common.{◌≡◌, ◌∙◌, ◌+◌, ◌^◌, ◌*◌, cond, get_or, ap, arith}, proofs.lemmas.Grind.pow_more}
+use Rattle.std.{proofs.Common.{rules}, proofs.Common.{◌≡◌, ◌∙◌, ◌+◌, ◌^◌, ◌*◌, cond, get_or, ap, arith}, proofs.lemmas.Grind.pow_more}
 use Rattle.tally_base.specs.Events.{is_in}
 use Rattle.fold_count.proofs.Numbers.{number_more, bit_few}
 use Rattle.fold_count.proofs.groups.set_in.Goals as goal
@@ -12,8 +12,4 @@ loop-group-preserved c =
     let is : c.bit_of-set.result ≡ cond (is_in c.args.groups (get_or own k 0)) (2 ^ k) 0 =
     c.bit_of-set.ensures ∙ ap (λ bit. cond (is_in c.args.groups (get_or own k 0)) bit 0) inv.bit in
     let twice : 2 ^ (k + 1) ≡ 2 ^ k * 2 = pow_more 2 k in
-    record {
-      set = omega (arith, inv.set, one, is);
-      bit = omega (arith, inv.bit, twice);
-      few = rw c.bit_of-set.ensures (bit_few (is_in c.args.groups (get_or own k 0)) c.loop-group.set c.loop-group.bit k inv.bit inv.few);
-    }
+    search (rules, arith, bit_few)

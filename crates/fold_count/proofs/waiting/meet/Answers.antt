@@ -1,5 +1,4 @@
-use Rattle.std.proofs.Common.{◌∙◌, ◌-◌, ◌<◌, List, ap, rules, arith, slice_set}
-use Rattle.lag_ring.{specs.declared.ring.Entry.Entry, specs.Ring.Ring}
+use Rattle.std.proofs.Common.{◌<◌, rules, arith}
 use Rattle.fold_count.{proofs.Nested.{join, partly_none, partly_next, partly_stop, length-partly, ring_is}}
 use Rattle.fold_count.proofs.waiting.meet.Goals as goal
 
@@ -23,9 +22,4 @@ back-preserved c =
     let some : 0 < c.back.at = search (rules, arith) in
     let at = rw c.back.invariant.entries at c.visit-bin.ensures.entry in
     let put = c.set_b.ensures.set e c.visit-bin.ensures.entry in
-    record {
-      few = omega (arith, c.back.invariant.few);
-      entries = ap (λ (r : Ring). r.entries) put ∙ ap (λ (es : List Entry). slice_set es (c.back.at - 1) (join groups e)) c.back.invariant.entries
-          ∙ partly_next c.back.at groups bins e some at;
-      reach = ap (λ (r : Ring). r.reach) put ∙ c.back.invariant.reach;
-    }
+    search (rules, arith, join, partly_next)

@@ -1,12 +1,10 @@
-use Rattle.std.{proofs.Common.{◌<◌, [], ◌∷◌, filter, length, ap, arith, length-append, nat_lt, nat_le, rules}, proofs.lemmas.List.{length-map}}
+use Rattle.std.{proofs.Common.{[], ◌∷◌, filter, ap, arith, length-append, nat_lt, nat_le, rules}, proofs.lemmas.List.{length-map}, proofs.lemmas.Grind.common_steps}
 use Rattle.lag_ring.{specs.Ring.ring as ring_of, proofs.Lists.all_front}
 use Rattle.fold_count.{specs.Folded.joined, proofs.Bins.{of_push, of_late, where_at_most, photons_push, photons_kept, kept_short, kept_long, below_kept, few_after, room_left}, proofs.Nested.{join, below_joined, photons_joined, last_of}}
 use Rattle.fold_count.proofs.waiting.settle.Goals as goal
 
 pub count_closed-requires-clause-inside : goal.count_closed-requires-clause-inside
-count_closed-requires-clause-inside c =
-    let bin = c.args.bin.now in
-    rw c.meet.ensures.met (all_front (λ e. e.b < length c.args.cells.now) (joined bin.b c.args.ring.now.entries) (bin ∷ []) c.requires.held.inside)
+count_closed-requires-clause-inside c = grind (arith, common_steps, all_front)
 
 pub count_closed-requires-clause-room : goal.count_closed-requires-clause-room
 count_closed-requires-clause-room c = search (rules, arith, photons_joined, photons_push)

@@ -1,10 +1,6 @@
 use Rattle.std.{proofs.Common.{◌≡◌, ◌/◌, ◌^◌, drop, get_or, rules, arith, refl}, proofs.lemmas.List.{take-set-le}}
-use Rattle.lag_ring.specs.declared.ring.Entry.{Entry}
-use Rattle.tau_cascade.proofs.Follows.{fits_first, fits_second, merge_more, byte_small}
+use Rattle.tau_cascade.{proofs.Follows.{fits_first, fits_second, merge_more, byte_small}, proofs.Closes.none}
 use Rattle.tau_cascade.proofs.bins.merge.Goals as goal
-
-abbrev none : Entry
-none = record { index = 0; a = 0; b = 0 }
 
 pub joined-a-requires : goal.joined-a-requires
 joined-a-requires c = λ one.

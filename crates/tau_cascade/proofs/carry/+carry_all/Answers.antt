@@ -1,11 +1,7 @@
 use Rattle.std.{proofs.Common.{◌≡◌, ℕ, suc, ◌+◌, ◌-◌, ◌≤◌, take, drop, rules, arith}, proofs.Math.Logic.∥∥₁_map, proofs.lemmas.List.length-take}
 use Rattle.tally_base.specs.Settings.{correlation_view}
-use Rattle.lag_ring.specs.declared.ring.Entry.{Entry}
-use Rattle.tau_cascade.{specs.Bins.{stretch, IsSpaced}, proofs.Follows.{can_take, come_on, chain_took}, proofs.Passes.{here_spaced, next_spaced, raised-again, some_apart}}
+use Rattle.tau_cascade.{specs.Bins.{stretch, IsSpaced}, proofs.Follows.{can_take, come_on, chain_took}, proofs.Passes.{here_spaced, next_spaced, raised-again, some_apart}, proofs.Closes.none}
 use Rattle.tau_cascade.proofs.carry.+carry_all.Goals as goal
-
-abbrev none : Entry
-none = record { index = 0; a = 0; b = 0 }
 
 one_more : (n : ℕ) → n + 1 ≡ suc n
 one_more n = omega arith
@@ -39,7 +35,7 @@ carry_all-requires g t c κs within =
       (
         within,
         (
-          (search rules, c.requires.sized.1),
+          (search rules, c.requires.sized.1, search rules),
           (
             record {
               places = (omega (arith, c.requires.comes.places), c.requires.comes.places.1);
@@ -91,7 +87,7 @@ carry_all-requires-in-None g t c κs within =
       (
         within,
         (
-          (search rules, c.requires.sized.0),
+          (search rules, c.requires.sized.0, c.take-closed.ensures.zeros),
           (
             record { places = (c.take-closed.ensures.places.0, few); up = omega arith; spaced = λ apart. absurd (omega arith) },
             (

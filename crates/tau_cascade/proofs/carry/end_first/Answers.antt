@@ -1,7 +1,7 @@
-use Rattle.std.{proofs.Common.{add-one, ℕ, suc, ◌+◌, ◌<◌, ◌≤◌, List, [], ◌∷◌, length, map, refl, sym, ap, append-nil, arith, length-append}, proofs.Math.Logic.∥∥₁_map, specs.List.AllByRecursion}
+use Rattle.std.{proofs.Common.{add-one, ℕ, suc, ◌+◌, ◌<◌, ◌≤◌, List, [], ◌∷◌, length, map, refl, sym, ap, append-nil, arith, rules, length-append}, proofs.Math.Logic.∥∥₁_map, specs.List.AllByRecursion}
 use Rattle.tally_base.{specs.Settings.{correlation_view, CorrelationView}, specs.Tally.History, specs.Limits.record_limit}
 use Rattle.lag_ring.specs.declared.ring.Entry.{Entry}
-use Rattle.tau_cascade.{specs.declared.level.Level.Level, specs.Correlation.bin, specs.Levels.{IsBin, CanEnd, CanFinish, Chain}, specs.Bins.{raised, CanCome}, proofs.Follows.goes_up}
+use Rattle.tau_cascade.{specs.declared.level.Level.Level, specs.Correlation.bin, specs.Levels.{IsBin, CanEnd, CanFinish, Chain}, specs.Bins.{raised, CanCome}, proofs.{Follows.goes_up, Close.zeros_at}}
 use Rattle.tau_cascade.proofs.carry.end_first.Goals as goal
 
 -- the open bins in the end, from level to level
@@ -17,6 +17,9 @@ next_come set level ls e closed open' few chain weighs after = record {
 can_finish : (set : CorrelationView) (level : ℕ) (l : Level) (ls : List Level) (came : History)
     → (can : CanEnd set level (l ∷ ls) came) → CanFinish set level l can.chain.0 can.chain.1
 can_finish set level l ls came can = record { few = omega (arith, can.few, length-append can.chain.0 can.chain.1, ap length can.chain.2); was = can.chain.3 }
+
+pub end-requires-clause-room : goal.end-requires-clause-room
+end-requires-clause-room g c = (search (rules, arith), λ p inside. zeros_at 8640 p)
 
 pub end-requires-clause-stands : goal.end-requires-clause-stands
 end-requires-clause-stands g c =

@@ -3,21 +3,25 @@ use Rattle.lag_ring.{specs.declared.ring.Entry.Entry, specs.declared.window.Side
 use Rattle.tau_cascade.{specs.Dense.placed, proofs.Close.{products_few, low_all}}
 use Rattle.tau_cascade.proofs.laid.sum_laid.Goals as goal
 
-module _ (window : List ℕ) (list : List Entry) (heaviest most : ℕ) (upto : heaviest ≤ most) (light : IsLight heaviest list) (low : (p : ℕ) → p < 1408 → get_or window p 0 ≤ heaviest) where
-  all_light : ((p : ℕ) → p < 1408 → get_or window p 0 ≤ most) × IsLight most list
+-- what is no more than a number is no more than a greater one
+module _ (window : List ℕ) (list : List Entry) (heaviest : ℕ)
+    (all : (heaviest < 2048) × IsLight heaviest list × ((p : ℕ) → p < 8640 → get_or window p 0 ≤ heaviest)) (most : ℕ) (upto : heaviest ≤ most) where
+  all_light : ((p : ℕ) → p < 8640 → get_or window p 0 ≤ most) × IsLight most list
   all_light = (
-    λ p inside. omega (arith, low p inside, upto),
-    all_weaker (λ (f : Entry). (f.a ≤ heaviest) × (f.b ≤ heaviest)) (λ f. (f.a ≤ most) × (f.b ≤ most)) (λ f under. (omega (arith, under.0, upto), omega (arith, under.1, upto))) list light,
+    λ p inside. omega (arith, all.2 p inside, upto),
+    all_weaker (λ (f : Entry). (f.a ≤ heaviest) × (f.b ≤ heaviest)) (λ f. (f.a ≤ most) × (f.b ≤ most))
+        (λ f under. (omega (arith, under.0, upto), omega (arith, under.1, upto))) list all.1,
   )
 
-  few_all : (places : List ℕ) (from : ℕ) → length window ≡ 1408 → sum_by (product_at Second window 0 from) (placed list places) ≤ most * most * length list
+  few_all : (places : List ℕ) (from : ℕ) → length window ≡ 8640
+      → sum_by (product_at Second window 0 from) (placed list places) ≤ most * most * length list
   few_all places from long = products_few window places list most from (low_all window most long all_light.0) all_light.1
 
 pub sum_light-more-requires : goal.sum_light-more-requires
 sum_light-more-requires g c = (
   omega (arith, c.requires.room 0),
   (
-    all_light c.args.window.now c.args.list.now c.args.heaviest 31 (omega (arith, c.if-heaviest-lt-NOT_LIGHT.true)) c.requires.light.1 c.requires.light.2,
+    all_light c.args.window.now c.args.list.now c.args.heaviest c.requires.light 31 (omega (arith, c.if-heaviest-lt-NOT_LIGHT.true)),
     ((c.requires.few.1, c.requires.few.2), (omega (arith, c.requires.room 0), c.requires.room)),
   ),
 )
@@ -28,7 +32,8 @@ add_laid-requires g c = (
   (
     search (rules, arith),
     λ q inside.
-        let few = few_all c.args.window.now c.args.list.now c.args.heaviest 31 (omega (arith, c.if-heaviest-lt-NOT_LIGHT.true)) c.requires.light.1 c.requires.light.2 c.args.places.now (c.args.from + q) c.told-window in
+        let few = few_all c.args.window.now c.args.list.now c.args.heaviest c.requires.light 31 (omega (arith, c.if-heaviest-lt-NOT_LIGHT.true))
+        c.args.places.now (c.args.from + q) c.told-window in
         omega (arith, few, c.sum_light-more.ensures q inside, c.requires.few.0 q inside),
   ),
 )
@@ -37,17 +42,19 @@ pub sum_heavy-requires : goal.sum_heavy-requires
 sum_heavy-requires g c = (
   omega (arith, c.requires.room 0),
   (
-    all_light c.args.window.now c.args.list.now c.args.heaviest 2047 (omega (arith, c.requires.light.0)) c.requires.light.1 c.requires.light.2,
+    all_light c.args.window.now c.args.list.now c.args.heaviest c.requires.light 2047 (omega (arith, c.requires.light.0)),
     ((c.requires.few.0, c.requires.few.2), (omega (arith, c.requires.room 0), c.requires.room)),
   ),
 )
 
 pub returns-then-heaviest-lt-NOT_LIGHT-clause-within : goal.returns-then-heaviest-lt-NOT_LIGHT-clause-within
 returns-then-heaviest-lt-NOT_LIGHT-clause-within g c = λ q inside.
-    let few = few_all c.args.window.now c.args.list.now c.args.heaviest 2047 (omega (arith, c.requires.light.0)) c.requires.light.1 c.requires.light.2 c.args.places.now (c.args.from + q) c.told-window in
+    let few = few_all c.args.window.now c.args.list.now c.args.heaviest c.requires.light 2047 (omega (arith, c.requires.light.0))
+    c.args.places.now (c.args.from + q) c.told-window in
     omega (arith, few, c.sum_light-more.ensures q inside, c.add_laid.ensures q inside)
 
 pub returns-else-heaviest-lt-NOT_LIGHT-clause-within : goal.returns-else-heaviest-lt-NOT_LIGHT-clause-within
 returns-else-heaviest-lt-NOT_LIGHT-clause-within g c = λ q inside.
-    let few = few_all c.args.window.now c.args.list.now c.args.heaviest 2047 (omega (arith, c.requires.light.0)) c.requires.light.1 c.requires.light.2 c.args.places.now (c.args.from + q) c.told-window in
+    let few = few_all c.args.window.now c.args.list.now c.args.heaviest c.requires.light 2047 (omega (arith, c.requires.light.0))
+    c.args.places.now (c.args.from + q) c.told-window in
     omega (arith, few, c.sum_heavy.ensures q inside)

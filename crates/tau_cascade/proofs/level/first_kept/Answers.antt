@@ -1,10 +1,6 @@
 use Rattle.std.proofs.Common.{arith}
-use Rattle.lag_ring.specs.declared.ring.Entry.{Entry}
-use Rattle.tau_cascade.proofs.Keeping.{kept_from, left_behind}
+use Rattle.tau_cascade.{proofs.Keeping.{kept_from, left_behind}, proofs.Closes.none}
 use Rattle.tau_cascade.proofs.level.first_kept.Goals as goal
-
-abbrev none : Entry
-none = record { index = 0; a = 0; b = 0 }
 
 pub returns-then-bins-start-clause-left : goal.returns-then-bins-start-clause-left
 returns-then-bins-start-clause-left c =

@@ -1,5 +1,5 @@
-use Rattle.std.proofs.Common.{ℕ, ◌-◌, ◌*◌, ◌<◌, ◌≤◌, length, get_or, take, drop}
-use Rattle.tau_cascade.specs.Dense.{IsZero, HavePaired}
+use Rattle.std.proofs.Common.{ℕ, ◌-◌, ◌*◌, ◌<◌, ◌≤◌, length, get_or, map, take}
+use Rattle.tau_cascade.specs.{Bins.raised, Dense.{IsZero, HavePaired}}
 use Rattle.tau_cascade.proofs.pairing.sum_parts.Given as goal
 
 abbrev pub invariant-parts : goal.invariant-parts
@@ -8,7 +8,7 @@ invariant-parts g l = record {
   within : l.at ≤ length l.list;
   zeros : IsZero l.window;
   few : (q : ℕ) → q < g.row.N → get_or l.sums q 0 ≤ 4190209 * (l.at - l.start);
-  sums : HavePaired g.row.N l.skipped l.lags l.initial.sums l.sums (take l.start l.list) (drop l.start (take l.at l.list));
+  sums : HavePaired g.row.N l.skipped l.lags l.initial.sums l.sums l.start (take l.at (map (raised l.levels) l.list));
 }
 
 abbrev pub decreases-parts : goal.decreases-parts

@@ -1,4 +1,4 @@
-use Rattle.std.{proofs.Common.{◌≡◌, ◌∙◌, ℕ, ◌+◌, ◌*◌, ◌≤◌, length, rules, arith}, proofs.lemmas.Nat.{mul-le}}
+use Rattle.std.{proofs.Common.{◌≡◌, ◌∙◌, ℕ, ◌≤◌, length, rules, arith}, proofs.lemmas.Nat.{mul-le}}
 use Rattle.flim_cube.{specs.Bytes.byte_in, proofs.Bytes.{more_zeros, count_same, counts_same}}
 use Rattle.flim_cube.proofs.spread.Cells.widen.Goals as goal
 
@@ -9,8 +9,7 @@ returns-clause-counts c =
     let all : length s.bytes.items ≤ c.div_ceil.result = omega (arith, s.there, c.div_ceil.ensures, wider) in
     let same : (place : ℕ) → byte_in c.resize.new.self.items place ≡ byte_in s.bytes.items place =
     λ place. rw c.in-Ok.ensures.items (more_zeros s.bytes.items c.div_ceil.result _ place all) in
-    counts_same s.bytes.items c.resize.new.self.items s.size
-    (λ cell in_cell. count_same s.bytes.items c.resize.new.self.items s.size cell (λ i low. same (i * s.size + cell)))
+    search (rules, arith, counts_same, count_same)
 
 pub invariant_of-self : goal.invariant_of-self
 invariant_of-self c =

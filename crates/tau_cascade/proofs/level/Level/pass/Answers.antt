@@ -1,11 +1,8 @@
 use Rattle.std.{proofs.Common.{◌≡◌, ◌∙◌, ◌-◌, ◌*◌, ◌%◌, ◌^◌, Some, [], ◌∷◌, length, take, drop, map, ap, sym, refl, arith}, proofs.lemmas.List.{length-map, length-take-le, length-drop}}
 use Rattle.tally_base.specs.Settings.{correlation_view}
 use Rattle.lag_ring.{specs.declared.ring.Entry.Entry, specs.Ring.ring}
-use Rattle.tau_cascade.{specs.Bins.{raised, stretch}, proofs.Keeping.last_of, proofs.Passes.{passed, stretch-shift, moved_on, last_shut}}
+use Rattle.tau_cascade.{specs.Bins.{raised, stretch}, proofs.Keeping.last_of, proofs.Passes.{passed, stretch-shift, moved_on, last_shut}, proofs.Closes.none}
 use Rattle.tau_cascade.proofs.level.Level.pass.Goals as goal
-
-abbrev none : Entry
-none = record { index = 0; a = 0; b = 0 }
 
 pub returns-clause-follows : goal.returns-clause-follows
 returns-clause-follows c = λ level shut open' xs can.

@@ -4,12 +4,15 @@ use Rattle.lag_ring.{specs.Ring.IsRising, proofs.Rising.rising_back}
 use Rattle.tau_cascade.{proofs.Keeping.{rising-prop, ring_last}, proofs.Paired.{all_rising, all_fit, cells_all}}
 use Rattle.tau_cascade.proofs.level.Level.shut_all.Goals as goal
 
-pub pair_all-requires-clause-rising : goal.pair_all-requires-clause-rising
-pair_all-requires-clause-rising g c =
+pub pair_all-requires-clause-list : goal.pair_all-requires-clause-list
+pair_all-requires-clause-list g c =
     let whole : c.args.self.now.ring.entries ++ drop c.args.start c.args.list.now ≡ c.args.list.now =
-    ap (λ ys. ys ++ drop c.args.start c.args.list.now) (sym c.requires.ring) ∙ take-append-drop c.args.start c.args.list.now in
-    subst (λ ys. IsRising ys) whole (∥∥₁_elim c.requires.stands (rising-prop _) (λ w.
-    all_rising (correlation_view c.args.set.now) c.args.level c.skipped_lags-skipped.result c.skipped_lags-skipped.ensures.skipped c.args.self.now.ring c.args.self.now.cells (drop c.args.start c.args.list.now) w.0 w.1 w.2))
+    ap (λ ys. ys ++ drop c.args.start c.args.list.now) (sym c.requires.ring) ∙ take-append-drop c.args.start c.args.list.now in (
+      c.requires.start.0,
+      subst (λ ys. IsRising ys) whole (∥∥₁_elim c.requires.stands (rising-prop _) (λ w.
+          all_rising (correlation_view c.args.set.now) c.args.level c.skipped_lags-skipped.result c.skipped_lags-skipped.ensures.skipped c.args.self.now.ring c.args.self.now.cells (drop c.args.start c.args.list.now) w.0 w.1 w.2)),
+      c.requires.start.1,
+    )
 
 pub pair_all-requires-clause-fits : goal.pair_all-requires-clause-fits
 pair_all-requires-clause-fits g c = λ p inside. rw c.requires.ring (∥∥₁_elim c.requires.stands (hlevel props) (λ w.

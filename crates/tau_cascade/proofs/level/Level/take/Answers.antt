@@ -19,7 +19,7 @@ pub merge_onto-merged-requires-clause-counts : goal.merge_onto-merged-requires-c
 merge_onto-merged-requires-clause-counts g c = ∥∥₁_elim c.requires.stands (hlevel props) (λ w.
     let view = correlation_view c.args.set.now in
     let es = map (raised c.args.levels) c.args.came.now in
-    let some : 0 < length es = rw length-map c.requires.some in (
+    let some : 0 < length es = rw length-map c.requires.some.0 in (
       omega (arith, first_fit view c.args.level c.args.self.now es some w.0 w.1 w.2 w.3),
       omega (arith, second_fit view c.args.level c.args.self.now es some w.0 w.1 w.2 w.3),
     ))
@@ -30,7 +30,7 @@ shut_all-requires-clause-ring g c = search (rules, arith, take-take)
 pub shut_all-requires-clause-stands : goal.shut_all-requires-clause-stands
 shut_all-requires-clause-stands g c =
     let es = map (raised c.args.levels) c.args.came.now in
-    let some : 0 < length es = rw length-map c.requires.some in
+    let some : 0 < length es = rw length-map c.requires.some.0 in
     let view = correlation_view c.args.set.now in
     rw (drop-take c.lay_out-from.result c.merge_onto-merged.result.closed c.merge_onto-merged.new.list) (∥∥₁_map c.requires.stands (λ w.
     (w.0, (parts view c.args.level c.args.self.now es some w.0 w.1 w.2 w.3 _ c.merge_onto-merged.result.open c.merge_onto-merged.ensures.bins).0, may_shut view c.args.level c.args.self.now es some w.0 w.1 w.2 w.3 _ c.merge_onto-merged.result.open c.merge_onto-merged.ensures.bins)))
@@ -39,8 +39,8 @@ pub returns-clause-follows : goal.returns-clause-follows
 returns-clause-follows g c = λ shut open' xs can.
     let view = correlation_view c.args.set.now in
     let es = map (raised c.args.levels) c.args.came.now in
-    let some : 0 < length es = rw length-map c.requires.some in
+    let some : 0 < length es = rw length-map c.requires.some.0 in
     let split = parts view c.args.level c.args.self.now es some shut open' xs can _ c.merge_onto-merged.result.open c.merge_onto-merged.ensures.bins in
     let may = may_shut view c.args.level c.args.self.now es some shut open' xs can _ c.merge_onto-merged.result.open c.merge_onto-merged.ensures.bins in
     let part = drop-take c.lay_out-from.result c.merge_onto-merged.result.closed c.merge_onto-merged.new.list in
-    (split.0, split.1, took view c.args.level c.args.self.now es some shut open' xs can _ c.merge_onto-merged.result.open c.merge_onto-merged.ensures.bins c.shut_all.new.self c.shut_all.ensures.open (c.shut_all.ensures.ring shut split.0 (rw part may)) (c.shut_all.ensures.cells shut split.0 (rw part may)))
+    (split.0, split.1, took view c.args.level c.args.self.now es some shut open' xs can _ c.merge_onto-merged.result.open c.merge_onto-merged.ensures.bins c.shut_all.new.self c.shut_all.ensures.others.0 (c.shut_all.ensures.ring shut split.0 (rw part may)) (c.shut_all.ensures.cells shut split.0 (rw part may)))

@@ -1,6 +1,6 @@
 use Rattle.std.proofs.Common.{◌+◌, rules, arith}
 use Rattle.tau_cascade.proofs.Together.{once_more}
-use Rattle.tau_cascade.proofs.dense.add_sums.Goals as goal
+use Rattle.tau_cascade.proofs.pairing.add_sums.Goals as goal
 
 pub loop-i-preserved : goal.loop-i-preserved
 loop-i-preserved g c = record {

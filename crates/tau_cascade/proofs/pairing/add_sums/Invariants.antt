@@ -1,6 +1,6 @@
 use Rattle.std.proofs.Common.{◌≡◌, ℕ, ◌+◌, ◌-◌, ◌<◌, ◌≤◌, length, get_or}
 use Rattle.tau_cascade.specs.Dense.{AddsOnce}
-use Rattle.tau_cascade.proofs.dense.add_sums.Given as goal
+use Rattle.tau_cascade.proofs.pairing.add_sums.Given as goal
 
 abbrev pub invariant-loop-i : goal.invariant-loop-i
 invariant-loop-i g l = record {
