@@ -6,10 +6,10 @@ prints, for each photon of the two inputs,
 
 - the closings: how often the bin of a level was closed, once for each occupied bin;
 - the pairs of bins: of a closing bin with photons of the second input and an occupied bin at a lag of its level;
-- the additions, which are the steps that the contracts count (`spent`): ptu adds each pair of bins to its cell
-  where bins are heavy or sparse, and else the pairs of a list, or of a part of it, at one lag together, once for each
-  lag. They are counted here by going through the file as the program does: by pieces of 8,192 bytes, blocks of 64
-  records, and blocks of up to 512 events that its tables are given;
+- the additions, which are the steps that the contracts count (`spent`): ptu adds the pairs of a list at one lag
+  together, once for each lag, but each pair of bins by itself where a bin has many photons. They are counted here by
+  going through the file as the program does: by pieces of 8,192 bytes, blocks of 64 records, blocks of up to 512
+  events that its tables are given, and lists of bins from level to level;
 - the bound on additions, `work`: lags times the occupied bins of level 0, and half of that for each level above;
 - the processor seconds of 'PROGRAM run', the best of five.
 
@@ -24,10 +24,9 @@ import tempfile
 
 import numpy
 
-# As in the program: how many events a block of the tables has, how many lags a window of bins that are laid close
-# serves, how many bins are paired over one, how many photons of an input are too many for one, how many indices those of
-# a dense window span, how many photons of an input are too many for it, and how many of the second input it has.
-TABLE_BLOCK, CLOSE_LAGS, CLOSE_PART, TOO_HEAVY, ROOM, NOT_A_BYTE, MOST_SPOTS = 512, 16, 64, 2048, 832, 256, 1024
+# As in the program: how many events a block of the tables has, how many bins are paired over a window, how many it has
+# at most with those before them, how many lags are summed at once at most, and how many photons of an input are too many.
+TABLE_BLOCK, CLOSE_PART, CLOSE_BINS, LANES, TOO_HEAVY = 512, 64, 192, 64, 2048
 
 PLAN = """[[group]]
 inputs = [1]
@@ -112,6 +111,27 @@ def bins_of(block):
     return [(time, int(group == 1), int(group == 2)) for time, group in block if group]
 
 
+def raised(bins, levels):
+    """Bins so many levels up, where neighbours of one index stay apart."""
+    return [(index >> levels, first, second) for index, first, second in bins]
+
+
+def lowered(bins, levels):
+    """Bins so many levels down."""
+    return [(index << levels, first, second) for index, first, second in bins]
+
+
+def merged(bins):
+    """Bins of which neighbours of one index are one."""
+    made = []
+    for index, first, second in bins:
+        if made and made[-1][0] == index:
+            made[-1] = (index, made[-1][1] + first, made[-1][2] + second)
+        else:
+            made.append((index, first, second))
+    return made
+
+
 def near_from(bins, at, lags):
     """The place of the first bin that is no more than the lags before the one at a place."""
     place = at
@@ -130,119 +150,91 @@ def each(bins, start, skipped, lags):
     )
 
 
-def near_count(bins, start, lags):
-    """How many bins from a place on have one no more than the lags before them."""
-    return sum(bins[at][0] - bins[at - 1][0] <= lags for at in range(max(start, 1), len(bins)))
+def is_apart(bins, lags):
+    """Whether no two bins are in reach of one another."""
+    return all(late[0] - early[0] > lags for early, late in zip(bins, bins[1:]))
 
 
-def is_light(bins, too_many):
-    """Whether no bin has so many photons of a group."""
-    return all(first < too_many and second < too_many for _, first, second in bins)
+def is_light(bins):
+    """Whether no bin has too many photons of a group."""
+    return all(first < TOO_HEAVY and second < TOO_HEAVY for _, first, second in bins)
 
 
-def is_dense(bins, start, skipped, lags):
-    """Whether bins of many lags are dense enough to be paired over windows that have a place for each index."""
-    count = len(bins) - start
-    if lags <= CLOSE_LAGS or count < 4:
-        return False
-    if lags - skipped <= CLOSE_LAGS:
-        return near_count(bins, start, lags) > count // 4
-    return count * len(bins) * (lags - skipped) >= (bins[-1][0] - bins[0][0] + 1) * 192
+def is_laid(bins, start, skipped, lags):
+    """Whether the bins from a place on are paired over a window, part by part, each part with those in reach before it."""
+    for most in {min(skipped + LANES, lags), lags}:
+        for at in range(start, len(bins), CLOSE_PART):
+            part = bins[near_from(bins, at, most) : at + CLOSE_PART]
+            if not is_apart(part, most) and (len(part) > CLOSE_BINS or not is_light(part)):
+                return False
+    return start < len(bins)
 
 
-def is_close(bins, start, lags):
-    """Whether bins of few lags can be laid close together from a place on, part by part."""
-    parts = ((near_from(bins, at, lags), min(at + CLOSE_PART, len(bins))) for at in range(start, len(bins), CLOSE_PART))
-    return lags <= CLOSE_LAGS and all(
-        near_count(bins[early:end], 0, lags) == 0 or is_light(bins[early:end], TOO_HEAVY) for early, end in parts
-    )
+class Level:
+    """A level of a correlation: its open bin, the ring of its closed ones, and the additions that it made."""
+
+    def __init__(self, level, lags):
+        self.skipped, self.lags = lags // 2 if level else 0, lags
+        self.open, self.ring, self.added = [], [], 0
+
+    def keep(self, shut):
+        """Puts closed bins into the ring."""
+        self.ring = [one for one in self.ring + shut if one[0] + self.lags > shut[-1][0]]
+
+    def is_laid(self, shut):
+        """Whether closed bins are paired over a window with the ring and with one another."""
+        return is_laid(self.ring + shut, len(self.ring), self.skipped, self.lags)
+
+    def is_alone(self, first, apart):
+        """Whether the open bin, those that come, of which one is the first, and the ring are all out of reach."""
+        newest = self.ring[-1][0] if self.ring else 0
+        return self.open and apart > self.lags and first - self.open[0][0] > self.lags and self.open[0][0] - newest > self.lags
+
+    def pass_on(self, came, up):
+        """Takes bins that reach one another at no lag, and answers those that it closes."""
+        shut = lowered(self.open, up) + came[:-1]
+        self.ring, self.open = raised(shut[-1:], up), raised(came[-1:], up)
+        return shut
+
+    def take(self, came):
+        """Takes bins, and answers those that it closes, merged."""
+        bins = merged(self.open + came)
+        self.open = bins[-1:]
+        self.shut(bins[:-1])
+        return bins[:-1]
+
+    def shut(self, bins):
+        """Pairs and keeps closed bins."""
+        if bins:
+            laid, start = self.is_laid(bins), len(self.ring)
+            self.added += self.lags - self.skipped if laid else each(self.ring + bins, start, self.skipped, self.lags)
+            self.keep(bins)
 
 
-def part_end(bins, at, dense):
-    """The place behind the bins from a place on that are paired together."""
-    if not dense:
-        return len(bins)
-    end = at + 1
-    while end < len(bins) and bins[end][0] - bins[at][0] <= ROOM:
-        end += 1
-    return end
-
-
-def part_additions(bins, start, skipped, lags, dense):
-    """The additions that pair the bins of a part from a place on with those before them."""
-    if near_count(bins, 0, lags) == 0:
-        return 0
-    few = sum(second for _, _, second in bins[start:]) <= MOST_SPOTS
-    together = dense and len(bins) - start > 1 and lags <= 128 and few and is_light(bins, NOT_A_BYTE)
-    return lags - skipped if together else each(bins, start, skipped, lags)
-
-
-def paired(bins, start, skipped, lags):
-    """The additions that pair the bins from a place on with those before them: together, or part by part."""
-    if start < len(bins) and is_close(bins, start, lags):
-        return lags - skipped
-    dense = is_dense(bins, start, skipped, lags)
-    added, at = 0, start
-    while at < len(bins):
-        end = part_end(bins, at, dense)
-        early = near_from(bins, at, lags)
-        added += part_additions(bins[early:end], at - early, skipped, lags, dense)
-        at = end
-    return added
+def carry_all(levels, bins, up, apart):
+    """Gives bins, so many levels up from where they stand, to levels: no two are nearer than `apart`, or that is 0."""
+    for level in levels:
+        if not bins:
+            return
+        if level.is_alone(bins[0][0] >> up, apart >> up):
+            apart = min(apart, bins[0][0] - (level.open[0][0] << up))
+            bins, up = level.pass_on(bins, up), up + 1
+        else:
+            bins, up, apart = level.take(raised(bins, up)), 1, 0
 
 
 def additions_by_level(path, lags, levels):
     """The additions that a run makes on each level."""
-    added, opened, rings = [0] * levels, [None] * levels, [[] for _ in range(levels)]
-
-    def close(level, shut):
-        skipped = lags // 2 if level else 0
-        bins = rings[level] + shut
-        added[level] += paired(bins, len(rings[level]), skipped, lags)
-        rings[level] = [e for e in bins if e[0] + lags > shut[-1][0]]
-
-    def is_alone(level, bins, apart):
-        """Whether the open bin, what came and what is kept are all out of reach of one another."""
-        waits, ring = opened[level], rings[level]
-        newest = ring[-1][0] if ring else 0
-        return waits and apart > lags and bins[0][0] - waits[0] > lags and waits[0] - newest > lags
-
-    def come(level, bins, least):
-        # `least`: a distance that no neighbours on the level from which they came unchanged fall below, or 0
-        up = 0
-        front = bins[0][0] if bins else 0
-        while level < levels and bins:
-            shut, waits = [], opened[level]
-            alone = is_alone(level, bins, least >> up)
-            if alone:
-                least = min(least, front - (waits[0] << up))
-                front = waits[0] << up
-            for index, first, second in bins:
-                if waits and waits[0] == index:
-                    waits = (index, waits[1] + first, waits[2] + second)
-                else:
-                    shut += [waits] if waits else []
-                    waits = (index, first, second)
-            opened[level] = waits
-            if alone:
-                rings[level], up = shut[-1:], up + 1
-            else:
-                if shut:
-                    close(level, shut)
-                least, up, front = 0, 1, shut[0][0] if shut else 0
-            bins = [(index // 2, first, second) for index, first, second in shut]
-            level += 1
-
+    all_levels = [Level(level, lags) for level in range(levels)]
     for block in blocks_of(path):
         bins = bins_of(block)
-        gaps = [bins[at][0] - bins[at - 1][0] for at in range(1, len(bins))]
-        come(0, bins, min(gaps, default=2**64 - 1))
-    for level in range(levels):
-        if opened[level]:
-            last, opened[level] = opened[level], None
-            close(level, [last])
-            come(level + 1, [(last[0] // 2, last[1], last[2])], 0)
-    return added
+        gaps = [late[0] - early[0] for early, late in zip(bins, bins[1:])]
+        carry_all(all_levels, bins, 0, min(gaps, default=2**64 - 1))
+    for place, level in enumerate(all_levels):
+        last, level.open = level.open, []
+        level.shut(last)
+        carry_all(all_levels[place + 1 :], last, 1, 0)
+    return [level.added for level in all_levels]
 
 
 def seconds(program, path, lags, levels):
