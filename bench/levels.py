@@ -7,9 +7,9 @@ prints, for each photon of the two inputs,
 - the closings: how often the bin of a level was closed, once for each occupied bin;
 - the pairs of bins: of a closing bin with photons of the second input and an occupied bin at a lag of its level;
 - the additions, which are the steps that the contracts count (`spent`): ptu adds the pairs of a list at one lag
-  together, once for each lag, but each pair of bins by itself where a bin has many photons. They are counted here by
-  going through the file as the program does: by pieces of 8,192 bytes, blocks of 64 records, blocks of up to 512
-  events that its tables are given, and lists of bins from level to level;
+  together, once for each lag, and none where no two bins are in reach of one another. They are counted here by going
+  through the file as the program does: by pieces of 8,192 bytes, blocks of 64 records, blocks of up to 1,024 events that
+  its tables are given, and lists of bins from level to level;
 - the bound on additions, `work`: lags times the occupied bins of level 0, and half of that for each level above;
 - the processor seconds of 'PROGRAM run', the best of five.
 
@@ -24,9 +24,7 @@ import tempfile
 
 import numpy
 
-# As in the program: how many events a block of the tables has, how many bins are paired over a window, how many it has
-# at most with those before them, how many lags are summed at once at most, and how many photons of an input are too many.
-TABLE_BLOCK, CLOSE_PART, CLOSE_BINS, LANES, TOO_HEAVY = 512, 64, 192, 64, 2048
+TABLE_BLOCK = 1024  # how many events a block of the tables has, as in the program
 
 PLAN = """[[group]]
 inputs = [1]
@@ -132,83 +130,36 @@ def merged(bins):
     return made
 
 
-def near_from(bins, at, lags):
-    """The place of the first bin that is no more than the lags before the one at a place."""
-    place = at
-    while place > 0 and bins[at][0] - bins[place - 1][0] <= lags:
-        place -= 1
-    return place
-
-
-def each(bins, start, skipped, lags):
-    """The additions where each bin is paired by itself."""
-    return sum(
-        skipped < bins[at][0] - bins[early][0]
-        for at in range(start, len(bins))
-        if bins[at][2]
-        for early in range(near_from(bins, at, lags), at)
-    )
-
-
-def is_apart(bins, lags):
-    """Whether no two bins are in reach of one another."""
-    return all(late[0] - early[0] > lags for early, late in zip(bins, bins[1:]))
-
-
-def is_light(bins):
-    """Whether no bin has too many photons of a group."""
-    return all(first < TOO_HEAVY and second < TOO_HEAVY for _, first, second in bins)
-
-
-def is_laid(bins, start, skipped, lags):
-    """Whether the bins from a place on are paired over a window, part by part, each part with those in reach before it."""
-    for most in {min(skipped + LANES, lags), lags}:
-        for at in range(start, len(bins), CLOSE_PART):
-            part = bins[near_from(bins, at, most) : at + CLOSE_PART]
-            if not is_apart(part, most) and (len(part) > CLOSE_BINS or not is_light(part)):
-                return False
-    return start < len(bins)
+def spacing(bins):
+    """The least distance of neighbours."""
+    return min((late[0] - early[0] for early, late in zip(bins, bins[1:])), default=2**64 - 1)
 
 
 class Level:
     """A level of a correlation: its open bin, the ring of its closed ones, and the additions that it made."""
 
     def __init__(self, level, lags):
-        self.skipped, self.lags = lags // 2 if level else 0, lags
+        self.own, self.lags = lags - lags // 2 if level else lags, lags
         self.open, self.ring, self.added = [], [], 0
 
-    def keep(self, shut):
-        """Puts closed bins into the ring."""
-        self.ring = [one for one in self.ring + shut if one[0] + self.lags > shut[-1][0]]
+    def take(self, came, up, apart):
+        """Takes bins, so many levels up from where they stand, of which no two are nearer than `apart`, or that is 0.
 
-    def is_laid(self, shut):
-        """Whether closed bins are paired over a window with the ring and with one another."""
-        return is_laid(self.ring + shut, len(self.ring), self.skipped, self.lags)
+        Answers those that it closes, and such a distance for these.
+        """
+        bins = lowered(self.open, up) + came
+        before = lowered(self.ring, up) + lowered(self.open, up) + came[:1]
+        apart = min(apart, spacing(before)) if apart >> up > self.lags else 0
+        shut = [one for one in bins if one[0] >> up < bins[-1][0] >> up]
+        self.open = merged(raised(bins[len(shut) :], up))
+        self.shut(raised(shut, up), apart >> up)
+        return shut, apart
 
-    def is_alone(self, first, apart):
-        """Whether the open bin, those that come, of which one is the first, and the ring are all out of reach."""
-        newest = self.ring[-1][0] if self.ring else 0
-        return self.open and apart > self.lags and first - self.open[0][0] > self.lags and self.open[0][0] - newest > self.lags
-
-    def pass_on(self, came, up):
-        """Takes bins that reach one another at no lag, and answers those that it closes."""
-        shut = lowered(self.open, up) + came[:-1]
-        self.ring, self.open = raised(shut[-1:], up), raised(came[-1:], up)
-        return shut
-
-    def take(self, came):
-        """Takes bins, and answers those that it closes, merged."""
-        bins = merged(self.open + came)
-        self.open = bins[-1:]
-        self.shut(bins[:-1])
-        return bins[:-1]
-
-    def shut(self, bins):
+    def shut(self, bins, apart):
         """Pairs and keeps closed bins."""
         if bins:
-            laid, start = self.is_laid(bins), len(self.ring)
-            self.added += self.lags - self.skipped if laid else each(self.ring + bins, start, self.skipped, self.lags)
-            self.keep(bins)
+            self.added += self.own if apart <= self.lags else 0
+            self.ring = [one for one in self.ring + merged(bins) if one[0] + self.lags > bins[-1][0]]
 
 
 def carry_all(levels, bins, up, apart):
@@ -216,11 +167,8 @@ def carry_all(levels, bins, up, apart):
     for level in levels:
         if not bins:
             return
-        if level.is_alone(bins[0][0] >> up, apart >> up):
-            apart = min(apart, bins[0][0] - (level.open[0][0] << up))
-            bins, up = level.pass_on(bins, up), up + 1
-        else:
-            bins, up, apart = level.take(raised(bins, up)), 1, 0
+        bins, apart = level.take(bins, up, apart)
+        up += 1
 
 
 def additions_by_level(path, lags, levels):
@@ -228,11 +176,10 @@ def additions_by_level(path, lags, levels):
     all_levels = [Level(level, lags) for level in range(levels)]
     for block in blocks_of(path):
         bins = bins_of(block)
-        gaps = [late[0] - early[0] for early, late in zip(bins, bins[1:])]
-        carry_all(all_levels, bins, 0, min(gaps, default=2**64 - 1))
+        carry_all(all_levels, bins, 0, spacing(bins))
     for place, level in enumerate(all_levels):
         last, level.open = level.open, []
-        level.shut(last)
+        level.shut(last, 0)
         carry_all(all_levels[place + 1 :], last, 1, 0)
     return [level.added for level in all_levels]
 

@@ -11,7 +11,7 @@ use tally_base::{TraceSet, put_decimal, put_text};
 pub const LINE_SIZE: usize = 42;
 
 /// Room for the lines of the bins that the events of a block close, in bytes.
-pub const LINES_SIZE: usize = 21_504;
+pub const LINES_SIZE: usize = 43_008;
 
 /// Appends the line of a bin, unless it is empty.
 #[inline(always)]

@@ -1,4 +1,3 @@
-pub mod Asked
 pub mod Complete
 pub mod ByteFaults
 pub mod Sound

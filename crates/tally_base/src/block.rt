@@ -8,7 +8,7 @@ use crate::event::{Event, EventKind, is_in};
 pub const BLOCK_SIZE: usize = 64;
 
 /// The most events of a block that tables count at once.
-pub const TABLE_BLOCK: usize = 512;
+pub const TABLE_BLOCK: usize = 1024;
 
 /// Up to `N` events in columns, each with its groups, so that a table reads only the columns that it needs.
 #[derive(Clone, Copy)]
@@ -168,7 +168,7 @@ impl<const N: usize> Block<N> {
         self.len = len;
     }
 
-    /// Puts an event behind the others. There are fewer than 64. Its groups are to be put.
+    /// Puts an event behind the others. There are fewer than `N`. Its groups are to be put.
     #[inline(always)]
     pub fn push(&mut self, e: &Event)
         requires { length (gathered self.old) < N }

@@ -111,7 +111,7 @@ module _ (set : CorrelationView) where
       ]) refl)
 
 -- the photons of a block may come to the levels
-pub block_comes : (set : CorrelationView) (ls : List Level) (b : Block 512) (h : History) → CanGiveBlock set ls b h
+pub block_comes : (set : CorrelationView) (ls : List Level) (b : Block 1024) (h : History) → CanGiveBlock set ls b h
     → CanCome set 0 ls (map (raised 0) (photon_bins set (events_in b))) (photons_of set h) (photons_of set (events_in b))
 block_comes set ls b h can = search (rules, arith, few_photons, raised-none, come_rows)
 
@@ -119,11 +119,11 @@ pub photons-append : (set : CorrelationView) (h es : History) → photons_of set
 photons-append set h es = filter-append (λ y. in_first set y || in_second set y) h es
 
 -- what a correlation that isn't closed may be given
-pub may_give_block : (closed : Bool) → closed ≡ false → (set : CorrelationSet) (ls : List Level) (count time : ℕ) (h : History) (b : Block 512) → StandsFor closed set ls count time h → count + length (gathered b) ≤ record_limit → InOrder false time (gathered b) → CanGiveBlock (correlation_view set) ls b h
+pub may_give_block : (closed : Bool) → closed ≡ false → (set : CorrelationSet) (ls : List Level) (count time : ℕ) (h : History) (b : Block 1024) → StandsFor closed set ls count time h → count + length (gathered b) ≤ record_limit → InOrder false time (gathered b) → CanGiveBlock (correlation_view set) ls b h
 may_give_block closed still set ls count time h b is few order = search (rules, arith, false≢true, length-rows)
 
 -- what it stands for then
-pub block_counts : (closed : Bool) → closed ≡ false → (set : CorrelationSet) (ls ls' : List Level) (count time : ℕ) (h : History) (b : Block 512)
+pub block_counts : (closed : Bool) → closed ≡ false → (set : CorrelationSet) (ls ls' : List Level) (count time : ℕ) (h : History) (b : Block 1024)
     → StandsFor closed set ls count time h → InOrder false time (gathered b)
     → Chain (correlation_view set) 0 ls' (photons_of (correlation_view set) (h ++ events_in b))
     → StandsFor closed set ls' (count + b.len) (floor_after false time (gathered b)) (h ++ events_in b)

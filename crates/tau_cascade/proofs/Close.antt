@@ -1,26 +1,14 @@
 -- Bins that are laid close together.
-use Rattle.std.{proofs.Common.{◌≡◌, ◌∙◌, ℕ, zero, suc, ◌+◌, ◌-◌, ◌*◌, ◌%◌, ◌<◌, ◌≤◌, Bool, true, false, eqb, ltb, cond, min, List, [], ◌∷◌, ◌++◌, length, get_or, set, map, take, drop, replicate, refl, sym, ap, arith, append_assoc, rules}, specs.List.{sum_by, AllByRecursion}, proofs.Math.Nat.mul-le-mul, proofs.lemmas.Bool.Decides.nat_tests, proofs.lemmas.List.{take-append-drop, take_more, length-take-le, get_or_past, get_or-drop}, proofs.lemmas.List.Sums.{sum_by-cons, sum_by_push, sum_by-append}, proofs.lemmas.Grind.common_steps}
-use Rattle.lag_ring.{specs.declared.ring.Entry.Entry, specs.declared.window.Side.TheVariants.{First, Second}, specs.Bytes.{weight_at, product_at, IsLight}, proofs.Lists.{all_back, each_at}, proofs.Rising.{all_weaker, all_push}, proofs.Sums.{part-at, sum_by-agree, sum_by-same, sum_by-zero, window-before}}
-use Rattle.tau_cascade.{specs.Levels.weight_before, specs.Dense.{paired, laid, placed}, specs.Bins.{IsSpaced, raised}, proofs.Nexts.paired-append, proofs.Passes.{all_take, spaced_take, spaced_drop}}
+use Rattle.std.{proofs.Common.{◌≡◌, ◌∙◌, ℕ, zero, suc, ◌+◌, ◌-◌, ◌*◌, ◌%◌, ◌<◌, ◌≤◌, Bool, true, false, eqb, ltb, cond, min, List, [], ◌∷◌, ◌++◌, length, get_or, set, map, take, drop, replicate, refl, sym, ap, arith, append_assoc, rules}, specs.List.{sum_by, AllByRecursion}, proofs.Math.Nat.mul-le-mul, proofs.lemmas.Bool.Decides.nat_tests, proofs.lemmas.List.{take-append-drop, take_more, drop_more, length-map, get_or-map, length-take-le, get_or_past, set-get_or}, proofs.lemmas.List.Sums.{sum_by-cons, sum_by_push, sum_by-append}}
+use Rattle.lag_ring.{specs.declared.ring.Entry.Entry, specs.declared.window.Side.TheVariants.{First, Second}, specs.Bytes.{weight_at, product_at, IsLight}, proofs.Lists.{all_back}, proofs.Rising.{all_weaker, all_push}, proofs.Sums.{part-at, sum_by-agree, sum_by-same, sum_by-zero, window-before}}
+use Rattle.tau_cascade.{specs.Levels.weight_before, specs.declared.laid.Laying.Laying, specs.Dense.{paired, laid, placed, IsLaid}, specs.Bins.{IsSpaced, raised}, proofs.Nexts.paired-append, proofs.Passes.{all_take, spaced_take, spaced_upto}}
+
+abbrev pub no_bin : Entry
+no_bin = record { index = 0; a = 0; b = 0 }
 
 -- a bin that is laid at a place
 abbrev pub laid_at : ℕ → Entry → Entry
 laid_at place e = record { index = place; a = e.a; b = e.b }
-
--- one bin more
-module _ (reach index place i p : ℕ) (front : List Entry) (e : Entry) (next : (rest : List Entry)
-    → laid reach index place (front ++ rest) ≡ laid reach index place front ++ laid reach i p rest) where
-  pub laid_push : laid reach index place (front ++ e ∷ []) ≡ laid reach index place front ++ laid_at (p + min (e.index - i) reach) e ∷ []
-  laid_push = next (e ∷ [])
-
-  pub laid_next : (rest : List Entry)
-      → laid reach index place ((front ++ e ∷ []) ++ rest)
-      ≡ laid reach index place (front ++ e ∷ []) ++ laid reach e.index (p + min (e.index - i) reach) rest
-  laid_next rest = search (rules, arith, laid_at, append_assoc, front, laid_push)
-
-  pub weight_next : (q : ℕ) → weight_at First 192 0 q (laid reach index place (front ++ e ∷ [])) ≡ weight_at First 192 0 q
-      (laid reach index place front) + cond (eqb (p + min (e.index - i) reach + 192) q) e.a 0
-  weight_next q = search (rules, arith, laid_push, sum_by_push, front, laid_at)
 
 -- a place at which a weight is added, where nothing wraps
 pub put_place : (here : Bool) (was old a : ℕ) → old ≡ was → was < 2048 → a < 2048
@@ -33,43 +21,17 @@ put_below here most old a low light = search (rules, arith)
 
 -- Bins at their places.
 
-placed_none : (es : List Entry) → placed es [] ≡ []
-placed_none [] = refl
-placed_none (e ∷ es) = refl
+-- one bin more, whose place is written
+pub placed_more : (es : List Entry) (e : Entry) (ps : List ℕ) (p : ℕ) → length es < length ps
+    → placed (es ++ e ∷ []) (set ps (length es) p) ≡ placed es ps ++ laid_at p e ∷ []
+placed_more [] e [] p inside = absurd (omega (arith, inside))
+placed_more [] e (q ∷ ps) p inside = refl
+placed_more (f ∷ es) e [] p inside = absurd (omega (arith, inside))
+placed_more (f ∷ es) e (q ∷ ps) p inside = ap (λ l. laid_at q f ∷ l) (placed_more es e ps p (omega (arith, inside)))
 
--- one bin more
 pub placed_push : (es : List Entry) (e : Entry) (ps : List ℕ) → length es < length ps
     → placed (es ++ e ∷ []) ps ≡ placed es ps ++ laid_at (get_or ps (length es) 0) e ∷ []
-placed_push [] e [] inside = absurd (omega (arith, inside))
-placed_push [] e (p ∷ ps) inside = refl
-placed_push (f ∷ es) e [] inside = absurd (omega (arith, inside))
-placed_push (f ∷ es) e (p ∷ ps) inside = ap (λ l. laid_at p f ∷ l) (placed_push es e ps (omega (arith, inside)))
-
--- a place behind theirs is none of theirs
-pub placed_set : (es : List Entry) (ps : List ℕ) (i p : ℕ) → length es ≤ i → placed es (set ps i p) ≡ placed es ps
-placed_set [] ps i p behind = refl
-placed_set (e ∷ es) [] i p behind = refl
-placed_set (e ∷ es) (q ∷ ps) zero p behind = absurd (omega (arith, behind))
-placed_set (e ∷ es) (q ∷ ps) (suc i) p behind = ap (λ l. laid_at q e ∷ l) (placed_set es ps i p (omega (arith, behind)))
-
-pub placed-drop : (n : ℕ) (es : List Entry) (ps : List ℕ) → placed (drop n es) (drop n ps) ≡ drop n (placed es ps)
-placed-drop zero es ps = refl
-placed-drop (suc n) [] ps = refl
-placed-drop (suc n) (e ∷ es) [] = placed_none (drop n es)
-placed-drop (suc n) (e ∷ es) (p ∷ ps) = placed-drop n es ps
-
--- of fewer places too
-pub placed-take : (es : List Entry) (ps : List ℕ) (n : ℕ) → length es ≤ n → placed es (take n ps) ≡ placed es ps
-placed-take [] ps n few = refl
-placed-take (e ∷ es) ps zero few = absurd (omega (arith, few))
-placed-take (e ∷ es) [] (suc n) few = refl
-placed-take (e ∷ es) (p ∷ ps) (suc n) few = ap (λ l. laid_at p e ∷ l) (placed-take es ps n (omega (arith, few)))
-
--- of bins so many levels up too
-pub placed-raised : (levels : ℕ) (es : List Entry) (ps : List ℕ) → placed (map (raised levels) es) ps ≡ placed es ps
-placed-raised levels [] ps = refl
-placed-raised levels (e ∷ es) [] = refl
-placed-raised levels (e ∷ es) (p ∷ ps) = ap (λ l. laid_at p e ∷ l) (placed-raised levels es ps)
+placed_push es e ps inside = (rw (set-get_or ps (length es) 0) at (placed_more es e ps (get_or ps (length es) 0) inside))
 
 pub light-raised : (levels most : ℕ) (es : List Entry) → IsLight most (map (raised levels) es) → IsLight most es
 light-raised levels most [] light = tt
@@ -85,31 +47,25 @@ products_few window (p ∷ ps) (e ∷ es) most from low light =
     search (rules, arith, sum_by-cons, laid_at, products_few window ps es most from low light.1)
 
 -- one bin more in a sum
-module _ (window ps : List ℕ) (es : List Entry) (i from : ℕ) (none : Entry) (inside : i < length es) (fit : length es ≤ length ps) where
+module _ (window ps : List ℕ) (es : List Entry) (i from : ℕ) (inside : i < length es) (fit : length es ≤ length ps) where
   pub placed_next : sum_by (product_at Second window 0 from) (placed (take (i + 1) es) ps) ≡ sum_by (product_at Second window 0 from)
-      (placed (take i es) ps) + get_or window (get_or ps i 0 + from) 0 * (get_or es i none).b
+      (placed (take i es) ps) + get_or window (get_or ps i 0 + from) 0 * (get_or es i no_bin).b
   placed_next =
-      let e : Entry = get_or es i none in
+      let e : Entry = get_or es i no_bin in
       let long : length (take i es) ≡ i = length-take-le i es (omega (arith, inside)) in
       let push : placed (take i es ++ e ∷ []) ps ≡ placed (take i es) ps ++ laid_at (get_or ps i 0) e ∷ [] =
       (rw long at (placed_push (take i es) e ps (omega (arith, long, inside, fit)))) in
-      let place : get_or ps i 0 - 0 ≡ get_or ps i 0 = omega arith in
       search (rules, arith, laid_at, take_more, sum_by_push)
 
 -- the same with a part of the window, and of that the part from its place on
-module _ (window ps : List ℕ) (es : List Entry) (i from : ℕ) (none : Entry) (inside : i < length es) (fit : length es ≤ length ps)
+module _ (window ps : List ℕ) (es : List Entry) (i from : ℕ) (inside : i < length es) (fit : length es ≤ length ps)
     (q n m : ℕ) (few : q < n) (room : get_or ps i 0 + n ≤ m) where
   abbrev row : ℕ
-  row = get_or (take n (drop (get_or ps i 0) (take m (drop from window)))) q 0 * (get_or es i none).b
+  row = get_or (take n (drop (get_or ps i 0) (take m (drop from window)))) q 0 * (get_or es i no_bin).b
 
   pub row_next : sum_by (product_at Second window 0 (from + q)) (placed (take (i + 1) es) ps)
       ≡ sum_by (product_at Second window 0 (from + q)) (placed (take i es) ps) + row
-  row_next =
-      let at : ℕ = get_or ps i 0 in
-      let place : at + (from + q) ≡ from + (at + q) = omega arith in
-      let read : get_or (take n (drop at (take m (drop from window)))) q 0 ≡ get_or window (from + (at + q)) 0 =
-      part-at (take m (drop from window)) at q n few ∙ part-at window from (at + q) m (omega (arith, few, room)) in
-      search (rules, arith, placed_next)
+  row_next = search (rules, arith, part-at, placed_next)
 
   -- where all are no more than a number, that is no more than so many squares of it
   pub row_few : (most : ℕ) → ((p : ℕ) → get_or window p 0 ≤ most) → IsLight most es
@@ -118,28 +74,6 @@ module _ (window ps : List ℕ) (es : List Entry) (i from : ℕ) (none : Entry) 
       let all : IsLight most (take (i + 1) es) = all_take (λ f. (f.a ≤ most) × (f.b ≤ most)) (i + 1) es light in
       let long : length (take (i + 1) es) ≡ i + 1 = length-take-le (i + 1) es (omega (arith, inside)) in
       omega (arith, row_next, (rw long at (products_few window ps (take (i + 1) es) most (from + q) low all)))
-
--- what is nowhere above a number is in no part above it, nor where a number below it is put
-low_take : (n i most : ℕ) (xs : List ℕ) → ((k : ℕ) → get_or xs k 0 ≤ most) → get_or (take n xs) i 0 ≤ most
-low_take n i most xs low = grind (arith, common_steps)
-
-pub low_part : (n start i most : ℕ) (xs : List ℕ) → ((k : ℕ) → get_or xs k 0 ≤ most) → get_or (take n (drop start xs)) i 0 ≤ most
-low_part n start i most xs low = low_take n i most (drop start xs) (λ k. rw (get_or-drop start xs k 0) (low (start + k)))
-
-pub low_set : (xs : List ℕ) (i v most : ℕ) → ((k : ℕ) → get_or xs k 0 ≤ most) → v ≤ most → (k : ℕ) → get_or (set xs i v) k 0 ≤ most
-low_set xs i v most low small k = grind (arith, common_steps)
-
--- where a bin more is laid
-pub place_next : (lags reach start i place there : ℕ) → place ≤ lags + reach * (i - start) → there ≤ place + reach → (i < start → there ≤ lags)
-    → there ≤ lags + reach * (i + 1 - start)
-place_next lags reach start i place there so_far step early =
-    (elim (ltb i start) as (λ b. ltb i start ≡ b → there ≤ lags + reach * (i + 1 - start)) [
-      | true ↦ λ is. omega (arith, early (grind (arith, nat_tests, is)))
-      | false ↦ λ is.
-          let count : i + 1 - start ≡ i - start + 1 = grind (arith, nat_tests, is) in
-          let ring : reach * (i - start + 1) ≡ reach * (i - start) + reach = grind arith in
-          rw count (omega (arith, ring, so_far, step))
-    ]) refl
 
 -- zeros are zero
 pub zeros_at : (n i : ℕ) → get_or (replicate {A = ℕ} n 0) i 0 ≡ 0
@@ -161,33 +95,92 @@ placed_upto (e ∷ es) (p ∷ ps) most low = (low 0, placed_upto es ps most (λ 
 -- bins are laid one behind the other
 laid_behind : (reach index place : ℕ) (es : List Entry) → AllByRecursion (λ f. place + 0 ≤ f.index) (laid reach index place es)
 laid_behind reach index place [] = tt
-laid_behind reach index place (e ∷ es) =
-    let here : ℕ = place + min (e.index - index) reach in (
-      omega arith,
-      all_weaker (λ f. here + 0 ≤ f.index) (λ f. place + 0 ≤ f.index) (λ f more. omega (arith, more))
-          (laid reach e.index here es) (laid_behind reach e.index here es),
-    )
+laid_behind reach index place (e ∷ es) = search (rules, arith, all_weaker, laid_behind reach e.index (place + min (e.index - index) reach) es)
 
 laid_spaced : (reach index place : ℕ) (es : List Entry) → IsSpaced 0 (laid reach index place es)
 laid_spaced reach index place [] = tt
-laid_spaced reach index place (e ∷ es) =
-    let here : ℕ = place + min (e.index - index) reach in
-    (laid_behind reach e.index here es, laid_spaced reach e.index here es)
+laid_spaced reach index place (e ∷ es) = search (rules, arith, laid_behind, laid_spaced reach e.index (place + min (e.index - index) reach) es)
 
--- of bins that don't fall none is before the first
-pub spaced_first : (es : List Entry) (none : Entry) → IsSpaced 0 es → AllByRecursion (λ e. (get_or es 0 none).index ≤ e.index) es
-spaced_first [] none spaced = tt
-spaced_first (e ∷ es) none spaced =
-    (omega arith, all_weaker (λ f. e.index + 0 ≤ f.index) (λ f. e.index ≤ f.index) (λ f up. omega (arith, up)) es spaced.0)
+-- of bins that don't fall, so many levels up, none is before the first
+pub from_first : (levels : ℕ) (es : List Entry) → IsSpaced 0 (map (raised levels) es)
+    → AllByRecursion (λ e. (raised levels (get_or es 0 no_bin)).index ≤ e.index) (map (raised levels) es)
+from_first levels [] spaced = tt
+from_first levels (e ∷ es) spaced = search (rules, arith, all_weaker)
 
--- and those before one are no further than that
-pub spaced_upto : (es : List Entry) (n most : ℕ) (none : Entry) → n < length es → (get_or es n none).index ≤ most → IsSpaced 0 es
-    → AllByRecursion (λ e. e.index ≤ most) (take n es)
-spaced_upto es zero most none inside upto spaced = tt
-spaced_upto [] (suc n) most none inside upto spaced = tt
-spaced_upto (e ∷ es) (suc n) most none inside upto spaced =
-    let up : e.index + 0 ≤ (get_or es n none).index = each_at (λ f. e.index + 0 ≤ f.index) es n none (omega (arith, inside)) spaced.0 in
-    (omega (arith, up, upto), spaced_upto es n most none (omega (arith, inside)) upto spaced.1)
+spaced_back : (es fs : List Entry) → IsSpaced 0 (es ++ fs) → IsSpaced 0 fs
+spaced_back [] fs spaced = spaced
+spaced_back (e ∷ es) fs spaced = spaced_back es fs spaced.1
+
+-- a bin so many levels up, and those before it
+module _ (levels : ℕ) (list : List Entry) (i : ℕ) (inside : i < length list) where
+  abbrev pub ups : List Entry
+  ups = map (raised levels) list
+
+  abbrev pub here : Entry
+  here = raised levels (get_or list i no_bin)
+
+  read : get_or ups i no_bin ≡ here
+  read = get_or-map (raised levels) list i no_bin no_bin inside
+
+  within : i < length ups
+  within = omega (arith, inside, length-map list (raised levels))
+
+  pub cut : take (i + 1) ups ≡ take i ups ++ here ∷ []
+  cut = (rw read at (take_more ups i no_bin within))
+
+  parts : take i ups ++ here ∷ drop (i + 1) ups ≡ ups
+  parts = (rw (drop_more ups i no_bin within, read) at (take-append-drop i ups))
+
+  pub under : IsSpaced 0 ups → AllByRecursion (λ e. e.index ≤ here.index) (take i ups)
+  under spaced = spaced_upto (take i ups) here (drop (i + 1) ups) (rw parts spaced)
+
+  pub over : {first : ℕ} → AllByRecursion (λ e. first ≤ e.index) ups → first ≤ here.index
+  over {first} all = (all_back (λ e. first ≤ e.index) (take i ups) (here ∷ drop (i + 1) ups) (rw parts all)).0
+
+  -- the last one laid before it is no further
+  pub behind_last : {window : List ℕ} {reach first : ℕ} {laying : Laying} → IsLaid window reach first laying (take i ups) → IsSpaced 0 ups
+      → AllByRecursion (λ e. first ≤ e.index) ups → laying.last.index ≤ here.index
+  behind_last are spaced all = are.upto here.index (over all) (under spaced)
+
+-- a bin more is laid
+module _ (window new : List ℕ) (reach index : ℕ) (was now : Laying) (es : List Entry) (e : Entry) (are : IsLaid window reach index was es)
+    (up : was.last.index ≤ e.index) (last : (now.last.index ≡ e.index) × (now.last.place ≡ was.last.place + min (e.index - was.last.index) reach))
+    (heaviest : (was.heaviest ≤ now.heaviest) × (e.a ≤ now.heaviest) × (e.b ≤ now.heaviest))
+    (weights : (p : ℕ) → p < 8640
+    → get_or new p 0 ≡ cond (eqb (now.last.place + 192) p) ((get_or window p 0 + e.a % 65536) % 65536) (get_or window p 0))
+    (light : get_or window (now.last.place + 192) 0 + e.a % 65536 ≤ now.heaviest) where
+  pub push : laid reach index 0 (es ++ e ∷ []) ≡ laid reach index 0 es ++ laid_at now.last.place e ∷ []
+  push = rw last.1 (are.next (e ∷ []))
+
+  weight_next : (q : ℕ) → weight_at First 192 0 q (laid reach index 0 (es ++ e ∷ []))
+      ≡ weight_at First 192 0 q (laid reach index 0 es) + cond (eqb (now.last.place + 192) q) e.a 0
+  weight_next q = search (rules, arith, push, sum_by_push, laid_at)
+
+  next : (rest : List Entry) → laid reach index 0 ((es ++ e ∷ []) ++ rest)
+      ≡ laid reach index 0 (es ++ e ∷ []) ++ laid reach now.last.index now.last.place rest
+  next rest = rw (last.0, last.1) (search (rules, arith, laid_at, append_assoc, are.next))
+
+  pub laid_more : IsLaid new reach index now (es ++ e ∷ [])
+  laid_more = record {
+    weights = λ few p inside.
+        let had = are.weights (omega (arith, few, heaviest.0)) p inside in
+        weights p inside
+        ∙ put_place (eqb (now.last.place + 192) p) (weight_at First 192 0 p (laid reach index 0 es)) (get_or window p 0) e.a had
+        (omega (arith, had, are.light p inside, few, heaviest.0)) (omega (arith, few, heaviest.1))
+        ∙ sym (weight_next p);
+    light = λ p inside. rw (weights p inside)
+        (put_below (eqb (now.last.place + 192) p) now.heaviest (get_or window p 0) e.a (omega (arith, are.light p inside, heaviest.0))
+        (λ is. let same : now.last.place + 192 ≡ p = grind (arith, nat_tests, is) in (rw same at light)));
+    behind = λ p far inside.
+        let away : eqb (now.last.place + 192) p ≡ false = grind (arith, nat_tests, far) in
+        (rw away at (weights p inside)) ∙ are.behind p (omega (arith, far, last.1)) inside;
+    heaviest = all_push (λ f. (f.a ≤ now.heaviest) × (f.b ≤ now.heaviest)) es e
+        (all_weaker (λ f. (f.a ≤ was.heaviest) × (f.b ≤ was.heaviest)) (λ f. (f.a ≤ now.heaviest) × (f.b ≤ now.heaviest))
+        (λ f upto. (omega (arith, upto.0, heaviest.0), omega (arith, upto.1, heaviest.0))) es are.heaviest) (heaviest.1, heaviest.2);
+    next = next;
+    upto = λ most some all. omega (arith, last.0, (all_back (λ f. f.index ≤ most) es (e ∷ []) all).0);
+    near = omega (arith, last, are.near, up);
+  }
 
 -- bins that aren't before an index count nowhere
 before_only : (k index : ℕ) (es fs : List Entry) → 0 < k → AllByRecursion (λ f. index + 0 ≤ f.index) fs
@@ -206,9 +199,7 @@ paired-all k all before (e ∷ es) some is spaced =
 
 -- an index more and a lag more are the same
 weight_shift : (k j m i : ℕ) (es : List Entry) → j + m ≡ i + k → weight_before k j es ≡ weight_before m i es
-weight_shift k j m i es same =
-    sum_by-same (λ (f : Entry). cond (eqb (f.index + k) j) f.a 0) (λ (f : Entry). cond (eqb (f.index + m) i) f.a 0) es
-    (λ f. ap (λ b. cond b f.a 0) (let test : eqb (f.index + k) j ≡ eqb (f.index + m) i = grind (arith, nat_tests) in test))
+weight_shift k j m i es same = search (rules, arith, sum_by-same)
 
 -- what stands so far before a bin, less than the reach, stands as far before the place where it is laid
 pub record Alike (reach index place : ℕ) (before beside : List Entry) : Type 0 where
@@ -263,41 +254,30 @@ paired_laid : (reach index place k : ℕ) (es : List Entry) → k < reach → Is
 paired_laid reach index place k [] few spaced = refl
 paired_laid reach index place k (e ∷ es) few spaced = search (rules, arith, laid_at, paired_alike)
 
--- the first of them are laid first
-take-laid : (reach index place n : ℕ) (es : List Entry) → take n (laid reach index place es) ≡ laid reach index place (take n es)
-take-laid reach index place zero es = refl
-take-laid reach index place (suc n) [] = refl
-take-laid reach index place (suc n) (e ∷ es) = search (rules, arith, laid_at, take-laid reach e.index (place + min (e.index - index) reach) n es)
-
--- the same from a bin on
-module _ (reach first start : ℕ) (list : List Entry) (spaced : IsSpaced 0 list) where
+-- the same of bins behind others
+module _ (reach first start : ℕ) (list back : List Entry) (spaced : IsSpaced 0 list)
+    (both : laid reach first 0 list ≡ laid reach first 0 (take start list) ++ back) where
   abbrev all : List Entry
   all = laid reach first 0 list
 
   abbrev front : List Entry
-  front = take start all
-
-  abbrev back : List Entry
-  back = drop start all
-
-  both : front ++ back ≡ all
-  both = take-append-drop start all
+  front = laid reach first 0 (take start list)
 
   paired_parts : (k : ℕ) → k < reach → paired k (take start list) (drop start list) ≡ paired k front back
   paired_parts k few =
       let whole = paired_laid reach first 0 k list few spaced in
       let before = paired_laid reach first 0 k (take start list) few (spaced_take 0 start list spaced) in
       let here = paired-append k [] (take start list) (drop start list) in
-      search (rules, arith, take-append-drop, paired-append, front, back, both, take-laid)
+      search (rules, arith, take-append-drop, paired-append, front, both)
 
   -- and what stands in the window are the pairs
-  pub laid-paired : (window : List ℕ) (most : ℕ) → length window ≡ 8640 → most + 192 < 8640 → AllByRecursion (λ e. e.index ≤ most) all
+  pub laid-paired : (window : List ℕ) (most : ℕ) → length window ≡ 8640 → most + 192 < 8640 → AllByRecursion (λ e. e.index ≤ most) back
       → ((q : ℕ) → q < 8640 → get_or window q 0 ≡ weight_at First 192 0 q all) → (k : ℕ) → 0 < k → k < reach → k ≤ 192
       → sum_by (product_at Second window 0 (192 - k)) back ≡ paired k (take start list) (drop start list)
   laid-paired window most long room within has k some few upto =
       let whole : (q : ℕ) → q < length window → get_or window q 0 ≡ weight_at First 192 0 q all = λ q inside. has q (omega (arith, long, inside)) in
       sum_by-agree (λ e. e.index ≤ most) (λ e. get_or window (e.index - 0 + (192 - k)) 0 * e.b)
-      (λ e. weight_before k e.index all * e.b) back (all_back (λ e. e.index ≤ most) front back (rw both within))
+      (λ e. weight_before k e.index all * e.b) back within
       (λ e at. ap (λ n. n * e.b) (window-before First window 0 192 all whole k e.index upto (omega arith) (omega (arith, at, long, room))))
-      ∙ sym (paired-all k all front back some both (spaced_drop 0 start all (laid_spaced reach first 0 list)))
+      ∙ sym (paired-all k all front back some (sym both) (spaced_back front back (rw both at (laid_spaced reach first 0 list))))
       ∙ sym (paired_parts k few)

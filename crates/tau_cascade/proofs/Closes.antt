@@ -1,12 +1,8 @@
 -- What closing a bin does to the ring of a level.
 use Rattle.std.{proofs.Common.{◌≡◌, ℕ, ◌+◌, ◌-◌, ◌<◌, ◌≤◌, Bool, false, refl, sym, leb, List, [], ◌∷◌, ◌++◌, length, arith, Some, append-nil, length-append, rules}, specs.List.{filter, AllByRecursion}, proofs.lemmas.List.Sums.sum_by-append}
 use Rattle.tally_base.{specs.Settings.CorrelationView, specs.Tally.History}
-use Rattle.lag_ring.{specs.declared.ring.Entry.Entry, specs.Ring.{Ring, ring, IsRising}, proofs.Kept.{room_after, kept_after}, proofs.Lists.{all_filter, all_join}, proofs.Rising.{all_weaker, rising_push}}
+use Rattle.lag_ring.{specs.declared.ring.Entry.Entry, specs.Ring.{Ring, ring, IsRising}, proofs.Kept.{room_after, kept_after}, proofs.Lists.{all_filter, all_join}, proofs.Rising.{rising_push}}
 use Rattle.tau_cascade.{specs.Correlation.{bin, in_first, in_second}, specs.Levels.{RingIs, CanClose, IsBin, CanFinish}, specs.declared.level.Level.Level, specs.Bins.CanShutAll}
-
--- what a list reads where it has nothing
-abbrev pub none : Entry
-none = record { index = 0; a = 0; b = 0 }
 
 module _ (set : CorrelationView) (level : ℕ) (r : Ring) (e : Entry) (closed xs : History) (some : 0 < set.lags) (can : CanClose set level r e closed xs) where
   abbrev stays : Entry → Bool
@@ -33,12 +29,6 @@ module _ (set : CorrelationView) (level : ℕ) (r : Ring) (e : Entry) (closed xs
 pub filter_none : {X : Type 0} (p : X → Bool) (xs : List X) → AllByRecursion (λ x. p x ≡ false) xs → filter p xs ≡ []
 filter_none p [] all = refl
 filter_none p (x ∷ xs) all = rw all.0 (filter_none p xs all.1)
-
--- where no entry is in reach, the ring has the bin alone
-pub ring_begun : (set : CorrelationView) (level : ℕ) (r : Ring) (e : Entry) (closed xs : History) → 0 < set.lags → AllByRecursion (λ f. f.index + set.lags < e.index) r.entries → CanClose set level r e closed xs → RingIs set level (ring (e ∷ []) r.reach) (closed ++ xs)
-ring_begun set level r e closed xs some far can =
-    let none : filter (λ f. leb (e.index - (set.lags - 1)) f.index) r.entries ≡ [] = filter_none (λ f. leb (e.index - (set.lags - 1)) f.index) r.entries (all_weaker (λ f. f.index + set.lags < e.index) (λ f. leb (e.index - (set.lags - 1)) f.index ≡ false) (λ f under. grind arith) r.entries far) in
-    ring_after set level r e closed xs some can [] (sym none) tt
 
 -- Bins of one index, and the open bin that is closed in the end.
 

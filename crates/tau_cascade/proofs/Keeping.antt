@@ -1,7 +1,7 @@
 -- What the ring of a level keeps once some bins are closed.
-use Rattle.std.{proofs.Common.{◌≡◌, ℕ, ◌+◌, ◌-◌, ◌<◌, ◌≤◌, Bool, true, false, leb, Some, List, [], ◌∷◌, ◌++◌, length, take, drop, get_or, slice_get, refl, sym, ap, ◌∙◌, append_assoc, append-nil, subst, arith, rules}, specs.List.{filter, AllByRecursion, AllByRecursion-prop}, proofs.Props.props, proofs.lemmas.Bool.false≢true, proofs.lemmas.List.{drop_more, take_more, take-append-drop}, proofs.lemmas.List.Elements.filter-append}
+use Rattle.std.{proofs.Common.{◌≡◌, ℕ, ◌-◌, ◌<◌, ◌≤◌, Bool, true, false, leb, List, [], ◌∷◌, ◌++◌, length, take, drop, get_or, refl, sym, ap, ◌∙◌, append_assoc, append-nil, arith, rules}, specs.List.{filter, AllByRecursion, AllByRecursion-prop}, proofs.Props.props, proofs.lemmas.Bool.false≢true, proofs.lemmas.List.{drop_more, take-append-drop}, proofs.lemmas.List.Elements.filter-append}
 use Rattle.tally_base.{specs.Settings.CorrelationView, specs.Tally.History}
-use Rattle.lag_ring.{specs.declared.ring.Entry.Entry, specs.Ring.{Ring, ring, IsRising}, proofs.Lists.{all_back, all_filter}, proofs.Rising.{all_push, all_weaker, filter_passed}}
+use Rattle.lag_ring.{specs.declared.ring.Entry.Entry, specs.Ring.{Ring, ring, IsRising}, proofs.Lists.{all_filter}, proofs.Rising.{all_weaker, filter_passed}}
 use Rattle.tau_cascade.{specs.Correlation.bin, specs.Levels.{IsBin, RingIs}, specs.Bins.Follow, proofs.Closes.{filter_none, ring_after}}
 
 pub rising-prop : (es : List Entry) → IsProp (IsRising es)
@@ -14,13 +14,8 @@ pub rising_filter : (p : Entry → Bool) (es : List Entry) → IsRising es → I
 rising_filter p [] rising = tt
 rising_filter p (e ∷ es) rising = search (rules, arith, all_filter, rising_filter p es rising.1)
 
--- those before an entry are below it
-pub all_below : (es fs : List Entry) (e : Entry) → IsRising (es ++ e ∷ fs) → AllByRecursion (λ f. f.index < e.index) es
-all_below [] fs e rising = tt
-all_below (x ∷ es) fs e rising = ((all_back (λ f. x.index < f.index) es (e ∷ fs) rising.0).0, all_below es fs e rising.1)
-
 -- a weaker test first leaves out nothing that the stronger one keeps
-filter_again : (p q : Entry → Bool) → ((x : Entry) → p x ≡ true → q x ≡ true) → (xs : List Entry) → filter p (filter q xs) ≡ filter p xs
+pub filter_again : (p q : Entry → Bool) → ((x : Entry) → p x ≡ true → q x ≡ true) → (xs : List Entry) → filter p (filter q xs) ≡ filter p xs
 filter_again p q stronger [] = refl
 filter_again p q stronger (x ∷ xs) = search (rules, arith, false≢true, filter_again p q stronger xs)
 
@@ -33,14 +28,7 @@ abbrev pub last_of : Entry → List Entry → Entry
 last_of e [] = e
 last_of e (f ∷ fs) = last_of f fs
 
-read_last : (e : Entry) (es : List Entry) → slice_get (e ∷ es) (length es) ≡ Some (last_of e es)
-read_last e [] = refl
-read_last e (f ∷ fs) = read_last f fs
-
-read_end : (e : Entry) (es : List Entry) → slice_get (e ∷ es) (length (e ∷ es) - 1) ≡ Some (last_of e es)
-read_end e es = let count : length (e ∷ es) - 1 ≡ length es = omega arith in rw count (read_last e es)
-
-upto_last : (e : Entry) (es : List Entry) → IsRising (e ∷ es) → e.index ≤ (last_of e es).index
+pub upto_last : (e : Entry) (es : List Entry) → IsRising (e ∷ es) → e.index ≤ (last_of e es).index
 upto_last e [] rising = omega arith
 upto_last e (f ∷ fs) rising = omega (arith, rising.0.0, upto_last f fs rising.1)
 
@@ -59,19 +47,6 @@ module _ (set : CorrelationView) (level : ℕ) (some : 0 < set.lags) where
       let rest = ring_all f fs (ring (filter (from_last e) r.entries ++ e ∷ []) r.reach) (closed ++ follow.0) follow.1 one follow.5 rising.1 in
       search (rules, arith, from_last, last_of, upto_last, keep_more, append_assoc)
 
-  -- the same by what the last is read to be
-  pub ring_last : (es : List Entry) (last : Entry) → slice_get es (length es - 1) ≡ Some last → (r : Ring) (closed xs : History) → RingIs set level r closed → Follow set level closed es xs → IsRising es → RingIs set level (ring (filter (from_last last) (r.entries ++ es)) r.reach) (closed ++ xs)
-  ring_last [] last read r closed xs was follow rising = cc
-  ring_last (e ∷ es) last read r closed xs was follow rising =
-      let some = read_end e es in
-      let same : last ≡ last_of e es = cc in
-      rw same (ring_all e es r closed xs was follow rising)
-
--- the entries and the bins before one rise up to it
-pub split_at : (front bins : List Entry) (i : ℕ) (none : Entry) → i < length bins
-    → front ++ bins ≡ (front ++ take i bins) ++ get_or bins i none ∷ drop (i + 1) bins
-split_at front bins i none inside = search (rules, arith, drop_more, take-append-drop, append_assoc)
-
 -- what is kept of entries and of bins behind them, of which those before a place go
 pub kept_is : (before start : ℕ) (front bins : List Entry) → AllByRecursion (λ e. e.index < before) (take start bins) → AllByRecursion (λ e. before ≤ e.index) (drop start bins) → filter (λ e. leb before e.index) (front ++ bins) ≡ filter (λ e. leb before e.index) front ++ drop start bins
 kept_is before start front bins left kept =
@@ -82,23 +57,6 @@ kept_is before start front bins left kept =
     ∙ filter-append (λ e. leb before e.index) (take start bins) (drop start bins) ∙ rw (none, all) refl in
     filter-append (λ e. leb before e.index) front bins ∙ ap (λ ys. filter (λ (e : Entry). leb before e.index) front ++ ys) parts
 
--- the next of the bins that are kept is above all that are, and has a place
-pub kept_below : (front bins : List Entry) (i : ℕ) (none : Entry) → i < length bins → IsRising (front ++ bins)
-    → AllByRecursion (λ f. f.index < (get_or bins i none).index) (front ++ take i bins)
-kept_below front bins i none inside rising =
-    let split = split_at front bins i none inside in
-    search (rules, arith, all_below)
-
 -- from one bin on, all are kept
 pub kept_from : (before start : ℕ) (bins : List Entry) (none : Entry) → 0 < start → start ≤ length bins → before ≤ (get_or bins (start - 1) none).index → AllByRecursion (λ e. before ≤ e.index) (drop start bins) → AllByRecursion (λ e. before ≤ e.index) (drop (start - 1) bins)
 kept_from before start bins none some inside here kept = search (rules, arith, drop_more)
-
--- where one is before an index, so are those before it
-pub left_behind : (before start : ℕ) (bins : List Entry) (none : Entry) → 0 < start → start ≤ length bins → IsRising bins
-    → (get_or bins (start - 1) none).index < before → AllByRecursion (λ e. e.index < before) (take start bins)
-left_behind before start bins none some inside rising here =
-    let one : start - 1 + 1 ≡ start = omega arith in
-    let cut : take start bins ≡ take (start - 1) bins ++ get_or bins (start - 1) none ∷ [] =
-    subst (λ n. take n bins ≡ take (start - 1) bins ++ get_or bins (start - 1) none ∷ []) one (take_more bins (start - 1) none (omega arith)) in
-    let under = kept_below [] bins (start - 1) none (omega arith) rising in
-    rw cut (all_push (λ e. e.index < before) (take (start - 1) bins) (get_or bins (start - 1) none) (all_weaker (λ e. e.index < (get_or bins (start - 1) none).index) (λ e. e.index < before) (λ e up. omega arith) (take (start - 1) bins) under) here)

@@ -1,6 +1,7 @@
 pub mod Rows
 pub mod Closes
 pub mod Follows
+pub mod Spread
 pub mod Paired
 pub mod Keeping
 pub mod Nexts
@@ -10,3 +11,4 @@ pub mod Blocks
 pub mod Passes
 pub mod Shown
 pub mod Work
+pub mod Near

@@ -1,8 +1,8 @@
 -- A level's additions are at most its lags times its occupied bins, and those at a lag at most its occupied bins.
 use Rattle.tally_base.{specs.declared.settings.CorrelationSet.CorrelationSet, specs.Settings.{CorrelationView, correlation_view}, specs.Tally.History}
-use Rattle.tau_cascade.{specs.declared.level.Level.Level, specs.declared.cascade.Cascade.Cascade, specs.Cascade.{Holds, set_of, spent_by, added_below}, specs.StandsFor.{StandsFor, WentThrough}, specs.Correlation.{bin, lag_count, photons_of, correlation}, specs.Work.{occupied, IsWithinLevelWork, lags_at, work_from, work, appears, distinct}, specs.Levels.{Chain, Complete, CellsAre, spent, entries_at_lags}}
-use Rattle.std.{proofs.Common.{rules, ◌≡◌, ℕ, zero, suc, ◌+◌, ◌*◌, ◌%◌, ◌<◌, ◌≤◌, take, slice_get, Bool, true, false, List, [], ◌∷◌, ◌++◌, length, map, sym, ap, ◌∙◌, refl, append_assoc, append-nil, zero-add, add-zero, Some, subst, arith, cond, ◌||◌, eqb, ◌-◌, ◌&&◌, ltb, leb}, proofs.Math.Nat.mul-le-mul_left, specs.Option.{option_map, option_map_or}, proofs.lemmas.Grind.common_steps, proofs.lemmas.List.{map-append, take_all, length-map}, proofs.lemmas.List.Sums.{sum_by-cons, sum_by-le, count_by-le-length}, specs.List.{AllByRecursion, count_by}}
-use Rattle.lag_ring.{specs.declared.ring.Entry.Entry, specs.Ring.IsRising, proofs.Between.{between, count-between}, proofs.Sums.sum_by-agree, proofs.Lists.all_map}
+use Rattle.tau_cascade.{specs.declared.level.Level.Level, specs.declared.cascade.Cascade.Cascade, specs.Cascade.{Holds, set_of, spent_by, added_below}, specs.StandsFor.{StandsFor, WentThrough}, specs.Correlation.{bin, lag_count, photons_of, correlation}, specs.Work.{occupied, IsWithinLevelWork, lags_at, work_from, work, appears, distinct}, specs.Levels.{Chain, Complete, CellsAre, spent}}
+use Rattle.std.{proofs.Common.{rules, ◌≡◌, ℕ, zero, suc, ◌+◌, ◌*◌, ◌%◌, ◌<◌, ◌≤◌, take, slice_get, Bool, true, false, List, [], ◌∷◌, ◌++◌, length, map, sym, ap, ◌∙◌, refl, append_assoc, append-nil, zero-add, add-zero, Some, subst, arith, cond, ◌||◌, eqb}, proofs.Math.Nat.mul-le-mul_left, specs.Option.{option_map, option_map_or}, proofs.lemmas.Grind.common_steps, proofs.lemmas.List.{map-append, take_all, length-map}, proofs.lemmas.List.Sums.{sum_by-cons, sum_by-le, count_by-le-length}, specs.List.{AllByRecursion}}
+use Rattle.lag_ring.proofs.Lists.{all_map}
 
 -- How many different numbers a list has.
 
@@ -124,22 +124,6 @@ all_lent t n all = cc (take_all n t.levels.items (omega arith), lent t n (omega 
 
 pub work_within : (t : Cascade) (h : History) → Holds t h → spent_by t ≤ work (correlation_view (set_of t)) h
 work_within t h is = search (rules, arith, spent_within)
-
--- How many entries stand at the lags of a level.
-
-abbrev pub at_lags : ℕ → ℕ → ℕ → Entry → Bool
-at_lags skipped lags index e = ltb skipped (index - e.index) && leb (index - e.index) lags
-
-same-test : (skipped lags index i : ℕ) → i < index → (ltb skipped (index - i) && leb (index - i) lags) ≡ (leb (index - lags) i && ltb i (index - skipped))
-same-test skipped lags index i below = grind (arith, common_steps)
-
--- They are at most as many as the lags, since each has an index of its own.
-pub few_at_lags : (es : List Entry) (skipped lags index : ℕ) → IsRising es
-    → AllByRecursion (λ e. e.index < index) es → entries_at_lags skipped lags index es ≤ lags - skipped
-few_at_lags es skipped lags index rising below =
-    let same : entries_at_lags skipped lags index es ≡ count_by (between (index - lags) (index - skipped)) es =
-    sum_by-agree (λ e. e.index < index) (λ e. cond (at_lags skipped lags index e) 1 0) (λ e. cond (between (index - lags) (index - skipped) e) 1 0) es below (λ e before. ap (λ b. cond b 1 0) (same-test skipped lags index e.index before)) in
-    search (rules, arith, between, count-between)
 
 -- What the pairs of a bin with the ring do to the cells of a level.
 

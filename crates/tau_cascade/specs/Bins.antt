@@ -1,5 +1,5 @@
 -- Bins that come to a level one after the other, and those that it closes.
-use Rattle.std.{specs.Prelude.{◌≡◌, ℕ, ◌+◌, ◌*◌, ◌/◌, ◌^◌, ◌<◌, ◌≤◌, ◌==◌, ⊤, false, Option, None, Some, List, [], ◌∷◌, ◌++◌, map, take, drop, length, sum_by, if◌then◌else◌}, specs.List.{AllByRecursion}}
+use Rattle.std.{specs.Prelude.{◌≡◌, ℕ, ◌+◌, ◌*◌, ◌/◌, ◌^◌, ◌<◌, ◌≤◌, ◌==◌, ⊤, false, Option, None, Some, List, [], ◌∷◌, ◌++◌, map, take, drop, length, filter, nat_le, sum_by, if◌then◌else◌}, specs.List.{AllByRecursion}}
 use Rattle.tally_base.{specs.Settings.CorrelationView, specs.Tally.{History, greatest_time, InOrder}, specs.Limits.record_limit, specs.declared.block.Block.Block, specs.Columns.{gathered, events_in}}
 use Rattle.lag_ring.{specs.declared.ring.Entry.Entry, specs.Ring.Ring, specs.Cells.Cells}
 use Rattle.tau_cascade.{specs.declared.level.Level.Level, specs.Correlation.{Given, bin, in_first, in_second, photons_of}, specs.Levels.{IsBin, LevelIs, RingIs, CellsAre, Chain}}
@@ -21,11 +21,23 @@ abbrev pub merged : Entry → List Entry → List Entry
 merged e [] = e ∷ []
 merged e (f ∷ fs) = if e.index == f.index then merged (both_of e f) fs else e ∷ merged f fs
 
--- the same behind an open bin, where there is one
-abbrev pub merged_onto : Option Entry → List Entry → List Entry
-merged_onto None [] = []
-merged_onto None (e ∷ es) = merged e es
-merged_onto (Some e) es = merged e es
+-- the same of bins of which there may be none
+abbrev pub merged_all : List Entry → List Entry
+merged_all [] = []
+merged_all (e ∷ es) = merged e es
+
+-- the bins of a list from a place on, so many levels up, neighbours of one index as one bin
+abbrev pub merged_at : ℕ → ℕ → List Entry → List Entry
+merged_at start levels list = merged_all (drop start (map (raised levels) list))
+
+-- those bins of a whole list that are not before an index
+abbrev pub kept_of : ℕ → ℕ → List Entry → List Entry
+kept_of before levels list = filter (λ e. nat_le before e.index) (merged_at 0 levels list)
+
+-- bins behind an open one, where there is one
+abbrev pub onto : Option Entry → List Entry → List Entry
+onto None es = es
+onto (Some e) es = e ∷ es
 
 -- each bin is so far before those behind it, or further
 abbrev pub IsSpaced : ℕ → List Entry → Type 0
@@ -76,7 +88,7 @@ module _ (set : CorrelationView) (level : ℕ) where
   pub record Took (l : Level) (shut : List Entry) (closed open' xs done now : History) : Type 0 where
     pub all : open' ++ xs ≡ done ++ now
     pub is : LevelIs set level l (closed ++ done) now
-    pub bins : Follow closed shut done
+    pub bins : Come closed shut done
 
   -- Photons came in these bins behind any that they may come behind, and the bins `shut` were closed.
   abbrev pub Takes : Level → Level → List Entry → List Entry → Type 0
@@ -86,6 +98,10 @@ module _ (set : CorrelationView) (level : ℕ) where
   -- This holds of the photons of closed bins together with those of bins that may be closed behind them.
   abbrev pub HoldsOfAll : Ring → Cells → List Entry → (History → Type 0) → Type 0
   HoldsOfAll ring cells es holds = (closed xs : History) → CanShutAll ring cells es closed xs → holds (closed ++ xs)
+
+-- Photons that come in some bins come in these others too.
+abbrev pub ComeAlike : List Entry → List Entry → Type 0
+ComeAlike es fs = (set : CorrelationView) (level : ℕ) (came xs : History) → Come set level came es xs → Come set level came fs xs
 
 -- photons xs may come in these bins to a level and those above it
 pub record CanCome (set : CorrelationView) (level : ℕ) (ls : List Level) (es : List Entry) (came xs : History) : Type 0 where
@@ -98,7 +114,7 @@ abbrev pub Carries : CorrelationView → ℕ → List Level → List Level → L
 Carries set level old new es = (came xs : History) → CanCome set level old es came xs → Chain set level new (came ++ xs)
 
 -- the events of a block may be given, after those that were
-pub record CanGiveBlock (set : CorrelationView) (ls : List Level) (block : Block 512) (h : History) : Type 0 where
+pub record CanGiveBlock (set : CorrelationView) (ls : List Level) (block : Block 1024) (h : History) : Type 0 where
   pub few : length h + length (events_in block) ≤ record_limit
   pub chain : Chain set 0 ls (photons_of set h)
   pub order : InOrder false (greatest_time false h) (gathered block)

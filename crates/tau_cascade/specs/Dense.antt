@@ -1,5 +1,5 @@
 -- Pairs of bins with what stands in a window.
-use Rattle.std.specs.Prelude.{ℕ, ◌≡◌, ◌+◌, ◌-◌, ◌*◌, ◌^◌, ◌<◌, ◌≤◌, min, List, [], ◌∷◌, slice_index, ◌++◌, take, drop}
+use Rattle.std.{specs.Prelude.{ℕ, ◌≡◌, ◌+◌, ◌-◌, ◌*◌, ◌^◌, ◌<◌, ◌≤◌, min, List, [], ◌∷◌, slice_index, ◌++◌, take, drop}, specs.List.{AllByRecursion}}
 use Rattle.lag_ring.{specs.declared.ring.Entry.Entry, specs.declared.window.Side.TheVariants.First, specs.Cells.{Cells, added_at}, specs.Bytes.{weight_at, IsLight}}
 use Rattle.tau_cascade.{specs.Levels.weight_before, specs.declared.laid.Laying.Laying}
 
@@ -50,15 +50,15 @@ placed (e ∷ es) (p ∷ ps) = record { index = p; a = e.a; b = e.b } ∷ placed
 abbrev pub IsZero : List ℕ → Type 0
 IsZero window = (p : ℕ) → p < 8640 → slice_index window p ≡ 0
 
--- bins were laid at these places in a window, whose place 192 is that of the index
-pub record IsLaid (window places : List ℕ) (reach index : ℕ) (laying : Laying) (es : List Entry) : Type 0 where
+-- bins were laid in a window, whose place 192 is that of the index, and others are laid behind the last of them
+pub record IsLaid (window : List ℕ) (reach index : ℕ) (laying : Laying) (es : List Entry) : Type 0 where
   pub weights : laying.heaviest < 2048 → (p : ℕ) → p < 8640 → slice_index window p ≡ weight_at First 192 0 p (laid reach index 0 es)
   pub light : (p : ℕ) → p < 8640 → slice_index window p ≤ laying.heaviest
   pub behind : (p : ℕ) → laying.last.place + 192 < p → p < 8640 → slice_index window p ≡ 0
-  pub at_places : placed es places ≡ laid reach index 0 es
-  pub near : (i : ℕ) → slice_index places i ≤ laying.last.place
-  pub place : laying.last.place + 192 < 8640
   pub heaviest : IsLight laying.heaviest es
+  pub next : (rest : List Entry) → laid reach index 0 (es ++ rest) ≡ laid reach index 0 es ++ laid reach laying.last.index laying.last.place rest
+  pub upto : (most : ℕ) → index ≤ most → AllByRecursion (λ e. e.index ≤ most) es → laying.last.index ≤ most
+  pub near : laying.last.place + index ≤ laying.last.index
 
 -- sums in so many lanes, of which the last is that of the first lag above those skipped, have the pairs of the bins of a list from a place on more than they had
 abbrev pub HavePaired : ℕ → ℕ → ℕ → List ℕ → List ℕ → ℕ → List Entry → Type 0

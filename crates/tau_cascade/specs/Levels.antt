@@ -1,5 +1,5 @@
 -- What levels stand for: photons that came to them, in order, and how far they are paired.
-use Rattle.std.{specs.Prelude.{◌≡◌, ℕ, ◌+◌, ◌-◌, ◌*◌, ◌/◌, ◌<◌, ◌≤◌, suc, ⊤, ◌==◌, ◌&&◌, nat_lt, nat_le, count_by, sum_by, Option, None, Some, List, [], ◌∷◌, ◌++◌, length, slice_index}, specs.List.{AllByRecursion}}
+use Rattle.std.{specs.Prelude.{◌≡◌, ℕ, ◌+◌, ◌*◌, ◌<◌, ◌≤◌, suc, ⊤, ◌==◌, sum_by, Option, None, Some, List, [], ◌∷◌, ◌++◌, length, slice_index}, specs.List.{AllByRecursion}}
 use Rattle.tally_base.{specs.Settings.CorrelationView, specs.Tally.History, specs.Limits.record_limit}
 use Rattle.lag_ring.{specs.declared.ring.Entry.Entry, specs.Ring.{Ring, IsRising, weight_where, Weighs, Keeps}, specs.Cells.{Cells, added_at}}
 use Rattle.tau_cascade.{specs.declared.level.Level.Level, specs.Correlation.{bin, in_first, in_second, correlation, skipped_lags, lag_count}, specs.Work.occupied}
@@ -7,14 +7,6 @@ use Rattle.tau_cascade.{specs.declared.level.Level.Level, specs.Correlation.{bin
 -- the first weight of the entry that stands k before the index, or 0
 abbrev pub weight_before : ℕ → ℕ → List Entry → ℕ
 weight_before k index es = weight_where (λ e. e.a) (λ i. i + k == index) es
-
--- how many entries stand before the index by more than the skipped lags, and at most so many lags
-abbrev pub entries_at_lags : ℕ → ℕ → ℕ → List Entry → ℕ
-entries_at_lags skipped lags index es = count_by (λ e. nat_lt skipped (index - e.index) && nat_le (index - e.index) lags) es
-
--- the bin of the next level in which a bin lies
-abbrev pub halved : Entry → Entry
-halved e = record { index = e.index / 2; a = e.a; b = e.b }
 
 module _ (set : CorrelationView) (level : ℕ) where
   -- the entry is the bin of these photons, of which there is one at least

@@ -1,8 +1,8 @@
 -- Which bins are open, from the events alone.
-use Rattle.std.{specs.Prelude.{ℕ, ◌/◌, zero, suc, max, Bool, true, false, ◌&&◌, ◌==◌, nat_lt, Option, None, Some, unwrap_or, List, [], ◌∷◌, map, filter, count_by, ◌+◌, ◌<◌, ◌≤◌, take, drop}, specs.Option.{option_map, option_and_then, option_map_or}}
+use Rattle.std.{specs.Prelude.{ℕ, ◌/◌, zero, suc, max, Bool, true, false, ◌&&◌, ◌==◌, nat_lt, Option, None, Some, unwrap_or, List, [], ◌∷◌, map, filter, count_by, ◌+◌, ◌<◌, ◌-◌, ◌≤◌, take, drop}, specs.Option.{option_map, option_and_then, option_map_or}}
 use Rattle.tally_base.{specs.Settings.CorrelationView, specs.Tally.History}
 use Rattle.lag_ring.specs.declared.ring.Entry.{Entry}
-use Rattle.tau_cascade.{specs.Correlation.{Given, bin, in_first, in_second, photons_of}, specs.declared.carry.Coming.Coming, specs.Bins.IsSpaced}
+use Rattle.tau_cascade.{specs.Correlation.{Given, bin, in_first, in_second, photons_of}, specs.declared.level.Coming.Coming, specs.Bins.{stretch, IsSpaced}}
 
 -- the greatest number of a list
 abbrev pub greatest : List ℕ → Option ℕ
@@ -32,8 +32,16 @@ open_bin set level h = open_of set level (photons_of set h)
 
 -- Bins that come to a level from the one below it.
 
--- They are in the list, come from no further down than there are levels, and are as far apart as is said.
+-- those bins, on the level to which they come
+abbrev pub coming_bins : Coming → List Entry → List Entry
+coming_bins coming bins = stretch coming.closed.from coming.closed.count coming.levels bins
+
+-- the same a level down, as that closed them
+abbrev pub closed_bins : Coming → List Entry → List Entry
+closed_bins coming bins = stretch coming.closed.from coming.closed.count (coming.levels - 1) bins
+
+-- They are in a list of 1192 places with room before them, of 168 on the first level and one less on each above, come from no further down than there are levels, and are as far apart as is said.
 pub record IsComing (coming : Coming) (level : ℕ) (bins : List Entry) : Type 0 where
-  pub places : (coming.closed.from ≤ 128) × (coming.closed.count ≤ 512)
+  pub places : (coming.closed.from ≤ 168) × (168 ≤ coming.closed.from + level) × (coming.closed.from + coming.closed.count ≤ 1192)
   pub up : coming.levels ≤ level + 1
   pub spaced : 0 < coming.apart → IsSpaced coming.apart (take coming.closed.count (drop coming.closed.from bins))

@@ -1,27 +1,27 @@
 // Bins that come to a level, and those that it closes.
-ghost use Rattle.std.specs.Prelude.{◌≡◌, ◌+◌, ◌^◌, ◌<◌, ◌≤◌, false, [], ◌∷◌, ◌++◌, length, map, take, drop, if◌then◌else◌};
+ghost use Rattle.std.{specs.Prelude.{◌≡◌, ◌+◌, ◌*◌, ◌^◌, ◌<◌, ◌≤◌, false, [], ◌++◌, length, map, take, drop, sum_by, if◌then◌else◌}, specs.List.AllByRecursion};
 ghost use Rattle.tally_base.{specs.Settings.correlation_view, specs.Columns.{events_in, IsSorted}};
-ghost use Rattle.tau_cascade.specs.Bins.{raised, FitCounts, IsSpaced, merged, merged_onto, photon_bins};
+ghost use Rattle.tau_cascade.specs.Bins.{raised, onto, FitCounts, IsSpaced, merged_all, stretch, photon_bins};
 
 use lag_ring::{Entry, LagRing};
 use tally_base::{Block, CorrelationSet, TABLE_BLOCK};
 
-/// How many bins a list has room for: those of a ring, and behind them those of a block.
-pub(crate) const LIST: usize = RING + TABLE_BLOCK;
+/// How many bins a list has room for: before those of a block those of a ring, and one for each level.
+pub(crate) const LIST: usize = LEVELS + MOST_LAGS + TABLE_BLOCK;
 
-/// How many bins a ring has at most.
-pub(crate) const RING: usize = 128;
+/// How many lags there are at most, and so bins in a ring.
+pub(crate) const MOST_LAGS: usize = 128;
 
 /// How many levels there are at most.
 pub(crate) const LEVELS: usize = 40;
 
-/// What bins were merged into.
+/// The last bin of a list, and how many are before it.
 #[derive(Clone, Copy)]
-pub(crate) struct Merged {
-    /// How many bins are closed.
+pub(crate) struct Last {
+    /// How many bins are before it, and are closed.
     pub(crate) closed: usize,
-    /// The one behind those, which stays open.
-    pub(crate) open: Entry,
+    /// It, which stays open.
+    pub(crate) bin: Entry,
 }
 
 /// Puts the photons of either group that a block has into bins of one photon, in a list from a place on,
@@ -66,16 +66,17 @@ pub(crate) fn spacing(bins: &[Entry]) -> u64
     least
 }
 
-/// The bin so many levels up in which a bin lies.
+/// A distance that no two of these bins fall below, nor any of those that are `apart` behind the last of them; or 0 where
+/// `apart`, so many levels up, is within reach.
 #[inline(always)]
-pub(crate) fn raised(bin: &Entry, levels: u32) -> Entry
+pub(crate) fn apart_all(bins: &[Entry], apart: u64, levels: u32, lags: u32) -> u64
     requires { levels < 64 }
-    ensures { result ≡ raised levels bin.now }
+    ensures { 0 < result → (result ≤ apart) × IsSpaced result bins.now }
 {
-    Entry {
-        index: bin.index >> levels,
-        a: bin.a,
-        b: bin.b,
+    if apart >> levels > u64::from(lags) {
+        apart.min(spacing(bins))
+    } else {
+        0
     }
 }
 
@@ -88,65 +89,40 @@ fn joined(apart: bool, was: u64, more: u64) -> u64
     was * u64::from(!apart) + more
 }
 
-/// Merges neighbours of one index, and puts what is closed into `list` from `start` on.
-fn merge(first: &Entry, came: &[Entry], levels: u32, list: &mut [Entry], start: usize) -> Merged
+/// Merges neighbours of one index, of so many bins of a list from a place on, so many levels up, and answers how many they
+/// are then. They begin at the same place.
+pub(crate) fn merge(list: &mut [Entry], from: usize, count: usize, levels: u32) -> usize
+    requires places { (0 < count) × (from + count ≤ length list.old) }
     requires levels { levels < 64 }
-    requires room { start + length came.now ≤ length list.old }
-    requires counts { FitCounts (merged first.now (map (raised levels) came.now)) }
-    ensures bins { take result.closed (drop start list.new) ++ result.open ∷ []
-        ≡ merged first.now (map (raised levels) came.now) }
-    ensures before { take start list.new ≡ take start list.old }
-    ensures few { result.closed ≤ length came.now }
+    requires counts { FitCounts (merged_all (stretch from count levels list.old)) }
+    ensures bins { take result (drop from list.new)
+        ≡ merged_all (stretch from count levels list.old) }
+    ensures before { take from list.new ≡ take from list.old }
+    ensures few { (0 < result) × (result ≤ count) }
 {
-    let mut count = 0;
-    let mut index = first.index;
+    let first = list[from];
+    let mut closed = 0;
+    let mut index = first.index >> levels;
     let mut a = first.a;
     let mut b = first.b;
-    for bin in came {
+    for at in 1..count {
         // No branch on whether they are one bin.
+        let bin = list[from + at];
         let next = bin.index >> levels;
-        list[start + count] = Entry { index, a, b };
+        list[from + closed] = Entry { index, a, b };
         let apart = index != next;
         a = joined(apart, a, bin.a);
         b = joined(apart, b, bin.b);
-        count += usize::from(apart);
+        closed += usize::from(apart);
         index = next;
     }
-    Merged {
-        closed: count,
-        open: Entry { index, a, b },
-    }
-}
-
-/// Merges bins with an open one, where there is one, and with one another.
-pub(crate) fn merge_onto(
-    was: &Option<Entry>,
-    came: &[Entry],
-    levels: u32,
-    list: &mut [Entry],
-    start: usize,
-) -> Merged
-    requires some { 0 < length came.now }
-    requires levels { levels < 64 }
-    requires room { start + length came.now ≤ length list.old }
-    requires counts { FitCounts (merged_onto was.now (map (raised levels) came.now)) }
-    ensures bins { take result.closed (drop start list.new) ++ result.open ∷ []
-        ≡ merged_onto was.now (map (raised levels) came.now) }
-    ensures before { take start list.new ≡ take start list.old }
-    ensures few { result.closed ≤ length came.now }
-{
-    match was {
-        Some(first) => merge(first, came, levels, list, start),
-        None => {
-            let first = raised(&came[0], levels);
-            merge(&first, &came[1..], levels, list, start)
-        }
-    }
+    list[from + closed] = Entry { index, a, b };
+    closed + 1
 }
 
 /// Copies entries into a list from a place on, and answers the place behind them.
 #[inline(always)]
-fn copy_into(entries: &[Entry], list: &mut [Entry], start: usize) -> usize
+pub(crate) fn copy_into(entries: &[Entry], list: &mut [Entry], start: usize) -> usize
     requires { start + length entries.now ≤ length list.old }
     ensures entries { take result list.new ≡ take start list.old ++ entries.now }
     ensures place { result ≡ start + length entries.now }
@@ -166,4 +142,117 @@ pub(crate) fn lay_out(ring: &LagRing, list: &mut [Entry]) -> usize
     let (front, back) = ring.slices();
     let at = copy_into(front, list, 0);
     copy_into(back, list, at)
+}
+
+/// Copies entries, so many levels down, before those of a list from a place on, and answers where they begin.
+#[inline(always)]
+fn lower_before(entries: &[Entry], list: &mut [Entry], from: usize, levels: u32) -> usize
+    requires room { (length entries.now ≤ from) × (from ≤ length list.old) × (levels < 64) }
+    requires fits { AllByRecursion (λ e. e.index * 2 ^ levels < 2 ^ 64) entries.now }
+    ensures place { result + length entries.now ≡ from }
+    ensures bins { map (raised levels) (drop result list.new)
+        ≡ entries.now ++ map (raised levels) (drop from list.old) }
+    ensures behind { drop from list.new ≡ drop from list.old }
+{
+    let start = from - entries.len();
+    for i in 0..entries.len() {
+        let bin = entries[i];
+        list[start + i] = Entry {
+            index: bin.index << levels,
+            a: bin.a,
+            b: bin.b,
+        };
+    }
+    start
+}
+
+/// Puts the open bin, where there is one, before the bins of a list from a place on, so many levels down, and answers
+/// where they begin then.
+#[inline(always)]
+pub(crate) fn lower_open(was: &Option<Entry>, list: &mut [Entry], from: usize, levels: u32) -> usize
+    requires room { (0 < from) × (from ≤ length list.old) × (levels < 64) }
+    requires fits { AllByRecursion (λ e. e.index * 2 ^ levels < 2 ^ 64) (onto was.now []) }
+    ensures place { result + length (onto was.now []) ≡ from }
+    ensures bins { map (raised levels) (drop result list.new)
+        ≡ onto was.now (map (raised levels) (drop from list.old)) }
+    ensures behind { drop from list.new ≡ drop from list.old }
+{
+    match was {
+        Some(bin) => lower_before(&[*bin], list, from, levels),
+        None => from,
+    }
+}
+
+/// Puts the entries of a ring before the bins of a list from a place on, so many levels down, and answers where they
+/// begin.
+#[inline(always)]
+pub(crate) fn lower_ring(ring: &LagRing, list: &mut [Entry], from: usize, levels: u32) -> usize
+    requires room { (length ring.now.entries ≤ from) × (from ≤ length list.old) × (levels < 64) }
+    requires fits { AllByRecursion (λ e. e.index * 2 ^ levels < 2 ^ 64) ring.now.entries }
+    ensures place { result + length ring.now.entries ≡ from }
+    ensures bins { map (raised levels) (drop result list.new)
+        ≡ ring.now.entries ++ map (raised levels) (drop from list.old) }
+    ensures behind { drop from list.new ≡ drop from list.old }
+{
+    let (front, back) = ring.slices();
+    let at = lower_before(back, list, from, levels);
+    lower_before(front, list, at, levels)
+}
+
+/// The last of some bins, so many levels up, together with those before it that have its index, and how many are before
+/// them.
+pub(crate) fn cut_last(bins: &[Entry], levels: u32) -> Last
+    requires some { (0 < length bins.now) × (levels < 64) }
+    requires sorted { IsSpaced 0 (map (raised levels) bins.now) }
+    requires counts { FitCounts (map (raised levels) bins.now) }
+    ensures few { result.closed < length bins.now }
+    ensures before { AllByRecursion (λ e. e.index < result.bin.index)
+        (map (raised levels) (take result.closed bins.now)) }
+    ensures here { AllByRecursion (λ e. e.index ≡ result.bin.index)
+        (map (raised levels) (drop result.closed bins.now)) }
+    ensures weights { (result.bin.a ≡ sum_by (λ e. e.a) (map (raised levels) (drop result.closed bins.now)))
+        × (result.bin.b ≡ sum_by (λ e. e.b) (map (raised levels) (drop result.closed bins.now))) }
+{
+    let last = bins[bins.len() - 1];
+    let index = last.index >> levels;
+    let mut closed = bins.len() - 1;
+    let mut a = last.a;
+    let mut b = last.b;
+    'back: while closed > 0 {
+        let bin = bins[closed - 1];
+        if bin.index >> levels != index {
+            return Last {
+                closed,
+                bin: Entry { index, a, b },
+            };
+        }
+        a += bin.a;
+        b += bin.b;
+        closed -= 1;
+    }
+    Last {
+        closed,
+        bin: Entry { index, a, b },
+    }
+}
+
+/// A number that no bin has more photons of either group than.
+pub(crate) fn heaviest_of(bins: &[Entry]) -> u64 {
+    let mut heaviest = 0;
+    for bin in bins {
+        heaviest |= bin.a | bin.b;
+    }
+    heaviest
+}
+
+/// Whether at most a quarter of the first of these bins, so many levels up, share their bin with the one before them.
+pub(crate) fn hardly_merge(bins: &[Entry], levels: u32) -> bool
+    requires { levels < 64 }
+{
+    let some = bins.len().min(64);
+    let mut same = 0;
+    for at in 1..some {
+        same += usize::from(bins[at].index >> levels == bins[at - 1].index >> levels);
+    }
+    same * 4 <= some
 }

@@ -1,24 +1,61 @@
 // What goes from level to level.
-ghost use Rattle.std.specs.Prelude.{◌≡◌, ◌+◌, ◌<◌, ◌≤◌, ◌∷◌, ◌++◌, length, take, drop};
+ghost use Rattle.std.specs.Prelude.{◌≡◌, ◌+◌, ◌<◌, ◌≤◌, ◌∷◌, length, None};
 ghost use Rattle.tally_base.{specs.Settings.correlation_view, specs.Tally.History};
-ghost use Rattle.tau_cascade.{specs.Levels.{CanEnd, Chain, Complete, LevelDone, spent}, specs.Bins.{stretch, CanCome, Carries}, specs.Dense.IsZero, specs.Opens.IsComing};
+ghost use Rattle.tau_cascade.{specs.Levels.{CanEnd, Complete, LevelDone, spent}, specs.Bins.{CanTake, Takes, CanCome, Carries, ComeAlike, FitCounts, merged_all}, specs.Dense.IsZero, specs.Opens.{IsComing, coming_bins, closed_bins}};
 
-use crate::bins::{LEVELS, LIST, RING};
+use crate::bins::{LEVELS, LIST, MOST_LAGS, hardly_merge, merge};
 use crate::laid::PLACES;
-use crate::level::{Closed, Level};
+use crate::level::{Closed, Coming, Level};
 use lag_ring::Entry;
 use std::sync::ledger::Ledger;
 use tally_base::{CorrelationSet, Steps};
 
-/// Bins that come to a level.
-#[derive(Clone, Copy)]
-pub(crate) struct Coming {
-    /// Where they are in their list.
-    pub(crate) closed: Closed,
-    /// Each is meant so many levels up from where it stands in the list.
-    pub(crate) levels: u32,
-    /// A distance that no two of them fall below, as they stand in the list, or 0.
-    pub(crate) apart: u64,
+/// Merges bins that come to a level, in their list, where many share one, or bins that wait there are not light. That
+/// they come to a level `level` is for the clauses alone.
+fn merge_many(bins: &mut [Entry], level: u32, coming: Coming, light: bool) -> Coming
+    requires comes { IsComing coming level bins.old × (0 < coming.closed.count) }
+    requires sized { (length bins.old ≡ LIST) × (level < LEVELS) }
+    requires counts { FitCounts (merged_all (coming_bins coming bins.old)) }
+    ensures comes { IsComing result level bins.new × (0 < result.closed.count) }
+    ensures bins { ComeAlike (coming_bins coming bins.old) (coming_bins result bins.new) }
+{
+    let Closed { from, count } = coming.closed;
+    let apart = coming.apart >> coming.levels > 0;
+    if apart || light && hardly_merge(&bins[from..from + count], coming.levels) {
+        return coming;
+    }
+    let count = merge(bins, from, count, coming.levels);
+    Coming {
+        closed: Closed { from, count },
+        levels: 0,
+        apart: 0,
+    }
+}
+
+/// Gives bins of a list to a level, and answers where those are that this closes. What is in `spare` is lost.
+fn give_first<L: Ledger>(
+    first: &mut Level,
+    set: &CorrelationSet,
+    level: u32,
+    bins: &mut [Entry],
+    coming: Coming,
+    spare: &mut [Entry],
+    window: &mut [u16; PLACES],
+    steps: &mut Steps<L>,
+) -> Coming
+    requires sized { (length bins.old ≡ LIST) × (length spare.old ≡ LIST) × IsZero window.old }
+    requires comes { IsComing coming level bins.old × (0 < coming.closed.count) × (level < LEVELS) }
+    requires stands { ∥ ((closed : History) × (open' : History) × (xs : History)
+        × CanTake (correlation_view set.now) level first.old (coming_bins coming bins.old)
+        closed open' xs) ∥₁ }
+    ensures follows { Takes (correlation_view set.now) level first.old first.new
+        (coming_bins coming bins.old) (closed_bins result bins.new) }
+    ensures comes { IsComing result (level + 1) bins.new × (0 < result.levels) }
+    ensures zeros { IsZero window.new }
+    ensures steps { steps.new + first.old.cells.added ≡ steps.old + first.new.cells.added }
+{
+    let came = merge_many(bins, level, coming, first.is_light());
+    first.take(set, level, bins, came, spare, window, steps)
 }
 
 /// Gives bins of a list to the first of these levels, and those that this closes to the next level, and so
@@ -36,59 +73,19 @@ pub(crate) fn carry_all<L: Ledger>(
     requires sized { (length bins.old ≡ LIST) × (length spare.old ≡ LIST) × IsZero window.old }
     requires comes { IsComing coming level bins.old }
     requires stands { ∥ ((came : History) × (xs : History) × CanCome (correlation_view set.now) level
-        levels.old (stretch coming.closed.from coming.closed.count coming.levels bins.old) came xs) ∥₁ }
+        levels.old (coming_bins coming bins.old) came xs) ∥₁ }
     requires depth { level + length levels.old ≤ LEVELS }
     ensures follows { Carries (correlation_view set.now) level levels.old levels.new
-        (stretch coming.closed.from coming.closed.count coming.levels bins.old) }
+        (coming_bins coming bins.old) }
     ensures zeros { IsZero window.new }
     ensures steps { steps.new + spent levels.old ≡ steps.old + spent levels.new }
 {
-    let Closed { from, count } = coming.closed;
-    let up = coming.levels;
-    if count > 0 {
+    if coming.closed.count > 0 {
         if let Some((first, rest)) = levels.split_first_mut() {
-            match first.alone(set, bins[from].index, reach(from, coming.apart), up) {
-                Some(alone) => {
-                    first.pass(set, &alone.open, bins, coming.closed, up);
-                    let next = Coming {
-                        closed: Closed {
-                            from: from - 1,
-                            count,
-                        },
-                        levels: up + 1,
-                        apart: alone.apart,
-                    };
-                    carry_all(rest, set, level + 1, bins, next, spare, window, steps);
-                }
-                None => {
-                    let closed = first.take(
-                        set,
-                        level,
-                        &bins[from..from + count],
-                        up,
-                        spare,
-                        window,
-                        steps,
-                    );
-                    let next = Coming {
-                        closed,
-                        levels: 1,
-                        apart: 0,
-                    };
-                    carry_all(rest, set, level + 1, spare, next, bins, window, steps);
-                }
-            }
+            let next = give_first(first, set, level, bins, coming, spare, window, steps);
+            carry_all(rest, set, level + 1, bins, next, spare, window, steps);
         }
     }
-}
-
-/// The distance, where there is a place before the first bin, or 0.
-#[inline(always)]
-fn reach(from: usize, apart: u64) -> u64
-    ensures value { 0 < result → result ≡ apart }
-    ensures place { 0 < result → 0 < from }
-{
-    if from > 0 { apart } else { 0 }
 }
 
 /// Closes the open bin of a level, and gives it to the levels above.
@@ -110,12 +107,16 @@ fn end_first<L: Ledger>(
         a: 0,
         b: 0,
     };
+    let mut bins = [none; LIST];
     let mut spare = [none; LIST];
     let mut window = [0; PLACES];
-    if let Some(last) = first.end(set, level, &mut spare, &mut window, steps) {
-        let mut bins = [last; LIST];
+    if let Some(last) = first.end(set, level, &mut bins, &mut spare, &mut window, steps) {
+        bins[LEVELS + MOST_LAGS] = last;
         let one = Coming {
-            closed: Closed { from: 0, count: 1 },
+            closed: Closed {
+                from: LEVELS + MOST_LAGS,
+                count: 1,
+            },
             levels: 1,
             apart: 0,
         };

@@ -3,10 +3,10 @@ ghost use Rattle.std.{specs.Prelude.{◌≡◌, ◌+◌, ◌<◌, ◌≤◌, [],
 ghost use Rattle.tally_base.{specs.Settings.correlation_view, specs.Tally.History, specs.Limits.record_limit, specs.Columns.{events_in, IsSorted}, specs.Settings.PartSettings.CorrelationSettings};
 ghost use Rattle.tau_cascade.{specs.StandsFor.{StandsFor, HasTaken}, specs.Levels.spent, specs.Bins.CanGiveBlock};
 
-use crate::bins::{LEVELS, LIST, gather, spacing};
-use crate::carry::{Coming, carry_all, end_all};
+use crate::bins::{LEVELS, LIST, MOST_LAGS, gather, spacing};
+use crate::carry::{carry_all, end_all};
 use crate::laid::PLACES;
-use crate::level::{Closed, Level, skipped_lags};
+use crate::level::{Closed, Coming, Level, skipped_lags};
 use lag_ring::{Entry, PairCells};
 use std::alloc::{AllocError, Global};
 use std::sync::ledger::Ledger;
@@ -143,15 +143,15 @@ fn give_block<L: Ledger>(
     let mut bins = [none; LIST];
     let mut spare = [none; LIST];
     let mut window = [0; PLACES];
-    // Each level puts at most one bin before the list.
-    let count = gather(set, block, &mut bins, LEVELS);
+    // Each level puts at most one bin before the list, and those of its ring before that.
+    let count = gather(set, block, &mut bins, LEVELS + MOST_LAGS);
     let all = Coming {
         closed: Closed {
-            from: LEVELS,
+            from: LEVELS + MOST_LAGS,
             count,
         },
         levels: 0,
-        apart: spacing(&bins[LEVELS..LEVELS + count]),
+        apart: spacing(&bins[LEVELS + MOST_LAGS..LEVELS + MOST_LAGS + count]),
     };
     carry_all(
         levels,

@@ -1,20 +1,15 @@
 // Pairs of bins that are laid close together: a bin further from the one before it than the lags reach is laid
 // just out of reach, so that all have places in a short window.
-ghost use Rattle.std.{specs.Prelude.{◌≡◌, ℕ, ◌+◌, ◌-◌, ◌*◌, ◌/◌, ◌%◌, ◌^◌, ◌<◌, ◌≤◌, ◌==◌, true, length, map, min, slice_index, sum_by, take, drop, if◌then◌else◌}, specs.List.AllByRecursion};
+ghost use Rattle.std.{specs.Prelude.{◌≡◌, ℕ, ◌+◌, ◌-◌, ◌*◌, ◌/◌, ◌%◌, ◌^◌, ◌<◌, ◌≤◌, ◌==◌, true, length, map, min, slice_index, sum_by, take, drop, ◌++◌, if◌then◌else◌}, specs.List.AllByRecursion};
 ghost use Rattle.lag_ring.{specs.declared.window.Side.TheVariants.Second, specs.Bytes.{product_at, IsLight}};
-ghost use Rattle.tau_cascade.{specs.Dense.{placed, IsLaid, IsZero, HavePaired, AreWithin, HaveRoom}, specs.Bins.{IsSpaced, raised}};
+ghost use Rattle.tau_cascade.{specs.Dense.{laid, placed, IsLaid, IsZero, HavePaired, AreWithin, HaveRoom}, specs.Bins.{IsSpaced, raised}};
 
+use crate::bins::MOST_LAGS;
 use lag_ring::Entry;
 use std::simd::Simd;
 
-/// How many lags at most a window serves.
-pub(crate) const CLOSE_LAGS: u32 = 128;
-
 /// How many bins are paired over a window at most.
 pub(crate) const CLOSE_PART: usize = 64;
-
-/// How many bins at most a window serves: those, and before them one for each lag.
-pub(crate) const CLOSE_BINS: usize = 192;
 
 /// How many places a window has before that of the first bin: no fewer than it has lanes and lags are skipped.
 const TOP: usize = 192;
@@ -88,25 +83,21 @@ fn lay_one(window: &mut [u16; PLACES], was: Laying, bin: &Entry, levels: u32, re
     }
 }
 
-/// Lays bins, so many levels up, one behind the other, puts their weights in the first group into the window, and
-/// keeps their places. Those before `start` are no further behind the index `first` than the lags.
-fn lay_all(
+/// Lays bins, so many levels up, one behind the other, and puts their weights in the first group into the window. They
+/// are no further behind the index `first` than the lags.
+#[inline(always)]
+fn lay_before(
     window: &mut [u16; PLACES],
-    places: &mut [u16; CLOSE_BINS],
     first: u64,
-    list: &[Entry],
-    start: usize,
+    bins: &[Entry],
     levels: u32,
     lags: u32,
 ) -> Laying
-    requires list { (length list.now ≤ CLOSE_BINS) × (length list.now ≤ start + CLOSE_PART)
-        × IsSpaced 0 (map (raised levels) list.now) }
-    requires near { AllByRecursion (λ e. first ≤ e.index) (map (raised levels) list.now)
-        × AllByRecursion (λ e. e.index ≤ first + lags) (take start (map (raised levels) list.now)) }
-    requires lags { (lags ≤ CLOSE_LAGS) × (levels < 64) }
-    requires zeros { IsZero window.old × ((i : ℕ) → slice_index places.old i ≡ 0) }
-    ensures { IsLaid window.new places.new (lags + 1) first result
-        (map (raised levels) list.now) }
+    requires sorted { IsSpaced 0 (map (raised levels) bins.now) }
+    requires near { AllByRecursion (λ e. first ≤ e.index) (map (raised levels) bins.now)
+        × AllByRecursion (λ e. e.index ≤ first + lags) (map (raised levels) bins.now) }
+    requires lags { (lags ≤ MOST_LAGS) × (levels < 64) × IsZero window.old }
+    ensures { IsLaid window.new (lags + 1) first result (map (raised levels) bins.now) }
 {
     let reach = u64::from(lags) + 1;
     let mut laying = Laying {
@@ -116,9 +107,42 @@ fn lay_all(
         },
         heaviest: 0,
     };
-    for i in 0..list.len() {
+    for bin in bins {
+        laying = lay_one(window, laying, bin, levels, reach);
+    }
+    laying
+}
+
+/// Lays bins, so many levels up, one behind the other, puts their weights in the first group into the window, and keeps
+/// the places of those from `start` on. Those before are no further behind the index `first` than the lags.
+#[inline(always)]
+fn lay_all(
+    window: &mut [u16; PLACES],
+    places: &mut [u16; CLOSE_PART],
+    first: u64,
+    list: &[Entry],
+    start: usize,
+    levels: u32,
+    lags: u32,
+) -> Laying
+    requires list { (start ≤ length list.now) × (length list.now ≤ start + CLOSE_PART)
+        × IsSpaced 0 (map (raised levels) list.now) }
+    requires near { AllByRecursion (λ e. first ≤ e.index) (map (raised levels) list.now)
+        × AllByRecursion (λ e. e.index ≤ first + lags) (take start (map (raised levels) list.now)) }
+    requires lags { (lags ≤ MOST_LAGS) × (levels < 64) }
+    requires zeros { IsZero window.old × ((i : ℕ) → slice_index places.old i ≡ 0) }
+    ensures all { IsLaid window.new (lags + 1) first result (map (raised levels) list.now) }
+    ensures places { laid (lags + 1) first 0 (map (raised levels) list.now)
+        ≡ laid (lags + 1) first 0 (take start (map (raised levels) list.now))
+        ++ placed (drop start list.now) places.new }
+    ensures near { ((i : ℕ) → slice_index places.new i ≤ result.last.place)
+        × (result.last.place + TOP < PLACES) }
+{
+    let reach = u64::from(lags) + 1;
+    let mut laying = lay_before(window, first, &list[..start], levels, lags);
+    for i in start..list.len() {
         laying = lay_one(window, laying, &list[i], levels, reach);
-        places[i] = laying.last.place as u16;
+        places[i - start] = laying.last.place as u16;
     }
     laying
 }
@@ -238,8 +262,8 @@ fn sum_laid<const N: usize>(
 }
 
 /// Adds the pairs of the bins of a list, so many levels up, from `start` on with those before them, at the lags above
-/// `skipped` and up to `lags`, to sums, and answers true. The last sum is that of the first lag. Where there are too
-/// many bins before those, or bins are too heavy, the answer is false.
+/// `skipped` and up to `lags`, to sums, and answers true. The last sum is that of the first lag. Where the first bin
+/// is further before those than the lags, or bins are too heavy, the answer is false.
 pub(crate) fn sum_part<const N: usize>(
     sums: &mut [u32; N],
     window: &mut [u16; PLACES],
@@ -249,7 +273,7 @@ pub(crate) fn sum_part<const N: usize>(
     start: usize,
     levels: u32,
 ) -> bool
-    requires lags { (skipped ≤ lags) × (lags ≤ CLOSE_LAGS) × (lags - skipped ≤ N)
+    requires lags { (skipped ≤ lags) × (lags ≤ MOST_LAGS) × (lags - skipped ≤ N)
         × (N ≤ 64) }
     requires list { (start < length list.now) × (length list.now - start ≤ CLOSE_PART)
         × IsSpaced 0 (map (raised levels) list.now) × (levels < 64) }
@@ -261,22 +285,15 @@ pub(crate) fn sum_part<const N: usize>(
 {
     let first = list[0].index >> levels;
     let span = (list[start].index >> levels) - first;
-    if list.len() > CLOSE_BINS || span > u64::from(lags) {
+    if span > u64::from(lags) {
         return false;
     }
-    let mut places = [0; CLOSE_BINS];
+    let mut places = [0; CLOSE_PART];
     let laying = lay_all(window, &mut places, first, list, start, levels, lags);
     let light = laying.heaviest < TOO_HEAVY;
     if light {
         let from = TOP - N - skipped as usize;
-        sum_laid(
-            sums,
-            window,
-            &places[start..],
-            &list[start..],
-            from,
-            laying.heaviest,
-        );
+        sum_laid(sums, window, &places, &list[start..], from, laying.heaviest);
     }
     clear(window, laying.last.place);
     light

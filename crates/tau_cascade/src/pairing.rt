@@ -1,161 +1,16 @@
 // Pairs of bins with those before them.
-ghost use Rattle.std.{specs.Prelude.{◌≡◌, ◌≢◌, true, false, ℕ, ◌+◌, ◌-◌, ◌*◌, ◌/◌, ◌^◌, ◌<◌, ◌≤◌, length, map, take, drop, slice_index, if◌then◌else◌, ◌==◌, ◌&&◌, nat_lt, nat_le}, specs.List.{AllByRecursion}};
-ghost use Rattle.lag_ring.{specs.Ring.IsRising, specs.Cells.{Spends, added_at}};
-ghost use Rattle.tau_cascade.{specs.Levels.{weight_before, entries_at_lags}, specs.Dense.{paired, paired_from, ArePaired, AddsAtMost, AddsOnce, SameOutside, IsZero, HavePaired, AreWithin, HaveRoom}, specs.Bins.{IsSpaced, raised}};
+ghost use Rattle.std.{specs.Prelude.{◌≡◌, ◌≢◌, true, false, ℕ, ◌+◌, ◌-◌, ◌*◌, ◌^◌, ◌<◌, ◌≤◌, length, map, take, slice_index}, specs.List.{AllByRecursion}};
+ghost use Rattle.lag_ring.specs.Cells.{Spends};
+ghost use Rattle.tau_cascade.{specs.Levels.weight_before, specs.Dense.{paired_from, ArePaired, AddsAtMost, AddsOnce, SameOutside, IsZero, HavePaired, AreWithin, HaveRoom}, specs.Bins.{IsSpaced, raised}};
 
-use crate::laid::{CLOSE_LAGS, CLOSE_PART, PLACES, sum_part};
+use crate::bins::MOST_LAGS;
+use crate::laid::{CLOSE_PART, PLACES, sum_part};
 use lag_ring::{Entry, PairCells};
 use std::sync::ledger::Ledger;
 use tally_base::Steps;
 
 /// How many bins at most have sums that fit.
 const CLOSE_LIST: usize = 1024;
-
-/// Adds the pairs of so many photons of an earlier bin and so many of a later one to the cell of their lag,
-/// where the level has that lag.
-#[inline(always)]
-fn add_at_lag<L: Ledger>(
-    cells: &mut PairCells,
-    skipped: u32,
-    lags: u32,
-    lag: u64,
-    earlier: u64,
-    later: u64,
-    steps: &mut Steps<L>,
-)
-    requires lags { (skipped ≤ lags) × (length cells.old.cells ≡ lags - skipped) }
-    requires sum { skipped < lag → lag ≤ lags
-        → slice_index cells.old.cells (lag - skipped - 1) + earlier * later ≤ 2 ^ 80 }
-    ensures cells { (p : ℕ) → p < lags - skipped → slice_index cells.new.cells p
-        ≡ slice_index cells.old.cells p + (if p + skipped + 1 == lag then earlier * later else 0) }
-    ensures spends { Spends cells.old cells.new steps.old steps.new
-        (if nat_lt skipped lag && nat_le lag lags then 1 else 0) }
-    ensures each { (p : ℕ) → added_at cells.new p ≤ added_at cells.old p
-        + (if p + skipped + 1 == lag then 1 else 0) }
-{
-    if lag > u64::from(skipped) && lag <= u64::from(lags) {
-        let pairs = u128::from(earlier) * u128::from(later);
-        cells.add((lag - u64::from(skipped) - 1) as u32, pairs, steps);
-    }
-}
-
-/// Pairs photons of the bin at `index`, of which `weight` are in the second group, with those of earlier
-/// entries at the lags above `skipped` and up to `lags`. From the first entry on that is nearer, all are.
-#[inline(always)]
-fn pair_entries<L: Ledger>(
-    cells: &mut PairCells,
-    skipped: u32,
-    lags: u32,
-    index: u64,
-    weight: u64,
-    entries: &[Entry],
-    steps: &mut Steps<L>,
-)
-    requires lags { (skipped ≤ lags) × (length cells.old.cells ≡ lags - skipped) }
-    requires rising { IsRising entries.now }
-    requires after { AllByRecursion (λ e. e.index < index) entries.now }
-    requires fits { (p : ℕ) → p < lags - skipped → slice_index cells.old.cells p
-        + weight_before (p + skipped + 1) index entries.now * weight ≤ 2 ^ 80 }
-    ensures cells { (p : ℕ) → p < lags - skipped → slice_index cells.new.cells p
-        ≡ slice_index cells.old.cells p
-        + weight_before (p + skipped + 1) index entries.now * weight }
-    ensures spends { Spends cells.old cells.new steps.old steps.new
-        (entries_at_lags skipped lags index entries.now) }
-    ensures each { AddsAtMost 1 cells.old cells.new }
-{
-    for e in entries {
-        let lag = index - e.index;
-        if lag <= u64::from(skipped) {
-            return;
-        }
-        add_at_lag(cells, skipped, lags, lag, e.a, weight, steps);
-    }
-}
-
-/// Pairs photons of the bin at `index` with those of entries, where there are entries and photons of the
-/// second group. That there are none is the most frequent case.
-#[inline(always)]
-fn pair_some<L: Ledger>(
-    cells: &mut PairCells,
-    skipped: u32,
-    lags: u32,
-    index: u64,
-    weight: u64,
-    entries: &[Entry],
-    steps: &mut Steps<L>,
-)
-    requires lags { (skipped ≤ lags) × (length cells.old.cells ≡ lags - skipped) }
-    requires rising { IsRising entries.now }
-    requires after { AllByRecursion (λ e. e.index < index) entries.now }
-    requires fits { (p : ℕ) → p < lags - skipped → slice_index cells.old.cells p
-        + weight_before (p + skipped + 1) index entries.now * weight ≤ 2 ^ 80 }
-    ensures cells { (p : ℕ) → p < lags - skipped → slice_index cells.new.cells p
-        ≡ slice_index cells.old.cells p
-        + weight_before (p + skipped + 1) index entries.now * weight }
-    ensures spends { Spends cells.old cells.new steps.old steps.new
-        (entries_at_lags skipped lags index entries.now) }
-    ensures each { AddsAtMost 1 cells.old cells.new }
-{
-    if entries.len() > 0 {
-        if weight > 0 {
-            pair_entries(cells, skipped, lags, index, weight, entries, steps);
-        }
-    }
-}
-
-/// The place, from `from` on and at most `at`, of the first bin that is no more than `lags` before the
-/// index.
-#[inline(always)]
-fn next_in_reach(bins: &[Entry], from: usize, at: usize, index: u64, lags: u32) -> usize
-    requires places { (from ≤ at) × (at ≤ length bins.now) }
-    requires after { AllByRecursion (λ e. e.index < index) (take at bins.now) }
-    requires far { AllByRecursion (λ e. e.index + lags < index) (take from bins.now) }
-    ensures place { result ≤ at }
-    ensures far { AllByRecursion (λ e. e.index + lags < index) (take result bins.now) }
-{
-    for place in from..at {
-        if index - bins[place].index <= u64::from(lags) {
-            return place;
-        }
-    }
-    at
-}
-
-/// Pairs the bins of a list from `start` on with those before them, at the lags above `skipped` and up
-/// to `lags`: bin by bin.
-fn pair_each<L: Ledger>(
-    cells: &mut PairCells,
-    skipped: u32,
-    lags: u32,
-    list: &[Entry],
-    start: usize,
-    steps: &mut Steps<L>,
-)
-    requires lags { (skipped ≤ lags) × (length cells.old.cells ≡ lags - skipped) }
-    requires start { start ≤ length list.now }
-    requires rising { IsRising list.now }
-    requires fits { (p : ℕ) → p < lags - skipped → slice_index cells.old.cells p
-        + paired (p + skipped + 1) (take start list.now) (drop start list.now) ≤ 2 ^ 80 }
-    ensures cells { ArePaired skipped lags start cells.old.cells cells.new.cells list.now }
-    ensures spends { Spends cells.old cells.new steps.old steps.new
-        ((lags - skipped) * (length list.now - start)) }
-    ensures each { AddsAtMost (length list.now - start) cells.old cells.new }
-{
-    let mut from = 0;
-    for at in start..list.len() {
-        let bin = list[at];
-        from = next_in_reach(list, from, at, bin.index, lags);
-        pair_some(
-            cells,
-            skipped,
-            lags,
-            bin.index,
-            bin.b,
-            &list[from..at],
-            steps,
-        );
-    }
-}
 
 /// Adds pairs to a cell, also where there are none: a branch on that would cost more.
 #[inline(always)]
@@ -197,7 +52,6 @@ fn add_sums<L: Ledger>(
 }
 
 /// The place, at most `at`, of the first of the bins, so many levels up, that is no more than `lags` before the index.
-/// Mostly that is `at` itself.
 #[inline(always)]
 fn first_in_reach(bins: &[Entry], at: usize, index: u64, levels: u32, lags: u32) -> usize
     requires place { (at ≤ length bins.now) × (levels < 64) }
@@ -241,7 +95,7 @@ fn sum_near<const N: usize>(
     start: usize,
     levels: u32,
 ) -> bool
-    requires lags { (skipped ≤ lags) × (lags ≤ CLOSE_LAGS) × (lags - skipped ≤ N)
+    requires lags { (skipped ≤ lags) × (lags ≤ MOST_LAGS) × (lags - skipped ≤ N)
         × (N ≤ 64) }
     requires list { (start < length list.now) × (length list.now - start ≤ CLOSE_PART)
         × IsSpaced 0 (map (raised levels) list.now) × (levels < 64) }
@@ -264,7 +118,7 @@ fn sum_parts<const N: usize>(
     start: usize,
     levels: u32,
 ) -> bool
-    requires lags { (skipped ≤ lags) × (lags ≤ CLOSE_LAGS) × (lags - skipped ≤ N)
+    requires lags { (skipped ≤ lags) × (lags ≤ MOST_LAGS) × (lags - skipped ≤ N)
         × (N ≤ 64) }
     requires list { (start ≤ length list.now) × (length list.now - start ≤ CLOSE_LIST)
         × IsSpaced 0 (map (raised levels) list.now) × (levels < 64) }
@@ -287,8 +141,8 @@ fn sum_parts<const N: usize>(
 }
 
 /// Pairs the bins of a list, so many levels up, from `start` on with those before them, over a window in which they are
-/// laid close together, and answers true. Where there are too many lags or bins, or they are too heavy for it, nothing
-/// is paired, and the answer is false. The lags are summed `N` at once, in two parts where there are more.
+/// laid close together, and answers true. Where there are too many bins, or they are too heavy for it, nothing is
+/// paired, and the answer is false. The lags are summed `N` at once, in two parts where there are more.
 fn pair_close<L: Ledger, const N: usize>(
     cells: &mut PairCells,
     window: &mut [u16; PLACES],
@@ -299,25 +153,23 @@ fn pair_close<L: Ledger, const N: usize>(
     levels: u32,
     steps: &mut Steps<L>,
 ) -> bool
-    requires lags { (skipped ≤ lags) × (length cells.old.cells ≡ lags - skipped) × (N ≤ 64) }
+    requires lags { (skipped ≤ lags) × (length cells.old.cells ≡ lags - skipped)
+        × (lags ≤ MOST_LAGS) × (lags - skipped ≤ 2 * N) × (N ≤ 64) }
     requires list { (start ≤ length list.now) × IsSpaced 0 (map (raised levels) list.now)
         × (levels < 64) × IsZero window.old }
     requires fits { (p : ℕ) → p < lags - skipped → slice_index cells.old.cells p
         + paired_from start (p + skipped + 1) (map (raised levels) list.now) ≤ 2 ^ 80 }
-    ensures cells { result ≡ true → (start < length list.now) × ArePaired skipped lags start
+    ensures cells { result ≡ true → ArePaired skipped lags start
         cells.old.cells cells.new.cells (map (raised levels) list.now) }
     ensures none { result ≡ false → (cells.new ≡ cells.old) × (steps.new ≡ steps.old) }
     ensures spends { Spends cells.old cells.new steps.old steps.new (lags - skipped)
         × AddsAtMost 1 cells.old cells.new }
     ensures zeros { IsZero window.new }
 {
-    if lags > CLOSE_LAGS || start >= list.len() || list.len() - start > CLOSE_LIST {
+    if list.len() - start > CLOSE_LIST {
         return false;
     }
     let middle = lags.min(skipped + N as u32);
-    if lags - middle > N as u32 {
-        return false;
-    }
     let mut near = [0; N];
     if !sum_parts(&mut near, window, skipped, middle, list, start, levels) {
         return false;
@@ -336,7 +188,7 @@ fn pair_close<L: Ledger, const N: usize>(
 }
 
 /// The same, by the number of lags.
-pub(crate) fn pair_lanes<L: Ledger>(
+fn pair_lanes<L: Ledger>(
     cells: &mut PairCells,
     window: &mut [u16; PLACES],
     skipped: u32,
@@ -346,12 +198,13 @@ pub(crate) fn pair_lanes<L: Ledger>(
     levels: u32,
     steps: &mut Steps<L>,
 ) -> bool
-    requires lags { (skipped ≤ lags) × (length cells.old.cells ≡ lags - skipped) }
+    requires lags { (skipped ≤ lags) × (length cells.old.cells ≡ lags - skipped)
+        × (lags ≤ MOST_LAGS) }
     requires list { (start ≤ length list.now) × IsSpaced 0 (map (raised levels) list.now)
         × (levels < 64) × IsZero window.old }
     requires fits { (p : ℕ) → p < lags - skipped → slice_index cells.old.cells p
         + paired_from start (p + skipped + 1) (map (raised levels) list.now) ≤ 2 ^ 80 }
-    ensures cells { result ≡ true → (start < length list.now) × ArePaired skipped lags start
+    ensures cells { result ≡ true → ArePaired skipped lags start
         cells.old.cells cells.new.cells (map (raised levels) list.now) }
     ensures none { result ≡ false → (cells.new ≡ cells.old) × (steps.new ≡ steps.old) }
     ensures spends { Spends cells.old cells.new steps.old steps.new (lags - skipped)
@@ -365,8 +218,76 @@ pub(crate) fn pair_lanes<L: Ledger>(
     }
 }
 
-/// Pairs the bins of a list from `start` on with those before them, at the lags above `skipped` and up to `lags`: over
-/// a window in which they are laid close together, or else bin by bin.
+/// Adds the pairs of so many photons of the second group at `index` with those of earlier bins, so many levels up, to the
+/// sums of the lags above `skipped` and up to `lags`.
+#[inline(always)]
+fn sum_one(
+    sums: &mut [u128; MOST_LAGS],
+    skipped: u32,
+    lags: u32,
+    bins: &[Entry],
+    levels: u32,
+    index: u64,
+    weight: u64,
+)
+    requires lags { (lags ≤ skipped + MOST_LAGS) × (levels < 64) }
+    requires fits { (p : ℕ) → p < lags - skipped → slice_index sums.old p
+        + weight_before (p + skipped + 1) index (map (raised levels) bins.now) * weight < 2 ^ 128 }
+    ensures { (p : ℕ) → p < lags - skipped → slice_index sums.new p ≡ slice_index sums.old p
+        + weight_before (p + skipped + 1) index (map (raised levels) bins.now) * weight }
+{
+    for bin in bins {
+        let lag = index.saturating_sub(bin.index >> levels);
+        if lag > u64::from(skipped) && lag <= u64::from(lags) {
+            let pairs = u128::from(bin.a) * u128::from(weight);
+            sums[(lag - u64::from(skipped) - 1) as usize] += pairs;
+        }
+    }
+}
+
+/// Adds the pairs of the bins of a list, so many levels up, from `start` on with those before them to sums as those of
+/// `sum_one`.
+fn sum_each(
+    sums: &mut [u128; MOST_LAGS],
+    skipped: u32,
+    lags: u32,
+    list: &[Entry],
+    start: usize,
+    levels: u32,
+)
+    requires lags { lags ≤ skipped + MOST_LAGS }
+    requires list { (start ≤ length list.now) × (levels < 64)
+        × IsSpaced 0 (map (raised levels) list.now) }
+    requires fits { (p : ℕ) → p < lags - skipped → slice_index sums.old p
+        + paired_from start (p + skipped + 1) (map (raised levels) list.now) < 2 ^ 128 }
+    ensures { ArePaired skipped lags start sums.old sums.new (map (raised levels) list.now) }
+{
+    for at in start..list.len() {
+        let bin = list[at];
+        let index = bin.index >> levels;
+        let near = first_in_reach(list, at, index, levels, lags);
+        sum_one(sums, skipped, lags, &list[near..at], levels, index, bin.b);
+    }
+}
+
+/// Adds a sum to each of so many cells, which are all.
+fn add_each<L: Ledger>(cells: &mut PairCells, count: u32, sums: &[u128], steps: &mut Steps<L>)
+    requires all { (length cells.old.cells ≡ count) × (count ≤ length sums.now) }
+    requires fits { (p : ℕ) → p < count
+        → slice_index cells.old.cells p + slice_index sums.now p ≤ 2 ^ 80 }
+    ensures cells { (p : ℕ) → p < count
+        → slice_index cells.new.cells p ≡ slice_index cells.old.cells p + slice_index sums.now p }
+    ensures spends { Spends cells.old cells.new steps.old steps.new count
+        × AddsAtMost 1 cells.old cells.new }
+{
+    for at in 0..count {
+        cells.add(at, sums[at as usize], steps);
+    }
+}
+
+/// Pairs the bins of a list, so many levels up, from `start` on with those before them, at the lags above `skipped` and
+/// up to `lags`: over a window in which they are laid close together, or else bin by bin. No two fall
+/// below the distance `apart`, as they stand in the list, where it isn't 0. Where that is out of reach, there are no pairs.
 pub(crate) fn pair_all<L: Ledger>(
     cells: &mut PairCells,
     window: &mut [u16; PLACES],
@@ -374,19 +295,29 @@ pub(crate) fn pair_all<L: Ledger>(
     lags: u32,
     list: &[Entry],
     start: usize,
+    levels: u32,
+    apart: u64,
     steps: &mut Steps<L>,
 )
-    requires lags { (skipped ≤ lags) × (length cells.old.cells ≡ lags - skipped) }
-    requires list { (start ≤ length list.now) × IsRising list.now × IsZero window.old }
+    requires lags { (skipped ≤ lags) × (length cells.old.cells ≡ lags - skipped)
+        × (lags ≤ MOST_LAGS) }
+    requires list { (start ≤ length list.now) × IsSpaced 0 (map (raised levels) list.now)
+        × (levels < 64) × IsZero window.old }
+    requires apart { 0 < apart → IsSpaced apart list.now }
     requires fits { (p : ℕ) → p < lags - skipped → slice_index cells.old.cells p
-        + paired (p + skipped + 1) (take start list.now) (drop start list.now) ≤ 2 ^ 80 }
-    ensures cells { ArePaired skipped lags start cells.old.cells cells.new.cells list.now }
-    ensures spends { Spends cells.old cells.new steps.old steps.new
-        ((lags - skipped) * (length list.now - start)) }
-    ensures each { AddsAtMost (length list.now - start) cells.old cells.new }
+        + paired_from start (p + skipped + 1) (map (raised levels) list.now) ≤ 2 ^ 80 }
+    ensures cells { ArePaired skipped lags start cells.old.cells cells.new.cells
+        (map (raised levels) list.now) }
+    ensures spends { Spends cells.old cells.new steps.old steps.new (lags - skipped)
+        × AddsAtMost 1 cells.old cells.new }
     ensures zeros { IsZero window.new }
 {
-    if !pair_lanes(cells, window, skipped, lags, list, start, 0, steps) {
-        pair_each(cells, skipped, lags, list, start, steps);
+    if apart >> levels > u64::from(lags)
+        || pair_lanes(cells, window, skipped, lags, list, start, levels, steps)
+    {
+        return;
     }
+    let mut sums = [0; MOST_LAGS];
+    sum_each(&mut sums, skipped, lags, list, start, levels);
+    add_each(cells, lags - skipped, &sums, steps);
 }

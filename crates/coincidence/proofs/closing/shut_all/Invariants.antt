@@ -5,7 +5,7 @@ use Rattle.coincidence.proofs.closing.shut_all.Given as goal
 
 abbrev pub invariant-loop-rest : goal.invariant-loop-rest
 invariant-loop-rest g l = record {
-  few : length l.rest ≤ 512;
+  few : length l.rest ≤ 1024;
   so_far : (closed xs : History) → CanShutAll (coincidence_view l.set) l.initial.ring l.initial.cells l.bins closed xs → (done : History) × (left : History) × (xs ≡ done ++ left) × CanShutAll (coincidence_view l.set) l.ring l.cells l.rest (closed ++ done) left;
   steps : l.steps + l.initial.cells.added ≡ l.initial.steps + l.cells.added;
 }

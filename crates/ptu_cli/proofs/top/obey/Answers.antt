@@ -1,5 +1,5 @@
 use Rattle.std.proofs.Common.{refl}
-use Rattle.ptu_cli.{proofs.Asked.{does_as}, proofs.Complete.{alone-quiet}}
+use Rattle.ptu_cli.proofs.Complete.{alone-quiet, does_as}
 use Rattle.command_work.proofs.Once.{once-refl}
 use Rattle.ptu_cli.proofs.top.obey.Goals as goal
 

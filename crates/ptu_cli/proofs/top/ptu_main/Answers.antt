@@ -2,7 +2,7 @@ use Rattle.std.proofs.Common.{◌≡◌, None, Some, refl, sym, ap, ◌∙◌, a
 use Rattle.tally_base.{specs.declared.fault.Fault.TheVariants.Usage, specs.Faults.status_of}
 use Rattle.bench_io.proofs.Bytes.{Appends-nil, Keeps-from_none}
 use Rattle.command_work.specs.Endings.{HasCauses}
-use Rattle.ptu_cli.{specs.Behaviours.{request_in, behaviour_of}, proofs.Complete.{bad-words, ends-answered, ok-answered, ok-ends, inside-ends, completes_as, good-its}, proofs.Asked.{tells_as, opening-from_status, reading-from_status, writing-from_status, memory-from_status}}
+use Rattle.ptu_cli.{specs.Behaviours.{request_in, behaviour_of}, proofs.Complete.{bad-words, ends-answered, ok-answered, ok-ends, inside-ends, completes_as, good-its, tells_as, opening-from_status, reading-from_status, writing-from_status, memory-from_status}}
 use Rattle.ptu_cli.proofs.top.ptu_main.Goals as goal
 
 pub returns-in-Err : goal.returns-in-Err

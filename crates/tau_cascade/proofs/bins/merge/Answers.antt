@@ -1,18 +1,24 @@
-use Rattle.std.{proofs.Common.{◌≡◌, ◌/◌, ◌^◌, drop, get_or, rules, arith, refl}, proofs.lemmas.List.{take-set-le}}
-use Rattle.tau_cascade.{proofs.Follows.{fits_first, fits_second, merge_more, byte_small}, proofs.Closes.none}
+use Rattle.std.{proofs.Common.{refl, rules, arith}, proofs.lemmas.List.{take-set-le, take_more_set, drop-set-add, length-drop}}
+use Rattle.lag_ring.specs.declared.ring.Entry.{Entry}
+use Rattle.tau_cascade.proofs.Follows.{stretch_more, next_fits, merge_more, byte_small}
 use Rattle.tau_cascade.proofs.bins.merge.Goals as goal
 
+abbrev none : Entry
+none = record { index = 0; a = 0; b = 0 }
+
+pub loop-at-init : goal.loop-at-init
+loop-at-init c = search (rules, arith, stretch_more, none)
+
 pub joined-a-requires : goal.joined-a-requires
-joined-a-requires c = λ one.
-    let same : c.loop-bin.index ≡ (get_or c.args.came.now c.loop-bin.bin-index none).index / 2 ^ c.args.levels = grind arith in
-    let fits = fits_first c.args.levels c.args.came.now (drop c.args.start c.loop-bin.list) c.loop-bin.bin-index c.loop-bin.count (record { index = c.loop-bin.index; a = c.loop-bin.a; b = c.loop-bin.b }) _ none _ c.loop-bin-test.true refl c.loop-bin.invariant.bins same in
-    omega (arith, fits, c.requires.counts.0)
+joined-a-requires c = search (rules, arith, next_fits, none)
 
 pub joined-b-requires : goal.joined-b-requires
-joined-b-requires c = λ one.
-    let same : c.loop-bin.index ≡ (get_or c.args.came.now c.loop-bin.bin-index none).index / 2 ^ c.args.levels = grind arith in
-    let fits = fits_second c.args.levels c.args.came.now (drop c.args.start c.loop-bin.list) c.loop-bin.bin-index c.loop-bin.count (record { index = c.loop-bin.index; a = c.loop-bin.a; b = c.loop-bin.b }) _ none _ c.loop-bin-test.true refl c.loop-bin.invariant.bins same in
-    omega (arith, fits, c.requires.counts.1)
+joined-b-requires c = search (rules, arith, next_fits, none)
 
-pub loop-bin-preserved : goal.loop-bin-preserved
-loop-bin-preserved c = search (rules, arith, merge_more, none, take-set-le, byte_small)
+pub loop-at-preserved : goal.loop-at-preserved
+loop-at-preserved c =
+    let merged' = merge_more _ _ c.loop-at.at c.args.count _ c.loop-at.list _ none _ c.loop-at-test.true (omega arith) c.loop-at.invariant.bins c.loop-at.invariant.few _ refl in
+    search (rules, arith, merged', take-set-le, byte_small)
+
+pub returns-clause-bins : goal.returns-clause-bins
+returns-clause-bins c = search (rules, arith, take_more_set, drop-set-add, length-drop)

@@ -1,11 +1,11 @@
-use Rattle.std.proofs.Common.{◌≡◌, ◌≤◌, ◌++◌, take, drop, map}
-use Rattle.tau_cascade.specs.Bins.{raised, merged}
+use Rattle.std.proofs.Common.{◌≡◌, ◌+◌, ◌-◌, ◌<◌, ◌++◌, take, drop}
+use Rattle.tau_cascade.specs.Bins.{merged, merged_all, stretch}
 use Rattle.tau_cascade.proofs.bins.merge.Given as goal
 
-abbrev pub invariant-loop-bin : goal.invariant-loop-bin
-invariant-loop-bin l = record {
-  bins : take l.count (drop l.start l.list) ++ merged (record { index = l.index; a = l.a; b = l.b })
-      (map (raised l.levels) (drop l.bin-index l.came)) ≡ merged l.fn.first (map (raised l.levels) l.came);
-  before : take l.start l.list ≡ take l.start l.initial.list;
-  few : l.count ≤ l.bin-index;
+abbrev pub invariant-loop-at : goal.invariant-loop-at
+invariant-loop-at l = record {
+  bins : take l.closed (drop l.from l.list) ++ merged (record { index = l.index; a = l.a; b = l.b })
+      (stretch (l.from + l.at) (l.count - l.at) l.levels l.list) ≡ merged_all (stretch l.from l.count l.levels l.initial.list);
+  before : take l.from l.list ≡ take l.from l.initial.list;
+  few : l.closed < l.at;
 }

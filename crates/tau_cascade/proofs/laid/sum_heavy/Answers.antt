@@ -1,5 +1,5 @@
 use Rattle.std.proofs.Common.{ℕ, ◌+◌, ◌-◌, get_or, arith, rules}
-use Rattle.tau_cascade.{proofs.Close.{row_next, row_few, low_all}, proofs.Closes.none}
+use Rattle.tau_cascade.proofs.Close.{no_bin, row_next, row_few, low_all}
 use Rattle.tau_cascade.proofs.laid.sum_heavy.Goals as goal
 
 pub add_laid-requires : goal.add_laid-requires
@@ -10,7 +10,7 @@ add_laid-requires g c = (
     λ q inside.
         let i : ℕ = c.loop-i.i in
         let n : ℕ = get_or c.args.places.now i 0 + g.row.N - get_or c.args.places.now i 0 in
-        let few = row_few c.args.window.now c.args.places.now c.args.list.now i c.args.from none c.loop-i-test.true c.requires.few.1 q n (8640 - c.args.from)
+        let few = row_few c.args.window.now c.args.places.now c.args.list.now i c.args.from c.loop-i-test.true c.requires.few.1 q n (8640 - c.args.from)
         (omega (arith, inside)) (omega (arith, c.requires.room.1 i)) 2047
         (low_all c.args.window.now 2047 c.told-window c.requires.light.0) c.requires.light.1 in
         omega (arith, few, c.loop-i.invariant q inside, c.requires.few.0 q inside, c.loop-i-test.true),
@@ -18,4 +18,4 @@ add_laid-requires g c = (
 )
 
 pub loop-i-preserved : goal.loop-i-preserved
-loop-i-preserved g c = search (rules, arith, row_next, none)
+loop-i-preserved g c = search (rules, arith, row_next, no_bin)

@@ -4,7 +4,7 @@ use Rattle.tau_cascade.{specs.Dense.placed, proofs.Close.{products_few, low_all}
 use Rattle.tau_cascade.proofs.laid.sum_laid.Goals as goal
 
 -- what is no more than a number is no more than a greater one
-module _ (window : List ℕ) (list : List Entry) (heaviest : ℕ)
+module _ {heaviest : ℕ} (window : List ℕ) (list : List Entry)
     (all : (heaviest < 2048) × IsLight heaviest list × ((p : ℕ) → p < 8640 → get_or window p 0 ≤ heaviest)) (most : ℕ) (upto : heaviest ≤ most) where
   all_light : ((p : ℕ) → p < 8640 → get_or window p 0 ≤ most) × IsLight most list
   all_light = (
@@ -21,7 +21,7 @@ pub sum_light-more-requires : goal.sum_light-more-requires
 sum_light-more-requires g c = (
   omega (arith, c.requires.room 0),
   (
-    all_light c.args.window.now c.args.list.now c.args.heaviest c.requires.light 31 (omega (arith, c.if-heaviest-lt-NOT_LIGHT.true)),
+    all_light _ c.args.list.now c.requires.light 31 (omega (arith, c.if-heaviest-lt-NOT_LIGHT.true)),
     ((c.requires.few.1, c.requires.few.2), (omega (arith, c.requires.room 0), c.requires.room)),
   ),
 )
@@ -32,7 +32,7 @@ add_laid-requires g c = (
   (
     search (rules, arith),
     λ q inside.
-        let few = few_all c.args.window.now c.args.list.now c.args.heaviest c.requires.light 31 (omega (arith, c.if-heaviest-lt-NOT_LIGHT.true))
+        let few = few_all _ c.args.list.now c.requires.light 31 (omega (arith, c.if-heaviest-lt-NOT_LIGHT.true))
         c.args.places.now (c.args.from + q) c.told-window in
         omega (arith, few, c.sum_light-more.ensures q inside, c.requires.few.0 q inside),
   ),
@@ -42,19 +42,17 @@ pub sum_heavy-requires : goal.sum_heavy-requires
 sum_heavy-requires g c = (
   omega (arith, c.requires.room 0),
   (
-    all_light c.args.window.now c.args.list.now c.args.heaviest c.requires.light 2047 (omega (arith, c.requires.light.0)),
+    all_light _ c.args.list.now c.requires.light 2047 (omega (arith, c.requires.light.0)),
     ((c.requires.few.0, c.requires.few.2), (omega (arith, c.requires.room 0), c.requires.room)),
   ),
 )
 
 pub returns-then-heaviest-lt-NOT_LIGHT-clause-within : goal.returns-then-heaviest-lt-NOT_LIGHT-clause-within
 returns-then-heaviest-lt-NOT_LIGHT-clause-within g c = λ q inside.
-    let few = few_all c.args.window.now c.args.list.now c.args.heaviest c.requires.light 2047 (omega (arith, c.requires.light.0))
-    c.args.places.now (c.args.from + q) c.told-window in
+    let few = few_all _ c.args.list.now c.requires.light 2047 (omega (arith, c.requires.light.0)) c.args.places.now (c.args.from + q) c.told-window in
     omega (arith, few, c.sum_light-more.ensures q inside, c.add_laid.ensures q inside)
 
 pub returns-else-heaviest-lt-NOT_LIGHT-clause-within : goal.returns-else-heaviest-lt-NOT_LIGHT-clause-within
 returns-else-heaviest-lt-NOT_LIGHT-clause-within g c = λ q inside.
-    let few = few_all c.args.window.now c.args.list.now c.args.heaviest c.requires.light 2047 (omega (arith, c.requires.light.0))
-    c.args.places.now (c.args.from + q) c.told-window in
+    let few = few_all _ c.args.list.now c.requires.light 2047 (omega (arith, c.requires.light.0)) c.args.places.now (c.args.from + q) c.told-window in
     omega (arith, few, c.sum_heavy.ensures q inside)

@@ -1,7 +1,10 @@
 use Rattle.std.{proofs.Common.{length, ◌≡◌, ◌+◌, ◌-◌, ◌<◌, suc, get_or, map, arith, subst, take}, specs.List.AllByRecursion, proofs.lemmas.List.{get_or-map, length-map}}
 use Rattle.lag_ring.specs.declared.ring.Entry.{Entry}
-use Rattle.tau_cascade.{specs.Bins.raised, proofs.Passes.far_place, proofs.Closes.none}
+use Rattle.tau_cascade.{specs.Bins.raised, proofs.Passes.far_place}
 use Rattle.tau_cascade.proofs.pairing.first_in_reach.Goals as goal
+
+abbrev none : Entry
+none = record { index = 0; a = 0; b = 0 }
 
 pub returns-then-saturating_sub-from-clause-far : goal.returns-then-saturating_sub-from-clause-far
 returns-then-saturating_sub-from-clause-far c =

@@ -1,6 +1,10 @@
 use Rattle.std.{proofs.Common.{◌+◌, ◌<◌, ◌≤◌, length, arith, rules}, proofs.lemmas.List.length-map}
-use Rattle.tau_cascade.{proofs.{Nexts.none_paired, Passes.{part_long, part_sorted, paired_between}}, proofs.Closes.none}
+use Rattle.lag_ring.specs.declared.ring.Entry.{Entry}
+use Rattle.tau_cascade.{proofs.{Nexts.none_paired, Passes.{part_long, part_sorted, paired_between}}}
 use Rattle.tau_cascade.proofs.pairing.sum_parts.Goals as goal
+
+abbrev none : Entry
+none = record { index = 0; a = 0; b = 0 }
 
 pub parts-init : goal.parts-init
 parts-init g c = search (rules, arith, none_paired, length-map)

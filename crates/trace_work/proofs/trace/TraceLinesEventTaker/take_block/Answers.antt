@@ -4,7 +4,7 @@ use Rattle.trace_work.proofs.TraceSteps.{Traced-block, TracedShort-block, block-
 use Rattle.trace_work.proofs.trace.TraceLinesEventTaker.take_block.Goals as goal
 
 -- a block has the events of the one that it is copied from
-copied-is : (b : Block 64) (cleared copy : Block 512) (len : ℕ) → gathered cleared ≡ [] → len ≡ count b
+copied-is : (b : Block 64) (cleared copy : Block 1024) (len : ℕ) → gathered cleared ≡ [] → len ≡ count b
     → gathered copy ≡ gathered cleared ++ written b len → gathered copy ≡ gathered b
 copied-is b cleared copy len none all is = is ∙ ap (λ l. l ++ written b len) none ∙ ap (written b) all
 
