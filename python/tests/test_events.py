@@ -16,7 +16,7 @@ import made
 import numpy as np
 import pytest
 from conftest import EXAMPLES, ROOT
-from hypothesis import example, given, settings
+from hypothesis import HealthCheck, example, given, settings
 from hypothesis import strategies as st
 
 import ptulab
@@ -74,7 +74,7 @@ HYDRA = st.builds(
 WORDS = st.lists(st.one_of(st.integers(0, 2**32 - 1), PICO, LOW, HYDRA), max_size=60)
 
 
-@settings(max_examples=25, deadline=None)
+@settings(max_examples=25, deadline=None, suppress_health_check=[HealthCheck.data_too_large])
 @given(words=WORDS, left=st.binary(max_size=3))
 @example(words=[], left=b"")
 @example(words=[0xFE000000], left=b"\0")
