@@ -15,10 +15,11 @@ module _ {T : Type 0} (g : Ghosts T) where
     pub count : length new ≡ length old
     pub settings : (k : ℕ) (d : T) → k < length old → g.settings (slice_index_or new k d) ≡ g.settings (slice_index_or old k d)
 
-  -- the same two references, to the same tables
-  pub record SameTaker (parts parts' steps steps' : ℕ) (old new : List T) : Type 0 where
+  -- the same three references, to the same tables
+  pub record SameTaker (parts parts' steps steps' block block' : ℕ) (old new : List T) : Type 0 where
     pub parts_name : parts' ≡ parts
     pub steps_name : steps' ≡ steps
+    pub block_name : block' ≡ block
     pub tables : SameTables old new
 
   pub same_tables_none : (xs : List T) → SameTables xs xs
@@ -30,13 +31,14 @@ module _ {T : Type 0} (g : Ghosts T) where
     settings = λ k d h. q.settings k d (rw p.count h) ∙ p.settings k d h;
   }
 
-  pub same_taker_none : (a b : ℕ) (xs : List T) → SameTaker a a b b xs xs
-  same_taker_none a b xs = record { parts_name = refl; steps_name = refl; tables = same_tables_none xs }
+  pub same_taker_none : (a b c : ℕ) (xs : List T) → SameTaker a a b b c c xs xs
+  same_taker_none a b c xs = record { parts_name = refl; steps_name = refl; block_name = refl; tables = same_tables_none xs }
 
-  pub same_taker_more : (a a' a'' b b' b'' : ℕ) (xs ys zs : List T) → SameTaker a a' b b' xs ys → SameTaker a' a'' b' b'' ys zs → SameTaker a a'' b b'' xs zs
-  same_taker_more a a' a'' b b' b'' xs ys zs p q = record {
+  pub same_taker_more : (a a' a'' b b' b'' c c' c'' : ℕ) (xs ys zs : List T) → SameTaker a a' b b' c c' xs ys → SameTaker a' a'' b' b'' c' c'' ys zs → SameTaker a a'' b b'' c c'' xs zs
+  same_taker_more a a' a'' b b' b'' c c' c'' xs ys zs p q = record {
     parts_name = q.parts_name ∙ p.parts_name;
     steps_name = q.steps_name ∙ p.steps_name;
+    block_name = q.block_name ∙ p.block_name;
     tables = same_tables_more xs ys zs p.tables q.tables;
   }
 

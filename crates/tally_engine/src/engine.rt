@@ -1,6 +1,6 @@
 // All tables of a plan, and the stream that feeds them.
 ghost use Rattle.std.specs.Prelude.{◌≡◌, ℕ, All, List, None, Some, false, ◌+◌, ◌*◌, ◌<◌, ◌≤◌, [], ◌++◌, length, Err, OnOk, IfOk, IfErr};
-ghost use Rattle.tally_base.{specs.declared.fault.Fault.Fault, specs.Faults.{is_outside, fault_in}, specs.RecordTypes.mode_of, specs.Limits.record_limit};
+ghost use Rattle.tally_base.{specs.declared.fault.Fault.Fault, specs.Faults.{is_outside, fault_in}, specs.RecordTypes.mode_of, specs.Limits.record_limit, specs.Columns.{gathered, sorted}};
 ghost use Rattle.record_stream.specs.Standing.{how_of, given_by, greatest_of, refused_with, HasStreamed};
 ghost use Rattle.fed_parts.specs.Ahead.{Standing};
 ghost use Rattle.plan_text.{specs.ReadPlan.plan_view, specs.Bound.bound as plan_bound};
@@ -14,7 +14,7 @@ use plan_text::Plan;
 use record_stream::RecordStream;
 use std::alloc::{AllocError, Global};
 use std::sync::ledger::Ledger;
-use tally_base::{Fault, Header, Steps, Tally};
+use tally_base::{Block, Fault, Header, Steps, TABLE_BLOCK, Tally};
 
 /// All tables of a plan, and the stream of a file's records that feeds them.
 ///
@@ -26,6 +26,9 @@ pub struct Engine {
     gates: Gates,
     stream: RecordStream,
     parts: Vec<Part>,
+    // Room for the events of a piece. Between two pieces it has none.
+    block: Block<TABLE_BLOCK>,
+    ghost idle: { (gathered block ≡ []) × (sorted block ≡ 0) },
     ghost same_mode: { (how_of stream).mode ≡ mode_of header.record_type },
     ghost standing: { refused_with stream ≡ None
         → All (Standing ⟦<Part as Tally>⟧ (mode_of header.record_type) (given_by stream) (greatest_of stream)) parts.items },
@@ -60,6 +63,7 @@ impl Engine {
                 gates: Gates::of(plan),
                 stream: RecordStream::new(header.record_type, plan.policy),
                 parts,
+                block: Block::new(),
             }),
             Err(AllocError) => Err(Fault::OutOfMemory),
         }
@@ -99,6 +103,7 @@ impl Engine {
             mode,
             &self.gates,
             &mut self.parts,
+            &mut self.block,
             steps,
         )
     }
@@ -119,9 +124,10 @@ impl Engine {
             gates,
             stream,
             mut parts,
+            mut block,
         } = self;
         let mode = header.record_type.mode();
-        let summary = finish_parts(stream, mode, &gates, &mut parts, steps)?;
+        let summary = finish_parts(stream, mode, &gates, &mut parts, &mut block, steps)?;
         close_all(&mut parts, steps);
         Ok(Results {
             header,

@@ -50,7 +50,7 @@ impl<'g, 'p, 's, L: Ledger> EventTaker for PartTaker<'g, 'p, 's, L> {
     ghost faults = { λ t. 0 };
 
     ghost same = { λ t u. SameTaker ⟦<Part as Tally>⟧ t.parts.ghost_name u.parts.ghost_name t.steps.ghost_name
-        u.steps.ghost_name t.parts.now u.parts.now };
+        u.steps.ghost_name t.block.ghost_name u.block.ghost_name t.parts.now u.parts.now };
 
     ghost got_none = { λ t. gave_none ⟦<Part as Tally>⟧ _ _ _ _ _ _ };
 
@@ -58,9 +58,9 @@ impl<'g, 'p, 's, L: Ledger> EventTaker for PartTaker<'g, 'p, 's, L> {
 
     ghost floor_is = { λ s t l is. is.moved };
 
-    ghost same_none = { λ t. same_taker_none ⟦<Part as Tally>⟧ _ _ _ };
+    ghost same_none = { λ t. same_taker_none ⟦<Part as Tally>⟧ _ _ _ _ };
 
-    ghost same_more = { λ t u v. same_taker_more ⟦<Part as Tally>⟧ _ _ _ _ _ _ _ _ _ };
+    ghost same_more = { λ t u v. same_taker_more ⟦<Part as Tally>⟧ _ _ _ _ _ _ _ _ _ _ _ _ };
 
     #[inline(always)]
     fn take(&mut self, event: &Event, late: bool) -> Result<(), Failed> {
@@ -99,8 +99,10 @@ pub(crate) fn feed_parts<L: Ledger>(
     mode: Mode,
     gates: &Gates,
     parts: &mut [Part],
+    block: &mut Block<TABLE_BLOCK>,
     steps: &mut Steps<L>,
 ) -> Result<(), Fault>
+    requires idle { (gathered block.old ≡ []) × (sorted block.old ≡ 0) }
     requires mode { mode ≡ (how_of stream.old).mode }
     requires going { refused_with stream.old ≡ None }
     requires standing { All (Standing ⟦<Part as Tally>⟧ mode (given_by stream.old)
@@ -112,8 +114,8 @@ pub(crate) fn feed_parts<L: Ledger>(
     ensures follow { OnOk result
         (TablesFollow mode stream.old stream.new parts.new (length piece.now)) }
     ensures stays { StaysSame stream.old stream.new parts.old parts.new }
+    ensures idle { (gathered block.new ≡ []) × (sorted block.new ≡ 0) }
 {
-    let mut block = Block::new();
     let mut taker = PartTaker {
         gates,
         parts,
@@ -123,7 +125,7 @@ pub(crate) fn feed_parts<L: Ledger>(
             taken: stream.given(),
             floor: stream.greatest(),
         },
-        block: &mut block,
+        block,
     };
     let fed = stream.feed(piece, &mut taker);
     let PartTaker {
@@ -145,8 +147,10 @@ pub(crate) fn finish_parts<L: Ledger>(
     mode: Mode,
     gates: &Gates,
     parts: &mut [Part],
+    block: &mut Block<TABLE_BLOCK>,
     steps: &mut Steps<L>,
 ) -> Result<Summary, Fault>
+    requires idle { (gathered block.old ≡ []) × (sorted block.old ≡ 0) }
     requires mode { mode ≡ (how_of stream).mode }
     requires going { refused_with stream ≡ None }
     requires standing { All (Standing ⟦<Part as Tally>⟧ mode (given_by stream) (greatest_of stream)) parts.old }
@@ -156,7 +160,6 @@ pub(crate) fn finish_parts<L: Ledger>(
     ensures inside { IfErr result (λ fault. is_outside fault ≡ false) }
     ensures same_tables { SameTables ⟦<Part as Tally>⟧ parts.old parts.new }
 {
-    let mut block = Block::new();
     let mut taker = PartTaker {
         gates,
         parts,
@@ -166,7 +169,7 @@ pub(crate) fn finish_parts<L: Ledger>(
             taken: stream.given(),
             floor: stream.greatest(),
         },
-        block: &mut block,
+        block,
     };
     let finished = stream.finish(&mut taker);
     let PartTaker {

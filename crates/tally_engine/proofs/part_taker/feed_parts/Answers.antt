@@ -29,7 +29,7 @@ returns-clause-answers g c = λ bytes h.
             r.1.1,
             λ h held. λ k d inside.
                 let within : k < length taker.parts.now = omega (arith, same, inside) in
-                holding_all ghosts by (gathered taker.block.now) _ _ _ (r.1.2.follows h (λ k d within. holding_none ghosts by _ _ h c.new-block.ensures.empty (held k d within)) k d within) (subst (λ (by : Sorting). HasTaken ghosts (gathered taker.block.now) (with_groups by (gathered taker.block.now)) (get_or taker.parts.now k d) (get_or c.flush.new.parts k d)) r.1.2.same_sorting (c.flush.ensures.took k d within)),
+                holding_all ghosts by (gathered taker.block.now) _ _ _ (r.1.2.follows h (λ k d within. holding_none ghosts by _ _ h c.requires.idle.0 (held k d within)) k d within) (subst (λ (by : Sorting). HasTaken ghosts (gathered taker.block.now) (with_groups by (gathered taker.block.now)) (get_or taker.parts.now k d) (get_or c.flush.new.parts k d)) r.1.2.same_sorting (c.flush.ensures.took k d within)),
           )))
           (search rules);
       shown = fed.shown bytes h;

@@ -21,7 +21,7 @@ returns-clause-ends g c = λ bytes h.
     let within : k < length taker.parts.now = omega (arith, same, inside) in
     rw (history-ends by how (words_of bytes))
     (holding_all ghosts by (gathered taker.block.now) _ _ _
-    (got.follows (settled_history by how (words_of bytes)) (λ k d within. holding_none ghosts by _ _ _ c.new-block.ensures.empty (held k d within)) k d within)
+    (got.follows (settled_history by how (words_of bytes)) (λ k d within. holding_none ghosts by _ _ _ c.requires.idle.0 (held k d within)) k d within)
     (subst (λ (by : Sorting). HasTaken ghosts (gathered taker.block.now) (with_groups by (gathered taker.block.now)) (get_or taker.parts.now k d) (get_or c.flush.new.parts k d)) got.same_sorting (c.flush.ensures.took k d within))))
     (fin.answer (search rules) bytes h))
     (search rules)
