@@ -56,10 +56,7 @@ end_counts closed still set ls ls' count time h is through = record { taken = is
 -- What a block of events does to the photons of the two groups.
 
 flip : (x y : Bool) → ◌≡◌ {A = ℕ} (cond (x && y) 1 0) (cond (y && x) 1 0)
-flip true true = refl
-flip true false = refl
-flip false true = refl
-flip false false = refl
+flip x y = search (rules, arith)
 
 -- the weight of an event of a block
 pub weight_row : {N : ℕ} (b : Block N) (i group : ℕ)

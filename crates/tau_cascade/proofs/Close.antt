@@ -1,7 +1,7 @@
 -- Bins that are laid close together.
-use Rattle.std.{proofs.Common.{◌≡◌, ◌∙◌, ℕ, zero, suc, ◌+◌, ◌-◌, ◌*◌, ◌%◌, ◌<◌, ◌≤◌, Bool, true, false, eqb, ltb, cond, min, List, [], ◌∷◌, ◌++◌, length, get_or, set, map, take, drop, replicate, refl, sym, ap, arith, append_assoc, rules}, specs.List.{sum_by, AllByRecursion}, proofs.Math.Nat.mul-le-mul, proofs.lemmas.Bool.Decides.nat_tests, proofs.lemmas.List.{take-append-drop, take_more, drop_more, length-map, get_or-map, length-take-le, get_or_past, set-get_or}, proofs.lemmas.List.Sums.{sum_by-cons, sum_by_push, sum_by-append}}
+use Rattle.std.{proofs.Common.{◌≡◌, ◌∙◌, ℕ, suc, ◌+◌, ◌-◌, ◌*◌, ◌%◌, ◌<◌, ◌≤◌, Bool, true, false, eqb, cond, min, List, [], ◌∷◌, ◌++◌, length, get_or, set, map, take, drop, replicate, refl, sym, ap, arith, append_assoc, rules}, specs.List.{sum_by, AllByRecursion}, proofs.Math.Nat.mul-le-mul, proofs.lemmas.Bool.Decides.nat_tests, proofs.lemmas.List.{get_or-replicate, length-replicate, take-append-drop, take_more, drop_more, length-map, get_or-map, length-take-le, get_or_past, set-get_or}, proofs.lemmas.List.Sums.{sum_by-cons, sum_by_push, sum_by-append}}
 use Rattle.lag_ring.{specs.declared.ring.Entry.Entry, specs.declared.window.Side.TheVariants.{First, Second}, specs.Bytes.{weight_at, product_at, IsLight}, proofs.Lists.{all_back}, proofs.Rising.{all_weaker, all_push}, proofs.Sums.{part-at, sum_by-agree, sum_by-same, sum_by-zero, window-before}}
-use Rattle.tau_cascade.{specs.Levels.weight_before, specs.declared.laid.Laying.Laying, specs.Dense.{paired, laid, placed, IsLaid}, specs.Bins.{IsSpaced, raised}, proofs.Nexts.paired-append, proofs.Passes.{all_take, spaced_take, spaced_upto}}
+use Rattle.tau_cascade.{specs.Levels.weight_before, specs.declared.laid.Laying.Laying, specs.Dense.{paired, laid, placed, IsLaid}, specs.Bins.{IsSpaced, raised}, proofs.Nexts.paired-append, proofs.Passes.{spaced_back, all_take, spaced_take, spaced_upto}}
 
 abbrev pub no_bin : Entry
 no_bin = record { index = 0; a = 0; b = 0 }
@@ -11,12 +11,10 @@ abbrev pub laid_at : ℕ → Entry → Entry
 laid_at place e = record { index = place; a = e.a; b = e.b }
 
 -- a place at which a weight is added, where nothing wraps
-pub put_place : (here : Bool) (was old a : ℕ) → old ≡ was → was < 2048 → a < 2048
-    → cond here ((old + a % 65536) % 65536) old ≡ was + cond here a 0
+pub put_place : (here : Bool) (was old a : ℕ) → old ≡ was → was < 2048 → a < 2048 → cond here ((old + a % 65536) % 65536) old ≡ was + cond here a 0
 put_place here was old a same low small = search (rules, arith)
 
-pub put_below : (here : Bool) (most old a : ℕ) → old ≤ most → (here ≡ true → old + a % 65536 ≤ most)
-    → cond here ((old + a % 65536) % 65536) old ≤ most
+pub put_below : (here : Bool) (most old a : ℕ) → old ≤ most → (here ≡ true → old + a % 65536 ≤ most) → cond here ((old + a % 65536) % 65536) old ≤ most
 put_below here most old a low light = search (rules, arith)
 
 -- Bins at their places.
@@ -77,13 +75,10 @@ module _ (window ps : List ℕ) (es : List Entry) (i from : ℕ) (inside : i < l
 
 -- zeros are zero
 pub zeros_at : (n i : ℕ) → get_or (replicate {A = ℕ} n 0) i 0 ≡ 0
-zeros_at zero i = refl
-zeros_at (suc n) zero = refl
-zeros_at (suc n) (suc i) = zeros_at n i
+zeros_at n i = search (rules, arith, get_or-replicate, get_or_past, length-replicate)
 
 -- no place of a window is above what no place inside it is above
-pub low_all : (window : List ℕ) (most : ℕ) → length window ≡ 8640 → ((p : ℕ) → p < 8640 → get_or window p 0 ≤ most)
-    → (p : ℕ) → get_or window p 0 ≤ most
+pub low_all : (window : List ℕ) (most : ℕ) → length window ≡ 8640 → ((p : ℕ) → p < 8640 → get_or window p 0 ≤ most) → (p : ℕ) → get_or window p 0 ≤ most
 low_all window most long low p = search (rules, arith, get_or_past)
 
 -- where all places are at most a number, so are bins at them
@@ -106,10 +101,6 @@ pub from_first : (levels : ℕ) (es : List Entry) → IsSpaced 0 (map (raised le
     → AllByRecursion (λ e. (raised levels (get_or es 0 no_bin)).index ≤ e.index) (map (raised levels) es)
 from_first levels [] spaced = tt
 from_first levels (e ∷ es) spaced = search (rules, arith, all_weaker)
-
-spaced_back : (es fs : List Entry) → IsSpaced 0 (es ++ fs) → IsSpaced 0 fs
-spaced_back [] fs spaced = spaced
-spaced_back (e ∷ es) fs spaced = spaced_back es fs spaced.1
 
 -- a bin so many levels up, and those before it
 module _ (levels : ℕ) (list : List Entry) (i : ℕ) (inside : i < length list) where
@@ -188,7 +179,7 @@ before_only : (k index : ℕ) (es fs : List Entry) → 0 < k → AllByRecursion 
 before_only k index es fs some after = search (rules, arith, sum_by-zero, sum_by-append)
 
 -- what bins add, where all bins of a list stand before them
-paired-all : (k : ℕ) (all before es : List Entry) → 0 < k → before ++ es ≡ all
+pub paired-all : (k : ℕ) (all before es : List Entry) → 0 < k → before ++ es ≡ all
     → IsSpaced 0 es → paired k before es ≡ sum_by (λ e. weight_before k e.index all * e.b) es
 paired-all k all before [] some is spaced = refl
 paired-all k all before (e ∷ es) some is spaced =
@@ -221,10 +212,7 @@ module _ (reach index place : ℕ) (before beside : List Entry) (alike : Alike r
   far k few out = search (rules, arith, sum_by-zero)
 
   pub as_far : (k : ℕ) → k < reach → weight_before k e.index before ≡ weight_before k there beside
-  as_far k few = (elim (ltb k (e.index - index)) as (λ b. ltb k (e.index - index) ≡ b → weight_before k e.index before ≡ weight_before k there beside) [
-    | true ↦ λ is. far k few (grind (arith, nat_tests, is))
-    | false ↦ λ is. near k few (grind (arith, nat_tests, is))
-  ]) refl
+  as_far k few = grind (arith, near k few, far k few)
 
   pub alike_next : Alike reach e.index there (before ++ e ∷ []) (beside ++ laid_at there e ∷ [])
   alike_next = record {
@@ -279,5 +267,5 @@ module _ (reach first start : ℕ) (list back : List Entry) (spaced : IsSpaced 0
       sum_by-agree (λ e. e.index ≤ most) (λ e. get_or window (e.index - 0 + (192 - k)) 0 * e.b)
       (λ e. weight_before k e.index all * e.b) back within
       (λ e at. ap (λ n. n * e.b) (window-before First window 0 192 all whole k e.index upto (omega arith) (omega (arith, at, long, room))))
-      ∙ sym (paired-all k all front back some (sym both) (spaced_back front back (rw both at (laid_spaced reach first 0 list))))
+      ∙ sym (paired-all k all front back some (sym both) (spaced_back 0 front back (rw both at (laid_spaced reach first 0 list))))
       ∙ sym (paired_parts k few)

@@ -1,5 +1,5 @@
 -- Bins that come to a level, and what they are merged into.
-use Rattle.std.{proofs.Common.{◌≡◌, ◌≢◌, ℕ, suc, ◌+◌, ◌-◌, ◌/◌, ◌^◌, ◌<◌, ◌≤◌, Bool, true, false, cond, eqb, List, [], ◌∷◌, ◌++◌, length, map, take, drop, get_or, refl, ap, append_assoc, append-nil, arith, slice_set, rules, length-append, add-one}, specs.List.{sum_by, count_by, AllByRecursion}, proofs.Math.Nat.{div-div-eq-div-mul, div-one}, proofs.lemmas.Grind.common_steps, proofs.lemmas.List.{take_more_set, drop_more, drop-set-add, drop-set-lt, length-drop}, proofs.lemmas.List.Sums.{sum_by-cons, sum_by-append}}
+use Rattle.std.{proofs.Common.{◌≡◌, ◌≢◌, ℕ, suc, ◌+◌, ◌-◌, ◌/◌, ◌^◌, ◌<◌, ◌≤◌, Bool, true, false, cond, eqb, List, [], ◌∷◌, ◌++◌, length, map, take, drop, get_or, refl, ap, append_assoc, append-nil, arith, slice_set, rules, length-append, add-one}, specs.List.{sum_by, count_by, AllByRecursion}, proofs.Math.Nat.{div-div-eq-div-mul, div-one}, proofs.lemmas.Bool.Decides.nat_tests, proofs.lemmas.Grind.common_steps, proofs.lemmas.List.{take_more_set, drop_more, drop-set-add, drop-set-lt, length-drop}, proofs.lemmas.List.Sums.{sum_by-cons, sum_by-append}}
 use mir.Val.{bool_byte}
 use Rattle.tally_base.{specs.Settings.CorrelationView, specs.Tally.History}
 use Rattle.lag_ring.{specs.declared.ring.Entry.Entry, proofs.Lists.{all_back, all_join, of_some}, proofs.Rising.all_weaker}
@@ -76,9 +76,10 @@ pub byte_small : (b : Bool) → bool_byte b ≤ 1
 byte_small b = search (rules, arith)
 
 -- merged bins weigh as much as they do one by one
-pub weigh : (weight : Entry → ℕ) → ((e f : Entry) → weight (both_of e f) ≡ weight e + weight f) → (e : Entry) (es : List Entry) → sum_by weight (merged e es) ≡ weight e + sum_by weight es
+pub weigh : (weight : Entry → ℕ) → ((e f : Entry) → e.index ≡ f.index → weight (both_of e f) ≡ weight e + weight f) → (e : Entry) (es : List Entry)
+    → sum_by weight (merged e es) ≡ weight e + sum_by weight es
 weigh weight adds e [] = search (rules, arith, sum_by-cons)
-weigh weight adds e (f ∷ fs) = search (rules, arith, adds, sum_by-cons, weigh weight adds (both_of e f) fs, weigh weight adds f fs)
+weigh weight adds e (f ∷ fs) = search (rules, arith, adds, sum_by-cons, nat_tests, weigh weight adds (both_of e f) fs, weigh weight adds f fs)
 
 -- What is merged so far, and what is left, are together what all is merged into.
 module _ (levels from at' count closed : ℕ) (list : List Entry) (own none : Entry) (whole : List Entry) (more : at' < count) (inside : from + count ≤ length list)
@@ -90,7 +91,7 @@ module _ (levels from at' count closed : ℕ) (list : List Entry) (own none : En
   with_next = search (rules, arith, stretch_more (from + at') (count - at') levels list none)
 
   pub next_fits : (weight : Entry → ℕ) → ((e f : Entry) → weight (both_of e f) ≡ weight e + weight f) → weight own + weight next ≤ sum_by weight whole
-  next_fits weight adds = rw (← with_next, sum_by-append weight _ _, weigh weight adds, sum_by-cons weight) (omega arith)
+  next_fits weight adds = rw (← with_next, sum_by-append weight _ _, weigh weight (λ e f same. adds e f), sum_by-cons weight) (omega arith)
 
   -- one bin more is merged
   pub merge_more : closed < at' → (same : Bool) → eqb own.index next.index ≡ same

@@ -1,5 +1,5 @@
 -- What the ring of a level keeps once some bins are closed.
-use Rattle.std.{proofs.Common.{◌≡◌, ℕ, ◌-◌, ◌<◌, ◌≤◌, Bool, true, false, leb, List, [], ◌∷◌, ◌++◌, length, take, drop, get_or, refl, sym, ap, ◌∙◌, append_assoc, append-nil, arith, rules}, specs.List.{filter, AllByRecursion, AllByRecursion-prop}, proofs.Props.props, proofs.lemmas.Bool.false≢true, proofs.lemmas.List.{drop_more, take-append-drop}, proofs.lemmas.List.Elements.filter-append}
+use Rattle.std.{proofs.Common.{◌≡◌, ℕ, ◌-◌, ◌<◌, ◌≤◌, Bool, true, false, leb, List, [], ◌∷◌, ◌++◌, length, take, drop, get_or, refl, append_assoc, append-nil, arith, rules}, specs.List.{filter, AllByRecursion, AllByRecursion-prop}, proofs.Props.props, proofs.lemmas.Bool.false≢true, proofs.lemmas.List.{drop_more, take-append-drop}, proofs.lemmas.List.Elements.filter-append}
 use Rattle.tally_base.{specs.Settings.CorrelationView, specs.Tally.History}
 use Rattle.lag_ring.{specs.declared.ring.Entry.Entry, specs.Ring.{Ring, ring, IsRising}, proofs.Lists.{all_filter}, proofs.Rising.{all_weaker, filter_passed}}
 use Rattle.tau_cascade.{specs.Correlation.bin, specs.Levels.{IsBin, RingIs}, specs.Bins.Follow, proofs.Closes.{filter_none, ring_after}}
@@ -52,10 +52,8 @@ pub kept_is : (before start : ℕ) (front bins : List Entry) → AllByRecursion 
 kept_is before start front bins left kept =
     let none : filter (λ (e : Entry). leb before e.index) (take start bins) ≡ [] = filter_none (λ e. leb before e.index) (take start bins) (all_weaker (λ e. e.index < before) (λ e. leb before e.index ≡ false) (λ e under. grind arith) (take start bins) left) in
     let all : filter (λ (e : Entry). leb before e.index) (drop start bins) ≡ drop start bins = filter_passed (λ e. leb before e.index) (drop start bins) (all_weaker (λ e. before ≤ e.index) (λ e. leb before e.index ≡ true) (λ e up. grind arith) (drop start bins) kept) in
-    let parts : filter (λ (e : Entry). leb before e.index) bins ≡ drop start bins =
-    ap (filter (λ (e : Entry). leb before e.index)) (sym (take-append-drop start bins))
-    ∙ filter-append (λ e. leb before e.index) (take start bins) (drop start bins) ∙ rw (none, all) refl in
-    filter-append (λ e. leb before e.index) front bins ∙ ap (λ ys. filter (λ (e : Entry). leb before e.index) front ++ ys) parts
+    let cut = filter-append (λ (e : Entry). leb before e.index) (take start bins) (drop start bins) in
+    search (rules, arith, filter-append, take-append-drop, cut, none, all)
 
 -- from one bin on, all are kept
 pub kept_from : (before start : ℕ) (bins : List Entry) (none : Entry) → 0 < start → start ≤ length bins → before ≤ (get_or bins (start - 1) none).index → AllByRecursion (λ e. before ≤ e.index) (drop start bins) → AllByRecursion (λ e. before ≤ e.index) (drop (start - 1) bins)

@@ -12,3 +12,7 @@ pub mod Passes
 pub mod Shown
 pub mod Work
 pub mod Near
+pub mod Gridded
+pub mod Onward
+pub mod Dots
+pub mod Places

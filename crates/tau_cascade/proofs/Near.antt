@@ -2,10 +2,7 @@
 use Rattle.std.{proofs.Common.{◌≡◌, ◌^◌, ◌&&◌, length-append, ◌/◌, ℕ, ◌+◌, ◌-◌, ◌<◌, ◌≤◌, Bool, true, false, cond, eqb, leb, List, [], ◌∷◌, ◌++◌, length, map, take, drop, get_or, refl, sym, ap, ◌∙◌, arith, rules}, specs.List.{sum_by, count_by, filter, AllByRecursion}, proofs.lemmas.Bool.Decides.nat_tests, proofs.Math.Nat.{mul-le-mul_left}, proofs.lemmas.List.{take_rest, take-append-drop, drop-map, length-drop, length-map, get_or-drop, get_or-map}, proofs.lemmas.List.Sums.{sum_by_push, count_by-le-length}}
 use Rattle.lag_ring.{specs.declared.ring.Entry.Entry, specs.Ring.{Ring, ring, IsRising, IsInReach, weight_where}, specs.Cells.{Cells, added_at}, proofs.Lists.all_join, proofs.Rising.{all_weaker, rising_back}, proofs.Sums.sum_by-filter}
 use Rattle.tally_base.{specs.Settings.CorrelationView, specs.Tally.History}
-use Rattle.tau_cascade.{specs.Correlation.{Given, bin, skipped_lags, in_first, in_second}, specs.Levels.{weight_before, RingIs, CellsAre}, specs.Dense.paired, specs.Bins.{raised, both_of, merged, merged_all, stretch, FitCounts, IsSpaced, Follow, CanShutAll}, proofs.Paired.{all_fit, all_rising, cells_all}, proofs.Follows.follow_comes, proofs.Spread.come_all, proofs.Keeping.{last_of, upto_last, ring_all, rising_filter, filter_again, kept_is}}
-
-abbrev none : Entry
-none = record { index = 0; a = 0; b = 0 }
+use Rattle.tau_cascade.{proofs.Close.no_bin, specs.Correlation.{Given, bin, skipped_lags, in_first, in_second}, specs.Levels.{weight_before, RingIs, CellsAre}, specs.Dense.paired, specs.Bins.{raised, both_of, merged, merged_all, stretch, FitCounts, IsSpaced, Follow, CanShutAll}, specs.declared.grid.Grid.Grid, specs.Grid.{Stands, kept_and}, proofs.Gridded.keeps_dense, proofs.Paired.{all_fit, all_rising, cells_all}, proofs.Follows.follow_comes, proofs.Spread.come_all, proofs.Keeping.{last_of, upto_last, ring_all, rising_filter, filter_again, kept_is}}
 
 -- Pairs with what is before count by its weights alone.
 paired_same : (k : ℕ) (before other es : List Entry) → ((n : ℕ) → weight_before k n before ≡ weight_before k n other) → paired k before es ≡ paired k other es
@@ -85,12 +82,12 @@ all_upto : (e : Entry) (es : List Entry) → IsRising (e ∷ es) → AllByRecurs
 all_upto e [] rising = (omega arith, tt)
 all_upto e (f ∷ fs) rising = (upto_last e (f ∷ fs) rising, all_upto f fs rising.1)
 
-last_read : (e : Entry) (es : List Entry) → get_or (e ∷ es) (length es) none ≡ last_of e es
+last_read : (e : Entry) (es : List Entry) → get_or (e ∷ es) (length es) no_bin ≡ last_of e es
 last_read e [] = refl
 last_read e (f ∷ fs) = last_read f fs
 
 merged_end : (es : List Entry) → 0 < length es
-    → (f : Entry) × (fs : List Entry) × (merged_all es ≡ f ∷ fs) × ((last_of f fs).index ≡ (get_or es (length es - 1) none).index)
+    → (f : Entry) × (fs : List Entry) × (merged_all es ≡ f ∷ fs) × ((last_of f fs).index ≡ (get_or es (length es - 1) no_bin).index)
 merged_end [] some = absurd (omega arith)
 merged_end (e ∷ es) some =
     let end = end_one e es in
@@ -129,9 +126,9 @@ module _ (set : CorrelationView) (level skipped : ℕ) (is_skipped : skipped ≡
     some : 0 < length bins
     some = omega (arith, length-drop start (map (raised levels) list), length-map list (raised levels))
 
-    last : (get_or bins (length bins - 1) none).index ≡ (get_or list (length list - 1) none).index / 2 ^ levels
+    last : (get_or bins (length bins - 1) no_bin).index ≡ (get_or list (length list - 1) no_bin).index / 2 ^ levels
     last =
-        let read = get_or-map (raised levels) list (length list - 1) none none in
+        let read = get_or-map (raised levels) list (length list - 1) no_bin no_bin in
         search (rules, arith, read, get_or-drop, length-drop, length-map)
 
     pub cells_near : (new : Cells) → ((p : ℕ) → p < set.lags - skipped → get_or new.cells p 0 ≡ get_or cells.cells p 0 + paired (p + skipped + 1) r.entries bins)
@@ -145,7 +142,7 @@ module _ (set : CorrelationView) (level skipped : ℕ) (is_skipped : skipped ≡
         (λ p inside. pairs p inside ∙ ap (λ n. get_or cells.cells p 0 + n) (sym (paired_merged (p + skipped + 1) (omega arith) r.entries bins)))
         same (omega (arith, added, more)) (λ p. omega (arith, each p, long))
 
-    module _ (lags : 0 < set.lags) (before : ℕ) (is : before ≡ (get_or list (length list - 1) none).index / 2 ^ levels - (set.lags - 1)) where
+    module _ (lags : 0 < set.lags) (before : ℕ) (is : before ≡ (get_or list (length list - 1) no_bin).index / 2 ^ levels - (set.lags - 1)) where
       abbrev from' : Entry → Bool
       from' e = leb before e.index
 
@@ -183,3 +180,8 @@ module _ (set : CorrelationView) (level skipped : ℕ) (is_skipped : skipped ≡
         rising_filter from' (r.entries ++ whole) rising,
         ring_near,
       )
+
+      -- and of the bins of a grid
+      pub dense_near : (g : Grid) (place : ℕ) → Stands g bins → place ≡ before - g.base
+          → IsRising (kept_and before r.entries g place) × (length (kept_and before r.entries g place) ≤ r.reach) × RingIs set level (ring (kept_and before r.entries g place) r.reach) (closed ++ xs)
+      dense_near g place stands at = keeps_dense g bins before place at stands set level r (closed ++ xs) ring_near (in_reach before (grind (arith, nat_tests)))

@@ -21,10 +21,8 @@ module _ (set : CorrelationView) (level : ℕ) where
       sum_by-agree (λ x. bin level x ≡ n) (λ x. cond (in_first set x && eqb (bin level x + k) m) 1 0)
       (λ x. cond (in_first set x && eqb (n + k) m) 1 0) xs here (λ x is. rw is refl)
       ∙ elim (eqb (n + k) m) as (λ b. sum_by (λ x. cond (in_first set x && b) 1 0) xs ≡ cond b (count_by (in_first set) xs) 0) [
-        | true ↦ sum_by-same (λ x. cond (in_first set x && true) 1 0) (λ x. cond (in_first set x) 1 0) xs
-            (λ x. elim (in_first set x) as (λ b. ◌≡◌ {A = ℕ} (cond (b && true) 1 0) (cond b 1 0)) [ true ↦ refl | false ↦ refl ])
-        | false ↦ sum_by-zero (λ x. bin level x ≡ n) (λ x. cond (in_first set x && false) 1 0) xs here
-            (λ x is. elim (in_first set x) as (λ b. ◌≡◌ {A = ℕ} (cond (b && false) 1 0) 0) [ true ↦ refl | false ↦ refl ])
+        | true ↦ sum_by-same _ _ xs (λ x. search (rules, arith))
+        | false ↦ sum_by-zero (λ x. bin level x ≡ n) _ xs here (λ x is. search (rules, arith))
       ]
 
   counts_push : (before : List Entry) (e : Entry) (closed run : History) → Counts before closed

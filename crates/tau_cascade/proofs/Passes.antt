@@ -1,5 +1,5 @@
 -- Bins that are further apart than the lags, and lists part by part.
-use Rattle.lag_ring.{specs.declared.ring.Entry.Entry, specs.Ring.{IsRising}, proofs.Rising.{all_weaker, all_push}, proofs.Lists.{all_back, all_map, all_both, each_at}}
+use Rattle.lag_ring.{specs.declared.ring.Entry.Entry, specs.Ring.{IsRising}, proofs.Rising.{all_weaker, all_push}, proofs.Lists.{all_front, all_back, all_map, all_both, each_at}}
 use Rattle.tau_cascade.{specs.Levels.{weight_before}, specs.Bins.{raised, IsSpaced}, specs.Dense.{paired, paired_from}, proofs.Nexts.{none_at_lag, paired-append, take_parts}}
 use Rattle.std.{proofs.Common.{◌≡◌, ℕ, suc, ◌+◌, ◌-◌, ◌/◌, ◌^◌, ◌<◌, ◌≤◌, List, [], ◌∷◌, ◌++◌, length, map, take, drop, get_or, refl, ap, ◌∙◌, subst, add-one, arith, rules, append_assoc, zero}, specs.List.AllByRecursion, proofs.Math.Nat.div-mul-le_self, proofs.lemmas.Nat.{shr-shr, le-div, pow_pos}, proofs.lemmas.List.{take-take, take-map, drop-map, get_or-take, get_or-map, length-map, length-drop, length-take-le, take-append-drop, drop-take, drop-drop}, proofs.lemmas.List.Sums.sum_by-append, proofs.lemmas.Grind.common_steps}
 
@@ -25,19 +25,19 @@ pub spaced_behind : (d i : ℕ) (e : Entry) (es : List Entry) → i + d ≤ e.in
 spaced_behind d i e es first spaced = (first, all_weaker (λ f. e.index + d ≤ f.index) (λ f. i + d ≤ f.index) (λ f apart. omega arith) es spaced.0)
 
 pub all_take : (P : Entry → Type 0) (n : ℕ) (es : List Entry) → AllByRecursion P es → AllByRecursion P (take n es)
-all_take P zero es all = tt
-all_take P (suc n) [] all = tt
-all_take P (suc n) (e ∷ es) all = (all.0, all_take P n es all.1)
+all_take P n es all = all_front P (take n es) (drop n es) (rw take-append-drop all)
 
 pub spaced_take : (d n : ℕ) (es : List Entry) → IsSpaced d es → IsSpaced d (take n es)
 spaced_take d zero es spaced = tt
 spaced_take d (suc n) [] spaced = tt
 spaced_take d (suc n) (e ∷ es) spaced = (all_take (λ f. e.index + d ≤ f.index) n es spaced.0, spaced_take d n es spaced.1)
 
+pub spaced_back : (d : ℕ) (es fs : List Entry) → IsSpaced d (es ++ fs) → IsSpaced d fs
+spaced_back d [] fs spaced = spaced
+spaced_back d (e ∷ es) fs spaced = spaced_back d es fs spaced.1
+
 pub spaced_drop : (d n : ℕ) (es : List Entry) → IsSpaced d es → IsSpaced d (drop n es)
-spaced_drop d zero es spaced = spaced
-spaced_drop d (suc n) [] spaced = tt
-spaced_drop d (suc n) (e ∷ es) spaced = spaced_drop d n es spaced.1
+spaced_drop d n es spaced = spaced_back d (take n es) (drop n es) (rw take-append-drop spaced)
 
 pub spaced_one : (d : ℕ) (es : List Entry) → IsSpaced d (take 1 es)
 spaced_one d es = search (rules, arith)
@@ -74,8 +74,7 @@ paired-whole : (k start : ℕ) (es : List Entry) → paired k [] es ≡ paired k
 paired-whole k start es = (rw (take-append-drop start es) at (paired-append k [] (take start es) (drop start es)))
 
 pub paired_apart : (lags k start : ℕ) (list : List Entry) → k ≤ lags → IsSpaced (lags + 1) list → paired_from start k list ≡ 0
-paired_apart lags k start list few spaced =
-    omega (arith, paired-whole k start list, paired-far lags k few [] list (none_before lags list) spaced)
+paired_apart lags k start list few spaced = omega (arith, paired-whole k start list, paired-far lags k few [] list (none_before lags list) spaced)
 
 -- Lists that do not fall, part by part.
 

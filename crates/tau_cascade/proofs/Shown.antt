@@ -1,18 +1,11 @@
 -- What a level shows.
-use Rattle.std.{proofs.Common.{◌≡◌, ℕ, suc, zero, ◌+◌, ◌-◌, ◌<◌, ◌≤◌, Bool, true, false, ◌&&◌, ◌||◌, eqb, cond, List, [], ◌∷◌, length, get_or, refl, sym, ◌∙◌, zero-add, add-zero, arith, None, Some, rules}, specs.List.{sum_by, count_by, slice_get}, specs.declared.option.Option.Option, specs.Option.option_map, proofs.lemmas.Bool.false≢true, proofs.lemmas.List.Sums.sum_by-cons}
+use Rattle.std.{proofs.Common.{◌≡◌, ℕ, suc, zero, ◌+◌, ◌-◌, ◌<◌, ◌≤◌, Bool, true, false, ◌&&◌, ◌||◌, eqb, cond, List, [], ◌∷◌, length, get_or, refl, sym, ◌∙◌, zero-add, add-zero, arith, None, Some, rules}, specs.List.{count_by, slice_get}, specs.declared.option.Option.Option, specs.Option.option_map, proofs.lemmas.Bool.false≢true}
 use Rattle.tally_base.{specs.declared.settings.CorrelationSet.CorrelationSet, specs.Settings.{CorrelationView, correlation_view}, specs.Tally.History}
-use Rattle.lag_ring.{specs.Cells.Cells, specs.Ring.Ring, proofs.Sums.{sum_by-same, sum_by-filter}}
+use Rattle.lag_ring.{specs.Cells.Cells, specs.Ring.Ring, proofs.Sums.{sum_by-times, sum_by-same, sum_by-filter}}
 use Rattle.tau_cascade.{specs.declared.level.Level.Level, specs.Correlation.{Given, bin, in_first, in_second, is_pair, correlation, skipped_lags, lag_count, photons_of}, specs.StandsFor.StandsFor, specs.Levels.{RingIs, CellsAre, Chain, Complete}}
 
-zeros : {X : Type 0} (f : X → ℕ) (xs : List X) → ((x : X) → f x ≡ 0) → sum_by f xs ≡ 0
-zeros f [] none = refl
-zeros f (x ∷ xs) none = rw (sum_by-cons f x xs, none x, zeros f xs none) refl
-
 only_second : (a b c d : Bool) → ◌≡◌ {A = ℕ} (cond (d || b) (cond ((a && b) && c) 1 0) 0) (cond ((a && b) && c) 1 0)
-only_second true true c true = refl
-only_second true true c false = refl
-only_second true false c d = elim (d || false) as (λ e. ◌≡◌ {A = ℕ} (cond e 0 0) 0) [ true ↦ refl | false ↦ refl ]
-only_second false b c d = elim (d || b) as (λ e. ◌≡◌ {A = ℕ} (cond e 0 0) 0) [ true ↦ refl | false ↦ refl ]
+only_second a b c d = search (rules, arith)
 
 -- other events are in no pair
 pub correlation-photons : (set : CorrelationView) (level k : ℕ) (h : History) → correlation set level k (photons_of set h) ≡ correlation set level k h
@@ -26,7 +19,7 @@ correlation-photons set level k h =
     let outer : (x : Given) → cond (mine x) (pairs x) 0 ≡ pairs x = λ x.
     elim (in_first set x) as (λ a. cond (a || in_second set x) (count_by (λ y. (a && in_second set y) && eqb (bin level y) (bin level x + k)) h) 0 ≡ count_by
     (λ y. (a && in_second set y) && eqb (bin level y) (bin level x + k)) h)
-    [ true ↦ refl | false ↦ elim (in_second set x) as (λ b. cond b (count_by (λ y. (false && in_second set y) && eqb (bin level y) (bin level x + k)) h) 0 ≡ count_by (λ y. (false && in_second set y) && eqb (bin level y) (bin level x + k)) h) [ true ↦ refl | false ↦ sym (zeros (λ y. cond ((false && in_second set y) && eqb (bin level y) (bin level x + k)) 1 0) h (λ y. refl)) ] ] in
+    [ true ↦ refl | false ↦ elim (in_second set x) as (λ b. cond b (count_by (λ y. (false && in_second set y) && eqb (bin level y) (bin level x + k)) h) 0 ≡ count_by (λ y. (false && in_second set y) && eqb (bin level y) (bin level x + k)) h) [ true ↦ refl | false ↦ sym (sum_by-times (λ y. 0) 0 h ∙ grind arith) ] ] in
     sum_by-same (λ x. count_by (is_pair set level k x) (photons_of set h)) pairs (photons_of set h) inner
     ∙ sum_by-filter mine pairs h
     ∙ sum_by-same (λ x. cond (mine x) (pairs x) 0) pairs h outer

@@ -124,6 +124,9 @@ module _ {levels first count : ℕ} {l : Level} {was new : List Entry} {from sta
   pub all_here : map (raised levels) here ≡ all
   all_here = rw (← take-map, put.bins, onto_take l.open (map (raised levels) (drop first was)) (first + count - from) count (omega arith), take-map) refl
 
+  pub came_here : take (first + count - first) (drop first new) ≡ take count (drop first was)
+  came_here = (let size : first + count - first ≡ count = omega arith in rw (size, put.same) refl)
+
   -- what is cut off behind them
   module _ (n : ℕ) (few : n < length here) where
     pub upto : n ≤ first + count - from
@@ -134,8 +137,11 @@ module _ {levels first count : ℕ} {l : Level} {was new : List Entry} {from sta
     is_cut last before here' a b = search (rules, arith, all_here, length-map, take-map, here, drop-map)
 
     -- those before it
+    pub front_all : map (raised levels) (take n here) ≡ take n all
+    front_all = rw (← all_here, take-map) refl
+
     pub front_here : stretch from n levels new ≡ take n all
-    front_here = rw (← all_here, take-map, take-take n (first + count - from) (drop from new) upto) refl
+    front_here = rw (← front_all, take-take n (first + count - from) (drop from new) upto) refl
 
     pub put_here : map (raised levels) (take (from + n - start) (drop start new)) ≡ l.ring.entries ++ take n all
     put_here =
@@ -162,8 +168,7 @@ module _ {levels first count : ℕ} {l : Level} {was new : List Entry} {from sta
       apart_closed =
           let size : from - start + n ≡ from + n - start = omega arith in
           let there : start + (from - start) ≡ from = omega arith in
-          let cut' : drop (from - start) (take (from + n - start) (drop start new)) ≡ take n (drop from new) =
-          rw (← size, drop-take, drop-drop, there) refl in
+          let cut' : drop (from - start) (take (from + n - start) (drop start new)) ≡ take n (drop from new) = rw (← size, drop-take, drop-drop, there) refl in
           rw (← cut') (spaced_drop near (from - start) (take (from + n - start) (drop start new)) apart_here)
 
 -- rising entries before sorted bins
@@ -233,8 +238,7 @@ module _ (set : CorrelationView) (level : ℕ) where
   -- behind the ring of what is closed too
   ring_sorted : (r : Ring) (es : List Entry) (closed xs : History) → RingIs set level r closed → IsBefore closed es → Come set level closed es xs → IsSpaced 0 (r.entries ++ es)
   ring_sorted r [] closed xs is before come = rw append-nil (spaced-rising r.entries is.rising)
-  ring_sorted r (e ∷ es) closed xs is before come =
-      spaced_join r.entries e es is.rising (is.keeps.bounded e.index before) (come_sorted (e ∷ es) closed xs come)
+  ring_sorted r (e ∷ es) closed xs is before come = spaced_join r.entries e es is.rising (is.keeps.bounded e.index before) (come_sorted (e ∷ es) closed xs come)
 
   -- merged, such bins follow what is closed
   come_merged : (es : List Entry) (closed xs : History) → IsBefore closed es → Come set level closed es xs → Follow set level closed (merged_all es) xs
@@ -258,8 +262,8 @@ pub came_fit : (set : CorrelationView) (level : ℕ) (l : Level) (es : List Entr
 came_fit set level l [] closed open' xs can = (omega arith, omega arith)
 came_fit set level l (e ∷ es) closed open' xs can =
     let fits = come_fit set level (e ∷ es) (closed ++ open') xs (omega (arith, can.few)) can.come in (
-      omega (arith, fits.0, sum_by-cons (λ (f : Entry). f.a) e es, weigh (λ f. f.a) (λ f g. refl) e es),
-      omega (arith, fits.1, sum_by-cons (λ (f : Entry). f.b) e es, weigh (λ f. f.b) (λ f g. refl) e es),
+      omega (arith, fits.0, sum_by-cons (λ (f : Entry). f.a) e es, weigh (λ f. f.a) (λ f g same. refl) e es),
+      omega (arith, fits.1, sum_by-cons (λ (f : Entry). f.b) e es, weigh (λ f. f.b) (λ f g same. refl) e es),
     )
 
 -- Photons come to a level in these bins.

@@ -4,6 +4,7 @@ pub mod Opens
 pub mod Levels
 pub mod Dense
 pub mod Bins
+pub mod Grid
 pub mod StandsFor
 pub mod Cascade
 pub mod Laws

@@ -5,6 +5,7 @@ ghost use Rattle.tau_cascade.{specs.StandsFor.{StandsFor, HasTaken}, specs.Level
 
 use crate::bins::{LEVELS, LIST, MOST_LAGS, gather, spacing};
 use crate::carry::{carry_all, end_all};
+use crate::grid::Grid;
 use crate::laid::PLACES;
 use crate::level::{Closed, Coming, Level, skipped_lags};
 use lag_ring::{Entry, PairCells};
@@ -143,6 +144,7 @@ fn give_block<L: Ledger>(
     let mut bins = [none; LIST];
     let mut spare = [none; LIST];
     let mut window = [0; PLACES];
+    let mut grid = Grid::empty();
     // Each level puts at most one bin before the list, and those of its ring before that.
     let count = gather(set, block, &mut bins, LEVELS + MOST_LAGS);
     let all = Coming {
@@ -161,6 +163,7 @@ fn give_block<L: Ledger>(
         all,
         &mut spare,
         &mut window,
+        &mut grid,
         steps,
     );
 }

@@ -12,7 +12,7 @@ use std::simd::Simd;
 pub(crate) const CLOSE_PART: usize = 64;
 
 /// How many places a window has before that of the first bin: no fewer than it has lanes and lags are skipped.
-const TOP: usize = 192;
+pub(crate) const TOP: usize = 192;
 
 /// How many places a window has.
 pub(crate) const PLACES: usize = 8640;
@@ -149,7 +149,7 @@ fn lay_all(
 
 /// Makes a window zero again, in which nothing was laid behind a place.
 #[inline(always)]
-fn clear(window: &mut [u16; PLACES], place: u64)
+pub(crate) fn clear_window(window: &mut [u16; PLACES], place: u64)
     requires room { place + TOP < PLACES }
     requires behind { (p : ℕ) → place + TOP < p → p < PLACES → slice_index window.old p ≡ 0 }
     ensures { IsZero window.new }
@@ -295,6 +295,6 @@ pub(crate) fn sum_part<const N: usize>(
         let from = TOP - N - skipped as usize;
         sum_laid(sums, window, &places, &list[start..], from, laying.heaviest);
     }
-    clear(window, laying.last.place);
+    clear_window(window, laying.last.place);
     light
 }

@@ -1,16 +1,17 @@
 // One level: its open bin, the ring of its last closed bins, and its cells.
-ghost use Rattle.std.{specs.Prelude.{◌≡◌, ◌+◌, ◌<◌, ◌≤◌, filter, length, nat_le, take, drop, [], IfOk, map}, specs.List.AllByRecursion};
+ghost use Rattle.std.{specs.Prelude.{◌≡◌, ◌+◌, ◌-◌, ◌^◌, ◌<◌, ◌≤◌, filter, length, nat_le, take, drop, [], IfOk, map}, specs.List.AllByRecursion};
 ghost use Rattle.lag_ring.specs.Ring.{IsRising, ring as ring_of};
 ghost use Rattle.tally_base.{specs.Settings.correlation_view, specs.Tally.History};
-ghost use Rattle.tau_cascade.{specs.Correlation.skipped_lags, specs.Bins.{raised, merged_at, kept_of, FitCounts, IsSpaced}, specs.Dense.IsZero, specs.Levels.{RingIs, CellsAre}};
+ghost use Rattle.tau_cascade.{specs.Correlation.skipped_lags, specs.Bins.{raised, merged_at, kept_of, FitCounts, IsSpaced}, specs.Dense.IsZero, specs.Levels.{RingIs, CellsAre}, specs.Grid.{IsGrid, IsBeside, Stands, kept_and}};
 
 use crate::bins::{
     LEVELS, LIST, apart_all, copy_into, cut_last, heaviest_of, lay_out, lower_open, lower_ring,
     merge,
 };
+use crate::grid::{Grid, SPAN, TOO_MANY};
 use crate::laid::PLACES;
 use crate::pairing::pair_all;
-use lag_ring::{Entry, LagRing, PairCells};
+use lag_ring::{Entry, LagRing, PairCells, Side, total_weight};
 use std::alloc::{AllocError, Global};
 use std::sync::ledger::Ledger;
 use tally_base::{CorrelationSet, Steps};
@@ -51,6 +52,9 @@ pub(crate) struct Coming {
 /// How many photons of a group a bin that waits has at most where a list may stay unmerged: with those of a block, one
 /// place of a window has fewer than are too many for it.
 const LIGHT: u64 = 1024;
+
+/// From which level on no grid is begun: with few levels above it would hardly pay.
+const DENSE_LEVELS: u32 = 4;
 
 /// How many of the first lags a level leaves to those below it: its own are above them.
 pub(crate) fn skipped_lags(set: &CorrelationSet, level: u32) -> u32
@@ -100,6 +104,29 @@ fn keep(ring: &mut LagRing, list: &[Entry], levels: u32, before: u64, spare: &mu
     heaviest_of(&spare[..count])
 }
 
+/// Puts the bins of a grid from a place on behind those of a ring that are not before an index, and takes out the others.
+/// Answers a number of photons that none of them has more of. What is in `spare` is lost.
+#[inline(always)]
+fn keep_dense(
+    ring: &mut LagRing,
+    grid: &Grid,
+    place: usize,
+    before: u64,
+    spare: &mut [Entry],
+) -> u64
+    requires grid { (grid.now.base + grid.now.len ≤ 2 ^ 64) × (grid.now.len ≤ SPAN) }
+    requires spare { (length ring.old.entries + (grid.now.len - place) ≤ length spare.old) }
+    requires rising { IsRising (kept_and before ring.old.entries grid.now place) }
+    requires room { length (kept_and before ring.old.entries grid.now place) ≤ ring.old.reach }
+    ensures { ring.new ≡ ring_of (kept_and before ring.old.entries grid.now place) ring.old.reach }
+{
+    ring.retire(before);
+    let at = lay_out(ring, spare);
+    let end = grid.put_bins(place, spare, at);
+    ring.refill(&spare[..end]);
+    heaviest_of(&spare[..end])
+}
+
 impl Level {
     ghost use Rattle.tau_cascade.{specs.Levels.{LevelIs, CanFinish, Finished}, specs.Bins.{CanShutAll, CanTake, Takes, HoldsOfAll}, specs.Opens.{IsComing, coming_bins, closed_bins}};
 
@@ -139,13 +166,15 @@ impl Level {
         apart: u64,
         spare: &mut [Entry],
         window: &mut [u16; PLACES],
+        grid: &Grid,
         steps: &mut Steps<L>,
     )
         requires list { (levels < 64) × IsSpaced 0 (map (raised levels) list.now)
             × (take start (map (raised levels) list.now) ≡ self.old.ring.entries)
             × (0 < apart → IsSpaced apart list.now) }
         requires room { (start < length list.now) × (length list.now ≤ length spare.old)
-            × IsZero window.old }
+            × IsZero window.old × (length spare.old ≡ LIST) }
+        requires grid { IsGrid grid.now (drop start (map (raised levels) list.now)) }
         requires stands { ∥ ((closed : History) × (xs : History) × CanShutAll
             (correlation_view set.now) level self.old.ring self.old.cells
             (merged_at start levels list.now) closed xs) ∥₁ }
@@ -160,6 +189,7 @@ impl Level {
         pair_all(
             &mut self.cells,
             window,
+            grid,
             skipped,
             set.lags,
             list,
@@ -170,7 +200,10 @@ impl Level {
         );
         let last = list[list.len() - 1].index >> levels;
         let before = last.saturating_sub(u64::from(set.lags) - 1);
-        self.heaviest = keep(&mut self.ring, list, levels, before, spare);
+        self.heaviest = match grid.place_from(before) {
+            Some(place) => keep_dense(&mut self.ring, grid, place, before, spare),
+            None => keep(&mut self.ring, list, levels, before, spare),
+        };
     }
 
     /// Takes bins, one after the other and none before what came. The open bin goes before them in the list, those of
@@ -184,43 +217,51 @@ impl Level {
         came: Coming,
         spare: &mut [Entry],
         window: &mut [u16; PLACES],
+        grid: &mut Grid,
         steps: &mut Steps<L>,
     ) -> Coming
-        requires comes { IsComing came level list.old × (0 < came.closed.count) × (level < LEVELS) }
+        requires comes { IsComing came level list.old × (0 < came.closed.count) × (level < LEVELS)
+            × IsBeside grid.old came list.old }
         requires room { (length list.old ≡ LIST) × (length spare.old ≡ LIST) × IsZero window.old }
         requires stands { ∥ ((shut : History) × (open' : History) × (xs : History)
             × CanTake (correlation_view set.now) level self.old (coming_bins came list.old)
             shut open' xs) ∥₁ }
         ensures follows { Takes (correlation_view set.now) level self.old self.new
             (coming_bins came list.old) (closed_bins result list.new) }
-        ensures comes { IsComing result (level + 1) list.new × (0 < result.levels) }
+        ensures comes { IsComing result (level + 1) list.new × (0 < result.levels)
+            × IsBeside grid.new result list.new }
         ensures zeros { IsZero window.new }
         ensures steps { steps.new + self.old.cells.added ≡ steps.old + self.new.cells.added }
     {
-        let Coming {
-            closed: Closed { from: first, count },
-            levels,
-            apart,
-        } = came;
-        let end = first + count;
+        let levels = came.levels;
+        let first = came.closed.from;
+        let end = first + came.closed.count;
         // For the proof: the index of the first fits, and nothing that is put before it is above it.
         let _first = list[first].index;
         let from = lower_open(&self.open, list, first, levels);
         let start = lower_ring(&self.ring, list, from, levels);
-        let apart = apart_all(&list[start..first + 1], apart, levels, set.lags);
+        let apart = apart_all(&list[start..first + 1], came.apart, levels, set.lags);
         let last = cut_last(&list[from..end], levels);
+        // A heavy ring can't be before a grid: then those above merge their bins.
+        let dense = grid.is_on() || level < DENSE_LEVELS;
+        if dense && total_weight(Side::First, &list[start..from]) < TOO_MANY {
+            let bins = &list[from..end];
+            grid.follow(&self.open, &list[first..end], bins, levels, &last, window);
+        } else {
+            grid.clear();
+        }
         self.open = Some(last.bin);
         if last.closed > 0 {
-            let bins = &list[start..from + last.closed];
             self.shut(
                 set,
                 level,
-                bins,
+                &list[start..from + last.closed],
                 from - start,
                 levels,
                 apart,
                 spare,
                 window,
+                grid,
                 steps,
             );
         }
@@ -242,9 +283,11 @@ impl Level {
         list: &mut [Entry],
         spare: &mut [Entry],
         window: &mut [u16; PLACES],
+        grid: &Grid,
         steps: &mut Steps<L>,
     ) -> Option<Entry>
-        requires room { (length list.old ≡ LIST) × (length spare.old ≡ LIST) × IsZero window.old }
+        requires room { (length list.old ≡ LIST) × (length spare.old ≡ LIST) × IsZero window.old
+            × Stands grid.now [] × (grid.now.len ≡ 0) }
         requires stands { ∥ ((closed : History) × (open' : History)
             × CanFinish (correlation_view set.now) level self.old closed open') ∥₁ }
         ensures follows { (closed open' : History)
@@ -266,6 +309,7 @@ impl Level {
                     0,
                     spare,
                     window,
+                    grid,
                     steps,
                 );
                 self.open = None;

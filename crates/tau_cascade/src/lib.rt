@@ -5,6 +5,7 @@
 mod bins;
 mod carry;
 mod cascade;
+mod grid;
 mod laid;
 mod level;
 mod pairing;

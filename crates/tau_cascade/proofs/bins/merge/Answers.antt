@@ -1,23 +1,19 @@
 use Rattle.std.{proofs.Common.{refl, rules, arith}, proofs.lemmas.List.{take-set-le, take_more_set, drop-set-add, length-drop}}
-use Rattle.lag_ring.specs.declared.ring.Entry.{Entry}
-use Rattle.tau_cascade.proofs.Follows.{stretch_more, next_fits, merge_more, byte_small}
+use Rattle.tau_cascade.proofs.{Close.no_bin, Follows.{stretch_more, next_fits, merge_more, byte_small}}
 use Rattle.tau_cascade.proofs.bins.merge.Goals as goal
 
-abbrev none : Entry
-none = record { index = 0; a = 0; b = 0 }
-
 pub loop-at-init : goal.loop-at-init
-loop-at-init c = search (rules, arith, stretch_more, none)
+loop-at-init c = search (rules, arith, stretch_more, no_bin)
 
 pub joined-a-requires : goal.joined-a-requires
-joined-a-requires c = search (rules, arith, next_fits, none)
+joined-a-requires c = search (rules, arith, next_fits, no_bin)
 
 pub joined-b-requires : goal.joined-b-requires
-joined-b-requires c = search (rules, arith, next_fits, none)
+joined-b-requires c = search (rules, arith, next_fits, no_bin)
 
 pub loop-at-preserved : goal.loop-at-preserved
 loop-at-preserved c =
-    let merged' = merge_more _ _ c.loop-at.at c.args.count _ c.loop-at.list _ none _ c.loop-at-test.true (omega arith) c.loop-at.invariant.bins c.loop-at.invariant.few _ refl in
+    let merged' = merge_more _ _ c.loop-at.at c.args.count _ c.loop-at.list _ no_bin _ c.loop-at-test.true (omega arith) c.loop-at.invariant.bins c.loop-at.invariant.few _ refl in
     search (rules, arith, merged', take-set-le, byte_small)
 
 pub returns-clause-bins : goal.returns-clause-bins

@@ -29,7 +29,7 @@ pub carry_all-requires : goal.carry_all-requires
 carry_all-requires g t c κs within =
     let stands = ∥∥₁_map c.requires.stands (λ w. gone_on _ _ _ _ _ (coming_bins c.args.coming c.args.bins.now) c.give_first-next.new.bins c.give_first-next.result
     c.give_first-next.ensures.comes.1 c.give_first-next.ensures.follows w.0 w.1 (rw c.in-Some.ensures.cases.0 at w.2)) in
-    (search rules, (within, ((search rules, search rules, c.give_first-next.ensures.zeros), (c.give_first-next.ensures.comes.0, (stands, omega (arith, c.requires.depth, c.in-Some.ensures.cases.1))))))
+    search (rules, arith)
 
 pub returns-in-Some-clause-follows : goal.returns-in-Some-clause-follows
 returns-in-Some-clause-follows g t c = λ came xs given.

@@ -14,9 +14,7 @@ loop-i-init c =
     let are = c.lay_before-laying.ensures in
     let most : ℕ = c.args.first + c.args.lags in
     let close = are.upto most (omega arith) (rw (← take-map (raised c.args.levels) c.args.start c.args.list.now) c.requires.near.1) in
-    let none : drop c.args.start (take c.args.start c.args.list.now) ≡ [] =
-    drop_of_length-le (take c.args.start c.args.list.now) (omega (arith, length-take c.args.start c.args.list.now)) in
-    search (rules, arith, take-map, append-nil)
+    search (rules, arith, take-map, drop_of_length-le, length-take, append-nil)
 
 pub lay_one-laying-requires : goal.lay_one-laying-requires
 lay_one-laying-requires c =
@@ -26,7 +24,6 @@ lay_one-laying-requires c =
     let count : ℕ = i - c.args.start in
     let all : reach * (count + 1) ≤ 129 * 64 =
     mul-le-mul {n₂ = 129} {m₂ = 64} (omega (arith, c.requires.lags.0, c.from-reach.ensures)) (omega (arith, inside, c.requires.list.1)) in
-    let ring : reach * (count + 1) ≡ reach * count + reach = grind arith in
     search (rules, arith, behind_last)
 
 pub loop-i-preserved : goal.loop-i-preserved

@@ -13,8 +13,7 @@ module _ {heaviest : ℕ} (window : List ℕ) (list : List Entry)
         (λ f under. (omega (arith, under.0, upto), omega (arith, under.1, upto))) list all.1,
   )
 
-  few_all : (places : List ℕ) (from : ℕ) → length window ≡ 8640
-      → sum_by (product_at Second window 0 from) (placed list places) ≤ most * most * length list
+  few_all : (places : List ℕ) (from : ℕ) → length window ≡ 8640 → sum_by (product_at Second window 0 from) (placed list places) ≤ most * most * length list
   few_all places from long = products_few window places list most from (low_all window most long all_light.0) all_light.1
 
 pub sum_light-more-requires : goal.sum_light-more-requires

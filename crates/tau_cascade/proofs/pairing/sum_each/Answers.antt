@@ -1,10 +1,6 @@
 use Rattle.std.{proofs.Common.{◌≤◌, ◌+◌, length, rules, arith}, proofs.lemmas.List.{length-map, drop_all, take_all}}
-use Rattle.lag_ring.specs.declared.ring.Entry.{Entry}
-use Rattle.tau_cascade.proofs.{Nexts.{none_paired, paired_first}, Passes.{paired_between, part_long}}
+use Rattle.tau_cascade.proofs.{Close.no_bin, Nexts.{none_paired, paired_first}, Passes.{paired_between, part_long}}
 use Rattle.tau_cascade.proofs.pairing.sum_each.Goals as goal
-
-abbrev none : Entry
-none = record { index = 0; a = 0; b = 0 }
 
 pub loop-at-init : goal.loop-at-init
 loop-at-init c = search (rules, arith, none_paired, length-map)
@@ -16,9 +12,9 @@ sum_one-requires-clause-fits c = λ p inside.
     let near = c.first_in_reach-near in
     let at = c.loop-at.at in
     let k = p + a.skipped + 1 in
-    let next = paired_between a.levels list near.result at (length list) none near.ensures.place c.loop-at-test.true (omega arith) c.requires.list.2
+    let next = paired_between a.levels list near.result at (length list) no_bin near.ensures.place c.loop-at-test.true (omega arith) c.requires.list.2
     k a.lags a.start (omega (arith, inside)) c.loop-at.auto.at near.ensures.far in
-    let first = paired_first a.levels list near.result at (length list) none near.ensures.place c.loop-at-test.true (omega arith) k in
+    let first = paired_first a.levels list near.result at (length list) no_bin near.ensures.place c.loop-at-test.true (omega arith) k in
     grind (arith, length-map, take_all, c.requires.fits p inside, c.loop-at.invariant p inside)
 
 pub loop-at-preserved : goal.loop-at-preserved
@@ -29,8 +25,8 @@ loop-at-preserved c = λ p inside.
     let at = c.loop-at.at in
     let k = p + a.skipped + 1 in
     let upto : at + 1 ≤ length list = omega (arith, c.loop-at-test.true) in
-    let next = paired_between a.levels list near.result at (at + 1) none near.ensures.place (omega arith) upto c.requires.list.2
+    let next = paired_between a.levels list near.result at (at + 1) no_bin near.ensures.place (omega arith) upto c.requires.list.2
     k a.lags a.start (omega (arith, inside)) c.loop-at.auto.at near.ensures.far in
-    let first = paired_first a.levels list near.result at (at + 1) none near.ensures.place (omega arith) upto k in
-    let long = part_long a.levels list near.result at (at + 1) none near.ensures.place (omega arith) upto in
+    let first = paired_first a.levels list near.result at (at + 1) no_bin near.ensures.place (omega arith) upto k in
+    let long = part_long a.levels list near.result at (at + 1) no_bin near.ensures.place (omega arith) upto in
     grind (arith, drop_all, c.loop-at.invariant p inside, c.sum_one.ensures p inside)

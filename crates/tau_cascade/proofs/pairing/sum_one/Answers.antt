@@ -1,10 +1,7 @@
 use Rattle.std.proofs.{Common.{rules, arith, ◌+◌, ◌-◌, ◌<◌, cond, eqb, map}, Math.Nat.mul-le-mul_right, lemmas.{Grind.common_steps, List.Sums.sum_by-take-le}}
 use Rattle.lag_ring.specs.declared.ring.Entry.{Entry}
-use Rattle.tau_cascade.{specs.Bins.{raised}, proofs.Nexts.{weight_more}, proofs.pairing.sum_one.Goals.{then-lag-from+then-lag-from-2, else-lag-from, else-lag-from-via-then-lag-from+else-lag-from-2, else-lag-from-via-else-lag-from}}
+use Rattle.tau_cascade.{proofs.Close.no_bin, specs.Bins.{raised}, proofs.Nexts.{weight_more}, proofs.pairing.sum_one.Goals.{then-lag-from+then-lag-from-2, else-lag-from, else-lag-from-via-then-lag-from+else-lag-from-2, else-lag-from-via-else-lag-from}}
 use Rattle.tau_cascade.proofs.pairing.sum_one.Goals as goal
-
-abbrev none : Entry
-none = record { index = 0; a = 0; b = 0 }
 
 pub overflow_add-sums : goal.overflow_add-sums
 overflow_add-sums c =
@@ -12,14 +9,14 @@ overflow_add-sums c =
     let p = c.saturating_sub-lag.result - a.skipped - 1 in
     let k = p + a.skipped + 1 in
     let inside : p < a.lags - a.skipped = search (rules, arith) in
-    let more = weight_more a.bins.now a.levels c.loop-bin.bin-index none c.loop-bin-test.true k a.index a.weight in
+    let more = weight_more a.bins.now a.levels c.loop-bin.bin-index no_bin c.loop-bin-test.true k a.index a.weight in
     let part = mul-le-mul_right a.weight (sum_by-take-le (λ (f : Entry). cond (eqb (f.index + k) a.index) f.a 0) (map (raised a.levels) a.bins.now) (c.loop-bin.bin-index + 1)) in
     let fits = c.requires.fits p inside in
     rw (c.from-then-lag-from-2.ensures, c.from-then-lag-from-2-2.ensures, c.from-then-lag-from-2-3.ensures, c.loop-bin.invariant p inside) (grind (arith, common_steps))
 
 pub loop-bin-preserved : goal.loop-bin-preserved
 loop-bin-preserved c = λ p inside.
-    let more = weight_more c.args.bins.now c.args.levels c.loop-bin.bin-index none c.loop-bin-test.true (p + c.args.skipped + 1) c.args.index c.args.weight in
+    let more = weight_more c.args.bins.now c.args.levels c.loop-bin.bin-index no_bin c.loop-bin-test.true (p + c.args.skipped + 1) c.args.index c.args.weight in
     let was = c.loop-bin.invariant p inside in
     elim c.if-lag-from.branch [
       | then-lag-from+then-lag-from-2 w ↦ rw w.sums-is (grind (arith, common_steps))

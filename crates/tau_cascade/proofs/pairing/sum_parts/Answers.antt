@@ -1,16 +1,12 @@
 use Rattle.std.{proofs.Common.{◌+◌, ◌<◌, ◌≤◌, length, arith, rules}, proofs.lemmas.List.length-map}
-use Rattle.lag_ring.specs.declared.ring.Entry.{Entry}
-use Rattle.tau_cascade.{proofs.{Nexts.none_paired, Passes.{part_long, part_sorted, paired_between}}}
+use Rattle.tau_cascade.{proofs.Close.no_bin, proofs.{Nexts.none_paired, Passes.{part_long, part_sorted, paired_between}}}
 use Rattle.tau_cascade.proofs.pairing.sum_parts.Goals as goal
-
-abbrev none : Entry
-none = record { index = 0; a = 0; b = 0 }
 
 pub parts-init : goal.parts-init
 parts-init g c = search (rules, arith, none_paired, length-map)
 
 pub sum_near-requires : goal.sum_near-requires
-sum_near-requires g c = search (rules, arith, part_long, none, part_sorted)
+sum_near-requires g c = search (rules, arith, part_long, no_bin, part_sorted)
 
 pub parts-preserved : goal.parts-preserved
 parts-preserved g c =
@@ -21,7 +17,7 @@ parts-preserved g c =
     let end = c.min-end.result in
     let more : at < end = omega (arith, c.min-end.ensures, c.parts-test.true) in
     let upto : end ≤ length list = omega (arith, c.min-end.ensures) in
-    let long = part_long a.levels list near.result at end none near.ensures.place more upto in
+    let long = part_long a.levels list near.result at end no_bin near.ensures.place more upto in
     let inv = c.parts.invariant in
     let e = c.sum_near.ensures in
     record {
@@ -30,7 +26,7 @@ parts-preserved g c =
       zeros = e.zeros;
       few = λ q inside. omega (arith, e.within q inside, inv.few q inside, long, near.ensures.place, more, inv.behind);
       sums = λ p inside.
-          let next = paired_between a.levels list near.result at end none near.ensures.place more upto c.requires.list.2
+          let next = paired_between a.levels list near.result at end no_bin near.ensures.place more upto c.requires.list.2
           (p + a.skipped + 1) a.lags a.start (omega (arith, inside)) inv.behind near.ensures.far in
           omega (arith, next, e.sums c.if-not-sum_near.false p inside, inv.sums p inside);
     }

@@ -1,4 +1,4 @@
-use Rattle.std.{proofs.Common.{rules, ◌≡◌, length, arith}, proofs.Props.props, proofs.Math.Logic.∥∥₁_elim, proofs.lemmas.Option.slice_get_read}
+use Rattle.std.{proofs.Common.{rules, arith}, proofs.Props.props, proofs.Math.Logic.∥∥₁_elim, proofs.lemmas.Option.slice_get_read}
 use Rattle.tally_base.specs.Settings.{correlation_view}
 use Rattle.tau_cascade.{proofs.Shown.{level_count, shown_ring}, proofs.Work.{spent_within, all_lent, level_within}, specs.Correlation.photons_of}
 use Rattle.tau_cascade.proofs.cascade.Cascade.level.Goals as goal
@@ -23,6 +23,5 @@ returns-clause-work c = search (rules, arith, spent_within)
 pub returns-clause-own : goal.returns-clause-own
 returns-clause-own c = λ h is.
     let t = c.args.self.now in
-    let count : t.set.levels ≡ length t.levels.items = search rules in
-    let read = slice_get_read t.levels.items t.set.levels c.args.level c.index.result.now count c.requires c.index.ensures in
+    let read = slice_get_read t.levels.items t.set.levels c.args.level c.index.result.now (search rules) c.requires c.index.ensures in
     level_within t.closed (correlation_view t.set) t.levels.items (photons_of (correlation_view t.set) h) is.through c.args.level c.index.result.now read

@@ -1,16 +1,12 @@
-use Rattle.std.{proofs.Common.{rules}, proofs.Common.{◌≡◌, ◌+◌, ◌-◌, ◌*◌, ◌^◌, ◌<◌, ◌≤◌, [], length, refl, arith}, proofs.Props.props, proofs.Math.Logic.{∥∥₁_map, ∥∥₁_elim}}
-use Rattle.tally_base.specs.Settings.{correlation_view}
-use Rattle.lag_ring.{specs.declared.ring.Entry.Entry, proofs.Lists.{all_front, all_back}}
-use Rattle.tau_cascade.{specs.Bins.onto, proofs.Spread.{IsPut, same_behind, onto_few, spaced-prop, stretch_fit, all_here, is_cut, front_here, put_here, ring_here, bins_here, apart_here, apart_closed, upto, here_sorted, front_sorted, weights_fit, parts, may_close, none_closed, take_took}, proofs.level.Level.take.Goals.{After-lower_ring-start, then-last-gt0, else-last-gt0}, proofs.level.Level.take.Given.{Over}}
+use Rattle.std.{proofs.Common.{rules}, proofs.Common.{◌≡◌, ◌+◌, ◌-◌, ◌*◌, ◌^◌, ◌<◌, ◌≤◌, [], length, map, take, drop, refl, sym, ap, ◌∙◌, arith}, proofs.Props.props, proofs.Math.Logic.{∥∥₁_map, ∥∥₁_elim}}
+use Rattle.lag_ring.{proofs.Lists.{all_front, all_back}}
+use Rattle.tau_cascade.{proofs.Close.no_bin, specs.Bins.{raised, onto}, specs.Grid.IsGrid, proofs.Onward.{grid_some, off_grid, is_grid}, proofs.Spread.{IsPut, same_behind, onto_few, spaced-prop, stretch_fit, all_here, came_here, is_cut, front_all, front_here, put_here, ring_here, bins_here, apart_here, apart_closed, upto, here_sorted, front_sorted, weights_fit, parts, may_close, none_closed, take_took}, proofs.level.Level.take.Goals.{After-lower_ring-start, Joined-dense, then-dense+then-total_weight-lt-TOO_MANY, else-dense, then-last-gt0, else-last-gt0}, proofs.level.Level.take.Given.{Over}}
 use Rattle.tau_cascade.proofs.level.Level.take.Goals as goal
-
-abbrev none : Entry
-none = record { index = 0; a = 0; b = 0 }
 
 pub lower_open-from-requires-clause-fits : goal.lower_open-from-requires-clause-fits
 lower_open-from-requires-clause-fits g c =
     all_back (λ e. e.index * 2 ^ c.args.came.levels < 2 ^ 64) c.args.self.now.ring.entries (onto c.args.self.now.open [])
-    (stretch_fit (correlation_view c.args.set.now) c.args.level c.args.self.now _ _ c.args.came.levels c.args.list.now none c.requires.comes.1 (omega (arith, c.requires.comes.0.places)) (omega arith) c.requires.stands)
+    (stretch_fit _ _ _ _ _ _ c.args.list.now no_bin c.requires.comes.1 (omega (arith, c.requires.comes.0.places)) (omega arith) c.requires.stands)
 
 pub lower_ring-start-requires-clause-room : goal.lower_ring-start-requires-clause-room
 lower_ring-start-requires-clause-room g c =
@@ -21,7 +17,7 @@ lower_ring-start-requires-clause-room g c =
 pub lower_ring-start-requires-clause-fits : goal.lower_ring-start-requires-clause-fits
 lower_ring-start-requires-clause-fits g c =
     all_front (λ e. e.index * 2 ^ c.args.came.levels < 2 ^ 64) c.args.self.now.ring.entries (onto c.args.self.now.open [])
-    (stretch_fit (correlation_view c.args.set.now) c.args.level c.args.self.now _ _ c.args.came.levels c.args.list.now none c.requires.comes.1 (omega (arith, c.requires.comes.0.places)) (omega arith) c.requires.stands)
+    (stretch_fit _ _ _ _ _ _ c.args.list.now no_bin c.requires.comes.1 (omega (arith, c.requires.comes.0.places)) (omega arith) c.requires.stands)
 
 -- what stands in the list then
 is_put : (g : Over) (c : After-lower_ring-start g) → IsPut c.args.came.levels c.args.came.closed.from c.args.came.closed.count c.args.self.now c.args.list.now c.lower_ring-start.new.list c.lower_open-from.result c.lower_ring-start.result
@@ -36,6 +32,31 @@ pub cut_last-last-requires-clause-counts : goal.cut_last-last-requires-clause-co
 cut_last-last-requires-clause-counts g c =
     let put = is_put g (goal.at.cut_last-last-requires-clause-counts g c).After-lower_ring-start in
     rw (all_here put) (∥∥₁_elim c.requires.stands (hlevel props) (λ w. weights_fit w.3))
+
+pub follow-requires-clause-list : goal.follow-requires-clause-list
+follow-requires-clause-list g c =
+    let put = is_put g (goal.at.follow-requires-clause-list g c).After-lower_ring-start in (
+      omega (arith, c.requires.comes.0.up),
+      rw (all_here put) (∥∥₁_elim c.requires.stands (spaced-prop _) (λ w. here_sorted w.3)),
+      all_here put ∙ ap (λ es. onto c.args.self.now.open (map (raised c.args.came.levels) es)) (sym (came_here put)),
+    )
+
+pub clear-requires : goal.clear-requires
+clear-requires g c = grid_some _ _ _ refl c.requires.comes.3.grid
+
+-- the grid stands for those that are closed, or has none
+grid_here : (g : Over) (c : Joined-dense g) → IsGrid c.if-dense.grid (map (raised c.args.came.levels) (take c.cut_last-last.result.closed
+    (take (c.args.came.closed.from + c.args.came.closed.count - c.lower_open-from.result) (drop c.lower_open-from.result c.lower_ring-start.new.list))))
+grid_here g c = elim c.if-dense.branch [
+  | then-dense+then-total_weight-lt-TOO_MANY w ↦ rw w.grid-is w.follow.ensures.grid
+  | else-dense w ↦ rw w.grid-is (off_grid _ [] _ (omega arith) (is_grid _ [] w.clear.ensures.0))
+]
+
+pub shut-requires-clause-grid : goal.shut-requires-clause-grid
+shut-requires-clause-grid g c =
+    let at' = goal.at.shut-requires-clause-grid g c in
+    let put = is_put g at'.After-lower_ring-start in
+    rw (bins_here put _ c.cut_last-last.ensures.few, ← front_all put _ c.cut_last-last.ensures.few) (grid_here g at'.Joined-dense)
 
 pub shut-requires-clause-list : goal.shut-requires-clause-list
 shut-requires-clause-list g c =
@@ -75,11 +96,16 @@ returns-clause-follows g c = λ closed open' xs can.
 pub returns-clause-comes : goal.returns-clause-comes
 returns-clause-comes g c =
     let put = is_put g (goal.at.returns-clause-comes g c).After-lower_ring-start in
-    let few = c.cut_last-last.ensures.few in (
+    let few = c.cut_last-last.ensures.few in
+    let up : c.args.came.levels + 1 - 1 ≡ c.args.came.levels = omega arith in (
       record {
         places = omega (arith, c.requires.comes.0.places, put.place, onto_few c.args.self.now.open, upto put _ few);
         up = omega (arith, c.requires.comes.0.up);
         spaced = λ far. let apart = c.apart_all-apart.ensures far in apart_closed put _ few _ _ apart.0 (c.requires.comes.0.spaced (omega arith)) apart.1;
       },
       omega arith,
+      record {
+        up = λ some. omega arith;
+        grid = rw (up, front_here put _ few, ← front_all put _ few) (grid_here g (goal.at.returns-clause-comes g c).Joined-dense);
+      },
     )

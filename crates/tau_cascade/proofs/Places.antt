@@ -1,0 +1,121 @@
+-- Bins at their places in a grid.
+use Rattle.std.{proofs.Common.{◌≡◌, ℕ, zero, suc, ◌+◌, ◌-◌, ◌*◌, ◌%◌, ◌/◌, ◌∙◌, sym, ◌^◌, ◌<◌, ◌≤◌, Bool, eqb, ltb, leb, cond, replicate, drop, List, [], ◌∷◌, ◌++◌, length, map, take, get_or, arith, rules}, specs.List.{sum_by, AllByRecursion}, proofs.Props.props, proofs.Math.Logic.{∥∥₁_elim}, proofs.lemmas.List.{places, get_or_past}, proofs.lemmas.List.Sums.{sum_by-cons, sum_by_push, sum_by-le-sum_by}, proofs.lemmas.Grind.common_steps}
+use borrow.Rule.Slice.PartMut.{put_mid}
+use Rattle.lag_ring.{specs.declared.ring.Entry.Entry, specs.declared.window.Side.{Side, TheVariants.{First, Second}}, specs.Bytes.{weight_of, weight_at}, proofs.Lists.{all_map}, proofs.Rising.all_weaker, proofs.Sums.{weight_at-le, sum_by-zero}}
+use Rattle.tau_cascade.{proofs.Gridded.sum_by-map, specs.declared.grid.Grid.Grid, specs.Bins.{raised, IsSpaced}, specs.Grid.{HaveWeights, Stands, photons, halved}, proofs.Close.{no_bin, zeros_at}}
+
+-- bins have one of so many places
+abbrev pub AreIn : ℕ → ℕ → List Entry → Type 0
+AreIn base len es = AllByRecursion (λ e. (base ≤ e.index) × (e.index < base + len)) es
+
+-- a place has no more than all photons
+pub weight_at-few : (side : Side) (base p : ℕ) (es : List Entry) → weight_at side 0 base p es ≤ sum_by photons es
+weight_at-few side base p es = search (rules, arith, weight_at-le, sum_by-le-sum_by)
+
+-- a bin more at its place
+pub put_weights : (side : Side) (base : ℕ) (old new : List ℕ) (es : List Entry) (e : Entry) → HaveWeights side base old es → base ≤ e.index
+    → ((p : ℕ) → p < 4096 → get_or new p 0 ≡ get_or old p 0 + cond (eqb (e.index - base) p) (weight_of side e) 0) → HaveWeights side base new (es ++ e ∷ [])
+put_weights side base old new es e have from more = λ p inside. search (rules, arith, sum_by_push, have p inside, more p inside)
+
+-- the place of a bin so many levels up
+pub has_place : (base levels : ℕ) (es : List Entry) (i : ℕ) → i < length es → AreIn base 4096 (map (raised levels) es)
+    → (base ≤ (raised levels (get_or es i no_bin)).index) × ((raised levels (get_or es i no_bin)).index < base + 4096)
+has_place base levels [] i inside near = absurd (omega (arith, inside))
+has_place base levels (e ∷ es) zero inside near = near.0
+has_place base levels (e ∷ es) (suc i) inside near = has_place base levels es i (omega (arith, inside)) near.1
+
+-- a place of a list where zeros were written before it
+pub front_zero : (xs ys : List ℕ) (n p : ℕ) → n ≤ length xs → ys ≡ replicate (length (take n xs)) 0
+    → get_or (ys ++ drop n xs) p 0 ≡ cond (ltb p n) 0 (get_or xs p 0)
+front_zero xs ys n p inside are = rw are (search (rules, places, zeros_at))
+
+-- a place of the front of a list of which a part was written
+pub mid_put : (xs ys : List ℕ) (a n p : ℕ) → a + n ≤ length xs → length ys ≡ n → p < a + n
+    → get_or (take (a + n) (put_mid a (a + n - a) xs ys)) p 0 ≡ cond (ltb p a) (get_or xs p 0) (get_or ys (p - a) 0)
+mid_put xs ys a n p room long inside = search (rules, places)
+
+-- two places as one, behind others
+pub half_place : (old window to : List ℕ) (front half off p : ℕ) → (p < off + half → front ≡ cond (ltb p off) (get_or window p 0) (get_or to (p - off) 0))
+    → get_or window p 0 ≡ 0 → ((q : ℕ) → q < half → get_or to q 0 ≡ get_or old (2 * q) 0 + get_or old (2 * q + 1) 0)
+    → ((q : ℕ) → 2 * half ≤ q → get_or old q 0 ≡ 0)
+    → cond (ltb p (off + half)) front (cond (ltb p (2 * half)) 0 (get_or old p 0)) ≡ cond (leb off p) (halved off old p) 0
+half_place old window to front half off p is none halves after = search (rules, arith, is, halves, after)
+
+-- one bin where two places become one
+one_halved : (side : Side) (base low off p : ℕ) (e : Entry) → base % 2 ≡ 0 → low + off ≡ base / 2 → base ≤ e.index
+    → cond (eqb ((raised 1 e).index + 0) (low + p)) (weight_of side (raised 1 e)) 0 ≡ cond (leb off p)
+    (cond (eqb (e.index + 0) (base + 2 * (p - off))) (weight_of side e) 0 + cond (eqb (e.index + 0) (base + (2 * (p - off) + 1))) (weight_of side e) 0) 0
+one_halved side base low off p e even is from = grind (arith, common_steps)
+
+sum_where : (b : Bool) (w x y z : ℕ) → cond b (w + x) 0 + cond b (y + z) 0 ≡ cond b (w + y + (x + z)) 0
+sum_where b w x y z = search (rules, arith)
+
+-- two places are one now
+abbrev pub AreHalved : ℕ → List ℕ → List ℕ → Type 0
+AreHalved off old new = (p : ℕ) → p < 4096 → get_or new p 0 ≡ cond (leb off p) (halved off old p) 0
+
+-- a place has few photons, and none behind so many
+abbrev pub IsLow : ℕ → List ℕ → ℕ → Type 0
+IsLow len places p = (get_or places p 0 < 32768) × (len ≤ p → get_or places p 0 ≡ 0)
+
+-- what bins have that a list has the weights of, on one side
+module _ (side : Side) (base len : ℕ) (places : List ℕ) (es : List Entry) (have : HaveWeights side base places es)
+    (within : AreIn base len es) (few : len ≤ 4096) (long : length places ≡ 4096) where
+  behind : (p : ℕ) → len ≤ p → weight_at side 0 base p es ≡ 0
+  behind p far = search (rules, arith, sum_by-zero)
+
+  at_all : (p : ℕ) → get_or places p 0 ≡ weight_at side 0 base p es
+  at_all p = search (rules, arith, have p, behind p, get_or_past)
+
+  places_few : (total : ℕ) → (sum_by photons es ≤ total) × (total < 32768) → (p : ℕ) → IsLow len places p
+  places_few total light p = rw (at_all p) (omega (arith, weight_at-few side base p es, light), behind p)
+
+  -- two places as one
+  weight_halved : (low off p : ℕ) → base % 2 ≡ 0 → low + off ≡ base / 2 → (fs : List Entry) → AreIn base len fs
+      → weight_at side 0 low p (map (raised 1) fs)
+      ≡ cond (leb off p) (weight_at side 0 base (2 * (p - off)) fs + weight_at side 0 base (2 * (p - off) + 1) fs) 0
+  weight_halved low off p even is [] all = search (rules, arith)
+  weight_halved low off p even is (e ∷ fs) all =
+      search (rules, arith, sum_by-cons, sum_where, one_halved side base low off p e even is all.0.0, weight_halved low off p even is fs all.1)
+
+  pub have_halved : (low off : ℕ) (new : List ℕ) → base % 2 ≡ 0 → low + off ≡ base / 2 → AreHalved off places new → HaveWeights side low new (map (raised 1) es)
+  have_halved low off new even is halves = λ p inside.
+      halves p inside ∙ rw (at_all (2 * (p - off)), at_all (2 * (p - off) + 1)) (sym (weight_halved low off p even is es within))
+
+-- what holds of a grid, whatever its bins are
+pub sound : (g : Grid) → length g.firsts ≡ 4096 → length g.seconds ≡ 4096 → ∥ ((es : List Entry) × Stands g es) ∥₁
+    → (g.len ≤ 4096) × (g.base % 2 ≡ 0) × (g.base + g.len ≤ 2 ^ 64) × (g.total < 32768)
+    × ((p : ℕ) → IsLow g.len g.firsts p) × ((p : ℕ) → IsLow g.len g.seconds p)
+sound g firsts seconds stands = ∥∥₁_elim stands (hlevel props) (λ w. (
+  w.1.few,
+  w.1.even,
+  w.1.fits,
+  w.1.total.1,
+  places_few First g.base g.len g.firsts w.0 w.1.firsts w.1.within w.1.few firsts g.total w.1.total,
+  places_few Second g.base g.len g.seconds w.0 w.1.seconds w.1.within w.1.few seconds g.total w.1.total,
+))
+
+-- a grid on the next level
+pub stands_halved : (g h : Grid) (es : List Entry) → length g.firsts ≡ 4096 → length g.seconds ≡ 4096 → Stands g es → h.base ≤ g.base / 2 → h.base % 2 ≡ 0
+    → h.len ≡ g.base / 2 - h.base + (g.len + 1) / 2 → h.len ≤ 4096 → h.total ≡ g.total
+    → AreHalved (g.base / 2 - h.base) g.firsts h.firsts → AreHalved (g.base / 2 - h.base) g.seconds h.seconds → Stands h (map (raised 1) es)
+stands_halved g h es firsts seconds was low even len few total one two =
+    let off : ℕ = g.base / 2 - h.base in
+    record {
+      firsts = have_halved First g.base g.len g.firsts es was.firsts was.within was.few firsts h.base off h.firsts was.even (omega (arith, low)) one;
+      seconds = have_halved Second g.base g.len g.seconds es was.seconds was.within was.few seconds h.base off h.seconds was.even (omega (arith, low)) two;
+      within = all_map (λ e. (h.base ≤ e.index) × (e.index < h.base + h.len)) (raised 1) es
+          (all_weaker (λ e. (g.base ≤ e.index) × (e.index < g.base + g.len)) (λ e. (h.base ≤ e.index / 2) × (e.index / 2 < h.base + h.len))
+          (λ e in'. (omega (arith, in', low), omega (arith, in', low, len))) es was.within);
+      few = few;
+      even = even;
+      fits = omega (arith, was.fits, len, low);
+      total = rw (total, sum_by-map photons (raised 1) es) was.total;
+    }
+
+-- bins that don't fall, so many levels up, are from the first on and up to the last
+pub from_to : (levels : ℕ) (es : List Entry) (base top : ℕ) → IsSpaced 0 (map (raised levels) es) → base ≤ (raised levels (get_or es 0 no_bin)).index
+    → (raised levels (get_or es (length es - 1) no_bin)).index < top → AllByRecursion (λ e. (base ≤ e.index) × (e.index < top)) (map (raised levels) es)
+from_to levels [] base top spaced from to = tt
+from_to levels (e ∷ []) base top spaced from to = ((from, to), tt)
+from_to levels (e ∷ f ∷ fs) base top spaced from to = search (rules, arith, from_to levels (f ∷ fs) base top spaced.1)

@@ -1,0 +1,6 @@
+use Rattle.std.proofs.Common.{rules, arith}
+use Rattle.tau_cascade.{proofs.Close.zeros_at}
+use Rattle.tau_cascade.proofs.grid.Grid.empty.Goals as goal
+
+pub returns : goal.returns
+returns c = search (rules, arith, zeros_at 4096)

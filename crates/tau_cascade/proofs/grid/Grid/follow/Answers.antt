@@ -1,0 +1,35 @@
+use Rattle.std.{proofs.Common.{rules, map, take, arith}, proofs.lemmas.List.{take-map, length-take-le}}
+use Rattle.tau_cascade.{specs.Bins.{raised}, specs.Grid.{IsGrid}, proofs.Passes.{spaced_take}, proofs.Onward.{raise_is, off_grid, last_inside, cut_is}}
+use Rattle.tau_cascade.proofs.grid.Grid.follow.Goals.{Joined-self-gt0, Joined-self-gt0-2, then-self-gt0, else-self-gt0, then-self-gt0-2, else-self-gt0-2}
+use Rattle.tau_cascade.proofs.grid.Grid.follow.Goals as goal
+
+raised_here : (c : Joined-self-gt0) → IsGrid c.if-self-gt0.self (map (raised c.args.levels) c.args.bins.now)
+raised_here c = elim c.if-self-gt0.branch [
+  | then-self-gt0 w ↦ rw w.self-is (raise_is c.args.self.now _ c.args.was.now c.args.came.now _ _ (omega arith) c.requires.list.2
+      (c.requires.stood.0.on w.if-self-gt0.true) w.raise.ensures.grid)
+  | else-self-gt0 w ↦ rw w.self-is (off_grid _ _ _ w.if-self-gt0.false c.requires.stood.0)
+]
+
+cut_here : (c : Joined-self-gt0-2) → IsGrid c.if-self-gt0.self (map (raised c.args.levels) c.args.bins.now)
+    → IsGrid c.if-self-gt0-2.self (map (raised c.args.levels) (take c.args.last.now.closed c.args.bins.now))
+cut_here c all = elim c.if-self-gt0-2.branch [
+  | then-self-gt0-2 w ↦ rw w.self-is (cut_is c.if-self-gt0.self _ _ _ _ c.requires.here (all.on w.if-self-gt0-2.true) _ c.requires.before w.cut.ensures)
+  | else-self-gt0-2 w ↦ rw w.self-is (off_grid _ _ _ w.if-self-gt0-2.false all)
+]
+
+pub cut-requires-clause-inside : goal.cut-requires-clause-inside
+cut-requires-clause-inside c =
+    last_inside _ _ _ _ _ c.requires.here ((raised_here (goal.at.cut-requires-clause-inside c).Joined-self-gt0).on c.if-self-gt0-2.true) c.requires.few.0
+
+pub lay-requires-clause-bins : goal.lay-requires-clause-bins
+lay-requires-clause-bins c =
+    let few = length-take-le c.args.last.now.closed c.args.bins.now (omega arith) in
+    (omega arith, search (rules, arith), search (rules, arith), rw (← take-map) (spaced_take 0 c.args.last.now.closed _ c.requires.list.1))
+
+pub lay-requires-clause-none : goal.lay-requires-clause-none
+lay-requires-clause-none c =
+    let at' = goal.at.lay-requires-clause-none c in
+    ((cut_here at'.Joined-self-gt0-2 (raised_here at'.Joined-self-gt0)).off c.if-self-eq0.true, c.if-self-eq0.true)
+
+pub returns-else-self-eq0-clause-grid : goal.returns-else-self-eq0-clause-grid
+returns-else-self-eq0-clause-grid c = search (rules, arith, cut_here, raised_here)

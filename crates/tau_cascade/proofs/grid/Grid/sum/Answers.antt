@@ -1,0 +1,117 @@
+use Rattle.std.{proofs.Common.{◌≡◌, ◌∙◌, ℕ, ◌+◌, ◌-◌, ◌*◌, ◌/◌, ◌<◌, ◌≤◌, ◌&&◌, leb, ltb, true, eqb, cond, false, List, ◌++◌, length, get_or, map, take, drop, refl, sym, ap, arith, rules}, specs.List.{sum_by, range_with_len}, proofs.lemmas.Bool.Decides.nat_tests, proofs.lemmas.List.{get_or_append_left, get_or-append_right, get_or-take, get_or-drop, length-take-le, take-append-drop, take-map}, proofs.lemmas.List.Sums.{sum_by-append, sum_by-le-sum_by}, proofs.lemmas.Grind.common_steps}
+use Rattle.lag_ring.{specs.declared.ring.Entry.Entry, specs.declared.window.Side.TheVariants.{First, Second}, specs.Bytes.{weight_of, weight_at}, proofs.Sums.{sum_by-agree, sum_by-same, sum_by-zero, window-before, weight_at-le}}
+use Rattle.tau_cascade.{proofs.Gridded.sum_by-map, proofs.Places.mid_put, specs.declared.grid.Grid.Grid, specs.Levels.weight_before, specs.Dense.paired, specs.Bins.{raised, IsSpaced}, specs.Grid.{photons, Stands}, proofs.Close.paired-all, proofs.Passes.spaced_back, proofs.Dots.{range_agree, by_bins}}
+use borrow.Rule.Slice.PartMut.{put_mid, post_of, same_len_mid, mid_len}
+use Rattle.tau_cascade.proofs.grid.Grid.sum.Goals as goal
+
+-- the bins before a place of a list, and those from it on
+split : (levels start : ℕ) (list : List Entry) → map (raised levels) (take start list) ++ drop start (map (raised levels) list) ≡ map (raised levels) list
+split levels start list = rw (← take-map (raised levels) start list) (take-append-drop start (map (raised levels) list))
+
+-- a window gets the weights of a grid
+module _ (g : Grid) (es : List Entry) (stands : Stands g es) (window part : List ℕ) (sizes : (length window ≡ 8640) × (length g.firsts ≡ 4096))
+    (is : part ≡ take g.len g.firsts) (zeros : (p : ℕ) → p < 8640 → get_or window p 0 ≡ 0) where
+  abbrev Inside : Entry → Type 0
+  Inside e = (g.base ≤ e.index) × (e.index < g.base + g.len)
+
+  here : (p : ℕ) → 192 ≤ p → weight_at First 192 g.base p es ≡ weight_at First 0 g.base (p - 192) es
+  here p upto = grind (arith, common_steps, sum_by-same)
+
+  none : (p : ℕ) → ((i : ℕ) → i < g.len → 192 + i ≡ p → 1 ≤ 0) → weight_at First 192 g.base p es ≡ 0
+  none p away =
+      sum_by-zero Inside (λ (e : Entry). cond (eqb (e.index + 192) (g.base + p)) e.a 0) es stands.within
+      (λ e at. let other : eqb (e.index + 192) (g.base + p) ≡ false = grind (arith, nat_tests, away (e.index - g.base)) in rw other refl)
+
+  abbrev laid : List ℕ
+  laid = put_mid 192 (192 + g.len - 192) window part
+
+  abbrev rest : List ℕ
+  rest = post_of 192 (192 + g.len - 192) window
+
+  long : length part ≡ g.len
+  long = rw is (length-take-le g.len g.firsts (omega (arith, sizes, stands.few)))
+
+  inside : (p : ℕ) → 192 ≤ p → p < 192 + g.len → get_or part (p - 192) 0 ≡ weight_at First 192 g.base p es
+  inside p from upto = rw is (get_or-take g.len g.firsts (p - 192) 0 (omega arith)) ∙ stands.firsts (p - 192) (omega (arith, stands.few)) ∙ sym (here p from)
+
+  behind : (p : ℕ) → 192 + g.len ≤ p → p < 8640 → get_or laid p 0 ≡ 0
+  behind p from upto =
+      get_or-append_right (take 192 window) (part ++ rest) 192 p 0 (length-take-le 192 window (omega (arith, sizes))) (omega arith)
+      ∙ get_or-append_right part rest g.len (p - 192) 0 long (omega arith)
+      ∙ get_or-drop (192 + g.len - 192) (drop 192 window) (p - 192 - g.len) 0 ∙ get_or-drop 192 window _ 0 ∙ zeros _ (omega arith)
+
+  whole : length (take (192 + g.len) laid) ≡ 192 + g.len
+  whole =
+      let mid = mid_len 192 (192 + g.len) window (omega (arith, sizes, stands.few)) in
+      let same = same_len_mid 192 (192 + g.len - 192) window part (omega (arith, long, mid)) in
+      length-take-le (192 + g.len) laid (omega (arith, same, sizes, stands.few))
+
+  front_weights : (p : ℕ) → p < 192 + g.len → get_or (take (192 + g.len) laid) p 0 ≡ weight_at First 192 g.base p es
+  front_weights p fits = mid_put window part 192 g.len p (omega (arith, sizes, stands.few)) long fits
+      ∙ grind (arith, nat_tests, inside p, none p, zeros p, stands.few)
+
+  -- of fewer bins than are too many, and those before them
+  room : (front : List Entry) → sum_by (weight_of First) front < 32768 → (p : ℕ) → p < length (take (192 + g.len) laid)
+      → get_or (take (192 + g.len) laid) p 0 + weight_at First 192 g.base p front < 65536
+  room front few p fits =
+      omega (
+        arith,
+        front_weights p (omega (arith, whole)),
+        weight_at-le First 192 g.base p es,
+        weight_at-le First 192 g.base p front,
+        sum_by-le-sum_by (weight_of First) photons es (λ e. omega arith),
+        stands.total,
+      )
+
+  -- and of the bins before them, where those were added
+  module _ (front all : List Entry) (parts : front ++ es ≡ all) (new : List ℕ) (count : length new ≡ length (take (192 + g.len) laid))
+      (added : (p : ℕ) → p < length (take (192 + g.len) laid)
+      → get_or new p 0 ≡ get_or (take (192 + g.len) laid) p 0 + weight_at First 192 g.base p front) where
+    size : length new ≡ 192 + g.len
+    size = count ∙ whole
+
+    all_weights : (p : ℕ) → p < length new → get_or new p 0 ≡ weight_at First 192 g.base p all
+    all_weights p fits = search (rules, arith, sum_by-append, front_weights, size)
+
+    abbrev full : List ℕ
+    full = new ++ post_of 0 (192 + g.len) laid
+
+    clear : (p : ℕ) → 192 + g.len ≤ p → p < 8640 → get_or full p 0 ≡ 0
+    clear p from upto = search (rules, arith, get_or-append_right, laid, size, get_or-drop, behind)
+
+    pairs : (rows k : ℕ) → g.len ≤ 16 * rows → 16 * rows ≤ 4096 → 0 < k → k ≤ 192 → IsSpaced 0 all
+        → sum_by (λ q. get_or full (192 - k + q) 0 * get_or g.seconds q 0) (range_with_len 0 (16 * rows)) ≡ paired k front es
+    pairs rows k enough few some upto spaced =
+        range_agree _ (λ q. get_or full (192 - k + (g.base + q - g.base)) 0 * weight_at Second 0 g.base q es) (16 * rows)
+        (λ q inside. let same : g.base + q - g.base ≡ q = omega arith in rw (same, stands.seconds q (omega (arith, inside))) refl)
+        ∙ by_bins (λ i. get_or full (192 - k + (i - g.base)) 0) Second g.base 0 (16 * rows) es
+        ∙ sum_by-agree Inside _ (λ e. weight_before k e.index all * e.b) es stands.within
+        (λ e at.
+        let near : (leb (g.base + 0) e.index && ltb e.index (g.base + 0 + 16 * rows)) ≡ true = grind (arith, nat_tests, at, enough) in
+        let place : 192 - k + (e.index - g.base) ≡ e.index - g.base + (192 - k) = omega arith in
+        let inside : e.index - g.base + (192 - k) < length new = omega (arith, at, size) in
+        rw near (ap (λ n. n * e.b) (rw place (get_or_append_left new (post_of 0 (192 + g.len) laid) 0 (e.index - g.base + (192 - k)) inside
+        ∙ window-before First new g.base 192 all all_weights k e.index upto at.0 inside))))
+        ∙ sym (paired-all k all front es some parts (spaced_back 0 front es (rw parts spaced)))
+
+pub put_firsts-requires-clause-fit : goal.put_firsts-requires-clause-fit
+put_firsts-requires-clause-fit c =
+    let before = take c.args.start c.args.list.now in
+    let few = sum_by-map (weight_of First) (raised c.args.levels) before in
+    room c.args.self.now _ (c.requires.grid.on (omega (arith, c.if-self-eq0.false))) c.args.window.now _ (c.told-window, search (rules, arith))
+    c.copy_from_slice.ensures.after c.requires.zeros.0 (map (raised c.args.levels) before)
+    (omega (arith, few, c.total_weight.ensures.total, c.if-total_weight-ge-TOO_MANY.false))
+
+pub clear_window-requires-clause-behind : goal.clear_window-requires-clause-behind
+clear_window-requires-clause-behind c = λ p from upto.
+    clear c.args.self.now _ (c.requires.grid.on (omega (arith, c.if-self-eq0.false))) c.args.window.now _ (c.told-window, search (rules, arith))
+    c.copy_from_slice.ensures.after c.requires.zeros.0 _ _ (split c.args.levels c.args.start c.args.list.now) _ c.put_firsts.ensures.same
+    c.put_firsts.ensures.have p (omega (arith, from, c.if-self-eq0.false)) upto
+
+pub returns-clause-sums : goal.returns-clause-sums
+returns-clause-sums c = λ is p inside.
+    let on = c.requires.grid.on (omega (arith, c.if-self-eq0.false)) in
+    let found = pairs c.args.self.now _ on c.args.window.now _ (c.told-window, search (rules, arith)) c.copy_from_slice.ensures.after c.requires.zeros.0
+    _ _ (split c.args.levels c.args.start c.args.list.now) _ c.put_firsts.ensures.same c.put_firsts.ensures.have ((c.args.self.now.len + 16 - 1) / 16)
+    (p + c.args.skipped + 1) (omega arith) (omega (arith, on.few)) (omega arith) (omega (arith, inside, c.requires.lags)) c.requires.list.2 in
+    rw (take-map (raised c.args.levels) c.args.start c.args.list.now) (omega (arith, c.put_dots.ensures.sums p inside ∙ found, c.requires.zeros.1 p))
