@@ -1,6 +1,6 @@
 -- What the words of a piece give to the tables.
 use Rattle.std.{proofs.Common.{◌≡◌, ◌≢◌, ℕ, false, List, [], ◌++◌, None, Some, Ok, Err, IfErr, OnOk, refl, sym, ap, subst, ◌∙◌, ⊎_elim, arith, rules, suc, ◌<◌, ◌∷◌, length, get_or, map, true, ◌≤◌, ◌+◌, ◌*◌, sum_by}, specs.declared.option.Option.Option, specs.declared.result.Result.Result}
-use Rattle.tally_base.{specs.declared.fault.Fault.Fault, specs.declared.fault.Fault.TheVariants.WriteFault, specs.FaultCounts.Rose, specs.Tally.History, specs.Faults.{fault_in, is_outside}, specs.Settings.entries}
+use Rattle.tally_base.{specs.declared.event.Event.Event, specs.declared.fault.Fault.Fault, specs.declared.fault.Fault.TheVariants.WriteFault, specs.FaultCounts.Rose, specs.Tally.History, specs.Faults.{fault_in, is_outside}, specs.Settings.entries}
 use Rattle.ptu_definitions.{specs.declared.records.Summary.Summary, specs.Kept.Marked, specs.Streams.{StreamSettings, record_refusal, given, last_in}, specs.Words.words_of, proofs.StreamLemmas.given-clear, proofs.DeliveredLaws.delivered-settled, specs.Settled.not_marked}
 use Rattle.abs_time.specs.declared.clock.Clock.{Clock}
 use Rattle.record_stream.{specs.declared.taker.EventTaker.Ghosts, specs.Feeding.{GaveOn, BrokeOn, Fed}, specs.Ending.Ended, specs.Standing.Stands, proofs.Summaries.so_far-records}
@@ -79,14 +79,14 @@ inside_of r inside cause = search (rules, arith)
 pub none_taken : (how : StreamSettings) (clock : Clock) (sum : Summary) (count : ℕ) (settle : Settle) (carried : List ℕ) (refused : Option Fault) → Stands how clock sum count settle carried refused [] → refused ≡ None → 4 * sum.records + length carried ≡ 0
 none_taken how clock sum count settle carried refused stands none = search (rules, arith, so_far-records)
 
--- What an engine of these tables keeps, with the carried bytes and the events kept back, is within its bound.
-pub kept_within : (parts : List Part) (carried waiting settle : ℕ) → carried ≤ 48 → waiting ≤ settle
-    → entries_in parts + carried + waiting ≤ 48 + settle + sum_by entries (settings_in parts)
-kept_within parts carried waiting settle few back = omega (arith, tables_within parts, few, back)
+-- What an engine of these tables keeps, with the carried bytes, the events kept back and those of a block that has none, is within its bound.
+pub kept_within : (parts : List Part) (carried waiting settle : ℕ) (block : List Event) → carried ≤ 48 → waiting ≤ settle → block ≡ []
+    → entries_in parts + carried + waiting + length block ≤ 48 + settle + sum_by entries (settings_in parts)
+kept_within parts carried waiting settle block few back none = rw none (omega (arith, tables_within parts, few, back))
 
 -- An engine keeps no more entries than its bound.
 pub engine_within : (engine : Engine) → held engine ≤ bound engine
-engine_within engine = kept_within engine.parts.items _ _ _ (search (rules, arith)) (search (rules, arith))
+engine_within engine = kept_within engine.parts.items _ _ _ _ (search (rules, arith)) (search (rules, arith)) engine.idle.0
 
 -- Lists of one image.
 

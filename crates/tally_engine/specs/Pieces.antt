@@ -1,11 +1,15 @@
 -- What a piece of the bytes does to a stream and to the tables behind it.
-use Rattle.tally_base.{specs.declared.fault.Fault.Fault, specs.declared.fault.Fault.TheVariants.WriteFault, specs.declared.header.Mode.Mode, specs.Faults.fault_in, specs.Limits.record_limit, specs.declared.tally.Tally.Ghosts}
+use Rattle.tally_base.{specs.declared.block.Block.Block, specs.Columns.{gathered, sorted}, specs.declared.fault.Fault.Fault, specs.declared.fault.Fault.TheVariants.WriteFault, specs.declared.header.Mode.Mode, specs.Faults.fault_in, specs.Limits.record_limit, specs.declared.tally.Tally.Ghosts}
 use Rattle.ptu_definitions.{specs.Headers.Shows, specs.Streams.{record_refusal, streamed, StreamSettings}, specs.Words.words_of, specs.declared.records.Summary.Summary}
 use Rattle.record_stream.{specs.declared.stream.RecordStream.RecordStream, specs.Standing.{how_of, given_by, greatest_of, bytes_in, HasStreamed}}
 use Rattle.gate_plan.{specs.Shifting.Sorting, specs.Histories.{history, settled_history}}
 use Rattle.plan_parts.{specs.declared.part.Part.Part, specs.contracts.part.PartTally.TheImpl.ghosts, specs.Parts.AllHold}
 use Rattle.fed_parts.specs.Ahead.{Standing}
-use Rattle.std.{specs.Prelude.{◌≡◌, ◌≢◌, ◌+◌, ◌*◌, ◌≤◌, ℕ, List, ◌++◌, All, Result, Err, OnOk, IfErr, Ok, ◌<◌, length, slice_index_or, refl}, proofs.Common.◌∙◌}
+use Rattle.std.{specs.Prelude.{◌≡◌, ◌≢◌, ◌+◌, ◌*◌, ◌≤◌, ℕ, List, [], ◌++◌, All, Result, Err, OnOk, IfErr, Ok, ◌<◌, length, slice_index_or, refl}, proofs.Common.◌∙◌}
+
+-- a block without events, none of which has its groups
+abbrev pub IsIdle : {N : ℕ} → Block N → Type 0
+IsIdle block = (gathered block ≡ []) × (sorted block ≡ 0)
 
 -- What giving events to tables leaves as it is.
 

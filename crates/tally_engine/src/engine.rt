@@ -1,8 +1,9 @@
 // All tables of a plan, and the stream that feeds them.
 ghost use Rattle.std.specs.Prelude.{◌≡◌, ℕ, All, List, None, Some, false, ◌+◌, ◌*◌, ◌<◌, ◌≤◌, [], ◌++◌, length, Err, OnOk, IfOk, IfErr};
-ghost use Rattle.tally_base.{specs.declared.fault.Fault.Fault, specs.Faults.{is_outside, fault_in}, specs.RecordTypes.mode_of, specs.Limits.record_limit, specs.Columns.{gathered, sorted}};
+ghost use Rattle.tally_base.{specs.declared.fault.Fault.Fault, specs.Faults.{is_outside, fault_in}, specs.RecordTypes.mode_of, specs.Limits.record_limit};
 ghost use Rattle.record_stream.specs.Standing.{how_of, given_by, greatest_of, refused_with, HasStreamed};
 ghost use Rattle.fed_parts.specs.Ahead.{Standing};
+ghost use Rattle.tally_engine.specs.Pieces.{IsIdle};
 ghost use Rattle.plan_text.{specs.ReadPlan.plan_view, specs.Bound.bound as plan_bound};
 ghost use Rattle.ptu_definitions.{specs.Headers.Shows, specs.Streams.{record_refusal, streamed}, specs.Words.words_of};
 
@@ -26,9 +27,9 @@ pub struct Engine {
     gates: Gates,
     stream: RecordStream,
     parts: Vec<Part>,
-    // Room for the events of a piece. Between two pieces it has none.
+    // Room for the events that tables are given together. Between two pieces it has none.
     block: Block<TABLE_BLOCK>,
-    ghost idle: { (gathered block ≡ []) × (sorted block ≡ 0) },
+    ghost idle: { IsIdle block },
     ghost same_mode: { (how_of stream).mode ≡ mode_of header.record_type },
     ghost standing: { refused_with stream ≡ None
         → All (Standing ⟦<Part as Tally>⟧ (mode_of header.record_type) (given_by stream) (greatest_of stream)) parts.items },

@@ -1,10 +1,10 @@
 // The taker of a stream's events that gives them to every table.
-ghost use Rattle.std.{specs.Prelude.{◌≡◌, ℕ, ◌+◌, ◌*◌, ◌<◌, ◌≤◌, [], List, All, length, false, None, OnOk, IfErr}, proofs.Props.props};
-ghost use Rattle.record_stream.specs.Standing.{how_of, given_by, greatest_of, refused_with, bytes_in, HasStreamed};
+ghost use Rattle.std.{specs.Prelude.{◌≡◌, ℕ, ◌<◌, ◌≤◌, [], List, All, length, false, None, OnOk, IfErr}, proofs.Props.props};
+ghost use Rattle.record_stream.specs.Standing.{how_of, given_by, greatest_of, refused_with, HasStreamed};
 ghost use Rattle.tally_base.{specs.Faults.{fault_in, is_outside}, specs.Limits.record_limit, specs.Columns.{sorted, gathered}, proofs.Floors.in_order-prop};
 ghost use Rattle.fed_parts.specs.Ahead.{taken_with, floor_with, Standing, Waits};
 ghost use Rattle.gate_plan.specs.Groups.{sorting_of};
-ghost use Rattle.tally_engine.specs.Pieces.{Ends, AnswersPiece, StaysSame, TablesFollow, SameTables};
+ghost use Rattle.tally_engine.specs.Pieces.{Ends, AnswersPiece, IsIdle, StaysSame, TablesFollow, SameTables};
 
 use fed_parts::{Reached, flush, gather, gather_block};
 use gate_plan::Gates;
@@ -102,9 +102,8 @@ pub(crate) fn feed_parts<L: Ledger>(
     block: &mut Block<TABLE_BLOCK>,
     steps: &mut Steps<L>,
 ) -> Result<(), Fault>
-    requires idle { (gathered block.old ≡ []) × (sorted block.old ≡ 0) }
-    requires mode { mode ≡ (how_of stream.old).mode }
-    requires going { refused_with stream.old ≡ None }
+    requires going { (mode ≡ (how_of stream.old).mode) × (refused_with stream.old ≡ None) }
+    requires idle { IsIdle block.old }
     requires standing { All (Standing ⟦<Part as Tally>⟧ mode (given_by stream.old)
         (greatest_of stream.old)) parts.old }
     ensures answers { (bytes : List ℕ) → HasStreamed stream.old bytes
@@ -113,8 +112,7 @@ pub(crate) fn feed_parts<L: Ledger>(
     ensures refused { refused_with stream.new ≡ fault_in result }
     ensures follow { OnOk result
         (TablesFollow mode stream.old stream.new parts.new (length piece.now)) }
-    ensures stays { StaysSame stream.old stream.new parts.old parts.new }
-    ensures idle { (gathered block.new ≡ []) × (sorted block.new ≡ 0) }
+    ensures stays { StaysSame stream.old stream.new parts.old parts.new × IsIdle block.new }
 {
     let mut taker = PartTaker {
         gates,
@@ -150,9 +148,8 @@ pub(crate) fn finish_parts<L: Ledger>(
     block: &mut Block<TABLE_BLOCK>,
     steps: &mut Steps<L>,
 ) -> Result<Summary, Fault>
-    requires idle { (gathered block.old ≡ []) × (sorted block.old ≡ 0) }
-    requires mode { mode ≡ (how_of stream).mode }
-    requires going { refused_with stream ≡ None }
+    requires going { (mode ≡ (how_of stream).mode) × (refused_with stream ≡ None) }
+    requires idle { IsIdle block.old }
     requires standing { All (Standing ⟦<Part as Tally>⟧ mode (given_by stream) (greatest_of stream)) parts.old }
     ensures ends { (bytes : List ℕ) → HasStreamed stream bytes
         → Ends (sorting_of gates.now) (how_of stream) bytes parts.old parts.new result }

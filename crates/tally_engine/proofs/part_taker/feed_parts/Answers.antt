@@ -15,7 +15,7 @@ returns-clause-answers g c = λ bytes h.
     let by = sorting_of c.args.gates.now in
     let how = how_of c.args.stream.now in
     let taker = c.feed-fed.new.taker in
-    let r = fed_whole _ _ _ _ _ _ _ (gave_none ghosts _ _ _ _ _ _) (λ l broke. broke) (fed.fed c.requires.going bytes h) in
+    let r = fed_whole _ _ _ _ _ _ _ (gave_none ghosts _ _ _ _ _ _) (λ l broke. broke) (fed.fed c.requires.going.1 bytes h) in
     let same : length c.flush.new.parts ≡ length taker.parts.now = search rules in
     record {
       taken = fed.taken bytes h;
@@ -48,7 +48,7 @@ returns-clause-follow g c =
     (λ follows counted. record {
       standing = λ k d inside.
           let within : k < length taker.parts.now = omega (arith, same, inside) in
-          let mode : taker.mode ≡ c.args.mode = follows.mode_is ∙ ap (λ (how : StreamSettings). how.mode) fed.same_how ∙ sym c.requires.mode in
+          let mode : taker.mode ≡ c.args.mode = follows.mode_is ∙ ap (λ (how : StreamSettings). how.mode) fed.same_how ∙ sym c.requires.going.0 in
           rw mode at (standing_took ghosts taker.mode _ _ given greatest (gathered taker.block.now) _ _ _
           (taker.waiting k d within) (c.flush.ensures.took k d within) follows.few follows.before);
       counted = counted;

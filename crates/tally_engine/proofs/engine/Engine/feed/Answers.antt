@@ -36,7 +36,7 @@ returns-clause-taken g c = λ bytes h.
     let going : refused_with c.args.self.now.stream ≡ None = search rules in
     let count : length c.feed_parts.new.parts ≡ length c.args.self.now.parts.items = search rules in
     let all : c.args.self.now.parts.len ≡ length c.args.self.now.parts.items = search rules in
-    (answers.taken, λ none. rw (fed.stays.same_how, whole_slice _ _ _ count all) (where_taken c.feed_parts.result _ fed.refused answers.counts none (h.1 going)))
+    (answers.taken, λ none. rw (fed.stays.0.same_how, whole_slice _ _ _ count all) (where_taken c.feed_parts.result _ fed.refused answers.counts none (h.1 going)))
 
 pub returns-clause-answer : goal.returns-clause-answer
 returns-clause-answer g c = λ none bytes h. (c.feed_parts.ensures.answers bytes h.0).answer
@@ -60,7 +60,7 @@ returns-clause-same g c = search (rules, arith, whole_slice, same_map)
 
 pub returns-clause-within : goal.returns-clause-within
 returns-clause-within g c = let few : length (carried_by c.feed_parts.new.stream) ≤ 48 =
-    search (rules, arith) in kept_within (with_items c.args.self.now.parts c.feed_parts.new.parts).items _ _ _ few (search (rules, arith))
+    search (rules, arith) in kept_within (with_items c.args.self.now.parts c.feed_parts.new.parts).items _ _ _ _ few (search (rules, arith)) c.feed_parts.ensures.stays.1.0
 
 pub returns-in-Some-clause-within : goal.returns-in-Some-clause-within
 returns-in-Some-clause-within g c = engine_within c.args.self.now

@@ -24,4 +24,4 @@ returns-in-Ok-clause-none c = none_taken _ _ _ _ _ _ _ c.new.ensures.empty c.new
 
 pub returns-in-Ok-clause-within : goal.returns-in-Ok-clause-within
 returns-in-Ok-clause-within c = let few : length (carried_by c.new.result) ≤ 48 =
-    search (rules, arith) in kept_within c.in-Ok.parts.items _ _ _ few (search (rules, arith))
+    search (rules, arith) in kept_within c.in-Ok.parts.items _ _ _ _ few (search (rules, arith)) (search (rules, arith))
