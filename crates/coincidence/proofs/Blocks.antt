@@ -1,24 +1,13 @@
 -- One event more for the intervals.
-use Rattle.std.{proofs.Common.{◌≡◌, ◌∙◌, ℕ, ◌+◌, ◌-◌, ◌/◌, ◌<◌, ◌≤◌, Bool, true, false, ◌&&◌, List, [], ◌∷◌, ◌++◌, sym, refl, arith, None, Some, nat_le, ◌==◌, slice_index, if◌then◌else◌, rules, ◌||◌, not}, specs.declared.option.Option.Option}
+use Rattle.std.{proofs.Common.{◌≡◌, ℕ, ◌+◌, ◌-◌, ◌/◌, ◌<◌, ◌≤◌, Bool, true, false, ◌&&◌, List, [], ◌∷◌, ◌++◌, sym, refl, arith, None, Some, nat_le, ◌==◌, slice_index, if◌then◌else◌, rules}}
 use Rattle.tally_base.{specs.declared.event.Event.Event, specs.Events.{is_photon, is_in}, specs.Settings.StartStopView, specs.Tally.History}
 use Rattle.coincidence.{specs.declared.start.Start.Start, specs.StartStop.Counted, specs.Starts.{ended, start_in, since_in}, specs.Intervals.count_intervals, proofs.Intervals.{count-photon, start-photon, count-marker, start-marker, ends}}
 
 -- What a photon ends, by a bin and a number.
 
-none_either : (b : Bool) → ◌≡◌ {A = ℕ} 0 (if b then 0 else 0)
-none_either true = refl
-none_either false = refl
-
 pub ends_as : (test : ℕ → Bool) (time : ℕ) (stops : Bool) (start : Start)
     → ends test time stops (start_in start) ≡ (if test (time - since_in start) then ended stops (start_in start) else 0)
 ends_as test time stops start = search (rules, arith)
-
--- the start that is open behind a photon, by its truth values
-pub behind_is : (starts stops open' : Bool) (time since : ℕ) → ◌≡◌ {A = Option ℕ} (if starts || (not stops && open') then Some (if starts then time else since) else None) (if starts then Some time else if stops then None else if open' then Some since else None)
-behind_is true stops open' time since = refl
-behind_is false true open' time since = refl
-behind_is false false true time since = refl
-behind_is false false false time since = refl
 
 -- One event more for the intervals.
 
@@ -39,7 +28,7 @@ photon_step set cells cells' over over' bin more start start' h x starts stops p
           let added : (if nat_le set.bins bin then more else 0) ≡
           (if nat_le set.bins ((x.0.time - since_in start) / set.width) then ended stops (start_in start) else 0) = rw (is_bin, is_more) refl in
           omega (arith, rest, is.rest, step (λ time. nat_le set.bins (time / set.width)), added);
-      open' = behind ∙ sym (start-photon set h x starts stops (start_in start) photon starts-is stops-is (sym is.open'));
+      open' = search (rules, arith, start-photon);
     }
 
 pub marker_step : (set : StartStopView) (cells : List ℕ) (over : ℕ) (start : Start) (h : History) (x : Event × ℕ)

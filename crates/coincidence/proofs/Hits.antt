@@ -1,5 +1,6 @@
 -- What a bin brings to the pairs of different places.
-use Rattle.std.{proofs.Common.{◌≡◌, ℕ, ◌+◌, ◌*◌, ◌≤◌, Bool, true, false, ◌&&◌, cond, List, [], ◌∷◌, ◌++◌, length, refl, ◌∙◌, arith, rules}, specs.List.{sum_by, count_by, AllByRecursion}, proofs.Math.Nat.mul_comm, proofs.lemmas.List.Sums.{sum_by-cons, sum_by-append, count_by-le-length}, proofs.lemmas.Grind.common_steps}
+use Rattle.std.{proofs.Common.{◌≡◌, ℕ, ◌+◌, ◌*◌, ◌≤◌, Bool, true, false, ◌&&◌, cond, List, [], ◌∷◌, ◌++◌, length, refl, ◌∙◌, arith, rules}, specs.List.{count_by, AllByRecursion}, proofs.Math.Nat.mul_comm, proofs.lemmas.List.Sums.{sum_by-cons, sum_by-append, count_by-le-length}, proofs.lemmas.Grind.common_steps}
+use Rattle.tally_base.proofs.Sums.{sum_none}
 use Rattle.lag_ring.proofs.Sums.{cross, sum_by-agree, sum_by-same, sum_by-times, sum_by-plus}
 
 -- how many ordered pairs of an element and another one pass the test
@@ -7,14 +8,8 @@ abbrev pub pairs_in : {X : Type 0} → (X → X → Bool) → List X → ℕ
 pairs_in r [] = 0
 pairs_in r (x ∷ xs) = count_by (r x) xs + count_by (λ y. r y x) xs + pairs_in r xs
 
-pub zeros : {X : Type 0} (xs : List X) → sum_by (λ (x : X). 0) xs ≡ 0
-zeros [] = refl
-zeros (x ∷ xs) = rw (sum_by-cons (λ y. 0) x xs, zeros xs) refl
-
 two : (a b : Bool) → ◌≡◌ {A = ℕ} (cond (a && b) 1 0) (cond a 1 0 * cond b 1 0)
-two true true = refl
-two true false = refl
-two false b = elim b as (λ b. ◌≡◌ {A = ℕ} 0 (0 * cond b 1 0)) [ true ↦ refl | false ↦ refl ]
+two a b = search (rules, arith)
 
 square : (f s a b n m : ℕ) → n + m ≡ a * b → ((b * f + a * s) + n) + (f * s + m) ≡ (f + a) * (s + b)
 square f s a b n m is = grind arith
@@ -23,7 +18,7 @@ cross-cons_right : {X : Type 0} (r : X → X → Bool) (x : X) (xs ys : List X) 
 cross-cons_right r x xs ys = search (rules, arith, sum_by-same, sum_by-cons, sum_by-plus)
 
 pub pairs_in-append : {X : Type 0} (r : X → X → Bool) (xs ys : List X) → pairs_in r (xs ++ ys) ≡ pairs_in r xs + cross r xs ys + cross r ys xs + pairs_in r ys
-pairs_in-append r [] ys = let none : cross r ys [] ≡ 0 = sum_by-same (λ y. count_by (r y) []) (λ y. 0) ys (λ y. refl) ∙ zeros ys in omega arith
+pairs_in-append r [] ys = let none : cross r ys [] ≡ 0 = sum_by-same (λ y. count_by (r y) []) (λ y. 0) ys (λ y. refl) ∙ sum_none ys in omega arith
 pairs_in-append r (x ∷ xs) ys = grind (arith, common_steps, sum_by-append, sum_by-cons, cross-cons_right, pairs_in-append r xs ys)
 
 -- in one bin each first element pairs with each second one but itself
@@ -44,7 +39,7 @@ pairs_in-agree P r s (x ∷ xs) all same = search (rules, arith, sum_by-agree, p
 
 pub pairs_in-zero : {X : Type 0} (r : X → X → Bool) (xs : List X) → ((x y : X) → r x y ≡ false) → pairs_in r xs ≡ 0
 pairs_in-zero r [] none = refl
-pairs_in-zero r (x ∷ xs) none = grind (arith, common_steps, zeros xs, pairs_in-zero r xs none)
+pairs_in-zero r (x ∷ xs) none = grind (arith, common_steps, sum_none xs, pairs_in-zero r xs none)
 
 -- there are no more pairs than the square of the number of places
 pub pairs_in-le : {X : Type 0} (r : X → X → Bool) (xs : List X) → pairs_in r xs ≤ length xs * length xs
@@ -57,13 +52,10 @@ module _ {X : Type 0} (first second : X → Bool) (at : X → ℕ) (hits : ℕ �
   hit x y = (first x && second y) && hits (at x) (at y)
 
   three : (a b c : Bool) → ◌≡◌ {A = ℕ} (cond ((a && b) && c) 1 0) (cond b 1 0 * cond (a && c) 1 0)
-  three true true c = elim c as (λ c. ◌≡◌ {A = ℕ} (cond c 1 0) (1 * cond c 1 0)) [ true ↦ refl | false ↦ refl ]
-  three true false c = elim c as (λ c. ◌≡◌ {A = ℕ} 0 (0 * cond c 1 0)) [ true ↦ refl | false ↦ refl ]
-  three false b c = elim b as (λ b. ◌≡◌ {A = ℕ} 0 (cond b 1 0 * 0)) [ true ↦ refl | false ↦ refl ]
+  three a b c = search (rules, arith)
 
   three' : (a b c : Bool) → ◌≡◌ {A = ℕ} (cond ((a && b) && c) 1 0) (cond a 1 0 * cond (b && c) 1 0)
-  three' true b c = elim (b && c) as (λ c. ◌≡◌ {A = ℕ} (cond c 1 0) (1 * cond c 1 0)) [ true ↦ refl | false ↦ refl ]
-  three' false b c = elim (b && c) as (λ c. ◌≡◌ {A = ℕ} 0 (0 * cond c 1 0)) [ true ↦ refl | false ↦ refl ]
+  three' a b c = search (rules, arith)
 
   -- the first elements before a bin with its second ones
   cross-from : (n : ℕ) (xs ys : List X) → AllByRecursion (λ y. at y ≡ n) ys → cross hit xs ys ≡ count_by (λ x. first x && hits (at x) n) xs * count_by second ys
@@ -87,10 +79,8 @@ module _ {X : Type 0} (first second : X → Bool) (at : X → ℕ) (hits : ℕ �
   hits-inside n ys here =
       pairs_in-agree (λ x. at x ≡ n) hit (λ x y. (first x && second y) && hits n n) ys here (λ x y is_x is_y. rw (is_x, is_y) refl)
       ∙ elim (hits n n) as (λ b. pairs_in (λ x y. (first x && second y) && b) ys ≡ cond b (pairs_in (λ x y. first x && second y) ys) 0) [
-        | true ↦ pairs_in-agree (λ x. at x ≡ n) (λ x y. (first x && second y) && true) (λ x y. first x && second y) ys here
-            (λ x y is_x is_y. elim (first x && second y) as (λ b. (b && true) ≡ b) [ true ↦ refl | false ↦ refl ])
-        | false ↦ pairs_in-zero (λ x y. (first x && second y) && false) ys
-            (λ x y. elim (first x && second y) as (λ b. (b && false) ≡ false) [ true ↦ refl | false ↦ refl ])
+        | true ↦ pairs_in-agree (λ x. at x ≡ n) _ _ ys here (λ x y is_x is_y. search (rules, arith))
+        | false ↦ pairs_in-zero _ ys (λ x y. search (rules, arith))
       ]
 
   -- what a bin at n brings

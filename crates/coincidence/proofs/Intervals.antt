@@ -1,6 +1,6 @@
 -- One more photon, and the intervals.
-use Rattle.std.{proofs.Common.{◌≡◌, ◌∙◌, ℕ, ◌+◌, ◌-◌, Bool, true, false, ◌&&◌, ◌||◌, cond, List, [], ◌∷◌, ◌++◌, ap, arith, None, Some, count_by, rules, refl, zero, suc, not, length, take, tests, nat_lt, sum_by}, specs.declared.option.Option.Option, specs.List.{filter, last_or, list_any, range_with_len, slice_get}, specs.Option.{option_map_or, option_and_then}, proofs.lemmas.List.append-nil, proofs.lemmas.List.Elements.filter-append, proofs.lemmas.Grind.common_steps, proofs.lemmas.List.Sums.{sum_by_push, sum_by-cons}, proofs.Math.Numerals.add-one}
-use Rattle.tally_base.{specs.declared.event.Event.Event, specs.Events.{is_photon, is_in}, specs.Settings.StartStopView, specs.Tally.History}
+use Rattle.std.{proofs.Common.{◌≡◌, ◌∙◌, ℕ, ◌+◌, ◌-◌, Bool, true, false, ◌&&◌, ◌||◌, cond, List, [], ◌∷◌, ◌++◌, ap, arith, None, Some, count_by, rules, refl, zero, suc, not, length, take, tests, sum_by}, specs.declared.option.Option.Option, specs.List.{filter, last_or, list_any, range_with_len, slice_get}, specs.Option.{option_map_or, option_and_then}, proofs.lemmas.List.append-nil, proofs.lemmas.List.Elements.filter-append, proofs.lemmas.Grind.common_steps, proofs.lemmas.Bool.Decides.nat_tests, proofs.lemmas.List.Sums.{sum_by_push, sum_by-cons}, proofs.Math.Numerals.add-one}
+use Rattle.tally_base.{proofs.Sums.{sum_same, sum_none}, specs.declared.event.Event.Event, specs.Events.{is_photon, is_in}, specs.Settings.StartStopView, specs.Tally.History}
 use Rattle.coincidence.specs.Intervals.{neighbours, is_of_either, photons_of_either, is_interval, count_intervals, start_of, open_start, places, are_ends, is_pair, count_pairs}
 
 -- one more item, and the neighbours
@@ -18,17 +18,13 @@ neighbours-from : {X : Type 0} (x : X) (xs : List X) (y : X) → neighbours (x �
 neighbours-from x [] y = refl
 neighbours-from x (z ∷ xs) y = ap (λ pairs. (x, z) ∷ pairs) (neighbours-from z xs y)
 
-pub neighbours-push : {X : Type 0} (xs : List X) (y : X) → neighbours (xs ++ y ∷ []) ≡ neighbours xs ++ last_pair (last_or None xs) y
-neighbours-push xs y = search (rules, arith, neighbours-from)
-
-count-last_pair : {X : Type 0} (p : X × X → Bool) (pairs : List (X × X)) (o : Option X) (y : X)
-    → count_by p (pairs ++ last_pair o y) ≡ count_by p pairs + option_map_or (λ x. cond (p (x, y)) 1 0) o 0
+count-last_pair : {X : Type 0} (p : X × X → Bool) (pairs : List (X × X)) (o : Option X) (y : X) → count_by p (pairs ++ last_pair o y) ≡ count_by p pairs + option_map_or (λ x. cond (p (x, y)) 1 0) o 0
 count-last_pair p pairs o y = search (rules, arith, append-nil, sum_by_push)
 
 -- A new item is counted with the last of the list.
 pub count-neighbours-push : {X : Type 0} (p : X × X → Bool) (xs : List X) (y : X)
     → count_by p (neighbours (xs ++ y ∷ [])) ≡ count_by p (neighbours xs) + option_map_or (λ x. cond (p (x, y)) 1 0) (last_or None xs) 0
-count-neighbours-push p xs y = ap (count_by p) (neighbours-push xs y) ∙ count-last_pair p (neighbours xs) (last_or None xs) y
+count-neighbours-push p xs y = search (rules, arith, count-last_pair, neighbours-from)
 
 abbrev pub one_if : Bool → ℕ
 one_if test = cond test 1 0
@@ -36,68 +32,44 @@ one_if test = cond test 1 0
 filter-push : {X : Type 0} (p : X → Bool) (xs : List X) (y : X) (b : Bool) → p y ≡ b → filter p (xs ++ y ∷ []) ≡ filter p xs ++ cond b (y ∷ []) []
 filter-push p xs y b is = filter-append p xs (y ∷ []) ∙ ap (λ b. filter p xs ++ cond b (y ∷ []) []) is
 
-of_either : (photon starts stops : Bool) → photon ≡ true → (photon && (starts || stops)) ≡ (starts || stops)
-of_either photon starts stops is = ap (λ b. b && (starts || stops)) is
-
 -- How many intervals a photon at `time` ends, if it stops: one where a start is open, and the time since then passes the test.
 abbrev pub ends : (ℕ → Bool) → ℕ → Bool → Option ℕ → ℕ
 ends test time stops start = option_map_or (λ since. one_if (stops && test (time - since))) start 0
 
-pub one-start : (starts : Bool) (counts : ℕ → Bool) (time : ℕ)
-    → one_if (starts && counts time) ≡ option_map_or (λ start. one_if (counts start)) (cond starts (Some time) None) 0
-one-start starts counts time = search (rules, arith)
-
 -- the last photon and the one that comes
 last-and-next : (set : StartStopView) (test : ℕ → Bool) (last : Option (Event × ℕ)) (x : Event × ℕ) → option_map_or (λ y. one_if (is_interval set test (y, x))) last 0 ≡ ends test x.0.time (is_in x.1 set.stop) (option_and_then (start_of set) last)
-last-and-next set test last x = search (rules, arith, one-start)
-
-ends-none : (test : ℕ → Bool) (time : ℕ) (start : Option ℕ) → ends test time false start ≡ 0
-ends-none test time start = search (rules, arith)
+last-and-next set test last x = search (rules, arith)
 
 count-by_groups : (set : StartStopView) (test : ℕ → Bool) (h : History) (x : Event × ℕ) (either : Bool) → is_of_either set x ≡ either → count_intervals set test (h ++ x ∷ []) ≡ count_intervals set test h + cond either (ends test x.0.time (is_in x.1 set.stop) (open_start set h)) 0
 count-by_groups set test h x true is =
     let kept = photons_of_either set h in
-    ap (λ xs. count_by (is_interval set test) (neighbours xs)) (filter-push (is_of_either set) h x true is)
-    ∙ (count-neighbours-push (is_interval set test) kept x
-    ∙ ap (λ n. count_intervals set test h + n) (last-and-next set test (last_or None kept) x))
+    cc (filter-push (is_of_either set) h x true is, count-neighbours-push (is_interval set test) kept x, last-and-next set test (last_or None kept) x)
 count-by_groups set test h x false is = grind (arith, common_steps, filter-push, append-nil)
-
-either-ends : (test : ℕ → Bool) (time : ℕ) (starts stops : Bool) (start : Option ℕ)
-    → cond (starts || stops) (ends test time stops start) 0 ≡ ends test time stops start
-either-ends test time starts stops start = search (rules, arith, ends-none)
 
 -- A photon ends the open interval, if it stops.
 pub count-photon : (set : StartStopView) (test : ℕ → Bool) (h : History) (x : Event × ℕ) (stops : Bool) (start : Option ℕ) → is_photon x.0 ≡ true → is_in x.1 set.stop ≡ stops → open_start set h ≡ start → count_intervals set test (h ++ x ∷ []) ≡ count_intervals set test h + ends test x.0.time stops start
 count-photon set test h x stops start photon stops-is start-is =
-    let either = is_in x.1 set.start || is_in x.1 set.stop in
-    let counted = count-by_groups set test h x either (of_either (is_photon x.0) (is_in x.1 set.start) (is_in x.1 set.stop) photon) in
-    grind (arith, common_steps, either-ends)
+    let counted = count-by_groups set test h x (is_in x.1 set.start || is_in x.1 set.stop) (rw photon refl) in
+    grind (arith, common_steps)
 
 start-by_groups : (set : StartStopView) (h : History) (x : Event × ℕ) (either : Bool)
     → is_of_either set x ≡ either → open_start set (h ++ x ∷ []) ≡ cond either (start_of set x) (open_start set h)
 start-by_groups set h x true is = cc (filter-push (is_of_either set) h x true is, last_or-push None (photons_of_either set h) x)
 start-by_groups set h x false is = cc (filter-push (is_of_either set) h x false is, append-nil (photons_of_either set h))
 
-either-starts : (starts stops : Bool) (time start : Option ℕ) → cond (starts || stops) (cond starts time None) start ≡ cond starts time (cond stops None start)
-either-starts starts stops time start = search (rules, arith)
-
 -- Its own start is open from then on. Where it only stops, none is.
 pub start-photon : (set : StartStopView) (h : History) (x : Event × ℕ) (starts stops : Bool) (start : Option ℕ) → is_photon x.0 ≡ true → is_in x.1 set.start ≡ starts → is_in x.1 set.stop ≡ stops → open_start set h ≡ start → open_start set (h ++ x ∷ []) ≡ cond starts (Some x.0.time) (cond stops None start)
 start-photon set h x starts stops start photon starts-is stops-is start-is =
-    let either = is_in x.1 set.start || is_in x.1 set.stop in
-    let opened = start-by_groups set h x either (of_either (is_photon x.0) (is_in x.1 set.start) (is_in x.1 set.stop) photon) in
-    grind (arith, common_steps, either-starts)
-
-not_either : (photon either : Bool) → photon ≡ false → (photon && either) ≡ false
-not_either photon either is = ap (λ b. b && either) is
+    let opened = start-by_groups set h x (is_in x.1 set.start || is_in x.1 set.stop) (rw photon refl) in
+    grind (arith, common_steps)
 
 -- A marker ends nothing and begins nothing.
 pub count-marker : (set : StartStopView) (test : ℕ → Bool) (h : History) (x : Event × ℕ)
     → is_photon x.0 ≡ false → count_intervals set test (h ++ x ∷ []) ≡ count_intervals set test h
-count-marker set test h x marker = grind (arith, common_steps, count-by_groups, not_either)
+count-marker set test h x marker = grind (arith, common_steps, count-by_groups set test h x false (rw marker refl))
 
 pub start-marker : (set : StartStopView) (h : History) (x : Event × ℕ) → is_photon x.0 ≡ false → open_start set (h ++ x ∷ []) ≡ open_start set h
-start-marker set h x marker = start-by_groups set h x false (not_either (is_photon x.0) (is_in x.1 set.start || is_in x.1 set.stop) marker)
+start-marker set h x marker = start-by_groups set h x false (rw marker refl)
 
 -- The neighbours are the pairs of places.
 
@@ -109,20 +81,9 @@ sum-shift f a (suc n) = grind (arith, common_steps, add-one, sum_by-cons, sum-sh
 pub sum-places : (f : ℕ → ℕ) (n : ℕ) → sum_by f (range_with_len 0 (suc n)) ≡ f 0 + sum_by (λ i. f (suc i)) (range_with_len 0 n)
 sum-places f n = sum_by-cons f 0 (range_with_len (0 + 1) n) ∙ ap (λ m. f 0 + m) (sum-shift f 0 n)
 
-pub sum-agree : (f g : ℕ → ℕ) → ((i : ℕ) → f i ≡ g i) → (xs : List ℕ) → sum_by f xs ≡ sum_by g xs
-sum-agree f g same [] = refl
-sum-agree f g same (x ∷ xs) = omega (arith, sum-agree f g same xs, sum_by-cons f x xs, sum_by-cons g x xs)
-
-pub sum-none : (f : ℕ → ℕ) → ((i : ℕ) → f i ≡ 0) → (xs : List ℕ) → sum_by f xs ≡ 0
-sum-none f none [] = refl
-sum-none f none (x ∷ xs) = omega (arith, sum-none f none xs, sum_by-cons f x xs)
-
 -- how many photons behind x are the next of either group, and end an interval from x
 abbrev pub next_ends : StartStopView → (ℕ → Bool) → Event × ℕ → History → ℕ → Bool
 next_ends set test x h j = not (list_any (is_of_either set) (take j h)) && are_ends set test (Some x) (slice_get h j)
-
-no_start : (photon starts stops test : Bool) → (photon && (starts || stops)) ≡ false → ◌≡◌ {A = Bool} (photon && (starts && test)) false
-no_start photon starts stops test is = grind arith
 
 -- how many intervals from x end at the first of these photons
 abbrev pub first_end : StartStopView → (ℕ → Bool) → Event × ℕ → History → ℕ
@@ -131,13 +92,12 @@ first_end set test x xs = option_map_or (λ y. one_if (is_photon x.0 && is_inter
 behind-first : (set : StartStopView) (test : ℕ → Bool) (x y : Event × ℕ) (h : History) (either : Bool) → is_of_either set y ≡ either → count_by (next_ends set test x h) (places h) ≡ first_end set test x (photons_of_either set h) → count_by (next_ends set test x (y ∷ h)) (places (y ∷ h)) ≡ first_end set test x (cond either (y ∷ photons_of_either set h) (photons_of_either set h))
 behind-first set test x y h true is more =
     let split = sum-places (λ j. one_if (next_ends set test x (y ∷ h) j)) (length h) in
-    let blocked : (j : ℕ) → one_if (next_ends set test x (y ∷ h) (suc j)) ≡ 0 =
-    λ j. ap (λ either. one_if (not (either || list_any (is_of_either set) (take j h)) && are_ends set test (Some x) (slice_get h j))) is in
-    let others = sum-none (λ j. one_if (next_ends set test x (y ∷ h) (suc j))) blocked (places h) in
+    let blocked : (j : ℕ) → one_if (next_ends set test x (y ∷ h) (suc j)) ≡ 0 = λ j. search (rules, arith) in
+    let others : sum_by (λ j. one_if (next_ends set test x (y ∷ h) (suc j))) (places h) ≡ 0 = sum_same _ (λ j. 0) blocked (places h) ∙ sum_none (places h) in
     grind (arith, common_steps, one_if)
 behind-first set test x y h false is more =
     let split = sum-places (λ j. one_if (next_ends set test x (y ∷ h) j)) (length h) in
-    grind (arith, common_steps, one_if, next_ends, sum-agree)
+    grind (arith, common_steps, one_if, next_ends, sum_same)
 
 -- The next photon of either group is the only one that can end an interval from x.
 pub next-ends : (set : StartStopView) (test : ℕ → Bool) (x : Event × ℕ) (h : History)
@@ -145,51 +105,26 @@ pub next-ends : (set : StartStopView) (test : ℕ → Bool) (x : Event × ℕ) (
 next-ends set test x [] = refl
 next-ends set test x (y ∷ h) = behind-first set test x y h (is_of_either set y) refl (next-ends set test x h)
 
-before_suc : (i j : ℕ) → nat_lt (suc i) (suc j) ≡ nat_lt i j
-before_suc i j = search (rules, tests)
-
-before_none : (i : ℕ) → nat_lt (suc i) 0 ≡ false
-before_none i = search (rules, tests)
-
-before_all : (j : ℕ) → nat_lt 0 (suc j) ≡ true
-before_all j = search (rules, tests)
-
 first_row : (set : StartStopView) (test : ℕ → Bool) (x : Event × ℕ) (h : History)
     → count_by (is_pair set test (x ∷ h) 0) (places (x ∷ h)) ≡ count_by (next_ends set test x h) (places h)
-first_row set test x h = search (rules, arith, sum-places, one_if, sum-agree, next_ends, before_all)
+first_row set test x h = search (rules, arith, sum-places, one_if, sum_same, next_ends, tests)
 
 other_row : (set : StartStopView) (test : ℕ → Bool) (x : Event × ℕ) (h : History) (i : ℕ)
     → count_by (is_pair set test (x ∷ h) (suc i)) (places (x ∷ h)) ≡ count_by (is_pair set test h i) (places h)
 other_row set test x h i =
     let split = sum-places (λ j. one_if (is_pair set test (x ∷ h) (suc i) j)) (length h) in
-    grind (arith, common_steps, one_if, sum-agree, before_suc, before_none)
+    grind (arith, common_steps, one_if, sum_same, nat_tests)
 
 -- One more event in front, and the pairs of places.
 pairs-cons : (set : StartStopView) (test : ℕ → Bool) (x : Event × ℕ) (h : History)
     → count_pairs set test (x ∷ h) ≡ first_end set test x (photons_of_either set h) + count_pairs set test h
 pairs-cons set test x h =
     let split = sum-places (λ i. count_by (is_pair set test (x ∷ h) i) (places (x ∷ h))) (length h) in
-    let others = sum-agree (λ i. count_by (is_pair set test (x ∷ h) (suc i)) (places (x ∷ h)))
+    let others = sum_same (λ i. count_by (is_pair set test (x ∷ h) (suc i)) (places (x ∷ h)))
     (λ i. count_by (is_pair set test h i) (places h)) (other_row set test x h) (places h) in
     omega (arith, split, others, first_row set test x h, next-ends set test x h)
-
--- One more item in front, and the neighbours.
-neighbours-cons : (p : (Event × ℕ) × (Event × ℕ) → Bool) (x : Event × ℕ) (xs : History)
-    → count_by p (neighbours (x ∷ xs)) ≡ option_map_or (λ y. one_if (p (x, y))) (slice_get xs 0) 0 + count_by p (neighbours xs)
-neighbours-cons p x xs = grind (arith, common_steps, sum_by-cons, one_if)
-
-first-counted : (set : StartStopView) (test : ℕ → Bool) (x : Event × ℕ) → is_of_either set x ≡ true → (o : Option (Event × ℕ)) → option_map_or (λ y. one_if (is_photon x.0 && is_interval set test (x, y))) o 0 ≡ option_map_or (λ y. one_if (is_interval set test (x, y))) o 0
-first-counted set test x is o = search (rules, arith, one_if)
-
-first-left : (set : StartStopView) (test : ℕ → Bool) (x : Event × ℕ) → is_of_either set x ≡ false
-    → (o : Option (Event × ℕ)) → option_map_or (λ y. one_if (is_photon x.0 && is_interval set test (x, y))) o 0 ≡ 0
-first-left set test x is o = search (rules, arith, one_if)
-
-intervals-cons : (set : StartStopView) (test : ℕ → Bool) (x : Event × ℕ) (h : History) (either : Bool) → is_of_either set x ≡ either → count_by (is_interval set test) (neighbours (cond either (x ∷ photons_of_either set h) (photons_of_either set h))) ≡ first_end set test x (photons_of_either set h) + count_intervals set test h
-intervals-cons set test x h true is = search (rules, arith, first-counted, neighbours-cons)
-intervals-cons set test x h false is = omega (arith, first-left set test x is (slice_get (photons_of_either set h) 0))
 
 -- The intervals between neighbours are the pairs of places.
 pub intervals-are-pairs : (set : StartStopView) (test : ℕ → Bool) (h : History) → count_intervals set test h ≡ count_pairs set test h
 intervals-are-pairs set test [] = refl
-intervals-are-pairs set test (x ∷ h) = cc (intervals-are-pairs set test h, intervals-cons set test x h (is_of_either set x) refl, pairs-cons set test x h)
+intervals-are-pairs set test (x ∷ h) = grind (arith, common_steps, pairs-cons, sum_by-cons, intervals-are-pairs set test h)

@@ -1,22 +1,19 @@
 -- Pairs summed lag by lag.
-use Rattle.tally_base.specs.Settings.{CoincidenceView}
+use Rattle.tally_base.{specs.Settings.{CoincidenceView}, proofs.Sums.{sum_none}}
 use Rattle.lag_ring.{specs.declared.ring.Entry.Entry, specs.declared.window.Side.Side, specs.Bytes.{weight_of, weight_before, weight_at, behind}, specs.Ring.IsRising, proofs.Lists.{all_both, all_join}, proofs.Rising.{all_weaker, all_push}, proofs.Sums.{sum_by-same, sum_by-agree, sum_by-plus, sum_by-times, sum_by-zero, window-before}}
-use Rattle.coincidence.{specs.declared.pairing.Direction.Direction, specs.declared.pairing.Direction.TheVariants.{Forward, Backward}, specs.Pairing.{shifted_by, earlier_weight, pairs_of, pairs_of_all}, specs.Closing.{earlier_side, later_side, lag_pairs, strip_pairs, window_pairs, FitsWindow}, proofs.Hits.zeros, proofs.Visits.{pairs_near, pairs_far}}
-use Rattle.std.{proofs.Common.{◌≡◌, ◌≢◌, ◌∙◌, ℕ, zero, suc, ◌+◌, ◌-◌, ◌*◌, ◌/◌, ◌<◌, ◌≤◌, Bool, true, false, ◌&&◌, leb, ltb, eqb, cond, List, [], ◌∷◌, ◌++◌, refl, sym, ap, arith, append_assoc, rules, length, get_or}, specs.List.{sum_by, range_with_len, AllByRecursion}, proofs.lemmas.Grind.common_steps, proofs.lemmas.Bool.Decides.nat_tests, proofs.lemmas.List.Sums.{sum_by-cons, sum_by-append, sum_by_push}}
+use Rattle.coincidence.{specs.declared.pairing.Direction.Direction, specs.declared.pairing.Direction.TheVariants.{Forward, Backward}, specs.Pairing.{shifted_by, earlier_weight, pairs_of, pairs_of_all}, specs.Closing.{earlier_side, later_side, lag_pairs, strip_pairs, window_pairs}, proofs.Visits.{pairs_near, pairs_far}}
+use Rattle.std.{proofs.Common.{◌≡◌, ◌≢◌, ◌∙◌, ℕ, zero, suc, ◌+◌, ◌-◌, ◌*◌, ◌/◌, ◌<◌, ◌≤◌, Bool, true, false, ◌&&◌, leb, ltb, eqb, cond, List, [], ◌∷◌, ◌++◌, refl, sym, ap, arith, append_assoc, rules, length, get_or}, specs.List.{sum_by, range_with_len, AllByRecursion}, proofs.lemmas.Grind.common_steps, proofs.lemmas.Bool.Decides.nat_tests, proofs.lemmas.List.Sums.{sum_by-cons, sum_by-append}}
 
 -- sums over two lists in either order
 swapped : {X Y : Type 0} (f : X → Y → ℕ) (xs : List X) (ys : List Y) → sum_by (λ x. sum_by (f x) ys) xs ≡ sum_by (λ y. sum_by (λ x. f x y) xs) ys
-swapped f [] ys = sym (zeros ys)
-swapped f (x ∷ xs) ys =
-    sum_by-cons (λ z. sum_by (f z) ys) x xs
-    ∙ ap (λ n. sum_by (f x) ys + n) (swapped f xs ys)
-    ∙ sym (sum_by-plus (f x) (λ y. sum_by (λ z. f z y) xs) ys)
-    ∙ sum_by-same (λ y. f x y + sum_by (λ z. f z y) xs) (λ y. sum_by (λ z. f z y) (x ∷ xs)) ys (λ y. sym (sum_by-cons (λ z. f z y) x xs))
+swapped f [] ys = sym (sum_none ys)
+swapped f (x ∷ xs) ys = rw (sum_by-cons (λ z. sum_by (f z) ys) x xs, swapped f xs ys, ← sum_by-plus (f x) (λ y. sum_by (λ z. f z y) xs) ys)
+    (sum_by-same _ _ ys (λ y. sym (sum_by-cons (λ z. f z y) x xs)))
 
 -- a sum over a range of what is 0 but at one place
-pub at_one : (f : ℕ → ℕ) (k a n : ℕ) → ((i : ℕ) → i ≢ k → f i ≡ 0) → sum_by f (range_with_len a n) ≡ cond (leb a k && ltb k (a + n)) (f k) 0
+pub at_one : (f : ℕ → ℕ) (k a n : ℕ) → ((i : ℕ) → a ≤ i → i < a + n → i ≢ k → f i ≡ 0) → sum_by f (range_with_len a n) ≡ cond (leb a k && ltb k (a + n)) (f k) 0
 at_one f k a zero none = grind (arith, nat_tests)
-at_one f k a (suc n) none = search (rules, arith, sum_by-cons, at_one f k (a + 1) n none)
+at_one f k a (suc n) none = let rest = at_one f k (a + 1) n (λ i from below. none i (omega (arith, from)) (omega (arith, below))) in search (rules, arith, sum_by-cons)
 
 -- the pairs with one earlier entry at one lag
 abbrev at_lag : Direction → CoincidenceView → ℕ → ℕ → ℕ → Entry → ℕ → ℕ
@@ -37,12 +34,12 @@ module _ (d : Direction) (set : CoincidenceView) (c index later : ℕ) (e : Entr
 
   by_lags : sum_by (at_lag d set c index later e) (range_with_len 1 set.reach) ≡ pairs_of d set c index later e
   by_lags =
-      let one = at_one (at_lag d set c index later e) (index - e.index) 1 set.reach elsewhere in
+      let one = at_one (at_lag d set c index later e) (index - e.index) 1 set.reach (λ lag from below. elsewhere lag) in
       grind (arith, common_steps, here, pairs_near, side-weight, pairs_far)
 
 cell-sum : {X : Type 0} (b : Bool) (f : X → ℕ) (later : ℕ) (xs : List X) → cond b (sum_by f xs * later) 0 ≡ sum_by (λ x. cond b (f x * later) 0) xs
 cell-sum true f later xs = sym (sum_by-times f later xs)
-cell-sum false f later xs = sym (zeros xs)
+cell-sum false f later xs = sym (sum_none xs)
 
 cell-sum' : {X : Type 0} (b : Bool) (f : X → ℕ) (x : X) (xs : List X) → cond b (sum_by f (x ∷ xs)) 0 ≡ cond b (f x) 0 + cond b (sum_by f xs) 0
 cell-sum' b f x xs = search (rules, arith, sum_by-cons)
@@ -69,34 +66,24 @@ pub range-within : (a n : ℕ) → AllByRecursion (λ i. (a ≤ i) × (i < a + n
 range-within a zero = tt
 range-within a (suc n) = search (rules, arith, all_weaker, range-within (a + 1) n)
 
-below_next : (es : List Entry) (l : Entry) (ls : List Entry) → AllByRecursion (λ e. l.index < e.index) ls → AllByRecursion (λ m. AllByRecursion (λ e. e.index < m.index) es) ls → AllByRecursion (λ m. AllByRecursion (λ e. e.index < m.index) (es ++ l ∷ [])) ls
-below_next es l ls above below = search (rules, arith, all_both, all_push)
-
 -- the pairs of each of some entries with those before it, in one direction
 abbrev pub in_turn : Direction → CoincidenceView → ℕ → List Entry → List Entry → ℕ
 in_turn d set c es [] = 0
 in_turn d set c es (l ∷ ls) = pairs_of_all d set c l.index (weight_of (later_side d) l) es + in_turn d set c (es ++ l ∷ []) ls
 
 pub lags_in_turn : (d : Direction) (set : CoincidenceView) (c : ℕ) (es ls : List Entry) → IsRising ls → AllByRecursion (λ l. AllByRecursion (λ e. e.index < l.index) es) ls → sum_by (lag_pairs d set c (es ++ ls) ls) (range_with_len 1 set.reach) ≡ in_turn d set c es ls
-lags_in_turn d set c es [] rising below = grind (arith, common_steps, zeros (range_with_len 1 set.reach))
+lags_in_turn d set c es [] rising below = grind (arith, common_steps, sum_none (range_with_len 1 set.reach))
 lags_in_turn d set c es (l ∷ ls) rising below =
     let w = weight_of (later_side d) l in
     let cell : ℕ → Bool = λ lag. eqb (shifted_by d set.reach lag / set.width) c in
     let mine : ℕ → ℕ = λ lag. cond (cell lag) (weight_before (earlier_side d) lag l.index (es ++ l ∷ ls) * w) 0 in
-    let rest : ℕ → ℕ = lag_pairs d set c (es ++ l ∷ ls) ls in
-    let split : sum_by (lag_pairs d set c (es ++ l ∷ ls) (l ∷ ls)) (range_with_len 1 set.reach) ≡ sum_by mine
-    (range_with_len 1 set.reach) + sum_by rest (range_with_len 1 set.reach) =
-    sum_by-same (lag_pairs d set c (es ++ l ∷ ls) (l ∷ ls)) (λ lag. mine lag + rest lag) (range_with_len 1 set.reach) (λ lag. cell-sum' (cell lag) (λ (e : Entry). weight_before (earlier_side d) lag e.index (es ++ l ∷ ls) * weight_of (later_side d) e) l ls)
-    ∙ sum_by-plus mine rest (range_with_len 1 set.reach) in
-    let own : sum_by mine (range_with_len 1 set.reach) ≡ pairs_of_all d set c l.index w es =
-    sum_by-agree (λ lag. (1 ≤ lag) × (lag < 1 + set.reach)) mine
+    let after : AllByRecursion (λ e. l.index ≤ e.index) (l ∷ ls) = search (rules, arith, all_weaker) in
+    let own = sum_by-agree (λ lag. (1 ≤ lag) × (lag < 1 + set.reach)) mine
     (λ lag. cond (cell lag) (weight_before (earlier_side d) lag l.index es * w) 0) (range_with_len 1 set.reach) (range-within 1 set.reach)
-    (λ lag in_range. rw (before_only (earlier_side d) lag l.index es (l ∷ ls) in_range.0
-    (omega arith, all_weaker (λ e. l.index < e.index) (λ e. l.index ≤ e.index) (λ e above. omega arith) ls rising.0)) refl)
-    ∙ all_lags d set c l.index w es below.0 in
-    let others : sum_by rest (range_with_len 1 set.reach) ≡ in_turn d set c (es ++ l ∷ []) ls =
-    rw (← append_assoc es (l ∷ []) ls) (lags_in_turn d set c (es ++ l ∷ []) ls rising.1 (below_next es l ls rising.0 below.1)) in
-    omega (arith, split, own, others)
+    (λ lag in_range. rw (before_only (earlier_side d) lag l.index es (l ∷ ls) in_range.0 after) refl) in
+    sum_by-same _ (λ lag. mine lag + lag_pairs d set c (es ++ l ∷ ls) ls lag) (range_with_len 1 set.reach) (λ lag. cell-sum' (cell lag) (λ (e : Entry). weight_before (earlier_side d) lag e.index (es ++ l ∷ ls) * weight_of (later_side d) e) l ls)
+    ∙ sum_by-plus mine (lag_pairs d set c (es ++ l ∷ ls) ls) (range_with_len 1 set.reach)
+    ∙ rw (own, all_lags d set c l.index w es below.0, ← append_assoc es (l ∷ []) ls) (ap (λ n. pairs_of_all d set c l.index w es + n) (lags_in_turn d set c (es ++ l ∷ []) ls rising.1 (search (rules, arith, all_both, all_push))))
 
 -- Pairs in windows.
 
@@ -108,19 +95,16 @@ range-append a (suc m) n =
     let k : suc m + n ≡ suc (m + n) = omega arith in
     rw (k, e) (ap (λ xs. a ∷ xs) (range-append (a + 1) m n))
 
-pub range-more : (f : ℕ → ℕ) (a i : ℕ) → sum_by f (range_with_len a (i + 1)) ≡ sum_by f (range_with_len a i) + f (a + i)
-range-more f a i = ap (sum_by f) (range-append a i 1) ∙ sum_by_push f (range_with_len a i) (a + i)
+pub range-parts : (f : ℕ → ℕ) (a m n : ℕ) → sum_by f (range_with_len a (m + n)) ≡ sum_by f (range_with_len a m) + sum_by f (range_with_len (a + m) n)
+range-parts f a m n = ap (sum_by f) (range-append a m n) ∙ sum_by-append f (range_with_len a m) (range_with_len (a + m) n)
 
 pub range-le : (f : ℕ → ℕ) (a i n : ℕ) → i ≤ n → sum_by f (range_with_len a i) ≤ sum_by f (range_with_len a n)
-range-le f a i n upto =
-    let k : n ≡ i + (n - i) = omega arith in
-    let split : sum_by f (range_with_len a n) ≡ sum_by f (range_with_len a i) + sum_by f (range_with_len (a + i) (n - i)) = ap (λ m. sum_by f (range_with_len a m)) k ∙ ap (sum_by f) (range-append a i (n - i)) ∙ sum_by-append f (range_with_len a i) (range_with_len (a + i) (n - i)) in
-    omega (arith, split)
+range-le f a i n upto = let all : i + (n - i) ≡ n = omega arith in omega (arith, range-parts f a i (n - i), ap (λ k. sum_by f (range_with_len a k)) all)
 
 -- a strip more
 pub range-strip : (f : ℕ → ℕ) (least count : ℕ)
     → sum_by f (range_with_len 1 (least + count)) ≡ sum_by f (range_with_len 1 least) + sum_by f (range_with_len (least + 1) count)
-range-strip f least count = search (rules, arith, range-append, sum_by-append)
+range-strip f least count = search (rules, arith, range-parts)
 
 -- the sum of one lag
 pub strip-term : (d : Direction) (set : CoincidenceView) (c least i shifted pairs : ℕ) (sums : List ℕ)
@@ -163,18 +147,8 @@ pub three-sums : (f : Entry → ℕ) (front back ring later : List Entry) → fr
     → sum_by f (ring ++ later) ≡ sum_by f front + sum_by f back + sum_by f later
 three-sums f front back ring later is = search (rules, arith, sum_by-append)
 
--- the entries that fit have few photons on each side
-pub few_later : (d : Direction) (set : CoincidenceView) (most low : ℕ) (es later : List Entry)
-    → FitsWindow set most low es later → sum_by (weight_of (later_side d)) later ≤ 1024
-few_later d set most low es later fits = search (rules, arith)
-
 -- entries behind others rise with them
 pub rising_join : (es later : List Entry) → IsRising es → IsRising later
     → AllByRecursion (λ l. AllByRecursion (λ e. e.index < l.index) es) later → IsRising (es ++ later)
 rising_join [] later rising rising' above = rising'
-rising_join (e ∷ es) later rising rising' above = (
-  all_join (λ f. e.index < f.index) es later rising.0
-      (all_weaker (λ l. AllByRecursion (λ f. f.index < l.index) (e ∷ es)) (λ l. e.index < l.index) (λ l all. all.0) later above),
-  rising_join es later rising.1 rising'
-      (all_weaker (λ l. AllByRecursion (λ f. f.index < l.index) (e ∷ es)) (λ l. AllByRecursion (λ f. f.index < l.index) es) (λ l all. all.1) later above),
-)
+rising_join (e ∷ es) later rising rising' above = search (rules, arith, all_join, all_weaker, rising_join es later rising.1 rising')

@@ -1,8 +1,8 @@
 -- Exchanged groups turn the differences.
 use Rattle.lag_ring.proofs.Sums.{sum_by-same, sum_by-plus}
-use Rattle.tally_base.{specs.Settings.CoincidenceView, specs.Tally.History}
-use Rattle.coincidence.{specs.Pairs.{in_first, in_second, is_in_cell, is_coincidence, coincidences, exchanged, both_pass, places_of, are_apart, pairs_apart}, proofs.Hits.pairs_in, proofs.Intervals.{one_if, sum-places, sum-agree}}
-use Rattle.std.{proofs.Common.{◌≡◌, ℕ, suc, ◌+◌, Bool, false, eqb, List, [], ◌∷◌, length, refl, arith, rules, tests, None, Some, count_by, sum_by, ◌∙◌, ◌-◌, ◌*◌, ◌≤◌, ◌&&◌, leb, sym}, specs.declared.option.Option.Option, specs.List.slice_get, proofs.lemmas.List.Sums.sum_by-cons, proofs.Math.Nat.div-one, proofs.lemmas.Grind.common_steps}
+use Rattle.tally_base.{proofs.Sums.{sum_same}, specs.Settings.CoincidenceView, specs.Tally.History}
+use Rattle.coincidence.{specs.Pairs.{in_first, in_second, is_in_cell, is_coincidence, coincidences, exchanged, both_pass, places_of, are_apart, pairs_apart}, proofs.Hits.pairs_in, proofs.Intervals.{one_if, sum-places}}
+use Rattle.std.{proofs.Common.{◌≡◌, ℕ, suc, ◌+◌, Bool, false, List, [], ◌∷◌, length, refl, arith, rules, tests, None, Some, count_by, sum_by, ◌∙◌, ◌-◌, ◌*◌, ◌≤◌, ◌&&◌, sym}, specs.declared.option.Option.Option, specs.List.slice_get, proofs.lemmas.List.Sums.sum_by-cons, proofs.Math.Nat.div-one, proofs.lemmas.Grind.common_steps, proofs.lemmas.Bool.Decides.nat_tests}
 
 -- The pairs of different places, element by element.
 
@@ -16,37 +16,22 @@ count-places : {X : Type 0} (p : X → Bool) (xs : List X) → sum_by (λ i. one
 count-places p [] = refl
 count-places p (x ∷ xs) = search (rules, arith, sum-places, one_if, one_passes, sum_by-cons, count-places p xs)
 
-other_first : (j : ℕ) → eqb 0 (suc j) ≡ false
-other_first j = search (rules, tests)
-
-other_second : (i : ℕ) → eqb (suc i) 0 ≡ false
-other_second i = search (rules, tests)
-
-both_later : (i j : ℕ) → eqb (suc i) (suc j) ≡ eqb i j
-both_later i j = search (rules, tests)
-
 module _ {X : Type 0} (r : X → X → Bool) where
-  from_first : (x : X) (o : Option X) → both_pass r (Some x) o ≡ one_passes (r x) o
-  from_first x o = search (rules, arith)
-
-  to_first : (x : X) (o : Option X) → both_pass r o (Some x) ≡ one_passes (λ y. r y x) o
-  to_first x o = search (rules, arith)
-
   first_row : (x : X) (xs : List X) → count_by (are_apart r (x ∷ xs) 0) (places_of (x ∷ xs)) ≡ count_by (r x) xs
-  first_row x xs = search (rules, arith, sum-places, one_if, sum-agree, one_passes, other_first, from_first, count-places)
+  first_row x xs = search (rules, arith, sum-places, one_if, sum_same, one_passes, both_pass, tests, count-places)
 
   other_row : (x : X) (xs : List X) (i : ℕ) → count_by (are_apart r (x ∷ xs) (suc i)) (places_of (x ∷ xs)) ≡ one_if
       (one_passes (λ y. r y x) (slice_get xs i)) + count_by (are_apart r xs i) (places_of xs)
-  other_row x xs i = search (rules, arith, sum-places, one_if, sum-agree, both_later, other_second, to_first)
+  other_row x xs i =
+      let split = sum-places (λ j. one_if (are_apart r (x ∷ xs) (suc i) j)) (length xs) in
+      grind (arith, common_steps, one_if, sum_same, nat_tests, one_passes, both_pass)
 
   pub pairs_apart-in : (xs : List X) → pairs_apart r xs ≡ pairs_in r xs
   pairs_apart-in [] = refl
   pairs_apart-in (x ∷ xs) =
       let split = sum-places (λ i. count_by (are_apart r (x ∷ xs) i) (places_of (x ∷ xs))) (length xs) in
-      let others = sum-agree (λ i. count_by (are_apart r (x ∷ xs) (suc i)) (places_of (x ∷ xs)))
-      (λ i. one_if (one_passes (λ y. r y x) (slice_get xs i)) + count_by (are_apart r xs i) (places_of xs)) (other_row x xs) (places_of xs) in
       let parts = sum_by-plus (λ i. one_if (one_passes (λ y. r y x) (slice_get xs i))) (λ i. count_by (are_apart r xs i) (places_of xs)) (places_of xs) in
-      omega (arith, split, others, parts, first_row x xs, count-places (λ y. r y x) xs, pairs_apart-in xs)
+      omega (arith, split, sum_same _ _ (other_row x xs) (places_of xs), parts, first_row x xs, count-places (λ y. r y x) xs, pairs_apart-in xs)
 
 -- Exchanged groups turn the differences.
 
@@ -55,12 +40,8 @@ turned : {X : Type 0} (r s : X → X → Bool) → ((x y : X) → r x y ≡ s y 
 turned r s same [] = refl
 turned r s same (x ∷ xs) = search (rules, arith, sum_by-same, turned r s same xs)
 
-turned_cell : (reach c t u : ℕ) → c ≤ 2 * reach
-    → ((leb t (u + reach) && leb u (t + reach)) && eqb (u + reach - t) c) ≡ ((leb u (t + reach) && leb t (u + reach)) && eqb (t + reach - u) (2 * reach - c))
-turned_cell reach c t u inside = grind (arith, common_steps, inside)
-
 in_turned : (set : CoincidenceView) (c t u : ℕ) → set.width ≡ 1 → c ≤ 2 * set.reach → is_in_cell set c t u ≡ is_in_cell set (2 * set.reach - c) u t
-in_turned set c t u one inside = rw (one, div-one (u + set.reach - t), div-one (t + set.reach - u)) (turned_cell set.reach c t u inside)
+in_turned set c t u one inside = search (rules, arith, div-one)
 
 swapped : (a b c d : Bool) → c ≡ d → ◌≡◌ {A = Bool} ((a && b) && c) ((b && a) && d)
 swapped a b c d same = grind (arith, same)

@@ -2,7 +2,7 @@
 use Rattle.std.{proofs.Common.{◌≡◌, ℕ, zero, suc, ◌+◌, ◌-◌, ◌*◌, ◌<◌, ◌≤◌, Bool, true, ◌&&◌, ◌||◌, cond, [], ◌∷◌, ◌++◌, refl, arith, rules, Some}}
 use Rattle.tally_base.{specs.Settings.CoincidenceView, specs.Tally.History, specs.declared.block.Block.Block, specs.Columns.{rows, item, time_at, gathered}}
 use Rattle.lag_ring.{specs.Cells.Cells, specs.Ring.{Ring, ring}}
-use Rattle.coincidence.{specs.declared.pairing.Bin.Bin, specs.declared.pairing.Pairing.Pairing, specs.Pairs.photons_of_groups, specs.Pairing.{bin_pairs, pairing_of, Came}, specs.StandsFor.CanTake, specs.Lone.{has_photon, bin_at, IsAlone, IsLone}, proofs.Blockwise.{put_row, came_more}, proofs.Shut.{cells_alone, ring_alone}, proofs.Visits.{can_shut, moved_on}}
+use Rattle.coincidence.{specs.declared.pairing.Bin.Bin, specs.declared.pairing.Pairing.Pairing, specs.Pairs.photons_of_groups, specs.Pairing.{bin_pairs, pairing_of, Came}, specs.StandsFor.CanTake, specs.Lone.{has_photon, bin_at, IsAlone, IsLone}, proofs.Blockwise.{put_row, photons-more}, proofs.Shut.{cells_alone, ring_alone}, proofs.Visits.{can_shut, moved_on}}
 
 no_pairs : (set : CoincidenceView) (c : ℕ) (bin : Bin) → bin.both ≡ bin.weights.a * bin.weights.b → bin_pairs set c bin [] ≡ 0
 no_pairs set c bin is = search (rules, arith)
@@ -22,10 +22,10 @@ module _ {N : ℕ} (set : CoincidenceView) (p : Pairing) (b : Block N) (h : Hist
   lone_next r bin at next is inside alone early either came =
       let p' = pairing_of (Some bin) r cells in
       let new = bin_at set b at in
-      let can_put = put_row set p p' b h at inside can came (has_photon b at set.first) (has_photon b at set.second) refl refl either new (time_at b at) refl refl in
+      let can_put = put_row set b h at either p inside can p' came in
       let may = can_shut set p' bin new refl came.0 came.1 (item b at ∷ []) can_put in
       let after = moved_on set p' bin new refl came.0 came.1 (item b at ∷ []) can_put (omega (arith, early)) in
-      rw is (came_more set p p' b h at inside can came (has_photon b at set.first) (has_photon b at set.second) refl refl either (pairing_of (Some new) (ring (bin.weights ∷ []) r.reach) cells) (
+      rw (is, photons-more set b h at either, came.2) (
         _,
         item b at ∷ [],
         refl,
@@ -34,7 +34,7 @@ module _ {N : ℕ} (set : CoincidenceView) (p : Pairing) (b : Block N) (h : Hist
           ring = ring_alone set r bin came.0 came.1 may.keep alone.1 some;
           cells = cells_alone set r cells bin came.0 came.1 may alone.1 cells (λ c in_range. omega (arith, no_pairs set c bin alone.0)) refl (omega arith);
         },
-      ))
+      )
 
   -- rows after an open bin that is alone
   pub lone_run : (r : Ring) (bin : Bin) (k : ℕ) → bin.weights.index ≡ time_at b k → IsAlone set r.entries bin

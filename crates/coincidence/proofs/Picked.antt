@@ -1,7 +1,8 @@
 -- The rows of a block that have photons, one after the other.
-use Rattle.std.{proofs.Common.{rules}, proofs.Common.{◌≡◌, ℕ, zero, suc, ◌+◌, ◌-◌, ◌<◌, ◌≤◌, Bool, true, false, List, [], ◌∷◌, ◌++◌, length, get_or, drop, refl, arith, cond, take, slice_set, add-one, drop-cons, inl, inr}, proofs.Math.Nat.{eq-or-lt_of_le}, proofs.lemmas.List.{take-set, take_more_set}, specs.Prelude.{Option}}
-use Rattle.tally_base.{specs.Settings.CoincidenceView, specs.Tally.History, specs.declared.block.Block.Block, specs.Columns.{rows, item}}
-use Rattle.coincidence.{specs.declared.pairing.Bin.Bin, specs.Pairs.photons_of_groups, specs.Closing.Gathered, specs.Lone.{has_photon}, specs.Picked.{has_either, HaveNone, ArePicked}, proofs.Together.gathered_same}
+use Rattle.std.{proofs.Common.{rules}, proofs.Common.{◌≡◌, ℕ, zero, suc, ◌+◌, ◌-◌, ◌<◌, ◌≤◌, Bool, true, false, List, [], ◌∷◌, ◌++◌, length, get_or, drop, arith, cond, take, slice_set, add-one, drop-cons, inl, inr}, proofs.Math.Nat.{eq-or-lt_of_le}, proofs.lemmas.List.{take-set, take_more_set}, proofs.Math.ListN.drop_of_length-le, specs.Prelude.{Option}}
+use Rattle.tally_base.{specs.Settings.CoincidenceView, specs.Tally.History, specs.declared.block.Block.Block, specs.Columns.{rows, item, gathered}}
+use Rattle.lag_ring.{specs.Cells.Cells, specs.Ring.Ring}
+use Rattle.coincidence.{specs.declared.pairing.Bin.Bin, specs.Pairs.photons_of_groups, specs.Closing.{Gathered, CanGather}, specs.Pairing.pairing_of, specs.StandsFor.{CanTake, Gathers}, specs.Lone.bin_at, specs.Picked.{has_either, HaveNone, ArePicked}, proofs.Blockwise.{photons-same, photons-more, one_photon, few_row, after_row}}
 
 module _ (set : CoincidenceView) {N : ℕ} (b : Block N) where
   none_more : (from upto : ℕ) → HaveNone set b from upto → has_either set b upto ≡ false → HaveNone set b from (upto + 1)
@@ -24,22 +25,56 @@ module _ (set : CoincidenceView) {N : ℕ} (b : Block N) where
   pub picked_row : (v : Bool) (xs : List ℕ) (n at : ℕ) → n < length xs → has_either set b at ≡ v → ArePicked set b (take n xs) 0 at → ArePicked set b (take (n + cond v 1 0) (slice_set xs n at)) 0 (at + 1)
   picked_row v xs n at room is are = search (rules, arith, take_more_set, picked_more, take-set, picked_none)
 
-  -- one of them, and those behind it
-  pub picked_next : (picked : List ℕ) (i d from upto : ℕ) → i < length picked → ArePicked set b (drop i picked) from upto → ArePicked set b (get_or picked i d ∷ drop (i + 1) picked) from upto
-  picked_next picked i d from upto inside are =
-      let next : drop i picked ≡ get_or picked i d ∷ drop (i + 1) picked = rw (add-one, drop-cons picked i d) in
-      rw next at are
-
   module _ (last : Option Bin) (bins : List Bin) (closed h : History) where
     passed : (from n : ℕ) → HaveNone set b from (from + n) → Gathered set last bins closed (photons_of_groups set (h ++ rows (item b) from)) → Gathered set last bins closed (photons_of_groups set (h ++ rows (item b) (from + n)))
     passed from zero none was = let end : from + 0 ≡ from = omega arith in rw end was
     passed from (suc n) none was =
         let end : from + suc n ≡ (from + n) + 1 = omega arith in
-        let before = passed from n (λ i least most. none i least (omega (arith, most))) was in
-        rw end (gathered_same set last bins closed b h (from + n) (has_photon b (from + n) set.first) (has_photon b (from + n) set.second) refl refl (none (from + n) (omega arith) (omega arith)) before)
+        rw (end, photons-same set b h (from + n) (none (from + n) (omega arith) (omega arith))) (passed from n (λ i least most. none i least (omega (arith, most))) was)
 
     -- rows of no photon bring none
     pub gathered_upto : (from upto : ℕ) → from ≤ upto → HaveNone set b from upto → Gathered set last bins closed (photons_of_groups set (h ++ rows (item b) from)) → Gathered set last bins closed (photons_of_groups set (h ++ rows (item b) upto))
     gathered_upto from upto within none was =
         let end : from + (upto - from) ≡ upto = omega (arith, within) in
         rw end at (passed from (upto - from) (rw end none) was)
+
+  -- the rows before one are gathered, and of those from it on the ones that are left have photons
+  pub record GatheredTo (waiting last : Option Bin) (bins : List Bin) (left : List ℕ) : Type 0 where
+    pub from : ℕ
+    pub within : from ≤ b.len
+    pub picked : ArePicked set b left from b.len
+    pub came : (ring : Ring) (cells : Cells) (h : History) (can : CanTake set (pairing_of waiting ring cells) (gathered b) h) → Gathered set last bins can.was.0 (photons_of_groups set (h ++ rows (item b) from))
+
+  module _ (waiting last : Option Bin) (bins : List Bin) (picked : List ℕ) (i : ℕ) (are : GatheredTo waiting last bins (drop i picked)) where
+    pub gathered_end : length picked ≤ i → Gathers set waiting last bins (gathered b) (rows (item b) b.len)
+    gathered_end end ring cells h can =
+        gathered_upto last bins can.was.0 h are.from b.len are.within (rw (drop_of_length-le picked end) at are.picked) (are.came ring cells h can)
+
+    module _ (inside : i < length picked) where
+      abbrev at : ℕ
+      at = get_or picked i 0
+
+      next : ArePicked set b (at ∷ drop (i + 1) picked) are.from b.len
+      next = let split : drop i picked ≡ at ∷ drop (i + 1) picked = rw (add-one, drop-cons picked i 0) in rw split at are.picked
+
+      pub next_within : at < b.len
+      next_within = next.1
+
+      pub may_gather : (ring : Ring) (cells : Cells) (h : History) (can : CanTake set (pairing_of waiting ring cells) (gathered b) h)
+          → CanGather set last bins (bin_at set b at) can.was.0 (photons_of_groups set (h ++ rows (item b) at)) (item b at ∷ [])
+      may_gather ring cells h can = record {
+        few = few_row set b h at next.2 (pairing_of waiting ring cells) next.1 can;
+        was = gathered_upto last bins can.was.0 h are.from at next.0 next.3 (are.came ring cells h can);
+        is = one_photon set b h at next.2;
+        after = after_row set b h at next.2 (pairing_of waiting ring cells) next.1 can;
+      }
+
+      pub gathers_more : (now : Option Bin) (more : List Bin)
+          → ((closed came xs : History) → CanGather set last bins (bin_at set b at) closed came xs → Gathered set now more closed (came ++ xs))
+          → GatheredTo waiting now more (drop (i + 1) picked)
+      gathers_more now more follows = record {
+        from = at + 1;
+        within = omega (arith, next.1);
+        picked = next.4;
+        came = λ ring cells h can. rw (photons-more set b h at next.2) (follows can.was.0 _ _ (may_gather ring cells h can));
+      }

@@ -1,30 +1,16 @@
 -- What a bin brings when it is closed.
-use Rattle.std.{proofs.Common.{◌≡◌, ℕ, ◌+◌, ◌-◌, ◌*◌, ◌/◌, ◌^◌, ◌<◌, ◌≤◌, Bool, true, false, ◌&&◌, leb, eqb, cond, List, [], ◌∷◌, ◌++◌, length, get_or, refl, sym, ◌∙◌, arith, length-append, rules}, specs.List.{sum_by, filter, AllByRecursion}, proofs.Math.Nat.{mul-le-mul, mul-le-mul_right}, proofs.lemmas.Grind.common_steps}
+use Rattle.std.{proofs.Common.{◌≡◌, ℕ, ◌+◌, ◌-◌, ◌*◌, ◌/◌, ◌^◌, ◌<◌, ◌≤◌, Bool, true, false, ◌&&◌, leb, eqb, cond, List, [], ◌∷◌, ◌++◌, length, get_or, ap, refl, ◌∙◌, arith, length-append, rules}, specs.List.{sum_by, filter, AllByRecursion}, proofs.Math.Nat.{mul-le-mul, mul-le-mul_right}, proofs.lemmas.Grind.common_steps}
 use Rattle.tally_base.{specs.Settings.{CoincidenceView, coincidence_cells}, specs.Tally.History, specs.Limits.record_limit}
-use Rattle.lag_ring.{specs.declared.ring.Entry.Entry, specs.Cells.Cells, specs.Ring.{Ring, ring, IsRising, weight_where, IsInReach}, proofs.Kept.{room_after, kept_after, kept_more, kept_left}, proofs.Lists.{all_back, of_some}, proofs.Rising.all_weaker, proofs.Sums.{sum_by-same, sum_by-times, sum_by-zero}}
+use Rattle.lag_ring.{specs.declared.ring.Entry.Entry, specs.Cells.Cells, specs.Ring.{Ring, ring, IsRising, weight_where, IsInReach}, proofs.Kept.{room_after, kept_after, kept_more, kept_left}, proofs.Lists.{all_back, all_filter, of_some}, proofs.Rising.all_weaker, proofs.Sums.{sum_by-same, sum_by-times, sum_by-zero}}
 use Rattle.coincidence.{specs.declared.pairing.Bin.Bin, specs.declared.pairing.Direction.Direction, specs.declared.pairing.Direction.TheVariants.{Forward, Backward}, specs.Pairs.{in_first, in_second, is_in_cell, is_coincidence, coincidences}, specs.Pairing.{pairs_of_all, pairs_with, bin_pairs, RingIs, CellsAre, CanKeep, CanShut}, specs.Closing.Reaches, proofs.Hits.{pairs_in, hits-append, pairs_in-one, pairs_in-le}, proofs.Mirror.pairs_apart-in, proofs.Visits.pairs_far}
 
-scaled : (b : Bool) (n w : ℕ) → cond b (n * w) 0 ≡ cond b n 0 * w
-scaled b n w = search (rules, arith)
+scaled : (test : Entry → Bool) (f : Entry → ℕ) (w : ℕ) (es : List Entry) → sum_by (λ e. cond (test e) (f e * w) 0) es ≡ sum_by (λ e. cond (test e) (f e) 0) es * w
+scaled test f w es = sum_by-same _ (λ e. cond (test e) (f e) 0 * w) es (λ e. search (rules, arith)) ∙ sum_by-times (λ e. cond (test e) (f e) 0) w es
 
 -- the pairs with the entries of a list, by their weights
 by_weights : (set : CoincidenceView) (c : ℕ) (later : Entry) (es : List Entry) → pairs_with set c later es ≡ weight_where (λ e. e.a) (λ i. is_in_cell set c i later.index) es * later.b + weight_where (λ e. e.b) (λ i. is_in_cell set c later.index i) es * later.a
 by_weights set c later es =
-    let forward : Entry → ℕ = λ e. cond (is_in_cell set c e.index later.index) (e.a * later.b) 0 in
-    let backward : Entry → ℕ = λ e. cond (is_in_cell set c later.index e.index) (e.b * later.a) 0 in
-    let firsts : Entry → ℕ = λ e. cond (is_in_cell set c e.index later.index) e.a 0 in
-    let seconds : Entry → ℕ = λ e. cond (is_in_cell set c later.index e.index) e.b 0 in
-    let one : sum_by forward es ≡ sum_by firsts es * later.b =
-    sum_by-same forward (λ e. firsts e * later.b) es (λ e. scaled (is_in_cell set c e.index later.index) e.a later.b) ∙ sum_by-times firsts later.b es in
-    let other : sum_by backward es ≡ sum_by seconds es * later.a =
-    sum_by-same backward (λ e. seconds e * later.a) es (λ e. scaled (is_in_cell set c later.index e.index) e.b later.a) ∙ sum_by-times seconds later.a es in
-    rw (one, other) refl
-
-forward_near : (set : CoincidenceView) (c i n : ℕ) → is_in_cell set c i n ≡ true → n ≤ i + set.reach
-forward_near set c i n is = grind (arith, common_steps, is)
-
-backward_near : (set : CoincidenceView) (c i n : ℕ) → is_in_cell set c n i ≡ true → n ≤ i + set.reach
-backward_near set c i n is = grind (arith, common_steps, is)
+    omega (arith, scaled (λ e. is_in_cell set c e.index later.index) (λ e. e.a) later.b es, scaled (λ e. is_in_cell set c later.index e.index) (λ e. e.b) later.a es)
 
 same_tick : (set : CoincidenceView) (c n : ℕ) → is_in_cell set c n n ≡ eqb (set.reach / set.width) c
 same_tick set c n = search (rules, arith)
@@ -50,8 +36,8 @@ module _ (set : CoincidenceView) (r : Ring) (bin : Bin) (closed xs : History) (c
   pub grown : (c : ℕ) → coincidences set c (closed ++ xs) ≡ coincidences set c closed + bin_pairs set c bin r.entries
   grown c =
       let n : ℕ = bin.weights.index in
-      let firsts = can.were.keeps.firsts (λ i. is_in_cell set c i n) (window (λ i. is_in_cell set c i n) (λ i. forward_near set c i n)) in
-      let seconds = can.were.keeps.seconds (λ i. is_in_cell set c n i) (window (λ i. is_in_cell set c n i) (λ i. backward_near set c i n)) in
+      let firsts = can.were.keeps.firsts (λ i. is_in_cell set c i n) (window (λ i. is_in_cell set c i n) (λ i is. grind (arith, common_steps, is))) in
+      let seconds = can.were.keeps.seconds (λ i. is_in_cell set c n i) (window (λ i. is_in_cell set c n i) (λ i is. grind (arith, common_steps, is))) in
       let more = hits-append (in_first set) (in_second set) (λ x. x.0.time) (is_in_cell set c) n closed xs can.is.weighs.here in
       pairs_apart-in (is_coincidence set c) (closed ++ xs) ∙ more ∙ rw (pairs_apart-in (is_coincidence set c) closed, by_weights set c bin.weights r.entries, firsts, seconds, inside, can.is.weighs.a, can.is.weighs.b, same_tick set c n) (omega arith)
 
@@ -73,23 +59,23 @@ module _ (set : CoincidenceView) (r : Ring) (bin : Bin) (closed xs : History) (c
       some : 0 < r.reach
       some = omega (arith, room, can.were.reach)
 
-  -- the ring has room for the bin, and keeps it, once what is further back than the reach is gone
-  module _ (some : 0 < set.reach) (es : List Entry)
-      (kept : es ≡ filter (λ f. leb (bin.weights.index - (set.reach - 1)) f.index) r.entries) (rising : IsRising es) where
-    some_reach : 0 < r.reach
-    some_reach = omega (arith, some, can.were.reach)
+  -- a ring that let go what is further back than the reach has room for the bin, and keeps it
+  module _ (some : 0 < set.reach) (left : Ring)
+      (kept : left ≡ ring (filter (λ f. leb (bin.weights.index - (set.reach - 1)) f.index) r.entries) r.reach) (rising : IsRising left.entries) where
+    pub before_left : AllByRecursion (λ e. e.index < bin.weights.index) left.entries
+    before_left = rw kept (all_filter (λ e. e.index < bin.weights.index) (λ f. leb (bin.weights.index - (set.reach - 1)) f.index) r.entries before)
 
-    kept_by_ring : es ≡ filter (λ f. leb (bin.weights.index - (r.reach - 1)) f.index) r.entries
-    kept_by_ring = rw can.were.reach kept
+    kept_by_ring : left.entries ≡ filter (λ f. leb (bin.weights.index - (r.reach - 1)) f.index) r.entries
+    kept_by_ring = rw can.were.reach (ap (λ (it : Ring). it.entries) kept)
 
-    room : length es + 1 ≤ r.reach
-    room = room_after (in_first set) (in_second set) (λ x. x.0.time) r bin.weights closed some_reach can.were.keeps can.after es kept_by_ring rising
+    pub room_left : length left.entries + 1 ≤ r.reach
+    room_left = room_after (in_first set) (in_second set) (λ x. x.0.time) r bin.weights closed (omega (arith, some, can.were.reach)) can.were.keeps can.after left.entries kept_by_ring rising
 
-    pub room_shut : length es + 1 ≤ set.reach
-    room_shut = omega (arith, room, can.were.reach)
-
-    pub ring_shut : RingIs set (ring (es ++ bin.weights ∷ []) r.reach) (closed ++ xs)
-    ring_shut = search (rules, arith, kept_after, some_reach, kept_by_ring, room)
+    pub ring_shut : RingIs set (ring (left.entries ++ bin.weights ∷ []) left.reach) (closed ++ xs)
+    ring_shut = rw (ap (λ (it : Ring). it.reach) kept) (record {
+      reach = can.were.reach;
+      keeps = kept_after (in_first set) (in_second set) (λ x. x.0.time) r bin.weights closed (omega (arith, some, can.were.reach)) can.were.keeps can.after xs can.is.weighs left.entries kept_by_ring room_left;
+    })
 
   module _ (far : AllByRecursion (λ e. e.index + set.reach < bin.weights.index) r.entries) where
     none_far : (d : Direction) (later c : ℕ) → pairs_of_all d set c bin.weights.index later r.entries ≡ 0
@@ -102,8 +88,8 @@ module _ (set : CoincidenceView) (r : Ring) (bin : Bin) (closed xs : History) (c
     -- and the ring has the bin alone then
     pub ring_alone : 0 < set.reach → RingIs set (ring (bin.weights ∷ []) r.reach) (closed ++ xs)
     ring_alone some =
-        let none : filter (λ f. leb (bin.weights.index - (set.reach - 1)) f.index) r.entries ≡ [] = filter_none (λ f. leb (bin.weights.index - (set.reach - 1)) f.index) r.entries (all_weaker (λ f. f.index + set.reach < bin.weights.index) (λ f. leb (bin.weights.index - (set.reach - 1)) f.index ≡ false) (λ f under. grind arith) r.entries far) in
-        ring_shut some [] (sym none) tt
+        let none : filter (λ f. leb (bin.weights.index - (set.reach - 1)) f.index) r.entries ≡ [] = search (rules, arith, filter_none, all_weaker) in
+        ring_shut some (ring [] r.reach) (rw none refl) tt
 
 -- a ring keeps the bins in reach, once those are gone that nothing after a tick reaches, where photons came from there on
 pub ring_left : (set : CoincidenceView) (r : Ring) (closed : History) (index : ℕ) → 0 < set.reach → Reaches index closed → RingIs set r closed
@@ -128,8 +114,7 @@ module _ (set : CoincidenceView) (r : Ring) (old : Cells) (bin : Bin) (closed xs
   cells_shut cells step same added = record {
     count = same ∙ can.had.count;
     pairs = λ c in_range. omega (arith, step c in_range, can.had.pairs c in_range, grown set r bin closed xs can.keep c);
-    work = rw (length-append closed xs) (more_work set.reach (length closed) (length xs) cells.added can.keep.is.weighs.some
-        (omega (arith, added, can.had.work, entries_within set r bin closed xs can.keep)));
+    work = search (rules, arith, length-append, more_work, entries_within);
   }
 
   -- where no entry is in reach, they count those inside the bin

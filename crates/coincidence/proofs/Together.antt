@@ -1,8 +1,8 @@
 -- Bins that are closed one after another, or together.
-use Rattle.std.{proofs.Common.{◌≡◌, ◌∙◌, ℕ, ◌+◌, ◌<◌, List, [], ◌∷◌, ◌++◌, length, get_or, drop, sym, ap, arith, add-one, drop-cons, append_assoc, length-append, Bool, true, false, ◌&&◌, ◌||◌, append-nil, nat_lt, Option, rules, ◌-◌, ◌*◌, ◌^◌, ◌≤◌, leb, cond, refl}, specs.List.{sum_by, range_with_len, filter, AllByRecursion}, proofs.lemmas.Grind.common_steps, proofs.Math.Nat.mul-le-mul_right, proofs.lemmas.List.Sums.{sum_by-cons, sum_by_push}}
-use Rattle.tally_base.{specs.Settings.{CoincidenceView, coincidence_cells}, specs.Tally.History, specs.Events.{is_photon, is_in}, specs.declared.block.Block.Block, specs.Columns.{rows, item, event_at, code_at, groups_at, time_at, gathered, events_in}, proofs.Floors.moves_row, proofs.BlockRows.length-rows, specs.Limits.record_limit}
+use Rattle.std.{proofs.Common.{◌≡◌, ◌∙◌, ℕ, ◌+◌, ◌<◌, List, [], ◌∷◌, ◌++◌, length, get_or, drop, sym, ap, arith, add-one, drop-cons, append_assoc, length-append, Bool, append-nil, Option, rules, ◌-◌, ◌*◌, ◌^◌, ◌≤◌, leb, cond, refl}, specs.List.{sum_by, range_with_len, filter, AllByRecursion}, proofs.lemmas.Grind.common_steps, proofs.Math.Nat.mul-le-mul_right, proofs.lemmas.List.Sums.{sum_by-cons, sum_by_push}}
+use Rattle.tally_base.{specs.Settings.{CoincidenceView, coincidence_cells}, specs.Tally.History, specs.declared.block.Block.Block, specs.Columns.{gathered, events_in}, proofs.BlockRows.length-rows, specs.Limits.record_limit}
 use Rattle.lag_ring.{specs.declared.ring.Entry.Entry, specs.Cells.Cells, specs.Ring.{Ring, ring, IsRising}, proofs.Lists.{all_front, all_back, all_filter, of_some}, proofs.Rising.rising_push, proofs.Sums.{sum_by-same, sum_by-filter}}
-use Rattle.coincidence.{specs.declared.pairing.Bin.Bin, specs.declared.pairing.Direction.TheVariants.{Forward, Backward}, specs.Pairing.{bin_pairs, RingIs, CellsAre, CanKeep, CanShut, bin_of, OpenIs, pairs_of, pairs_of_all}, specs.Closing.{weights_in, all_pairs, lag_pairs, BinsAre, CanKeepAll, CanShutAll, Gathered, CanGather}, proofs.LagPairs.{lags_in_turn, in_turn}, specs.declared.pairing.Pairing.Pairing, specs.Pairs.{photons_of_groups, coincidences}, specs.StandsFor.CanTake, proofs.Blocks.in_group, proofs.Blockwise.{found_photon, photons-same, one_more, row_after, one_photon, none_after, few_photons, photons-push}, specs.declared.pairing.Direction.Direction, proofs.Mirror.pairs_apart-in, proofs.Hits.pairs_in-le, proofs.Shut.{grown, ring_shut}, proofs.Visits.pairs_far}
+use Rattle.coincidence.{specs.declared.pairing.Bin.Bin, specs.declared.pairing.Direction.TheVariants.{Forward, Backward}, specs.Pairing.{bin_pairs, RingIs, CellsAre, CanKeep, CanShut, OpenIs, pairs_of, pairs_of_all}, specs.Closing.{weights_in, all_pairs, lag_pairs, BinsAre, CanKeepAll, CanShutAll, Gathered}, proofs.LagPairs.{lags_in_turn, in_turn}, specs.declared.pairing.Pairing.Pairing, specs.Pairs.{photons_of_groups, coincidences}, specs.StandsFor.CanTake, proofs.Blockwise.few_photons, specs.declared.pairing.Direction.Direction, proofs.Mirror.pairs_apart-in, proofs.Hits.pairs_in-le, proofs.Shut.{grown, before_left, ring_shut}, proofs.Visits.pairs_far}
 
 -- Bins that are closed together bring what they bring one by one.
 
@@ -37,21 +37,16 @@ module _ (set : CoincidenceView) where
       → (c : ℕ) → coincidences set c (closed ++ xs) ≡ coincidences set c closed + all_pairs set c es bins
   chain_grown [] r closed xs from es some rising were are behind alike c = rw (are, append-nil closed) (omega arith)
   chain_grown (bin ∷ bins) r closed xs from es some rising were are behind alike c =
-      let here = are.0 in
-      let rest = are.1 in
-      let can : CanKeep set r bin closed here = record { is = are.3; after = are.4; were = were } in
-      let stays : Entry → Bool = λ f. leb (bin.weights.index - (set.reach - 1)) f.index in
-      let left : IsRising (filter stays r.entries) = rising_filter stays r.entries rising in
-      let now : RingIs set (ring (filter stays r.entries ++ bin.weights ∷ []) r.reach) (closed ++ here) =
-      ring_shut set r bin closed here can some (filter stays r.entries) refl left in
-      let below : AllByRecursion (λ e. e.index < bin.weights.index) (filter stays r.entries) =
-      all_filter (λ e. e.index < bin.weights.index) stays r.entries (were.keeps.bounded bin.weights.index are.4) in
-      let later = chain_grown bins (ring (filter stays r.entries ++ bin.weights ∷ []) r.reach) (closed ++ here) rest (bin.weights.index + 1) (es ++ bin.weights ∷ []) some (rising_push (filter stays r.entries) bin.weights left below) now are.5
+      let can : CanKeep set r bin closed are.0 = record { is = are.3; after = are.4; were = were } in
+      let left : Ring = ring (filter (λ f. leb (bin.weights.index - (set.reach - 1)) f.index) r.entries) r.reach in
+      let up : IsRising left.entries = rising_filter (λ f. leb (bin.weights.index - (set.reach - 1)) f.index) r.entries rising in
+      let later = chain_grown bins (ring (left.entries ++ bin.weights ∷ []) r.reach) (closed ++ are.0) are.1 (bin.weights.index + 1) (es ++ bin.weights ∷ []) some
+      (rising_push left.entries bin.weights up (before_left set r bin closed are.0 can some left refl up)) (ring_shut set r bin closed are.0 can some left refl up) are.5
       (λ m all. let under : bin.weights.index < m = of_some (λ x. x.0.time) bin.weights.index
-      (λ k. k < m) here are.3.weighs.some are.3.weighs.here (all_back (λ x. x.0.time < m) closed here all) in omega arith)
+      (λ k. k < m) are.0 are.3.weighs.some are.3.weighs.here (all_back (λ x. x.0.time < m) closed are.0 all) in omega arith)
       (alike_next from es r.entries bin.weights some (behind bin.weights.index are.4) alike) c in
-      rw (are.2, ← append_assoc closed here rest)
-      (omega (arith, later, grown set r bin closed here can c, alike_bin from c es r.entries bin (behind bin.weights.index are.4) alike))
+      rw (are.2, ← append_assoc closed are.0 are.1)
+      (omega (arith, later, grown set r bin closed are.0 can c, alike_bin from c es r.entries bin (behind bin.weights.index are.4) alike))
 
   pub few_bins : (bins : List Bin) (closed xs : History) → BinsAre set bins closed xs → length bins ≤ length xs
   few_bins [] closed xs are = omega arith
@@ -100,14 +95,16 @@ module _ (set : CoincidenceView) where
 
 -- Bins that are closed one after another, or together.
 
-module _ (set : CoincidenceView) (r : Ring) (bins : List Bin) (i : ℕ) (d : Bin) (closed rest : History) (inside : i < length bins) where
-  cons : drop i bins ≡ get_or bins i d ∷ drop (i + 1) bins
-  cons = rw (add-one, drop-cons bins i d)
+few_in : (closed rest here after : History) → rest ≡ here ++ after → length closed + length rest ≤ record_limit
+    → (length closed + length here ≤ record_limit) × (length (closed ++ here) + length after ≤ record_limit)
+few_in closed rest here after is few = search (rules, arith, length-append)
 
+module _ (set : CoincidenceView) (r : Ring) (bins : List Bin) (i : ℕ) (d : Bin) (closed rest : History) (inside : i < length bins) where
   -- the next bin may be kept, and then the others
   pub next_keep : CanKeepAll set r (drop i bins) closed rest → (here : History) × (after : History) × (rest ≡ here ++ after) × CanKeep set r (get_or bins i d) closed here × ((r' : Ring) → RingIs set r' (closed ++ here) → CanKeepAll set r' (drop (i + 1) bins) (closed ++ here) after)
   next_keep can =
-      let are : BinsAre set (get_or bins i d ∷ drop (i + 1) bins) closed rest = rw cons at can.are in
+      let cons : drop i bins ≡ get_or bins i d ∷ drop (i + 1) bins = rw (add-one, drop-cons bins i d) in
+      let are = rw cons at can.are in
       (are.0, are.1, are.2, record { is = are.3; after = are.4; were = can.were }, λ r' is. record { are = are.5; were = is })
 
   -- the next bin may be paired, and then the others
@@ -115,13 +112,8 @@ module _ (set : CoincidenceView) (r : Ring) (bins : List Bin) (i : ℕ) (d : Bin
       → (here : History) × (after : History) × (rest ≡ here ++ after) × CanShut set r old (get_or bins i d) closed here × ((r' : Ring) (now : Cells) → RingIs set r' (closed ++ here) → CellsAre set now (closed ++ here) → CanShutAll set r' now (drop (i + 1) bins) (closed ++ here) after)
   next_shut old can =
       let next = next_keep can.keep in
-      let all : length rest ≡ length next.0 + length next.1 = ap length next.2 ∙ length-append next.0 next.1 in (
-        next.0,
-        next.1,
-        next.2,
-        record { few = omega (arith, all, can.few); keep = next.3; had = can.had },
-        λ r' now is had. record { few = omega (arith, all, can.few, length-append closed next.0); keep = next.4 r' is; had = had },
-      )
+      let few = few_in closed rest next.0 next.1 next.2 can.few in
+      (next.0, next.1, next.2, record { few = few.0; keep = next.3; had = can.had }, λ r' now is had. record { few = few.1; keep = next.4 r' is; had = had })
 
 -- bins are those of a part and behind them the others
 split_are : (set : CoincidenceView) (part rest : List Bin) (closed xs : History) → BinsAre set (part ++ rest) closed xs
@@ -143,12 +135,12 @@ pub part_shut : (set : CoincidenceView) (r : Ring) (old : Cells) (bins part rest
 part_shut set r old bins part rest closed xs is can =
     let are : BinsAre set (part ++ rest) closed xs = rw is at can.keep.are in
     let next = split_are set part rest closed xs are in
-    let all : length xs ≡ length next.0 + length next.1 = ap length next.2 ∙ length-append next.0 next.1 in (
+    let few = few_in closed xs next.0 next.1 next.2 can.few in (
       next.0,
       next.1,
       next.2,
-      record { few = omega (arith, all, can.few); keep = record { are = next.3; were = can.keep.were }; had = can.had },
-      λ r' now is had. record { few = omega (arith, all, can.few, length-append closed next.0); keep = record { are = next.4; were = is }; had = had },
+      record { few = few.0; keep = record { are = next.3; were = can.keep.were }; had = can.had },
+      λ r' now is had. record { few = few.1; keep = record { are = next.4; were = is }; had = had },
     )
 
 -- the pairs of bins that are closed together: both directions, and those inside the bins
@@ -165,39 +157,6 @@ pub three_runs : (xs done here after : History) (rest : History) → xs ≡ done
 three_runs xs done here after rest is also = is ∙ ap (λ ys. done ++ ys) also ∙ sym (append_assoc done here after)
 
 -- The events of a block whose bins are gathered.
-
--- where no group is found, an event brings no photon
-pub gathered_same : (set : CoincidenceView) (last : Option Bin) (bins : List Bin) (closed : History) {N : ℕ} (b : Block N) (h : History) (at : ℕ) (found other : Bool) → found ≡ (is_in (groups_at b at) set.first && nat_lt (code_at b at) 256) → other ≡ (is_in (groups_at b at) set.second && nat_lt (code_at b at) 256) → (found || other) ≡ false
-    → Gathered set last bins closed (photons_of_groups set (h ++ rows (item b) at))
-    → Gathered set last bins closed (photons_of_groups set (h ++ rows (item b) (at + 1)))
-gathered_same set last bins closed b h at found other is also neither was = rw (one_more b h at, photons-same set b (h ++ rows (item b) at) at found other is also neither) was
-
-module _ (set : CoincidenceView) (p : Pairing) {N : ℕ} (b : Block N) (h : History) (at : ℕ) (inside : at < b.len) (can : CanTake set p (gathered b) h) (last : Option Bin) (bins : List Bin) (closed : History) (was : Gathered set last bins closed (photons_of_groups set (h ++ rows (item b) at))) (found other : Bool) (is : found ≡ (is_in (groups_at b at) set.first && nat_lt (code_at b at) 256)) (also : other ≡ (is_in (groups_at b at) set.second && nat_lt (code_at b at) 256)) (either : (found || other) ≡ true) where
-  seen : nat_lt (code_at b at) 256 ≡ true
-  seen = found_photon (is_in (groups_at b at) set.first) (is_in (groups_at b at) set.second) (nat_lt (code_at b at) 256) found other is also either
-
-  photon : is_photon (event_at b at) ≡ true
-  photon = moves_row false b at ∙ seen
-
-  first : is_in (groups_at b at) set.first ≡ found
-  first = in_group (is_in (groups_at b at) set.first) (nat_lt (code_at b at) 256) found seen is
-
-  second : is_in (groups_at b at) set.second ≡ other
-  second = in_group (is_in (groups_at b at) set.second) (nat_lt (code_at b at) 256) other seen also
-
-  -- a photon of either group may come
-  pub gather_row : (bin : Bin) (time : ℕ) → time ≡ time_at b at → bin ≡ bin_of time found other
-      → CanGather set last bins bin closed (photons_of_groups set (h ++ rows (item b) at)) (item b at ∷ [])
-  gather_row bin time at_time is_bin = rw (is_bin, at_time, ← first, ← second) (record {
-    few = omega (arith, can.few, inside, few_photons set (h ++ rows (item b) at), length-append h (rows (item b) at), length-rows (item b) at, length-rows (event_at b) b.len);
-    was = was;
-    is = one_photon set (event_at b at) (groups_at b at) photon;
-    after = none_after set (h ++ rows (item b) at) (time_at b at) (row_after set p b h at inside can photon);
-  })
-
-  -- and is then among those that came
-  pub gathered_more : (now : Option Bin) (more : List Bin) → Gathered set now more closed (photons_of_groups set (h ++ rows (item b) at) ++ item b at ∷ []) → Gathered set now more closed (photons_of_groups set (h ++ rows (item b) (at + 1)))
-  gathered_more now more then = rw (one_more b h at, photons-push set (h ++ rows (item b) at) (item b at) photon (rw (first, second) either)) then
 
 -- nothing is gathered yet
 pub gathered_none : (set : CoincidenceView) (last : Option Bin) (bins : List Bin) (closed open' came : History)

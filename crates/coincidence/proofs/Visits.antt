@@ -1,7 +1,7 @@
 -- One entry more in the loops over a ring.
 use Rattle.tally_base.{specs.Settings.CoincidenceView, specs.Tally.History, specs.Limits.record_limit}
 use Rattle.lag_ring.{specs.declared.ring.Entry.Entry, proofs.Rising.all_weaker, proofs.Lists.{all_back, all_join, of_some}}
-use Rattle.coincidence.{specs.declared.pairing.Direction.Direction, specs.declared.pairing.Direction.TheVariants.{Forward, Backward}, specs.Pairs.is_in_cell, specs.Pairing.{shifted_by, earlier_weight, pairs_of, pairs_of_all, joined, BinIs, PairingIs, CanShut, CanPut, CanEnd, Came}, specs.declared.pairing.Pairing.Pairing, specs.StandsFor.HasPhotons, specs.declared.pairing.Bin.Bin}
+use Rattle.coincidence.{specs.declared.pairing.Direction.Direction, specs.Pairs.is_in_cell, specs.Pairing.{shifted_by, earlier_weight, pairs_of, pairs_of_all, joined, BinIs, PairingIs, CanShut, CanPut, CanEnd, Came}, specs.declared.pairing.Pairing.Pairing, specs.StandsFor.HasPhotons, specs.declared.pairing.Bin.Bin}
 use Rattle.std.{proofs.Common.{◌≡◌, ℕ, ◌+◌, ◌-◌, ◌*◌, ◌/◌, ◌<◌, ◌≤◌, eqb, cond, List, [], ◌∷◌, refl, arith, rules, ◌≢◌, Some, ◌++◌, length, sym, length-append, append_assoc, Bool, true, false}, proofs.lemmas.Grind.common_steps, proofs.lemmas.List.Sums.{sum_by-cons, sum_by-append}, specs.List.AllByRecursion, proofs.Math.Nat.mul-le-mul_left}
 
 module _ (set : CoincidenceView) (index : ℕ) (earlier : Entry) (after : earlier.index < index) (near : index - earlier.index ≤ set.reach) where
@@ -21,12 +21,9 @@ pub pairs_far : (set : CoincidenceView) (index : ℕ) (earlier : Entry) → set.
     → (d : Direction) (later c : ℕ) → pairs_of d set c index later earlier ≡ 0
 pairs_far set index earlier far d later c = search (rules, arith)
 
-div-mono-le : (k m n : ℕ) → m ≤ n → m / k ≤ n / k
-div-mono-le k m n upto = grind (arith, common_steps)
-
 -- a difference in reach has a cell
 pub shifted_inside : (d : Direction) (reach apart width : ℕ) → 0 < width → apart ≤ reach → shifted_by d reach apart / width < 2 * reach / width + 1
-shifted_inside d reach apart width some near = search (rules, arith, div-mono-le)
+shifted_inside d reach apart width some near = search (rules, arith)
 
 pub one_fits : (x p most k : ℕ) → x + cond (eqb k k) p 0 ≤ most → x + p ≤ most
 one_fits x p most k fits = grind (arith, common_steps, fits)
@@ -34,8 +31,7 @@ one_fits x p most k fits = grind (arith, common_steps, fits)
 -- no photons of the later tick, no pairs
 pub no_pairs : (d : Direction) (set : CoincidenceView) (c index later : ℕ) → later ≡ 0 → (es : List Entry) → pairs_of_all d set c index later es ≡ 0
 no_pairs d set c index later none [] = refl
-no_pairs Forward set c index later none (e ∷ es) = search (rules, arith, sum_by-cons, no_pairs Forward set c index later none es)
-no_pairs Backward set c index later none (e ∷ es) = search (rules, arith, sum_by-cons, no_pairs Backward set c index later none es)
+no_pairs d set c index later none (e ∷ es) = search (rules, arith, sum_by-cons, no_pairs d set c index later none es)
 
 -- The additions of a table are within its work.
 

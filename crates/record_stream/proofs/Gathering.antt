@@ -1,21 +1,14 @@
 -- One word more in a block.
-use Rattle.std.{proofs.Common.{rules, ◌≡◌, ◌+◌, ◌*◌, ◌<◌, ◌≤◌, ℕ, List, [], ◌∷◌, ◌++◌, Bool, true, false, length, map, get_or, refl, sym, ap, ◌∙◌, add-zero, append-nil, append_assoc, arith, ◌&&◌, nat_le, count_by, nat_lt, ◌==◌, if◌then◌else◌, ◌^◌, take, length-take-le, subst, zero, suc, All, length-append, ◌⊎◌, ⊎_elim, not, IsTrue, max}, specs.Int.{from_le_bytes, w32}, proofs.lemmas.Bool.{cases_Bool, cases_lt, leb-true}, proofs.lemmas.List.Sums.{get_or-le-sum_by, sum_by-cons}, proofs.lemmas.List.Elements.{filter-append, All-from_recursion}, proofs.lemmas.List.{map_push, map-append, get_or_append_left}, specs.List.AllByRecursion, proofs.lemmas.Grind.get_or_at_push}
-use Rattle.tally_base.{specs.declared.event.Event.Event, specs.declared.header.Mode.Mode, specs.Events.{stops_reserved, is_ordered}, specs.Limits.wrap_limit, specs.Columns.{event_by, rows}, specs.Tally.{moves_floor, floor_after, InOrder}, proofs.BlockRows.more_rows, proofs.Floors.floor-more}
-use Rattle.ptu_definitions.{specs.declared.records.Raw.Raw, specs.Kinds.is_reserved, specs.Times.{event_of, amount}, specs.Layouts.Fits, specs.Words.numbers, specs.Streams.StreamSettings, specs.declared.records.Raw.TheVariants.{Wrap, Reserved}, specs.Settled.ordered, proofs.WordsLemmas.meaning-fits, specs.Kept.{Marked, floor_of}}
-use Rattle.abs_time.{specs.Placing.{base_of, placed_by, IsClock, LeadsOn, mode_of}, specs.Floors.orders_markers, proofs.Floors.{moves_by, moved_floor-push}}
+use Rattle.std.{proofs.Common.{rules, ◌≡◌, ◌+◌, ◌*◌, ◌<◌, ◌≤◌, ℕ, List, [], ◌∷◌, ◌++◌, Bool, true, false, length, map, get_or, refl, sym, ap, ◌∙◌, add-zero, append-nil, append_assoc, arith, ◌&&◌, nat_le, count_by, nat_lt, if◌then◌else◌, ◌^◌, take, length-take-le, subst, All, not, IsTrue, max}, specs.Int.{from_le_bytes, w32}, proofs.lemmas.Bool.{cases_Bool, cases_lt, leb-true}, proofs.lemmas.List.Sums.{get_or-le-sum_by, sum_by-cons}, proofs.lemmas.List.Elements.{filter-append}, proofs.lemmas.List.{map_push, map-append}, proofs.Math.Seq.get_or-append_seam}
+use Rattle.tally_base.{specs.declared.event.Event.Event, specs.declared.header.Mode.Mode, specs.Events.{stops_reserved, is_ordered}, specs.Limits.wrap_limit, specs.Columns.{event_by, rows}, specs.Tally.{moves_floor, floor_after, InOrder}, proofs.BlockRows.{length-rows, more_rows, rows-split}, proofs.Floors.floor-more}
+use Rattle.ptu_definitions.{specs.declared.records.Raw.Raw, specs.Kinds.is_reserved, specs.Times.{event_of, amount}, specs.Layouts.Fits, specs.Words.numbers, specs.Streams.StreamSettings, proofs.WordsLemmas.meaning-fits, specs.Kept.{Marked, floor_of}}
+use Rattle.abs_time.{specs.Placing.{base_of, placed_by, IsClock, LeadsOn}, specs.Floors.orders_markers, proofs.Floors.{moves_by, moved_floor-push}}
 use Rattle.record_layout.{specs.declared.row.Row.Row, specs.Rowed.raw_of, specs.InColumns.IsRow}
-use Rattle.record_stream.{specs.Blocks.{chosen, Adds, IsInLine, greatest_with, IsOnTime, on_time}, specs.Rows.{ordered_below, greatest_with_row, gathered_below, event_below}, specs.Walking.{how_of, greatest_of, clock_in, AddsBehind, Gathers, LetsPass}, specs.declared.walk.Walk.Walk, proofs.Steps.{adds-push, clock-push, in_line-push, places-push}, proofs.Wraps.{more_at, amount-small}}
+use Rattle.record_stream.{specs.Blocks.{chosen, Adds, IsInLine, greatest_with, IsOnTime, on_time}, specs.Rows.{ordered_below, greatest_with_row, gathered_below, event_below}, specs.Walking.{how_of, greatest_of, clock_in, AddsBehind, Gathers, LetsPass}, specs.declared.walk.Walk.Walk, proofs.Steps.{adds-push, clock-push, in_line-push, places-push}, proofs.Wraps.{numbers-more, amount-small}}
 
 -- The event of a record, by its code.
 
 module _ (place base unit : ℕ) (row : Row) where
-  skipped : (raw : Raw) → ◌≡◌ {A = List Event} (event_of place base (if row.code == 512 then Wrap (unit * row.wraps) else Reserved)) []
-  skipped raw = by_case (row.code == 512)
-    where
-      by_case : (b : _) → ◌≡◌ {A = List Event} (event_of place base (if b then Wrap (unit * row.wraps) else Reserved)) []
-      by_case true = refl
-      by_case false = refl
-
   -- the event in its row, if it is one
   pub event-row : event_of place base (raw_of unit row) ≡ (if nat_lt row.code 512 then event_by place row.code row.dtime (base + row.time) ∷ [] else [])
   event-row = search (rules, arith, cases_lt)
@@ -24,19 +17,16 @@ module _ (place base unit : ℕ) (row : Row) where
   pub greatest-row : (mode : Mode) (top : ℕ) → greatest_with mode top (event_of place base (raw_of unit row)) ≡ greatest_with_row (ordered_below mode) top base row
   greatest-row mode top = search (rules, arith, event-row, cases_lt)
 
-  -- those in order alone
-  ordered-row : (mode : Mode) → ordered mode (event_of place base (raw_of unit row)) ≡ event_below (ordered_below mode) place base row
-  ordered-row mode = search (rules, arith, event-row, cases_lt)
-
+  -- the event that is gathered: any, or only one in order
   pub chosen-row : (only : Bool) (mode : Mode) → event_below (gathered_below only mode) place base row ≡ chosen only mode (event_of place base (raw_of unit row))
-  chosen-row only mode = search (rules, arith, event-row, ordered-row)
+  chosen-row only mode = search (rules, arith, event-row, cases_lt)
 
   -- It is not late where the greatest time does not fall.
   pub on_time-row : (mode : Mode) (top : ℕ) → nat_le top (greatest_with_row (ordered_below mode) top base row) ≡ true
       → IsOnTime mode top (event_of place base (raw_of unit row))
   on_time-row mode top on = search (rules, arith, event-row, leb-true, cases_lt)
 
--- One word more in a block.
+-- What words mean, and one row more.
 
 -- counting by a test of what words mean, over their bytes
 count_by-meanings : (p : Raw → Bool) (meaning : ℕ → Raw) (words : List (List ℕ))
@@ -59,9 +49,7 @@ pub none-reserved : (how : StreamSettings) (meaning : ℕ → Raw) (words : List
 none-reserved how meaning words i d w same lt is none = search (rules, arith, and_false, none-at, count_by-meanings)
 
 both : (a b : Bool) → (a && b) ≡ true → (a ≡ true) × (b ≡ true)
-both true true h = (refl, refl)
-both true false h = cc
-both false b h = cc
+both a b h = search (rules, arith)
 
 module _ (how : StreamSettings) (low base top base' top' n unit : ℕ) (in_order in_order' : Bool) (es es' : List Event) (row : Row)
     (base_is : base' ≡ base + unit * row.wraps) (top_is : top' ≡ greatest_with_row (ordered_below how.mode) top base row)
@@ -83,29 +71,22 @@ module _ (how : StreamSettings) (low base top base' top' n unit : ℕ) (in_order
       let on = on_time-row (n + 1) base unit row how.mode top (rw top_is at two.1) in
       let same : unit * row.wraps ≡ amount (raw_of unit row) = amounts ∙ ap amount (sym means) in
       let pushed = adds-push how n base top before ws w es (adds two.0) room (raw_of unit row) means (rw means go) (rw (← same) few) on in
-      let sum : base' ≡ base + amount (raw_of unit row) = base_is ∙ ap (λ k. base + k) same in
-      let greatest : top' ≡ greatest_with how.mode top (event_of (n + 1) base (raw_of unit row)) = top_is ∙ sym (greatest-row (n + 1) base unit row how.mode top) in
-      rw (counted, sum, greatest, events_are) pushed
+      rw (counted, base_is, same, top_is, ← greatest-row (n + 1) base unit row how.mode top, events_are) pushed
 
   pub leads-more : (next : ℕ) (records : List Raw) (ws : List ℕ) (w : ℕ) → next ≡ n + 1 → raw_of unit row ≡ how.meaning w → unit * row.wraps ≡ amount (how.meaning w) → (in_order ≡ true → IsClock how.mode n base top (records ++ map how.meaning ws))
       → in_order' ≡ true → IsClock how.mode next base' top' (records ++ map how.meaning (ws ++ w ∷ []))
   leads-more next records ws w counted means amounts clock sure =
       let two = both in_order (nat_le top top') (sym in_order_is ∙ sure) in
       let on = on_time-row (n + 1) base unit row how.mode top (rw top_is at two.1) in
-      let sum : base' ≡ base + amount (raw_of unit row) = base_is ∙ ap (λ k. base + k) (amounts ∙ ap amount (sym means)) in
-      let greatest : top' ≡ greatest_with how.mode top (event_of (n + 1) base (raw_of unit row)) = top_is ∙ sym (greatest-row (n + 1) base unit row how.mode top) in
       let pushed = clock-push how.mode n base top (records ++ map how.meaning ws) (raw_of unit row) (clock two.0) on in
-      let all : (records ++ map how.meaning ws) ++ raw_of unit row ∷ [] ≡ records ++ map how.meaning (ws ++ w ∷ []) =
-      append_assoc records (map how.meaning ws) (raw_of unit row ∷ []) ∙ ap (λ (r : Raw). records ++ (map how.meaning ws ++ r ∷ [])) means
-      ∙ ap (λ l. records ++ l) (sym (map_push how.meaning ws w)) in
-      rw (counted, sum, greatest, ← all) pushed
+      rw (counted, base_is, amounts, top_is, map_push how.meaning ws w) (rw (greatest-row (n + 1) base unit row how.mode top, means, append_assoc) at pushed)
 
 -- All events of a list, or those in order alone.
 pub chosen-append : (only : Bool) (mode : Mode) (xs ys : List Event) → chosen only mode (xs ++ ys) ≡ chosen only mode xs ++ chosen only mode ys
 chosen-append only mode xs ys = search (rules, arith, filter-append)
 
 -- nothing is gathered of no words
-pub gathers-none : (walk : Walk) (words : List (List ℕ)) (only : Bool) (sum greatest : ℕ) (es : List Event) → words ≡ [] → es ≡ [] → sum ≡ base_of (clock_in walk) → sum ≤ wrap_limit → greatest ≡ greatest_of walk → Gathers walk words only true sum greatest es
+pub gathers-none : (walk : Walk) (words : List (List ℕ)) (only : Bool) {in_order : Bool} (sum greatest : ℕ) (es : List Event) → words ≡ [] → es ≡ [] → sum ≡ base_of (clock_in walk) → sum ≤ wrap_limit → greatest ≡ greatest_of walk → Gathers walk words only in_order sum greatest es
 gathers-none walk words only sum greatest es no_words none sum_is low greatest_is = search (rules, arith, append-nil, add-zero)
 
 -- where all events are gathered
@@ -127,16 +108,12 @@ module _ (walk : Walk) (words : List (List ℕ)) (meaning : ℕ → Raw) (same :
   w : ℕ
   w = from_le_bytes w32 (get_or words i [])
 
-  amounts : unit * row.wraps ≡ amount ((how_of walk).meaning w)
+  now : IsRow (how_of walk).meaning unit row w
   unfolding w
-  amounts = is.amounts ∙ ap (λ (f : ℕ → Raw). amount (f w)) same
-
-  means : raw_of unit row ≡ (how_of walk).meaning w
-  unfolding w
-  means = is.raw ∙ ap (λ (f : ℕ → Raw). f w) same
+  now = rw (← same) is
 
   pub small : unit * row.wraps < 2 ^ 50
-  small = rw amounts (amount-small walk.record_type w)
+  small = rw now.amounts (amount-small walk.record_type w)
 
   -- one word more
   pub gathers-row : (in_order in_order' : Bool) (base base' top top' : ℕ) (es es' : List Event) → base + unit * row.wraps ≤ wrap_limit → base' ≡ base + unit * row.wraps
@@ -147,12 +124,10 @@ module _ (walk : Walk) (words : List (List ℕ)) (meaning : ℕ → Raw) (same :
   gathers-row in_order in_order' base base' top top' es es' few base_is top_is in_order_is es_are old =
       let how = how_of walk in
       let n = placed_by (clock_in walk) + i in
-      let below : base ≤ wrap_limit = omega (arith, few) in
       let more = event_of (n + 1) base (raw_of unit row) in
       let came = old.came ++ more in
       let chosen_is : es' ≡ chosen only how.mode came =
-      es_are ∙ ap (λ l. es ++ l) (chosen-row (n + 1) base unit row only how.mode)
-      ∙ ap (λ l. l ++ chosen only how.mode more) old.chosen ∙ sym (chosen-append only how.mode old.came more) in
+      rw (es_are, chosen-row (n + 1) base unit row only how.mode, old.chosen) (sym (chosen-append only how.mode old.came more)) in
       let count : length (take i words) ≡ i = length-take-le i words (omega (arith, lt)) in
       let next : length (take (i + 1) words) ≡ i + 1 = length-take-le (i + 1) words (omega (arith, lt)) in
       let room : n < how.policy.records = omega (arith, passes.room, walk.few_placed, lt) in
@@ -163,42 +138,35 @@ module _ (walk : Walk) (words : List (List ℕ)) (meaning : ℕ → Raw) (same :
         came = came;
         chosen = chosen_is;
         places = record { rises = places.rises; last = omega (arith, places.last, next) };
-        in_line = in_line-more how (greatest_of walk) base top base' top' n unit in_order in_order' old.came came row base_is top_is in_order_is refl w means
-            (meaning-fits walk.record_type w) below old.in_line;
+        in_line = in_line-more how (greatest_of walk) base top base' top' n unit in_order in_order' old.came came row base_is top_is in_order_is refl w now.raw
+            (meaning-fits walk.record_type w) (omega (arith, few)) old.in_line;
         leads = λ sure records h.
-            more_at (λ l. IsClock (mode_of (clock_in walk)) (placed_by (clock_in walk) + length (take (i + 1) words)) base' top' (records ++ map how.meaning l))
-            [] words i [] w lt refl
-            (subst (λ m. IsClock m (placed_by (clock_in walk) + length (take (i + 1) words)) base' top' (records ++ map how.meaning (numbers (take i words) ++ w ∷ []))) (sym walk.same_mode)
-            (leads-more how (greatest_of walk) base top base' top' n unit in_order in_order' old.came came row base_is top_is in_order_is refl
-            (placed_by (clock_in walk) + length (take (i + 1) words)) records (numbers (take i words)) w (omega (arith, next)) means amounts (λ o. subst (λ m. IsClock m n base top (records ++ map how.meaning (numbers (take i words)))) walk.same_mode (rw count at (old.leads o records h))) sure));
-        adds = λ sure before h.
-            more_at (λ l. Adds how (placed_by (clock_in walk) + length (take (i + 1) words)) base' top' before l came) before words i [] w lt refl
+            let so_far = λ (o : in_order ≡ true).
+            subst (λ m. IsClock m n base top (records ++ map how.meaning (numbers (take i words)))) walk.same_mode (rw count at (old.leads o records h)) in
+            let k = placed_by (clock_in walk) + length (take (i + 1) words) in
+            subst (λ m. IsClock m k base' top' (records ++ map how.meaning (numbers (take (i + 1) words)))) (sym walk.same_mode)
+            (rw (numbers-more words i [] lt) (leads-more how (greatest_of walk) base top base' top' n unit in_order in_order' old.came came row base_is top_is
+            in_order_is refl k records (numbers (take i words)) w (omega (arith, next)) now.raw now.amounts so_far sure));
+        adds = λ sure before h. rw (numbers-more words i [] lt, ← append_assoc)
             (adds-more how (greatest_of walk) base top base' top' n unit in_order in_order' old.came came row base_is top_is in_order_is refl
-            (placed_by (clock_in walk) + length (take (i + 1) words)) before (before ++ numbers (take i words)) w (omega (arith, next)) means amounts room few go (λ o. rw count at (old.adds o before h)) sure);
+            (placed_by (clock_in walk) + length (take (i + 1) words)) before (before ++ numbers (take i words)) w (omega (arith, next)) now.raw now.amounts
+            room few go (λ o. rw count at (old.adds o before h)) sure);
       }
 
 -- The events of a block, one by one.
 
-all-last : {X : Type 0} (P : X → Type 0) (xs : List X) (x : X) → All P (xs ++ x ∷ []) → P x
-all-last P xs x all = subst P (get_or_at_push xs x).1 (all (length xs) x (omega (arith, length-append xs (x ∷ []))))
-
-all-front : {X : Type 0} (P : X → Type 0) (xs : List X) (x : X) → All P (xs ++ x ∷ []) → All P xs
-all-front P xs x all = λ k d lt. subst P (get_or_append_left xs (x ∷ []) d k lt) (all k d (omega (arith, lt, length-append xs (x ∷ []))))
-
-pub last_or : (i n : ℕ) → i < suc n → (i ≡ n) ⊎ (i < n)
-last_or i n lt = grind (arith, lt)
+-- the rows around one of them
+pub rows-at : {X : Type 0} (f : ℕ → X) (n i : ℕ) → i < n → (back : List X) × (rows f n ≡ rows f i ++ f i ∷ back)
+rows-at f n i lt =
+    let split = rows-split f (i + 1) n (omega (arith, lt)) in
+    (split.0, split.1 ∙ ap (λ l. l ++ split.0) (more_rows f i) ∙ append_assoc (rows f i) (f i ∷ []) split.0)
 
 -- what holds of all rows holds of each
 pub all-rows : {X : Type 0} (P : X → Type 0) (f : ℕ → X) (n i : ℕ) → i < n → All P (rows f n) → P (f i)
-all-rows P f zero i lt all = absurd (omega (arith, lt))
-all-rows P f (suc n) i lt all =
-    ⊎_elim
-    (λ (is : i ≡ n). rw is (all-last P (rows f n) (f n) all))
-    (λ (below : i < n). all-rows P f n i below (all-front P (rows f n) (f n) all))
-    (last_or i n lt)
-
-pub each-rows : (P : Event → Type 0) (f : ℕ → Event) (n i : ℕ) → i < n → AllByRecursion P (rows f n) → P (f i)
-each-rows P f n i lt all = all-rows P f n i lt (All-from_recursion P (rows f n) all)
+all-rows P f n i lt all =
+    let at = rows-at f n i lt in
+    subst P (ap (λ l. get_or l i (f i)) at.1 ∙ ap (λ k. get_or (rows f i ++ f i ∷ at.0) k (f i)) (sym (length-rows f i))
+    ∙ get_or-append_seam (rows f i) (f i) at.0 (f i)) (all i (f i) (omega (arith, lt, length-rows f n)))
 
 pub on_time-rows : (l : Marked) (f : ℕ → Event) (i : ℕ) → (l ++ on_time (rows f i)) ++ (f i, false) ∷ [] ≡ l ++ on_time (rows f (i + 1))
 on_time-rows l f i = search (rules, arith, append_assoc, more_rows, map-append)
@@ -206,12 +174,9 @@ on_time-rows l f i = search (rules, arith, append_assoc, more_rows, map-append)
 pub not_late : (b : Bool) (x y : ℕ) → (if b && not false then x else y) ≡ (if b then x else y)
 not_late b x y = search (rules, arith)
 
-ordered-true : (b : Bool) → IsTrue (b && not false) → IsTrue b
-ordered-true b is = search (rules, arith)
-
 -- an event in order moves the floor
 pub ordered-moves : (mode : Mode) (e : Event) → IsTrue (is_ordered mode e && not false) → IsTrue (moves_floor (orders_markers mode) e)
-ordered-moves mode e is = rw (moves_by mode e) (ordered-true (is_ordered mode e) is)
+ordered-moves mode e is = search (rules, arith, moves_by)
 
 -- and so does one event more
 pub floor-step : (mode mode' : Mode) (low floor now : ℕ) (f : ℕ → Event) (i : ℕ) (e : Event)
@@ -224,9 +189,6 @@ pub floor_of-block : (mode : Mode) (l : Marked) (es : List Event) (first now : �
     → floor_after (orders_markers mode) now es ≡ max first (floor_of mode (l ++ on_time es))
 floor_of-block mode l [] first now is all = rw (append-nil l) is
 floor_of-block mode l (e ∷ es) first now is all =
-    let strict = orders_markers mode in
-    let next : (if moves_floor strict e then e.time else now) ≡ max first (floor_of mode (l ++ (e, false) ∷ [])) =
-    ap (λ b. if b then e.time else now) (moves_by mode e) ∙ sym (not_late (is_ordered mode e) e.time now)
-    ∙ moved_floor-push mode first now l e false is (λ o. all.1 (ordered-moves mode e o)) in
-    floor_of-block mode (l ++ (e, false) ∷ []) es first (if moves_floor strict e then e.time else now) next all.2
-    ∙ ap (λ m. max first (floor_of mode m)) (append_assoc l ((e, false) ∷ []) (on_time es))
+    let next = moved_floor-push mode first now l e false is (λ o. all.1 (ordered-moves mode e o)) in
+    floor_of-block mode (l ++ (e, false) ∷ []) es first (if moves_floor (orders_markers mode) e then e.time else now)
+    (rw (moves_by mode e, ← not_late (is_ordered mode e) e.time now) next) all.2 ∙ rw append_assoc refl

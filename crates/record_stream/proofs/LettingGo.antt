@@ -1,9 +1,9 @@
 -- Events in order, of which none is late, and those that are let go with them.
-use Rattle.std.{proofs.Common.{rules}, proofs.Common.{◌≡◌, ◌≢◌, ◌+◌, ◌<◌, ◌≤◌, ℕ, zero, suc, List, [], ◌∷◌, ◌++◌, Bool, true, false, None, Some, length, map, refl, sym, ap, subst, ◌∙◌, append_assoc, append-nil, arith, length-append, ⊎_elim, ◌&&◌, not, is_some, nat_lt, IfSome, IsTrue, if◌then◌else◌}, specs.Option.option_to_list, specs.List.{All, list_any}, specs.declared.option.Option.Option, proofs.lemmas.Bool.ne_eqb, proofs.lemmas.Bool.Decides.nat_tests, proofs.lemmas.List.map-append, proofs.lemmas.List.Elements.filter-append}
+use Rattle.std.{proofs.Common.{rules}, proofs.Common.{◌≡◌, ◌≢◌, ◌+◌, ◌<◌, ◌≤◌, ℕ, List, [], ◌∷◌, ◌++◌, Bool, true, false, None, Some, length, map, refl, ap, subst, ◌∙◌, append_assoc, append-nil, arith, length-append, ◌&&◌, not, is_some, nat_lt, IfSome, IsTrue}, specs.Option.option_to_list, specs.List.{All}, specs.declared.option.Option.Option, proofs.lemmas.Bool.ne_eqb, proofs.lemmas.Bool.Decides.nat_tests, proofs.lemmas.List.map-append, proofs.lemmas.List.Elements.filter-append}
 use Rattle.tally_base.{specs.declared.event.Event.Event, specs.declared.header.Mode.Mode, specs.Events.is_ordered, specs.Tally.{moves_floor, floor_after, InOrder}, specs.Columns.rows, proofs.Floors.{order-at, order-parts}, proofs.BlockRows.rows-split}
-use Rattle.ptu_definitions.{specs.Kept.{Marked, floor_of, greatest, is_late}, specs.Settled.{delivered, is_overtaken, not_marked, ordered, put_in, settles}, specs.Streams.{StreamSettings, events_in}, specs.Times.events, proofs.DeliveredLaws.{delivered-append, delivered_after, delivered_after-ordered, not_marked-append, not_marked-false}, proofs.StreamLemmas.later}
+use Rattle.ptu_definitions.{specs.Kept.{Marked, floor_of, greatest}, specs.Settled.{delivered, is_overtaken, not_marked, ordered, put_in, settles}, specs.Streams.{StreamSettings, events_in}, specs.Times.events, proofs.DeliveredLaws.{delivered-append, delivered_after, delivered_after-ordered, not_marked-append, not_marked-false}, proofs.StreamLemmas.later}
 use Rattle.abs_time.{specs.Placing.IsSmall, specs.Floors.orders_markers, proofs.Floors.moves_by}
-use Rattle.record_stream.{specs.Blocks.{on_time, IsInLine, PlacesRise}, specs.Keeping.{CanWait, HasCome}, specs.LettingGo.{LetsGo, IsDelivered}, proofs.Steps.{on_time-push, in_line-event}, proofs.Gathering.{not_late, last_or, floor_of-block}, proofs.Placed.not_late as not_late_by, proofs.Settles.{ordered-on, that_goes, those_waiting, count_going, count_waiting}}
+use Rattle.record_stream.{specs.Blocks.{on_time, IsInLine, PlacesRise}, specs.Keeping.{CanWait, HasCome}, specs.LettingGo.{LetsGo, IsDelivered}, proofs.Steps.{on_time-push, in_line-event}, proofs.Gathering.{not_late, rows-at, floor_of-block}, proofs.Placed.not_late as not_late_by, proofs.Settles.{ordered-on, that_goes, those_waiting, count_waiting}}
 use Rattle.settle.{specs.Settling.told, specs.Standing.{HasSettled, kept_back, next_place, last_time, reach_of, was_popped}, specs.declared.settle.Settle.Settle, specs.Passing.place_after}
 
 -- The greatest time of events in order.
@@ -26,45 +26,30 @@ pub early : (k : ℕ) (mode : Mode) (before es : List Event) (e : Event) → InO
 early k mode before es e line time on =
     let top = greatest-line mode before es line in
     let below : nat_lt e.time (greatest mode (before ++ es)) ≡ false = grind (arith, nat_tests, top, time) in
-    let late : is_late mode (before ++ es) e ≡ false =
-    ap (λ b. b && list_any (λ (x : Event). is_ordered mode x && nat_lt e.time x.time) (before ++ es)) on ∙ later mode (before ++ es) e.time ∙ below in
-    sym (ap (λ b. b && is_overtaken k (ordered mode (before ++ es)) e) on) ∙ not_late_by _ k mode (before ++ es) e refl late
+    rw on at (not_late_by _ k mode (before ++ es) e refl (rw on (later mode (before ++ es) e.time ∙ below)))
 
 pub early-row : (k : ℕ) (mode : Mode) (before : List Event) (f : ℕ → Event) (n i : ℕ) (top : ℕ) (e : Event) → i < n
     → top ≡ greatest mode before → InOrder (orders_markers mode) top (rows f n) → e ≡ f i → is_ordered mode e ≡ true
     → is_overtaken k (ordered mode (before ++ rows f i)) e ≡ false
 early-row k mode before f n i top e lt top_is line is on =
     let strict = orders_markers mode in
-    let within : i ≤ n = omega (arith, lt) in
-    let split = rows-split f i n within in
-    let front = (order-parts strict top (rows f i) split.0 (subst (λ l. InOrder strict top l) split.1 line)).0 in
-    let here : is_ordered mode (f i) ≡ true = subst (λ x. is_ordered mode x ≡ true) is on in
-    let moves : IsTrue (moves_floor strict (f i)) = rw (moves_by mode (f i)) here in
-    let below : floor_after strict top (rows f i) ≤ e.time =
-    subst (λ (x : Event). floor_after strict top (rows f i) ≤ x.time) (sym is) ((order-at strict top f n i lt line).1 moves) in
-    early k mode before (rows f i) e (subst (λ t. InOrder strict t (rows f i)) top_is front)
-    (subst (λ t. floor_after strict t (rows f i) ≤ e.time) top_is below) on
+    let split = rows-split f i n (omega (arith, lt)) in
+    let front = (order-parts strict top (rows f i) split.0 (rw split.1 at line)).0 in
+    let moves : IsTrue (moves_floor strict (f i)) = rw (moves_by mode (f i)) (rw is at on) in
+    let below : floor_after strict top (rows f i) ≤ e.time = rw is ((order-at strict top f n i lt line).1 moves) in
+    early k mode before (rows f i) e (rw top_is at front) (rw top_is at below) on
 
 -- The places of the rows of a block.
 pub place-push : (low : ℕ) (es : List Event) (e : Event) → place_after low (es ++ e ∷ []) ≡ e.place
 place-push low [] e = refl
 place-push low (x ∷ es) e = place-push x.place es e
 
-places-front : (low : ℕ) (es : List Event) (e : Event) → PlacesRise low (es ++ e ∷ []) → PlacesRise low es
-places-front low [] e all = tt
-places-front low (x ∷ es) e all = (all.0, places-front x.place es e all.1)
-
-places-last : (low : ℕ) (es : List Event) (e : Event) → PlacesRise low (es ++ e ∷ []) → place_after low es < e.place
-places-last low [] e all = all.0
-places-last low (x ∷ es) e all = places-last x.place es e all.1
+places-mid : (low : ℕ) (es back : List Event) (e : Event) → PlacesRise low (es ++ e ∷ back) → place_after low es < e.place
+places-mid low [] back e all = all.0
+places-mid low (x ∷ es) back e all = places-mid x.place es back e all.1
 
 pub places-at : (low : ℕ) (f : ℕ → Event) (n i : ℕ) → i < n → PlacesRise low (rows f n) → place_after low (rows f i) < (f i).place
-places-at low f zero i lt all = absurd (omega (arith, lt))
-places-at low f (suc n) i lt all =
-    ⊎_elim
-    (λ (is : i ≡ n). rw is (places-last low (rows f n) (f n) all))
-    (λ (below : i < n). places-at low f n i below (places-front low (rows f n) (f n) all))
-    (last_or i n lt)
+places-at low f n i lt all = let at = rows-at f n i lt in places-mid low (rows f i) at.0 (f i) (subst (λ l. PlacesRise low l) at.1 all)
 
 -- One event more.
 module _ (mode : Mode) (low : ℕ) (from old new : Settle) (came went : List Event) (e : Event) (l : LetsGo mode low from old came went) where
@@ -78,18 +63,8 @@ module _ (mode : Mode) (low : ℕ) (from old new : Settle) (came went : List Eve
         → length (kept_back new) ≤ length (kept_back old) → last_time new ≡ x.time → last_time old ≤ x.time
         → LetsGo mode low from new (came ++ e ∷ []) went'
     lets_some x outs goes fit few time rises =
-        let moved : (if is_ordered mode x then x.time else last_time old) ≡ last_time new =
-        ap (λ b. if b then x.time else last_time old) goes.ordered ∙ sym time in
-        record {
-          line = rw outs (subst (λ t. IsInLine mode (last_time from) t (went ++ x ∷ [])) moved
-              (in_line-event mode (last_time from) (last_time old) went x l.line goes.small.in_time goes.small.kind (λ is. rises)));
-          fit = fit;
-          reach = reach ∙ l.reach;
-          unpopped = unpopped;
-          behind = omega (arith, place, place-push low came e);
-          few = omega (arith, l.few, length-append came (e ∷ []), ap length outs, length-append went (x ∷ []));
-          count = omega (arith, l.count, length-append came (e ∷ []), ap length outs, length-append went (x ∷ []), few);
-        }
+        let line = rw goes.ordered at (in_line-event mode (last_time from) (last_time old) went x l.line goes.small.in_time goes.small.kind (λ is. rises)) in
+        search (rules, arith, place-push, length-append, line)
 
     -- which is in order
     pub lets_on : (o : Option Event) (late more : Bool) → went' ≡ went ++ option_to_list o → is_some o ≡ (not late && more)
@@ -106,7 +81,7 @@ module _ (mode : Mode) (low : ℕ) (from old new : Settle) (came went : List Eve
         let waits : CanWait mode e = record { small = small; ordered = on } in
         lets_some x outs (that_goes (CanWait mode) (Some x) x (kept_back old) (kept_back new) e refl (kept refl) waits l.fit)
         (those_waiting (CanWait mode) (Some x) (kept_back old) (kept_back new) e (kept refl) waits l.fit)
-        (omega (arith, count_going (Some x) x (kept_back old) (kept_back new) e refl (kept refl))) time rises
+        (omega (arith, count_waiting (Some x) (kept_back old) (kept_back new) e (kept refl))) time rises
 
 -- the events of these words
 abbrev came_before : StreamSettings → List ℕ → List Event
@@ -130,14 +105,11 @@ module _ (how : StreamSettings) (old new : Settle) (words : List ℕ) (came went
       → HasSettled new (ordered how.mode (came_before how words ++ came) ++ e ∷ []) ((not_marked (events_in how words) ++ went) ++ option_to_list o)
       → IsDelivered how new words (came ++ e ∷ []) went'
   delivers_on went' o late reach same on outs first late_is tells settled =
-      let off : late ≡ false = late_is ∙ ap (λ k. is_overtaken k (ordered how.mode (came_before how words ++ came)) e) same ∙ first in
-      let adds : delivered_after how.policy.settle how.mode (came_before how words ++ came) (e ∷ []) ≡ on_time (option_to_list o) =
-      delivered_after-ordered how.policy.settle how.mode (came_before how words ++ came) e (ne_eqb how.policy.settle 0 some) on ∙ ap (λ k. settles k (ordered how.mode (came_before how words ++ came)) e) (sym same) ∙ tells ∙ ap (λ b. told e b o) off in
+      let off : late ≡ false = late_is ∙ rw (same, first) refl in
+      let adds = delivered_after-ordered how.policy.settle how.mode (came_before how words ++ came) e (ne_eqb how.policy.settle 0 some) on
+      ∙ rw (← same, tells, off) refl in
       record {
-        settled =
-            subst (λ p. HasSettled new p (not_marked (events_in how words) ++ went'))
-            (sym (ordered-more ∙ ap (λ l. ordered how.mode (came_before how words ++ came) ++ l) (ordered-on how.mode e on)))
-            (subst (λ g. HasSettled new (ordered how.mode (came_before how words ++ came) ++ e ∷ []) g) (append_assoc (not_marked (events_in how words)) went (option_to_list o) ∙ ap (λ l. not_marked (events_in how words) ++ l) (sym outs)) settled);
+        settled = rw (ordered-more, ordered-on how.mode e on, outs, ← append_assoc) settled;
         delivers = delivered-more went' (option_to_list o) outs adds;
       }
 
@@ -148,13 +120,7 @@ module _ (how : StreamSettings) (settle : Settle) (words now : List ℕ) (came w
   block_delivers = ap (delivered how.policy.settle how.mode) adds ∙ d.delivers
 
   pub come_block : (from : Settle) → HasCome how from words → IsInLine how.mode (last_time from) (last_time settle) went → HasCome how settle now
-  come_block from come line =
-      let gone : not_marked (events_in how now) ≡ not_marked (events_in how words) ++ went = ap not_marked block_delivers ∙ not_marked-append (events_in how words) (on_time went) ∙ ap (λ l. not_marked (events_in how words) ++ l) (not_marked-false went) in
-      let strict = orders_markers how.mode in
-      record {
-        settled = subst (λ p. HasSettled settle p (not_marked (events_in how now))) (sym (ap (ordered how.mode) adds)) (subst (λ g. HasSettled settle (ordered how.mode (events (map how.meaning words) ++ came)) g) (sym gone) d.settled);
-        greatest =
-            sym line.greatest ∙ ap (λ t. floor_after strict t went) come.greatest
-            ∙ sym (ap (floor_of how.mode) block_delivers
-            ∙ floor-line how.mode (events_in how words) went (subst (λ t. InOrder strict t went) come.greatest line.in_order));
-      }
+  come_block from come line = record {
+    settled = rw (block_delivers, not_marked-append, not_marked-false, adds) d.settled;
+    greatest = search (rules, arith, block_delivers, floor-line);
+  }

@@ -1,15 +1,15 @@
 -- Events in order behind all that are kept back, and those that are let go with them.
-use Rattle.std.{proofs.Common.{rules}, proofs.Common.{◌≡◌, ◌≢◌, ◌+◌, ◌-◌, ◌<◌, ◌≤◌, ℕ, suc, List, [], ◌∷◌, ◌++◌, true, false, cond, drop, length, map, refl, sym, ap, subst, ◌∙◌, append_assoc, append-nil, arith, length-append, if◌then◌else◌}, specs.List.{All, AllByRecursion}, specs.List.Sorted.IsNonDecreasingBy, proofs.Math.Seq.drop-append_seam, proofs.lemmas.Bool.ne_eqb, proofs.lemmas.List.Elements.{All-tail, All-from_recursion, filter-append, recursion_from_All}}
-use Rattle.tally_base.{specs.declared.event.Event.Event, specs.declared.header.Mode.Mode, specs.Events.is_ordered, specs.Tally.{moves_floor, floor_after, InOrder}, specs.Columns.rows, proofs.Floors.{order-lower, order-append, order-parts}, proofs.BlockRows.{length-rows, rows-split}}
-use Rattle.ptu_definitions.{specs.Layouts.KindFits, specs.Kept.mark, specs.Prefixes.each_after, specs.Settled.{not_marked, ordered, Rises, settles}, specs.Streams.{StreamSettings, events_in}, specs.Times.events, proofs.DeliveredLaws.{delivered-append, delivered_after}, proofs.SettledLemmas.IsNonDecreasingBy-Rises, proofs.SettlingLemmas.each-weaker}
+use Rattle.std.{proofs.Common.{rules}, proofs.Common.{◌≡◌, ◌≢◌, ◌+◌, ◌-◌, ◌<◌, ◌≤◌, ℕ, suc, List, [], ◌∷◌, ◌++◌, true, false, drop, get_or, length, map, refl, sym, ap, subst, ◌∙◌, append_assoc, append-nil, arith, length-append}, specs.List.{All, AllByRecursion}, specs.List.Sorted.IsNonDecreasingBy, proofs.Math.Seq.drop-append_seam, proofs.lemmas.Bool.ne_eqb, proofs.lemmas.List.Elements.{All-tail, All-from_recursion, filter-append, recursion_from_All}}
+use Rattle.tally_base.{specs.declared.event.Event.Event, specs.declared.event.EventKind.TheVariants.Marker as MarkerEvent, specs.declared.header.Mode.Mode, specs.Events.is_ordered, specs.Tally.{moves_floor, floor_after, InOrder}, specs.Columns.rows, proofs.Floors.{order-lower, order-append, order-parts}, proofs.BlockRows.{length-rows, rows-split}}
+use Rattle.ptu_definitions.{specs.Layouts.KindFits, specs.Settled.{not_marked, ordered, Rises}, specs.Streams.{StreamSettings, events_in}, specs.Times.events, proofs.DeliveredLaws.{delivered-append}, proofs.SettledLemmas.IsNonDecreasingBy-Rises, proofs.SettlingLemmas.each-weaker}
 use Rattle.abs_time.{specs.Placing.placed_by, specs.Floors.orders_markers, proofs.Floors.moves_by}
-use Rattle.record_stream.{specs.Blocks.{on_time, AllFit, PlacesRise}, specs.Keeping.{CanWait, IsKeeping}, specs.LettingGo.{AreOrdered, ComesNext, IsFull, LetsGo, IsDelivered}, specs.Walking.{how_of, greatest_of, clock_in}, specs.declared.walk.Walk.Walk, proofs.LettingGo.place-push}
-use Rattle.settle.{specs.Passing.{ComesBehind, ComesOn, HasPassed, next_after, place_after, time_after}, specs.Standing.{HasSettled, kept_back, next_place, last_time, reach_of, was_popped}, specs.declared.settle.Settle.Settle}
+use Rattle.record_stream.{specs.Blocks.{PlacesRise}, specs.Keeping.{CanWait, IsKeeping}, specs.LettingGo.{AreOrdered, ComesNext, IsFull, LetsGo, IsDelivered}, specs.Walking.{how_of, greatest_of, clock_in}, specs.declared.walk.Walk.Walk, proofs.LettingGo.place-push}
+use Rattle.settle.{specs.Passing.{ComesBehind, ComesOn, HasPassed, next_after, place_after, time_after}, specs.Standing.{kept_back, next_place, last_time, reach_of, was_popped}, specs.declared.settle.Settle.Settle}
 
 -- Lists of which each event is in order.
 pub ordered-same : (mode : Mode) (es : List Event) → AreOrdered mode es → ordered mode es ≡ es
 ordered-same mode [] all = refl
-ordered-same mode (e ∷ es) all = ap (λ b. cond b (e ∷ ordered mode es) (ordered mode es)) all.0 ∙ ap (λ l. e ∷ l) (ordered-same mode es all.1)
+ordered-same mode (e ∷ es) all = rw (all.0, ordered-same mode es all.1) refl
 
 pub each-append : (P : Event → Type 0) (xs ys : List Event) → AllByRecursion P xs → AllByRecursion P ys → AllByRecursion P (xs ++ ys)
 each-append P [] ys first second = second
@@ -25,9 +25,7 @@ moves-on mode e on = moves_by mode e ∙ on
 
 line-on : (mode : Mode) (t : ℕ) (e : Event) (es : List Event) → is_ordered mode e ≡ true
     → InOrder (orders_markers mode) t (e ∷ es) → (t ≤ e.time) × InOrder (orders_markers mode) e.time es
-line-on mode t e es on line =
-    let moves = moves-on mode e on in
-    (line.1 moves, subst (λ b. InOrder (orders_markers mode) (if b then e.time else t) es) moves line.2)
+line-on mode t e es on line = let moves = moves-on mode e on in (line.1 moves, rw moves at line.2)
 
 floor-all : (mode : Mode) (t : ℕ) (es : List Event) → AreOrdered mode es → floor_after (orders_markers mode) t es ≡ time_after t es
 floor-all mode t [] all = refl
@@ -48,7 +46,7 @@ line-waiting mode t (x ∷ w) low up fit =
     let here : CanWait mode x = fit 0 x (omega arith) in
     let rest = line-waiting mode x.time w (λ k d lt. up 0 (suc k) d (omega arith) (omega (arith, lt)))
     (λ i j d le lt. up (suc i) (suc j) d (omega (arith, le)) (omega (arith, lt))) (All-tail (CanWait mode) x w fit) in
-    (here.small.in_time, (λ _. low 0 x (omega arith)), subst (λ b. InOrder (orders_markers mode) (if b then x.time else t) w) (sym (moves-on mode x here.ordered)) rest)
+    (here.small.in_time, (λ _. low 0 x (omega arith)), rw (moves-on mode x here.ordered) rest)
 
 rises-line : (mode : Mode) (t : ℕ) (es : List Event) → InOrder (orders_markers mode) t es → AreOrdered mode es → Rises t es
 rises-line mode t [] line all = tt
@@ -81,9 +79,8 @@ joins w came gone (x ∷ rest) (y ∷ front) back held parts one = let h : suc (
 pub rows-parts : (f : ℕ → Event) (from n : ℕ) → from ≤ n → rows f n ≡ rows f from ++ drop from (rows f n)
 rows-parts f from n within =
     let split = rows-split f from n within in
-    let back : drop from (rows f n) ≡ split.0 =
-    ap (drop from) split.1 ∙ ap (λ k. drop k (rows f from ++ split.0)) (sym (length-rows f from)) ∙ drop-append_seam (rows f from) split.0 in
-    split.1 ∙ ap (λ l. rows f from ++ l) (sym back)
+    let back = ap (λ k. drop k (rows f from ++ split.0)) (sym (length-rows f from)) ∙ drop-append_seam (rows f from) split.0 in
+    rw (split.1, back) refl
 
 pub block-joins : (f : ℕ → Event) (from n : ℕ) (w gone rest went stay : List Event) → w ≡ gone ++ rest
     → went ≡ gone ++ rows f from → stay ≡ rest ++ drop from (rows f n) → from ≤ n → (0 < length rest → from ≡ 0)
@@ -113,67 +110,35 @@ module _ (walk : Walk) (from : Settle) (came went stay : List Event) (settles : 
   abbrev pub top : ℕ
   top = greatest_of walk
 
-  some : 0 < length (kept_back from)
-  some = let full : length (kept_back from) ≡ reach_of from = is_full.full in omega (arith, full, keeps.reach, settles)
-
-  waits : All (CanWait mode) (kept_back from)
-  waits = keeps.fit
-
-  below : All (λ (x : Event). x.time ≤ top) (kept_back from)
-  below = is_full.below
-
-  lows : All (λ (x : Event). last_time from ≤ x.time) (kept_back from)
-  lows = from.low
-
-  up : IsNonDecreasingBy (λ (x : Event). x.time) (kept_back from)
-  up = from.rising
-
-  line : InOrder (orders_markers mode) top came
-  line = next.in_order
-
-  fit : AllFit mode came
-  fit = next.fit
-
-  all : AreOrdered mode came
-  all = next.ordered
-
   low-top : last_time from ≤ top
-  low-top = first (kept_back from) some lows below
-    where
-      first : (w : List Event) → 0 < length w → All (λ (x : Event). last_time from ≤ x.time) w → All (λ (x : Event). x.time ≤ top) w → last_time from ≤ top
-      first [] many a b = absurd (omega (arith, many))
-      first (x ∷ w) many a b = let h : last_time from ≤ x.time = a 0 x (omega arith) in let g : x.time ≤ top = b 0 x (omega arith) in omega (arith, h, g)
+  low-top =
+      let e : Event = record { place = 0; kind = MarkerEvent 0; time = 0 } in
+      let some : 0 < length (kept_back from) = omega (arith, is_full.full, keeps.reach, settles) in
+      let low : last_time from ≤ (get_or (kept_back from) 0 e).time = from.low 0 e some in
+      let high : (get_or (kept_back from) 0 e).time ≤ top = is_full.below 0 e some in omega (arith, low, high)
 
-  all-waiting : AllByRecursion (CanWait mode) (went ++ stay)
-  all-waiting = subst (λ l. AllByRecursion (CanWait mode) l) joined (each-append (CanWait mode) (kept_back from) came (recursion_from_All (CanWait mode) (kept_back from) waits) (wait-line mode top came line (recursion_from_All (λ (e : Event). KindFits mode e.kind) came fit) all))
-
-  went-waiting : AllByRecursion (CanWait mode) went
-  went-waiting = (each-parts (CanWait mode) went stay all-waiting).0
-
-  stay-waiting : AllByRecursion (CanWait mode) stay
-  stay-waiting = (each-parts (CanWait mode) went stay all-waiting).1
+  waiting : AllByRecursion (CanWait mode) went × AllByRecursion (CanWait mode) stay
+  waiting = each-parts (CanWait mode) went stay (subst (λ l. AllByRecursion (CanWait mode) l) joined
+      (each-append (CanWait mode) (kept_back from) came (recursion_from_All (CanWait mode) (kept_back from) keeps.fit)
+      (wait-line mode top came next.in_order (recursion_from_All (λ (e : Event). KindFits mode e.kind) came next.fit) next.ordered)))
 
   are_ordered : (es : List Event) → AllByRecursion (CanWait mode) es → AreOrdered mode es
   are_ordered es can = each-weaker (CanWait mode) (λ (e : Event). is_ordered mode e ≡ true) es (λ x c. c.ordered) can
 
   held-last : floor_after (orders_markers mode) (last_time from) (kept_back from) ≤ top
-  held-last = search (rules, arith, floor-all, mode, are_ordered, recursion_from_All, waits, time-most, low-top, below)
+  held-last = search (rules, arith, floor-all, mode, are_ordered, recursion_from_All, keeps.fit, time-most, low-top, is_full.below)
 
   whole : InOrder (orders_markers mode) (last_time from) went × InOrder (orders_markers mode) (floor_after (orders_markers mode) (last_time from) went) stay
   whole =
-      let strict = orders_markers mode in
-      order-parts strict (last_time from) went stay
-      (subst (λ l. InOrder strict (last_time from) l) joined
-      (order-append strict (last_time from) (kept_back from) came (line-waiting mode (last_time from) (kept_back from) lows up waits)
-      (order-lower strict (floor_after strict (last_time from) (kept_back from)) top came held-last line)))
+      order-parts _ _ went stay (rw joined at (order-append (orders_markers mode) (last_time from) (kept_back from) came
+      (line-waiting mode (last_time from) (kept_back from) from.low from.rising keeps.fit) (order-lower _ _ top came held-last next.in_order)))
 
   stay-rises : Rises (time_after (last_time from) went) stay
-  stay-rises = subst (λ t. Rises t stay) (floor-all mode (last_time from) went (are_ordered went went-waiting))
-      (rises-line mode (floor_after (orders_markers mode) (last_time from) went) stay whole.1 (are_ordered stay stay-waiting))
+  stay-rises = rw (← floor-all mode (last_time from) went (are_ordered went waiting.0)) (rises-line mode _ stay whole.1 (are_ordered stay waiting.1))
 
   -- what stays is in order behind what goes
   pub stays-low : All (λ (x : Event). time_after (last_time from) went ≤ x.time) stay
-  stays-low = All-from_recursion (λ (x : Event). time_after (last_time from) went ≤ x.time) stay (low-rises (time_after (last_time from) went) stay stay-rises)
+  stays-low = All-from_recursion _ stay (low-rises (time_after (last_time from) went) stay stay-rises)
 
   pub stays-rising : IsNonDecreasingBy (λ (x : Event). x.time) stay
   stays-rising = IsNonDecreasingBy-Rises (time_after (last_time from) went) stay stay-rises
@@ -186,8 +151,8 @@ module _ (walk : Walk) (from : Settle) (came went stay : List Event) (settles : 
     full = is_full.full;
     greatest = top;
     low = low-top;
-    below = recursion_from_All (λ (x : Event). x.time ≤ top) (kept_back from) below;
-    comes = comes-line mode (next_place from) low top came (keeps.behind settles) next.places line all;
+    below = recursion_from_All (λ (x : Event). x.time ≤ top) (kept_back from) is_full.below;
+    comes = comes-line mode (next_place from) low top came (keeps.behind settles) next.places next.in_order next.ordered;
     joined = joined;
     time_is = time_is;
     place_is = place_is;
@@ -196,22 +161,9 @@ module _ (walk : Walk) (from : Settle) (came went stay : List Event) (settles : 
   pub lets_passed : (new : Settle) → kept_back new ≡ stay → length stay ≡ length (kept_back from) → last_time new ≡ time_after (last_time from) went → next_place new ≡ place_after low came + 1 → reach_of new ≡ reach_of from → was_popped new ≡ false
       → LetsGo mode low from new came went
   lets_passed new kept as_many time place reach unpopped =
-      let count : length (kept_back from) + length came ≡ length went + length stay =
-      sym (length-append (kept_back from) came) ∙ ap length joined ∙ length-append went stay in
-      record {
-        line = record {
-          in_order = whole.0;
-          greatest = floor-all mode (last_time from) went (are_ordered went went-waiting) ∙ sym time;
-          fit = All-from_recursion (λ (e : Event). KindFits mode e.kind) went
-              (each-weaker (CanWait mode) (λ (e : Event). KindFits mode e.kind) went (λ x c. c.small.kind) went-waiting);
-        };
-        fit = subst (λ l. All (CanWait mode) l) (sym kept) (All-from_recursion (CanWait mode) stay stay-waiting);
-        reach = reach;
-        unpopped = unpopped;
-        behind = omega (arith, place);
-        few = omega (arith, count, as_many);
-        count = omega (arith, count, ap length kept);
-      }
+      let count = rw (length-append, length-append) at (ap length joined) in
+      let kinds = each-weaker (CanWait mode) (λ (e : Event). KindFits mode e.kind) went (λ x c. c.small.kind) waiting.0 in
+      search (rules, arith, count, kinds, floor-all, are_ordered, whole, waiting, All-from_recursion)
 
 -- What is delivered then.
 pub delivers_passed : (how : StreamSettings) (from new : Settle) (words : List ℕ) (came went : List Event)
@@ -220,13 +172,7 @@ pub delivers_passed : (how : StreamSettings) (from new : Settle) (words : List �
 delivers_passed how from new words came went some reach all p =
     let before = events (map how.meaning words) in
     let k = how.policy.settle in
-    let parts : ordered how.mode (before ++ came) ≡ ordered how.mode before ++ came =
-    filter-append (λ (x : Event). is_ordered how.mode x) before came ∙ ap (λ l. ordered how.mode before ++ l) (ordered-same how.mode came all) in
-    let after : delivered_after k how.mode before came ≡ on_time went =
-    ap (λ b. cond b (each_after (mark how.mode) before came) (each_after (settles k) (ordered how.mode before) (ordered how.mode came))) (ne_eqb k 0 some)
-    ∙ ap (each_after (settles k) (ordered how.mode before)) (ordered-same how.mode came all)
-    ∙ ap (λ n. each_after (settles n) (ordered how.mode before) came) (sym reach) ∙ p.tells in
     record {
-      settled = subst (λ l. HasSettled new l (not_marked (events_in how words) ++ went)) (sym parts) p.settled;
-      delivers = delivered-append k how.mode before came ∙ ap (λ l. events_in how words ++ l) after;
+      settled = rw (filter-append (λ (x : Event). is_ordered how.mode x) before came, ordered-same how.mode came all) p.settled;
+      delivers = search (rules, arith, ordered-same, delivered-append, ne_eqb);
     }

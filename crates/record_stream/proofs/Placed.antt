@@ -1,5 +1,5 @@
 -- What the clock's answer says of a word: its refusal and its event.
-use Rattle.std.{proofs.Common.{rules}, proofs.Common.{◌≡◌, ◌≢◌, ◌+◌, ◌<◌, ℕ, List, [], ◌∷◌, Bool, true, false, cond, None, Some, Ok, Err, length, map, refl, sym, ap, ◌∙◌, ◌⊎◌, ⊎_elim, arith, ◌&&◌, ◌==◌, if◌then◌else◌}, specs.declared.option.Option.Option, specs.declared.result.Result.Result, proofs.lemmas.Bool.ne_eqb}
+use Rattle.std.{proofs.Common.{rules}, proofs.Common.{◌≡◌, ◌≢◌, ◌+◌, ◌<◌, ℕ, List, [], ◌∷◌, Bool, true, false, None, Some, Ok, Err, length, map, refl, sym, ap, ◌⊎◌, ⊎_elim, arith, ◌&&◌, ◌==◌, if◌then◌else◌}, specs.declared.option.Option.Option, specs.declared.result.Result.Result, proofs.lemmas.Bool.ne_eqb}
 use Rattle.tally_base.{specs.declared.event.Event.Event, specs.declared.fault.Fault.Fault, specs.declared.fault.Fault.TheVariants.{RecordLimit, ReservedRecord, BackwardTime}, specs.declared.header.Mode.Mode, specs.Events.{is_ordered, stops_late, stops_reserved}}
 use Rattle.ptu_definitions.{specs.declared.records.Raw.Raw, specs.declared.records.Raw.TheVariants.{Photon, Marker, Wrap, Reserved}, specs.Kinds.is_reserved, specs.Times.{event_after, events}, specs.Kept.{is_late, greatest, Marked}, specs.Settled.{is_late_by, ordered}, specs.Streams.{StreamSettings, refusal, late_refusal}, proofs.DeliveredLaws.{delivered_after, delivered_after-ordered, delivered_after-unordered, is_late_by-0, is_late-by}, proofs.StreamLemmas.fresh}
 use Rattle.abs_time.{specs.declared.clock.Placed.Placed, specs.declared.clock.Placed.TheVariants.Event as InOrder, specs.declared.clock.Placed.TheVariants.Late, specs.declared.clock.Placed.TheVariants.Wrap as WrapPlaced, specs.declared.clock.Placed.TheVariants.Reserved as ReservedPlaced, specs.Placing.place_answer}
@@ -9,29 +9,25 @@ use Rattle.record_stream.{specs.Keeping.{tells, refused_for}, specs.Rows.refused
 abbrev pub refused_by : StreamSettings → Placed → Option Fault
 refused_by how (InOrder e) = None
 refused_by how (Late e top) = if stops_late how.policy.order then Some (BackwardTime e.place e.time top) else None
-refused_by how WrapPlaced = None
-refused_by how ReservedPlaced = None
+refused_by how p = None
 
 -- and its event with its mark
 abbrev pub marks_of : Placed → Marked
 marks_of (InOrder e) = (e, false) ∷ []
 marks_of (Late e top) = (e, true) ∷ []
-marks_of WrapPlaced = []
-marks_of ReservedPlaced = []
+marks_of p = []
 
 -- the event alone
 abbrev pub event_in : Placed → List Event
 event_in (InOrder e) = e ∷ []
 event_in (Late e top) = e ∷ []
-event_in WrapPlaced = []
-event_in ReservedPlaced = []
+event_in p = []
 
 -- what a placed record says of the events before it
 abbrev pub IsSo : Mode → List Event → Placed → Type 0
 IsSo mode before (InOrder e) = is_late mode before e ≡ false
 IsSo mode before (Late e top) = (is_late mode before e ≡ true) × (top ≡ greatest mode before)
-IsSo mode before WrapPlaced = Unit {0}
-IsSo mode before ReservedPlaced = Unit {0}
+IsSo mode before p = Unit {0}
 
 pub refusal-limit : (how : StreamSettings) (ws : List ℕ) (w n : ℕ) → n ≡ length (map how.meaning ws)
     → n ≡ how.policy.records → refusal how ws w ≡ Some (RecordLimit how.policy.records)
@@ -44,26 +40,18 @@ pub refusal-reserved : (how : StreamSettings) (ws : List ℕ) (w n : ℕ) (raw :
 unfolding refusal
 refusal-reserved how ws w n raw is room means stop = search (rules, arith)
 
-passing-ok : (b : Bool) (fault : Fault) (q p : Placed) (late : Option Fault)
-    → ◌≡◌ {A = Result Placed Fault} (if b then Err fault else Ok q) (Ok p) → (if b then Some fault else late) ≡ late
-passing-ok b fault q p late h = search (rules, arith)
-
-passing-err : (b : Bool) (fault other : Fault) (q : Placed) (late : Option Fault)
-    → ◌≡◌ {A = Result Placed Fault} (if b then Err fault else Ok q) (Err other) → (if b then Some fault else late) ≡ Some other
-passing-err b fault other q late h = search (rules, arith)
-
 -- the refusal of a word by the clock's answer
 pub refusal-ok : (how : StreamSettings) (ws : List ℕ) (w n : ℕ) (raw : Raw) (p : Placed) → n ≡ length (map how.meaning ws)
     → n < how.policy.records → raw ≡ how.meaning w → (is_reserved raw && stops_reserved how.policy.reserved) ≡ false
     → place_answer how.mode (map how.meaning ws) raw ≡ Ok p → refusal how ws w ≡ refused_late how (map how.meaning ws) (how.meaning w)
 unfolding refusal place_answer
-refusal-ok how ws w n raw p is room means go answer = search (rules, arith, passing-ok)
+refusal-ok how ws w n raw p is room means go answer = search (rules, arith)
 
 pub refusal-err : (how : StreamSettings) (ws : List ℕ) (w n : ℕ) (raw : Raw) (fault : Fault) → n ≡ length (map how.meaning ws)
     → n < how.policy.records → raw ≡ how.meaning w → (is_reserved raw && stops_reserved how.policy.reserved) ≡ false
     → place_answer how.mode (map how.meaning ws) raw ≡ Err fault → refusal how ws w ≡ Some fault
 unfolding refusal place_answer
-refusal-err how ws w n raw fault is room means go answer = search (rules, arith, passing-err)
+refusal-err how ws w n raw fault is room means go answer = search (rules, arith)
 
 -- what is known of a placed record by the definitions
 abbrev Comes : Mode → List Event → List Event → Placed → Type 0
@@ -76,19 +64,15 @@ comes-event b mode before e is = search (rules, arith)
 comes-ok : (mode : Mode) (before es : List Event) (q p : Placed) → Comes mode before es q → ◌≡◌ {A = Result Placed Fault} (Ok q) (Ok p) → Comes mode before es p
 comes-ok mode before es q p h same = let e : q ≡ p = cc in rw e at h
 
-comes-wrap : (b : Bool) (fault : Fault) (mode : Mode) (before : List Event) (p : Placed)
-    → ◌≡◌ {A = Result Placed Fault} (if b then Err fault else Ok WrapPlaced) (Ok p) → Comes mode before [] p
-comes-wrap b fault mode before p h = search (rules, arith, comes-ok)
-
 pub comes : (mode : Mode) (before : List Raw) (raw : Raw) (p : Placed) → place_answer mode before raw ≡ Ok p
     → (event_after before raw ≡ event_in p) × IsSo mode (events before) p
 unfolding place_answer
 comes mode before (Photon input time dtime) p h = comes-ok mode (events before) _ _ p (comes-event _ mode (events before) _ refl) h
 comes mode before (Marker bits time) p h = comes-ok mode (events before) _ _ p (comes-event _ mode (events before) _ refl) h
-comes mode before (Wrap ticks) p h = comes-wrap _ _ mode (events before) p h
+comes mode before (Wrap ticks) p h = search (rules, arith, comes-ok)
 comes mode before Reserved p h = comes-ok mode (events before) [] ReservedPlaced p (refl, tt) h
 
-pub nothing : (s : Bool) → ◌≡◌ {A = Option Fault} (if s then None else None) None
+pub nothing : {X : Type 0} {x : X} (s : Bool) → (if s then x else x) ≡ x
 nothing true = refl
 nothing false = refl
 
@@ -98,10 +82,7 @@ late_if how b e top = if stops_late how.policy.order then (if b then Some (Backw
 -- Where no event is put in its place.
 refused-so : (how : StreamSettings) (before : List Event) (p : Placed) → how.policy.settle ≡ 0 → IsSo how.mode before p
     → (if stops_late how.policy.order then late_refusal how.policy.settle how.mode before (event_in p) else None) ≡ refused_by how p
-refused-so how before (InOrder e) zero so = search (rules, arith, late_if, is_late_by-0)
-refused-so how before (Late e top) zero so = search (rules, arith, late_if, is_late_by-0)
-refused-so how before WrapPlaced zero so = nothing (stops_late how.policy.order)
-refused-so how before ReservedPlaced zero so = nothing (stops_late how.policy.order)
+refused-so how before p zero so = search (rules, arith, late_if, is_late_by-0, nothing)
 
 fresh-so : (how : StreamSettings) (before : List Event) (p : Placed) → how.policy.settle ≡ 0
     → IsSo how.mode before p → delivered_after how.policy.settle how.mode before (event_in p) ≡ marks_of p
@@ -109,16 +90,11 @@ fresh-so how before p h1 so = search (rules, arith)
 
 pub refused-plain : (how : StreamSettings) (before : List Raw) (raw : Raw) (p : Placed) → how.policy.settle ≡ 0
     → place_answer how.mode before raw ≡ Ok p → refused_late how before raw ≡ refused_by how p
-refused-plain how before raw p zero answer =
-    let c = comes how.mode before raw p answer in
-    ap (λ es. if stops_late how.policy.order then late_refusal how.policy.settle how.mode (events before) es else None) c.0
-    ∙ refused-so how (events before) p zero c.1
+refused-plain how before raw p zero answer = let c = comes how.mode before raw p answer in rw c.0 (refused-so how (events before) p zero c.1)
 
 pub fresh-plain : (how : StreamSettings) (ws : List ℕ) (raw : Raw) (p : Placed) → how.policy.settle ≡ 0
     → place_answer how.mode (map how.meaning ws) raw ≡ Ok p → fresh how ws raw ≡ marks_of p
-fresh-plain how ws raw p zero answer =
-    let c = comes how.mode (map how.meaning ws) raw p answer in
-    ap (delivered_after how.policy.settle how.mode (events (map how.meaning ws))) c.0 ∙ fresh-so how (events (map how.meaning ws)) p zero c.1
+fresh-plain how ws raw p zero answer = let c = comes how.mode _ raw p answer in rw c.0 (fresh-so how (events (map how.meaning ws)) p zero c.1)
 
 -- Where events are put in their places.
 pub not_late : (b : Bool) (k : ℕ) (mode : Mode) (before : List Event) (e : Event)
@@ -128,48 +104,33 @@ not_late false k mode before e is off = is
 
 -- it is no late event
 abbrev pub IsEarly : Placed → Type 0
-IsEarly (InOrder e) = Unit {0}
 IsEarly (Late e top) = ⊥
-IsEarly WrapPlaced = Unit {0}
-IsEarly ReservedPlaced = Unit {0}
+IsEarly p = Unit {0}
 
 early-so : (how : StreamSettings) (before : List Event) (p : Placed) → IsEarly p → IsSo how.mode before p
     → (if stops_late how.policy.order then late_refusal how.policy.settle how.mode before (event_in p) else None) ≡ None
-early-so how before (InOrder e) early so =
-    ap (λ b. late_if how b e (greatest how.mode before)) (not_late _ how.policy.settle how.mode before e refl so) ∙ nothing (stops_late how.policy.order)
+early-so how before (InOrder e) early so = rw (not_late _ how.policy.settle how.mode before e refl so) (nothing (stops_late how.policy.order))
 early-so how before (Late e top) early so = absurd early
-early-so how before WrapPlaced early so = nothing (stops_late how.policy.order)
-early-so how before ReservedPlaced early so = nothing (stops_late how.policy.order)
+early-so how before p early so = nothing (stops_late how.policy.order)
 
 pub refused-early : (how : StreamSettings) (before : List Raw) (raw : Raw) (p : Placed) → IsEarly p
     → place_answer how.mode before raw ≡ Ok p → refused_late how before raw ≡ None
-refused-early how before raw p early answer =
-    let c = comes how.mode before raw p answer in
-    ap (λ es. if stops_late how.policy.order then late_refusal how.policy.settle how.mode (events before) es else None) c.0
-    ∙ early-so how (events before) p early c.1
+refused-early how before raw p early answer = let c = comes how.mode before raw p answer in rw c.0 (early-so how (events before) p early c.1)
 
 -- the greatest time that a placed record was compared with
 abbrev pub top_in : Placed → ℕ
 top_in (InOrder e) = e.time
 top_in (Late e top) = top
-top_in WrapPlaced = 0
-top_in ReservedPlaced = 0
+top_in p = 0
 
 by_top : (how : StreamSettings) (before : List Event) (p : Placed) (e : Event) → event_in p ≡ e ∷ [] → IsSo how.mode before p → late_if how (is_late_by how.policy.settle how.mode before e) e (greatest how.mode before) ≡ late_if how (is_late_by how.policy.settle how.mode before e) e (top_in p)
 by_top how before (InOrder x) e is so =
-    let same : x ≡ e = cc in
-    let late : is_late how.mode before e ≡ false = rw same at so in
-    let off : is_late_by how.policy.settle how.mode before e ≡ false = not_late _ how.policy.settle how.mode before e refl late in
-    ap (λ b. late_if how b e (greatest how.mode before)) off ∙ sym (ap (λ b. late_if how b e x.time) off)
+    let same : x ≡ e = cc in rw (not_late _ how.policy.settle how.mode before e refl (rw same at so)) refl
 by_top how before (Late x top) e is so = ap (late_if how (is_late_by how.policy.settle how.mode before e) e) (sym so.1)
-by_top how before WrapPlaced e is so = cc
-by_top how before ReservedPlaced e is so = cc
+by_top how before p e is so = cc
 
 pub refused-placed : (how : StreamSettings) (before : List Raw) (raw : Raw) (p : Placed) (e : Event) → place_answer how.mode before raw ≡ Ok p → event_in p ≡ e ∷ [] → refused_late how before raw ≡ refused_for how (ordered how.mode (events before)) e (top_in p)
-refused-placed how before raw p e answer is =
-    let c = comes how.mode before raw p answer in
-    ap (λ es. if stops_late how.policy.order then late_refusal how.policy.settle how.mode (events before) es else None) (c.0 ∙ is)
-    ∙ by_top how (events before) p e is c.1
+refused-placed how before raw p e answer is = let c = comes how.mode before raw p answer in rw (c.0, is) (by_top how (events before) p e is c.1)
 
 tells-pick : (k : ℕ) (mode : Mode) (before : List Event) (e : Event) (b : Bool) → (k == 0) ≡ false
     → is_ordered mode e ≡ b → delivered_after k mode before (e ∷ []) ≡ tells k mode (ordered mode before) e
@@ -177,26 +138,17 @@ tells-pick k mode before e b some is = search (rules, arith, delivered_after-ord
 
 pub fresh-placed : (how : StreamSettings) (ws : List ℕ) (raw : Raw) (p : Placed) (e : Event) → how.policy.settle ≢ 0 → place_answer how.mode (map how.meaning ws) raw ≡ Ok p → event_in p ≡ e ∷ [] → fresh how ws raw ≡ tells how.policy.settle how.mode (ordered how.mode (events (map how.meaning ws))) e
 fresh-placed how ws raw p e some answer is =
-    let c = comes how.mode (map how.meaning ws) raw p answer in
-    ap (delivered_after how.policy.settle how.mode (events (map how.meaning ws))) (c.0 ∙ is)
-    ∙ tells-pick how.policy.settle how.mode (events (map how.meaning ws)) e _ (ne_eqb how.policy.settle 0 some) refl
+    rw ((comes how.mode (map how.meaning ws) raw p answer).0, is)
+    (tells-pick how.policy.settle how.mode (events (map how.meaning ws)) e _ (ne_eqb how.policy.settle 0 some) refl)
 
 -- a record that is no event
-none_pick : (b : Bool) → ◌≡◌ {A = Marked} (cond b [] []) []
-none_pick true = refl
-none_pick false = refl
-
 pub skipped-event : (p : Placed) → (p ≡ WrapPlaced) ⊎ (p ≡ ReservedPlaced) → event_in p ≡ []
 skipped-event p is = ⊎_elim (λ (e : p ≡ WrapPlaced). rw e refl) (λ (e : p ≡ ReservedPlaced). rw e refl) is
 
 pub skipped-refusal : (how : StreamSettings) (before : List Raw) (raw : Raw) (p : Placed)
     → place_answer how.mode before raw ≡ Ok p → event_in p ≡ [] → refused_late how before raw ≡ None
-skipped-refusal how before raw p answer is =
-    ap (λ es. if stops_late how.policy.order then late_refusal how.policy.settle how.mode (events before) es else None)
-    ((comes how.mode before raw p answer).0 ∙ is) ∙ nothing (stops_late how.policy.order)
+skipped-refusal how before raw p answer is = rw ((comes how.mode before raw p answer).0, is) (nothing (stops_late how.policy.order))
 
 pub skipped-fresh : (how : StreamSettings) (ws : List ℕ) (raw : Raw) (p : Placed)
     → place_answer how.mode (map how.meaning ws) raw ≡ Ok p → event_in p ≡ [] → fresh how ws raw ≡ []
-skipped-fresh how ws raw p answer is =
-    ap (delivered_after how.policy.settle how.mode (events (map how.meaning ws))) ((comes how.mode (map how.meaning ws) raw p answer).0 ∙ is)
-    ∙ none_pick (how.policy.settle == 0)
+skipped-fresh how ws raw p answer is = rw ((comes how.mode (map how.meaning ws) raw p answer).0, is) (nothing (how.policy.settle == 0))

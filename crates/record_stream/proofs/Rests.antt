@@ -1,9 +1,9 @@
 -- The events that are kept back, given one after another at the end.
-use Rattle.std.{proofs.Common.{rules}, proofs.Common.{◌≡◌, ◌+◌, ◌≤◌, ℕ, suc, List, [], ◌∷◌, ◌++◌, Bool, true, false, cond, Ok, Err, OnErr, IfErr, length, map, refl, sym, ap, subst, ◌∙◌, append_assoc, append-nil, arith, length-append, ◌==◌}, specs.List.All, specs.declared.result.Result.Result, proofs.lemmas.Bool.eqb-true, proofs.lemmas.List.{map-append, length-map}, proofs.lemmas.List.Elements.All-tail}
+use Rattle.std.{proofs.Common.{rules}, proofs.Common.{◌≡◌, ◌+◌, ◌≤◌, ℕ, List, [], ◌∷◌, ◌++◌, Bool, true, false, cond, Ok, Err, OnErr, IfErr, length, map, refl, sym, ap, subst, ◌∙◌, append_assoc, append-nil, arith, length-append, ◌==◌}, specs.List.All, specs.declared.result.Result.Result, proofs.lemmas.Bool.eqb-true, proofs.lemmas.List.{map-append, length-map, nil_from_length}, proofs.lemmas.List.Elements.All-tail}
 use Rattle.tally_base.{specs.declared.event.Event.Event, specs.declared.fault.Fault.Fault, specs.declared.fault.Fault.TheVariants.WriteFault, specs.FaultCounts.{FailsOnce, Rose}}
 use Rattle.ptu_definitions.{specs.Kept.Marked, specs.Settled.{delivered_last, in_time, last_of, marked_as, ordered}, specs.Streams.{StreamSettings, last_in}, specs.Times.events, proofs.DeliveredLaws.delivered_last-0, proofs.SettlingLemmas.waits-is}
 use Rattle.settle.{specs.Standing.{kept_back, reach_of, was_popped}, specs.declared.settle.Settle.Settle}
-use Rattle.record_stream.{specs.Ending.{GaveFirst, BrokeFirst}, specs.Feeding.Follows, specs.Keeping.{CanWait, Settles}, specs.OneMore.{with_event, with_marks}, specs.Walking.{how_of, given_by, records_of, summary_in, Notes, KeepsPlace}, specs.declared.taker.EventTaker.Ghosts, specs.declared.walk.Walk.Walk, proofs.Steps.on_time-push, proofs.Lasts.some-settle, proofs.Summaries.with_marks-append}
+use Rattle.record_stream.{specs.Ending.{GaveFirst, BrokeFirst}, specs.Feeding.Follows, specs.Keeping.{CanWait, Settles}, specs.Walking.{how_of, given_by, records_of, Notes, KeepsPlace}, specs.declared.taker.EventTaker.Ghosts, specs.declared.walk.Walk.Walk, proofs.Steps.on_time-push, proofs.Lasts.some-settle, proofs.Summaries.with_marks-append}
 
 -- all that is left begins with the event that is taken out
 pub parts_one : (all front left rest : List Event) (e : Event) → all ≡ front ++ left → left ≡ e ∷ rest → all ≡ (front ++ e ∷ []) ++ rest
@@ -37,18 +37,17 @@ module _ {T : Type 0} (g : Ghosts T) (walk : Walk) (start : T) (all : List Event
       → Notes now next e false → KeepsPlace now next → Follows g (how_of now).mode (given_by next) low new
       → g.faults new ≡ g.faults taker → g.same start new → GaveFirst g walk start all next new rest low
   gave_one x now next taker new left rest last low e h is gives notes place follows kept same =
-      let count : length left ≡ suc (length rest) = ap length is in
       let mode : (how_of next).mode ≡ (how_of now).mode = ap (λ (how : StreamSettings). how.mode) place.same_how in
       record {
         front = h.front ++ e ∷ [];
         adds = parts_one all h.front left rest e h.adds is;
         follows = λ s l got. subst (λ m. g.got s new m) (on_time-push h.front (e ∷ []) l) (gives s (l ++ marked_as false h.front) (h.follows s l got));
-        summary = notes.summary ∙ ap (λ (s : _). with_event s e false) h.summary ∙ sym (ap (with_marks (summary_in walk)) (map-append (λ (x : Event). (x, false)) h.front (e ∷ [])) ∙ with_marks-append (summary_in walk) (marked_as false h.front) ((e, false) ∷ []));
+        summary = search (rules, arith, map-append, with_marks-append);
         same_how = place.same_how ∙ h.same_how;
-        room = omega (arith, h.room, count, notes.given, place.same_records);
+        room = omega (arith, h.room, ap length is, notes.given, place.same_records);
         few = follows.few;
         mode_is = follows.mode_is ∙ sym mode;
-        fit = subst (λ m. All (CanWait m) rest) (sym mode) (All-tail (CanWait (how_of now).mode) e rest (subst (All (CanWait (how_of now).mode)) is h.fit));
+        fit = rw mode (All-tail (CanWait (how_of now).mode) e rest (rw is at h.fit));
         low = follows.before;
         kept = kept ∙ h.kept;
         same = same;
@@ -60,13 +59,8 @@ rest_pick : (how : StreamSettings) (settle : Settle) (words : List ℕ) (b : Boo
     → marked_as false (kept_back settle) ≡ cond b []
     (marked_as false (last_of how.policy.settle (in_time how.policy.settle (ordered how.mode (events (map how.meaning words))))))
 rest_pick how settle words true is reach still come =
-    let zero : how.policy.settle ≡ 0 = eqb-true how.policy.settle 0 is in
-    let none : length (kept_back settle) ≤ 0 = omega (arith, settle.few, reach, zero) in
-    ap (marked_as false) (nothing (kept_back settle) none)
-  where
-    nothing : (l : List Event) → length l ≤ 0 → l ≡ []
-    nothing [] h = refl
-    nothing (x ∷ l) h = absurd (omega arith)
+    let none : length (kept_back settle) ≡ 0 = omega (arith, settle.few, reach, eqb-true how.policy.settle 0 is) in
+    ap (marked_as false) (nil_from_length (kept_back settle) none)
 rest_pick how settle words false is reach still come = search (rules, arith, some-settle, waits-is)
 
 pub rest-is : (how : StreamSettings) (settle : Settle) (words : List ℕ) → reach_of settle ≡ how.policy.settle

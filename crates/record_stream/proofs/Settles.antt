@@ -1,9 +1,9 @@
 -- One event more where events are put in their places.
-use Rattle.std.{proofs.Common.{rules, ◌≡◌, ◌+◌, ◌<◌, ◌≤◌, ℕ, suc, List, [], ◌∷◌, ◌++◌, Bool, true, false, cond, None, Some, Ok, Err, OnOk, OnErr, IfErr, length, map, max, sym, ap, subst, ◌∙◌, inr, append-nil, add-zero, arith, ◌&&◌, not, is_some, IsTrue, if◌then◌else◌, ◌≢◌, refl, ◌==◌}, specs.List.All, specs.Option.option_to_list, specs.declared.option.Option.Option, specs.declared.result.Result.Result, proofs.lemmas.List.map-append, proofs.lemmas.List.Elements.{filter-append, All-tail, All-from_recursion, recursion_from_All}, proofs.lemmas.Bool.ne_eqb}
+use Rattle.std.{proofs.Common.{rules, ◌≡◌, ◌+◌, ◌≤◌, ℕ, List, [], ◌∷◌, ◌++◌, Bool, true, false, cond, None, Some, Ok, Err, OnOk, OnErr, IfErr, length, length-append, map, sym, ap, ◌∙◌, inr, append-nil, add-zero, arith, ◌&&◌, not, is_some, IsTrue, if◌then◌else◌, ◌≢◌, refl, ◌==◌}, specs.List.All, specs.Option.option_to_list, specs.declared.option.Option.Option, specs.declared.result.Result.Result, proofs.lemmas.List.map-append, proofs.lemmas.List.Elements.{filter-append, All-tail, All-from_recursion, recursion_from_All}, proofs.lemmas.Bool.{cases_Bool, ne_eqb}}
 use Rattle.tally_base.{specs.declared.event.Event.Event, specs.declared.fault.Fault.Fault, specs.declared.fault.Fault.TheVariants.{BackwardTime, WriteFault}, specs.declared.header.Mode.Mode, specs.Events.{is_ordered, stops_late}, specs.FaultCounts.FailsOnce}
 use Rattle.ptu_definitions.{specs.Kept.{Marked, floor_of}, specs.Settled.{is_overtaken, ordered, settles, put_in, not_marked}, specs.Streams.{StreamSettings, events_in}, specs.Times.{event_after, events}, proofs.DeliveredLaws.not_marked-append, proofs.SettledLemmas.length-put_in, proofs.SettlingLemmas.each-put_in, proofs.StreamLemmas.{events-push, events_in-push, fresh}}
 use Rattle.abs_time.{specs.Placing.{mode_of as clock_mode, placed_by}, specs.Floors.moved_floor, proofs.Floors.moved_floor-push}
-use Rattle.record_stream.{specs.Keeping.{CanWait, IsKeeping, HasCome, tells, refused_for, Settles}, proofs.Placed.{late_if, nothing}, specs.OneMore.with_marks, specs.Settling.{Tells, Told}, specs.Walking.{how_of, given_by, records_of, summary_in, clock_in, Gave}, specs.declared.taker.EventTaker.Ghosts, specs.declared.walk.Walk.Walk, specs.Feeding.Follows}
+use Rattle.record_stream.{specs.Keeping.{CanWait, IsKeeping, HasCome, tells, refused_for}, proofs.Placed.{late_if, nothing}, specs.Settling.{Tells, Told}, specs.Walking.{how_of, given_by, records_of, clock_in, Gave}, specs.declared.taker.EventTaker.Ghosts, specs.declared.walk.Walk.Walk, specs.Feeding.Follows}
 use Rattle.settle.{specs.Standing.{HasSettled, kept_back, next_place, last_time, reach_of, was_popped}, specs.declared.settle.Settle.Settle}
 
 -- whether an event is in order, by the mode of the clock of a walk
@@ -16,51 +16,27 @@ pub tells-on : (k reach : ℕ) (mode : Mode) (before : List Event) (e : Event) (
     → reach ≡ k → is_ordered mode e ≡ true → settles reach before e ≡ l → tells k mode before e ≡ l
 tells-on k reach mode before e l same on is = ap (λ b. cond b (settles k before e) []) on ∙ ap (λ n. settles n before e) (sym same) ∙ is
 
-pub tells-off : (k : ℕ) (mode : Mode) (before : List Event) (e : Event) → is_ordered mode e ≡ false → tells k mode before e ≡ []
-tells-off k mode before e off = ap (λ b. cond b (settles k before e) []) off
-
 pub ordered-on : (mode : Mode) (e : Event) → is_ordered mode e ≡ true → ordered mode (e ∷ []) ≡ e ∷ []
 ordered-on mode e on = ap (λ b. cond b (e ∷ []) []) on
 
-pub ordered-off : (mode : Mode) (e : Event) → is_ordered mode e ≡ false → ordered mode (e ∷ []) ≡ []
-ordered-off mode e off = ap (λ b. cond b (e ∷ []) []) off
-
 -- Why it is refused.
-and_false : (a b : Bool) → b ≡ false → (a && b) ≡ false
-and_false a b is = search (rules, arith)
-
 pub unrefused-off : (how : StreamSettings) (before : List Event) (e : Event) (top : ℕ) → is_ordered how.mode e ≡ false → refused_for how before e top ≡ None
 unrefused-off how before e top off = ap (λ b. late_if how (b && is_overtaken how.policy.settle before e) e top) off ∙ nothing (stops_late how.policy.order)
 
 pub unrefused-early : (how : StreamSettings) (reach : ℕ) (before : List Event) (e : Event) (top : ℕ) (late : Bool)
     → reach ≡ how.policy.settle → late ≡ is_overtaken reach before e → late ≡ false → refused_for how before e top ≡ None
-unrefused-early how reach before e top late same is early = search (rules, arith, late_if, and_false)
-
-pub unrefused-passed : (how : StreamSettings) (before : List Event) (e : Event) (top : ℕ) → stops_late how.policy.order ≡ false → refused_for how before e top ≡ None
-unrefused-passed how before e top passes = search (rules, arith)
+unrefused-early how reach before e top late same is early = search (rules, arith, late_if, cases_Bool)
 
 pub refused-stopped : (how : StreamSettings) (reach : ℕ) (before : List Event) (e : Event) (top : ℕ) (late : Bool) → reach ≡ how.policy.settle → is_ordered how.mode e ≡ true → late ≡ is_overtaken reach before e → late ≡ true → stops_late how.policy.order ≡ true
     → refused_for how before e top ≡ Some (BackwardTime e.place e.time top)
 refused-stopped how reach before e top late same on is sure stops = search (rules, arith)
 
 -- The greatest time of what was given.
-pub floor-late : (mode : Mode) (floor : ℕ) (e : Event) → moved_floor mode floor e true ≡ floor
-floor-late mode floor e = search (rules, arith)
-
 pub floor-most : (mode : Mode) (floor last : ℕ) (e : Event) → floor ≤ last → e.time ≤ last → moved_floor mode floor e false ≤ last
 floor-most mode floor last e low time = search (rules, arith)
 
-pub floor-on : (mode : Mode) (floor : ℕ) (e : Event) → is_ordered mode e ≡ true → moved_floor mode floor e false ≡ e.time
-floor-on mode floor e on = ap (λ b. if b && not false then e.time else floor) on
-
-pub late-order : (b : Bool) (P : Type 0) → IsTrue (b && not true) → P
-late-order b P is = search (rules, arith)
-
 greatest-push : (mode : Mode) (l : Marked) (e : Event) (late : Bool) (last now : ℕ) → now ≡ moved_floor mode last e late → (IsTrue (is_ordered mode e && not late) → last ≤ e.time) → last ≡ floor_of mode l → now ≡ floor_of mode (l ++ (e, late) ∷ [])
-greatest-push mode l e late last now moved in_order is =
-    let step : moved_floor mode last e late ≡ max 0 (floor_of mode (l ++ (e, late) ∷ [])) =
-    moved_floor-push mode 0 last l e late (omega (arith, is)) in_order in
-    omega (arith, moved, step)
+greatest-push mode l e late last now moved in_order is = moved ∙ moved_floor-push mode 0 last l e late (omega (arith, is)) in_order ∙ omega arith
 
 -- What waits then.
 pub kept_on : (old new : Walk) (from now : Settle) → IsKeeping old from → how_of new ≡ how_of old
@@ -70,9 +46,7 @@ kept_on old new from now keeps same_how same_reach unpopped fit behind room = se
 
 put_in-all : (P : Event → Type 0) (o : Option Event) (w new : List Event) (e : Event)
     → option_to_list o ++ new ≡ put_in e w → P e → All P w → All P (option_to_list o ++ new)
-put_in-all P o w new e is p all =
-    let Q : List Event → Type 0 = λ l. All P l in
-    subst Q (sym is) (All-from_recursion P (put_in e w) (each-put_in P e w p (recursion_from_All P w all)))
+put_in-all P o w new e is p all = rw is (All-from_recursion P (put_in e w) (each-put_in P e w p (recursion_from_All P w all)))
 
 pub those_waiting : (P : Event → Type 0) (o : Option Event) (w new : List Event) (e : Event) → option_to_list o ++ new ≡ put_in e w → P e → All P w → All P new
 those_waiting P None w new e is p all = put_in-all P None w new e is p all
@@ -80,18 +54,11 @@ those_waiting P (Some x) w new e is p all = All-tail P x new (put_in-all P (Some
 
 pub that_goes : (P : Event → Type 0) (o : Option Event) (x : Event) (w new : List Event) (e : Event)
     → o ≡ Some x → option_to_list o ++ new ≡ put_in e w → P e → All P w → P x
-that_goes P None x w new e some is p all = cc
-that_goes P (Some y) x w new e some is p all =
-    let same : y ≡ x = cc in
-    subst P same (put_in-all P (Some y) w new e is p all 0 y (omega arith))
+that_goes P o x w new e some is p all = let each = rw some at (put_in-all P o w new e is p all) in each 0 x (omega arith)
 
-pub count_waiting : (o : Option Event) (w new : List Event) (e : Event) → option_to_list o ++ new ≡ put_in e w → length new ≤ length w + 1
-count_waiting None w new e is = let n : length new ≡ length (put_in e w) = ap length is in omega (arith, n, length-put_in e w)
-count_waiting (Some x) w new e is = let n : suc (length new) ≡ length (put_in e w) = ap length is in omega (arith, n, length-put_in e w)
-
-pub count_going : (o : Option Event) (x : Event) (w new : List Event) (e : Event) → o ≡ Some x → option_to_list o ++ new ≡ put_in e w → length new ≡ length w
-count_going None x w new e some is = cc
-count_going (Some y) x w new e some is = let n : suc (length new) ≡ length (put_in e w) = ap length is in omega (arith, n, length-put_in e w)
+pub count_waiting : (o : Option Event) (w new : List Event) (e : Event)
+    → option_to_list o ++ new ≡ put_in e w → length (option_to_list o) + length new ≡ length w + 1
+count_waiting o w new e is = omega (arith, length-append (option_to_list o) new, ap length is, length-put_in e w)
 
 module _ {T : Type 0} (g : Ghosts T) where
   -- an event that adds nothing
@@ -110,28 +77,17 @@ module _ {T : Type 0} (g : Ghosts T) where
       → IfErr r (λ fault. fault ≡ WriteFault) → FailsOnce (g.faults t) (g.faults now) r
       → Tells g old new from settle t now before given e top r
   tells_one (Ok y) old new from settle t now before given e x late top none is all_is settled moved in_order gave broken fault cause =
-      let how = how_of old in
       record {
         unrefused = none;
-        settled = subst (λ m. HasSettled settle (before ++ ordered how.mode (e ∷ [])) (given ++ not_marked m)) (sym is)
-            (subst (λ p. HasSettled settle (before ++ p) (given ++ not_marked ((x, late) ∷ []))) (sym all_is) settled);
-        greatest = λ l low. subst (λ m. last_time settle ≡ floor_of how.mode (l ++ m)) (sym is)
-            (greatest-push how.mode l x late (last_time from) (last_time settle) moved in_order low);
-        got = subst (λ m. (start : T) (l : Marked) → g.got start t l → g.got start now (l ++ m)) (sym is) gave.got;
-        summary = subst (λ m. summary_in new ≡ with_marks (summary_in old) m) (sym is) gave.noted.summary;
-        counted = subst (λ (m : Marked). given_by new ≡ given_by old + length m) (sym is) gave.noted.given;
+        settled = rw (is, all_is) settled;
+        greatest = λ l low. rw is (greatest-push (how_of old).mode l x late (last_time from) (last_time settle) moved in_order low);
+        got = rw is gave.got;
+        summary = rw is gave.noted.summary;
+        counted = rw is gave.noted.given;
         kept = cause.kept;
       }
   tells_one (Err y) old new from settle t now before given e x late top none is all_is settled moved in_order gave broken fault cause =
-      inr (
-        fault,
-        record {
-          unrefused = none;
-          some = subst (λ (m : Marked). 0 < length m) (sym is) (omega arith);
-          broken = subst (λ m. (start : T) (l : Marked) → g.got start t l → g.broke start now (l ++ m)) (sym is) broken;
-          rose = cause.once;
-        },
-      )
+      inr (fault, record { unrefused = none; some = rw is (omega arith); broken = rw is broken; rose = cause.once })
 
 -- Behind one word more.
 pub come_event : (how : StreamSettings) (settle settle' : Settle) (ws : List ℕ) (w : ℕ) (e : Event)
@@ -142,16 +98,10 @@ pub come_event : (how : StreamSettings) (settle settle' : Settle) (ws : List ℕ
     → last_time settle' ≡ floor_of how.mode (l ++ tells how.policy.settle how.mode (ordered how.mode (events (map how.meaning ws))) e))
     → HasCome how settle' (ws ++ w ∷ [])
 come_event how settle settle' ws w e come is adds settled moves =
-    let more : Marked = tells how.policy.settle how.mode (ordered how.mode (events (map how.meaning ws))) e in
-    let delivers : events_in how (ws ++ w ∷ []) ≡ events_in how ws ++ more = events_in-push how ws w ∙ ap (λ l. events_in how ws ++ l) adds in
-    let came : ordered how.mode (events (map how.meaning (ws ++ w ∷ []))) ≡ ordered how.mode (events (map how.meaning ws)) ++ ordered how.mode (e ∷ []) =
-    ap (λ l. ordered how.mode (events l)) (map-append how.meaning ws (w ∷ []))
-    ∙ ap (ordered how.mode) (events-push (map how.meaning ws) (how.meaning w) ∙ ap (λ l. events (map how.meaning ws) ++ l) is)
-    ∙ filter-append (λ (x : Event). is_ordered how.mode x) (events (map how.meaning ws)) (e ∷ []) in
-    let gone : not_marked (events_in how (ws ++ w ∷ [])) ≡ not_marked (events_in how ws) ++ not_marked more =
-    ap not_marked delivers ∙ not_marked-append (events_in how ws) more in
+    let delivers = events_in-push how ws w ∙ ap (λ l. events_in how ws ++ l) adds in
+    let came = filter-append (λ (x : Event). is_ordered how.mode x) (events (map how.meaning ws)) (e ∷ []) in
     record {
-      settled = subst (λ p. HasSettled settle' p (not_marked (events_in how (ws ++ w ∷ [])))) (sym came) (subst (λ l. HasSettled settle' (ordered how.mode (events (map how.meaning ws)) ++ ordered how.mode (e ∷ [])) l) (sym gone) settled);
+      settled = rw (delivers, not_marked-append, map-append how.meaning ws (w ∷ []), events-push (map how.meaning ws) (how.meaning w), is, came) settled;
       greatest = moves (events_in how ws) come.greatest ∙ ap (floor_of how.mode) (sym delivers);
     }
 
@@ -171,12 +121,9 @@ plain-is k a b zero = rw zero refl
 pub some-is : (k a b : ℕ) → k ≢ 0 → (if k == 0 then a else b) ≡ b
 some-is k a b some = rw (ne_eqb k 0 some) refl
 
-pub plain-settles : (how now : StreamSettings) (settle : Settle) (words : List ℕ) → now ≡ how → how.policy.settle ≡ 0 → Settles now settle words
-plain-settles how now settle words same zero = λ some. absurd (some (ap (λ (h : StreamSettings). h.policy.settle) same ∙ zero))
-
 pub none-is : (b : Bool) (x y : ℕ) → x ≡ 0 → y ≡ 0 → (if b then x else y) ≡ 0
 none-is b x y one other = search (rules, arith)
 
-module _ {T : Type 0} (g : Ghosts T) where
-  pub follows_to : (how : StreamSettings) (count top top' : ℕ) (t : T) → Follows g how.mode count top t → top' ≡ top → Follows g how.mode count top' t
-  follows_to how count top top' t h same = record { mode_is = h.mode_is; few = h.few; before = omega (arith, h.before, same) }
+pub follows_to : {T : Type 0} (g : Ghosts T) (how : StreamSettings) (count top top' : ℕ) (t : T)
+    → Follows g how.mode count top t → top' ≡ top → Follows g how.mode count top' t
+follows_to g how count top top' t h same = record { mode_is = h.mode_is; few = h.few; before = omega (arith, h.before, same) }

@@ -1,9 +1,9 @@
 -- One word more.
 use Rattle.std.{proofs.Common.{rules, ◌≡◌, ◌+◌, ◌<◌, ℕ, List, [], ◌∷◌, ◌++◌, Bool, false, None, Some, Ok, Err, OnOk, OnErr, IfOk, IfErr, length, map, refl, sym, ap, subst, ◌∙◌, inr, append-nil, add-zero, arith, length-append, ◌&&◌, ◌≤◌, true, is_err, ◌^◌, max, append_assoc, IsTrue, if◌then◌else◌}, specs.declared.result.Result.Result, proofs.lemmas.List.{map-append, map_push}, proofs.lemmas.List.Elements.All-push}
-use Rattle.tally_base.{specs.declared.event.Event.Event, specs.declared.fault.Fault.Fault, specs.declared.fault.Fault.TheVariants.WriteFault, specs.FaultCounts.{FailsOnce, Rose}, specs.Events.{stops_reserved, is_ordered}, specs.declared.header.Mode.Mode, specs.Tally.floor_after, proofs.Floors.{floor-lower, floor-push, order-push}, specs.declared.event.EventKind.TheVariants.{Photon as PhotonEvent, Marker as MarkerEvent}, specs.declared.header.Mode.TheVariants.{T2, T3}, specs.Limits.{time_limit, wrap_limit}}
-use Rattle.ptu_definitions.{specs.declared.records.Summary.Summary, specs.declared.records.Raw.Raw, specs.Kept.{Marked, ordered_time}, specs.Streams.{StreamSettings, refusal, refusals, record_refusal, given, events_in}, proofs.StreamLemmas.{fresh, events_in-push, clear-push, refused-push, given-clear, given-refused, events-push}, specs.Kinds.{is_reserved, counts_of}, specs.declared.records.KindCounts.KindCounts, specs.declared.records.Raw.TheVariants.{Photon, Marker, Wrap, Reserved}, specs.Times.{event_after, event_of, events, amount}, specs.Layouts.{Fits, KindFits}}
+use Rattle.tally_base.{specs.declared.event.Event.Event, specs.declared.fault.Fault.Fault, specs.declared.fault.Fault.TheVariants.WriteFault, specs.FaultCounts.{FailsOnce, Rose}, specs.Events.{stops_reserved, is_ordered}, specs.declared.header.Mode.Mode, specs.Tally.floor_after, proofs.Floors.{floor-lower, floor-push, order-push}, specs.declared.header.Mode.TheVariants.{T2, T3}, specs.Limits.{time_limit, wrap_limit}}
+use Rattle.ptu_definitions.{specs.declared.records.Summary.Summary, specs.declared.records.Raw.Raw, specs.Kept.{Marked, ordered_time}, specs.Streams.{StreamSettings, refusal, refusals, record_refusal, given, events_in}, proofs.StreamLemmas.{fresh, events_in-push, clear-push, refused-push, given-clear, given-refused, events-push}, specs.Kinds.{is_reserved, counts_of}, specs.declared.records.KindCounts.KindCounts, specs.declared.records.Raw.TheVariants.{Photon, Marker, Wrap, Reserved}, specs.Times.{event_of, amount}, specs.Layouts.{Fits, KindFits}}
 use Rattle.abs_time.{specs.declared.clock.Clock.Clock, specs.declared.clock.Placed.Placed, specs.Placing.{HasPlaced, place_answer, mode_of, placed_by, base_of, greatest_by, IsClock, against}, specs.Floors.orders_markers, specs.declared.clock.Placed.TheVariants.{Event as InOrderPlaced, Wrap as WrapPlaced, Reserved as ReservedPlaced}, proofs.ClockLemmas.{IsClock-photon, IsClock-marker, IsClock-wrap, IsClock-reserved, answer-photon, answer-marker, answer-wrap, answer-reserved}, proofs.Floors.moves_by}
-use Rattle.record_stream.{specs.Rows.{IsPlaced, refused_late}, specs.Walking.{how_of, given_by, summary_in, clock_in, Gave, IsBehind, KeepsPlace}, proofs.Placed.{refusal-ok, refusal-err, event_in, marks_of, refused_by, refused-plain, fresh-plain, skipped-refusal, skipped-fresh, IsEarly, comes, refused-early}, specs.declared.taker.EventTaker.Ghosts, specs.Feeding.{IsAt, GaveOn, BrokeOn, Fed}, specs.OneMore.{with_raw, with_marks, so_far, with_block}, specs.declared.walk.Walk.Walk, proofs.Summaries.{so_far-push, so_far-records, so_far-more}, specs.Blocks.{on_time, Adds, BrokeAmong, greatest_with, IsOnTime, IsInLine, PlacesRise, RisesWithin}}
+use Rattle.record_stream.{specs.Rows.{IsPlaced}, specs.Walking.{how_of, given_by, summary_in, clock_in, Gave, IsBehind, KeepsPlace}, proofs.Placed.{refusal-ok, refusal-err, event_in, marks_of, refused_by, refused-plain, fresh-plain, skipped-refusal, skipped-fresh, IsEarly, comes, refused-early}, specs.declared.taker.EventTaker.Ghosts, specs.Feeding.{IsAt, GaveOn, BrokeOn, Fed}, specs.OneMore.{with_raw, with_marks, with_block}, specs.declared.walk.Walk.Walk, proofs.Summaries.{so_far-push, so_far-records, so_far-more}, specs.Blocks.{on_time, Adds, BrokeAmong, greatest_with, IsOnTime, IsInLine, PlacesRise, RisesWithin}}
 use Rattle.settle.specs.Passing.{place_after}
 
 -- as many records as words
@@ -43,9 +43,7 @@ module _ {old mid : Walk} {ws : List ℕ} {w : ℕ} {p : Placed} (marks : Marked
       subst (λ x. IsAt x (clock_in new) (summary_in new) (given_by new) (ws ++ w ∷ [])) (sym (place.same_how ∙ same_how)) (record {
         clear = clear-push how ws w h.clear none;
         placed = rw (place.same_clock, map-append) placed.clock;
-        summary =
-            sums ∙ ap (λ s. with_marks s marks) placed.summary ∙ ap (λ s. with_marks (with_raw s (how.meaning w)) marks) h.summary
-            ∙ ap (with_marks (with_raw (so_far how ws) (how.meaning w))) (sym is) ∙ sym (so_far-push how ws w);
+        summary = rw (sums, placed.summary, h.summary, ← is) (sym (so_far-push how ws w));
         counted = counts ∙ rw (events_in-push, length-append, is, same_given, h.counted) refl;
       })
 
@@ -117,9 +115,7 @@ pub block_at : {how : StreamSettings} {clock clock' : Clock} {sum sum' : Summary
 block_at {how = how} {before = before} {k = k} ws es h a delivers mode placed based greatest sums kinds counts = record {
   clear = a.clear;
   placed = rw (mode, placed, based, greatest) a.clock;
-  summary =
-      sums ∙ ap (λ s. with_block s k es) h.summary ∙ ap (λ k. with_block (so_far how before) k es) kinds
-      ∙ sym (so_far-more how before ws es delivers);
+  summary = rw (sums, h.summary, kinds) (sym (so_far-more how before ws es delivers));
   counted = omega (arith, counts, h.counted, ap length delivers, length-append (events_in how before) (on_time es), length-on_time es);
 }
 
@@ -158,13 +154,9 @@ pub clock-push : (mode : Mode) (n base top : ℕ) (records : List Raw) (raw : Ra
     → IsClock mode n base top records → IsOnTime mode top (event_of (n + 1) base raw)
     → IsClock mode (n + 1) (base + amount raw) (greatest_with mode top (event_of (n + 1) base raw)) (records ++ raw ∷ [])
 clock-push mode n base top records (Photon input time dtime) clock on =
-    let e : Event = record { place = n + 1; kind = PhotonEvent input dtime; time = base + time } in
-    rw add-zero (subst (λ t. IsClock mode (n + 1) base t (records ++ Photon input time dtime ∷ []))
-    (greatest-on_time mode top e on) (IsClock-photon mode n base top input time dtime records clock))
+    rw (add-zero, ← greatest-on_time mode top _ on) (IsClock-photon mode n base top input time dtime records clock)
 clock-push mode n base top records (Marker bits time) clock on =
-    let e : Event = record { place = n + 1; kind = MarkerEvent bits; time = base + time } in
-    rw add-zero (subst (λ t. IsClock mode (n + 1) base t (records ++ Marker bits time ∷ []))
-    (greatest-on_time mode top e on) (IsClock-marker mode n base top bits time records clock))
+    rw (add-zero, ← greatest-on_time mode top _ on) (IsClock-marker mode n base top bits time records clock)
 clock-push mode n base top records (Wrap ticks) clock on = IsClock-wrap mode n base top ticks records clock
 clock-push mode n base top records Reserved clock on = rw add-zero (IsClock-reserved mode n base top records clock)
 
@@ -179,38 +171,23 @@ module _ (how : StreamSettings) (n base top : ℕ) (before ws : List ℕ) (w : �
       → Adds how (n + 1) (base + amount raw) (greatest_with how.mode top (event_of (n + 1) base raw)) before (ws ++ w ∷ []) (es ++ event_of (n + 1) base raw)
   adds-placed raw p means go answers early is marks on =
       let more = event_of (n + 1) base raw in
-      let fresh_is : how.policy.settle ≡ 0 → fresh how ws (how.meaning w) ≡ on_time more =
-      λ plain. ap (fresh how ws) (sym means) ∙ fresh-plain how ws raw p plain (sym answers) ∙ marks in
-      let late : refused_late how (map how.meaning ws) (how.meaning w) ≡ None =
-      ap (refused_late how (map how.meaning ws)) (sym means) ∙ refused-early how (map how.meaning ws) raw p early (sym answers) in
-      let comes_is : event_after (map how.meaning ws) (how.meaning w) ≡ more =
-      ap (event_after (map how.meaning ws)) (sym means) ∙ (comes how.mode (map how.meaning ws) raw p (sym answers)).0 ∙ is in
+      let late = rw means at (refused-early how (map how.meaning ws) raw p early (sym answers)) in
+      let comes_is = rw means at ((comes how.mode (map how.meaning ws) raw p (sym answers)).0 ∙ is) in
       record {
         clear = clear-push how ws w a.clear (refusal-ok how ws w n raw p a.clock.placed room means go (sym answers) ∙ late);
-        clock =
-            subst (λ l. IsClock how.mode (n + 1) (base + amount raw) (greatest_with how.mode top more) l)
-            (ap (λ (r : Raw). map how.meaning ws ++ r ∷ []) means ∙ sym (map_push how.meaning ws w))
-            (clock-push how.mode n base top (map how.meaning ws) raw a.clock on);
-        came =
-            ap events (map-append how.meaning ws (w ∷ [])) ∙ events-push (map how.meaning ws) (how.meaning w)
-            ∙ ap (λ l. events (map how.meaning ws) ++ l) comes_is
-            ∙ ap (λ l. l ++ more) a.came ∙ append_assoc (events (map how.meaning before)) es more;
-        delivers = λ plain. events_in-push how ws w ∙ ap (λ m. events_in how ws ++ m) (fresh_is plain)
-            ∙ ap (λ l. l ++ on_time more) (a.delivers plain) ∙ on_time-push es more (events_in how before);
+        clock = rw (map_push how.meaning ws w, ← means) (clock-push how.mode n base top (map how.meaning ws) raw a.clock on);
+        came = search (rules, arith, map_push, events-push, append_assoc, comes_is);
+        delivers = λ plain. search (rules, arith, events_in-push, fresh-plain, on_time-push);
       }
 
   -- a word that is not refused and no late event
   pub adds-push : (raw : Raw) → raw ≡ how.meaning w → (is_reserved raw && stops_reserved how.policy.reserved) ≡ false
       → base + amount raw ≤ wrap_limit → IsOnTime how.mode top (event_of (n + 1) base raw)
       → Adds how (n + 1) (base + amount raw) (greatest_with how.mode top (event_of (n + 1) base raw)) before (ws ++ w ∷ []) (es ++ event_of (n + 1) base raw)
-  adds-push (Photon input time dtime) means go few on =
-      let e : Event = record { place = n + 1; kind = PhotonEvent input dtime; time = base + time } in
-      adds-placed (Photon input time dtime) (InOrderPlaced e) means go
-      (ap Ok (sym (against-on_time how.mode top e on)) ∙ answer-photon how.mode n base top input time dtime (map how.meaning ws) a.clock) tt refl refl on
-  adds-push (Marker bits time) means go few on =
-      let e : Event = record { place = n + 1; kind = MarkerEvent bits; time = base + time } in
-      adds-placed (Marker bits time) (InOrderPlaced e) means go
-      (ap Ok (sym (against-on_time how.mode top e on)) ∙ answer-marker how.mode n base top bits time (map how.meaning ws) a.clock) tt refl refl on
+  adds-push (Photon input time dtime) means go few on = adds-placed (Photon input time dtime) (InOrderPlaced _) means go
+      (ap Ok (sym (against-on_time how.mode top _ on)) ∙ answer-photon how.mode n base top input time dtime (map how.meaning ws) a.clock) tt refl refl on
+  adds-push (Marker bits time) means go few on = adds-placed (Marker bits time) (InOrderPlaced _) means go
+      (ap Ok (sym (against-on_time how.mode top _ on)) ∙ answer-marker how.mode n base top bits time (map how.meaning ws) a.clock) tt refl refl on
   adds-push (Wrap ticks) means go few on = adds-placed (Wrap ticks) WrapPlaced means go
       (answer-wrap how.mode n base top ticks (map how.meaning ws) (omega (arith, few)) (omega (arith, few)) a.clock) tt refl refl on
   adds-push Reserved means go few on = adds-placed Reserved ReservedPlaced means go (answer-reserved how.mode (map how.meaning ws)) tt refl refl on
@@ -229,30 +206,23 @@ in_line-event mode low top es e line time kind on =
 pub in_line-push : (mode : Mode) (low top place base : ℕ) (es : List Event) (raw : Raw) → IsInLine mode low top es → Fits mode raw → base ≤ wrap_limit
     → IsOnTime mode top (event_of place base raw) → IsInLine mode low (greatest_with mode top (event_of place base raw)) (es ++ event_of place base raw)
 in_line-push mode low top place base es (Photon input time dtime) line fits few on =
-    in_line-event mode low top es (record { place = place; kind = PhotonEvent input dtime; time = base + time }) line (let h =
-    fits.0 in omega (arith, few, h)) fits.1 on
-in_line-push mode low top place base es (Marker bits time) line fits few on =
-    in_line-event mode low top es (record { place = place; kind = MarkerEvent bits; time = base + time }) line (let h : time < 2 ^ 28 =
-    fits in omega (arith, few, h)) (marker-fits mode bits) on
-  where
-    marker-fits : (mode : Mode) (bits : ℕ) → KindFits mode (MarkerEvent bits)
-    marker-fits T2 bits = tt
-    marker-fits T3 bits = tt
+    let h : time < 2 ^ 28 = fits.0 in in_line-event mode low top es _ line (omega (arith, few, h)) fits.1 on
+in_line-push T2 low top place base es (Marker bits time) line fits few on =
+    let h : time < 2 ^ 28 = fits in in_line-event T2 low top es _ line (omega (arith, few, h)) tt on
+in_line-push T3 low top place base es (Marker bits time) line fits few on =
+    let h : time < 2 ^ 28 = fits in in_line-event T3 low top es _ line (omega (arith, few, h)) tt on
 in_line-push mode low top place base es (Wrap ticks) line fits few on = rw append-nil line
 in_line-push mode low top place base es Reserved line fits few on = rw append-nil line
 
 -- and at places that rise
-places-event : (low last : ℕ) (es : List Event) (e : Event) → PlacesRise low es → place_after low es ≤ last
-    → last < e.place → PlacesRise low (es ++ e ∷ []) × (place_after low (es ++ e ∷ []) ≡ e.place)
-places-event low last [] e rise most next = ((omega (arith, most, next), tt), refl)
-places-event low last (x ∷ es) e rise most next = let rest = places-event x.place last es e rise.1 most next in ((rise.0, rest.0), rest.1)
+places-event : (low last : ℕ) (es : List Event) (e : Event)
+    → PlacesRise low es → place_after low es ≤ last → last < e.place → RisesWithin low e.place (es ++ e ∷ [])
+places-event low last [] e rise most next = record { rises = (omega (arith, most, next), tt); last = omega arith }
+places-event low last (x ∷ es) e rise most next =
+    let rest = places-event x.place last es e rise.1 most next in record { rises = (rise.0, rest.rises); last = rest.last }
 
 pub places-push : (low n base : ℕ) (es : List Event) (raw : Raw) → RisesWithin low n es → RisesWithin low (n + 1) (es ++ event_of (n + 1) base raw)
-places-push low n base es (Photon input time dtime) within =
-    let r = places-event low n es (record { place = n + 1; kind = PhotonEvent input dtime; time = base + time }) within.rises within.last (omega arith) in
-    record { rises = r.0; last = omega (arith, r.1) }
-places-push low n base es (Marker bits time) within =
-    let r = places-event low n es (record { place = n + 1; kind = MarkerEvent bits; time = base + time }) within.rises within.last (omega arith) in
-    record { rises = r.0; last = omega (arith, r.1) }
+places-push low n base es (Photon input time dtime) within = places-event low n es _ within.rises within.last (omega arith)
+places-push low n base es (Marker bits time) within = places-event low n es _ within.rises within.last (omega arith)
 places-push low n base es (Wrap ticks) within = rw append-nil (record { rises = within.rises; last = omega (arith, within.last) })
 places-push low n base es Reserved within = rw append-nil (record { rises = within.rises; last = omega (arith, within.last) })

@@ -50,13 +50,9 @@ pub so_far-push : (how : StreamSettings) (ws : List ℕ) (w : ℕ)
     → so_far how (ws ++ w ∷ []) ≡ with_marks (with_raw (so_far how ws) (how.meaning w)) (fresh how ws (how.meaning w))
 unfolding so_far
 so_far-push how ws w =
-    let records : List Raw = map how.meaning ws in
-    let raw : Raw = how.meaning w in
-    ap (λ rs. with_marks (eventless rs) (events_in how (ws ++ w ∷ []))) (map-append how.meaning ws (w ∷ []))
-    ∙ ap (λ s. with_marks s (events_in how (ws ++ w ∷ []))) (eventless-push records raw)
-    ∙ ap (with_marks (with_raw (eventless records) raw)) (events_in-push how ws w)
-    ∙ with_marks-append (with_raw (eventless records) raw) (events_in how ws) (fresh how ws raw)
-    ∙ ap (λ s. with_marks s (fresh how ws raw)) (sym (raw-marks (eventless records) raw (events_in how ws)))
+    let s = eventless (map how.meaning ws) in
+    rw (events_in-push how ws w, map-append how.meaning ws (w ∷ []), eventless-push (map how.meaning ws) (how.meaning w))
+    (with_marks-append (with_raw s (how.meaning w)) (events_in how ws) (fresh how ws (how.meaning w)) ∙ rw (raw-marks s (how.meaning w)) refl)
 
 -- A block more.
 abbrev with_kinds : Summary → KindCounts → Summary
@@ -92,21 +88,13 @@ unfolding so_far
 so_far-more how words more es is =
     let rs : List Raw = map how.meaning words in
     let qs : List Raw = map how.meaning more in
-    let k : KindCounts = counts_of qs in
-    ap (λ l. with_marks (eventless (map how.meaning (words ++ more))) l) is
-    ∙ ap (λ l. with_marks (eventless l) (events_in how words ++ on_time es)) (map-append how.meaning words more)
-    ∙ ap (λ s. with_marks s (events_in how words ++ on_time es)) (eventless-more rs qs)
-    ∙ kinds-marks (eventless rs) k (events_in how words ++ on_time es)
-    ∙ ap (λ s. with_kinds s k)
-    (with_marks-append (eventless rs) (events_in how words) (on_time es) ∙ on_time-marks (with_marks (eventless rs) (events_in how words)) es)
+    rw (is, map-append how.meaning words more, eventless-more rs qs, kinds-marks (eventless rs) (counts_of qs) (events_in how words ++ on_time es))
+    (rw (with_marks-append (eventless rs) (events_in how words) (on_time es), on_time-marks (with_marks (eventless rs) (events_in how words)) es) refl)
 
 -- the first and the last of the rows of a block
 pub first-rows : (kept : Bool) (time : ℕ) (f : ℕ → Event) (n : ℕ) → 0 < n → Some (if kept then time else (f 0).time) ≡ first_with (time_if kept time) (rows f n)
-first-rows kept time f n some = rw (rows-first f n some).1 (by_case kept)
-  where
-    by_case : (kept : Bool) → Some (if kept then time else (f 0).time) ≡ or_time (time_if kept time) (f 0).time
-    by_case true = refl
-    by_case false = refl
+first-rows true time f n some = rw (rows-first f n some).1 refl
+first-rows false time f n some = rw (rows-first f n some).1 refl
 
 last_with-push : (o : Option ℕ) (xs : List Event) (e : Event) → last_with o (xs ++ e ∷ []) ≡ Some e.time
 last_with-push o [] e = refl

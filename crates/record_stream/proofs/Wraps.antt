@@ -1,5 +1,5 @@
 -- How much one wrap adds at most.
-use Rattle.std.{proofs.Common.{rules, ◌<◌, ◌^◌, ℕ, true, false, arith, ◌≡◌, ◌+◌, List, [], ◌∷◌, ◌++◌, Some, length, take, drop, get_or, take-append-drop, refl, sym, ap, ◌∙◌, append_assoc}, proofs.lemmas.Grind.common_steps, proofs.lemmas.Bool.Decides.nat_tests, specs.Int.{from_le_bytes, w32}, proofs.lemmas.List.{take_more, map-append}}
+use Rattle.std.{proofs.Common.{rules, ◌<◌, ◌^◌, ℕ, Bool, true, false, arith, ◌≡◌, ◌+◌, List, [], ◌∷◌, ◌++◌, Some, length, take, drop, get_or, take-append-drop, refl, sym, ap, ◌∙◌, append_assoc}, proofs.lemmas.Grind.common_steps, proofs.lemmas.Bool.Decides.nat_tests, specs.Int.{from_le_bytes, w32}, proofs.lemmas.List.{take_more, map-append}}
 use Rattle.tally_base.{specs.declared.header.RecordType.RecordType, specs.declared.fault.Fault.Fault}
 use Rattle.ptu_definitions.{specs.Layouts.{pico_t2, pico_t3, hydra_t2, hydra_t3, meaning_of}, specs.Times.amount, specs.Words.{words_of, rest_of, numbers}, proofs.WordsLemmas.{words_of-append, rest_of-append}, specs.Streams.{StreamSettings, record_refusal}, proofs.StreamLemmas.refused-more}
 
@@ -11,24 +11,18 @@ pico_t3-small : (word : ℕ) → amount (pico_t3 word) < 2 ^ 50
 unfolding pico_t3
 pico_t3-small word = grind (arith, common_steps, nat_tests)
 
-old_t2-small : (word : ℕ) → amount (hydra_t2 true word) < 2 ^ 50
+hydra_t2-small : (old : Bool) (word : ℕ) → amount (hydra_t2 old word) < 2 ^ 50
 unfolding hydra_t2
-old_t2-small word = grind (arith, common_steps, nat_tests)
+hydra_t2-small true word = grind (arith, common_steps, nat_tests)
+hydra_t2-small false word = grind (arith, common_steps, nat_tests)
 
-new_t2-small : (word : ℕ) → amount (hydra_t2 false word) < 2 ^ 50
-unfolding hydra_t2
-new_t2-small word = grind (arith, common_steps, nat_tests)
-
-old_t3-small : (word : ℕ) → amount (hydra_t3 true word) < 2 ^ 50
+hydra_t3-small : (old : Bool) (word : ℕ) → amount (hydra_t3 old word) < 2 ^ 50
 unfolding hydra_t3
-old_t3-small word = grind (arith, common_steps, nat_tests)
-
-new_t3-small : (word : ℕ) → amount (hydra_t3 false word) < 2 ^ 50
-unfolding hydra_t3
-new_t3-small word = grind (arith, common_steps, nat_tests)
+hydra_t3-small true word = grind (arith, common_steps, nat_tests)
+hydra_t3-small false word = grind (arith, common_steps, nat_tests)
 
 pub amount-small : (t : RecordType) (word : ℕ) → amount (meaning_of t word) < 2 ^ 50
-amount-small t word = search (rules, arith, pico_t2-small, pico_t3-small, old_t2-small, old_t3-small, new_t2-small, new_t3-small)
+amount-small t word = search (rules, arith, pico_t2-small, pico_t3-small, hydra_t2-small, hydra_t3-small)
 
 -- Bytes in fours.
 
@@ -44,9 +38,6 @@ module _ (ws : List (List ℕ)) (i : ℕ) (d : List ℕ) (w : ℕ) (lt : i < len
   pub whole-numbers : numbers ws ≡ (numbers (take i ws) ++ w ∷ []) ++ numbers (drop (i + 1) ws)
   whole-numbers = ap numbers (sym (take-append-drop (i + 1) ws))
       ∙ map-append (from_le_bytes w32) (take (i + 1) ws) (drop (i + 1) ws) ∙ ap (λ l. l ++ numbers (drop (i + 1) ws)) step-numbers
-
-pub more_at : (P : List ℕ → Type 0) (before : List ℕ) (ws : List (List ℕ)) (i : ℕ) (d : List ℕ) (w : ℕ) → i < length ws → w ≡ from_le_bytes w32 (get_or ws i d) → P ((before ++ numbers (take i ws)) ++ w ∷ []) → P (before ++ numbers (take (i + 1) ws))
-more_at P before ws i d w lt is h = rw (numbers-more ws i d lt, ← append_assoc, ← is) h
 
 -- A list in parts.
 pub both-numbers : (words seen rest : List (List ℕ)) → words ≡ seen ++ rest → numbers words ≡ numbers seen ++ numbers rest

@@ -1,5 +1,4 @@
 use Rattle.std.{proofs.Common.{◌++◌, sym, append_assoc, arith}, proofs.Math.Logic.{∥∥₁_map}, proofs.lemmas.List.take-append-drop}
-use Rattle.tally_base.specs.Settings.{coincidence_view}
 use Rattle.coincidence.proofs.Together.{part_shut, three_runs}
 use Rattle.coincidence.proofs.closing.shut_all.Goals as goal
 
@@ -7,17 +6,16 @@ pub shut_part-requires-clause-stands : goal.shut_part-requires-clause-stands
 shut_part-requires-clause-stands g c = ∥∥₁_map c.requires.stands (λ w.
     let was = c.loop-rest.invariant.so_far w.0 w.1 w.2 in
     let is = sym (take-append-drop c.near_first.result c.loop-rest.rest.now) in
-    let next = part_shut (coincidence_view c.args.set.now) c.loop-rest.ring c.loop-rest.cells c.loop-rest.rest.now c.split_at.result.0.now c.split_at.result.1.now (w.0 ++ was.0) was.1 (rw (c.split_at.ensures.front, c.split_at.ensures.back) is) was.3 in
-    (w.0 ++ was.0, next.0, next.3))
+    let next = part_shut _ _ _ _ c.split_at.result.0.now c.split_at.result.1.now _ _ (rw (c.split_at.ensures.front, c.split_at.ensures.back) is) was.3 in
+    (_, next.0, next.3))
 
 pub loop-rest-preserved : goal.loop-rest-preserved
-loop-rest-preserved g c =
-    let is = sym (take-append-drop c.near_first.result c.loop-rest.rest.now) in
-    record {
-      few = omega (arith, c.loop-rest.invariant.few, c.split_at.ensures.back_len);
-      so_far = λ closed xs can.
-          let was = c.loop-rest.invariant.so_far closed xs can in
-          let next = part_shut (coincidence_view c.args.set.now) c.loop-rest.ring c.loop-rest.cells c.loop-rest.rest.now c.split_at.result.0.now c.split_at.result.1.now (closed ++ was.0) was.1 (rw (c.split_at.ensures.front, c.split_at.ensures.back) is) was.3 in
-          (was.0 ++ next.0, next.1, three_runs xs was.0 next.0 next.1 was.1 was.2 next.2, rw (← append_assoc closed was.0 next.0) (next.4 c.shut_part.new.ring c.shut_part.new.cells (c.shut_part.ensures.ring (closed ++ was.0) next.0 next.3) (c.shut_part.ensures.cells (closed ++ was.0) next.0 next.3)));
-      steps = omega (arith, c.loop-rest.invariant.steps, c.shut_part.ensures.steps);
-    }
+loop-rest-preserved g c = record {
+  few = omega (arith, c.loop-rest.invariant.few, c.split_at.ensures.back_len);
+  so_far = λ closed xs can.
+      let was = c.loop-rest.invariant.so_far closed xs can in
+      let is = sym (take-append-drop c.near_first.result c.loop-rest.rest.now) in
+      let next = part_shut _ _ _ _ c.split_at.result.0.now c.split_at.result.1.now _ _ (rw (c.split_at.ensures.front, c.split_at.ensures.back) is) was.3 in
+      (was.0 ++ next.0, next.1, three_runs xs was.0 next.0 next.1 was.1 was.2 next.2, rw (← append_assoc closed was.0 next.0) (next.4 _ _ (c.shut_part.ensures.ring _ next.0 next.3) (c.shut_part.ensures.cells _ next.0 next.3)));
+  steps = omega (arith, c.loop-rest.invariant.steps, c.shut_part.ensures.steps);
+}

@@ -1,5 +1,4 @@
-use Rattle.std.{proofs.Common.{◌∙◌, ◌++◌, arith}, proofs.Props.props, proofs.Math.Logic.{∥∥₁_map, ∥∥₁_elim}}
-use Rattle.tally_base.specs.Settings.{coincidence_view}
+use Rattle.std.{proofs.Common.{◌∙◌, arith}, proofs.Props.props, proofs.Math.Logic.{∥∥₁_map, ∥∥₁_elim}}
 use Rattle.lag_ring.proofs.Sums.{light-at}
 use Rattle.coincidence.{proofs.Together.{all_fit, all_cells, bins_rising, bins_above, shut_parts}, proofs.LagPairs.rising_join}
 use Rattle.coincidence.proofs.closing.shut_together.Goals as goal
@@ -8,13 +7,13 @@ pub pair_lags-requires-clause-photons : goal.pair_lags-requires-clause-photons
 pair_lags-requires-clause-photons g c = (
   c.requires.window.1,
   λ side top p. ∥∥₁_elim c.requires.stands (hlevel props) (λ w.
-      let set = coincidence_view c.args.set.now in
-      let rising = rising_join c.args.ring.now.entries c.args.later.now c.requires.window.0 (rw c.requires.entries (bins_rising set c.args.bins.now w.0 w.1 w.2.keep.are)) (rw c.requires.entries (bins_above set c.args.ring.now c.args.bins.now w.0 w.1 w.2.keep.were w.2.keep.are)) in
-      light-at side top c.args.low p c.args.most (c.args.ring.now.entries ++ c.args.later.now) rising c.requires.window.1.light),
+      let rising = rising_join c.args.ring.now.entries c.args.later.now c.requires.window.0 (rw c.requires.entries (bins_rising _ _ _ _ w.2.keep.are)) (rw c.requires.entries (bins_above _ _ _ _ _ w.2.keep.were w.2.keep.are)) in
+      light-at side top c.args.low p c.args.most _ rising c.requires.window.1.light),
 )
 
 pub pair_lags-requires-clause-fits : goal.pair_lags-requires-clause-fits
-pair_lags-requires-clause-fits g c = λ at inside. ∥∥₁_elim c.requires.stands (hlevel props) (λ w. omega (arith, all_fit (coincidence_view c.args.set.now) c.args.ring.now c.args.cells.now c.args.bins.now w.0 w.1 w.2 c.args.set.now.some_reach.0 c.requires.window.0 at inside, shut_parts (coincidence_view c.args.set.now) c.args.ring.now c.args.cells.now c.args.bins.now w.0 w.1 w.2 c.args.later.now c.requires.entries at))
+pair_lags-requires-clause-fits g c = λ at inside. ∥∥₁_elim c.requires.stands (hlevel props)
+    (λ w. omega (arith, all_fit _ _ _ _ _ _ w.2 c.args.set.now.some_reach.0 c.requires.window.0 at inside, shut_parts _ _ _ _ _ _ w.2 c.args.later.now c.requires.entries at))
 
 pub keep_all-requires-clause-stands : goal.keep_all-requires-clause-stands
 keep_all-requires-clause-stands g c = ∥∥₁_map c.requires.stands (λ w. (w.0, w.1, w.2.keep))
@@ -23,15 +22,13 @@ pub keep_all-requires-clause-sized : goal.keep_all-requires-clause-sized
 keep_all-requires-clause-sized g c = ∥∥₁_elim c.requires.stands (hlevel props) (λ w. c.pair_lags.ensures.spends.same ∙ w.2.had.count)
 
 pub keep_all-requires-clause-fits : goal.keep_all-requires-clause-fits
-keep_all-requires-clause-fits g c = λ at inside. ∥∥₁_elim c.requires.stands (hlevel props) (λ w. omega (arith, all_fit (coincidence_view c.args.set.now) c.args.ring.now c.args.cells.now c.args.bins.now w.0 w.1 w.2 c.args.set.now.some_reach.0 c.requires.window.0 at inside, shut_parts (coincidence_view c.args.set.now) c.args.ring.now c.args.cells.now c.args.bins.now w.0 w.1 w.2 c.args.later.now c.requires.entries at, c.pair_lags.ensures.cells at inside))
+keep_all-requires-clause-fits g c = λ at inside. ∥∥₁_elim c.requires.stands (hlevel props) (λ w. omega (arith, all_fit _ _ _ _ _ _ w.2 c.args.set.now.some_reach.0 c.requires.window.0 at inside, shut_parts _ _ _ _ _ _ w.2 c.args.later.now c.requires.entries at, c.pair_lags.ensures.cells at inside))
 
 pub returns-clause-ring : goal.returns-clause-ring
 returns-clause-ring g c = λ closed xs can. c.keep_all.ensures.ring closed xs can.keep
 
 pub returns-clause-cells : goal.returns-clause-cells
 returns-clause-cells g c = λ closed xs can.
-    all_cells (coincidence_view c.args.set.now) c.args.ring.now c.args.cells.now c.args.bins.now closed
-    xs can c.args.set.now.some_reach.0 c.requires.window.0 c.keep_all.new.cells c.requires.some.0
-    (λ at inside. omega (arith, shut_parts (coincidence_view c.args.set.now) c.args.ring.now c.args.cells.now c.args.bins.now closed xs can c.args.later.now c.requires.entries at, c.pair_lags.ensures.cells at inside, c.keep_all.ensures.cells at inside))
-    (c.keep_all.ensures.spends.same ∙ c.pair_lags.ensures.spends.same)
-    (omega (arith, c.pair_lags.ensures.spends.added, c.keep_all.ensures.spends.added))
+    all_cells _ _ _ _ _ _ can c.args.set.now.some_reach.0 c.requires.window.0 _ c.requires.some.0
+    (λ at inside. omega (arith, shut_parts _ _ _ _ _ _ can c.args.later.now c.requires.entries at, c.pair_lags.ensures.cells at inside, c.keep_all.ensures.cells at inside))
+    (c.keep_all.ensures.spends.same ∙ c.pair_lags.ensures.spends.same) (omega (arith, c.pair_lags.ensures.spends.added, c.keep_all.ensures.spends.added))

@@ -1,6 +1,6 @@
-use Rattle.std.{proofs.Props.props, proofs.Math.Logic.∥∥₁_elim, proofs.Common.{◌≡◌, ◌≢◌, ◌∙◌, ◌+◌, ◌^◌, ◌<◌, Some, None, ◌&&◌, List, [], ◌∷◌, ◌++◌, length, refl, sym, ap, arith, append-nil, append_assoc, length-append, rules}, specs.List.AllByRecursion, proofs.lemmas.List.Sums.count_by-le-length}
+use Rattle.std.{proofs.Props.props, proofs.Math.Logic.∥∥₁_elim, proofs.Common.{◌≡◌, ◌≢◌, ◌∙◌, ◌+◌, ◌^◌, ◌<◌, Some, None, List, [], ◌∷◌, ◌++◌, length, refl, sym, ap, arith, append-nil, append_assoc, length-append, rules}, specs.List.AllByRecursion, proofs.lemmas.List.Sums.count_by-le-length}
 use Rattle.tally_base.{specs.Settings.CoincidenceView, specs.Tally.History}
-use Rattle.coincidence.{specs.declared.pairing.Bin.Bin, specs.Pairs.{in_first, in_second}, specs.Pairing.{joined, BinIs}, specs.Closing.{BinsAre, Gathered, CanGather}, proofs.Visits.{joined_is, behind_bin}}
+use Rattle.coincidence.{specs.declared.pairing.Bin.Bin, specs.Pairing.{joined, BinIs}, specs.Closing.{BinsAre, Gathered, CanGather}, proofs.Visits.{joined_is, behind_bin}}
 use Rattle.coincidence.proofs.gathering.gather_bin.Goals as goal
 
 -- photons that come behind gathered bins
@@ -42,37 +42,28 @@ module _ (set : CoincidenceView) (bin : Bin) (bins : List Bin) (closed came xs :
       → (last.weights.a + bin.weights.a < 2 ^ 64) × (last.weights.b + bin.weights.b < 2 ^ 64) × (last.both + bin.both < 2 ^ 64)
   gather_fits last can =
       let was = can.was in
-      let all : length came ≡ length (closed ++ was.0) + length was.1 = ap length was.2 ∙ length-append (closed ++ was.0) was.1 in
-      let a = count_by-le-length (in_first set) was.1 in
-      let b = count_by-le-length (in_second set) was.1 in
-      let both = count_by-le-length (λ x. in_first set x && in_second set x) was.1 in
-      let more_a = count_by-le-length (in_first set) xs in
-      let more_b = count_by-le-length (in_second set) xs in
-      let more_both = count_by-le-length (λ x. in_first set x && in_second set x) xs in (
-        omega (arith, all, can.few, was.4.0.weighs.a, can.is.weighs.a, a, more_a),
-        omega (arith, all, can.few, was.4.0.weighs.b, can.is.weighs.b, b, more_b),
-        omega (arith, all, can.few, was.4.0.both, can.is.both, both, more_both),
+      let all : length came ≡ length (closed ++ was.0) + length was.1 = ap length was.2 ∙ length-append (closed ++ was.0) was.1 in (
+        omega (arith, all, can.few, was.4.0.weighs.a, can.is.weighs.a, count_by-le-length),
+        omega (arith, all, can.few, was.4.0.weighs.b, can.is.weighs.b, count_by-le-length),
+        omega (arith, all, can.few, was.4.0.both, can.is.both, count_by-le-length),
       )
 
 pub with-requires-clause-a : goal.with-requires-clause-a
-with-requires-clause-a c =
-    ∥∥₁_elim c.requires.stands (hlevel props) (λ w. (gather_fits w.0 c.args.bin c.args.bins.now.items w.1 w.2 w.3 c.in-Some.open (rw c.in-Some.is at w.4)).0)
+with-requires-clause-a c = ∥∥₁_elim c.requires.stands (hlevel props) (λ w. (gather_fits _ _ _ _ _ _ _ (rw c.in-Some.is at w.4)).0)
 
 pub with-requires-clause-b : goal.with-requires-clause-b
-with-requires-clause-b c =
-    ∥∥₁_elim c.requires.stands (hlevel props) (λ w. (gather_fits w.0 c.args.bin c.args.bins.now.items w.1 w.2 w.3 c.in-Some.open (rw c.in-Some.is at w.4)).1)
+with-requires-clause-b c = ∥∥₁_elim c.requires.stands (hlevel props) (λ w. (gather_fits _ _ _ _ _ _ _ (rw c.in-Some.is at w.4)).1)
 
 pub with-requires-clause-both : goal.with-requires-clause-both
-with-requires-clause-both c =
-    ∥∥₁_elim c.requires.stands (hlevel props) (λ w. (gather_fits w.0 c.args.bin c.args.bins.now.items w.1 w.2 w.3 c.in-Some.open (rw c.in-Some.is at w.4)).2)
+with-requires-clause-both c = ∥∥₁_elim c.requires.stands (hlevel props) (λ w. (gather_fits _ _ _ _ _ _ _ (rw c.in-Some.is at w.4)).2)
 
 pub returns-then-open-bin-clause-follows : goal.returns-then-open-bin-clause-follows
-returns-then-open-bin-clause-follows c = λ set closed came xs can. rw c.with.ensures
-    (gather_joins set c.in-Some.open c.args.bin c.args.bins.now.items closed came xs (rw c.in-Some.is at can) c.if-open-bin.true)
+returns-then-open-bin-clause-follows c = λ set closed came xs can.
+    rw c.with.ensures (gather_joins _ _ _ _ _ _ _ (rw c.in-Some.is at can) c.if-open-bin.true)
 
 pub returns-else-open-bin-clause-follows : goal.returns-else-open-bin-clause-follows
-returns-else-open-bin-clause-follows c = λ set closed came xs can. rw c.push.ensures.items
-    (gather_shuts set c.in-Some.open c.args.bin c.args.bins.now.items closed came xs (rw c.in-Some.is at can) c.if-open-bin.false)
+returns-else-open-bin-clause-follows c = λ set closed came xs can.
+    rw c.push.ensures.items (gather_shuts _ _ _ _ _ _ _ (rw c.in-Some.is at can) c.if-open-bin.false)
 
 pub returns-in-None-clause-follows : goal.returns-in-None-clause-follows
-returns-in-None-clause-follows c = λ set closed came xs can. gather_first set c.args.bin c.args.bins.now.items closed came xs (rw c.in-None.is at can)
+returns-in-None-clause-follows c = λ set closed came xs can. gather_first _ _ _ _ _ _ (rw c.in-None.is at can)

@@ -1,16 +1,16 @@
-use Rattle.std.{proofs.Common.{rules}, proofs.Common.{◌≡◌, ◌≤◌, ◌+◌, ◌-◌, ◌++◌, ◌*◌, ℕ, length, arith}, specs.List.{sum_by}}
+use Rattle.std.{proofs.Common.{rules}, proofs.Common.{◌≤◌, ◌+◌, ◌-◌, ◌++◌, ℕ, length, arith}}
 use Rattle.tally_base.specs.Settings.{coincidence_view}
-use Rattle.lag_ring.{specs.declared.ring.Entry.Entry, specs.Bytes.weight_of, proofs.Rising.all_weaker}
-use Rattle.coincidence.{specs.Closing.{earlier_side, later_side}, proofs.LagPairs.{window-lags, few_later}}
+use Rattle.lag_ring.{specs.declared.ring.Entry.Entry, proofs.Rising.all_weaker}
+use Rattle.coincidence.{proofs.LagPairs.{window-lags}}
 use Rattle.coincidence.proofs.lags.pair_side.Goals as goal
 
 pub spots_of-spots-requires-clause-few : goal.spots_of-spots-requires-clause-few
-spots_of-spots-requires-clause-few g c = search (rules, arith, few_later)
+spots_of-spots-requires-clause-few g c = search (rules, arith)
 
 pub pair_window-requires-clause-window : goal.pair_window-requires-clause-window
 pair_window-requires-clause-window g c = record {
   weighed = c.requires.photons.0.weighed;
-  light = λ p inside. omega (arith, c.requires.has p inside, c.requires.photons.1 (earlier_side c.args.direction) c.args.places.top p);
+  light = λ p inside. omega arith;
   few = rw c.deref.ensures.0 (omega (arith, c.spots_of-spots.ensures.few));
   near =
       let last : ℕ = length c.args.window.now - c.args.places.top in
@@ -21,10 +21,10 @@ pair_window-requires-clause-window g c = record {
 
 pub pair_window-requires-clause-fits : goal.pair_window-requires-clause-fits
 pair_window-requires-clause-fits g c = λ at inside.
-    let photons : (f : ℕ → ℕ) → sum_by f c.spots_of-spots.result.items ≡ sum_by (λ (e : Entry). f (e.index - c.args.places.low) * weight_of (later_side c.args.direction) e) c.args.later.now = λ f. rw c.requires.photons.2 at (c.spots_of-spots.ensures.sums f) in
-    rw (c.deref.ensures.0, window-lags c.args.direction (coincidence_view c.args.set) at c.args.places.top c.args.places.low c.args.window.now c.spots_of-spots.result.items (c.args.ring.now.entries ++ c.args.later.now) c.args.later.now c.requires.opens.lags.0 c.requires.has c.requires.opens.near photons) (c.requires.fits at inside)
+    let same = window-lags c.args.direction (coincidence_view c.args.set) at c.args.places.top c.args.places.low c.args.window.now c.spots_of-spots.result.items (c.args.ring.now.entries ++ c.args.later.now) c.args.later.now c.requires.opens.lags.0 c.requires.has c.requires.opens.near (λ f. rw c.requires.photons.2 at (c.spots_of-spots.ensures.sums f)) in
+    rw (c.deref.ensures.0, same) (c.requires.fits at inside)
 
 pub returns-clause-cells : goal.returns-clause-cells
 returns-clause-cells g c = λ at inside.
-    let photons : (f : ℕ → ℕ) → sum_by f c.spots_of-spots.result.items ≡ sum_by (λ (e : Entry). f (e.index - c.args.places.low) * weight_of (later_side c.args.direction) e) c.args.later.now = λ f. rw c.requires.photons.2 at (c.spots_of-spots.ensures.sums f) in
-    rw (c.deref.ensures.0, window-lags c.args.direction (coincidence_view c.args.set) at c.args.places.top c.args.places.low c.args.window.now c.spots_of-spots.result.items (c.args.ring.now.entries ++ c.args.later.now) c.args.later.now c.requires.opens.lags.0 c.requires.has c.requires.opens.near photons) at (c.pair_window.ensures.cells at inside)
+    let same = window-lags c.args.direction (coincidence_view c.args.set) at c.args.places.top c.args.places.low c.args.window.now c.spots_of-spots.result.items (c.args.ring.now.entries ++ c.args.later.now) c.args.later.now c.requires.opens.lags.0 c.requires.has c.requires.opens.near (λ f. rw c.requires.photons.2 at (c.spots_of-spots.ensures.sums f)) in
+    rw (c.deref.ensures.0, same) at (c.pair_window.ensures.cells at inside)

@@ -1,19 +1,17 @@
 use Rattle.std.{proofs.Common.{◌<◌, arith, rules}, specs.List.AllByRecursion-prop, proofs.Props.props, proofs.Math.Logic.{∥∥₁_elim, ∥∥₁_map}}
-use Rattle.tally_base.specs.Settings.{coincidence_view}
 use Rattle.lag_ring.specs.declared.ring.Entry.{Entry}
 use Rattle.coincidence.proofs.Shut.{both_fit, before, may_fit, cells_shut}
 use Rattle.coincidence.proofs.pairing.append.Goals as goal
 
 pub pair-requires-clause-after : goal.pair-requires-clause-after
-pair-requires-clause-after g c = ∥∥₁_elim c.requires.stands (AllByRecursion-prop (λ (e : Entry). e.index < c.args.bin.now.weights.index) (λ e. hlevel props) _) (λ w. before (coincidence_view c.args.set.now) c.args.ring.now c.args.bin.now w.0 w.1 w.2.keep)
+pair-requires-clause-after g c =
+    ∥∥₁_elim c.requires.stands (AllByRecursion-prop (λ (e : Entry). e.index < c.args.bin.now.weights.index) (λ e. hlevel props) _) (λ w. before _ _ _ _ _ w.2.keep)
 
 pub pair-requires-clause-both : goal.pair-requires-clause-both
-pair-requires-clause-both g c =
-    ∥∥₁_elim c.requires.stands (hlevel props) (λ w. both_fit (coincidence_view c.args.set.now) c.args.ring.now c.args.bin.now w.0 w.1 w.2.keep)
+pair-requires-clause-both g c = ∥∥₁_elim c.requires.stands (hlevel props) (λ w. both_fit _ _ _ _ _ w.2.keep)
 
 pub pair-requires-clause-fits : goal.pair-requires-clause-fits
-pair-requires-clause-fits g c =
-    ∥∥₁_elim c.requires.stands (hlevel props) (λ w. may_fit (coincidence_view c.args.set.now) c.args.ring.now c.args.cells.now c.args.bin.now w.0 w.1 w.2)
+pair-requires-clause-fits g c = ∥∥₁_elim c.requires.stands (hlevel props) (λ w. may_fit _ _ _ _ _ _ w.2)
 
 pub returns-clause-cells : goal.returns-clause-cells
 returns-clause-cells g c = search (rules, arith, cells_shut)

@@ -1,19 +1,17 @@
 use Rattle.std.{proofs.Common.{◌≡◌, ◌+◌, ◌<◌, [], ◌∷◌, ◌++◌, rules, arith}, proofs.Math.Logic.{∥∥₁_map}}
 use Rattle.tally_base.{specs.Settings.coincidence_view, specs.Tally.History, specs.Columns.{item, rows, gathered}}
-use Rattle.coincidence.{specs.Pairs.photons_of_groups, specs.Pairing.{pairing_of, Came}, specs.StandsFor.CanTake, proofs.Blockwise.{came_same, put_row, came_more}, proofs.taking.take_each.Goals.{then-first-second, else-first-second}}
+use Rattle.coincidence.{specs.Pairs.photons_of_groups, specs.Pairing.{pairing_of, Came}, specs.StandsFor.CanTake, proofs.Blockwise.{photons-same, put_row, photons-more}, proofs.taking.take_each.Goals.{then-first-second, else-first-second}}
 use Rattle.coincidence.proofs.taking.take_each.Goals as goal
 
 pub put-open-requires : goal.put-open-requires
 put-open-requires g c =
-    let b = c.args.block.now in
-    let set = coincidence_view c.args.set.now in
-    let at = c.loop-at.at in
-    let within : at < b.len = search (rules, arith) in
-    let now = pairing_of c.loop-at.open c.loop-at.pairing.ring c.loop-at.pairing.cells in
+    let within : c.loop-at.at < c.args.block.now.len = search (rules, arith) in
+    let either = rw (c.has_photon-first.ensures, c.has_photon-second.ensures) at c.if-first-second.true in
+    let is_bin = rw (c.time.ensures, c.has_photon-first.ensures, c.has_photon-second.ensures) at c.of_photon-bin.ensures in
     record {
       stands = ∥∥₁_map c.requires.stands (λ w.
           let came = c.loop-at.invariant.came w.0 w.1 in
-          (came.0, came.1, item b at ∷ [], put_row set c.args.pairing.now now b w.0 at within w.1 came c.has_photon-first.result c.has_photon-second.result c.has_photon-first.ensures c.has_photon-second.ensures c.if-first-second.true _ c.time.result c.time.ensures c.of_photon-bin.ensures));
+          (came.0, came.1, item c.args.block.now c.loop-at.at ∷ [], rw is_bin (put_row _ c.args.block.now w.0 c.loop-at.at either _ within w.1 _ came)));
     }
 
 pub returns-clause-follows : goal.returns-clause-follows
@@ -28,22 +26,22 @@ loop-at-preserved g c =
     let set = coincidence_view c.args.set.now in
     let at = c.loop-at.at in
     let within : at < b.len = search (rules, arith) in
-    let now = pairing_of c.loop-at.open c.loop-at.pairing.ring c.loop-at.pairing.cells in
     let then = c.if-first-second in
     let row : ((h : History) → CanTake set c.args.pairing.now (gathered b) h → Came set (pairing_of then.open then.pairing.ring then.pairing.cells) (photons_of_groups set (h ++ rows (item b) (at + 1)))) × (then.steps + c.args.pairing.now.cells.added ≡ c.args.steps.now + then.pairing.cells.added) =
     elim c.if-first-second.branch [
       | then-first-second w ↦
+          let either = rw (c.has_photon-first.ensures, c.has_photon-second.ensures) at w.if-first-second.true in
+          let is_bin = rw (w.time.ensures, c.has_photon-first.ensures, c.has_photon-second.ensures) at w.of_photon-bin.ensures in
           rw (w.pairing-is, w.steps-is, w.open-is) (
             λ h can.
                 let came = inv.came h can in
-                came_more set c.args.pairing.now now b h at within can came c.has_photon-first.result c.has_photon-second.result c.has_photon-first.ensures c.has_photon-second.ensures w.if-first-second.true (pairing_of w.put-open.result w.put-open.new.ring w.put-open.new.cells)
-                (w.put-open.ensures.follows came.0 came.1 (item b at ∷ []) (put_row set c.args.pairing.now now b h at within can came c.has_photon-first.result c.has_photon-second.result c.has_photon-first.ensures c.has_photon-second.ensures w.if-first-second.true _ w.time.result w.time.ensures w.of_photon-bin.ensures)),
+                rw (photons-more set b h at either, came.2)
+                (w.put-open.ensures.follows came.0 came.1 (item b at ∷ []) (rw is_bin (put_row set b h at either c.args.pairing.now within can _ came))),
             omega (arith, inv.steps, w.put-open.ensures.steps),
           )
       | else-first-second w ↦
           rw (w.pairing-is, w.steps-is, w.open-is) (
-            λ h can. came_same set now b h at c.has_photon-first.result c.has_photon-second.result
-                c.has_photon-first.ensures c.has_photon-second.ensures w.if-first-second.false (inv.came h can),
+            λ h can. rw (photons-same set b h at (rw (c.has_photon-first.ensures, c.has_photon-second.ensures) at w.if-first-second.false)) (inv.came h can),
             inv.steps,
           )
     ] in

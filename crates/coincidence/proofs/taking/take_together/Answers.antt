@@ -1,24 +1,17 @@
 use Rattle.std.{proofs.Common.{◌++◌}, proofs.Math.Logic.{∥∥₁_map}}
-use Rattle.tally_base.specs.Settings.{coincidence_view}
-use Rattle.coincidence.{specs.Closing.CanShutAll, proofs.Together.can_shut_all}
+use Rattle.coincidence.{proofs.Together.can_shut_all}
 use Rattle.coincidence.proofs.taking.take_together.Goals as goal
 
 pub gather_block-open-requires-clause-stands : goal.gather_block-open-requires-clause-stands
 gather_block-open-requires-clause-stands g c = ∥∥₁_map c.requires.stands (λ w. (c.args.pairing.now.ring, c.args.pairing.now.cells, w.0, w.1))
 
 pub shut_all-requires-clause-stands : goal.shut_all-requires-clause-stands
-shut_all-requires-clause-stands g c =
-    let set = coincidence_view c.args.set.now in
-    let p = c.args.pairing.now in
-    ∥∥₁_map c.requires.stands (λ w.
-    let were = c.gather_block-open.ensures.follows p.ring p.cells w.0 w.1 in
-    (w.1.was.0, were.0, rw c.deref.ensures.0 (can_shut_all set p c.args.block.now w.0 w.1 c.gather_block-open.result c.gather_block-open.new.bins.items were)))
+shut_all-requires-clause-stands g c = ∥∥₁_map c.requires.stands (λ w.
+    let were = c.gather_block-open.ensures.follows c.args.pairing.now.ring c.args.pairing.now.cells w.0 w.1 in
+    (w.1.was.0, were.0, rw c.deref.ensures.0 (can_shut_all _ _ c.args.block.now w.0 w.1 _ _ were)))
 
 pub returns-clause-follows : goal.returns-clause-follows
 returns-clause-follows g c = λ h can.
-    let set = coincidence_view c.args.set.now in
-    let p = c.args.pairing.now in
-    let were = c.gather_block-open.ensures.follows p.ring p.cells h can in
-    let may : CanShutAll set p.ring p.cells c.deref.result.now can.was.0 were.0 =
-    rw c.deref.ensures.0 (can_shut_all set p c.args.block.now h can c.gather_block-open.result c.gather_block-open.new.bins.items were) in
+    let were = c.gather_block-open.ensures.follows c.args.pairing.now.ring c.args.pairing.now.cells h can in
+    let may = rw (← c.deref.ensures.0) at (can_shut_all _ _ c.args.block.now h can _ _ were) in
     (can.was.0 ++ were.0, were.1, were.2, record { opened = were.4; ring = c.shut_all.ensures.ring can.was.0 were.0 may; cells = c.shut_all.ensures.cells can.was.0 were.0 may })

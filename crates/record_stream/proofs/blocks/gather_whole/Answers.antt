@@ -1,8 +1,8 @@
-use Rattle.std.{proofs.Common.{◌≡◌, ◌+◌, ◌*◌, ◌^◌, ◌%◌, ◌<◌, ◌≤◌, ◌++◌, [], ◌∷◌, ℕ, List, true, length, map, take, get_or, refl, sym, ap, subst, ◌∙◌, arith, rules, slice_index}, specs.List.{range_with_len}, specs.Int.{from_le_bytes, w32}, proofs.Math.Nat.mul-le-mul_right, proofs.Math.Seq.take-append_seam, proofs.lemmas.List.take_all, proofs.lemmas.List.FromFn.{take-map-range_with_len, map-range_with_len_more}}
-use Rattle.tally_base.{specs.declared.event.Event.Event, specs.Codes.{code_in, dtime_in}, specs.Columns.{event_at, event_by, rows, written}, proofs.BlockRows.{length-rows, rows-split}}
+use Rattle.std.{proofs.Common.{◌≡◌, ◌+◌, ◌*◌, ◌^◌, ◌<◌, ◌≤◌, ◌++◌, [], ◌∷◌, ℕ, List, true, length, map, take, get_or, refl, sym, ap, ◌∙◌, arith, rules, slice_index}, specs.List.{range_with_len}, specs.Int.{from_le_bytes, w32}, proofs.Math.Nat.mul-le-mul_right, proofs.Math.Seq.take-append_seam, proofs.lemmas.List.take_all, proofs.lemmas.List.FromFn.{take-map-range_with_len, map-range_with_len_more}}
+use Rattle.tally_base.{specs.declared.event.Event.Event, specs.Columns.{event_at, rows, written}, proofs.BlockRows.{length-rows, rows-split}}
 use Rattle.abs_time.specs.Placing.{placed_by, base_of}
-use Rattle.record_layout.{specs.declared.columns.Columns.Columns, specs.InColumns.{wraps_at, sum_to, time_in, Rises}, specs.InClose.{staying, stays, HasStayed, code_at, time_at}, proofs.Chosen.few-staying, proofs.Added.sum-few}
-use Rattle.record_stream.{specs.Rows.{ordered_below, gathered_below}, specs.Whole.{close_event, last_below}, specs.Walking.{how_of, greatest_of, clock_in}, proofs.WholeBlocks.gathers-close}
+use Rattle.record_layout.{specs.declared.columns.Columns.Columns, specs.InColumns.{wraps_at, sum_to, time_in, Rises}, specs.InClose.{staying, stays}, proofs.Chosen.few-staying, proofs.Added.sum-few}
+use Rattle.record_stream.{specs.Rows.{gathered_below}, specs.Whole.{close_event}, specs.Walking.{how_of, greatest_of, clock_in}, proofs.WholeBlocks.gathers-close}
 use Rattle.record_stream.proofs.blocks.gather_whole.Goals as goal
 
 few-stay : (below : ℕ) (columns : Columns) (n : ℕ) → length (staying below columns n) ≤ n
@@ -13,21 +13,12 @@ few-stay below columns n = few-staying (stays below columns) n
 first-rows : {X : Type 0} (f g : ℕ → X) (m n : ℕ) → n ≤ m → rows f m ≡ map g (range_with_len 0 m) → rows f n ≡ map g (range_with_len 0 n)
 first-rows f g m n le is =
     let split = rows-split f n m le in
-    sym (take-append_seam (rows f n) split.0) ∙ ap (λ k. take k (rows f n ++ split.0)) (length-rows f n)
-    ∙ ap (take n) (sym split.1 ∙ is) ∙ take-map-range_with_len g 0 m n le
-
-few-sums : (columns : Columns) → ((i : ℕ) → i < 64 → wraps_at columns i ≤ 2 ^ 25) → (i : ℕ) → i < 64 → sum_to (wraps_at columns) (i + 1) ≤ 2 ^ 31
-few-sums columns few i lt = omega (arith, sum-few (wraps_at columns) (2 ^ 25) (i + 1) (λ k less. few k (omega (arith, less, lt))), lt)
+    sym (rw length-rows at (take-append_seam (rows f n) split.0)) ∙ ap (take n) (sym split.1 ∙ is) ∙ take-map-range_with_len g 0 m n le
 
 pub fill-len-requires : goal.fill-len-requires
 fill-len-requires g c = record {
-  few = λ i lt.
-      let is = c.requires.rows i (omega (arith, c.requires.whole, lt)) in
-      g.met.R.RecordLayout.wraps_few (from_le_bytes w32 (get_or c.args.words.now i [])) (wraps_at c.args.columns.now i) is.amounts;
+  few = λ i lt. let is = c.requires.rows i (omega (arith, c.requires.whole, lt)) in g.met.R.RecordLayout.wraps_few _ _ is.amounts;
 }
-
-same_event : (p p' m m' t t' : ℕ) → p ≡ p' → m ≡ m' → t ≡ t' → event_by p (code_in m) (dtime_in m) t ≡ event_by p' (code_in m') (dtime_in m') t'
-same_event p p' m m' t t' ps ms ts = rw (ps, ms, ts) refl
 
 -- one event more
 one-more : (f : ℕ → Event) (i : ℕ) (old new : List Event) (e : Event) → new ≡ old ++ e ∷ []
@@ -45,14 +36,8 @@ pub loop-i-preserved : goal.loop-i-preserved
 loop-i-preserved g c =
     let inv = c.loop-i.invariant in
     let i = c.loop-i.i in
-    let first = c.placed-first.result + 1 in
-    let f = close_event first c.base-base.result g.R.RecordLayout.UNIT c.fill-len.new.self in
-    let place = (first + c.place.result) % 2 ^ 64 in
-    let is : event_by place (code_in c.mark.result) (dtime_in c.mark.result) c.time.result ≡ f i =
-    same_event place _ c.mark.result _ c.time.result _ (ap (λ (k : ℕ). (first + k) % 2 ^ 64) c.place.ensures) c.mark.ensures c.time.ensures in
     record {
-      events = one-more f i (written c.loop-i.block i) (written c.write.new.self (i + 1))
-          (event_by place (code_in c.mark.result) (dtime_in c.mark.result) c.time.result) c.write.ensures.more is inv.events;
+      events = one-more _ i _ _ _ c.write.ensures.more (rw (c.place.ensures, c.mark.ensures, c.time.ensures) refl) inv.events;
       count = c.write.ensures.count ∙ inv.count;
       unsorted = c.write.ensures.unsorted ∙ inv.unsorted;
     }
@@ -77,46 +62,27 @@ returns-clause-gathers g c =
     let whole = c.requires.whole in
     let start = base_of (clock_in walk) in
     let rises : sure ≡ true → Rises (greatest_of walk) (time_in start unit columns) 64 = λ is.
-    subst (λ b. Rises (greatest_of walk) (time_in b unit columns) 64) c.base-base.ensures.value
-    (subst (λ l. Rises l (time_in c.base-base.result unit columns) 64) c.greatest-low.ensures (c.rises-in_order.ensures.rises is)) in
-    let ordered_is : c.ordered_below-ordered.result ≡ ordered_below (how_of walk).mode =
-    c.ordered_below-ordered.ensures ∙ ap ordered_below (c.mode.ensures ∙ walk.same_mode) in
-    let below_is : c.gathered_below-below.result ≡ gathered_below only (how_of walk).mode =
-    c.gathered_below-below.ensures ∙ ap (gathered_below only) (c.mode-2.ensures ∙ walk.same_mode) in
-    let has : HasStayed (gathered_below only (how_of walk).mode) columns 64 close len =
-    subst (λ b. HasStayed b columns 64 close len) below_is c.fill-len.ensures.stayed in
+    rw (c.base-base.ensures.value, c.greatest-low.ensures) at (c.rises-in_order.ensures.rises is) in
+    let has = rw (c.gathered_below-below.ensures, c.mode-2.ensures, walk.same_mode) at c.fill-len.ensures.stayed in
     let few_placed : placed_by (clock_in walk) + 100 ≤ 2 ^ 64 = omega (arith, walk.few_placed, walk.few, walk.limit) in
     let few : (i : ℕ) → i < 64 → wraps_at columns i ≤ 2 ^ 25 = λ i lt.
-    let is = c.requires.rows i (omega (arith, whole, lt)) in
-    g.met.R.RecordLayout.wraps_few (from_le_bytes w32 (get_or words i [])) (wraps_at columns i) is.amounts in
+    g.met.R.RecordLayout.wraps_few (from_le_bytes w32 (get_or words i [])) (wraps_at columns i) (c.requires.rows i (omega (arith, whole, lt))).amounts in
     let fits : (i : ℕ) → i < 64 → time_in start unit columns i < 2 ^ 64 = λ i lt.
     let sum = sum_to (wraps_at columns) (i + 1) in
     let unit_few : unit ≤ 2 ^ 28 = omega (arith, g.met.R.RecordLayout.unit_small) in
     let product : unit * sum ≤ 2 ^ 28 * sum = mul-le-mul_right sum unit_few in
     let time_few : slice_index columns.times i < 2 ^ 32 = c.rises-in_order.ensures.few i lt in
-    omega (arith, product, time_few, few-sums columns few i lt, c.requires.passes.base) in
-    let wraps : c.from.result ≡ sum_to (wraps_at columns) 64 = c.from.ensures ∙ c.fill-len.ensures.wraps in
-    let sum_is : c.base-base.result + c.UNIT.result * c.from.result ≡ start + unit * sum_to (wraps_at columns) 64 =
-    ap (λ b. b + c.UNIT.result * c.from.result) c.base-base.ensures.value
-    ∙ ap (λ u. start + u * c.from.result) c.UNIT.ensures ∙ ap (λ w. start + unit * w) wraps in
-    let top_is : c.last_time.result ≡ last_below (ordered_below (how_of walk).mode)
-    (greatest_of walk) (code_at close) (λ i. time_at start unit close i % 2 ^ 64) len =
-    c.last_time.ensures ∙ ap (λ o. last_below o c.greatest-low.result (code_at close) (λ i. time_at c.base-base.result unit close i % 2 ^ 64) len) ordered_is
-    ∙ ap (λ l. last_below (ordered_below (how_of walk).mode) l (code_at close) (λ i. time_at c.base-base.result unit close i % 2 ^ 64) len)
-    c.greatest-low.ensures
-    ∙ ap (λ b. last_below (ordered_below (how_of walk).mode) (greatest_of walk) (code_at close) (λ i. time_at b unit close i % 2 ^ 64) len)
-    c.base-base.ensures.value in
+    let sums = sum-few (wraps_at columns) (2 ^ 25) (i + 1) (λ k less. few k (omega (arith, less, lt))) in
+    omega (arith, product, time_few, sums, lt, c.requires.passes.base) in
     let len_few : len ≤ 64 = omega (arith, has.count, few-stay (gathered_below only (how_of walk).mode) columns 64) in
     let last : c.loop-i.i ≡ 64 = search (rules, arith) in
-    let all = subst (λ n. written c.loop-i.block n ≡ map (close_event (c.placed-first.result + 1) c.base-base.result unit close) (range_with_len 0 n)) last c.loop-i.invariant.events in
-    let es_are : written c.loop-i.block len ≡ map (close_event (placed_by (clock_in walk) + 1) start unit close) (range_with_len 0 len) =
-    first-rows (event_at c.loop-i.block) (close_event (c.placed-first.result + 1) c.base-base.result unit close) 64 len len_few all
-    ∙ ap (λ p. map (close_event (p + 1) c.base-base.result unit close) (range_with_len 0 len)) c.placed-first.ensures.value
-    ∙ ap (λ b. map (close_event (placed_by (clock_in walk) + 1) b unit close) (range_with_len 0 len)) c.base-base.ensures.value in
+    let all = rw last at c.loop-i.invariant.events in
+    let es_are = first-rows (event_at c.loop-i.block) (close_event (c.placed-first.result + 1) c.base-base.result unit close) 64 len len_few all in
     gathers-close walk words meaning c.requires.meaning c.requires.passes only unit columns c.requires.rows whole sure rises 64
-    (omega arith) close len has few_placed fits
-    (c.base-base.result + c.UNIT.result * c.from.result) c.last_time.result
-    (written c.loop-i.block len) (take_all 64 words (omega (arith, whole))) sum_is top_is es_are
+    (omega arith) close len has few_placed fits (c.base-base.result + c.UNIT.result * c.from.result) c.last_time.result (written c.loop-i.block len)
+    (take_all 64 words (omega (arith, whole))) (rw (c.base-base.ensures.value, c.UNIT.ensures, c.from.ensures, c.fill-len.ensures.wraps) refl)
+    (rw (c.ordered_below-ordered.ensures, c.mode.ensures, walk.same_mode, c.greatest-low.ensures, c.base-base.ensures.value) at c.last_time.ensures)
+    (rw (c.placed-first.ensures.value, c.base-base.ensures.value) at es_are)
 
 pub returns-clause-blank : goal.returns-clause-blank
 returns-clause-blank g c = record { empty = c.loop-i.invariant.count; unsorted = c.loop-i.invariant.unsorted }

@@ -1,5 +1,4 @@
-use Rattle.std.{proofs.Common.{arith, rules, ◌++◌, [], refl, length, length-append}, specs.Int.{from_le_bytes, w32}, proofs.lemmas.List.map-append, proofs.lemmas.Result.err_from_is_err_and}
-use Rattle.ptu_definitions.specs.Words.{numbers}
+use Rattle.std.{proofs.Common.{arith, rules, ◌++◌, [], refl, length-append}, specs.Int.{from_le_bytes, w32}, proofs.lemmas.List.map-append, proofs.lemmas.Result.err_from_is_err_and}
 use Rattle.record_stream.{proofs.Feeds.{took-none, took-more, took-last, took-stop}, proofs.Wraps.{parted, parted-numbers, both-numbers}}
 use Rattle.record_stream.proofs.blocks.take_words.Goals as goal
 
@@ -9,25 +8,19 @@ many-init g c = ([], refl, took-none g.S.EventTaker _ _ _ _ c.requires.ready.fol
 pub many-preserved : goal.many-preserved
 many-preserved g c =
     let inv = c.many.invariant in
-    let front = c.split_at.result.0.now in
-    let back = c.split_at.result.1.now in (
+    let front = c.split_at.result.0.now in (
       inv.0 ++ front,
-      parted c.args.words.now inv.0 c.many.rest.now front back inv.1 c.split_at.ensures.by_index.0,
-      took-more g.S.EventTaker inv.2 (numbers (inv.0 ++ front)) (length (inv.0 ++ front))
-          (map-append (from_le_bytes w32) inv.0 front) (length-append inv.0 front)
-          c.in_ok-take_block.ensures.delivers c.in_ok-take_block.ensures.goes_on c.take_block.ensures.stays
-          (g.met.S.EventTaker.same_more _ _ _ inv.2.stays.same c.take_block.ensures.stays.same),
+      parted c.args.words.now inv.0 c.many.rest.now front c.split_at.result.1.now inv.1 c.split_at.ensures.by_index.0,
+      took-more g.S.EventTaker inv.2 _ _ (map-append (from_le_bytes w32) inv.0 front) (length-append inv.0 front) c.in_ok-take_block.ensures.delivers
+          c.in_ok-take_block.ensures.goes_on c.take_block.ensures.stays (g.met.S.EventTaker.same_more _ _ _ inv.2.stays.same c.take_block.ensures.stays.same),
     )
 
 pub returns-in_err-take_block-clause-delivers : goal.returns-in_err-take_block-clause-delivers
 returns-in_err-take_block-clause-delivers g c =
     let inv = c.many.invariant in
-    let back = c.split_at.result.1.now in
     let p = err_from_is_err_and c.from_residual.result c.from_residual.ensures.1 in
-    rw (p.1, p.2)
-    (took-stop g.S.EventTaker inv.2 (numbers back) (numbers c.args.words.now)
-    (parted-numbers c.args.words.now inv.0 c.many.rest.now c.split_at.result.0.now back inv.1 c.split_at.ensures.by_index.0)
-    c.in_err-take_block.ensures.delivers)
+    let parts = parted-numbers c.args.words.now inv.0 c.many.rest.now c.split_at.result.0.now c.split_at.result.1.now inv.1 c.split_at.ensures.by_index.0 in
+    rw (p.1, p.2) (took-stop g.S.EventTaker inv.2 _ _ parts c.in_err-take_block.ensures.delivers)
 
 pub returns-clause-delivers : goal.returns-clause-delivers
 returns-clause-delivers g c = search (rules, arith, took-last, both-numbers)

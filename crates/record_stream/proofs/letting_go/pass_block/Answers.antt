@@ -1,19 +1,10 @@
-use Rattle.std.proofs.Common.{rules, ◌≡◌, ◌+◌, ◌-◌, ◌<◌, ◌++◌, [], ℕ, List, drop, length, map, min, sym, ap, ◌∙◌, arith, length-append, length-drop}
+use Rattle.std.proofs.Common.{rules, ◌≡◌, ◌+◌, ◌-◌, ◌<◌, ◌++◌, [], ℕ, List, drop, length, map, min, refl, sym, ap, ◌∙◌, arith, length-append, length-drop}
 use Rattle.tally_base.{specs.declared.event.Event.Event, specs.Columns.{event_at, gathered, rows, time_at}, specs.declared.block.Block.Block, proofs.BlockRows.length-rows}
 use Rattle.ptu_definitions.{specs.Settled.{not_marked, ordered}, specs.Streams.events_in, specs.Times.events}
 use Rattle.abs_time.specs.Placing.{placed_by}
 use Rattle.settle.{specs.Standing.{kept_back, next_place, last_time}, specs.declared.settle.Settle.Settle, specs.Passing.{next_after, place_after, time_after}}
 use Rattle.record_stream.{specs.Walking.{how_of, clock_in}, proofs.Passed.{block-joins, comes_behind, delivers_passed, lets_passed, next-behind, place-rows, stays-low, stays-rising, time-rows}}
 use Rattle.record_stream.proofs.letting_go.pass_block.Goals as goal
-
--- what is written behind no events
-goes_is : (out : Block 64) (pushed went gone front : List Event) → gathered out ≡ []
-    → pushed ≡ gathered out ++ gone → went ≡ pushed ++ front → went ≡ gone ++ front
-goes_is out pushed went gone front blank is more = more ∙ ap (λ l. l ++ front) (is ∙ ap (λ l. l ++ gone) blank)
-
-stays_is : (cleared waiting items stay rest back : List Event) → cleared ≡ []
-    → waiting ≡ cleared ++ rest → items ≡ waiting ++ back → stay ≡ items → stay ≡ rest ++ back
-stays_is cleared waiting items stay rest back none is more same = same ∙ more ∙ ap (λ l. l ++ back) (is ∙ ap (λ l. l ++ rest) none)
 
 -- As many as come go, and as many as were kept back stay: the first of both together, and the last.
 record IsCut (b went : Block 64) (s : Settle) (stay : List Event) (len : ℕ) : Type 0 where
@@ -28,10 +19,10 @@ module _ (b out went : Block 64) (s : Settle) (len held least : ℕ) (pushed wai
     (whole : all ≡ kept_back s) (parts : all ≡ gone ++ rest) (front_len : length gone ≡ len - (len - least))
     (count : len ≡ b.len) (held_is : held ≡ length (kept_back s)) (least_is : least ≡ min len held) where
   went_is : gathered went ≡ gone ++ rows (event_at b) (len - least)
-  went_is = goes_is out pushed (gathered went) gone (rows (event_at b) (len - least)) blank first more
+  went_is = rw (more, first, blank) refl
 
   stay_is : stay ≡ rest ++ drop (len - least) (gathered b)
-  stay_is = stays_is cleared waiting items stay rest (drop (len - least) (gathered b)) none left back same
+  stay_is = rw (same, back, left, none) refl
 
   both_len : length (kept_back s) ≡ length gone + length rest
   both_len = ap length (sym whole ∙ parts) ∙ length-append gone rest
@@ -45,10 +36,8 @@ module _ (b out went : Block 64) (s : Settle) (len held least : ℕ) (pushed wai
         block-joins (event_at b) (len - least) b.len (kept_back s) gone rest (gathered went) stay (sym whole ∙ parts) went_is stay_is (omega (arith, count))
         (λ some. omega (arith, some, both_len, front_len, held_is, least_is));
     many = many_go;
-    as_many =
-        omega (arith, ap length stay_is, length-append rest (drop (len - least) (gathered b)), length-drop (len - least) (gathered b), length-rows (event_at b) b.len, both_len, front_len, count, held_is, least_is);
-    last = λ time some is.
-        is ∙ sym (time-rows (last_time s) (event_at went) went.len (omega (arith, many_go, count, some)) ∙ ap (λ n. (event_at went (n - 1)).time) many_go);
+    as_many = search (rules, arith, stay_is, both_len, length-append, length-drop, length-rows);
+    last = λ time some is. is ∙ rw (time-rows (last_time s) (event_at went) went.len (omega (arith, many_go, count, some)), many_go) refl;
   }
 
 place_is : (b : Block 64) (place len : ℕ) (e : Event) → 0 < b.len → len ≡ b.len → e ≡ event_at b (len - 1) → e.place ≡ place_after place (gathered b)
@@ -65,20 +54,15 @@ time-requires c =
 
 pub pass-requires : goal.pass-requires
 pass-requires c =
-    let walk = c.args.walk.now in
-    let b = c.args.block.now in
-    let s = c.args.settle.now in
-    let went = gathered c.push_front.new.self in
-    let some : 0 < b.len = omega (arith, c.if-len-eq0.false, c.len-len.ensures.count) in
+    let some : 0 < c.args.block.now.len = omega (arith, c.if-len-eq0.false, c.len-len.ensures.count) in
     let cuts =
-    cut b c.clear.new.self c.push_front.new.self s c.len-len.result c.held.result c.min.result _ _ _ _ _ _ _ _
+    cut c.args.block.now c.clear.new.self c.push_front.new.self c.args.settle.now c.len-len.result c.held.result c.min.result _ _ _ _ _ _ _ _
     c.clear.ensures.empty c.push_all.ensures.more c.push_front.ensures.more c.clear-2.ensures c.stay_all.ensures c.stay_back.ensures c.as_slice.ensures.value
     c.waiting.ensures.value c.split_at.ensures.by_index.0 c.split_at.ensures.front_len c.len-len.ensures.count c.held.ensures.value c.min.ensures in
     record {
       as_many = cuts.as_many;
-      low = rw (cuts.last c.time.result some c.time.ensures)
-          (stays-low walk s (gathered b) went c.as_slice.result.now c.requires.settles c.requires.keeps c.requires.full c.requires.comes cuts.joined);
-      rising = stays-rising walk s (gathered b) went c.as_slice.result.now c.requires.settles c.requires.keeps c.requires.full c.requires.comes cuts.joined;
+      low = search (rules, arith, stays-low);
+      rising = search (rules, arith, stays-rising, cuts);
     }
 
 pub returns : goal.returns
@@ -104,10 +88,8 @@ returns c =
           (gathered b) went stay c.requires.settles c.requires.keeps c.requires.full comes cuts.joined c.pass.new.self c.pass.ensures.waits cuts.as_many
           (c.pass.ensures.time ∙ time) (stands.place ∙ ap (λ n. n + 1) place) stands.same_reach (stands.same_popped ∙ c.requires.keeps.unpopped);
       delivers = λ words h.
-          let low = placed_by (clock_in walk) in
-          let place = place_is b low c.len-len.result c.event.result some c.len-len.ensures.count c.event.ensures in
-          let next : c.event.result.place + 1 ≡ next_after (next_place s) (gathered b) =
-          ap (λ n. n + 1) place ∙ sym (next-behind (next_place s) low (gathered b) (omega (arith, some, length-rows (event_at b) b.len))) in
+          let place = place_is b (placed_by (clock_in walk)) c.len-len.result c.event.result some c.len-len.ensures.count c.event.ensures in
+          let next : c.event.result.place + 1 ≡ next_after (next_place s) (gathered b) = search (rules, arith, next-behind, length-rows, place) in
           let behind = comes_behind walk s
           (gathered b) went stay c.requires.settles c.requires.keeps c.requires.full comes cuts.joined c.time.result c.event.result.place time next in
           let passed = c.pass.ensures.passed (ordered how.mode (events (map how.meaning words)))

@@ -1,8 +1,8 @@
-use Rattle.std.proofs.Common.{◌≡◌, ◌+◌, ◌<◌, ◌++◌, [], ◌∷◌, true, map, ap, sym, subst, ◌∙◌, arith, rules}
-use Rattle.tally_base.{specs.declared.event.Event.Event, specs.Events.is_ordered, specs.Columns.{event_at, gathered, rows}, proofs.Floors.order-at, proofs.BlockRows.{length-rows, more_rows}}
-use Rattle.ptu_definitions.{specs.Layouts.KindFits, specs.Kept.greatest, specs.Settled.{not_marked, ordered}, specs.Streams.events_in, specs.Times.events}
-use Rattle.abs_time.{specs.Placing.{IsSmall, placed_by}, specs.Floors.orders_markers}
-use Rattle.record_stream.{specs.LettingGo.{LetsGo, IsDelivered}, specs.Walking.{how_of, greatest_of, clock_in}, proofs.Gathering.{all-rows, each-rows}, proofs.LettingGo.{early-row, places-at, lets_on, delivers_on}}
+use Rattle.std.{proofs.Common.{◌≡◌, ◌+◌, ◌<◌, ◌++◌, [], ◌∷◌, true, map, sym, ◌∙◌, arith, rules}, proofs.lemmas.List.Elements.All-from_recursion}
+use Rattle.tally_base.{specs.Events.is_ordered, specs.Columns.{event_at, gathered, rows}, proofs.Floors.order-at, proofs.BlockRows.{length-rows, more_rows}}
+use Rattle.ptu_definitions.{specs.Layouts.KindFits, specs.Settled.{not_marked, ordered}, specs.Streams.events_in, specs.Times.events}
+use Rattle.abs_time.{specs.Placing.{IsSmall}, specs.Floors.orders_markers}
+use Rattle.record_stream.{specs.Walking.{how_of, greatest_of}, proofs.Gathering.all-rows, proofs.LettingGo.{early-row, places-at, lets_on, delivers_on}}
 use Rattle.record_stream.proofs.letting_go.push_block.Goals as goal
 
 pub push-settled-requires-clause-behind : goal.push-settled-requires-clause-behind
@@ -18,39 +18,32 @@ loop-at-preserved c =
     let b = c.args.block.now in
     let f = event_at b in
     let i = c.loop-at.at in
-    let low = placed_by (clock_in walk) in
     let inv = c.loop-at.invariant in
     let old = c.loop-at.settle in
     let went = gathered c.loop-at.out in
     let e = c.event.result in
     let is : e ≡ f i = c.event.ensures in
     let within : i < b.len = search (rules, arith) in
-    let grown : rows f i ++ e ∷ [] ≡ rows f (i + 1) = ap (λ x. rows f i ++ x ∷ []) is ∙ sym (more_rows f i) in
-    let small : IsSmall how.mode e = rw is (record {
-      in_time = (order-at (orders_markers how.mode) (greatest_of walk) f b.len i within c.requires.comes.in_order).0;
-      kind = all-rows (λ e. KindFits how.mode e.kind) f b.len i within c.requires.comes.fit;
-    }) in
-    let on : is_ordered how.mode e ≡ true = rw is (each-rows (λ (x : Event). is_ordered how.mode x ≡ true) f b.len i within c.requires.comes.ordered) in
+    let grown : rows f i ++ e ∷ [] ≡ rows f (i + 1) = rw is (sym (more_rows f i)) in
+    let in_time = (order-at (orders_markers how.mode) (greatest_of walk) f b.len i within c.requires.comes.in_order).0 in
+    let small : IsSmall how.mode e = rw is (record { in_time = in_time; kind = all-rows (λ e. KindFits how.mode e.kind) f b.len i within c.requires.comes.fit }) in
+    let on : is_ordered how.mode e ≡ true = rw is (all-rows (λ x. is_ordered how.mode x ≡ true) f b.len i within (All-from_recursion _ (rows f b.len) c.requires.comes.ordered)) in
     let push = c.push-settled.ensures in
     let new = c.push-settled.new.self in
     let o = c.push-settled.result.emitted in
     let late = c.push-settled.result.late in
     let went' = gathered c.push_some.new.block in
     record {
-      lets_go =
-          subst (λ l. LetsGo how.mode low c.args.settle.now new l went') grown
-          (lets_on how.mode low c.args.settle.now old new (rows f i) went e inv.lets_go went' on small push.stands.place push.stands.same_reach (push.stands.same_popped ∙ inv.lets_go.unpopped) o late _ c.push_some.ensures.more push.keeps.emits push.keeps.left_out push.keeps.kept push.moves.time push.moves.same_time push.moves.rises);
+      lets_go = rw (← grown) (lets_on how.mode _ c.args.settle.now old new (rows f i) went e inv.lets_go went' on small push.stands.place
+          push.stands.same_reach (push.stands.same_popped ∙ inv.lets_go.unpopped) o late _ c.push_some.ensures.more push.keeps.emits push.keeps.left_out
+          push.keeps.kept push.moves.time push.moves.same_time push.moves.rises);
       delivers = λ words h.
           let d = inv.delivers words h in
-          let pushed = ordered how.mode (events (map how.meaning words) ++ rows f i) in
-          let given = not_marked (events_in how words) ++ went in
-          let top_is : greatest_of walk ≡ greatest how.mode (events (map how.meaning words)) =
-          h.behind.placed.greatest ∙ ap (λ m. greatest m (events (map how.meaning words))) walk.same_mode in
-          let tells = push.pushed pushed given d.settled in
-          let first = early-row how.policy.settle how.mode (events (map how.meaning words)) f b.len i
-          (greatest_of walk) e within top_is c.requires.comes.in_order is on in
-          subst (λ l. IsDelivered how new words l went') grown
-          (delivers_on how old new words (rows f i) went e c.requires.settles d went' o late old.reach
+          let before = events (map how.meaning words) in
+          let tells = push.pushed (ordered how.mode (before ++ rows f i)) (not_marked (events_in how words) ++ went) d.settled in
+          let top_is = rw walk.same_mode at h.behind.placed.greatest in
+          let first = early-row how.policy.settle how.mode before f b.len i (greatest_of walk) e within top_is c.requires.comes.in_order is on in
+          rw (← grown) (delivers_on how old new words (rows f i) went e c.requires.settles d went' o late old.reach
           (inv.lets_go.reach ∙ c.requires.keeps.reach) on c.push_some.ensures.more first tells.overtaken tells.tells tells.settled);
       unsorted = c.push_some.ensures.unsorted ∙ inv.unsorted;
     }

@@ -1,7 +1,7 @@
-use Rattle.std.{proofs.Common.{◌∙◌, sym, ◌≡◌, ℕ, ◌<◌, Bool, true, false, cond, List, [], ◌∷◌, get_or, refl, arith, rules}, specs.List.{count_by, filter}, proofs.lemmas.Bool.false≢true}
-use Rattle.tally_base.{specs.Settings.{coincidence_view, CoincidenceView, coincidence_cells}, specs.Tally.History}
+use Rattle.std.{proofs.Common.{◌∙◌, sym, ◌≡◌, ℕ, ◌<◌, Bool, true, false, List, [], ◌∷◌, get_or, refl, arith, rules}, specs.List.{count_by, filter}, proofs.lemmas.Bool.false≢true}
+use Rattle.tally_base.{proofs.Sums.{count_none}, specs.Settings.{CoincidenceView, coincidence_cells}, specs.Tally.History}
 use Rattle.lag_ring.proofs.Sums.{sum_by-same, sum_by-filter}
-use Rattle.coincidence.{proofs.Visits.work_within, specs.declared.pairing.Pairing.Pairing, specs.Pairs.{is_coincidence, coincidences, photons_of_groups}, specs.StandsFor.StandsFor, proofs.Blockwise.mine, proofs.Hits.{pairs_in, zeros}, proofs.Mirror.pairs_apart-in}
+use Rattle.coincidence.{proofs.Visits.work_within, specs.declared.pairing.Pairing.Pairing, specs.Pairs.{is_coincidence, coincidences, photons_of_groups}, specs.StandsFor.StandsFor, proofs.Blockwise.mine, proofs.Hits.{pairs_in}, proofs.Mirror.pairs_apart-in}
 use Rattle.coincidence.proofs.coincidence.Coincidence.cell.Goals as goal
 
 -- the photons of the two groups make all the pairs
@@ -12,20 +12,13 @@ module _ {X : Type 0} (p : X → Bool) (r : X → X → Bool) (left : (x y : X) 
   -- what doesn't pass is in no pair
   pairs_in-filter : (xs : List X) → pairs_in r (filter p xs) ≡ pairs_in r xs
   pairs_in-filter [] = refl
-  pairs_in-filter (x ∷ xs) =
-      let rest = pairs_in-filter xs in
-      (elim (p x) as (λ b. p x ≡ b → pairs_in r (cond b (x ∷ filter p xs) (filter p xs)) ≡ pairs_in r (x ∷ xs)) [
-        | true ↦ λ is. omega (arith, rest, kept (r x) (λ y. right x y) xs, kept (λ y. r y x) (λ y. left y x) xs)
-        | false ↦ λ is.
-            let out : count_by (r x) xs ≡ 0 = sum_by-same (λ y. cond (r x y) 1 0) (λ y. 0) xs (λ y. rw (left x y is) refl) ∙ zeros xs in
-            let into : count_by (λ y. r y x) xs ≡ 0 = sum_by-same (λ y. cond (r y x) 1 0) (λ y. 0) xs (λ y. rw (right y x is) refl) ∙ zeros xs in
-            omega (arith, rest, out, into)
-      ]) refl
+  pairs_in-filter (x ∷ xs) = search (rules, arith, pairs_in, kept, count_none, pairs_in-filter xs)
 
 coincidences-photons : (set : CoincidenceView) (c : ℕ) (h : History) → coincidences set c (photons_of_groups set h) ≡ coincidences set c h
 coincidences-photons set c h =
-    let same = pairs_in-filter (mine set) (is_coincidence set c) (λ x y is. grind (arith, is)) (λ x y is. grind (arith, is)) h in
-    pairs_apart-in (is_coincidence set c) (photons_of_groups set h) ∙ same ∙ sym (pairs_apart-in (is_coincidence set c) h)
+    pairs_apart-in (is_coincidence set c) (photons_of_groups set h)
+    ∙ pairs_in-filter (mine set) (is_coincidence set c) (λ x y is. grind (arith, is)) (λ x y is. grind (arith, is)) h
+    ∙ sym (pairs_apart-in (is_coincidence set c) h)
 
 cell_is : (closed : Bool) → closed ≡ true → (set : CoincidenceView) (p : Pairing) (count time : ℕ) (h : History) → StandsFor closed set p count time h → (c : ℕ) → c < coincidence_cells set → get_or p.cells.cells c 0 ≡ coincidences set c h
 cell_is false shut set p count time h is c inside = absurd (false≢true shut)
@@ -33,9 +26,7 @@ cell_is true shut set p count time h is c inside = is.photons.cells.pairs c insi
 
 pub returns : goal.returns
 returns c = record {
-  pairs = λ shut h is.
-      let t = c.args.self.now in
-      c.get.ensures.count ∙ cell_is t.closed shut (coincidence_view t.set) t.pairing t.taken t.floor h is c.args.at c.requires.inside;
+  pairs = λ shut h is. c.get.ensures.count ∙ cell_is _ shut _ _ _ _ h is c.args.at c.requires.inside;
   place = sym c.get.ensures.count;
   work = λ h is. work_within c.args.self.now.closed _ c.args.self.now.pairing _ is.photons;
 }

@@ -1,5 +1,5 @@
 use Rattle.std.proofs.Common.{◌≡◌, false, length, rules, arith, length-append}
-use Rattle.tally_base.{specs.Columns.{item, events_in}, proofs.BlockRows.length-rows, proofs.Floors.{greatest_block, order-lower, floor-lower}, proofs.Sums.whole_slice}
+use Rattle.tally_base.{proofs.BlockRows.length-rows, proofs.Floors.{greatest_block, order-lower, floor-lower}, proofs.Sums.whole_slice}
 use Rattle.coincidence.proofs.start_stop.StartStopTally.events.Goals as goal
 
 pub count_block-self-requires-clause-in_order : goal.count_block-self-requires-clause-in_order
@@ -10,16 +10,14 @@ invariant_of-self g c = search (rules, arith, whole_slice, floor-lower)
 
 pub returns-clause-follows : goal.returns-clause-follows
 returns-clause-follows g c = λ h is.
-    let t = c.args.self.now in
-    let block = c.args.block.now in
     let e = rw c.deref_mut.ensures.value at c.count_block-self.ensures in
-    let count : length c.count_block-self.new.cells ≡ length t.cells.items = search rules in
-    let all : t.cells.len ≡ length t.cells.items = search rules in
+    let count : length c.count_block-self.new.cells ≡ length c.args.self.now.cells.items = search rules in
+    let all : c.args.self.now.cells.len ≡ length c.args.self.now.cells.items = search rules in
     let now = e.follows h (record { each = is.cells; rest = is.over; open' = is.start }) in
     record {
-      cells = λ b lt. rw (whole_slice c.count_block-self.new.cells t.cells.items t.cells.len count all) (now.each b lt);
+      cells = λ b lt. rw (whole_slice _ _ _ count all) (now.each b lt);
       over = now.rest;
       start = now.open';
-      taken = omega (arith, is.taken, c.len.ensures.count, length-append h (events_in block), length-rows (item block) block.len);
-      floor = greatest_block false h block _ _ is.floor c.requires.in_order c.floor_after-self.ensures;
+      taken = search (rules, arith, length-append, length-rows);
+      floor = greatest_block false h c.args.block.now _ _ is.floor c.requires.in_order c.floor_after-self.ensures;
     }

@@ -1,19 +1,16 @@
-use Rattle.std.{proofs.Common.{◌++◌, Err, subst, ◌∙◌}, proofs.lemmas.Result.{err_from_is_err_and, on_ok_weaker}}
+use Rattle.std.{proofs.Common.{◌++◌, ◌∙◌}, proofs.lemmas.Result.{err_from_is_err_and, on_ok_weaker}}
 use Rattle.ptu_definitions.{specs.Words.{numbers, words_of}, specs.Prefixes.listed}
 use Rattle.record_layout.{specs.Counting.begun_in, proofs.Growing.slice-listed}
-use Rattle.record_stream.{specs.Feeding.Fed, specs.Standing.how_of, proofs.Feeds.{Fed-trans, Fed-more}, proofs.Wraps.{cut-words, cut-rest}}
+use Rattle.record_stream.{specs.Standing.how_of, proofs.Feeds.{Fed-trans, Fed-more}, proofs.Wraps.{cut-words, cut-rest}}
 use Rattle.record_stream.proofs.stream.RecordStream.piece.Goals as goal
 
 pub returns-in_err-words-clause-fed : goal.returns-in_err-words-clause-fed
 returns-in_err-words-clause-fed g c = λ bytes h.
-    let s = g.S.EventTaker in
-    let how = how_of c.args.self.now in
     let first = slice-listed c.take-first.result.0 c.as_slice.result.now c.as_slice.ensures in
     let p = err_from_is_err_and c.from_residual.result c.from_residual.ensures.1 in
     let fed = rw first at (c.in_err-words.ensures.delivers.fed (words_of bytes) h.1) in
-    rw (p.1, p.2)
-    (subst (λ l. Fed s {X = Unit {0}} how c.args.taker.now c.words.new.taker (words_of bytes) l (Err c.in_err-words.field-0.0)) (cut-words (begun_in c.args.self.now.carried) bytes c.args.piece.now h.0 (listed c.take-first.result.0) c.take-first.result.1.now c.take-first.ensures.words)
-    (Fed-more s (Unit {0}) how _ _ (words_of bytes) _ (numbers c.take-first.result.1.now) _ fed))
+    let whole = cut-words (begun_in c.args.self.now.carried) bytes c.args.piece.now h.0 (listed c.take-first.result.0) _ c.take-first.ensures.words in
+    rw (p.1, p.2) (rw whole at (Fed-more g.S.EventTaker (Unit {0}) (how_of c.args.self.now) _ _ (words_of bytes) _ (numbers c.take-first.result.1.now) _ fed))
 
 pub returns-clause-at : goal.returns-clause-at
 returns-clause-at g c = λ bytes h.
@@ -28,12 +25,10 @@ returns-clause-at g c = λ bytes h.
 
 pub returns-clause-fed : goal.returns-clause-fed
 returns-clause-fed g c = λ bytes h.
-    let s = g.S.EventTaker in
-    let how = how_of c.args.self.now in
     let first = slice-listed c.take-first.result.0 c.as_slice.result.now c.as_slice.ensures in
     let ws = words_of bytes ++ numbers (listed c.take-first.result.0) in
     let stepped = rw first at (c.in_ok-words.ensures.delivers.at (words_of bytes) h.1) in
     let fed = rw first at (c.in_ok-words.ensures.delivers.fed (words_of bytes) h.1) in
     let more = rw c.words.ensures.stays.same_how at (c.words-2.ensures.delivers.fed ws stepped) in
-    subst (λ l. Fed s how c.args.taker.now c.words-2.new.taker (words_of bytes) l c.words-2.result) (cut-words (begun_in c.args.self.now.carried) bytes c.args.piece.now h.0 (listed c.take-first.result.0) c.take-first.result.1.now c.take-first.ensures.words)
-    (Fed-trans s how _ c.words.new.taker _ (words_of bytes) ws _ c.words-2.result fed.1 more)
+    let whole = cut-words (begun_in c.args.self.now.carried) bytes c.args.piece.now h.0 (listed c.take-first.result.0) _ c.take-first.ensures.words in
+    rw whole at (Fed-trans g.S.EventTaker (how_of c.args.self.now) _ c.words.new.taker _ (words_of bytes) ws _ c.words-2.result fed.1 more)

@@ -1,5 +1,5 @@
 use Rattle.std.{proofs.Common.{rules}, proofs.Common.{arith}, proofs.lemmas.Result.on_ok_weaker}
-use Rattle.record_stream.{proofs.Feeds.delivers-both, proofs.Settles.{plain-is, some-is, plain-settles, follows_to}}
+use Rattle.record_stream.{proofs.Feeds.delivers-both, proofs.Settles.{plain-is, some-is, follows_to}}
 use Rattle.record_stream.proofs.stream.RecordStream.words.Goals as goal
 
 pub take_words-requires-clause-ready : goal.take_words-requires-clause-ready
@@ -11,7 +11,7 @@ settle_blocks-requires-clause-ready g c = search (rules, arith, follows_to, some
 pub returns-then-self-eq0-clause-delivers : goal.returns-then-self-eq0-clause-delivers
 returns-then-self-eq0-clause-delivers g c = delivers-both g.S.EventTaker (λ before h.
     let d = c.take_words.ensures.delivers in (
-      on_ok_weaker c.take_words.result (λ at. record { at = at; settles = plain-settles _ _ _ _ c.take_words.ensures.stays.same_how c.if-self-eq0.true })
+      on_ok_weaker c.take_words.result (λ at. record { at = at; settles = search (rules, arith) })
           (d.at before h.at),
       d.fed before h.at,
     ))

@@ -1,5 +1,4 @@
-use Rattle.std.proofs.Common.{◌≡◌, refl, sym, ◌∙◌, arith, map, rules}
-use Rattle.abs_time.specs.Placing.{place_answer}
+use Rattle.std.proofs.Common.{sym, ◌∙◌, arith, rules}
 use Rattle.record_stream.{specs.Walking.how_of, proofs.Placed.{refusal-limit, refusal-reserved}, proofs.Steps.{records-is, word_refused, word_placed}}
 use Rattle.record_stream.proofs.walk.Walk.place_next.Goals as goal
 
@@ -12,12 +11,7 @@ returns-then-stops_at-clause-refused g c = λ words h.
     (omega arith) c.decode-raw.ensures.meaning (sym c.stops_at.ensures ∙ c.if-stops_at.true)
 
 pub returns-clause-refused : goal.returns-clause-refused
-returns-clause-refused g c = λ words h.
-    let how = how_of c.args.self.now in
-    let answers : c.place.result ≡ place_answer how.mode (map how.meaning words) c.decode-raw.result =
-    c.place.ensures.answer _ h.placed ∙ rw c.args.self.now.same_mode refl in
-    word_refused how words c.args.word _ c.decode-raw.result c.place.result (records-is _ _ _ _ words h)
-    (omega arith) c.decode-raw.ensures.meaning (sym c.stops_at.ensures ∙ c.if-stops_at.false) answers
+returns-clause-refused g c = search (rules, arith, word_refused, records-is)
 
 pub returns-clause-placed : goal.returns-clause-placed
 returns-clause-placed g c = search (rules, arith, word_placed, records-is)

@@ -1,6 +1,5 @@
-use Rattle.std.{proofs.Common.{◌≡◌, false, true, refl, ap, sym, ◌∙◌, map}, proofs.lemmas.Result.err_from_is_err_and}
+use Rattle.std.{proofs.Common.{◌≡◌, false, true, refl, ◌∙◌, arith, rules}, proofs.lemmas.Result.err_from_is_err_and}
 use Rattle.tally_base.specs.Events.{stops_late}
-use Rattle.ptu_definitions.specs.Streams.{StreamSettings}
 use Rattle.record_stream.{specs.Walking.how_of, proofs.Feeds.delivers-both, proofs.Placed.{refused-plain, skipped-event}, proofs.Steps.{refused_fed, skipped_word, plain_word}}
 use Rattle.record_stream.proofs.walk.Walk.step.Goals as goal
 
@@ -13,12 +12,9 @@ pub returns-then-stops_late-clause-delivers : goal.returns-then-stops_late-claus
 returns-then-stops_late-clause-delivers g c = delivers-both g.S.EventTaker (λ words h.
     let how = how_of c.args.self.now in
     let placed = rw c.in-Late.is at (c.in_ok-event.ensures.placed words h) in
-    let stops : stops_late how.policy.order ≡ true =
-    sym (ap (λ (r : StreamSettings). stops_late r.policy.order) c.place_next.ensures.keeps.same_how) ∙ sym c.stops_late.ensures ∙ c.if-stops_late.true in (
-      tt,
-      refused_fed g.S.EventTaker (Unit {0}) how _ words c.args.word _ h.clear
-          (placed.refusal ∙ refused-plain how (map how.meaning words) (how.meaning c.args.word) _ c.requires.ready.plain placed.answer ∙ rw stops refl),
-    ))
+    let stops : stops_late how.policy.order ≡ true = search (rules, arith) in
+    let refused = placed.refusal ∙ refused-plain how _ _ _ c.requires.ready.plain placed.answer ∙ rw stops refl in
+    (tt, refused_fed g.S.EventTaker (Unit {0}) how _ words _ _ h.clear refused))
 
 pub returns-in-Event-clause-delivers : goal.returns-in-Event-clause-delivers
 returns-in-Event-clause-delivers g c = delivers-both g.S.EventTaker (λ words h.
@@ -29,10 +25,8 @@ returns-in-Event-clause-delivers g c = delivers-both g.S.EventTaker (λ words h.
 
 pub returns-else-stops_late-clause-delivers : goal.returns-else-stops_late-clause-delivers
 returns-else-stops_late-clause-delivers g c = delivers-both g.S.EventTaker (λ words h.
-    let how = how_of c.args.self.now in
     let give = c.give_event-in-Late.ensures in
-    let passes : stops_late how.policy.order ≡ false =
-    sym (ap (λ (r : StreamSettings). stops_late r.policy.order) c.place_next.ensures.keeps.same_how) ∙ sym c.stops_late.ensures ∙ c.if-stops_late.false in
+    let passes : stops_late (how_of c.args.self.now).policy.order ≡ false = search (rules, arith) in
     plain_word g.S.EventTaker (rw c.in-Late.is at (c.in_ok-event.ensures.placed words h))
     c.place_next.ensures.keeps.same_how c.place_next.ensures.keeps.same_given h _ _ _ c.in-Late.event true
     c.requires.ready.plain (rw passes refl) refl give.keeps c.give_event-in-Late.result give.gave give.broken give.fault give.cause)

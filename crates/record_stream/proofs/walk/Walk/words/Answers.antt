@@ -1,5 +1,4 @@
-use Rattle.std.{proofs.Common.{◌+◌, take, drop, ap, sym, refl, arith, rules}, proofs.lemmas.Result.err_from_is_err_and, proofs.lemmas.List.take_all}
-use Rattle.ptu_definitions.specs.Words.{numbers}
+use Rattle.std.{proofs.Common.{refl, arith, rules}, proofs.lemmas.Result.err_from_is_err_and, proofs.lemmas.List.take_all}
 use Rattle.record_stream.{proofs.Feeds.{took-none, took-more, took-stop, took-all}, proofs.Wraps.{step-numbers, whole-numbers}}
 use Rattle.record_stream.proofs.walk.Walk.words.Goals as goal
 
@@ -8,24 +7,16 @@ loop-word-init g c = took-none g.S.EventTaker _ _ _ _ c.requires.ready.follows (
 
 pub loop-word-preserved : goal.loop-word-preserved
 loop-word-preserved g c =
-    let s = g.S.EventTaker in
-    let words = c.args.words.now in
-    let inv = c.loop-word.invariant in
-    took-more s inv (numbers (take (c.loop-word.word-index + 1) words)) (c.loop-word.word-index + 1)
-    (step-numbers words c.loop-word.word-index _ _ c.loop-word-test.true c.from_le_bytes.ensures) refl
-    c.in_ok-step.ensures.delivers c.in_ok-step.ensures.goes_on c.step.ensures.stays
-    (g.met.S.EventTaker.same_more _ _ _ inv.stays.same c.step.ensures.stays.same)
+    let same = g.met.S.EventTaker.same_more _ _ _ c.loop-word.invariant.stays.same c.step.ensures.stays.same in
+    let more = step-numbers c.args.words.now c.loop-word.word-index _ _ c.loop-word-test.true c.from_le_bytes.ensures in
+    took-more g.S.EventTaker c.loop-word.invariant _ _ more refl c.in_ok-step.ensures.delivers c.in_ok-step.ensures.goes_on c.step.ensures.stays same
 
 pub returns-in_err-step-clause-delivers : goal.returns-in_err-step-clause-delivers
 returns-in_err-step-clause-delivers g c =
-    let words = c.args.words.now in
-    let i = c.loop-word.word-index in
     let p = err_from_is_err_and c.from_residual.result c.from_residual.ensures.1 in
-    rw (p.1, p.2) (took-stop g.S.EventTaker c.loop-word.invariant (numbers (drop (i + 1) words)) (numbers words)
-    (whole-numbers words i _ _ c.loop-word-test.true c.from_le_bytes.ensures) c.in_err-step.ensures.delivers)
+    let whole = whole-numbers c.args.words.now c.loop-word.word-index _ _ c.loop-word-test.true c.from_le_bytes.ensures in
+    rw (p.1, p.2) (took-stop g.S.EventTaker c.loop-word.invariant _ _ whole c.in_err-step.ensures.delivers)
 
 pub returns-clause-delivers : goal.returns-clause-delivers
 returns-clause-delivers g c =
-    let words = c.args.words.now in
-    took-all g.S.EventTaker (tt {0}) (numbers words) c.loop-word.invariant
-    (ap numbers (sym (take_all c.loop-word.word-index words (search (rules, arith))))) (λ l h. h.clear)
+    search (rules, arith, took-all, take_all)
