@@ -51,10 +51,6 @@ may_end closed still set ls count time h is few = search (rules, arith, false≢
 pub end_counts : (closed : Bool) → closed ≡ false → (set : CorrelationSet) (ls ls' : List Level) (count time : ℕ) (h : History) → StandsFor closed set ls count time h → Complete (correlation_view set) 0 ls' (photons_of (correlation_view set) h) → StandsFor true set ls' count time h
 end_counts closed still set ls ls' count time h is through = record { taken = is.taken; floor = is.floor; through = through }
 
--- What the settings of a correlation say.
-
--- What a block of events does to the photons of the two groups.
-
 flip : (x y : Bool) → ◌≡◌ {A = ℕ} (cond (x && y) 1 0) (cond (y && x) 1 0)
 flip x y = search (rules, arith)
 

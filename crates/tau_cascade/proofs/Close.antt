@@ -1,5 +1,5 @@
 -- Bins that are laid close together.
-use Rattle.std.{proofs.Common.{◌≡◌, ◌∙◌, ℕ, suc, ◌+◌, ◌-◌, ◌*◌, ◌%◌, ◌<◌, ◌≤◌, Bool, true, false, eqb, cond, min, List, [], ◌∷◌, ◌++◌, length, get_or, set, map, take, drop, replicate, refl, sym, ap, arith, append_assoc, rules}, specs.List.{sum_by, AllByRecursion}, proofs.Math.Nat.mul-le-mul, proofs.lemmas.Bool.Decides.nat_tests, proofs.lemmas.List.{get_or-replicate, length-replicate, take-append-drop, take_more, drop_more, length-map, get_or-map, length-take-le, get_or_past, set-get_or}, proofs.lemmas.List.Sums.{sum_by-cons, sum_by_push, sum_by-append}}
+use Rattle.std.{proofs.Common.{◌≡◌, ◌∙◌, ℕ, suc, ◌+◌, ◌-◌, ◌*◌, ◌%◌, ◌<◌, ◌≤◌, eqb, cond, min, List, [], ◌∷◌, ◌++◌, length, get_or, set, map, take, drop, replicate, refl, sym, ap, arith, append_assoc, rules}, specs.List.{sum_by, AllByRecursion}, proofs.Math.Nat.mul-le-mul, proofs.lemmas.Bool.Decides.nat_tests, proofs.lemmas.List.{get_or-replicate, length-replicate, take-append-drop, take_more, drop_more, length-map, get_or-map, length-take-le, get_or_past, set-get_or}, proofs.lemmas.List.Sums.{sum_by-cons, sum_by_push, sum_by-append}}
 use Rattle.lag_ring.{specs.declared.ring.Entry.Entry, specs.declared.window.Side.TheVariants.{First, Second}, specs.Bytes.{weight_at, product_at, IsLight}, proofs.Lists.{all_back}, proofs.Rising.{all_weaker, all_push}, proofs.Sums.{part-at, sum_by-agree, sum_by-same, sum_by-zero, window-before}}
 use Rattle.tau_cascade.{specs.Levels.weight_before, specs.declared.laid.Laying.Laying, specs.Dense.{paired, laid, placed, IsLaid}, specs.Bins.{IsSpaced, raised}, proofs.Nexts.paired-append, proofs.Passes.{spaced_back, all_take, spaced_take, spaced_upto}}
 
@@ -10,13 +10,6 @@ no_bin = record { index = 0; a = 0; b = 0 }
 abbrev pub laid_at : ℕ → Entry → Entry
 laid_at place e = record { index = place; a = e.a; b = e.b }
 
--- a place at which a weight is added, where nothing wraps
-pub put_place : (here : Bool) (was old a : ℕ) → old ≡ was → was < 2048 → a < 2048 → cond here ((old + a % 65536) % 65536) old ≡ was + cond here a 0
-put_place here was old a same low small = search (rules, arith)
-
-pub put_below : (here : Bool) (most old a : ℕ) → old ≤ most → (here ≡ true → old + a % 65536 ≤ most) → cond here ((old + a % 65536) % 65536) old ≤ most
-put_below here most old a low light = search (rules, arith)
-
 -- Bins at their places.
 
 -- one bin more, whose place is written
@@ -26,10 +19,6 @@ placed_more [] e [] p inside = absurd (omega (arith, inside))
 placed_more [] e (q ∷ ps) p inside = refl
 placed_more (f ∷ es) e [] p inside = absurd (omega (arith, inside))
 placed_more (f ∷ es) e (q ∷ ps) p inside = ap (λ l. laid_at q f ∷ l) (placed_more es e ps p (omega (arith, inside)))
-
-pub placed_push : (es : List Entry) (e : Entry) (ps : List ℕ) → length es < length ps
-    → placed (es ++ e ∷ []) ps ≡ placed es ps ++ laid_at (get_or ps (length es) 0) e ∷ []
-placed_push es e ps inside = (rw (set-get_or ps (length es) 0) at (placed_more es e ps (get_or ps (length es) 0) inside))
 
 pub light-raised : (levels most : ℕ) (es : List Entry) → IsLight most (map (raised levels) es) → IsLight most es
 light-raised levels most [] light = tt
@@ -49,11 +38,9 @@ module _ (window ps : List ℕ) (es : List Entry) (i from : ℕ) (inside : i < l
   pub placed_next : sum_by (product_at Second window 0 from) (placed (take (i + 1) es) ps) ≡ sum_by (product_at Second window 0 from)
       (placed (take i es) ps) + get_or window (get_or ps i 0 + from) 0 * (get_or es i no_bin).b
   placed_next =
-      let e : Entry = get_or es i no_bin in
       let long : length (take i es) ≡ i = length-take-le i es (omega (arith, inside)) in
-      let push : placed (take i es ++ e ∷ []) ps ≡ placed (take i es) ps ++ laid_at (get_or ps i 0) e ∷ [] =
-      (rw long at (placed_push (take i es) e ps (omega (arith, long, inside, fit)))) in
-      search (rules, arith, laid_at, take_more, sum_by_push)
+      let push = (rw (long, set-get_or ps i 0) at (placed_more (take i es) (get_or es i no_bin) ps (get_or ps i 0) (omega (arith, long, inside, fit)))) in
+      search (rules, arith, laid_at, take_more, sum_by_push, push)
 
 -- the same with a part of the window, and of that the part from its place on
 module _ (window ps : List ℕ) (es : List Entry) (i from : ℕ) (inside : i < length es) (fit : length es ≤ length ps)
@@ -147,28 +134,15 @@ module _ (window new : List ℕ) (reach index : ℕ) (was now : Laying) (es : Li
       ≡ weight_at First 192 0 q (laid reach index 0 es) + cond (eqb (now.last.place + 192) q) e.a 0
   weight_next q = search (rules, arith, push, sum_by_push, laid_at)
 
-  next : (rest : List Entry) → laid reach index 0 ((es ++ e ∷ []) ++ rest)
-      ≡ laid reach index 0 (es ++ e ∷ []) ++ laid reach now.last.index now.last.place rest
-  next rest = rw (last.0, last.1) (search (rules, arith, laid_at, append_assoc, are.next))
-
   pub laid_more : IsLaid new reach index now (es ++ e ∷ [])
   laid_more = record {
     weights = λ few p inside.
         let had = are.weights (omega (arith, few, heaviest.0)) p inside in
-        weights p inside
-        ∙ put_place (eqb (now.last.place + 192) p) (weight_at First 192 0 p (laid reach index 0 es)) (get_or window p 0) e.a had
-        (omega (arith, had, are.light p inside, few, heaviest.0)) (omega (arith, few, heaviest.1))
-        ∙ sym (weight_next p);
-    light = λ p inside. rw (weights p inside)
-        (put_below (eqb (now.last.place + 192) p) now.heaviest (get_or window p 0) e.a (omega (arith, are.light p inside, heaviest.0))
-        (λ is. let same : now.last.place + 192 ≡ p = grind (arith, nat_tests, is) in (rw same at light)));
-    behind = λ p far inside.
-        let away : eqb (now.last.place + 192) p ≡ false = grind (arith, nat_tests, far) in
-        (rw away at (weights p inside)) ∙ are.behind p (omega (arith, far, last.1)) inside;
-    heaviest = all_push (λ f. (f.a ≤ now.heaviest) × (f.b ≤ now.heaviest)) es e
-        (all_weaker (λ f. (f.a ≤ was.heaviest) × (f.b ≤ was.heaviest)) (λ f. (f.a ≤ now.heaviest) × (f.b ≤ now.heaviest))
-        (λ f upto. (omega (arith, upto.0, heaviest.0), omega (arith, upto.1, heaviest.0))) es are.heaviest) (heaviest.1, heaviest.2);
-    next = next;
+        grind (arith, nat_tests, weights p inside, weight_next p, had, are.light p inside, heaviest);
+    light = λ p inside. rw (weights p inside) (grind (arith, nat_tests, are.light p inside, heaviest, light));
+    behind = λ p far inside. grind (arith, nat_tests, weights p inside, are.behind p (omega (arith, far, last.1)) inside);
+    heaviest = search (rules, arith, all_push, all_weaker, are.heaviest, heaviest);
+    next = λ rest. rw (last.0, last.1) (search (rules, arith, laid_at, append_assoc, are.next));
     upto = λ most some all. omega (arith, last.0, (all_back (λ f. f.index ≤ most) es (e ∷ []) all).0);
     near = omega (arith, last, are.near, up);
   }
@@ -185,8 +159,11 @@ paired-all k all before [] some is spaced = refl
 paired-all k all before (e ∷ es) some is spaced =
     let here : weight_before k e.index all ≡ weight_before k e.index before =
     ap (weight_before k e.index) (sym is) ∙ before_only k e.index before (e ∷ es) some (omega arith, spaced.0) in
-    let rest = paired-all k all (before ++ e ∷ []) es some (append_assoc before (e ∷ []) es ∙ is) spaced.1 in
-    rw (sum_by-cons (λ f. weight_before k f.index all * f.b) e es, here, ← rest) refl
+    rw (
+      sum_by-cons (λ f. weight_before k f.index all * f.b) e es,
+      here,
+      ← paired-all k all (before ++ e ∷ []) es some (append_assoc before (e ∷ []) es ∙ is) spaced.1,
+    ) refl
 
 -- an index more and a lag more are the same
 weight_shift : (k j m i : ℕ) (es : List Entry) → j + m ≡ i + k → weight_before k j es ≡ weight_before m i es
@@ -216,10 +193,8 @@ module _ (reach index place : ℕ) (before beside : List Entry) (alike : Alike r
 
   pub alike_next : Alike reach e.index there (before ++ e ∷ []) (beside ++ laid_at there e ∷ [])
   alike_next = record {
-    upto = all_push (λ f. f.index ≤ e.index) before e
-        (all_weaker (λ f. f.index ≤ index) (λ f. f.index ≤ e.index) (λ f under. omega (arith, up)) before alike.upto) (omega arith);
-    laid_upto = all_push (λ f. f.index ≤ there) beside (laid_at there e)
-        (all_weaker (λ f. f.index ≤ place) (λ f. f.index ≤ there) (λ f under. omega arith) beside alike.laid_upto) (omega arith);
+    upto = search (rules, arith, all_push, all_weaker, alike.upto);
+    laid_upto = search (rules, arith, all_push, all_weaker, alike.laid_upto);
     same = λ m few.
         let test : eqb (e.index + m) e.index ≡ eqb (there + m) there = grind (arith, nat_tests) in
         sum_by_push (λ (f : Entry). cond (eqb (f.index + m) e.index) f.a 0) before e
@@ -233,10 +208,11 @@ paired_alike : (reach index place k : ℕ) (before beside es : List Entry) → k
 paired_alike reach index place k before beside [] few alike up spaced = refl
 paired_alike reach index place k before beside (e ∷ es) few alike up spaced =
     let here : ℕ = place + min (e.index - index) reach in
-    let one : weight_before k e.index before ≡ weight_before k here beside = as_far reach index place before beside alike e up.0 k few in
-    let rest = paired_alike reach e.index here k (before ++ e ∷ []) (beside ++ laid_at here e ∷ []) es few
-    (alike_next reach index place before beside alike e up.0) spaced.0 spaced.1 in
-    rw (one, rest) refl
+    let next = alike_next reach index place before beside alike e up.0 in
+    rw (
+      as_far reach index place before beside alike e up.0 k few,
+      paired_alike reach e.index here k (before ++ e ∷ []) (beside ++ laid_at here e ∷ []) es few next spaced.0 spaced.1,
+    ) refl
 
 paired_laid : (reach index place k : ℕ) (es : List Entry) → k < reach → IsSpaced 0 es → paired k [] es ≡ paired k [] (laid reach index place es)
 paired_laid reach index place k [] few spaced = refl

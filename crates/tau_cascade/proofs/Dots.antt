@@ -1,16 +1,14 @@
 -- Sums of products by place.
-use Rattle.std.{proofs.Common.{◌≡◌, ◌∙◌, ℕ, zero, suc, ◌+◌, ◌-◌, ◌*◌, ◌<◌, ◌≤◌, ◌&&◌, leb, eqb, ltb, cond, sym, ◌%◌, List, [], ◌∷◌, length, get_or, arith, rules, add-one}, specs.List.{sum_by, range_with_len, AllByRecursion}, proofs.lemmas.Bool.Decides.nat_tests, proofs.lemmas.Grind.common_steps, proofs.lemmas.List.Sums.{sum_by-cons}, proofs.lemmas.Simd.{length-zip2, get_or-zip2}}
+use Rattle.std.{proofs.Common.{◌≡◌, ◌∙◌, ℕ, zero, suc, ◌+◌, ◌-◌, ◌*◌, ◌<◌, ◌≤◌, ◌&&◌, leb, eqb, ltb, cond, ◌%◌, List, [], ◌∷◌, length, get_or, arith, rules, add-one}, specs.List.{sum_by, range_with_len, AllByRecursion}, proofs.lemmas.Bool.Decides.nat_tests, proofs.lemmas.Grind.common_steps, proofs.lemmas.List.Sums.{sum_by-cons, sum-map, sum_by-le}, proofs.lemmas.List.FromFn.{sum_by-map-range_with_len_more, length-range_with_len}, proofs.lemmas.Simd.{length-zip2, get_or-zip2}}
 use lib.Lanes.{zip2}
 use Rattle.lag_ring.{specs.declared.ring.Entry.Entry, specs.declared.window.Side.{Side}, specs.Bytes.{weight_of, weight_at}, proofs.Sums.{sum_by-same, sum_by-plus, sum_by-agree, sum_by-times}}
 
--- one number more in a range
-range_next : (f : ℕ → ℕ) (a n j : ℕ) → a + n ≡ j → sum_by f (range_with_len a (suc n)) ≡ sum_by f (range_with_len a n) + f j
-range_next f a zero j is = search (rules, arith)
-range_next f a (suc n) j is = search (rules, arith, sum_by-cons, range_next f (a + 1) n j (omega arith))
-
--- the same from 0 on
+-- one number more in a range from 0 on
 pub range_more : (f : ℕ → ℕ) (n : ℕ) → sum_by f (range_with_len 0 (n + 1)) ≡ sum_by f (range_with_len 0 n) + f n
-range_more f n = rw (add-one n) (range_next f 0 n n (omega arith))
+range_more f n = (simp sum-map at (sum_by-map-range_with_len_more (λ x. x) f 0 n n (omega arith)))
+
+range_next : (f : ℕ → ℕ) (n : ℕ) → sum_by f (range_with_len 0 (suc n)) ≡ sum_by f (range_with_len 0 n) + f n
+range_next f n = (rw add-one at (range_more f n))
 
 pub below_range : (a n m : ℕ) → n ≤ m - a → AllByRecursion (λ p. p < m) (range_with_len a n)
 below_range a zero m room = tt
@@ -21,28 +19,24 @@ pub range_agree : (f g : ℕ → ℕ) (n : ℕ) → ((q : ℕ) → q < n → f q
 range_agree f g n same = sum_by-agree (λ q. q < n) f g (range_with_len 0 n) (below_range 0 n n (omega arith)) same
 
 -- what is no more than a number each time
-pub range_few : (f : ℕ → ℕ) (most n : ℕ) → ((q : ℕ) → q < n → f q ≤ most) → sum_by f (range_with_len 0 n) ≤ most * n
-range_few f most zero low = omega arith
-range_few f most (suc n) low =
-    let more : most * suc n ≡ most * n + most = grind arith in
-    omega (arith, more, range_next f 0 n n (omega arith), low n, range_few f most n (λ q inside. low q (omega (arith, inside))))
+pub range_few : (f : ℕ → ℕ) (most n : ℕ) → ((q : ℕ) → f q ≤ most) → sum_by f (range_with_len 0 n) ≤ n * most
+range_few f most n low = (rw length-range_with_len at (sum_by-le f most (range_with_len 0 n) (search (rules, low))))
 
 -- two ranges as one
 range_parts : (f : ℕ → ℕ) (n m : ℕ) → sum_by f (range_with_len 0 (n + m)) ≡ sum_by f (range_with_len 0 n) + sum_by (λ q. f (n + q)) (range_with_len 0 m)
 range_parts f n zero = search (rules, arith)
 range_parts f n (suc m) =
     let one : n + suc m ≡ suc (n + m) = omega arith in
-    rw (one, range_next f 0 (n + m) (n + m) (omega arith), range_next (λ q. f (n + q)) 0 m m (omega arith), range_parts f n m) (omega arith)
+    rw (one, range_next f (n + m), range_next (λ q. f (n + q)) m, range_parts f n m) (omega arith)
 
 -- a sum by lanes is one by places
 pub by_lanes : (f : ℕ → ℕ) (lanes rows : ℕ)
     → sum_by (λ q. sum_by (λ r. f (lanes * r + q)) (range_with_len 0 rows)) (range_with_len 0 lanes) ≡ sum_by f (range_with_len 0 (lanes * rows))
 by_lanes f lanes zero = search (rules, arith, range_few (λ q. 0) 0 lanes)
 by_lanes f lanes (suc rows) =
-    let row : ℕ → ℕ = λ q. sum_by (λ r. f (lanes * r + q)) (range_with_len 0 rows) in
     let more : lanes * suc rows ≡ lanes * rows + lanes = grind arith in
-    rw (more, range_parts f (lanes * rows) lanes, ← by_lanes f lanes rows, ← sum_by-plus row (λ q. f (lanes * rows + q)) (range_with_len 0 lanes))
-    (sum_by-same _ (λ q. row q + f (lanes * rows + q)) (range_with_len 0 lanes) (λ q. range_next (λ r. f (lanes * r + q)) 0 rows rows (omega arith)))
+    rw (more, range_parts f (lanes * rows) lanes, ← by_lanes f lanes rows, ← sum_by-plus)
+    (sum_by-same _ _ (range_with_len 0 lanes) (λ q. range_next (λ r. f (lanes * r + q)) rows))
 
 -- of a sum over places one counts
 one_place : (f : ℕ → ℕ) (base k w a n : ℕ) → sum_by (λ q. f (base + q) * cond (eqb (k + 0) (base + q)) w 0) (range_with_len a n)
@@ -54,27 +48,14 @@ one_place f base k w a (suc n) = grind (arith, common_steps, sum_by-cons, one_pl
 pub by_bins : (f : ℕ → ℕ) (side : Side) (base a n : ℕ) (es : List Entry) → sum_by (λ q. f (base + q) * weight_at side 0 base q es) (range_with_len a n)
     ≡ sum_by (λ e. cond (leb (base + a) e.index && ltb e.index (base + a + n)) (f e.index * weight_of side e) 0) es
 by_bins f side base a n [] = sum_by-times (λ q. f (base + q)) 0 (range_with_len a n) ∙ grind arith
-by_bins f side base a n (e ∷ es) =
-    let one : ℕ → ℕ = λ q. f (base + q) * cond (eqb (e.index + 0) (base + q)) (weight_of side e) 0 in
-    let rest : ℕ → ℕ = λ q. f (base + q) * weight_at side 0 base q es in
-    sum_by-same _ (λ q. one q + rest q) (range_with_len a n)
-    (λ q. rw (sum_by-cons (λ (g : Entry). cond (eqb (g.index + 0) (base + q)) (weight_of side g) 0) e es) (grind arith))
-    ∙ sum_by-plus one rest (range_with_len a n) ∙ rw (one_place f base e.index (weight_of side e) a n, by_bins f side base a n es)
-    (sym (sum_by-cons (λ g. cond (leb (base + a) g.index && ltb g.index (base + a + n)) (f g.index * weight_of side g) 0) e es))
+by_bins f side base a n (e ∷ es) = simp sum_by-cons
+    (simp (← one_place f base e.index (weight_of side e) a n, ← by_bins f side base a n es, ← sum_by-plus)
+    (sum_by-same _ _ (range_with_len a n) (λ q. grind arith)))
 
 -- products by lane that are added in 16 bits
 module _ (lanes : ℕ) (sums xs ys : List ℕ) (long : (length sums ≡ lanes) × (length xs ≡ lanes) × (length ys ≡ lanes)) where
-  abbrev row : List ℕ
-  row = zip2 (λ x y. x * y % 65536) xs ys
-
-  long_row : length row ≡ lanes
-  long_row = search (rules, arith, length-zip2 (λ x y. x * y % 65536) xs ys)
-
-  pub long_lanes : length (zip2 (λ x y. (x + y) % 65536) sums row) ≡ lanes
-  long_lanes = search (rules, arith, length-zip2 (λ x y. (x + y) % 65536) sums row, long_row)
-
   pub lane : (q x y : ℕ) → get_or xs q 0 ≡ x → get_or ys q 0 ≡ y → q < lanes → get_or sums q 0 + x * y < 65536
-      → get_or (zip2 (λ x y. (x + y) % 65536) sums row) q 0 ≡ get_or sums q 0 + x * y
+      → get_or (zip2 (λ x y. (x + y) % 65536) sums (zip2 (λ x y. x * y % 65536) xs ys)) q 0 ≡ get_or sums q 0 + x * y
   lane q x y is_x is_y inside fits =
       let one = get_or-zip2 (λ x y. x * y % 65536) xs ys q 0 0 0 (omega (arith, long)) (omega (arith, long)) in
-      search (rules, arith, row, get_or-zip2, long_row, one)
+      search (rules, arith, get_or-zip2, length-zip2, one)

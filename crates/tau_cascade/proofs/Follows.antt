@@ -1,9 +1,18 @@
 -- Bins that come to a level, and what they are merged into.
-use Rattle.std.{proofs.Common.{◌≡◌, ◌≢◌, ℕ, suc, ◌+◌, ◌-◌, ◌/◌, ◌^◌, ◌<◌, ◌≤◌, Bool, true, false, cond, eqb, List, [], ◌∷◌, ◌++◌, length, map, take, drop, get_or, refl, ap, append_assoc, append-nil, arith, slice_set, rules, length-append, add-one}, specs.List.{sum_by, count_by, AllByRecursion}, proofs.Math.Nat.{div-div-eq-div-mul, div-one}, proofs.lemmas.Bool.Decides.nat_tests, proofs.lemmas.Grind.common_steps, proofs.lemmas.List.{take_more_set, drop_more, drop-set-add, drop-set-lt, length-drop}, proofs.lemmas.List.Sums.{sum_by-cons, sum_by-append}}
+use Rattle.std.{proofs.Common.{◌≡◌, ◌≢◌, ℕ, suc, ◌+◌, ◌-◌, ◌/◌, ◌^◌, ◌<◌, ◌≤◌, Bool, true, false, cond, eqb, List, [], ◌∷◌, ◌++◌, length, map, take, drop, get_or, refl, sym, Some, ap, append_assoc, append-nil, arith, slice_set, rules, length-append, add-one}, specs.List.{sum_by, count_by, AllByRecursion}, proofs.Math.Nat.{div-div-eq-div-mul, div-one}, proofs.lemmas.Bool.Decides.nat_tests, proofs.lemmas.Grind.common_steps, proofs.lemmas.List.{take_more_set, drop_more, drop-set-add, drop-set-lt}, proofs.lemmas.List.Sums.{sum_by-cons, sum_by-append}}
 use mir.Val.{bool_byte}
 use Rattle.tally_base.{specs.Settings.CorrelationView, specs.Tally.History}
 use Rattle.lag_ring.{specs.declared.ring.Entry.Entry, proofs.Lists.{all_back, all_join, of_some}, proofs.Rising.all_weaker}
-use Rattle.tau_cascade.{specs.Correlation.{Given, bin}, specs.Levels.{IsBin, Chain}, specs.Bins.{raised, both_of, merged, merged_all, stretch, Come, Follow, CanTake, Took, CanCome}, proofs.Closes.is_bin-append, specs.declared.level.Level.Level}
+use Rattle.tau_cascade.{specs.Correlation.{Given, bin}, specs.Levels.{IsBin, Chain, CanFinish}, specs.Bins.{raised, both_of, merged, merged_all, stretch, Come, Follow, CanTake, Took, CanCome, CanShutAll}, specs.declared.level.Level.Level}
+
+module _ (set : CorrelationView) (level : ℕ) (l : Level) (e : Entry) (is : l.open ≡ Some e) (closed open' : History) (can : CanFinish set level l closed open') where
+  -- the open bin has the photons that are not in closed ones
+  pub finish_open : IsBin set level e open' × AllByRecursion (λ x. bin level x < e.index) closed
+  finish_open = (rw is at can.was.opened)
+
+  -- it may be closed
+  pub finish_shut : CanShutAll set level l.ring l.cells (e ∷ []) closed open'
+  finish_shut = search (rules, arith, append-nil)
 
 -- a bin of the next level is two of this one
 pub bin-suc : (level : ℕ) (x : Given) → bin (suc level) x ≡ bin level x / 2
@@ -14,6 +23,15 @@ raised-none [] = refl
 raised-none (e ∷ es) = rw (div-one e.index, raised-none es) refl
 
 module _ (set : CorrelationView) (level : ℕ) where
+  -- two runs of photons in one bin
+  is_bin-append : (e f : Entry) (xs ys : History) → IsBin set level e xs → IsBin set level f ys → e.index ≡ f.index → IsBin set level (both_of e f) (xs ++ ys)
+  is_bin-append e f xs ys left right same = record {
+    some = omega (arith, length-append xs ys, left.some);
+    here = all_join (λ x. bin level x ≡ e.index) xs ys left.here (rw same right.here);
+    a = rw (left.a, right.a) (sym (sum_by-append _ xs ys));
+    b = rw (left.b, right.b) (sym (sum_by-append _ xs ys));
+  }
+
   -- where nothing that came is behind an index that the last bin hasn't, all is before it
   is_after : (e : Entry) (n : ℕ) (closed open' : History) → IsBin set level e open' → AllByRecursion (λ x. bin level x < e.index) closed → AllByRecursion (λ x. bin level x ≤ n) (closed ++ open') → e.index ≢ n → AllByRecursion (λ x. bin level x < n) (closed ++ open')
   is_after e n closed open' is before after other =
@@ -27,7 +45,7 @@ module _ (set : CorrelationView) (level : ℕ) where
       × (AllByRecursion (λ x. bin level x < e.index) came → Follow set level came (cond b (merged (both_of e f) fs) (e ∷ merged f fs)) (run ++ xs))) [
         | true ↦ λ one.
             let next : Come set level (came ++ (run ++ come.0)) fs come.1 = (rw (append_assoc came run come.0) at come.5) in
-            rw (come.2, ← append_assoc run come.0 come.1) (merged_both (both_of e f) fs came (run ++ come.0) come.1 (is_bin-append set level e f (both_of e f) run come.0 is come.3 (grind arith) refl) next)
+            rw (come.2, ← append_assoc run come.0 come.1) (merged_both (both_of e f) fs came (run ++ come.0) come.1 (is_bin-append e f run come.0 is come.3 (grind arith)) next)
         | false ↦ λ two.
             let rest = merged_both f fs (came ++ run) come.0 come.1 come.3 come.5 in
             (λ after. (run, xs, refl, is, after, rw come.2 (rest.0 come.4)), λ before. (run, xs, refl, is, before, rw come.2 (rest.1 (is_after e f.index came run is before come.4 (λ same. grind arith)))))
@@ -98,7 +116,6 @@ module _ (levels from at' count closed : ℕ) (list : List Entry) (own none : En
       → take (closed + cond same 0 1) (drop from (slice_set list (from + closed) own))
       ++ merged (cond same (both_of own next) next) (stretch (from + (at' + 1)) (count - (at' + 1)) levels (slice_set list (from + closed) own)) ≡ whole
   merge_more few same one =
-      let long : closed < length (drop from list) = omega (arith, length-drop from list) in
       rw (drop-set-add from list closed own, drop-set-lt (from + (at' + 1)) list (from + closed) own (omega arith)) (grind (arith, common_steps, with_next, take_more_set, append_assoc))
 
 -- What bins that come do to a level and those above it.

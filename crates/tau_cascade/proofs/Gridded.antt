@@ -4,35 +4,29 @@ use Rattle.tally_base.{specs.Settings.CorrelationView, specs.Tally.History}
 use Rattle.lag_ring.{specs.declared.ring.Entry.Entry, specs.declared.window.Side.{Side, TheVariants.{First, Second}}, specs.Bytes.{weight_of, weight_at}, specs.Ring.{Ring, ring, IsRising, weight_where}, proofs.Lists.{all_front, all_back, all_join, all_passed}, proofs.Rising.{all_weaker}, proofs.Sums.{sum_by-agree, sum_by-zero, sum_by-filter, sum_by-same}, proofs.Between.few_kept}
 use Rattle.tau_cascade.{proofs.Dots.{below_range, by_bins}, proofs.Follows.weigh, specs.Levels.RingIs, specs.Correlation.{bin}, specs.declared.grid.Grid.Grid, specs.Bins.{merged_all}, specs.Grid.{Stands, bin_at, bins_from, kept_and, photons}, proofs.Keeping.rising_filter}
 
-pub bin_weight : (side : Side) (g : Grid) (p : ℕ) (es : List Entry) → p < 4096 → Stands g es → weight_of side (bin_at g p) ≡ weight_at side 0 g.base p es
-bin_weight side g p es inside stands = search (rules, arith)
-
-rising_range : (g : Grid) (a b n : ℕ) → a < b → AllByRecursion (λ f. g.base + a < f.index) (map (bin_at g) (range_with_len b n))
-rising_range g a b zero under = tt
-rising_range g a b (suc n) under = (omega (arith, under), rising_range g a (b + 1) n (omega (arith, under)))
-
-rising_places : (g : Grid) (a n : ℕ) → IsRising (map (bin_at g) (range_with_len a n))
-rising_places g a zero = tt
-rising_places g a (suc n) = (rising_range g a (a + 1) n (omega arith), rising_places g (a + 1) n)
-
--- bins that have photons, and nothing where a test passes, are all where it doesn't
-none_pass : (test : ℕ → Bool) (us : List Entry) → AllByRecursion (λ e. ltb 0 (photons e) ≡ true) us → ((side : Side) → weight_where (weight_of side) test us ≡ 0)
-    → AllByRecursion (λ e. test e.index ≡ false) us
-none_pass test [] some none = tt
-none_pass test (u ∷ us) some none =
-    let cons = λ (side : Side). sum_by-cons (λ (e : Entry). cond (test e.index) (weight_of side e) 0) u us in (
-      grind (arith, nat_tests, common_steps, some.0, cons First, cons Second, none First, none Second),
-      none_pass test us some.1 (λ side. omega (arith, cons side, none side)),
-    )
-
 merged_weight_all : (side : Side) (test : ℕ → Bool) (es : List Entry) → weight_where (weight_of side) test (merged_all es) ≡ weight_where (weight_of side) test es
 merged_weight_all side test [] = refl
 merged_weight_all side test (e ∷ es) =
     let h : Entry → ℕ = λ f. cond (test f.index) (weight_of side f) 0 in
     weigh h (λ f g same. rw (← same) (search (rules, arith))) e es ∙ sym (sum_by-cons h e es)
 
-unseen : (side : Side) (test : ℕ → Bool) (e : Entry) → cond (ltb 0 (photons e)) (cond (test e.index) (weight_of side e) 0) 0 ≡ cond (test e.index) (weight_of side e) 0
-unseen side test e = search (rules, arith)
+-- bins that have photons, and nothing where a test passes, are all where it doesn't
+none_pass : (test : ℕ → Bool) (us : List Entry) → AllByRecursion (λ e. ltb 0 (photons e) ≡ true) us → ((side : Side) → weight_where (weight_of side) test us ≡ 0)
+    → AllByRecursion (λ e. test e.index ≡ false) us
+none_pass test [] some none = tt
+none_pass test (u ∷ us) some none =
+    let cons = λ (side : Side). sum_by-cons (λ (e : Entry). cond (test e.index) (weight_of side e) 0) u us in
+    let first = cons First in
+    let second = cons Second in
+    (grind (arith, nat_tests, common_steps, some.0, none First, none Second), none_pass test us some.1 (λ side. omega (arith, cons side, none side)))
+
+rising_range : (g : Grid) (a b n : ℕ) → a < b → AllByRecursion (λ f. g.base + a < f.index) (map (bin_at g) (range_with_len b n))
+rising_range g a b zero under = tt
+rising_range g a b (suc n) under = search (rules, arith, rising_range g a (b + 1) n)
+
+rising_places : (g : Grid) (a n : ℕ) → IsRising (map (bin_at g) (range_with_len a n))
+rising_places g a zero = tt
+rising_places g a (suc n) = search (rules, arith, rising_range g a (a + 1) n, rising_places g (a + 1) n)
 
 pub sum_by-map : {X Y : Type 0} (h : Y → ℕ) (f : X → Y) (xs : List X) → sum_by h (map f xs) ≡ sum_by (λ x. h (f x)) xs
 sum_by-map h f [] = refl
@@ -50,25 +44,21 @@ module _ (g : Grid) (es : List Entry) (before start : ℕ) (is : start ≡ befor
 
   all_weight : (side : Side) (test : ℕ → Bool) → weight_where (weight_of side) test kept ≡ weight_where (weight_of side) (λ i. leb before i && test i) es
   all_weight side test =
-      let h : Entry → ℕ = λ e. cond (leb before e.index && test e.index) (weight_of side e) 0 in
-      sum_by-filter from (λ e. cond (test e.index) (weight_of side e) 0) (merged_all es)
-      ∙ sum_by-same _ h (merged_all es) (λ e. search (rules, arith)) ∙ merged_weight_all side (λ i. leb before i && test i) es
+      rw (← merged_weight_all side (λ i. leb before i && test i) es, sum_by-filter) (sum_by-same _ _ (merged_all es) (λ e. search (rules, arith)))
 
   -- the bins of the grid have the weights of those that are kept
   unfolded : (side : Side) (test : ℕ → Bool) → weight_where (weight_of side) test (bins_from g start) ≡ weight_where (weight_of side) test kept
   unfolded side test =
-      let h : Entry → ℕ = λ e. cond (test e.index) (weight_of side e) 0 in
-      let places = range_with_len start count in
       let passed : ℕ → ℕ = λ i. cond (test i) 1 0 in
-      sum_by-filter (λ e. ltb 0 (photons e)) h (map (bin_at g) places)
-      ∙ sum_by-same _ h (map (bin_at g) places) (λ e. unseen side test e) ∙ sum_by-map h (bin_at g) places
-      ∙ sum_by-agree (λ p. p < 4096) (λ p. h (bin_at g p)) (λ p. passed (g.base + p) * weight_at side 0 g.base p es) places
-      (below_range start count 4096 (omega (arith, stands.few))) (λ p inside. rw (bin_weight side g p es inside stands) (search (rules, arith)))
+      rw (all_weight side test, sum_by-filter)
+      (sum_by-map _ (bin_at g) (range_with_len start count)
+      ∙ sum_by-agree (λ p. p < 4096) _ (λ p. passed (g.base + p) * weight_at side 0 g.base p es) (range_with_len start count)
+      (below_range start count 4096 (omega (arith, stands.few)))
+      (λ p inside. let one : weight_of side (bin_at g p) ≡ weight_at side 0 g.base p es = search (rules, arith) in rw (← one) (search (rules, arith)))
       ∙ by_bins passed side g.base start count es
-      ∙ sum_by-agree (λ e. (g.base ≤ e.index) × (e.index < g.base + g.len)) _ (λ e. cond (leb before e.index && test e.index) (weight_of side e) 0) es stands.within
+      ∙ sum_by-agree (λ e. (g.base ≤ e.index) × (e.index < g.base + g.len)) _ _ es stands.within
       (λ e near. let same : (leb (g.base + start) e.index && ltb e.index (g.base + start + count)) ≡ leb before e.index = grind (arith, nat_tests, is, near) in
-      rw same (search (rules, arith)))
-      ∙ sym (all_weight side test)
+      rw same (search (rules, arith))))
 
   -- so a test that none of those passes none of them passes
   none_of : (test : ℕ → Bool) → AllByRecursion (λ e. test e.index ≡ false) kept → AllByRecursion (λ e. test e.index ≡ false) (bins_from g start)
@@ -92,7 +82,8 @@ module _ (g : Grid) (es : List Entry) (before start : ℕ) (is : start ≡ befor
 
   -- A ring may keep them in place of those.
   module _ (set : CorrelationView) (level : ℕ) (r : Ring) (photons' : History)
-      (rung : RingIs set level (ring (filter from (r.entries ++ merged_all es)) r.reach) photons') (low : AllByRecursion (λ x. bin level x < before + r.reach) photons') where
+      (rung : RingIs set level (ring (filter from (r.entries ++ merged_all es)) r.reach) photons')
+      (low : AllByRecursion (λ x. bin level x < before + r.reach) photons') where
     abbrev mine : List Entry
     mine = kept_and before r.entries g start
 
@@ -108,13 +99,12 @@ module _ (g : Grid) (es : List Entry) (before start : ℕ) (is : start ≡ befor
     bounded m all = as_kept (λ e. e.index < m) (leb m) (λ e is. grind (arith, nat_tests, is)) (λ e no. grind (arith, nat_tests, no))
         (filter from r.entries) (was.keeps.bounded m all)
 
-    from_all : AllByRecursion (λ e. leb before e.index ≡ true) mine
-    from_all = as_kept (λ e. leb before e.index ≡ true) (λ i. ltb i before) (λ e yes. grind (arith, nat_tests, yes)) (λ e no. grind (arith, nat_tests, no))
-        (filter from r.entries) (rw filter-append at (all_passed from (r.entries ++ merged_all es)))
-
     pub keeps_dense : IsRising mine × (length mine ≤ r.reach) × RingIs set level (ring mine r.reach) photons'
     keeps_dense =
         let rising = rising_behind (filter from r.entries) was.rising in
+        let from_all : AllByRecursion (λ e. leb before e.index ≡ true) mine =
+        as_kept (λ e. leb before e.index ≡ true) (λ i. ltb i before) (λ e yes. grind (arith, nat_tests, yes)) (λ e no. grind (arith, nat_tests, no))
+        (filter from r.entries) (rw filter-append at (all_passed from (r.entries ++ merged_all es))) in
         let few : length mine ≤ r.reach = omega (arith, few_kept mine before (before + r.reach) rising from_all (bounded (before + r.reach) low)) in (
           rising,
           few,

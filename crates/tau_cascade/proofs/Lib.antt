@@ -1,5 +1,4 @@
 pub mod Rows
-pub mod Closes
 pub mod Follows
 pub mod Spread
 pub mod Paired

@@ -1,8 +1,8 @@
 -- Bins of one index that are neighbours, as they are and merged.
-use Rattle.std.{proofs.Common.{◌≡◌, ◌^◌, ◌&&◌, length-append, ◌/◌, ℕ, ◌+◌, ◌-◌, ◌<◌, ◌≤◌, Bool, true, false, cond, eqb, leb, List, [], ◌∷◌, ◌++◌, length, map, take, drop, get_or, refl, sym, ap, ◌∙◌, arith, rules}, specs.List.{sum_by, count_by, filter, AllByRecursion}, proofs.lemmas.Bool.Decides.nat_tests, proofs.Math.Nat.{mul-le-mul_left}, proofs.lemmas.List.{take_rest, take-append-drop, drop-map, length-drop, length-map, get_or-drop, get_or-map}, proofs.lemmas.List.Sums.{sum_by_push, count_by-le-length}}
+use Rattle.std.{proofs.Common.{◌≡◌, ◌^◌, ◌&&◌, length-append, append-nil, append_assoc, ◌/◌, ℕ, ◌+◌, ◌-◌, ◌<◌, ◌≤◌, Bool, true, false, cond, eqb, leb, List, [], ◌∷◌, ◌++◌, length, map, take, drop, get_or, refl, sym, ap, ◌∙◌, arith, rules}, specs.List.{sum_by, count_by, filter, AllByRecursion}, proofs.lemmas.Bool.Decides.nat_tests, proofs.Props.props, proofs.Math.Logic.∥∥₁_elim, proofs.Math.Nat.{mul-le-mul_left}, proofs.lemmas.List.{take_rest, take-append-drop, drop-map, length-drop, length-map, get_or-drop, get_or-map}, proofs.lemmas.List.Sums.{sum_by_push, count_by-le-length}}
 use Rattle.lag_ring.{specs.declared.ring.Entry.Entry, specs.Ring.{Ring, ring, IsRising, IsInReach, weight_where}, specs.Cells.{Cells, added_at}, proofs.Lists.all_join, proofs.Rising.{all_weaker, rising_back}, proofs.Sums.sum_by-filter}
 use Rattle.tally_base.{specs.Settings.CorrelationView, specs.Tally.History}
-use Rattle.tau_cascade.{proofs.Close.no_bin, specs.Correlation.{Given, bin, skipped_lags, in_first, in_second}, specs.Levels.{weight_before, RingIs, CellsAre}, specs.Dense.paired, specs.Bins.{raised, both_of, merged, merged_all, stretch, FitCounts, IsSpaced, Follow, CanShutAll}, specs.declared.grid.Grid.Grid, specs.Grid.{Stands, kept_and}, proofs.Gridded.keeps_dense, proofs.Paired.{all_fit, all_rising, cells_all}, proofs.Follows.follow_comes, proofs.Spread.come_all, proofs.Keeping.{last_of, upto_last, ring_all, rising_filter, filter_again, kept_is}}
+use Rattle.tau_cascade.{proofs.Close.no_bin, specs.Correlation.{Given, bin, skipped_lags, in_first, in_second}, specs.Levels.{weight_before, RingIs, CellsAre}, specs.Dense.{paired, paired_from}, specs.Bins.{raised, both_of, merged, merged_all, kept_of, stretch, FitCounts, IsSpaced, Follow, CanShutAll}, specs.declared.grid.Grid.Grid, specs.Grid.{Stands, kept_and}, proofs.Gridded.keeps_dense, proofs.Paired.{all_rising, cells_all}, proofs.Keeping.{rising-prop, last_of, ring_all, filter_again, kept_is}}
 
 -- Pairs with what is before count by its weights alone.
 paired_same : (k : ℕ) (before other es : List Entry) → ((n : ℕ) → weight_before k n before ≡ weight_before k n other) → paired k before es ≡ paired k other es
@@ -30,28 +30,20 @@ kept_one : (before : ℕ) (e : Entry) (es : List Entry) → IsSpaced 0 (e ∷ es
 kept_one before e [] spaced = search (rules, arith)
 kept_one before e (f ∷ fs) spaced = search (rules, arith, kept_one before (both_of e f) fs, kept_one before f fs spaced.1)
 
-kept_merged : (before : ℕ) (es : List Entry) → IsSpaced 0 es
-    → filter (λ f. leb before f.index) (merged_all es) ≡ merged_all (filter (λ f. leb before f.index) es)
-kept_merged before es spaced = search (rules, arith, kept_one)
-
--- the last of a list has the index that it has where one bin of that index is in place of another
-last_same : (e f : Entry) (es : List Entry) → e.index ≡ f.index → (last_of e es).index ≡ (last_of f es).index
-last_same e f [] same = same
-last_same e f (g ∷ gs) same = refl
-
 -- the first of the merged bins has the index of the first one, and the last that of the last
-end_one : (e : Entry) (es : List Entry) → (f : Entry) × (fs : List Entry) × (merged e es ≡ f ∷ fs) × (f.index ≡ e.index) × ((last_of f fs).index ≡ (last_of e es).index)
+end_one : (e : Entry) (es : List Entry) → (f : Entry) × (fs : List Entry) × (merged e es ≡ f ∷ fs) × (f.index ≡ e.index) × (last_of f.index fs ≡ last_of e.index es)
 end_one e [] = (e, [], refl, refl, refl)
-end_one e (f ∷ fs) = (elim (eqb e.index f.index) as (λ b. eqb e.index f.index ≡ b → (g : Entry) × (gs : List Entry) × (cond b (merged (both_of e f) fs) (e ∷ merged f fs) ≡ g ∷ gs) × (g.index ≡ e.index) × ((last_of g gs).index ≡ (last_of f fs).index)) [
-  | true ↦ λ one. let rest = end_one (both_of e f) fs in (rest.0, rest.1, rest.2, rest.3, rest.4 ∙ last_same (both_of e f) f fs (grind arith))
+end_one e (f ∷ fs) = (elim (eqb e.index f.index) as (λ b. eqb e.index f.index ≡ b → (g : Entry) × (gs : List Entry) × (cond b (merged (both_of e f) fs) (e ∷ merged f fs) ≡ g ∷ gs) × (g.index ≡ e.index) × (last_of g.index gs ≡ last_of f.index fs)) [
+  | true ↦ λ one. let rest = end_one (both_of e f) fs in (rest.0, rest.1, rest.2, rest.3, rest.4 ∙ ap (λ n. last_of n fs) (grind arith))
   | false ↦ λ two. let rest = end_one f fs in (e, rest.0 ∷ rest.1, ap (λ ys. e ∷ ys) rest.2, refl, rest.4)
 ]) refl
 
 -- rising entries before the bins are not merged
-merged_behind : (rs : List Entry) (e : Entry) (es : List Entry) → IsRising rs → AllByRecursion (λ r. r.index < e.index) rs → merged_all (rs ++ e ∷ es) ≡ rs ++ merged e es
-merged_behind [] e es rising below = refl
-merged_behind (r ∷ []) e es rising below = search (rules, arith)
-merged_behind (r ∷ s ∷ rs) e es rising below = search (rules, arith, merged_behind (s ∷ rs) e es rising.1 below.1)
+merged_behind : (rs es : List Entry) (f : Entry) (fs : List Entry) → merged_all es ≡ f ∷ fs → IsRising rs → AllByRecursion (λ r. r.index < f.index) rs → merged_all (rs ++ es) ≡ rs ++ merged_all es
+merged_behind [] es f fs is rising below = refl
+merged_behind (r ∷ []) [] f fs is rising below = refl
+merged_behind (r ∷ []) (e ∷ es) f fs is rising below = (let end = end_one e es in search (rules, arith, end))
+merged_behind (r ∷ s ∷ rs) es f fs is rising below = search (rules, arith, merged_behind (s ∷ rs) es f fs is rising.1 below.1)
 
 module _ (before levels n : ℕ) (bins : List Entry) (spaced : IsSpaced 0 (map (raised levels) bins))
     (left : AllByRecursion (λ e. e.index < before) (take n (map (raised levels) bins)))
@@ -59,129 +51,115 @@ module _ (before levels n : ℕ) (bins : List Entry) (spaced : IsSpaced 0 (map (
   abbrev up : List Entry
   up = map (raised levels) bins
 
-  abbrev all : List Entry
-  all = merged_all up
-
   abbrev from : Entry → Bool
   from e = leb before e.index
 
   -- the bins that are not before the index are those from a place on
   pub kept_bins : filter from up ≡ map (raised levels) (drop n bins)
-  kept_bins = kept_is before n [] up left kept ∙ drop-map (raised levels) n bins
+  kept_bins = kept_is before n up left kept ∙ drop-map (raised levels) n bins
 
-  -- merged they are those of all merged ones that are not before it
-  kept_end : merged_all (map (raised levels) (drop n bins)) ≡ filter from all
-  kept_end = sym (kept_merged before up spaced ∙ ap (λ ys. merged_all ys) kept_bins)
+  -- they are laid in a list, to be merged there: those of all merged ones that are not before it
+  pub laid_kept : (was : List Entry) (end' : ℕ) → take end' was ≡ take (length bins - n) (drop n bins) → merged_all (stretch 0 end' levels was) ≡ filter from (merged_all up)
+  laid_kept was end' laid = search (rules, arith, laid, take_rest, up, kept_one, kept_bins)
 
-  -- they are laid in a list, to be merged there
-  pub laid_kept : (was : List Entry) (end' : ℕ) → take end' was ≡ take (length bins - n) (drop n bins) → merged_all (stretch 0 end' levels was) ≡ filter from all
-  laid_kept was end' laid = search (rules, arith, laid, take_rest, kept_end)
+-- no photon of bins is behind the last
+follow_upto : (set : CorrelationView) (level : ℕ) (e : Entry) (es : List Entry) (closed xs : History) → Follow set level closed (e ∷ es) xs → AllByRecursion (λ x. bin level x ≤ last_of e.index es) (closed ++ xs)
+follow_upto set level e [] closed xs follow = search (rules, arith, all_join, all_weaker, append-nil)
+follow_upto set level e (f ∷ fs) closed xs follow = rw (follow.2, ← append_assoc closed follow.0 follow.1) (follow_upto set level f fs (closed ++ follow.0) follow.1 follow.5)
 
--- of rising entries none is behind the last
-all_upto : (e : Entry) (es : List Entry) → IsRising (e ∷ es) → AllByRecursion (λ f. f.index ≤ (last_of e es).index) (e ∷ es)
-all_upto e [] rising = (omega arith, tt)
-all_upto e (f ∷ fs) rising = (upto_last e (f ∷ fs) rising, all_upto f fs rising.1)
-
-last_read : (e : Entry) (es : List Entry) → get_or (e ∷ es) (length es) no_bin ≡ last_of e es
+last_read : (e : Entry) (es : List Entry) → (get_or (e ∷ es) (length es) no_bin).index ≡ last_of e.index es
 last_read e [] = refl
 last_read e (f ∷ fs) = last_read f fs
 
 merged_end : (es : List Entry) → 0 < length es
-    → (f : Entry) × (fs : List Entry) × (merged_all es ≡ f ∷ fs) × ((last_of f fs).index ≡ (get_or es (length es - 1) no_bin).index)
+    → (f : Entry) × (fs : List Entry) × (merged_all es ≡ f ∷ fs) × (last_of f.index fs ≡ (get_or es (length es - 1) no_bin).index)
 merged_end [] some = absurd (omega arith)
 merged_end (e ∷ es) some =
     let end = end_one e es in
     let count : length (e ∷ es) - 1 ≡ length es = omega arith in
     (end.0, end.1, end.2, rw (count, last_read e es) end.4)
 
--- What the bins of a list from a place on do, so many levels up, that are closed as merged ones.
+-- What the bins of a list from a place on do, so many levels up, that are closed as merged ones, and what is kept of them.
 
-module _ (set : CorrelationView) (level skipped : ℕ) (is_skipped : skipped ≡ skipped_lags set level) (r : Ring) (cells : Cells) (levels start : ℕ) (list : List Entry)
-    (closed xs : History) (can : CanShutAll set level r cells (merged_all (drop start (map (raised levels) list))) closed xs) where
+-- a list behind the ring's entries, and the first index that the ring keeps
+pub record Standing (set : CorrelationView) (level skipped : ℕ) (r : Ring) (levels start : ℕ) (list : List Entry) (before : ℕ) : Type 0 where
+  pub skips : skipped ≡ skipped_lags set level
+  pub lags : 0 < set.lags
+  pub inside : start < length list
+  pub front : take start (map (raised levels) list) ≡ r.entries
+  pub last : before ≡ (get_or list (length list - 1) no_bin).index / 2 ^ levels - (set.lags - 1)
+
+module _ {set : CorrelationView} {level skipped : ℕ} {r : Ring} {levels start : ℕ} {list : List Entry} {before : ℕ} (at' : Standing set level skipped r levels start list before) (cells : Cells) where
   abbrev bins : List Entry
   bins = drop start (map (raised levels) list)
 
   abbrev whole : List Entry
   whole = merged_all bins
 
-  whole_behind : (rs es : List Entry) → 0 < length es → IsRising rs → ((n : ℕ) → AllByRecursion (λ x. bin level x < n) closed → AllByRecursion (λ e. e.index < n) rs)
-      → Follow set level closed (merged_all es) xs → merged_all (rs ++ es) ≡ rs ++ merged_all es
-  whole_behind rs [] some rising bounded follow = absurd (omega arith)
-  whole_behind rs (e ∷ es) some rising bounded follow =
-      let end = end_one e es in
-      let first : Follow set level closed (end.0 ∷ end.1) xs = (rw end.2 at follow) in
-      merged_behind rs e es rising (bounded e.index (rw (← end.3) first.4))
+  abbrev from' : Entry → Bool
+  from' e = leb before e.index
 
-  -- with the ring's entries before them
-  merged_whole : take start (map (raised levels) list) ≡ r.entries → start < length list → merged_all (map (raised levels) list) ≡ r.entries ++ whole
-  merged_whole front inside =
-      let some : 0 < length bins = omega (arith, inside, length-drop start (map (raised levels) list), length-map list (raised levels)) in
-      let parts : map (raised levels) list ≡ r.entries ++ bins = rw (← front) (sym (take-append-drop start (map (raised levels) list))) in
-      ap merged_all parts ∙ (whole_behind r.entries bins some can.ring.rising (λ n before. can.ring.keeps.bounded n before) can.bins)
+  end' : (f : Entry) × (fs : List Entry) × (whole ≡ f ∷ fs) × (last_of f.index fs ≡ (get_or list (length list - 1) no_bin).index / 2 ^ levels)
+  end' =
+      let is = at'.inside in
+      let read = get_or-map (raised levels) list (length list - 1) no_bin no_bin in
+      let end = merged_end bins (omega (arith, at'.inside, length-drop start (map (raised levels) list), length-map list (raised levels))) in
+      (end.0, end.1, end.2, end.3 ∙ search (rules, arith, read, get_or-drop, length-drop, length-map))
 
-  pub fits_near : (p : ℕ) → p < set.lags - skipped → get_or cells.cells p 0 + paired (p + skipped + 1) r.entries bins ≤ 2 ^ 80
-  fits_near p inside = rw (← paired_merged (p + skipped + 1) (omega arith) r.entries bins) (all_fit set level skipped is_skipped r cells whole closed xs can p inside)
+  module _ (closed xs : History) (can : CanShutAll set level r cells whole closed xs) where
+    follow : Follow set level closed (end'.0 ∷ end'.1) xs
+    follow = (rw end'.2 at can.bins)
 
-  module _ (inside : start < length list) where
-    some : 0 < length bins
-    some = omega (arith, length-drop start (map (raised levels) list), length-map list (raised levels))
+    -- with the ring's entries before them
+    merged_whole : merged_all (map (raised levels) list) ≡ r.entries ++ whole
+    merged_whole =
+        let parts : map (raised levels) list ≡ r.entries ++ bins = rw (← at'.front) (sym (take-append-drop start (map (raised levels) list))) in
+        ap merged_all parts ∙ merged_behind r.entries bins end'.0 end'.1 end'.2 can.ring.rising (can.ring.keeps.bounded _ follow.4)
 
-    last : (get_or bins (length bins - 1) no_bin).index ≡ (get_or list (length list - 1) no_bin).index / 2 ^ levels
-    last =
-        let read = get_or-map (raised levels) list (length list - 1) no_bin no_bin in
-        search (rules, arith, read, get_or-drop, length-drop, length-map)
-
-    pub cells_near : (new : Cells) → ((p : ℕ) → p < set.lags - skipped → get_or new.cells p 0 ≡ get_or cells.cells p 0 + paired (p + skipped + 1) r.entries bins)
+    pub cells_near : (new : Cells) → ((p : ℕ) → p < set.lags - skipped → get_or new.cells p 0 ≡ get_or cells.cells p 0 + paired_from start (p + skipped + 1) (map (raised levels) list))
         → length new.cells ≡ length cells.cells → new.added ≤ cells.added + (set.lags - skipped)
         → ((p : ℕ) → added_at new p ≤ added_at cells p + 1) → CellsAre set level new (closed ++ xs)
     cells_near new pairs same added each =
-        let end = merged_end bins some in
-        let long : 1 ≤ length whole = rw end.2 (omega arith) in
+        let long : 1 ≤ length whole = rw end'.2 (omega arith) in
         let more = mul-le-mul_left (set.lags - skipped) long in
-        cells_all set level skipped is_skipped r cells whole closed xs can new
-        (λ p inside. pairs p inside ∙ ap (λ n. get_or cells.cells p 0 + n) (sym (paired_merged (p + skipped + 1) (omega arith) r.entries bins)))
+        cells_all set level skipped at'.skips r cells whole closed xs can new
+        (λ p inside. pairs p inside ∙ ap (λ n. get_or cells.cells p 0 + n) (rw at'.front (sym (paired_merged (p + skipped + 1) (omega arith) r.entries bins))))
         same (omega (arith, added, more)) (λ p. omega (arith, each p, long))
 
-    module _ (lags : 0 < set.lags) (before : ℕ) (is : before ≡ (get_or list (length list - 1) no_bin).index / 2 ^ levels - (set.lags - 1)) where
-      abbrev from' : Entry → Bool
-      from' e = leb before e.index
+    ring_near : RingIs set level (ring (filter (λ e. leb before e.index) (r.entries ++ whole)) r.reach) (closed ++ xs)
+    ring_near = rw (at'.last, ← end'.3, end'.2) (ring_all set level at'.lags end'.0 end'.1 r closed xs can.ring follow (rw end'.2 at (rising_back r.entries whole (all_rising set level skipped at'.skips r cells whole closed xs can))))
 
-      rising : IsRising (r.entries ++ whole)
-      rising = all_rising set level skipped is_skipped r cells whole closed xs can
+    -- all photons are in reach of what is kept
+    in_reach : IsInReach (bin level) r.reach (λ i. leb before i) (closed ++ xs)
+    in_reach = λ i passes.
+        let from : before ≤ i = grind arith in
+        all_weaker (λ x. bin level x ≤ last_of end'.0.index end'.1) (λ x. bin level x < i + r.reach) (λ x upto. omega (arith, at'.last, end'.3, can.ring.reach, at'.lags)) (closed ++ xs)
+        (follow_upto set level end'.0 end'.1 closed xs follow)
 
-      ring_near : RingIs set level (ring (filter (λ e. leb before e.index) (r.entries ++ whole)) r.reach) (closed ++ xs)
-      ring_near =
-          let end = merged_end bins some in
-          rw (is, ← last, ← end.3, end.2) (ring_all set level lags end.0 end.1 r closed xs can.ring (rw end.2 at can.bins) (rw end.2 at (rising_back r.entries whole rising)))
+    fits : (weight : Entry → ℕ) (mine : Given → Bool) → weight_where weight (λ i. leb before i) (filter from' (r.entries ++ whole)) ≡ count_by (λ x. mine x && leb before (bin level x)) (closed ++ xs) → sum_by weight (filter from' (r.entries ++ whole)) < 2 ^ 64
+    fits weight mine is =
+        let few = count_by-le-length (λ x. mine x && leb before (bin level x)) (closed ++ xs) in
+        omega (arith, ap (sum_by weight) (filter_again from' from' (λ x passes. passes) (r.entries ++ whole)), sum_by-filter from' weight (filter from' (r.entries ++ whole)), is, few, length-append closed xs, can.few)
 
-      -- all photons are in reach of what is kept
-      in_reach : IsInReach (bin level) r.reach (λ i. leb before i) (closed ++ xs)
-      in_reach = λ i passes.
-          let end = merged_end bins some in
-          let follow : Follow set level closed (end.0 ∷ end.1) xs = rw end.2 at can.bins in
-          let upto = all_upto end.0 end.1 (rw end.2 at (rising_back r.entries whole rising)) in
-          let far : (last_of end.0 end.1).index < i + r.reach = (let from : before ≤ i = grind arith in omega (arith, is, last, end.3, can.ring.reach, lags)) in
-          all_join (λ x. bin level x < i + r.reach) closed xs
-          (all_weaker (λ x. bin level x < end.0.index) (λ x. bin level x < i + r.reach) (λ x under. omega (arith, upto.0)) closed follow.4)
-          (all_weaker (λ x. bin level x ≤ (last_of end.0 end.1).index) (λ x. bin level x < i + r.reach) (λ x under. omega arith) xs
-          (come_all set level (λ n. n ≤ (last_of end.0 end.1).index) (end.0 ∷ end.1) closed xs upto (follow_comes set level (end.0 ∷ end.1) closed xs follow)))
+    -- what is kept of the whole list
+    pub keeps_near : FitCounts (kept_of before levels list) × RingIs set level (ring (kept_of before levels list) r.reach) (closed ++ xs)
+    keeps_near = rw merged_whole (
+      (fits (λ e. e.a) (in_first set) (ring_near.keeps.firsts (λ i. leb before i) in_reach), fits (λ e. e.b) (in_second set) (ring_near.keeps.seconds (λ i. leb before i) in_reach)),
+      ring_near,
+    )
 
-      fits : (weight : Entry → ℕ) (mine : Given → Bool) (kept : List Entry) → weight_where weight (λ i. leb before i) (filter from' kept) ≡ count_by (λ x. mine x && leb before (bin level x)) (closed ++ xs) → sum_by weight (filter from' kept) < 2 ^ 64
-      fits weight mine kept is =
-          let again = filter_again from' from' (λ x passes. passes) kept in
-          let same = sum_by-filter from' weight (filter from' kept) in
-          omega (arith, ap (sum_by weight) again, same, is, count_by-le-length (λ x. mine x && leb before (bin level x)) (closed ++ xs), length-append closed xs, can.few)
+    -- and of the bins of a grid
+    pub dense_near : (g : Grid) (place : ℕ) → Stands g bins → place ≡ before - g.base → RingIs set level (ring (kept_and before r.entries g place) r.reach) (closed ++ xs)
+    dense_near g place stands is = (keeps_dense g bins before place is stands set level r (closed ++ xs) ring_near (in_reach before (grind (arith, nat_tests)))).2
 
-      -- what is kept of the whole list
-      pub keeps_near : take start (map (raised levels) list) ≡ r.entries
-          → (kept : List Entry) → kept ≡ filter from' (merged_all (map (raised levels) list)) → FitCounts kept × IsRising kept × RingIs set level (ring kept r.reach) (closed ++ xs)
-      keeps_near front kept same = rw (same, merged_whole front inside) (
-        (fits (λ e. e.a) (in_first set) _ (ring_near.keeps.firsts (λ i. leb before i) in_reach), fits (λ e. e.b) (in_second set) _ (ring_near.keeps.seconds (λ i. leb before i) in_reach)),
-        rising_filter from' (r.entries ++ whole) rising,
-        ring_near,
-      )
+  -- the same where some photons stand
+  module _ (stands : ∥ ((closed : History) × (xs : History) × CanShutAll set level r cells whole closed xs) ∥₁) where
+    pub keeps_stand : FitCounts (kept_of before levels list) × IsRising (kept_of before levels list) × (length (kept_of before levels list) ≤ r.reach)
+    keeps_stand =
+        let prop = rising-prop (kept_of before levels list) in
+        ∥∥₁_elim stands (hlevel (props, prop)) (λ w. let kept = keeps_near w.0 w.1 w.2 in (kept.0, kept.1.rising, kept.1.keeps.within))
 
-      -- and of the bins of a grid
-      pub dense_near : (g : Grid) (place : ℕ) → Stands g bins → place ≡ before - g.base
-          → IsRising (kept_and before r.entries g place) × (length (kept_and before r.entries g place) ≤ r.reach) × RingIs set level (ring (kept_and before r.entries g place) r.reach) (closed ++ xs)
-      dense_near g place stands at = keeps_dense g bins before place at stands set level r (closed ++ xs) ring_near (in_reach before (grind (arith, nat_tests)))
+    pub dense_stands : (g : Grid) (place : ℕ) → Stands g bins → place ≡ before - g.base → IsRising (kept_and before r.entries g place) × (length (kept_and before r.entries g place) ≤ r.reach) × (length r.entries ≤ set.lags)
+    dense_stands g place on is =
+        let prop = rising-prop (kept_and before r.entries g place) in
+        ∥∥₁_elim stands (hlevel (props, prop)) (λ w. let kept = dense_near w.0 w.1 w.2 g place on is in (kept.rising, kept.keeps.within, omega (arith, w.2.ring.keeps.within, w.2.ring.reach)))

@@ -1,18 +1,17 @@
 -- The pairs of one bin more with the bins before it.
 use Rattle.lag_ring.{specs.declared.ring.Entry.Entry, proofs.Sums.sum_by-zero}
 use Rattle.tau_cascade.specs.{Levels.weight_before, Dense.{paired, paired_from}, Bins.raised}
-use Rattle.std.{proofs.Common.{length, ◌≡◌, ℕ, [], ◌∷◌, drop, refl, ◌+◌, ◌-◌, ◌*◌, ◌/◌, ◌^◌, ◌<◌, ◌≤◌, true, false, eqb, List, get_or, map, take, cond, arith, rules, ◌++◌, append_assoc, append-nil, take-add, subst}, specs.List.{AllByRecursion}, proofs.lemmas.List.{get_or-take, get_or-drop, take-map, drop-map, length-drop, get_or-map, length-map, drop_more, take-take, drop_all, length-take-le}, proofs.lemmas.List.Sums.{sum_by_more}}
+use Rattle.std.{proofs.Common.{length, ◌≡◌, ℕ, [], ◌∷◌, drop, refl, ◌+◌, ◌-◌, ◌*◌, ◌/◌, ◌^◌, ◌<◌, ◌≤◌, eqb, List, get_or, map, take, cond, arith, rules, ◌++◌, append_assoc, append-nil, take-add, subst}, specs.List.{AllByRecursion}, proofs.lemmas.List.{get_or-take, get_or-drop, take-map, drop-map, length-drop, get_or-map, length-map, drop_more, take-take, drop_all, length-take-le}, proofs.lemmas.List.Sums.{sum_by_more}}
 
 -- the pairs of one bin more with those before an index, some levels up
 pub weight_more : (bins : List Entry) (levels i : ℕ) (none : Entry) → i < length bins → (k n w : ℕ)
     → weight_before k n (take (i + 1) (map (raised levels) bins)) * w ≡ weight_before k n (take i (map (raised levels) bins)) * w
     + cond (eqb ((get_or bins i none).index / 2 ^ levels + k) n) ((get_or bins i none).a * w) 0
 weight_more bins levels i none inside k n w =
-    let up : List Entry = map (raised levels) bins in
-    let u : ℕ = weight_before k n (take i up) in
+    let u : ℕ = weight_before k n (take i (map (raised levels) bins)) in
     let e : Entry = raised levels (get_or bins i none) in
-    rw (sum_by_more (λ f. cond (eqb (f.index + k) n) f.a 0) up i none (rw (length-map bins (raised levels)) inside), get_or-map (raised levels) bins i none none inside)
-    (elim (eqb (e.index + k) n) as (λ b. (u + cond b e.a 0) * w ≡ u * w + cond b (e.a * w) 0) [ true ↦ omega arith | false ↦ omega arith ])
+    let more = sum_by_more (λ (f : Entry). cond (eqb (f.index + k) n) f.a 0) (map (raised levels) bins) i none (rw (length-map bins (raised levels)) inside) in
+    rw (more, get_or-map (raised levels) bins i none none inside) (grind arith)
 
 -- where each entry stands before the index by more than the lags, none stands at one
 pub none_at_lag : (es : List Entry) (lags n k : ℕ) → AllByRecursion (λ f. f.index + lags < n) es → k ≤ lags → weight_before k n es ≡ 0

@@ -1,7 +1,7 @@
 -- Grids from level to level.
-use Rattle.std.{proofs.Common.{rules, ◌≡◌, ℕ, ◌+◌, ◌-◌, ◌<◌, ◌≤◌, ◌≢◌, zero, suc, eqb, cond, Option, List, [], ◌∷◌, ◌++◌, length, set, map, take, drop, arith}, specs.List.{sum_by, AllByRecursion}, proofs.lemmas.Bool.Decides.nat_tests, proofs.lemmas.Grind.get_or-set_at, proofs.lemmas.List.{get_or-set_other, map-append, take-append-drop, length-drop, length-map}, proofs.lemmas.List.Sums.{sum_by-append}}
+use Rattle.std.{proofs.Common.{rules, ◌≡◌, ℕ, ◌+◌, ◌<◌, ◌≤◌, ◌≢◌, zero, suc, eqb, cond, List, [], ◌∷◌, ◌++◌, length, set, map, take, drop, arith}, specs.List.{sum_by, AllByRecursion}, proofs.lemmas.Bool.Decides.nat_tests, proofs.lemmas.Grind.get_or-set_at, proofs.lemmas.List.{get_or-set_other, map-append, take-append-drop, length-drop, length-map}, proofs.lemmas.List.Sums.{sum_by-append}}
 use Rattle.lag_ring.{specs.declared.ring.Entry.Entry, specs.declared.window.Side.{Side, TheVariants.{First, Second}}, specs.Bytes.{weight_of}, proofs.Lists.{all_front, all_back, all_both, of_some}, proofs.Sums.{sum_by-zero}}
-use Rattle.tau_cascade.{specs.declared.grid.Grid.Grid, specs.Bins.{raised, onto}, specs.Grid.{HaveWeights, Stands, IsGrid, photons}, proofs.Passes.raised-again}
+use Rattle.tau_cascade.{specs.declared.grid.Grid.Grid, specs.Bins.{raised}, specs.Grid.{HaveWeights, Stands, IsGrid, photons}}
 
 -- where a grid has no places, it stands for no bins
 pub is_grid : (g : Grid) (es : List Entry) → Stands g es → IsGrid g es
@@ -14,9 +14,7 @@ cut_bins side base at' index old es fs is long has before here = λ p inside.
     let f : Entry → ℕ = λ e. cond (eqb (e.index + 0) (base + p)) (weight_of side e) 0 in
     let none : at' ≡ p → sum_by f es ≡ 0 = λ same. sum_by-zero (λ e. e.index < index) f es before (λ e under. grind (arith, nat_tests)) in
     let other : at' ≢ p → sum_by f fs ≡ 0 = λ away. sum_by-zero (λ e. e.index ≡ index) f fs here (λ e there. grind (arith, nat_tests)) in
-    let both = sum_by-append f es fs in
-    let was = has p inside in
-    grind (arith, nat_tests, get_or-set_at, get_or-set_other)
+    grind (arith, nat_tests, get_or-set_at, get_or-set_other, sum_by-append f es fs, has p inside)
 
 -- the bins of an index are taken out, behind which there are none
 pub stands_cut : (g : Grid) (at' index : ℕ) (es fs : List Entry) → g.base + at' ≡ index → at' < g.len → at' < length g.firsts → at' < length g.seconds
@@ -25,8 +23,7 @@ pub stands_cut : (g : Grid) (at' index : ℕ) (es fs : List Entry) → g.base + 
 stands_cut g at' index es fs is inside first second was before here = record {
   firsts = cut_bins First g.base at' index g.firsts es fs is first was.firsts before here;
   seconds = cut_bins Second g.base at' index g.seconds es fs is second was.seconds before here;
-  within = all_both (λ e. (g.base ≤ e.index) × (e.index < g.base + g.len)) (λ e. e.index < index) (λ e. (g.base ≤ e.index) × (e.index < g.base + at'))
-      (λ e in' under. (in'.0, omega arith)) es (all_front (λ e. (g.base ≤ e.index) × (e.index < g.base + g.len)) es fs was.within) before;
+  within = search (rules, arith, all_both, all_front, was.within, before);
   few = omega (arith, was.few);
   even = was.even;
   fits = omega (arith, was.fits);
@@ -41,25 +38,11 @@ pub grid_some : (g : Grid) (es : List Entry) (n : ℕ) → g.len ≡ n → IsGri
 grid_some g es zero is grid = ∣ ([], grid.off is) ∣₁
 grid_some g es (suc n) is grid = ∣ (es, grid.on (omega arith)) ∣₁
 
--- the open bin before those that came, a level further up
-pub raise_is : (g new : Grid) (was : Option Entry) (came bins : List Entry) (levels : ℕ) → 0 < levels
-    → map (raised levels) bins ≡ onto was (map (raised levels) came) → Stands g (map (raised (levels - 1)) came)
-    → ((es : List Entry) → Stands g es → IsGrid new (onto was (map (raised 1) es))) → IsGrid new (map (raised levels) bins)
-raise_is g new was came bins levels up is stands raises = search (rules, arith, raised-again)
-
--- the last bins of a list have places, and can be taken out
-module _ (g : Grid) (levels n index : ℕ) (bins : List Entry) (here : AllByRecursion (λ e. e.index ≡ index) (map (raised levels) (drop n bins)))
-    (stands : Stands g (map (raised levels) bins)) where
-  parts : Stands g (map (raised levels) (take n bins) ++ map (raised levels) (drop n bins))
-  parts = rw (← map-append, take-append-drop) stands
-
-  pub last_inside : n < length bins → (g.base ≤ index) × (index < g.base + g.len)
-  last_inside few =
-      let within : Entry → Type 0 = λ e. (g.base ≤ e.index) × (e.index < g.base + g.len) in
-      of_some (λ e. e.index) index (λ i. (g.base ≤ i) × (i < g.base + g.len)) (map (raised levels) (drop n bins))
-      (omega (arith, few, length-drop n bins, length-map (drop n bins) (raised levels))) here (all_back within _ _ parts.within)
-
-  pub cut_is : (new : Grid) → AllByRecursion (λ e. e.index < index) (map (raised levels) (take n bins))
-      → ((es fs : List Entry) → Stands g (es ++ fs) → AllByRecursion (λ e. e.index < index) es → AllByRecursion (λ e. e.index ≡ index) fs → IsGrid new es)
-      → IsGrid new (map (raised levels) (take n bins))
-  cut_is new before cuts = cuts _ _ parts before here
+-- the last bins of a list have places
+pub last_inside : (g : Grid) (levels n index : ℕ) (bins : List Entry) → AllByRecursion (λ e. e.index ≡ index) (map (raised levels) (drop n bins))
+    → Stands g (map (raised levels) bins) → n < length bins → (g.base ≤ index) × (index < g.base + g.len)
+last_inside g levels n index bins here stands few =
+    let last = all_back (λ (e : Entry). (g.base ≤ e.index) × (e.index < g.base + g.len)) (map (raised levels) (take n bins)) (map (raised levels) (drop n bins))
+    (rw (← map-append, take-append-drop) stands.within) in
+    of_some (λ e. e.index) index (λ i. (g.base ≤ i) × (i < g.base + g.len)) (map (raised levels) (drop n bins))
+    (omega (arith, few, length-drop n bins, length-map (drop n bins) (raised levels))) here last

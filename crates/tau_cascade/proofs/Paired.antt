@@ -39,8 +39,7 @@ module _ (set : CorrelationView) (level : ℕ) where
   pub correlation_paired : (k : ℕ) → 0 < k → k ≤ set.lags → (es before : List Entry) (closed xs : History) → Counts before closed → Follow set level closed es xs → correlation set level k (closed ++ xs) ≡ correlation set level k closed + paired k before es
   correlation_paired k some few [] before closed xs counts follow = rw (follow, append-nil) (grind arith)
   correlation_paired k some few (e ∷ es) before closed xs counts follow =
-      let below : AllByRecursion (λ x. bin level x ≤ e.index) closed =
-      all_weaker (λ x. bin level x < e.index) (λ x. bin level x ≤ e.index) (λ x under. omega arith) closed follow.4 in
+      let below : AllByRecursion (λ x. bin level x ≤ e.index) closed = search (rules, arith, all_weaker) in
       let grown = pairs-append (in_first set) (in_second set) (bin level) k e.index closed follow.0 some below follow.3.here in
       let one : correlation set level k (closed ++ follow.0) ≡ correlation set level k closed + weight_before k e.index before * e.b =
       grown ∙ rw (counts e.index k few follow.4, follow.3.b) refl in
@@ -78,8 +77,7 @@ module _ (set : CorrelationView) (level : ℕ) where
     pub all_fit : (p : ℕ) → p < set.lags - skipped → get_or cells.cells p 0 + paired (p + skipped + 1) r.entries es ≤ 2 ^ 80
     all_fit p inside =
         let all : length (closed ++ xs) ≤ record_limit = rw (length-append closed xs) can.few in
-        let most = correlation-le set level (p + skipped + 1) (closed ++ xs) in
-        omega (arith, all_more p inside, most, mul-le-mul all all)
+        omega (arith, all_more p inside, correlation-le set level (p + skipped + 1) (closed ++ xs), mul-le-mul all all)
 
     work_all : cells.added + (set.lags - skipped) * length es ≤ lag_count set level * occupied level (closed ++ xs)
     work_all = rw (is_skipped, occupied_all es closed xs can.bins) (let was = can.cells.work in grind arith)

@@ -1,6 +1,6 @@
 -- Bins that are further apart than the lags, and lists part by part.
 use Rattle.lag_ring.{specs.declared.ring.Entry.Entry, specs.Ring.{IsRising}, proofs.Rising.{all_weaker, all_push}, proofs.Lists.{all_front, all_back, all_map, all_both, each_at}}
-use Rattle.tau_cascade.{specs.Levels.{weight_before}, specs.Bins.{raised, IsSpaced}, specs.Dense.{paired, paired_from}, proofs.Nexts.{none_at_lag, paired-append, take_parts}}
+use Rattle.tau_cascade.{specs.Bins.{raised, IsSpaced}, specs.Dense.{paired, paired_from}, proofs.Nexts.{none_at_lag, paired-append, take_parts}}
 use Rattle.std.{proofs.Common.{◌≡◌, ℕ, suc, ◌+◌, ◌-◌, ◌/◌, ◌^◌, ◌<◌, ◌≤◌, List, [], ◌∷◌, ◌++◌, length, map, take, drop, get_or, refl, ap, ◌∙◌, subst, add-one, arith, rules, append_assoc, zero}, specs.List.AllByRecursion, proofs.Math.Nat.div-mul-le_self, proofs.lemmas.Nat.{shr-shr, le-div, pow_pos}, proofs.lemmas.List.{take-take, take-map, drop-map, get_or-take, get_or-map, length-map, length-drop, length-take-le, take-append-drop, drop-take, drop-drop}, proofs.lemmas.List.Sums.sum_by-append, proofs.lemmas.Grind.common_steps}
 
 -- a distance, some levels up
@@ -44,11 +44,10 @@ spaced_one d es = search (rules, arith)
 
 -- one bin more
 spaced_next : (d i : ℕ) (es : List Entry) (none : Entry) → suc i < length es → IsSpaced d (take (suc i) es) → (get_or es i none).index + d ≤ (get_or es (suc i) none).index → IsSpaced d (take (suc (suc i)) es)
-spaced_next d i [] none inside spaced step = absurd (omega (arith, inside))
-spaced_next d i (e ∷ []) none inside spaced step = absurd (omega (arith, inside))
-spaced_next d zero (e ∷ f ∷ es) none inside spaced step = ((step, tt), (tt, tt))
+spaced_next d zero (e ∷ f ∷ es) none inside spaced step = search (rules, arith)
 spaced_next d (suc i) (e ∷ f ∷ es) none inside spaced step =
     (let rest = spaced_next d i (f ∷ es) none (omega arith) spaced.1 step in (spaced_behind d e.index f (take (suc i) es) spaced.0.0 rest, rest))
+spaced_next d i es none inside spaced step = absurd (omega (arith, inside))
 
 pub spaced_more : (d near at' : ℕ) (bins : List Entry) (none : Entry) → 0 < at' → at' < length bins → (0 < d → IsSpaced d (take at' bins)) → near ≤ d → near ≤ (get_or bins at' none).index - (get_or bins (at' - 1) none).index → 0 < near → IsSpaced near (take (at' + 1) bins)
 spaced_more d near at' bins none some inside were less here more =
@@ -57,13 +56,12 @@ spaced_more d near at' bins none some inside were less here more =
     rw (add-one, ← one) (spaced_next near (at' - 1) bins none (omega arith) (rw one was) (rw one (omega arith)))
 
 -- nothing pairs over more than the lags
-pub paired-far : (lags k : ℕ) → k ≤ lags → (before es : List Entry)
+paired-far : (lags k : ℕ) → k ≤ lags → (before es : List Entry)
     → AllByRecursion (λ e. AllByRecursion (λ f. f.index + lags < e.index) before) es → IsSpaced (lags + 1) es → paired k before es ≡ 0
 paired-far lags k few before [] far spaced = refl
 paired-far lags k few before (e ∷ es) far spaced =
-    let none : weight_before k e.index before ≡ 0 = none_at_lag before lags e.index k far.0 few in
     let next : AllByRecursion (λ g. AllByRecursion (λ f. f.index + lags < g.index) (before ++ e ∷ [])) es = all_both (λ g. AllByRecursion (λ f. f.index + lags < g.index) before) (λ g. e.index + (lags + 1) ≤ g.index) (λ g. AllByRecursion (λ f. f.index + lags < g.index) (before ++ e ∷ [])) (λ g back apart. all_push (λ f. f.index + lags < g.index) before e back (omega arith)) es far.1 spaced.0 in
-    rw (none, paired-far lags k few (before ++ e ∷ []) es next spaced.1) (grind arith)
+    rw (none_at_lag before lags e.index k far.0 few, paired-far lags k few (before ++ e ∷ []) es next spaced.1) (grind arith)
 
 none_before : (lags : ℕ) (es : List Entry) → AllByRecursion (λ e. AllByRecursion (λ (f : Entry). f.index + lags < e.index) []) es
 none_before lags [] = tt
@@ -100,10 +98,16 @@ paired_far : (k lags index : ℕ) (far near es : List Entry) → k ≤ lags → 
     → AllByRecursion (λ e. index ≤ e.index) es → paired k (far ++ near) es ≡ paired k near es
 paired_far k lags index far near [] few out from = refl
 paired_far k lags index far near (e ∷ es) few out from =
-    let further : AllByRecursion (λ f. f.index + lags < e.index) far =
-    all_weaker (λ f. f.index + lags < index) (λ f. f.index + lags < e.index) (λ f under. omega (arith, from.0)) far out in
-    let no : weight_before k e.index far ≡ 0 = none_at_lag far lags e.index k further few in
-    search (rules, arith, near, sum_by-append, append_assoc, paired_far k lags index far (near ++ e ∷ []) es few out from.1)
+    let further : AllByRecursion (λ f. f.index + lags < e.index) far = search (rules, arith, all_weaker) in
+    search (
+      rules,
+      arith,
+      near,
+      sum_by-append,
+      append_assoc,
+      none_at_lag far lags e.index k further few,
+      paired_far k lags index far (near ++ e ∷ []) es few out from.1,
+    )
 
 -- the bins of a list from a place on pair with those before it that are not out of reach
 paired_near : (k lags from at' : ℕ) (es : List Entry) (none : Entry) → k ≤ lags → from ≤ at' → at' < length es → IsSpaced 0 es

@@ -1,7 +1,7 @@
 -- Bins at their places in a grid.
-use Rattle.std.{proofs.Common.{◌≡◌, ℕ, zero, suc, ◌+◌, ◌-◌, ◌*◌, ◌%◌, ◌/◌, ◌∙◌, sym, ◌^◌, ◌<◌, ◌≤◌, Bool, eqb, ltb, leb, cond, replicate, drop, List, [], ◌∷◌, ◌++◌, length, map, take, get_or, arith, rules}, specs.List.{sum_by, AllByRecursion}, proofs.Props.props, proofs.Math.Logic.{∥∥₁_elim}, proofs.lemmas.List.{places, get_or_past}, proofs.lemmas.List.Sums.{sum_by-cons, sum_by_push, sum_by-le-sum_by}, proofs.lemmas.Grind.common_steps}
+use Rattle.std.{proofs.Common.{◌≡◌, ℕ, ◌+◌, ◌-◌, ◌*◌, ◌%◌, ◌/◌, ◌∙◌, sym, ◌^◌, ◌<◌, ◌≤◌, eqb, ltb, leb, cond, replicate, drop, List, [], ◌∷◌, ◌++◌, length, map, take, get_or, arith, rules}, specs.List.{sum_by, AllByRecursion}, proofs.Props.props, proofs.Math.Logic.{∥∥₁_elim}, proofs.lemmas.List.{places, get_or_past, get_or-map, length-map}, proofs.lemmas.List.Sums.{sum_by-cons, sum_by-le-sum_by}, proofs.lemmas.Grind.common_steps}
 use borrow.Rule.Slice.PartMut.{put_mid}
-use Rattle.lag_ring.{specs.declared.ring.Entry.Entry, specs.declared.window.Side.{Side, TheVariants.{First, Second}}, specs.Bytes.{weight_of, weight_at}, proofs.Lists.{all_map}, proofs.Rising.all_weaker, proofs.Sums.{weight_at-le, sum_by-zero}}
+use Rattle.lag_ring.{specs.declared.ring.Entry.Entry, specs.declared.window.Side.{Side, TheVariants.{First, Second}}, specs.Bytes.{weight_of, weight_at}, proofs.Lists.{all_map, each_at}, proofs.Rising.all_weaker, proofs.Sums.{weight_at-le, sum_by-zero}}
 use Rattle.tau_cascade.{proofs.Gridded.sum_by-map, specs.declared.grid.Grid.Grid, specs.Bins.{raised, IsSpaced}, specs.Grid.{HaveWeights, Stands, photons, halved}, proofs.Close.{no_bin, zeros_at}}
 
 -- bins have one of so many places
@@ -12,43 +12,28 @@ AreIn base len es = AllByRecursion (λ e. (base ≤ e.index) × (e.index < base 
 pub weight_at-few : (side : Side) (base p : ℕ) (es : List Entry) → weight_at side 0 base p es ≤ sum_by photons es
 weight_at-few side base p es = search (rules, arith, weight_at-le, sum_by-le-sum_by)
 
--- a bin more at its place
-pub put_weights : (side : Side) (base : ℕ) (old new : List ℕ) (es : List Entry) (e : Entry) → HaveWeights side base old es → base ≤ e.index
-    → ((p : ℕ) → p < 4096 → get_or new p 0 ≡ get_or old p 0 + cond (eqb (e.index - base) p) (weight_of side e) 0) → HaveWeights side base new (es ++ e ∷ [])
-put_weights side base old new es e have from more = λ p inside. search (rules, arith, sum_by_push, have p inside, more p inside)
-
 -- the place of a bin so many levels up
 pub has_place : (base levels : ℕ) (es : List Entry) (i : ℕ) → i < length es → AreIn base 4096 (map (raised levels) es)
     → (base ≤ (raised levels (get_or es i no_bin)).index) × ((raised levels (get_or es i no_bin)).index < base + 4096)
-has_place base levels [] i inside near = absurd (omega (arith, inside))
-has_place base levels (e ∷ es) zero inside near = near.0
-has_place base levels (e ∷ es) (suc i) inside near = has_place base levels es i (omega (arith, inside)) near.1
+has_place base levels es i inside near =
+    (rw (get_or-map (raised levels) es i no_bin no_bin inside) at
+    (each_at (λ e. (base ≤ e.index) × (e.index < base + 4096)) (map (raised levels) es) i no_bin (omega (arith, inside, length-map es (raised levels))) near))
 
 -- a place of a list where zeros were written before it
 pub front_zero : (xs ys : List ℕ) (n p : ℕ) → n ≤ length xs → ys ≡ replicate (length (take n xs)) 0
     → get_or (ys ++ drop n xs) p 0 ≡ cond (ltb p n) 0 (get_or xs p 0)
 front_zero xs ys n p inside are = rw are (search (rules, places, zeros_at))
 
--- a place of the front of a list of which a part was written
-pub mid_put : (xs ys : List ℕ) (a n p : ℕ) → a + n ≤ length xs → length ys ≡ n → p < a + n
-    → get_or (take (a + n) (put_mid a (a + n - a) xs ys)) p 0 ≡ cond (ltb p a) (get_or xs p 0) (get_or ys (p - a) 0)
-mid_put xs ys a n p room long inside = search (rules, places)
-
--- two places as one, behind others
-pub half_place : (old window to : List ℕ) (front half off p : ℕ) → (p < off + half → front ≡ cond (ltb p off) (get_or window p 0) (get_or to (p - off) 0))
-    → get_or window p 0 ≡ 0 → ((q : ℕ) → q < half → get_or to q 0 ≡ get_or old (2 * q) 0 + get_or old (2 * q + 1) 0)
-    → ((q : ℕ) → 2 * half ≤ q → get_or old q 0 ≡ 0)
-    → cond (ltb p (off + half)) front (cond (ltb p (2 * half)) 0 (get_or old p 0)) ≡ cond (leb off p) (halved off old p) 0
-half_place old window to front half off p is none halves after = search (rules, arith, is, halves, after)
+-- a place of a list of which a part was written
+pub mid_put : (xs ys : List ℕ) (a n p : ℕ) → a + n ≤ length xs → length ys ≡ n
+    → get_or (put_mid a (a + n - a) xs ys) p 0 ≡ cond (ltb p a) (get_or xs p 0) (cond (ltb p (a + n)) (get_or ys (p - a) 0) (get_or xs p 0))
+mid_put xs ys a n p room long = search (rules, places)
 
 -- one bin where two places become one
 one_halved : (side : Side) (base low off p : ℕ) (e : Entry) → base % 2 ≡ 0 → low + off ≡ base / 2 → base ≤ e.index
     → cond (eqb ((raised 1 e).index + 0) (low + p)) (weight_of side (raised 1 e)) 0 ≡ cond (leb off p)
     (cond (eqb (e.index + 0) (base + 2 * (p - off))) (weight_of side e) 0 + cond (eqb (e.index + 0) (base + (2 * (p - off) + 1))) (weight_of side e) 0) 0
 one_halved side base low off p e even is from = grind (arith, common_steps)
-
-sum_where : (b : Bool) (w x y z : ℕ) → cond b (w + x) 0 + cond b (y + z) 0 ≡ cond b (w + y + (x + z)) 0
-sum_where b w x y z = search (rules, arith)
 
 -- two places are one now
 abbrev pub AreHalved : ℕ → List ℕ → List ℕ → Type 0
@@ -76,7 +61,7 @@ module _ (side : Side) (base len : ℕ) (places : List ℕ) (es : List Entry) (h
       ≡ cond (leb off p) (weight_at side 0 base (2 * (p - off)) fs + weight_at side 0 base (2 * (p - off) + 1) fs) 0
   weight_halved low off p even is [] all = search (rules, arith)
   weight_halved low off p even is (e ∷ fs) all =
-      search (rules, arith, sum_by-cons, sum_where, one_halved side base low off p e even is all.0.0, weight_halved low off p even is fs all.1)
+      grind (arith, common_steps, sum_by-cons, one_halved side base low off p e even is all.0.0, weight_halved low off p even is fs all.1)
 
   pub have_halved : (low off : ℕ) (new : List ℕ) → base % 2 ≡ 0 → low + off ≡ base / 2 → AreHalved off places new → HaveWeights side low new (map (raised 1) es)
   have_halved low off new even is halves = λ p inside.
@@ -104,9 +89,7 @@ stands_halved g h es firsts seconds was low even len few total one two =
     record {
       firsts = have_halved First g.base g.len g.firsts es was.firsts was.within was.few firsts h.base off h.firsts was.even (omega (arith, low)) one;
       seconds = have_halved Second g.base g.len g.seconds es was.seconds was.within was.few seconds h.base off h.seconds was.even (omega (arith, low)) two;
-      within = all_map (λ e. (h.base ≤ e.index) × (e.index < h.base + h.len)) (raised 1) es
-          (all_weaker (λ e. (g.base ≤ e.index) × (e.index < g.base + g.len)) (λ e. (h.base ≤ e.index / 2) × (e.index / 2 < h.base + h.len))
-          (λ e in'. (omega (arith, in', low), omega (arith, in', low, len))) es was.within);
+      within = search (rules, arith, all_map, all_weaker, was.within);
       few = few;
       even = even;
       fits = omega (arith, was.fits, len, low);

@@ -4,18 +4,12 @@ use Rattle.tally_base.{specs.declared.settings.CorrelationSet.CorrelationSet, sp
 use Rattle.lag_ring.{specs.Cells.Cells, specs.Ring.Ring, proofs.Sums.{sum_by-times, sum_by-same, sum_by-filter}}
 use Rattle.tau_cascade.{specs.declared.level.Level.Level, specs.Correlation.{Given, bin, in_first, in_second, is_pair, correlation, skipped_lags, lag_count, photons_of}, specs.StandsFor.StandsFor, specs.Levels.{RingIs, CellsAre, Chain, Complete}}
 
-only_second : (a b c d : Bool) → ◌≡◌ {A = ℕ} (cond (d || b) (cond ((a && b) && c) 1 0) 0) (cond ((a && b) && c) 1 0)
-only_second a b c d = search (rules, arith)
-
 -- other events are in no pair
 pub correlation-photons : (set : CorrelationView) (level k : ℕ) (h : History) → correlation set level k (photons_of set h) ≡ correlation set level k h
 correlation-photons set level k h =
     let mine : Given → Bool = λ x. in_first set x || in_second set x in
     let pairs : Given → ℕ = λ x. count_by (is_pair set level k x) h in
-    let inner : (x : Given) → count_by (is_pair set level k x) (photons_of set h) ≡ pairs x = λ x.
-    sum_by-filter mine (λ y. cond (is_pair set level k x y) 1 0) h
-    ∙ sum_by-same (λ y. cond (mine y) (cond (is_pair set level k x y) 1 0) 0) (λ y. cond (is_pair set level k x y) 1 0) h
-    (λ y. only_second (in_first set x) (in_second set y) (eqb (bin level y) (bin level x + k)) (in_first set y)) in
+    let inner : (x : Given) → count_by (is_pair set level k x) (photons_of set h) ≡ pairs x = λ x. search (rules, arith, sum_by-filter, sum_by-same) in
     let outer : (x : Given) → cond (mine x) (pairs x) 0 ≡ pairs x = λ x.
     elim (in_first set x) as (λ a. cond (a || in_second set x) (count_by (λ y. (a && in_second set y) && eqb (bin level y) (bin level x + k)) h) 0 ≡ count_by
     (λ y. (a && in_second set y) && eqb (bin level y) (bin level x + k)) h)
@@ -65,19 +59,14 @@ closed_cells false shut set ls count time h is i l read = absurd (false≢true s
 closed_cells true shut set ls count time h is i l read =
     (rw zero-add at (done_level (correlation_view set) 0 ls (photons_of (correlation_view set) h) is.through i l read)).cells
 
-read_in : {Y : Type 0} (ls : List Level) (i : ℕ) (f : Level → Y) (y : Y) (o : Option Level)
-    → slice_get ls i ≡ o → option_map f o ≡ Some y → (l : Level) × (slice_get ls i ≡ Some l) × (f l ≡ y)
-read_in ls i f y None is got = cc
-read_in ls i f y (Some l) is got = (l, is, cc)
-
 -- the level that is read, by what is read of it
-pub read_of : {Y : Type 0} (ls : List Level) (i : ℕ) (f : Level → Y) (y : Y)
-    → option_map f (slice_get ls i) ≡ Some y → (l : Level) × (slice_get ls i ≡ Some l) × (f l ≡ y)
-read_of ls i f y read = read_in ls i f y (slice_get ls i) refl read
+read_of : {Y : Type 0} (f : Level → Y) (y : Y) (o : Option Level) → option_map f o ≡ Some y → (l : Level) × (o ≡ Some l) × (f l ≡ y)
+read_of f y None got = cc
+read_of f y (Some l) got = (l, refl, cc)
 
 pub shown_cells : (closed : Bool) → closed ≡ true → (set : CorrelationSet) (ls : List Level) (count time : ℕ) (h : History) → StandsFor closed set ls count time h → (i : ℕ) (cs : Cells) → option_map (λ (l : Level). l.cells) (slice_get ls i) ≡ Some cs → CellsAre (correlation_view set) i cs (photons_of (correlation_view set) h)
 shown_cells closed shut set ls count time h is i cs read =
-    let found = read_of ls i (λ (l : Level). l.cells) cs read in
+    let found = read_of (λ (l : Level). l.cells) cs (slice_get ls i) read in
     rw (← found.2) (closed_cells closed shut set ls count time h is i found.0 found.1)
 
 pub shown_ring : (closed : Bool) (set : CorrelationSet) (ls : List Level) (count time : ℕ) (h : History) → StandsFor closed set ls count time h → (i : ℕ) (r : Ring) → option_map (λ (l : Level). l.ring) (slice_get ls i) ≡ Some r → length r.entries ≤ set.lags

@@ -1,20 +1,19 @@
 -- Bins that come to a level and stay where they are in their list, the open bin before them.
-use Rattle.std.{proofs.Common.{rules}, proofs.Common.{◌≡◌, ◌≢◌, ℕ, zero, suc, ◌+◌, ◌-◌, ◌*◌, ◌/◌, ◌^◌, ◌<◌, ◌≤◌, Option, Some, List, [], ◌∷◌, ◌++◌, length, map, take, drop, set, get_or, refl, sym, ap, ◌∙◌, subst, append_assoc, append-nil, length-append, arith}, specs.List.{sum_by, count_by, AllByRecursion, AllByRecursion-prop}, specs.Bool.{⊤}, proofs.Math.Seq.{take-append-add, take-append_seam, drop-append_seam}, proofs.Math.Nat.{div-mul-le_self, mul-le-mul_right}, proofs.Props.props, proofs.Math.Logic.{∥∥₁_elim}, proofs.lemmas.Nat.shl-shr, proofs.lemmas.List.{take_more, take_more_set, map_push, drop-set-add, drop-drop, length-drop, length-map, length-take-le, get_or-map, get_or-drop, take-append-drop, map-append, drop-map, take-map, take-take, drop-take}, proofs.lemmas.List.Sums.{sum_by-cons, sum_by-take-drop, count_by-le-length}}
+use Rattle.std.{proofs.Common.{rules}, proofs.Common.{◌≡◌, ◌≢◌, ℕ, zero, suc, ◌+◌, ◌-◌, ◌*◌, ◌^◌, ◌<◌, ◌≤◌, Option, Some, List, [], ◌∷◌, ◌++◌, length, map, take, drop, set, get_or, refl, sym, ap, ◌∙◌, append_assoc, append-nil, length-append, arith}, specs.List.{sum_by, AllByRecursion, AllByRecursion-prop}, specs.Bool.{⊤}, proofs.Math.Seq.{take-nil, take-append-add, take-append_seam, drop-append_seam}, proofs.Math.Nat.{div-mul-le_self, mul-le-mul_right}, proofs.Props.props, proofs.Math.Logic.{∥∥₁_elim}, proofs.lemmas.Nat.shl-shr, proofs.lemmas.List.{take_more, take_more_set, map_push, drop-set-add, drop-drop, length-drop, length-map, length-take-le, take-append-drop, map-append, drop-map, take-map, take-take, drop-take}, proofs.lemmas.List.Sums.{sum_by-cons, sum_by-take-drop, count_by-le-length}}
 use native.Mathlib.Numerals.{unary_clauses}
 use Rattle.tally_base.{specs.Settings.CorrelationView, specs.Tally.History, specs.Limits.record_limit}
-use Rattle.lag_ring.{specs.declared.ring.Entry.Entry, specs.Ring.{Ring, IsRising}, proofs.Lists.{each_at, all_front, all_back, all_join, of_some}, proofs.Rising.all_weaker}
-use Rattle.tau_cascade.{specs.declared.level.Level.Level, specs.Correlation.{bin, in_first, in_second}, specs.Levels.{IsBin, OpenIs, RingIs, CellsAre}, specs.Bins.{raised, lowered, onto, merged_all, FitCounts, stretch, IsSpaced, Come, Follow, CanShutAll, CanTake, Took}, proofs.Follows.{rest_at, merged_follow, come_weigh, weigh, stretch_more}, proofs.Passes.{spaced_upto, from_place, far_place, spaced-rising, spaced_behind, spaced_take, spaced_drop, spaced_nearer}}
+use Rattle.lag_ring.{specs.declared.ring.Entry.Entry, specs.Ring.{Ring, IsRising}, proofs.Lists.{all_back, all_join, of_some}, proofs.Rising.all_weaker}
+use Rattle.tau_cascade.{specs.declared.level.Level.Level, specs.Correlation.{bin, in_first, in_second}, specs.Levels.{IsBin, OpenIs, RingIs, CellsAre}, specs.Bins.{raised, onto, merged_all, FitCounts, stretch, IsSpaced, Come, Follow, CanShutAll, CanTake, Took}, proofs.Follows.{rest_at, merged_follow, come_weigh, come_merged, stretch_more}, proofs.Passes.{spaced_upto, far_place, spaced-rising, spaced_behind, spaced_take, spaced_drop, spaced_nearer}}
 
 -- The entries of a list before others, so many levels down.
 
 -- lists that are the same from a place on are so from a later one on
 pub same_behind : (xs ys : List Entry) (at' from : ℕ) → at' ≤ from → drop at' xs ≡ drop at' ys → drop from xs ≡ drop from ys
 same_behind xs ys at' from behind same =
-    let there : at' + (from - at') ≡ from = omega arith in
-    subst (λ n. drop n xs ≡ drop n ys) there (rw (← drop-drop, ← drop-drop) (ap (drop (from - at')) same))
+    (let there : at' + (from - at') ≡ from = omega arith in rw (← there, ← drop-drop, ← drop-drop, same) refl)
 
 -- one more is put down
-pub lower_more : (levels start i : ℕ) (entries list : List Entry) (e none : Entry) → i < length entries → start + i < length list → e ≡ lowered levels (get_or entries i none)
+pub lower_more : (levels start i : ℕ) (entries list : List Entry) (e none : Entry) → i < length entries → start + i < length list → e ≡ record { index = (get_or entries i none).index * 2 ^ levels; a = (get_or entries i none).a; b = (get_or entries i none).b }
     → map (raised levels) (take i (drop start list)) ≡ take i entries → map (raised levels) (take (i + 1) (drop start (set list (start + i) e))) ≡ take (i + 1) entries
 lower_more levels start i entries list e none inside room is so_far =
     let long : i < length (drop start list) = omega (arith, length-drop start list) in
@@ -34,6 +33,14 @@ pub spaced_before : (es : List Entry) (i n : ℕ) (none : Entry) → IsSpaced 0 
 spaced_before es i n none spaced inside below =
     all_weaker (λ e. e.index + 0 < n) (λ e. e.index < n) (λ e under. omega arith) (take (suc i) es) (far_place 0 n i es none inside spaced (omega arith))
 
+-- where a bin has another index than those behind it, all up to it are before these
+pub cut_before : (es : List Entry) (i n : ℕ) (none : Entry) → IsSpaced 0 es → suc i < length es → AllByRecursion (λ e. e.index ≡ n) (drop (suc i) es) → (get_or es i none).index ≢ n → AllByRecursion (λ e. e.index < n) (take (suc i) es)
+cut_before [] i n none sorted inside here other = absurd (omega (arith, inside))
+cut_before (e ∷ []) i n none sorted inside here other = absurd (omega (arith, inside))
+cut_before (e ∷ f ∷ es) zero n none sorted inside here other = (omega (arith, sorted.0.0, here.0, other), tt)
+cut_before (e ∷ f ∷ es) (suc i) n none sorted inside here other =
+    (let rest = cut_before (f ∷ es) i n none sorted.1 (omega (arith, inside)) here other in (omega (arith, sorted.0.0, rest.0), rest))
+
 -- the bins from a place on, and the one before them
 module _ (levels closed : ℕ) (bins : List Entry) (none : Entry) (some : 0 < closed) (inside : closed < length bins) where
   pub cut_more : map (raised levels) (drop (closed - 1) bins) ≡ raised levels (get_or bins (closed - 1) none) ∷ map (raised levels) (drop closed bins)
@@ -43,24 +50,8 @@ module _ (levels closed : ℕ) (bins : List Entry) (none : Entry) (some : 0 < cl
   pub cut_sum : (f : Entry → ℕ) → f (raised levels (get_or bins (closed - 1) none)) + sum_by f (map (raised levels) (drop closed bins)) ≡ sum_by f (map (raised levels) (drop (closed - 1) bins))
   cut_sum f = sym (ap (sum_by f) cut_more ∙ sum_by-cons f (raised levels (get_or bins (closed - 1) none)) (map (raised levels) (drop closed bins)))
 
-  pub cut_within : (f : Entry → ℕ) → sum_by f (map (raised levels) (drop (closed - 1) bins)) ≤ sum_by f (map (raised levels) bins)
-  cut_within f = omega (arith, sum_by-take-drop f (map (raised levels) bins) (closed - 1), ap (sum_by f) (drop-map (raised levels) (closed - 1) bins))
-
-  -- where it has another index than the last, all up to it are before that
-  pub cut_before : IsSpaced 0 (map (raised levels) bins) → (get_or bins (closed - 1) none).index / 2 ^ levels ≢ (get_or bins (length bins - 1) none).index / 2 ^ levels
-      → AllByRecursion (λ e. e.index < (get_or bins (length bins - 1) none).index / 2 ^ levels) (map (raised levels) (take closed bins))
-  cut_before sorted other =
-      let es : List Entry = map (raised levels) bins in
-      let last : ℕ = (get_or bins (length bins - 1) none).index / 2 ^ levels in
-      let long : length es ≡ length bins = length-map bins (raised levels) in
-      let here : get_or es (closed - 1) none ≡ raised levels (get_or bins (closed - 1) none) = get_or-map (raised levels) bins (closed - 1) none none (omega arith) in
-      let end' : get_or es (length bins - 1) none ≡ raised levels (get_or bins (length bins - 1) none) = get_or-map (raised levels) bins (length bins - 1) none none (omega arith) in
-      let place : closed - 1 + (length bins - closed) ≡ length bins - 1 = omega arith in
-      let read : get_or (drop (closed - 1) es) (length bins - closed) none ≡ raised levels (get_or bins (length bins - 1) none) = rw (get_or-drop, place) end' in
-      let upto = each_at (λ e. (get_or es (closed - 1) none).index ≤ e.index) (drop (closed - 1) es) (length bins - closed) none (omega (arith, length-drop (closed - 1) es)) (from_place es (closed - 1) none (omega arith) sorted) in
-      let below : (get_or es (closed - 1) none).index < last = omega (arith, upto, other, ap (λ (e : Entry). e.index) here, ap (λ (e : Entry). e.index) read) in
-      let there : suc (closed - 1) ≡ closed = omega arith in
-      rw (← take-map) (subst (λ n. AllByRecursion (λ e. e.index < last) (take n es)) there (spaced_before es (closed - 1) last none sorted (omega arith) below))
+  pub cut_within : (f : Entry → ℕ) → f (raised levels (get_or bins (closed - 1) none)) + sum_by f (map (raised levels) (drop closed bins)) ≤ sum_by f (map (raised levels) bins)
+  cut_within f = omega (arith, cut_sum f, sum_by-take-drop f (map (raised levels) bins) (closed - 1), ap (sum_by f) (drop-map (raised levels) (closed - 1) bins))
 
 -- The open bin before those that come.
 
@@ -76,25 +67,18 @@ onto_front o es = search (rules, arith)
 
 pub spaced-prop : (es : List Entry) → IsProp (IsSpaced 0 es)
 spaced-prop [] = hlevel props
-spaced-prop (e ∷ es) =
-    let first = AllByRecursion-prop (λ (f : Entry). e.index + 0 ≤ f.index) (λ f. hlevel props) es in
-    hlevel (props, first, spaced-prop es)
+spaced-prop (e ∷ es) = hlevel (props, AllByRecursion-prop (λ (f : Entry). e.index + 0 ≤ f.index) (λ f. hlevel props) es, spaced-prop es)
 
 -- a list that is so far apart up to one entry, and from that one on
-all_seam : (d m i k : ℕ) (es : List Entry) → 0 < k → i < length es → AllByRecursion (λ f. m ≤ f.index) (take (suc i) es)
-    → IsSpaced d (take k (drop i es)) → AllByRecursion (λ f. m ≤ f.index) (take (k + i) es)
-all_seam d m i k [] some inside upto on = absurd (omega (arith, inside))
-all_seam d m i zero (f ∷ fs) some inside upto on = absurd (omega arith)
-all_seam d m zero (suc k) (f ∷ fs) some inside upto on =
-    let all : AllByRecursion (λ g. m ≤ g.index) (take k fs) = all_weaker (λ g. f.index + d ≤ g.index) (λ g. m ≤ g.index) (λ g far. omega (arith, upto.0)) (take k fs) on.0 in
-    simp unary_clauses (upto.0, all)
-all_seam d m (suc i) (suc k) (f ∷ fs) some inside upto on = simp unary_clauses (upto.0, all_seam d m i (suc k) fs some (omega arith) upto.1 on)
-
-spaced_seam : (d i k : ℕ) (es : List Entry) → 0 < k → i < length es → IsSpaced d (take (suc i) es) → IsSpaced d (take k (drop i es)) → IsSpaced d (take (k + i) es)
-spaced_seam d zero k es some inside upto on = simp unary_clauses on
-spaced_seam d (suc i) k [] some inside upto on = absurd (omega (arith, inside))
-spaced_seam d (suc i) k (e ∷ es) some inside upto on =
-    simp unary_clauses (all_seam d (e.index + d) i k es some (omega arith) upto.0 on, spaced_seam d i k es some (omega arith) upto.1 on)
+spaced_seam : (d i k : ℕ) (es : List Entry) → 0 < k → IsSpaced d (take (suc i) es) → IsSpaced d (take k (drop i es)) → IsSpaced d (take (k + i) es)
+spaced_seam d zero k es some upto on = simp unary_clauses on
+spaced_seam d (suc i) zero es some upto on = absurd (omega arith)
+spaced_seam d (suc i) (suc k) [] some upto on = simp unary_clauses tt
+spaced_seam d (suc i) (suc k) (e ∷ []) some upto on = simp unary_clauses (rw (take-nil {A = Entry} (suc k + i)) tt, rw (take-nil {A = Entry} (suc k + i)) tt)
+spaced_seam d (suc i) (suc k) (e ∷ f ∷ es) some upto on =
+    let one : suc k + i ≡ suc (k + i) = omega arith in
+    let rest = spaced_seam d i (suc k) (f ∷ es) some upto.1 on in
+    simp unary_clauses (rw one (spaced_behind d e.index f (take (k + i) es) upto.0.0 (rw one at rest)), rest)
 
 -- some bins of which the last ones, from a place on, are this one together
 pub record IsCut (es : List Entry) (n : ℕ) (last : Entry) : Type 0 where
@@ -148,11 +132,8 @@ module _ {levels first count : ℕ} {l : Level} {was new : List Entry} {from sta
         let size : from + n - start ≡ length l.ring.entries + n = omega arith in
         rw (← take-map, put.ring, size, take-append-add, take-map, front_here) refl
 
-    pub ring_here : take (from - start) (map (raised levels) (take (from + n - start) (drop start new))) ≡ l.ring.entries
-    ring_here = (let size : from - start ≡ length l.ring.entries = omega arith in rw (put_here, size) (take-append_seam l.ring.entries (take n all)))
-
-    pub bins_here : drop (from - start) (map (raised levels) (take (from + n - start) (drop start new))) ≡ take n all
-    bins_here = (let size : from - start ≡ length l.ring.entries = omega arith in rw (put_here, size) (drop-append_seam l.ring.entries (take n all)))
+    pub parts_here : (take (from - start) (map (raised levels) (take (from + n - start) (drop start new))) ≡ l.ring.entries) × (drop (from - start) (map (raised levels) (take (from + n - start) (drop start new))) ≡ take n all)
+    parts_here = (let size : from - start ≡ length l.ring.entries = omega arith in rw (put_here, size) (take-append_seam l.ring.entries (take n all), drop-append_seam l.ring.entries (take n all)))
 
     -- as far apart as those that came, and those up to the first of them
     module _ (d near : ℕ) (less : near ≤ d) (came : IsSpaced d (take count (drop first was))) (first_upto : IsSpaced near (take (first + 1 - start) (drop start new))) where
@@ -160,16 +141,14 @@ module _ {levels first count : ℕ} {l : Level} {was new : List Entry} {from sta
       apart_here =
           let one : first + 1 - start ≡ suc (first - start) = omega arith in
           let there : start + (first - start) ≡ first = omega arith in
-          let rest : IsSpaced near (take count (drop (first - start) (drop start new))) = rw (drop-drop, there, put.same) (spaced_nearer d near (take count (drop first was)) less came) in
-          let all' = spaced_seam near (first - start) count (drop start new) put.some (omega (arith, length-drop start new, put.inside)) (rw one at first_upto) rest in
+          let all' = spaced_seam near (first - start) count (drop start new) put.some (rw one at first_upto) (rw (drop-drop, there, put.same) (spaced_nearer d near (take count (drop first was)) less came)) in
           rw (← take-take (from + n - start) (count + (first - start)) (drop start new) (omega (arith, upto))) (spaced_take near (from + n - start) (take (count + (first - start)) (drop start new)) all')
 
       pub apart_closed : IsSpaced near (take n (drop from new))
       apart_closed =
-          let size : from - start + n ≡ from + n - start = omega arith in
+          let size : from + n - start ≡ from - start + n = omega arith in
           let there : start + (from - start) ≡ from = omega arith in
-          let cut' : drop (from - start) (take (from + n - start) (drop start new)) ≡ take n (drop from new) = rw (← size, drop-take, drop-drop, there) refl in
-          rw (← cut') (spaced_drop near (from - start) (take (from + n - start) (drop start new)) apart_here)
+          (rw (size, drop-take, drop-drop, there) at (spaced_drop near (from - start) (take (from + n - start) (drop start new)) apart_here))
 
 -- rising entries before sorted bins
 pub spaced_join : (rs : List Entry) (e : Entry) (es : List Entry) → IsRising rs → AllByRecursion (λ r. r.index < e.index) rs → IsSpaced 0 (e ∷ es) → IsSpaced 0 (rs ++ e ∷ es)
@@ -196,18 +175,14 @@ module _ (set : CorrelationView) (level : ℕ) where
       let rest = come_split es fs (came ++ come.0) come.1 come.5 in
       (come.0 ++ rest.0, rest.1, come.2 ∙ ap (λ ys. come.0 ++ ys) rest.2 ∙ sym (append_assoc come.0 rest.0 rest.1), (come.0, rest.0, refl, come.3, come.4, rest.3), rw (← append_assoc came come.0 rest.0) rest.4)
 
-  -- bins that come have the weights of their photons
-  come_first : (es : List Entry) (came xs : History) → Come set level came es xs → sum_by (λ e. e.a) es ≡ count_by (in_first set) xs
-  come_first = come_weigh set level (λ e. e.a) (in_first set) (λ e run is. is.a)
-
-  come_second : (es : List Entry) (came xs : History) → Come set level came es xs → sum_by (λ e. e.b) es ≡ count_by (in_second set) xs
-  come_second = come_weigh set level (λ e. e.b) (in_second set) (λ e run is. is.b)
-
   come_fit : (es : List Entry) (came xs : History) → length xs ≤ record_limit → Come set level came es xs → FitCounts es
-  come_fit es came xs few come = search (rules, arith, come_first, count_by-le-length, come_second)
+  come_fit es came xs few come = (
+    omega (arith, come_weigh set level (λ e. e.a) (in_first set) (λ e run is. is.a) es came xs come, count_by-le-length (in_first set) xs),
+    omega (arith, come_weigh set level (λ e. e.b) (in_second set) (λ e run is. is.b) es came xs come, count_by-le-length (in_second set) xs),
+  )
 
   -- what holds of the index of each bin holds of that of each photon
-  pub come_all : (P : ℕ → Type 0) (es : List Entry) (came xs : History) → AllByRecursion (λ e. P e.index) es → Come set level came es xs → AllByRecursion (λ x. P (bin level x)) xs
+  come_all : (P : ℕ → Type 0) (es : List Entry) (came xs : History) → AllByRecursion (λ e. P e.index) es → Come set level came es xs → AllByRecursion (λ x. P (bin level x)) xs
   come_all P [] came xs all come = rw come tt
   come_all P (e ∷ es) came xs all come = search (rules, arith, all_join, all_weaker, come_all P es (came ++ come.0) come.1 all.1 come.5)
 
@@ -218,22 +193,18 @@ module _ (set : CorrelationView) (level : ℕ) where
   one_bin (e ∷ es) last came xs some here a b come = record {
     some = omega (arith, ap length come.2, length-append come.0 come.1, come.3.some);
     here = come_all (λ n. n ≡ last.index) (e ∷ es) came xs here come;
-    a = a ∙ come_first (e ∷ es) came xs come;
-    b = b ∙ come_second (e ∷ es) came xs come;
+    a = a ∙ come_weigh set level (λ e. e.a) (in_first set) (λ e run is. is.a) (e ∷ es) came xs come;
+    b = b ∙ come_weigh set level (λ e. e.b) (in_second set) (λ e run is. is.b) (e ∷ es) came xs come;
   }
 
-  -- bins that come are not before what came
-  come_after : (n : ℕ) (es : List Entry) (came xs : History) → ((m : ℕ) → AllByRecursion (λ x. bin level x ≤ m) came → n ≤ m) → Come set level came es xs → AllByRecursion (λ e. n ≤ e.index) es
-  come_after n [] came xs least come = tt
-  come_after n (e ∷ es) came xs least come =
-      (least e.index come.4, come_after n es (came ++ come.0) come.1 (λ m all. least m (all_front (λ x. bin level x ≤ m) came come.0 all)) come.5)
-
+  -- bins that come do not fall
   come_sorted : (es : List Entry) (came xs : History) → Come set level came es xs → IsSpaced 0 es
   come_sorted [] came xs come = tt
-  come_sorted (e ∷ es) came xs come = (
-    come_after (e.index + 0) es (came ++ come.0) come.1 (λ m all. omega (arith, of_some (bin level) e.index (λ n. n ≤ m) come.0 come.3.some come.3.here (all_back (λ x. bin level x ≤ m) came come.0 all))) come.5,
-    come_sorted es (came ++ come.0) come.1 come.5,
-  )
+  come_sorted (e ∷ []) came xs come = (tt, tt)
+  come_sorted (e ∷ f ∷ es) came xs come =
+      let rest = come_sorted (f ∷ es) (came ++ come.0) come.1 come.5 in
+      let upto = of_some (bin level) e.index (λ n. n ≤ f.index) come.0 come.3.some come.3.here (all_back (λ x. bin level x ≤ f.index) came come.0 come.5.4) in
+      (spaced_behind 0 e.index f es (omega arith) rest, rest)
 
   -- behind the ring of what is closed too
   ring_sorted : (r : Ring) (es : List Entry) (closed xs : History) → RingIs set level r closed → IsBefore closed es → Come set level closed es xs → IsSpaced 0 (r.entries ++ es)
@@ -241,8 +212,8 @@ module _ (set : CorrelationView) (level : ℕ) where
   ring_sorted r (e ∷ es) closed xs is before come = spaced_join r.entries e es is.rising (is.keeps.bounded e.index before) (come_sorted (e ∷ es) closed xs come)
 
   -- merged, such bins follow what is closed
-  come_merged : (es : List Entry) (closed xs : History) → IsBefore closed es → Come set level closed es xs → Follow set level closed (merged_all es) xs
-  come_merged es closed xs before come = search (rules, arith, merged_follow)
+  merged_comes : (es : List Entry) (closed xs : History) → IsBefore closed es → Come set level closed es xs → Follow set level closed (merged_all es) xs
+  merged_comes es closed xs before come = search (rules, arith, merged_follow)
 
   come_none : (n : ℕ) (es : List Entry) (came xs : History) → n ≤ 0 → Come set level came (take n es) xs → xs ≡ []
   come_none n es came xs none come = search (rules, arith)
@@ -259,12 +230,7 @@ module _ (set : CorrelationView) (level : ℕ) where
 
 -- merged bins of photons that come fit in a count
 pub came_fit : (set : CorrelationView) (level : ℕ) (l : Level) (es : List Entry) (closed open' xs : History) → CanTake set level l es closed open' xs → FitCounts (merged_all es)
-came_fit set level l [] closed open' xs can = (omega arith, omega arith)
-came_fit set level l (e ∷ es) closed open' xs can =
-    let fits = come_fit set level (e ∷ es) (closed ++ open') xs (omega (arith, can.few)) can.come in (
-      omega (arith, fits.0, sum_by-cons (λ (f : Entry). f.a) e es, weigh (λ f. f.a) (λ f g same. refl) e es),
-      omega (arith, fits.1, sum_by-cons (λ (f : Entry). f.b) e es, weigh (λ f. f.b) (λ f g same. refl) e es),
-    )
+came_fit set level l es closed open' xs can = come_fit set level (merged_all es) (closed ++ open') xs (omega (arith, can.few)) (come_merged set level es (closed ++ open') xs can.come)
 
 -- Photons come to a level in these bins.
 module _ {set : CorrelationView} {level : ℕ} {l : Level} {es : List Entry} {closed open' xs : History} (can : CanTake set level l es closed open' xs) where
@@ -274,19 +240,11 @@ module _ {set : CorrelationView} {level : ℕ} {l : Level} {es : List Entry} {cl
   behind : IsBefore set level closed (onto l.open es)
   behind = before_onto set level l.open es closed open' can.was.opened
 
-  pub sorted : IsSpaced 0 (l.ring.entries ++ onto l.open es)
+  sorted : IsSpaced 0 (l.ring.entries ++ onto l.open es)
   sorted = ring_sorted set level l.ring (onto l.open es) closed (open' ++ xs) can.was.ring behind all_come
 
   pub here_sorted : IsSpaced 0 (onto l.open es)
   here_sorted = come_sorted set level (onto l.open es) closed (open' ++ xs) all_come
-
-  -- put down by so many levels, what is before them fits, since it is not above the first that comes
-  pub before_fit : (levels : ℕ) (first : Entry) (rest : List Entry) → es ≡ raised levels first ∷ rest → first.index < 2 ^ 64 → AllByRecursion (λ e. e.index * 2 ^ levels < 2 ^ 64) (l.ring.entries ++ onto l.open [])
-  before_fit levels first rest is fits =
-      let parts : l.ring.entries ++ onto l.open es ≡ (l.ring.entries ++ onto l.open []) ++ raised levels first ∷ rest = rw (is, append_assoc) (ap (λ ys. l.ring.entries ++ ys) (onto_front l.open (raised levels first ∷ rest))) in
-      all_weaker (λ e. e.index ≤ first.index / 2 ^ levels) (λ e. e.index * 2 ^ levels < 2 ^ 64)
-      (λ e upto. omega (arith, fits, mul-le-mul_right (2 ^ levels) upto, div-mul-le_self first.index (2 ^ levels))) (l.ring.entries ++ onto l.open [])
-      (spaced_upto (l.ring.entries ++ onto l.open []) (raised levels first) rest (rw parts at sorted))
 
   pub weights_fit : FitCounts (onto l.open es)
   weights_fit = come_fit set level (onto l.open es) closed (open' ++ xs) (omega (arith, can.few, length-append open' xs)) all_come
@@ -307,7 +265,7 @@ module _ {set : CorrelationView} {level : ℕ} {l : Level} {es : List Entry} {cl
       few = omega (arith, can.few, ap length parts.2, length-append open' xs, length-append parts.0 parts.1);
       ring = can.was.ring;
       cells = can.was.cells;
-      bins = come_merged set level front closed parts.0 (before_take set level n (onto l.open es) closed behind) parts.3;
+      bins = merged_comes set level front closed parts.0 (before_take set level n (onto l.open es) closed behind) parts.3;
     }
 
     -- where there are none, all stays
@@ -322,9 +280,12 @@ module _ {set : CorrelationView} {level : ℕ} {l : Level} {es : List Entry} {cl
         let before : AllByRecursion (λ x. bin level x < last.index) (closed ++ parts.0) = all_join (λ x. bin level x < last.index) closed parts.0 (before_last set level (onto l.open es) n last closed is behind) (come_all set level (λ m. m < last.index) front closed parts.0 is.before parts.3) in
         record { all = parts.2; is = record { opened = rw opened (here, before); ring = is'.0; cells = is'.1 }; bins = parts.3 }
 
--- What is put down before those that came fits.
+-- What is put down before those that came fits, since it is not above the first of these.
 pub stretch_fit : (set : CorrelationView) (level : ℕ) (l : Level) (from count levels : ℕ) (list : List Entry) (none : Entry) → 0 < count → from + count ≤ length list → (get_or list from none).index < 2 ^ 64
     → ∥ ((closed : History) × (open' : History) × (xs : History) × CanTake set level l (stretch from count levels list) closed open' xs) ∥₁ → AllByRecursion (λ e. e.index * 2 ^ levels < 2 ^ 64) (l.ring.entries ++ onto l.open [])
 stretch_fit set level l from count levels list none some inside fits stands =
-    ∥∥₁_elim stands (AllByRecursion-prop (λ e. e.index * 2 ^ levels < 2 ^ 64) (λ e. hlevel props) _) (λ w.
-    before_fit w.3 levels _ _ (stretch_more from count levels list none some (omega arith)) fits)
+    let first : Entry = raised levels (get_or list from none) in
+    let rest : List Entry = stretch (from + 1) (count - 1) levels list in
+    let parts : l.ring.entries ++ onto l.open (stretch from count levels list) ≡ (l.ring.entries ++ onto l.open []) ++ first ∷ rest = search (rules, arith, append_assoc, onto_front, stretch_more from count levels list none) in
+    ∥∥₁_elim stands (AllByRecursion-prop (λ e. e.index * 2 ^ levels < 2 ^ 64) (λ e. hlevel props) _) (λ w. all_weaker (λ e. e.index ≤ first.index) (λ e. e.index * 2 ^ levels < 2 ^ 64)
+    (λ e upto. omega (arith, fits, mul-le-mul_right (2 ^ levels) upto, div-mul-le_self (get_or list from none).index (2 ^ levels))) (l.ring.entries ++ onto l.open []) (spaced_upto (l.ring.entries ++ onto l.open []) first rest (rw parts at (sorted w.3))))

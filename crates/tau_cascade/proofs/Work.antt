@@ -1,7 +1,7 @@
 -- A level's additions are at most its lags times its occupied bins, and those at a lag at most its occupied bins.
 use Rattle.tally_base.{specs.declared.settings.CorrelationSet.CorrelationSet, specs.Settings.{CorrelationView, correlation_view}, specs.Tally.History}
 use Rattle.tau_cascade.{specs.declared.level.Level.Level, specs.declared.cascade.Cascade.Cascade, specs.Cascade.{Holds, set_of, spent_by, added_below}, specs.StandsFor.{StandsFor, WentThrough}, specs.Correlation.{bin, lag_count, photons_of, correlation}, specs.Work.{occupied, IsWithinLevelWork, lags_at, work_from, work, appears, distinct}, specs.Levels.{Chain, Complete, CellsAre, spent}}
-use Rattle.std.{proofs.Common.{rules, ◌≡◌, ℕ, zero, suc, ◌+◌, ◌*◌, ◌%◌, ◌<◌, ◌≤◌, take, slice_get, Bool, true, false, List, [], ◌∷◌, ◌++◌, length, map, sym, ap, ◌∙◌, refl, append_assoc, append-nil, zero-add, add-zero, Some, subst, arith, cond, ◌||◌, eqb}, proofs.Math.Nat.mul-le-mul_left, specs.Option.{option_map, option_map_or}, proofs.lemmas.Grind.common_steps, proofs.lemmas.List.{map-append, take_all, length-map}, proofs.lemmas.List.Sums.{sum_by-cons, sum_by-le, count_by-le-length}, specs.List.{AllByRecursion}}
+use Rattle.std.{proofs.Common.{rules, ◌≡◌, ℕ, zero, suc, ◌+◌, ◌*◌, ◌%◌, ◌<◌, ◌≤◌, take, slice_get, Bool, true, false, List, [], ◌∷◌, ◌++◌, length, map, sym, ap, ◌∙◌, refl, append_assoc, append-nil, zero-add, add-zero, Some, arith, cond, ◌||◌, eqb}, proofs.Math.Nat.mul-le-mul_left, specs.Option.{option_map, option_map_or}, proofs.lemmas.Grind.common_steps, proofs.lemmas.List.{map-append, take_all, length-map}, proofs.lemmas.List.Sums.{sum_by-cons, sum_by-le, count_by-le-length}, specs.List.{AllByRecursion}, specs.Bool.{⊤}}
 use Rattle.lag_ring.proofs.Lists.{all_map}
 
 -- How many different numbers a list has.
@@ -10,12 +10,9 @@ pub appears-push : (n m : ℕ) (ns : List ℕ) → appears n (ns ++ m ∷ []) �
 appears-push n m [] = elim (eqb m n) as (λ b. (b || false) ≡ b) [ true ↦ refl | false ↦ refl ]
 appears-push n m (x ∷ ns) = search (rules, arith, appears-push n m ns)
 
-push-cases : (x m d : ℕ) (a b : Bool) → (x ≡ m → a ≡ b) → cond (a || eqb m x) 0 1 + (d + cond b 0 1) ≡ (cond a 0 1 + d) + cond (eqb x m || b) 0 1
-push-cases x m d a b same = search (rules, arith)
-
 pub distinct-push : (ns : List ℕ) (m : ℕ) → distinct (ns ++ m ∷ []) ≡ distinct ns + cond (appears m ns) 0 1
 distinct-push [] m = refl
-distinct-push (x ∷ ns) m = rw (appears-push x m ns, distinct-push ns m) (push-cases x m (distinct ns) (appears x ns) (appears m ns) (λ e. rw e refl))
+distinct-push (x ∷ ns) m = search (rules, arith, appears-push, distinct-push ns m)
 
 -- more numbers are no fewer different ones
 pub distinct-le-append : (ns ms : List ℕ) → distinct ns ≤ distinct (ns ++ ms)
@@ -39,8 +36,7 @@ distinct-late ns [] n below some all = absurd (omega arith)
 distinct-late ns (m ∷ ms) n below some all =
     let no : appears m ns ≡ false = rw all.0 (appears-no n ns below) in
     let there : appears n (ns ++ m ∷ []) ≡ true = rw (appears-push n m ns, all.0) (grind (arith, common_steps)) in
-    let same : (ns ++ m ∷ []) ++ ms ≡ ns ++ m ∷ ms = append_assoc ns (m ∷ []) ms in
-    sym (ap distinct same) ∙ distinct-again (ns ++ m ∷ []) ms n there all.1 ∙ (rw (distinct-push ns m, no) refl)
+    sym (ap distinct (append_assoc ns (m ∷ []) ms)) ∙ distinct-again (ns ++ m ∷ []) ms n there all.1 ∙ (rw (distinct-push ns m, no) refl)
 
 -- A level's additions are at most its lags times its occupied bins, and those at a lag at most its occupied bins.
 
@@ -56,56 +52,46 @@ one_level set level l all front back same cells =
     let fewer = occupied-le level all front back same in
     record { all = omega (arith, cells.work, mul-le-mul_left (lag_count set level) fewer); each = λ p. omega (arith, cells.each p, fewer) }
 
-level_work : (set : CorrelationView) (level : ℕ) (l : Level) (all : History) → set.lags % 2 ≡ 0
-    → IsWithinLevelWork set level l.cells all → l.cells.added ≤ lags_at set level * occupied level all
-level_work set level l all even is = rw (← even_lags set level even) is.all
-
-open_work : (set : CorrelationView) → set.lags % 2 ≡ 0 → (level : ℕ) (ls : List Level) (all came later : History)
-    → all ≡ came ++ later → Chain set level ls came → spent ls ≤ work_from set level (length ls) all
-open_work set even level [] all came later same chain = omega arith
-open_work set even level (l ∷ ls) all came later same chain =
-    let split : all ≡ chain.0 ++ (chain.1 ++ later) = same ∙ ap (λ xs. xs ++ later) chain.2 ∙ append_assoc chain.0 chain.1 later in
-    rw (sum_by-cons (λ (l : Level). l.cells.added) l ls) (omega (arith, level_work set level l all even (one_level set level l all chain.0 (chain.1 ++ later) split chain.3.cells), open_work set even (suc level) ls all chain.0 (chain.1 ++ later) split chain.4))
-
-shut_work : (set : CorrelationView) → set.lags % 2 ≡ 0 → (level : ℕ) (ls : List Level) (all : History)
-    → Complete set level ls all → spent ls ≤ work_from set level (length ls) all
-shut_work set even level [] all is = omega arith
-shut_work set even level (l ∷ ls) all is =
-    rw (sum_by-cons (λ (l : Level). l.cells.added) l ls) (omega (arith, level_work set level l all even (one_level set level l all all [] (sym (append-nil all)) is.0.cells), shut_work set even (suc level) ls all is.1))
-
-open_within : (set : CorrelationView) (level : ℕ) (ls : List Level) (all came later : History) → all ≡ came ++ later → Chain set level ls came → (i : ℕ) (l : Level) → slice_get ls i ≡ Some l → IsWithinLevelWork set (level + i) l.cells all
-open_within set level [] all came later same chain i l read = cc
-open_within set level (x ∷ ls) all came later same chain zero l read =
-    let split : all ≡ chain.0 ++ (chain.1 ++ later) = same ∙ ap (λ xs. xs ++ later) chain.2 ∙ append_assoc chain.0 chain.1 later in
-    let here : x ≡ l = cc in
-    rw (add-zero, ← here) (one_level set level x all chain.0 (chain.1 ++ later) split chain.3.cells)
-open_within set level (x ∷ ls) all came later same chain (suc i) l read =
-    let split : all ≡ chain.0 ++ (chain.1 ++ later) = same ∙ ap (λ xs. xs ++ later) chain.2 ∙ append_assoc chain.0 chain.1 later in
-    let next : suc level + i ≡ level + suc i = omega arith in
-    (rw next at (open_within set (suc level) ls all chain.0 (chain.1 ++ later) split chain.4 i l read))
-
-shut_within : (set : CorrelationView) (level : ℕ) (ls : List Level) (all : History) → Complete set level ls all
-    → (i : ℕ) (l : Level) → slice_get ls i ≡ Some l → IsWithinLevelWork set (level + i) l.cells all
-shut_within set level [] all is i l read = cc
-shut_within set level (x ∷ ls) all is zero l read =
-    let here : x ≡ l = cc in
-    rw (add-zero, ← here) (one_level set level x all all [] (sym (append-nil all)) is.0.cells)
-shut_within set level (x ∷ ls) all is (suc i) l read = search (rules, arith, shut_within set (suc level) ls all is.1 i l read)
-
 -- each level's additions are within its own work
+abbrev AreWithin : CorrelationView → ℕ → List Level → History → Type 0
+AreWithin set level [] all = ⊤
+AreWithin set level (l ∷ ls) all = IsWithinLevelWork set level l.cells all × AreWithin set (suc level) ls all
+
+open_within : (set : CorrelationView) (level : ℕ) (ls : List Level) (all came later : History) → all ≡ came ++ later → Chain set level ls came → AreWithin set level ls all
+open_within set level [] all came later same chain = tt
+open_within set level (l ∷ ls) all came later same chain =
+    let split : all ≡ chain.0 ++ (chain.1 ++ later) = same ∙ ap (λ xs. xs ++ later) chain.2 ∙ append_assoc chain.0 chain.1 later in
+    (one_level set level l all chain.0 (chain.1 ++ later) split chain.3.cells, open_within set (suc level) ls all chain.0 (chain.1 ++ later) split chain.4)
+
+shut_within : (set : CorrelationView) (level : ℕ) (ls : List Level) (all : History) → Complete set level ls all → AreWithin set level ls all
+shut_within set level [] all is = tt
+shut_within set level (l ∷ ls) all is = (one_level set level l all all [] (sym (append-nil all)) is.0.cells, shut_within set (suc level) ls all is.1)
+
+all_within : (closed : Bool) (set : CorrelationView) (ls : List Level) (xs : History) → WentThrough closed set ls xs → AreWithin set 0 ls xs
+all_within false set ls xs is = open_within set 0 ls xs xs [] (sym (append-nil xs)) is
+all_within true set ls xs is = shut_within set 0 ls xs is
+
+within_at : (set : CorrelationView) (level : ℕ) (ls : List Level) (all : History) → AreWithin set level ls all → (i : ℕ) (l : Level) → slice_get ls i ≡ Some l → IsWithinLevelWork set (level + i) l.cells all
+within_at set level [] all are i l read = cc
+within_at set level (x ∷ ls) all are zero l read = let same : x ≡ l = cc in rw (add-zero, ← same) are.0
+within_at set level (x ∷ ls) all are (suc i) l read = search (rules, arith, within_at set (suc level) ls all are.1 i l read)
+
 pub level_within : (closed : Bool) (set : CorrelationView) (ls : List Level) (xs : History)
     → WentThrough closed set ls xs → (i : ℕ) (l : Level) → slice_get ls i ≡ Some l → IsWithinLevelWork set i l.cells xs
-level_within false set ls xs is i l read = (rw zero-add at (open_within set 0 ls xs xs [] (sym (append-nil xs)) is i l read))
-level_within true set ls xs is i l read = (rw zero-add at (shut_within set 0 ls xs is i l read))
+level_within closed set ls xs is i l read = (rw zero-add at (within_at set 0 ls xs (all_within closed set ls xs is) i l read))
+
+spent_all : (set : CorrelationView) → set.lags % 2 ≡ 0 → (level : ℕ) (ls : List Level) (all : History) → AreWithin set level ls all → spent ls ≤ work_from set level (length ls) all
+spent_all set even level [] all are = omega arith
+spent_all set even level (l ∷ ls) all are =
+    let own : l.cells.added ≤ lags_at set level * occupied level all = rw (← even_lags set level even) are.0.all in
+    rw (sum_by-cons (λ (l : Level). l.cells.added) l ls) (omega (arith, own, spent_all set even (suc level) ls all are.1))
 
 -- whatever events a correlation stands for, its additions are within their work
 pub spent_within : (closed : Bool) (set : CorrelationSet) (ls : List Level) (count time : ℕ) (h : History)
     → length ls ≡ set.levels → StandsFor closed set ls count time h → spent ls ≤ work (correlation_view set) h
-spent_within false set ls count time h sized is =
+spent_within closed set ls count time h sized is =
     let view : CorrelationView = correlation_view set in
-    subst (λ n. spent ls ≤ work_from view 0 n (photons_of view h)) sized
-    (open_work view set.even_lags 0 ls (photons_of view h) (photons_of view h) [] (sym (append-nil (photons_of view h))) is.through)
-spent_within true set ls count time h sized is = search (rules, arith, shut_work)
+    rw (← sized) (spent_all view set.even_lags 0 ls (photons_of view h) (all_within closed view ls (photons_of view h) is.through))
 
 -- one level more
 level_more : (ls : List Level) (n : ℕ) → n < length ls

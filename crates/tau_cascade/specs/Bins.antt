@@ -1,5 +1,5 @@
 -- Bins that come to a level one after the other, and those that it closes.
-use Rattle.std.{specs.Prelude.{◌≡◌, ℕ, ◌+◌, ◌*◌, ◌/◌, ◌^◌, ◌<◌, ◌≤◌, ◌==◌, ⊤, false, Option, None, Some, List, [], ◌∷◌, ◌++◌, map, take, drop, length, filter, nat_le, sum_by, if◌then◌else◌}, specs.List.{AllByRecursion}}
+use Rattle.std.{specs.Prelude.{◌≡◌, ℕ, ◌+◌, ◌/◌, ◌^◌, ◌<◌, ◌≤◌, ◌==◌, ⊤, false, Option, None, Some, List, [], ◌∷◌, ◌++◌, map, take, drop, length, filter, nat_le, sum_by, if◌then◌else◌}, specs.List.{AllByRecursion}}
 use Rattle.tally_base.{specs.Settings.CorrelationView, specs.Tally.{History, greatest_time, InOrder}, specs.Limits.record_limit, specs.declared.block.Block.Block, specs.Columns.{gathered, events_in}}
 use Rattle.lag_ring.{specs.declared.ring.Entry.Entry, specs.Ring.Ring, specs.Cells.Cells}
 use Rattle.tau_cascade.{specs.declared.level.Level.Level, specs.Correlation.{Given, bin, in_first, in_second, photons_of}, specs.Levels.{IsBin, LevelIs, RingIs, CellsAre, Chain}}
@@ -7,10 +7,6 @@ use Rattle.tau_cascade.{specs.declared.level.Level.Level, specs.Correlation.{Giv
 -- the bin so many levels up in which a bin lies
 abbrev pub raised : ℕ → Entry → Entry
 raised levels e = record { index = e.index / 2 ^ levels; a = e.a; b = e.b }
-
--- the first bin, so many levels down, that lies in a bin
-abbrev pub lowered : ℕ → Entry → Entry
-lowered levels e = record { index = e.index * 2 ^ levels; a = e.a; b = e.b }
 
 -- two bins of one index as one
 abbrev pub both_of : Entry → Entry → Entry

@@ -21,6 +21,10 @@ pub record Stands (g : Grid) (es : List Entry) : Type 0 where
   pub fits : g.base + g.len ≤ 2 ^ 64
   pub total : (sum_by photons es ≤ g.total) × (g.total < 2 ^ 15)
 
+-- a grid without bins
+abbrev pub IsEmpty : Grid → Type 0
+IsEmpty g = Stands g [] × (g.len ≡ 0)
+
 -- a grid stands for these bins, or has none
 pub record IsGrid (g : Grid) (es : List Entry) : Type 0 where
   pub on : 0 < g.len → Stands g es
@@ -31,7 +35,7 @@ pub record IsBeside (g : Grid) (coming : Coming) (bins : List Entry) : Type 0 wh
   pub up : 0 < g.len → 0 < coming.levels
   pub grid : IsGrid g (closed_bins coming bins)
 
--- two neighbouring places as one, so many places further back
+-- what two neighbouring places have together, at one place behind so many others
 abbrev pub halved : ℕ → List ℕ → ℕ → ℕ
 halved off places p = slice_index places (2 * (p - off)) + slice_index places (2 * (p - off) + 1)
 

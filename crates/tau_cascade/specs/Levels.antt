@@ -37,12 +37,6 @@ module _ (set : CorrelationView) (level : ℕ) where
     pub ring : RingIs l.ring closed
     pub cells : CellsAre l.cells closed
 
-  -- the bin e, of photons xs, may be closed after these closed ones
-  pub record CanClose (ring : Ring) (e : Entry) (closed xs : History) : Type 0 where
-    pub was : RingIs ring closed
-    pub is_bin : IsBin e xs
-    pub before : AllByRecursion (λ x. bin level x < e.index) closed
-
   -- its open bin may be closed
   pub record CanFinish (l : Level) (closed open' : History) : Type 0 where
     pub few : length closed + length open' ≤ record_limit

@@ -66,8 +66,8 @@ pub(crate) fn spacing(bins: &[Entry]) -> u64
     least
 }
 
-/// A distance that no two of these bins fall below, nor any of those that are `apart` behind the last of them; or 0 where
-/// `apart`, so many levels up, is within reach.
+/// A distance, at most `apart`, that no two of these bins fall below; or 0 where `apart`, so many levels up, is within
+/// reach of the lags.
 #[inline(always)]
 pub(crate) fn apart_all(bins: &[Entry], apart: u64, levels: u32, lags: u32) -> u64
     requires { levels < 64 }
@@ -245,7 +245,27 @@ pub(crate) fn heaviest_of(bins: &[Entry]) -> u64 {
     heaviest
 }
 
-/// Whether at most a quarter of the first of these bins, so many levels up, share their bin with the one before them.
+/// The place of the bin, so many levels up, from which on none is before an index.
+#[inline(always)]
+pub(crate) fn first_kept(bins: &[Entry], levels: u32, before: u64) -> usize
+    requires { (levels < 64) × IsSpaced 0 (map (raised levels) bins.now) }
+    ensures within { result ≤ length bins.now }
+    ensures left { AllByRecursion (λ e. e.index < before)
+        (take result (map (raised levels) bins.now)) }
+    ensures kept { AllByRecursion (λ e. before ≤ e.index)
+        (drop result (map (raised levels) bins.now)) }
+{
+    let mut start = bins.len();
+    'back: while start > 0 {
+        if bins[start - 1].index >> levels < before {
+            return start;
+        }
+        start -= 1;
+    }
+    start
+}
+
+/// Whether at most a quarter of the first 64 of these bins, so many levels up, share their bin with the one before them.
 pub(crate) fn hardly_merge(bins: &[Entry], levels: u32) -> bool
     requires { levels < 64 }
 {

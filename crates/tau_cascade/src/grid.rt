@@ -2,7 +2,7 @@
 // level.
 ghost use Rattle.std.{specs.Prelude.{◌≡◌, ℕ, ◌+◌, ◌-◌, ◌*◌, ◌/◌, ◌%◌, ◌^◌, ◌<◌, ◌≤◌, ◌==◌, true, false, List, [], ◌++◌, length, map, take, drop, nat_le, slice_index, sum_by, if◌then◌else◌}, specs.List.{AllByRecursion, range_with_len}, specs.Option.ForSome};
 ghost use Rattle.lag_ring.{specs.declared.window.Side.TheVariants.{First, Second}, specs.Bytes.weight_at};
-ghost use Rattle.tau_cascade.{specs.Bins.{raised, onto, IsSpaced}, specs.Dense.{ArePaired, IsZero, paired_from}, specs.Grid.{HaveWeights, Stands, photons, IsGrid, halved, product, dots, bins_from}};
+ghost use Rattle.tau_cascade.{specs.Bins.{raised, onto, IsSpaced}, specs.Dense.{ArePaired, IsZero}, specs.Grid.{HaveWeights, Stands, IsEmpty, photons, IsGrid, halved, product, dots, bins_from}};
 
 use crate::bins::{LIST, Last, MOST_LAGS};
 use crate::laid::{PLACES, TOP, clear_window};
@@ -12,7 +12,7 @@ use std::simd::Simd;
 /// How many places a grid has.
 pub(crate) const SPAN: usize = 4096;
 
-/// How many photons are too many for a grid, so that two places and the bins of a ring fit in one.
+/// A grid has fewer photons than this, and so has the ring before it: both together fit in one place of 16 bits.
 pub(crate) const TOO_MANY: u64 = 1 << 15;
 
 /// How many photons of a group are too many for a bin of a list that is put into a grid.
@@ -48,7 +48,7 @@ fn put(places: &mut [u16; SPAN], at: usize, weight: u64)
 }
 
 /// Puts the weights of bins, so many levels up, at the places of their indices, of which the first is that of `base`, and
-/// answers true; or false where one has too many photons.
+/// answers true; or false where one has too many photons: then what the places have means nothing.
 fn put_all(
     firsts: &mut [u16; SPAN],
     seconds: &mut [u16; SPAN],
@@ -102,7 +102,7 @@ fn halve_part(pairs: &[u16], to: &mut [u16])
     }
 }
 
-/// Makes one place of two in a grid, behind so many that are put before them, over a window.
+/// Makes one place of each two of the first `2 * half`, behind `off` empty ones. The window is zero before and after.
 fn halve_at(places: &mut [u16; SPAN], window: &mut [u16; PLACES], half: usize, off: usize)
     requires room { (2 * half ≤ SPAN) × (off + half ≤ SPAN) × IsZero window.old }
     requires light { (p : ℕ) → slice_index places.old p < 2 ^ 15 }
@@ -130,7 +130,7 @@ fn add_products(sums: Simd<u16, LANES>, a: &[u16], b: &[u16]) -> Simd<u16, LANES
     sums + Simd::<u16, LANES>::from_slice(a) * Simd::<u16, LANES>::from_slice(b)
 }
 
-/// The sums of the products of two parts by place, each of those that lie so many places apart.
+/// Sums of the products of two parts by place: sum `q` has those of the places `LANES * r + q`.
 #[inline(always)]
 fn lane_sums(a: &[u16], b: &[u16], rows: usize) -> [u16; LANES]
     requires sized { (length a.now ≡ LANES * rows) × (length b.now ≡ LANES * rows) × (rows ≤ SPAN) }
@@ -203,7 +203,7 @@ impl Grid {
     /// A grid without bins.
     #[inline(always)]
     pub(crate) fn empty() -> Grid
-        ensures { Stands result [] × (result.len ≡ 0) }
+        ensures { IsEmpty result }
     {
         Grid {
             base: 0,
@@ -225,7 +225,7 @@ impl Grid {
     /// Takes all bins out.
     pub(crate) fn clear(&mut self)
         requires { ∥ ((es : List Entry) × Stands self.old es) ∥₁ }
-        ensures { Stands self.new [] × (self.new.len ≡ 0) }
+        ensures { IsEmpty self.new }
     {
         self.firsts[..self.len].fill(0);
         self.seconds[..self.len].fill(0);
@@ -237,7 +237,7 @@ impl Grid {
     fn lay(&mut self, bins: &[Entry], levels: u32)
         requires bins { (0 < length bins.now) × (length bins.now ≤ LIST) × (levels < 64)
             × IsSpaced 0 (map (raised levels) bins.now) }
-        requires none { Stands self.old [] × (self.old.len ≡ 0) }
+        requires none { IsEmpty self.old }
         ensures { IsGrid self.new (map (raised levels) bins.now) }
     {
         let first = bins[0].index >> levels;

@@ -1,12 +1,12 @@
 // One level: its open bin, the ring of its last closed bins, and its cells.
-ghost use Rattle.std.{specs.Prelude.{◌≡◌, ◌+◌, ◌-◌, ◌^◌, ◌<◌, ◌≤◌, filter, length, nat_le, take, drop, [], IfOk, map}, specs.List.AllByRecursion};
+ghost use Rattle.std.{specs.Prelude.{◌≡◌, ◌+◌, ◌-◌, ◌^◌, ◌<◌, ◌≤◌, filter, length, nat_le, take, drop, [], IfOk, map}};
 ghost use Rattle.lag_ring.specs.Ring.{IsRising, ring as ring_of};
 ghost use Rattle.tally_base.{specs.Settings.correlation_view, specs.Tally.History};
-ghost use Rattle.tau_cascade.{specs.Correlation.skipped_lags, specs.Bins.{raised, merged_at, kept_of, FitCounts, IsSpaced}, specs.Dense.IsZero, specs.Levels.{RingIs, CellsAre}, specs.Grid.{IsGrid, IsBeside, Stands, kept_and}};
+ghost use Rattle.tau_cascade.{specs.Correlation.skipped_lags, specs.Bins.{raised, merged_at, kept_of, FitCounts, IsSpaced}, specs.Dense.IsZero, specs.Levels.{RingIs, CellsAre}, specs.Grid.{IsEmpty, IsGrid, IsBeside, kept_and}};
 
 use crate::bins::{
-    LEVELS, LIST, apart_all, copy_into, cut_last, heaviest_of, lay_out, lower_open, lower_ring,
-    merge,
+    LEVELS, LIST, apart_all, copy_into, cut_last, first_kept, heaviest_of, lay_out, lower_open,
+    lower_ring, merge,
 };
 use crate::grid::{Grid, SPAN, TOO_MANY};
 use crate::laid::PLACES;
@@ -49,11 +49,11 @@ pub(crate) struct Coming {
     pub(crate) apart: u64,
 }
 
-/// How many photons of a group a bin that waits has at most where a list may stay unmerged: with those of a block, one
-/// place of a window has fewer than are too many for it.
+/// A list may stay unmerged where each bin that waits has fewer photons of a group than this. A window nearly always takes
+/// it then; where one place has too many, bins are summed one by one.
 const LIGHT: u64 = 1024;
 
-/// From which level on no grid is begun: with few levels above it would hardly pay.
+/// From this level on a grid is begun only where bins were in one: more would cost more seconds than it spares.
 const DENSE_LEVELS: u32 = 4;
 
 /// How many of the first lags a level leaves to those below it: its own are above them.
@@ -62,26 +62,6 @@ pub(crate) fn skipped_lags(set: &CorrelationSet, level: u32) -> u32
     ensures within { result < set.now.lags }
 {
     if level == 0 { 0 } else { set.lags / 2 }
-}
-
-/// The place of the bin, so many levels up, from which on none is before an index.
-#[inline(always)]
-fn first_kept(bins: &[Entry], levels: u32, before: u64) -> usize
-    requires { (levels < 64) × IsSpaced 0 (map (raised levels) bins.now) }
-    ensures within { result ≤ length bins.now }
-    ensures left { AllByRecursion (λ e. e.index < before)
-        (take result (map (raised levels) bins.now)) }
-    ensures kept { AllByRecursion (λ e. before ≤ e.index)
-        (drop result (map (raised levels) bins.now)) }
-{
-    let mut start = bins.len();
-    'back: while start > 0 {
-        if bins[start - 1].index >> levels < before {
-            return start;
-        }
-        start -= 1;
-    }
-    start
 }
 
 /// Puts those bins of a list, so many levels up and merged, that are not before an index into a ring, in place of what it
@@ -143,7 +123,7 @@ impl Level {
         })
     }
 
-    /// Whether bins, with those that wait here, are light enough to be paired over a window though they aren't merged.
+    /// Whether the bins that wait here are so light that those that come may stay unmerged.
     #[inline(always)]
     pub(crate) fn is_light(&self) -> bool {
         let open = match self.open {
@@ -155,7 +135,8 @@ impl Level {
 
     /// Pairs the bins of a list, so many levels up, from `start` on with the closed ones, which stand before them as far as
     /// the ring has them, and with one another. Puts them among the closed ones, merged. No two of the list fall below
-    /// the distance `apart`, as they stand there, where it isn't 0. What is in `spare` is lost.
+    /// the distance `apart`, as they stand there, where it isn't 0. What is in `spare` is lost. A grid has those from
+    /// `start` on, or none.
     fn shut<L: Ledger>(
         &mut self,
         set: &CorrelationSet,
@@ -207,8 +188,8 @@ impl Level {
     }
 
     /// Takes bins, one after the other and none before what came. The open bin goes before them in the list, those of
-    /// the last bin are cut off behind them, and it is open. Answers where those are that are closed. What is in
-    /// `spare`, and before the bins, is lost.
+    /// the last bin are cut off behind them, and it is open. Answers where those are that are closed. A grid of those that
+    /// came is then one of those that are closed, or has none. What is in `spare`, and before the bins, is lost.
     pub(crate) fn take<L: Ledger>(
         &mut self,
         set: &CorrelationSet,
@@ -242,7 +223,7 @@ impl Level {
         let start = lower_ring(&self.ring, list, from, levels);
         let apart = apart_all(&list[start..first + 1], came.apart, levels, set.lags);
         let last = cut_last(&list[from..end], levels);
-        // A heavy ring can't be before a grid: then those above merge their bins.
+        // Bins behind a heavy ring go into no grid, so that the levels above may merge them.
         let dense = grid.is_on() || level < DENSE_LEVELS;
         if dense && total_weight(Side::First, &list[start..from]) < TOO_MANY {
             let bins = &list[from..end];
@@ -251,11 +232,12 @@ impl Level {
             grid.clear();
         }
         self.open = Some(last.bin);
-        if last.closed > 0 {
+        let count = last.closed;
+        if count > 0 {
             self.shut(
                 set,
                 level,
-                &list[start..from + last.closed],
+                &list[start..from + count],
                 from - start,
                 levels,
                 apart,
@@ -266,10 +248,7 @@ impl Level {
             );
         }
         Coming {
-            closed: Closed {
-                from,
-                count: last.closed,
-            },
+            closed: Closed { from, count },
             levels: levels + 1,
             apart,
         }
@@ -287,7 +266,7 @@ impl Level {
         steps: &mut Steps<L>,
     ) -> Option<Entry>
         requires room { (length list.old ≡ LIST) × (length spare.old ≡ LIST) × IsZero window.old
-            × Stands grid.now [] × (grid.now.len ≡ 0) }
+            × IsEmpty grid.now }
         requires stands { ∥ ((closed : History) × (open' : History)
             × CanFinish (correlation_view set.now) level self.old closed open') ∥₁ }
         ensures follows { (closed open' : History)

@@ -3,7 +3,7 @@ ghost use Rattle.std.{specs.Prelude.{◌≡◌, ◌≢◌, true, false, ℕ, ◌
 ghost use Rattle.lag_ring.specs.Cells.{Spends};
 ghost use Rattle.tau_cascade.{specs.Levels.weight_before, specs.Dense.{paired_from, ArePaired, AddsAtMost, AddsOnce, SameOutside, IsZero, HavePaired, AreWithin, HaveRoom}, specs.Bins.{IsSpaced, raised}, specs.Grid.IsGrid};
 
-use crate::bins::MOST_LAGS;
+use crate::bins::{MOST_LAGS, first_kept};
 use crate::grid::Grid;
 use crate::laid::{CLOSE_PART, PLACES, sum_part};
 use lag_ring::{Entry, PairCells};
@@ -60,14 +60,7 @@ fn first_in_reach(bins: &[Entry], at: usize, index: u64, levels: u32, lags: u32)
     ensures place { result ≤ at }
     ensures far { AllByRecursion (λ e. e.index + lags < index) (take result (map (raised levels) bins.now)) }
 {
-    let mut place = at;
-    'back: while place > 0 {
-        if index.saturating_sub(bins[place - 1].index >> levels) > u64::from(lags) {
-            return place;
-        }
-        place -= 1;
-    }
-    place
+    first_kept(&bins[..at], levels, index.saturating_sub(u64::from(lags)))
 }
 
 /// Whether no two bins, so many levels up, are in reach of one another.
@@ -188,10 +181,11 @@ fn pair_close<L: Ledger, const N: usize>(
     true
 }
 
-/// The same, by the number of lags.
+/// The same, by the number of lags. Where the bins are in a grid, nothing is paired, and the answer is false.
 fn pair_lanes<L: Ledger>(
     cells: &mut PairCells,
     window: &mut [u16; PLACES],
+    grid: &Grid,
     skipped: u32,
     lags: u32,
     list: &[Entry],
@@ -212,6 +206,9 @@ fn pair_lanes<L: Ledger>(
         × AddsAtMost 1 cells.old cells.new }
     ensures zeros { IsZero window.new }
 {
+    if grid.is_on() {
+        return false;
+    }
     match lags - skipped {
         0..=8 => pair_close::<L, 8>(cells, window, skipped, lags, list, start, levels, steps),
         9..=16 => pair_close::<L, 16>(cells, window, skipped, lags, list, start, levels, steps),
@@ -286,44 +283,6 @@ fn add_each<L: Ledger>(cells: &mut PairCells, count: u32, sums: &[u128], steps: 
     }
 }
 
-/// Pairs the bins of a list, so many levels up, from `start` on with those before them, over a grid that they are in, and
-/// answers true. Where they are in none, or those before them have too many photons, nothing is paired, and the answer is
-/// false.
-fn pair_dense<L: Ledger>(
-    cells: &mut PairCells,
-    window: &mut [u16; PLACES],
-    grid: &Grid,
-    skipped: u32,
-    lags: u32,
-    list: &[Entry],
-    start: usize,
-    levels: u32,
-    steps: &mut Steps<L>,
-) -> bool
-    requires lags { (skipped ≤ lags) × (length cells.old.cells ≡ lags - skipped)
-        × (lags ≤ MOST_LAGS) }
-    requires list { (start ≤ length list.now) × IsSpaced 0 (map (raised levels) list.now)
-        × (levels < 64) × IsZero window.old }
-    requires grid { IsGrid grid.now (drop start (map (raised levels) list.now)) }
-    requires fits { (p : ℕ) → p < lags - skipped → slice_index cells.old.cells p
-        + paired_from start (p + skipped + 1) (map (raised levels) list.now) ≤ 2 ^ 80 }
-    ensures cells { result ≡ true → ArePaired skipped lags start
-        cells.old.cells cells.new.cells (map (raised levels) list.now) }
-    ensures none { result ≡ false → (cells.new ≡ cells.old) × (steps.new ≡ steps.old) }
-    ensures spends { Spends cells.old cells.new steps.old steps.new (lags - skipped)
-        × AddsAtMost 1 cells.old cells.new × IsZero window.new }
-{
-    if !grid.is_on() {
-        return false;
-    }
-    let mut sums = [0; MOST_LAGS];
-    if !grid.sum(&mut sums, window, skipped, lags, list, start, levels) {
-        return false;
-    }
-    add_each(cells, lags - skipped, &sums, steps);
-    true
-}
-
 /// Pairs the bins of a list, so many levels up, from `start` on with those before them, at the lags above `skipped` and
 /// up to `lags`: over a grid, if they are in one, over a window in which they are laid close together, or else bin by
 /// bin. No two fall below the distance `apart`, as they stand in the list, where it isn't 0. Where that is out of reach,
@@ -354,14 +313,15 @@ pub(crate) fn pair_all<L: Ledger>(
         × AddsAtMost 1 cells.old cells.new × IsZero window.new }
 {
     if apart >> levels > u64::from(lags)
-        || pair_dense(
+        || pair_lanes(
             cells, window, grid, skipped, lags, list, start, levels, steps,
         )
-        || pair_lanes(cells, window, skipped, lags, list, start, levels, steps)
     {
         return;
     }
     let mut sums = [0; MOST_LAGS];
-    sum_each(&mut sums, skipped, lags, list, start, levels);
+    if !grid.sum(&mut sums, window, skipped, lags, list, start, levels) {
+        sum_each(&mut sums, skipped, lags, list, start, levels);
+    }
     add_each(cells, lags - skipped, &sums, steps);
 }

@@ -1,15 +1,18 @@
-use Rattle.std.{proofs.Common.{rules, arith}}
-use Rattle.tau_cascade.proofs.{Close.no_bin, Spread.{cut_more, cut_sum, cut_within, cut_before}}
+use Rattle.std.{proofs.Common.{◌≡◌, ◌-◌, suc, map, rules, arith}, proofs.lemmas.List.{get_or-map, length-map, take-map, drop-map}}
+use Rattle.tau_cascade.{specs.Bins.raised, proofs.{Close.no_bin, Spread.{cut_more, cut_sum, cut_within, cut_before}}}
 use Rattle.tau_cascade.proofs.bins.cut_last.Goals as goal
 
 pub returns-then-bin-levels-clause-before : goal.returns-then-bin-levels-clause-before
-returns-then-bin-levels-clause-before c = search (rules, arith, cut_before, no_bin)
+returns-then-bin-levels-clause-before c =
+    let one : suc (c.back.closed - 1) ≡ c.back.closed = omega arith in
+    rw (← take-map, ← one) (cut_before (map (raised c.args.levels) c.args.bins.now) (c.back.closed - 1) _ no_bin c.requires.sorted
+    (search (rules, arith, one, length-map)) (rw (one, drop-map) c.back.invariant.here) (search (rules, arith, get_or-map)))
 
 pub overflow_add-a : goal.overflow_add-a
-overflow_add-a c = search (rules, arith, cut_within, cut_sum, no_bin)
+overflow_add-a c = search (rules, arith, cut_within, no_bin)
 
 pub overflow_add-b : goal.overflow_add-b
-overflow_add-b c = search (rules, arith, cut_within, cut_sum, no_bin)
+overflow_add-b c = search (rules, arith, cut_within, no_bin)
 
 pub back-preserved : goal.back-preserved
 back-preserved c = search (rules, arith, cut_more, cut_sum, no_bin)

@@ -1,23 +1,21 @@
 use Rattle.std.{proofs.Common.{rules, arith}, proofs.lemmas.Nat.{le_or_l, le_or_r}, proofs.lemmas.List.Sums.{sum_by_push}}
-use Rattle.tau_cascade.{proofs.Close.{cut}, proofs.Places.{weight_at-few, put_weights, has_place}}
+use Rattle.tau_cascade.{proofs.Close.{cut}, proofs.Places.{weight_at-few, has_place}}
 use Rattle.tau_cascade.proofs.grid.put_all.Goals as goal
 
 pub overflow_sub-at : goal.overflow_sub-at
 overflow_sub-at c = (has_place _ _ _ _ c.loop-bin-test.true c.requires.near.0).0
 
-pub put-requires-clause-inside : goal.put-requires-clause-inside
-put-requires-clause-inside c = omega (arith, has_place _ _ _ _ c.loop-bin-test.true c.requires.near.0)
+pub put-requires : goal.put-requires
+put-requires c =
+    let near = has_place _ _ _ _ c.loop-bin-test.true c.requires.near.0 in
+    record { inside = omega arith; fits = omega (arith, weight_at-few, le_or_l) }
 
-pub put-requires-clause-fits : goal.put-requires-clause-fits
-put-requires-clause-fits c = omega (arith, has_place _ _ _ _ c.loop-bin-test.true c.requires.near.0, weight_at-few, le_or_l)
-
-pub put-requires-in-loop-bin-clause-inside : goal.put-requires-in-loop-bin-clause-inside
-put-requires-in-loop-bin-clause-inside c = omega (arith, has_place _ _ _ _ c.loop-bin-test.true c.requires.near.0)
-
-pub put-requires-in-loop-bin-clause-fits : goal.put-requires-in-loop-bin-clause-fits
-put-requires-in-loop-bin-clause-fits c = omega (arith, has_place _ _ _ _ c.loop-bin-test.true c.requires.near.0, weight_at-few, le_or_r)
+pub put-requires-in-loop-bin : goal.put-requires-in-loop-bin
+put-requires-in-loop-bin c =
+    let near = has_place _ _ _ _ c.loop-bin-test.true c.requires.near.0 in
+    record { inside = omega arith; fits = omega (arith, weight_at-few, le_or_r) }
 
 pub loop-bin-preserved : goal.loop-bin-preserved
 loop-bin-preserved c =
     let near = has_place _ _ _ _ c.loop-bin-test.true c.requires.near.0 in
-    search (rules, arith, near, put_weights, cut, sum_by_push, le_or_l, le_or_r)
+    search (rules, arith, near, cut, sum_by_push, le_or_l, le_or_r)

@@ -1,6 +1,6 @@
-use Rattle.std.{proofs.Common.{◌≡◌, ℕ, ◌+◌, ◌-◌, ◌<◌, ◌≤◌, eqb, cond, true, List, length, take, arith}, proofs.lemmas.Grind.common_steps, proofs.lemmas.Bool.Decides.nat_tests, proofs.lemmas.List.Sums.{sum_by_push, sum_by-take-le}}
+use Rattle.std.{proofs.Common.{◌≡◌, ℕ, ◌+◌, ◌-◌, ◌<◌, ◌≤◌, eqb, cond, List, length, take, arith, rules}, proofs.lemmas.Grind.common_steps, proofs.lemmas.Bool.Decides.nat_tests, proofs.lemmas.List.Sums.{sum_by_push, sum_by-take-le}}
 use Rattle.lag_ring.{specs.declared.ring.Entry.Entry, specs.declared.window.Side.TheVariants.First, specs.Bytes.weight_at}
-use Rattle.tau_cascade.{proofs.Close.{ups, here, cut}, proofs.grid.put_firsts.Goals.{then-before+then-behind-window+then-place-window, then-before+then-behind-window+else-place-window, else-before}}
+use Rattle.tau_cascade.proofs.Close.{ups, here, cut}
 use Rattle.tau_cascade.proofs.grid.put_firsts.Goals as goal
 
 -- a bin more adds its weight at its place
@@ -10,12 +10,11 @@ module _ (levels low : ℕ) (bins : List Entry) (i p : ℕ) (inside : i < length
 
   next : weight_at First 192 low p (take (i + 1) (ups levels bins i inside))
       ≡ weight_at First 192 low p (take i (ups levels bins i inside)) + cond (eqb (e.index + 192) (low + p)) e.a 0
-  next = rw (cut levels bins i inside) (sum_by_push (λ (f : Entry). cond (eqb (f.index + 192) (low + p)) f.a 0) (take i (ups levels bins i inside)) e)
+  next = search (rules, arith, cut, sum_by_push)
 
   fits : e.index + 192 ≡ low + p → weight_at First 192 low p (take i (ups levels bins i inside)) + e.a ≤ weight_at First 192 low p (ups levels bins i inside)
   fits is =
-      let test : eqb (e.index + 192) (low + p) ≡ true = grind (arith, nat_tests) in
-      omega (arith, (rw test at next), sum_by-take-le (λ (f : Entry). cond (eqb (f.index + 192) (low + p)) f.a 0) (ups levels bins i inside) (i + 1))
+      grind (arith, nat_tests, next, sum_by-take-le (λ (f : Entry). cond (eqb (f.index + 192) (low + p)) f.a 0) (ups levels bins i inside) (i + 1))
 
 pub overflow_cast-window : goal.overflow_cast-window
 overflow_cast-window c =
@@ -32,19 +31,14 @@ overflow_add-window c =
     omega (
       arith,
       fits c.args.levels c.args.low c.args.bins.now c.loop-bin.bin-index place c.loop-bin-test.true (omega arith),
-      c.requires.fit place,
-      c.loop-bin.invariant.have place,
+      c.requires.fit,
+      c.loop-bin.invariant.have,
     )
 
 pub loop-bin-preserved : goal.loop-bin-preserved
 loop-bin-preserved c = record {
   have = λ p inside.
       let more = next c.args.levels c.args.low c.args.bins.now c.loop-bin.bin-index p c.loop-bin-test.true in
-      let had = c.loop-bin.invariant.have p inside in
-      elim c.if-before.branch [
-        | then-before+then-behind-window+then-place-window w ↦ rw w.window-is (grind (arith, common_steps, nat_tests, more, had))
-        | then-before+then-behind-window+else-place-window w ↦ rw w.window-is (grind (arith, nat_tests, more, had))
-        | else-before w ↦ rw w.window-is (grind (arith, nat_tests, more, had, w.else-before.either))
-      ];
+      grind (arith, common_steps, nat_tests, more, c.loop-bin.invariant.have p inside);
   same = omega (arith, c.loop-bin.invariant.same);
 }

@@ -1,4 +1,4 @@
-use Rattle.std.{proofs.Common.{rules, ◌≡◌, ◌∙◌, ℕ, ◌+◌, ◌*◌, ◌-◌, ◌<◌, ◌≤◌, List, [], ◌∷◌, ◌++◌, length, get_or, map, take, drop, ap, arith, append_assoc}, proofs.Math.Nat.mul-le-mul, proofs.lemmas.Grind.common_steps, proofs.Math.ListN.drop_of_length-le, proofs.lemmas.List.{take_more, take-map, length-take, length-take-le, length-drop, length-set, append-nil, drop-append-le}}
+use Rattle.std.{proofs.Common.{rules, ◌≡◌, ◌∙◌, ℕ, ◌+◌, ◌*◌, ◌-◌, ◌<◌, ◌≤◌, List, [], ◌∷◌, ◌++◌, length, get_or, map, take, drop, arith, append_assoc}, proofs.Math.Nat.mul-le-mul, proofs.lemmas.Grind.common_steps, proofs.Math.ListN.drop_of_length-le, proofs.lemmas.List.{take_more, take-map, length-take, length-take-le, length-drop, length-set, append-nil, drop-append-le}}
 use Rattle.lag_ring.specs.declared.ring.Entry.{Entry}
 use Rattle.tau_cascade.{specs.Dense.{laid, placed}, specs.Bins.raised, proofs.Close.{no_bin, laid_at, cut, behind_last, push, laid_more, placed_more}, proofs.Passes.{all_take, spaced_take}}
 use Rattle.tau_cascade.proofs.laid.lay_all.Goals as goal
@@ -38,21 +38,21 @@ loop-i-preserved c =
     let reach : ℕ = c.from-reach.result + 1 in
     let place : ℕ = c.lay_one-laying.result.last.place in
     let up = behind_last levels list i inside inv.are c.requires.list.2 c.requires.near.0 in
-    let e : Entry = get_or list i no_bin in
     let back : List Entry = drop start (take i list) in
     let long : length (take i list) ≡ i = length-take-le i list (omega (arith, inside)) in
     let count : length back ≡ i - start = omega (arith, long, length-drop start (take i list)) in
-    let more : drop start (take (i + 1) list) ≡ back ++ e ∷ [] =
-    ap (drop start) (take_more list i no_bin inside) ∙ drop-append-le start (take i list) (e ∷ []) (omega (arith, long)) in
-    let written = placed_more back e c.loop-i.places place (omega (arith, count, inv.long, inside, c.requires.list.1)) in
+    let more : drop start (take (i + 1) list) ≡ back ++ get_or list i no_bin ∷ [] =
+    rw (take_more list i no_bin inside) (drop-append-le start (take i list) _ (omega (arith, long))) in
+    let written = placed_more back (get_or list i no_bin) c.loop-i.places place (omega (arith, count, inv.long, inside, c.requires.list.1)) in
     let laid_here = push _ _ _ _ _ _ _ _ inv.are up one.last one.heaviest one.weights one.light in
     let ring : reach * (i - start + 1) ≡ reach * (i - start) + reach = grind arith in
     let next : i + 1 - start ≡ i - start + 1 = omega arith in
     record {
       are = rw (cut levels list i inside) (laid_more _ _ _ _ _ _ _ _ inv.are up one.last one.heaviest one.weights one.light);
       at_places = rw (cut levels list i inside, more, ← count, written, laid_here, inv.at_places)
-          (append_assoc (laid reach c.args.first 0 (take start (map (raised levels) list))) (placed back c.loop-i.places) (laid_at place e ∷ []));
-      near = λ k. let low = inv.near k in grind (arith, common_steps, one.last.1);
+          (append_assoc (laid reach c.args.first 0 (take start (map (raised levels) list))) (placed back c.loop-i.places)
+          (laid_at place (get_or list i no_bin) ∷ []));
+      near = λ k. grind (arith, common_steps, one.last.1, inv.near k);
       place = rw next (omega (arith, ring, inv.place, one.last.1));
       long = length-set c.loop-i.places (i - start) _ ∙ inv.long;
     }

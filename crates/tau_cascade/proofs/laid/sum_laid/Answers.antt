@@ -7,11 +7,7 @@ use Rattle.tau_cascade.proofs.laid.sum_laid.Goals as goal
 module _ {heaviest : ℕ} (window : List ℕ) (list : List Entry)
     (all : (heaviest < 2048) × IsLight heaviest list × ((p : ℕ) → p < 8640 → get_or window p 0 ≤ heaviest)) (most : ℕ) (upto : heaviest ≤ most) where
   all_light : ((p : ℕ) → p < 8640 → get_or window p 0 ≤ most) × IsLight most list
-  all_light = (
-    λ p inside. omega (arith, all.2 p inside, upto),
-    all_weaker (λ (f : Entry). (f.a ≤ heaviest) × (f.b ≤ heaviest)) (λ f. (f.a ≤ most) × (f.b ≤ most))
-        (λ f under. (omega (arith, under.0, upto), omega (arith, under.1, upto))) list all.1,
-  )
+  all_light = (λ p inside. omega (arith, all.2 p inside), search (rules, arith, all_weaker, all.1))
 
   few_all : (places : List ℕ) (from : ℕ) → length window ≡ 8640 → sum_by (product_at Second window 0 from) (placed list places) ≤ most * most * length list
   few_all places from long = products_few window places list most from (low_all window most long all_light.0) all_light.1
@@ -19,31 +15,20 @@ module _ {heaviest : ℕ} (window : List ℕ) (list : List Entry)
 pub sum_light-more-requires : goal.sum_light-more-requires
 sum_light-more-requires g c = (
   omega (arith, c.requires.room 0),
-  (
-    all_light _ c.args.list.now c.requires.light 31 (omega (arith, c.if-heaviest-lt-NOT_LIGHT.true)),
-    ((c.requires.few.1, c.requires.few.2), (omega (arith, c.requires.room 0), c.requires.room)),
-  ),
+  (all_light _ c.args.list.now c.requires.light 31 (omega arith), ((c.requires.few.1, c.requires.few.2), (omega (arith, c.requires.room 0), c.requires.room))),
 )
 
 pub add_laid-requires : goal.add_laid-requires
-add_laid-requires g c = (
-  omega (arith, c.requires.room 0),
-  (
-    search (rules, arith),
-    λ q inside.
-        let few = few_all _ c.args.list.now c.requires.light 31 (omega (arith, c.if-heaviest-lt-NOT_LIGHT.true))
-        c.args.places.now (c.args.from + q) c.told-window in
-        omega (arith, few, c.sum_light-more.ensures q inside, c.requires.few.0 q inside),
-  ),
-)
+add_laid-requires g c =
+    let few = λ (q : ℕ). few_all _ c.args.list.now c.requires.light 31 (omega arith) c.args.places.now (c.args.from + q) c.told-window in (
+      omega (arith, c.requires.room 0),
+      (search (rules, arith), λ q inside. omega (arith, few q, c.sum_light-more.ensures q inside, c.requires.few.0 q inside)),
+    )
 
 pub sum_heavy-requires : goal.sum_heavy-requires
 sum_heavy-requires g c = (
   omega (arith, c.requires.room 0),
-  (
-    all_light _ c.args.list.now c.requires.light 2047 (omega (arith, c.requires.light.0)),
-    ((c.requires.few.0, c.requires.few.2), (omega (arith, c.requires.room 0), c.requires.room)),
-  ),
+  (all_light _ c.args.list.now c.requires.light 2047 (omega arith), ((c.requires.few.0, c.requires.few.2), (omega (arith, c.requires.room 0), c.requires.room))),
 )
 
 pub returns-then-heaviest-lt-NOT_LIGHT-clause-within : goal.returns-then-heaviest-lt-NOT_LIGHT-clause-within

@@ -1,6 +1,6 @@
-use Rattle.std.{proofs.Common.{rules, ◌≡◌, length}, proofs.Math.Logic.{∥∥₁_map}}
-use Rattle.tally_base.specs.Settings.{correlation_view}
-use Rattle.tau_cascade.{specs.Correlation.photons_of, proofs.Follows.whole_slice, proofs.Blocks.{may_end, end_counts}}
+use Rattle.std.{proofs.Common.{rules, true, length, take, drop, ◌++◌}, proofs.Math.Logic.{∥∥₁_map}}
+use Rattle.tally_base.specs.{Settings.correlation_view, Tally.History}
+use Rattle.tau_cascade.{specs.{Correlation.photons_of, StandsFor.StandsFor}, proofs.cascade.CascadeTally.close.{Given.Over, Goals.After-end_all}, proofs.Follows.whole_slice, proofs.Blocks.{may_end, end_counts}}
 use Rattle.tau_cascade.proofs.cascade.CascadeTally.close.Goals as goal
 
 pub end_all-requires-clause-stands : goal.end_all-requires-clause-stands
@@ -11,24 +11,16 @@ end_all-requires-clause-stands g c =
       may_end t.closed c.requires.open t.set t.levels.items t.taken t.floor w.0 w.1 t.few,
     )))
 
-pub invariant_of-self-clause-stands : goal.invariant_of-self-clause-stands
-invariant_of-self-clause-stands g c =
+-- what it stands for then
+ended : (g : Over) (c : After-end_all g) (h : History) → StandsFor c.args.self.now.closed c.args.self.now.set c.args.self.now.levels.items c.args.self.now.taken c.args.self.now.floor h
+    → StandsFor true c.args.self.now.set (take c.args.self.now.levels.len (c.end_all.new.levels ++ drop (length c.end_all.new.levels) c.args.self.now.levels.items)) c.args.self.now.taken c.args.self.now.floor h
+ended g c h is =
     let t = c.args.self.now in
-    let all : t.levels.len ≡ length t.levels.items = search rules in
-    ∥∥₁_map t.stands (λ w. (
-      w.0,
-      rw (whole_slice c.end_all.new.levels t.levels.items t.levels.len (search rules) all)
-          (end_counts t.closed c.requires.open t.set t.levels.items _ t.taken t.floor w.0 w.1
-          (c.end_all.ensures.follows (photons_of (correlation_view t.set) w.0) (rw c.deref_mut.ensures.value
-          (may_end t.closed c.requires.open t.set t.levels.items t.taken t.floor w.0 w.1 t.few)))),
-    ))
+    rw (whole_slice c.end_all.new.levels t.levels.items t.levels.len (search rules) (search rules)) (end_counts t.closed c.requires.open t.set t.levels.items _ t.taken t.floor h is
+    (c.end_all.ensures.follows (photons_of (correlation_view t.set) h) (rw c.deref_mut.ensures.value (may_end t.closed c.requires.open t.set t.levels.items t.taken t.floor h is t.few))))
+
+pub invariant_of-self-clause-stands : goal.invariant_of-self-clause-stands
+invariant_of-self-clause-stands g c = ∥∥₁_map c.args.self.now.stands (λ w. (w.0, ended g (goal.at.invariant_of-self-clause-stands g c).After-end_all w.0 w.1))
 
 pub returns-clause-keeps : goal.returns-clause-keeps
-returns-clause-keeps g c = λ h is.
-    let t = c.args.self.now in
-    let count : length c.end_all.new.levels ≡ length t.levels.items = search rules in
-    let all : t.levels.len ≡ length t.levels.items = search rules in
-    rw (whole_slice c.end_all.new.levels t.levels.items t.levels.len count all)
-    (end_counts t.closed c.requires.open t.set t.levels.items _ t.taken t.floor h is
-    (c.end_all.ensures.follows (photons_of (correlation_view t.set) h) (rw c.deref_mut.ensures.value
-    (may_end t.closed c.requires.open t.set t.levels.items t.taken t.floor h is t.few))))
+returns-clause-keeps g c = ended g (goal.at.returns-clause-keeps g c).After-end_all

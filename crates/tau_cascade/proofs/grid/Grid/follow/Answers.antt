@@ -1,20 +1,16 @@
-use Rattle.std.{proofs.Common.{rules, map, take, arith}, proofs.lemmas.List.{take-map, length-take-le}}
-use Rattle.tau_cascade.{specs.Bins.{raised}, specs.Grid.{IsGrid}, proofs.Passes.{spaced_take}, proofs.Onward.{raise_is, off_grid, last_inside, cut_is}}
-use Rattle.tau_cascade.proofs.grid.Grid.follow.Goals.{Joined-self-gt0, Joined-self-gt0-2, then-self-gt0, else-self-gt0, then-self-gt0-2, else-self-gt0-2}
+use Rattle.std.{proofs.Common.{rules, map, take, arith}, proofs.lemmas.List.{take-map, length-take-le, map-append, take-append-drop}}
+use Rattle.tau_cascade.{specs.Bins.{raised}, specs.Grid.{IsGrid}, proofs.Passes.{spaced_take, raised-again}, proofs.Onward.{off_grid, last_inside}}
+use Rattle.tau_cascade.proofs.grid.Grid.follow.Goals.{Joined-self-gt0, Joined-self-gt0-2, then-self-gt0-2, else-self-gt0-2}
 use Rattle.tau_cascade.proofs.grid.Grid.follow.Goals as goal
 
 raised_here : (c : Joined-self-gt0) → IsGrid c.if-self-gt0.self (map (raised c.args.levels) c.args.bins.now)
-raised_here c = elim c.if-self-gt0.branch [
-  | then-self-gt0 w ↦ rw w.self-is (raise_is c.args.self.now _ c.args.was.now c.args.came.now _ _ (omega arith) c.requires.list.2
-      (c.requires.stood.0.on w.if-self-gt0.true) w.raise.ensures.grid)
-  | else-self-gt0 w ↦ rw w.self-is (off_grid _ _ _ w.if-self-gt0.false c.requires.stood.0)
-]
+raised_here c = search (rules, arith, raised-again, off_grid)
 
 cut_here : (c : Joined-self-gt0-2) → IsGrid c.if-self-gt0.self (map (raised c.args.levels) c.args.bins.now)
     → IsGrid c.if-self-gt0-2.self (map (raised c.args.levels) (take c.args.last.now.closed c.args.bins.now))
 cut_here c all = elim c.if-self-gt0-2.branch [
-  | then-self-gt0-2 w ↦ rw w.self-is (cut_is c.if-self-gt0.self _ _ _ _ c.requires.here (all.on w.if-self-gt0-2.true) _ c.requires.before w.cut.ensures)
-  | else-self-gt0-2 w ↦ rw w.self-is (off_grid _ _ _ w.if-self-gt0-2.false all)
+  | then-self-gt0-2 w ↦ rw w.self-is (w.cut.ensures _ _ (rw (← map-append, take-append-drop) (all.on w.if-self-gt0-2.true)) c.requires.before c.requires.here)
+  | else-self-gt0-2 w ↦ search (rules, arith, off_grid)
 ]
 
 pub cut-requires-clause-inside : goal.cut-requires-clause-inside

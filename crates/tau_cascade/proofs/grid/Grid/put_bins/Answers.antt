@@ -10,13 +10,10 @@ kept b list end' e inside = search (rules, arith, take_more_set, take-set-le, ap
 
 pub loop-place-preserved : goal.loop-place-preserved
 loop-place-preserved c =
-    let g = c.args.self.now in
     let place : ℕ = c.loop-place.place in
     let start : ℕ = c.args.start in
-    let inv = c.loop-place.invariant in
-    let one : place + 1 - start ≡ place - start + 1 = omega arith in
-    let test : c.from-end.result ≡ cond (ltb 0 (photons (bin_at g place))) 1 0 = search (rules, arith) in
-    let more = filter_of_map_range_with_len_more (λ e. ltb 0 (photons e)) (bin_at g) start (place - start) place (omega arith) in
+    let test : c.from-end.result ≡ cond (ltb 0 (photons (bin_at c.args.self.now place))) 1 0 = search (rules, arith) in
+    let more = filter_of_map_range_with_len_more (λ e. ltb 0 (photons e)) (bin_at c.args.self.now) start (place - start) place (omega arith) in
     search (rules, arith, kept, append_assoc)
 
 pub returns-clause-bins : goal.returns-clause-bins

@@ -1,6 +1,6 @@
-use Rattle.std.{proofs.Common.{rules, ◌≡◌, ◌∙◌, ℕ, ◌+◌, ◌-◌, ◌*◌, ◌≤◌, List, length, refl, get_or, take, drop, arith}, specs.List.{sum_by, range_with_len}, proofs.Math.Nat.mul-le-mul, proofs.lemmas.List.{get_or_past, length-take, length-take-le, length-drop, get_or-take}, proofs.lemmas.List.Edits.fill_by_more}
+use Rattle.std.{proofs.Common.{rules, ◌≡◌, ℕ, ◌+◌, ◌-◌, ◌*◌, ◌≤◌, List, length, refl, get_or, take, drop, arith}, specs.List.{sum_by, range_with_len}, proofs.Math.Nat.mul-le-mul, proofs.lemmas.List.{get_or_past, length-take, length-take-le, length-drop, get_or-take}, proofs.lemmas.List.Edits.fill_by_more}
 use Rattle.lag_ring.proofs.Sums.{part-at}
-use Rattle.tau_cascade.{specs.Grid.product, proofs.Dots.range_agree, proofs.grid.Grid.put_dots.Goals.{then-light, else-light}}
+use Rattle.tau_cascade.{specs.Grid.{product, dots}, proofs.Dots.range_agree}
 use Rattle.tau_cascade.proofs.grid.Grid.put_dots.Goals as goal
 
 -- no place of a part has more than those of a part around it
@@ -21,24 +21,14 @@ dot_light-requires-clause-light c =
     let len : ℕ = 16 * c.args.rows in
     let near = part_few c.args.window.now from (from + len - from) (192 - c.args.lags) (192 + len - (192 - c.args.lags)) c.most_of.result
     (omega (arith, c.loop-p-test.true)) (omega (arith, c.loop-p-test.true, c.requires.lags)) c.most_of.ensures in
-    ∣ (
-      c.from.result * c.from-2.result,
-      c.if-light.true,
-      λ i. mul-le-mul (omega (arith, near i, c.from.ensures)) (omega (arith, c.most_of-2.ensures i, c.from-2.ensures)),
-    ) ∣₁
+    ∣ (_, c.if-light.true, λ i. mul-le-mul (omega (arith, near i, c.from.ensures)) (omega (arith, c.most_of-2.ensures i, c.from-2.ensures))) ∣₁
 
 pub loop-p-preserved : goal.loop-p-preserved
 loop-p-preserved c =
     let window : List ℕ = c.args.window.now in
-    let seconds : List ℕ = c.args.self.now.seconds in
-    let dots : ℕ → ℕ = λ p. sum_by (λ q. get_or window (192 - (p + c.args.skipped + 1) + q) 0 * get_or seconds q 0) (range_with_len 0 (16 * c.args.rows)) in
     let from : ℕ = 192 - (c.loop-p.p + c.args.skipped + 1) in
     let len : ℕ = 16 * c.args.rows in
-    let parts = dot_parts window seconds from (from + len - from) len (omega arith) in
-    let long : length (take (from + len - from) (drop from window)) ≡ len =
-    length-take-le (from + len - from) (drop from window) (omega (arith, length-drop from window, c.told-window, c.requires.lags)) ∙ (omega arith) in
-    let here : c.from-in-loop-p.result ≡ dots c.loop-p.p = c.from-in-loop-p.ensures ∙ elim c.if-light.branch [
-      | then-light w ↦ rw w.from-is (w.dot_light.ensures ∙ parts)
-      | else-light w ↦ rw w.from-is ((rw long at w.dot_heavy.ensures) ∙ parts)
-    ] in
-    rw here (fill_by_more dots c.loop-p.sums c.loop-p.p 0 (omega (arith, c.told-sums, c.loop-p-test.true, c.requires.lags)) c.loop-p.invariant)
+    let parts = dot_parts window c.args.self.now.seconds from (from + len - from) len (omega arith) in
+    let long : length (take (from + len - from) (drop from window)) ≡ len = search (rules, arith, length-take-le, length-drop) in
+    let here : c.from-in-loop-p.result ≡ dots window from c.args.self.now.seconds len = search (rules, arith, parts, long) in
+    search (rules, arith, here, fill_by_more)

@@ -5,14 +5,12 @@ use Rattle.tau_cascade.proofs.grid.Grid.put_open.Goals as goal
 pub overflow_sub-self : goal.overflow_sub-self
 overflow_sub-self c = omega (arith, sound _ (search rules) (search rules) c.requires.stands.0)
 
-pub put-requires-clause-inside : goal.put-requires-clause-inside
-put-requires-clause-inside c = omega (arith, sound _ (search rules) (search rules) c.requires.stands.0)
+pub put-requires : goal.put-requires
+put-requires c =
+    let is = sound _ (search rules) (search rules) c.requires.stands.0 in
+    record { inside = omega (arith, is); fits = omega (arith, is.4 c.saturating_sub-at.result) }
 
-pub put-requires-clause-fits : goal.put-requires-clause-fits
-put-requires-clause-fits c = omega (arith, (sound _ (search rules) (search rules) c.requires.stands.0).4 c.saturating_sub-at.result)
-
-pub put-requires-then-more-self-clause-inside : goal.put-requires-then-more-self-clause-inside
-put-requires-then-more-self-clause-inside c = omega (arith, sound _ (search rules) (search rules) c.requires.stands.0)
-
-pub put-requires-then-more-self-clause-fits : goal.put-requires-then-more-self-clause-fits
-put-requires-then-more-self-clause-fits c = omega (arith, (sound _ (search rules) (search rules) c.requires.stands.0).5 c.saturating_sub-at.result)
+pub put-requires-then-more-self : goal.put-requires-then-more-self
+put-requires-then-more-self c =
+    let is = sound _ (search rules) (search rules) c.requires.stands.0 in
+    record { inside = omega (arith, is); fits = omega (arith, is.5 c.saturating_sub-at.result) }

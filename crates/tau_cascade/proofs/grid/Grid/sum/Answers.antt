@@ -1,4 +1,4 @@
-use Rattle.std.{proofs.Common.{◌≡◌, ◌∙◌, ℕ, ◌+◌, ◌-◌, ◌*◌, ◌/◌, ◌<◌, ◌≤◌, ◌&&◌, leb, ltb, true, eqb, cond, false, List, ◌++◌, length, get_or, map, take, drop, refl, sym, ap, arith, rules}, specs.List.{sum_by, range_with_len}, proofs.lemmas.Bool.Decides.nat_tests, proofs.lemmas.List.{get_or_append_left, get_or-append_right, get_or-take, get_or-drop, length-take-le, take-append-drop, take-map}, proofs.lemmas.List.Sums.{sum_by-append, sum_by-le-sum_by}, proofs.lemmas.Grind.common_steps}
+use Rattle.std.{proofs.Common.{◌≡◌, ◌∙◌, ℕ, ◌+◌, ◌-◌, ◌*◌, ◌/◌, ◌<◌, ◌≤◌, ◌&&◌, leb, ltb, true, eqb, cond, List, ◌++◌, length, get_or, map, take, drop, sym, arith, rules}, specs.List.{sum_by, range_with_len}, proofs.lemmas.Bool.Decides.nat_tests, proofs.lemmas.List.{places, get_or_append_left, get_or-append_right, get_or-take, get_or-drop, length-take-le, take-append-drop, take-map}, proofs.lemmas.List.Sums.{sum_by-append, sum_by-le-sum_by}}
 use Rattle.lag_ring.{specs.declared.ring.Entry.Entry, specs.declared.window.Side.TheVariants.{First, Second}, specs.Bytes.{weight_of, weight_at}, proofs.Sums.{sum_by-agree, sum_by-same, sum_by-zero, window-before, weight_at-le}}
 use Rattle.tau_cascade.{proofs.Gridded.sum_by-map, proofs.Places.mid_put, specs.declared.grid.Grid.Grid, specs.Levels.weight_before, specs.Dense.paired, specs.Bins.{raised, IsSpaced}, specs.Grid.{photons, Stands}, proofs.Close.paired-all, proofs.Passes.spaced_back, proofs.Dots.{range_agree, by_bins}}
 use borrow.Rule.Slice.PartMut.{put_mid, post_of, same_len_mid, mid_len}
@@ -14,31 +14,22 @@ module _ (g : Grid) (es : List Entry) (stands : Stands g es) (window part : List
   abbrev Inside : Entry → Type 0
   Inside e = (g.base ≤ e.index) × (e.index < g.base + g.len)
 
-  here : (p : ℕ) → 192 ≤ p → weight_at First 192 g.base p es ≡ weight_at First 0 g.base (p - 192) es
-  here p upto = grind (arith, common_steps, sum_by-same)
-
   none : (p : ℕ) → ((i : ℕ) → i < g.len → 192 + i ≡ p → 1 ≤ 0) → weight_at First 192 g.base p es ≡ 0
   none p away =
       sum_by-zero Inside (λ (e : Entry). cond (eqb (e.index + 192) (g.base + p)) e.a 0) es stands.within
-      (λ e at. let other : eqb (e.index + 192) (g.base + p) ≡ false = grind (arith, nat_tests, away (e.index - g.base)) in rw other refl)
+      (λ e at. grind (arith, nat_tests, away (e.index - g.base)))
 
   abbrev laid : List ℕ
   laid = put_mid 192 (192 + g.len - 192) window part
-
-  abbrev rest : List ℕ
-  rest = post_of 192 (192 + g.len - 192) window
 
   long : length part ≡ g.len
   long = rw is (length-take-le g.len g.firsts (omega (arith, sizes, stands.few)))
 
   inside : (p : ℕ) → 192 ≤ p → p < 192 + g.len → get_or part (p - 192) 0 ≡ weight_at First 192 g.base p es
-  inside p from upto = rw is (get_or-take g.len g.firsts (p - 192) 0 (omega arith)) ∙ stands.firsts (p - 192) (omega (arith, stands.few)) ∙ sym (here p from)
+  inside p from upto = rw is (search (rules, arith, places, stands.firsts, stands.few, sum_by-same))
 
-  behind : (p : ℕ) → 192 + g.len ≤ p → p < 8640 → get_or laid p 0 ≡ 0
-  behind p from upto =
-      get_or-append_right (take 192 window) (part ++ rest) 192 p 0 (length-take-le 192 window (omega (arith, sizes))) (omega arith)
-      ∙ get_or-append_right part rest g.len (p - 192) 0 long (omega arith)
-      ∙ get_or-drop (192 + g.len - 192) (drop 192 window) (p - 192 - g.len) 0 ∙ get_or-drop 192 window _ 0 ∙ zeros _ (omega arith)
+  place : (p : ℕ) → p < 8640 → get_or laid p 0 ≡ weight_at First 192 g.base p es
+  place p upto = mid_put window part 192 g.len p (omega (arith, sizes, stands.few)) long ∙ grind (arith, nat_tests, inside p, none p, zeros p)
 
   whole : length (take (192 + g.len) laid) ≡ 192 + g.len
   whole =
@@ -47,21 +38,13 @@ module _ (g : Grid) (es : List Entry) (stands : Stands g es) (window part : List
       length-take-le (192 + g.len) laid (omega (arith, same, sizes, stands.few))
 
   front_weights : (p : ℕ) → p < 192 + g.len → get_or (take (192 + g.len) laid) p 0 ≡ weight_at First 192 g.base p es
-  front_weights p fits = mid_put window part 192 g.len p (omega (arith, sizes, stands.few)) long fits
-      ∙ grind (arith, nat_tests, inside p, none p, zeros p, stands.few)
+  front_weights p fits = get_or-take (192 + g.len) laid p 0 fits ∙ place p (omega (arith, stands.few))
 
   -- of fewer bins than are too many, and those before them
   room : (front : List Entry) → sum_by (weight_of First) front < 32768 → (p : ℕ) → p < length (take (192 + g.len) laid)
       → get_or (take (192 + g.len) laid) p 0 + weight_at First 192 g.base p front < 65536
   room front few p fits =
-      omega (
-        arith,
-        front_weights p (omega (arith, whole)),
-        weight_at-le First 192 g.base p es,
-        weight_at-le First 192 g.base p front,
-        sum_by-le-sum_by (weight_of First) photons es (λ e. omega arith),
-        stands.total,
-      )
+      omega (arith, front_weights p (omega (arith, whole)), weight_at-le, sum_by-le-sum_by (weight_of First) photons es (λ e. omega arith), stands.total)
 
   -- and of the bins before them, where those were added
   module _ (front all : List Entry) (parts : front ++ es ≡ all) (new : List ℕ) (count : length new ≡ length (take (192 + g.len) laid))
@@ -77,21 +60,21 @@ module _ (g : Grid) (es : List Entry) (stands : Stands g es) (window part : List
     full = new ++ post_of 0 (192 + g.len) laid
 
     clear : (p : ℕ) → 192 + g.len ≤ p → p < 8640 → get_or full p 0 ≡ 0
-    clear p from upto = search (rules, arith, get_or-append_right, laid, size, get_or-drop, behind)
+    clear p from upto =
+        let zero : get_or laid p 0 ≡ 0 = place p upto ∙ none p (λ i inside at. omega arith) in
+        search (rules, arith, get_or-append_right, laid, size, get_or-drop, zero)
 
     pairs : (rows k : ℕ) → g.len ≤ 16 * rows → 16 * rows ≤ 4096 → 0 < k → k ≤ 192 → IsSpaced 0 all
         → sum_by (λ q. get_or full (192 - k + q) 0 * get_or g.seconds q 0) (range_with_len 0 (16 * rows)) ≡ paired k front es
     pairs rows k enough few some upto spaced =
         range_agree _ (λ q. get_or full (192 - k + (g.base + q - g.base)) 0 * weight_at Second 0 g.base q es) (16 * rows)
-        (λ q inside. let same : g.base + q - g.base ≡ q = omega arith in rw (same, stands.seconds q (omega (arith, inside))) refl)
+        (λ q inside. search (rules, arith, stands.seconds))
         ∙ by_bins (λ i. get_or full (192 - k + (i - g.base)) 0) Second g.base 0 (16 * rows) es
         ∙ sum_by-agree Inside _ (λ e. weight_before k e.index all * e.b) es stands.within
         (λ e at.
         let near : (leb (g.base + 0) e.index && ltb e.index (g.base + 0 + 16 * rows)) ≡ true = grind (arith, nat_tests, at, enough) in
         let place : 192 - k + (e.index - g.base) ≡ e.index - g.base + (192 - k) = omega arith in
-        let inside : e.index - g.base + (192 - k) < length new = omega (arith, at, size) in
-        rw near (ap (λ n. n * e.b) (rw place (get_or_append_left new (post_of 0 (192 + g.len) laid) 0 (e.index - g.base + (192 - k)) inside
-        ∙ window-before First new g.base 192 all all_weights k e.index upto at.0 inside))))
+        rw (near, place) (search (rules, arith, get_or_append_left, window-before First new g.base 192 all all_weights k e.index, size)))
         ∙ sym (paired-all k all front es some parts (spaced_back 0 front es (rw parts spaced)))
 
 pub put_firsts-requires-clause-fit : goal.put_firsts-requires-clause-fit

@@ -1,5 +1,5 @@
 use Rattle.std.{proofs.Common.{rules}, proofs.Common.{◌≡◌, ◌+◌, ◌<◌, [], ◌∷◌, ◌++◌, length, map, take, drop, refl, arith, slice_set}, proofs.Props.props, proofs.Math.Seq.{take-append_seam, drop-append_seam}, proofs.Math.Logic.{∥∥₁_map, ∥∥₁_elim}, proofs.lemmas.List.{take_more_set, length-take-le, length-set}}
-use Rattle.tau_cascade.{specs.Bins.{raised}, proofs.{Closes.{finish_open, finish_shut}, Follows.raised-none, Spread.{spaced-prop, spaced_join}}, proofs.level.Level.end.Goals.{After-lay_out-from}, proofs.level.Level.end.Given.{Over}}
+use Rattle.tau_cascade.{specs.Bins.{raised}, proofs.{Follows.{raised-none, finish_open, finish_shut}, Spread.{spaced-prop, spaced_join}}, proofs.level.Level.end.Goals.{After-lay_out-from}, proofs.level.Level.end.Given.{Over}}
 use Rattle.tau_cascade.proofs.level.Level.end.Goals as goal
 
 inside : (g : Over) (c : After-lay_out-from g) → c.lay_out-from.result < length c.lay_out-from.new.list
@@ -12,24 +12,22 @@ put g c = rw (raised-none, take_more_set c.lay_out-from.new.list c.lay_out-from.
 alone : (g : Over) (c : After-lay_out-from g) → drop c.lay_out-from.result (map (raised 0) (take (c.lay_out-from.result + 1) (slice_set c.lay_out-from.new.list c.lay_out-from.result c.in-Some.last))) ≡ c.in-Some.last ∷ []
 alone g c = rw (put g c, c.lay_out-from.ensures.count) (drop-append_seam c.args.self.now.ring.entries (c.in-Some.last ∷ []))
 
-pub shut-requires-clause-list : goal.shut-requires-clause-list
-shut-requires-clause-list g c =
-    let at' = (goal.at.shut-requires-clause-list g c).After-lay_out-from in (
-      omega arith,
-      rw (put g at') (∥∥₁_elim c.requires.stands (spaced-prop _) (λ w.
-          spaced_join _ c.in-Some.last [] w.2.was.ring.rising (w.2.was.ring.keeps.bounded _ (finish_open _ _ _ _ c.in-Some.is _ _ w.2).1) (tt, tt))),
-      rw (put g at', c.lay_out-from.ensures.count) (take-append_seam c.args.self.now.ring.entries (c.in-Some.last ∷ [])),
-      λ none. absurd (omega arith),
-    )
-
-pub shut-requires-clause-room : goal.shut-requires-clause-room
-shut-requires-clause-room g c =
-    let few = inside g (goal.at.shut-requires-clause-room g c).After-lay_out-from in
-    search (rules, arith, length-take-le, length-set)
-
-pub shut-requires-clause-stands : goal.shut-requires-clause-stands
-shut-requires-clause-stands g c =
-    rw (alone g (goal.at.shut-requires-clause-stands g c).After-lay_out-from) (∥∥₁_map c.requires.stands (λ w. (w.0, w.1, finish_shut _ _ _ _ c.in-Some.is _ _ w.2)))
+pub shut-requires : goal.shut-requires
+shut-requires g c =
+    let at' = (goal.at.shut-requires g c).After-lay_out-from in
+    let few = inside g at' in
+    record {
+      list = (
+        omega arith,
+        rw (put g at') (∥∥₁_elim c.requires.stands (spaced-prop _) (λ w.
+            spaced_join _ c.in-Some.last [] w.2.was.ring.rising (w.2.was.ring.keeps.bounded _ (finish_open _ _ _ _ c.in-Some.is _ _ w.2).1) (tt, tt))),
+        rw (put g at', c.lay_out-from.ensures.count) (take-append_seam c.args.self.now.ring.entries (c.in-Some.last ∷ [])),
+        λ none. absurd (omega arith),
+      );
+      room = search (rules, arith, length-take-le, length-set);
+      grid = search (rules, arith);
+      stands = rw (alone g at') (∥∥₁_map c.requires.stands (λ w. (w.0, w.1, finish_shut _ _ _ _ c.in-Some.is _ _ w.2)));
+    }
 
 pub returns-in-Some-clause-follows : goal.returns-in-Some-clause-follows
 returns-in-Some-clause-follows g c = λ closed open' can.

@@ -1,7 +1,7 @@
 use Rattle.std.{proofs.Common.{◌≤◌, length, drop, map}, specs.List.{AllByRecursion}}
 use Rattle.lag_ring.specs.declared.ring.Entry.{Entry}
 use Rattle.tau_cascade.specs.Bins.{raised}
-use Rattle.tau_cascade.proofs.level.first_kept.Given as goal
+use Rattle.tau_cascade.proofs.bins.first_kept.Given as goal
 
 abbrev pub invariant-back : goal.invariant-back
 invariant-back l = record {

@@ -1,6 +1,6 @@
 use Rattle.std.{proofs.Common.{◌≡◌, ◌-◌, suc, map, rules, arith}, proofs.lemmas.List.{get_or-map, length-map}}
 use Rattle.tau_cascade.{proofs.Close.no_bin, specs.Bins.raised, proofs.Keeping.kept_from, proofs.Spread.spaced_before}
-use Rattle.tau_cascade.proofs.level.first_kept.Goals as goal
+use Rattle.tau_cascade.proofs.bins.first_kept.Goals as goal
 
 pub returns-then-bins-start-clause-left : goal.returns-then-bins-start-clause-left
 returns-then-bins-start-clause-left c =
