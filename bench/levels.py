@@ -7,7 +7,7 @@ prints, for each photon of the two inputs,
 - the closings: how often the bin of a level was closed, once for each occupied bin;
 - the pairs of bins: of a closing bin with photons of the second input and an occupied bin at a lag of its level;
 - the additions, which are the steps that the contracts count (`spent`): ptu adds the pairs of a list at one lag
-  together, once for each lag, and none where no two bins are in reach of one another. They are counted here by going
+  together, once for each lag, and none where the distance that goes with a list is out of reach. They are counted here by going
   through the file as the program does: by pieces of 8,192 bytes, blocks of 64 records, blocks of up to 1,024 events that
   its tables are given, and lists of bins from level to level;
 - the bound on additions, `work`: lags times the occupied bins of level 0, and half of that for each level above;
