@@ -11,3 +11,4 @@ pub mod Together
 pub mod CellRows
 pub mod Passed
 pub mod Picked
+pub mod Before

@@ -15,7 +15,7 @@ by_weights set c later es =
 same_tick : (set : CoincidenceView) (c n : ℕ) → is_in_cell set c n n ≡ eqb (set.reach / set.width) c
 same_tick set c n = search (rules, arith)
 
-filter_none : {X : Type 0} (p : X → Bool) (xs : List X) → AllByRecursion (λ x. p x ≡ false) xs → filter p xs ≡ []
+pub filter_none : {X : Type 0} (p : X → Bool) (xs : List X) → AllByRecursion (λ x. p x ≡ false) xs → filter p xs ≡ []
 filter_none p [] all = refl
 filter_none p (x ∷ xs) all = rw all.0 (filter_none p xs all.1)
 

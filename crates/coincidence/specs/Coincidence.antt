@@ -15,7 +15,7 @@ settings t = CoincidenceSettings (coincidence_view t.set)
 abbrev pub Holds : Coincidence → History → Type 0
 Holds t h = StandsFor t.closed (coincidence_view t.set) t.pairing t.taken t.floor h
 
--- how many entries it keeps: the cells, the closed bins in reach, and an open bin, which has one more number than an entry
+-- how many entries it keeps: its lists, which are the cells and the closed bins in reach, and an open bin, which has one more number than an entry
 abbrev pub held : Coincidence → ℕ
 held t = length t.pairing.cells.cells + length t.pairing.ring.entries + (if is_some t.pairing.open then 2 else 0)
 

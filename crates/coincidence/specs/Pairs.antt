@@ -1,5 +1,5 @@
 -- The pairs of photons of two groups by the difference of their times.
-use Rattle.std.{specs.Prelude.{ℕ, ◌+◌, ◌-◌, ◌*◌, ◌/◌, Bool, false, not, ◌&&◌, ◌||◌, ◌==◌, nat_le, List, Option, None, Some, length, filter, count_by, sum_by}, specs.List.{range_with_len, slice_get}}
+use Rattle.std.{specs.Prelude.{ℕ, ◌+◌, ◌-◌, ◌*◌, ◌/◌, Bool, false, not, ◌&&◌, ◌||◌, ◌==◌, nat_le, nat_lt, List, Option, None, Some, length, filter, count_by, sum_by}, specs.List.{range_with_len, slice_get}}
 use Rattle.tally_base.{specs.declared.event.Event.Event, specs.Events.{is_photon, is_in}, specs.Settings.CoincidenceView, specs.Tally.History}
 
 abbrev pub in_first : CoincidenceView → Event × ℕ → Bool
@@ -41,6 +41,10 @@ coincidences set c h = pairs_apart (is_coincidence set c) h
 -- the photons of either group
 abbrev pub photons_of_groups : CoincidenceView → History → History
 photons_of_groups set h = filter (λ x. in_first set x || in_second set x) h
+
+-- those that come before the tick of the last of them
+abbrev pub before_last : History → History
+before_last xs = filter (λ x. nat_lt 0 (count_by (λ y. nat_lt x.0.time y.0.time) xs)) xs
 
 -- how many additions a table of these events may make: for each photon two for each tick before it in reach, and one for its own
 abbrev pub work : CoincidenceView → History → ℕ

@@ -2,12 +2,13 @@
 ghost use Rattle.std.{specs.Prelude.{◌≡◌, ℕ, ◌+◌, ◌-◌, ◌^◌, ◌<◌, ◌≤◌, ◌++◌, [], IsTrue, length, slice_index, sum_by}, specs.List.{AllByRecursion}};
 ghost use Rattle.tally_base.{specs.Settings.{coincidence_view, coincidence_cells}, specs.Tally.History};
 ghost use Rattle.lag_ring.{specs.Ring.IsRising, specs.Bytes.{weight_of, IsLight}, specs.Cells.Spends};
+ghost use Rattle.arrayvec.specs.ArrayVec.{array_vec_len};
 ghost use Rattle.coincidence.{specs.Pairing.{RingIs, CellsAre, bin_pairs, CanKeep, HasRoom, CountsMore}, specs.Closing.{weights_in, BinsAre, CanKeepAll, CanShutAll, FitsWindow, Reaches}};
 
 use crate::lags::{TOP, are_near, pair_lags};
 use crate::pairing::{Bin, keep, least_kept, pair_inside, shut};
 use arrayvec::ArrayVec;
-use lag_ring::{Entry, LagRing, MOST_SPOTS, RowCells, Side, total_weight, weight_bound};
+use lag_ring::{Entry, LagRing, MOST_SPOTS, PairCells, Side, total_weight, weight_bound};
 use std::sync::ledger::Ledger;
 use tally_base::{CoincidenceSet, Steps, TABLE_BLOCK};
 
@@ -20,16 +21,16 @@ const SOME: usize = 8;
 /// No bin has an index from here on.
 const END: u64 = 1 << 63;
 
-/// The entries of bins.
-fn weights_of(bins: &[Bin]) -> ArrayVec<Entry, TABLE_BLOCK>
+/// Puts the entries of bins into an empty list.
+#[inline(always)]
+fn put_weights(entries: &mut ArrayVec<Entry, TABLE_BLOCK>, bins: &[Bin])
     requires few { length bins.now ≤ TABLE_BLOCK }
-    ensures { result.items ≡ weights_in bins.now }
+    requires empty { (entries.old.items ≡ []) × (array_vec_len entries.old ≡ 0) }
+    ensures { entries.new.items ≡ weights_in bins.now }
 {
-    let mut entries = ArrayVec::new();
     for bin in bins {
         entries.push(bin.weights);
     }
-    entries
 }
 
 /// A number that no weight of the entries in a ring and of later ones is above. It is not 0.
@@ -95,7 +96,7 @@ fn forget(ring: &mut LagRing, set: &CoincidenceSet, index: u64)
 /// are removed at the end, all at once, or before that where a bin has no place.
 fn keep_all<L: Ledger>(
     ring: &mut LagRing,
-    cells: &mut RowCells,
+    cells: &mut PairCells,
     set: &CoincidenceSet,
     bins: &[Bin],
     steps: &mut Steps<L>,
@@ -124,7 +125,7 @@ fn keep_all<L: Ledger>(
 /// Pairs bins over a window, and puts them among the closed ones.
 fn shut_together<L: Ledger>(
     ring: &mut LagRing,
-    cells: &mut RowCells,
+    cells: &mut PairCells,
     set: &CoincidenceSet,
     low: u64,
     bins: &[Bin],
@@ -153,7 +154,7 @@ fn shut_together<L: Ledger>(
 /// Pairs bins one by one, and puts them among the closed ones.
 fn shut_each<L: Ledger>(
     ring: &mut LagRing,
-    cells: &mut RowCells,
+    cells: &mut PairCells,
     set: &CoincidenceSet,
     bins: &[Bin],
     steps: &mut Steps<L>,
@@ -176,7 +177,7 @@ fn shut_each<L: Ledger>(
 /// Pairs many bins, over a window where they fit it, and puts them among the closed ones.
 fn shut_many<L: Ledger>(
     ring: &mut LagRing,
-    cells: &mut RowCells,
+    cells: &mut PairCells,
     set: &CoincidenceSet,
     low: u64,
     bins: &[Bin],
@@ -193,7 +194,8 @@ fn shut_many<L: Ledger>(
         → CellsAre (coincidence_view set.now) cells.new (closed ++ xs) }
     ensures steps { steps.new + cells.old.added ≡ steps.old + cells.new.added }
 {
-    let later = weights_of(bins);
+    let mut later = ArrayVec::new();
+    put_weights(&mut later, bins);
     let most = weight_bound_of(ring, &later);
     if fits_window(set, ring, low, &later, most) {
         shut_together(ring, cells, set, low, bins, &later, most as usize, steps);
@@ -205,7 +207,7 @@ fn shut_many<L: Ledger>(
 /// Pairs bins that are near one another, and puts them among the closed ones.
 fn shut_part<L: Ledger>(
     ring: &mut LagRing,
-    cells: &mut RowCells,
+    cells: &mut PairCells,
     set: &CoincidenceSet,
     bins: &[Bin],
     steps: &mut Steps<L>,
@@ -245,7 +247,7 @@ fn near_first(bins: &[Bin]) -> usize
 /// Pairs bins, and puts them among the closed ones: as many at once as a window has places for.
 pub(crate) fn shut_all<L: Ledger>(
     ring: &mut LagRing,
-    cells: &mut RowCells,
+    cells: &mut PairCells,
     set: &CoincidenceSet,
     bins: &[Bin],
     steps: &mut Steps<L>,

@@ -15,6 +15,8 @@ use tally_base::{Block, CoincidenceSet, Steps, TABLE_BLOCK, Tally};
 /// Differences from `-reach` to `reach` ticks count, both included. Cell c counts the pairs where the
 /// difference and the reach together are `c * width` ticks or more and fewer than `(c + 1) * width`. A
 /// photon in both groups makes a pair with each other photon of a group, and none with itself.
+///
+/// The lists that it keeps: the cells and the ring of its pairing.
 #[derive(Drop)]
 pub struct Coincidence {
     set: CoincidenceSet,
@@ -28,7 +30,7 @@ pub struct Coincidence {
 }
 
 impl Coincidence {
-    ghost use Rattle.coincidence.{specs.Coincidence.{Holds, set_of, settings, cells_in, spent_by}, specs.Pairs.{coincidences, work}};
+    ghost use Rattle.coincidence.{specs.Coincidence.{Holds, set_of, settings, cells_in, spent_by}, specs.Pairs.{coincidences, before_last, photons_of_groups, work}};
 
     /// A table of no events, with all the memory that it ever takes, or `AllocError` where it is wanting.
     pub fn open(alloc: Global, set: CoincidenceSet) -> Result<Coincidence, AllocError>
@@ -64,12 +66,16 @@ impl Coincidence {
     }
 
     /// How many pairs cell `at` counts, which is below the number of cells. Before the table is closed,
-    /// those of the open bin are left out. The additions to all cells are within the work of the events.
+    /// those of the last tick that had a photon of either group are left out. The additions to all cells are
+    /// within the work of the events.
     pub fn cell(&self, at: u32) -> u128
         requires inside { at < coincidence_cells (coincidence_view (set_of self.now)) }
         ensures pairs { ⟦<Coincidence as Tally>⟧.closed self.now ≡ true
             → (h : History) → Holds self.now h
             → result ≡ coincidences (coincidence_view (set_of self.now)) at h }
+        ensures before { ⟦<Coincidence as Tally>⟧.closed self.now ≡ false
+            → (h : History) → Holds self.now h → result ≡ coincidences (coincidence_view (set_of self.now)) at
+            (before_last (photons_of_groups (coincidence_view (set_of self.now)) h)) }
         ensures place { slice_index (cells_in self.now).cells at ≡ result }
         ensures work { (h : History) → Holds self.now h
             → spent_by self.now ≤ work (coincidence_view (set_of self.now)) h }

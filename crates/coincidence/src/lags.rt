@@ -5,7 +5,7 @@ ghost use Rattle.lag_ring.{specs.Cells.Spends, specs.Bytes.{BothFit, BothHave, S
 ghost use Rattle.coincidence.{specs.declared.pairing.Direction.TheVariants.{Forward, Backward}, specs.Pairing.{HasRoom, CountsMore}, specs.Closing.{earlier_side, later_side, strip_sum, window_sum, lag_sum, both_lag_sums, FitsWindow, IsOpenFor, IsLow, IsEmpty, Weighs}};
 
 use crate::pairing::{Direction, add_pairs};
-use lag_ring::{BYTE_LAGS, Entry, LagRing, RowCells, Side, byte_lag_sums, put_bytes, spots_of};
+use lag_ring::{BYTE_LAGS, Entry, LagRing, PairCells, Side, byte_lag_sums, put_bytes, spots_of};
 use std::sync::ledger::Ledger;
 use tally_base::{CoincidenceSet, Steps};
 
@@ -33,7 +33,7 @@ pub(crate) struct Places {
 /// where a cell is one tick. That of a lag stands at `least + BYTE_LAGS - lag`.
 #[inline(always)]
 fn add_single_ticks<L: Ledger>(
-    cells: &mut RowCells,
+    cells: &mut PairCells,
     set: CoincidenceSet,
     direction: Direction,
     least: u32,
@@ -61,7 +61,7 @@ fn add_single_ticks<L: Ledger>(
 /// The same, where a cell is any number of ticks.
 #[inline(always)]
 fn add_groups<L: Ledger>(
-    cells: &mut RowCells,
+    cells: &mut PairCells,
     set: CoincidenceSet,
     direction: Direction,
     least: u32,
@@ -88,7 +88,7 @@ fn add_groups<L: Ledger>(
 /// of a lag stands at `least + BYTE_LAGS - lag`.
 #[inline(always)]
 fn add_sums<L: Ledger>(
-    cells: &mut RowCells,
+    cells: &mut PairCells,
     set: CoincidenceSet,
     direction: Direction,
     least: u32,
@@ -115,7 +115,7 @@ fn add_sums<L: Ledger>(
 /// before them.
 #[inline(always)]
 fn pair_strip<L: Ledger>(
-    cells: &mut RowCells,
+    cells: &mut PairCells,
     set: CoincidenceSet,
     direction: Direction,
     least: u32,
@@ -143,7 +143,7 @@ fn pair_strip<L: Ledger>(
 
 /// Pairs photons at some spots with what stands in the window before them, at all lags in reach.
 fn pair_window<L: Ledger>(
-    cells: &mut RowCells,
+    cells: &mut PairCells,
     set: CoincidenceSet,
     direction: Direction,
     top: u32,
@@ -203,7 +203,7 @@ pub(crate) fn are_near(low: u64, ticks: u32, later: &[Entry]) -> bool
 /// Pairs later entries with those before them over a window of one group, in one direction.
 #[inline(always)]
 fn pair_side<L: Ledger>(
-    cells: &mut RowCells,
+    cells: &mut PairCells,
     ring: &LagRing,
     set: CoincidenceSet,
     direction: Direction,
@@ -232,7 +232,7 @@ fn pair_side<L: Ledger>(
 
 /// Pairs later entries with those before them, over two empty windows.
 fn pair_over<L: Ledger>(
-    cells: &mut RowCells,
+    cells: &mut PairCells,
     ring: &LagRing,
     set: CoincidenceSet,
     later: &[Entry],
@@ -268,7 +268,7 @@ fn pair_over<L: Ledger>(
 
 /// Pairs later entries with those before them.
 pub(crate) fn pair_lags<L: Ledger>(
-    cells: &mut RowCells,
+    cells: &mut PairCells,
     ring: &LagRing,
     set: CoincidenceSet,
     low: u64,

@@ -4,7 +4,7 @@ ghost use Rattle.tally_base.{specs.Settings.{coincidence_view, coincidence_cells
 ghost use Rattle.lag_ring.specs.Cells.{Spends};
 ghost use Rattle.coincidence.specs.Pairing.{pairs_of, pairs_of_all, pairs_with, bin_pairs, pairing_of, RingIs, CellsAre, CanKeep, CanShut, CanPut, Puts, HasRoom, CountsMore};
 
-use lag_ring::{Entry, LagRing, RowCells};
+use lag_ring::{Entry, LagRing, PairCells};
 use std::alloc::{AllocError, Global};
 use std::sync::ledger::Ledger;
 use tally_base::{CoincidenceSet, Steps};
@@ -94,7 +94,7 @@ impl Direction {
 pub struct Pairing {
     pub open: Option<Bin>,
     pub ring: LagRing,
-    pub cells: RowCells,
+    pub cells: PairCells,
 }
 
 /// How many cells the differences take.
@@ -135,7 +135,7 @@ pub(crate) fn least_kept(set: &CoincidenceSet, index: u64) -> u64
 /// difference.
 #[inline(always)]
 pub(crate) fn add_pairs<L: Ledger>(
-    cells: &mut RowCells,
+    cells: &mut PairCells,
     set: CoincidenceSet,
     shifted: u32,
     earlier: u64,
@@ -157,7 +157,7 @@ pub(crate) fn add_pairs<L: Ledger>(
 /// one another.
 #[inline(always)]
 fn pair_earlier<L: Ledger>(
-    cells: &mut RowCells,
+    cells: &mut PairCells,
     set: CoincidenceSet,
     direction: Direction,
     index: u64,
@@ -189,7 +189,7 @@ fn pair_earlier<L: Ledger>(
 /// Pairs the photons of earlier entries with so many at a later tick.
 #[inline(always)]
 fn pair_direction<L: Ledger>(
-    cells: &mut RowCells,
+    cells: &mut PairCells,
     set: CoincidenceSet,
     direction: Direction,
     index: u64,
@@ -215,7 +215,7 @@ fn pair_direction<L: Ledger>(
 /// Pairs the photons of an entry with those of earlier ones, group by group.
 #[inline(always)]
 fn pair_groups<L: Ledger>(
-    cells: &mut RowCells,
+    cells: &mut PairCells,
     set: CoincidenceSet,
     later: &Entry,
     entries: &[Entry],
@@ -238,7 +238,7 @@ fn pair_groups<L: Ledger>(
 /// inlined, so that its loops test no width.
 #[inline(always)]
 fn pair_single_ticks<L: Ledger>(
-    cells: &mut RowCells,
+    cells: &mut PairCells,
     set: CoincidenceSet,
     later: &Entry,
     entries: &[Entry],
@@ -258,7 +258,7 @@ fn pair_single_ticks<L: Ledger>(
 
 /// Pairs the photons of an entry with those of earlier ones.
 fn pair_entries<L: Ledger>(
-    cells: &mut RowCells,
+    cells: &mut PairCells,
     set: &CoincidenceSet,
     later: &Entry,
     entries: &[Entry],
@@ -282,7 +282,7 @@ fn pair_entries<L: Ledger>(
 
 /// Pairs the photons of a bin with one another, and none with itself.
 pub(crate) fn pair_inside<L: Ledger>(
-    cells: &mut RowCells,
+    cells: &mut PairCells,
     set: &CoincidenceSet,
     bin: &Bin,
     steps: &mut Steps<L>,
@@ -303,7 +303,7 @@ pub(crate) fn pair_inside<L: Ledger>(
 
 /// Pairs the photons of a bin with one another, and with those of the closed bins.
 fn pair<L: Ledger>(
-    cells: &mut RowCells,
+    cells: &mut PairCells,
     ring: &LagRing,
     set: &CoincidenceSet,
     bin: &Bin,
@@ -344,7 +344,7 @@ pub(crate) fn keep(ring: &mut LagRing, set: &CoincidenceSet, bin: &Bin)
 #[inline(always)]
 fn begin<L: Ledger>(
     ring: &mut LagRing,
-    cells: &mut RowCells,
+    cells: &mut PairCells,
     set: &CoincidenceSet,
     bin: &Bin,
     steps: &mut Steps<L>,
@@ -368,7 +368,7 @@ fn begin<L: Ledger>(
 /// these.
 fn append<L: Ledger>(
     ring: &mut LagRing,
-    cells: &mut RowCells,
+    cells: &mut PairCells,
     set: &CoincidenceSet,
     bin: &Bin,
     steps: &mut Steps<L>,
@@ -392,7 +392,7 @@ fn append<L: Ledger>(
 #[inline(always)]
 pub(crate) fn shut<L: Ledger>(
     ring: &mut LagRing,
-    cells: &mut RowCells,
+    cells: &mut PairCells,
     set: &CoincidenceSet,
     bin: &Bin,
     steps: &mut Steps<L>,
@@ -422,7 +422,7 @@ pub(crate) fn shut<L: Ledger>(
 pub(crate) fn put<L: Ledger>(
     waiting: Option<Bin>,
     ring: &mut LagRing,
-    cells: &mut RowCells,
+    cells: &mut PairCells,
     set: &CoincidenceSet,
     bin: Bin,
     steps: &mut Steps<L>,
@@ -458,7 +458,7 @@ impl Pairing {
         Ok(Pairing {
             open: None,
             ring: LagRing::open(alloc, set.reach)?,
-            cells: RowCells::open(alloc, cells_of(set))?,
+            cells: PairCells::open(alloc, cells_of(set))?,
         })
     }
 

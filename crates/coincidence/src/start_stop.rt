@@ -15,6 +15,8 @@ use tally_base::{Block, StartStopSet, Steps, TABLE_BLOCK, Tally};
 /// the start group and the second in the stop group. So a photon of both groups ends one interval and
 /// begins the next. Bin b counts the intervals of `b * width` ticks or more and fewer than
 /// `(b + 1) * width`. What lies past the last bin is counted in one number, `over`.
+///
+/// The lists that it keeps: `cells`.
 #[derive(Drop)]
 pub struct StartStop {
     set: StartStopSet,
@@ -87,6 +89,7 @@ impl Tally for StartStop {
 
     ghost floor = { λ t. t.floor };
 
+    // Its list, `over`, and the start.
     ghost held = { λ t. length t.cells.items + 2 };
 
     ghost settings = { settings };

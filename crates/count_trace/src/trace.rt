@@ -13,6 +13,8 @@ use tally_base::{Block, Steps, TABLE_BLOCK, Tally, TraceSet};
 /// Bin b counts the times from `origin + b * width` on and below `origin + (b + 1) * width`. What comes
 /// before the origin is counted in one number, `before`, and what comes past the last bin in another,
 /// `beyond`.
+///
+/// The lists that it keeps: `cells`.
 #[derive(Drop)]
 pub struct Trace {
     set: TraceSet,
@@ -99,6 +101,7 @@ impl Tally for Trace {
     ghost floor = { λ t. t.floor };
 
     // The bin of the last event is an entry, beside the cells and the two rest counts.
+    // Its list, `before` and `beyond`, and the bin that it is in.
     ghost held = { λ t. length t.cells.items + 3 };
 
     ghost settings = { settings };

@@ -14,7 +14,7 @@ part_of cells i cell = byte_in cells.bytes.items (i * cells.size + cell)
 abbrev pub width_of_each : Cells → ℕ
 width_of_each cells = cells.wide
 
--- how many entries of eight bytes are kept
+-- how many entries of eight bytes are in the one list
 abbrev pub entries_of : Cells → ℕ
 entries_of cells = length cells.bytes.items
 

@@ -18,6 +18,8 @@ use tally_base::{Block, CubeSet, Steps, TABLE_BLOCK, Tally};
 /// from `b * dwidth` on and below `(b + 1) * dwidth`. The photons of the group that have no place in the
 /// image are counted in one number, `outside`, and those that have one and a dtime past the last bin in
 /// another, `over`. Times are sync periods, dtimes are ticks.
+///
+/// The lists that it keeps: the bytes of the cells of `counts`.
 #[derive(Drop)]
 pub struct FlimCube {
     bins: Bins,
@@ -108,8 +110,7 @@ impl Tally for FlimCube {
 
     ghost floor = { λ t. t.floor };
 
-    // The time and the row of the line and the row of the next line are entries, beside those that hold the
-    // bytes of the counts and the two rest counts.
+    // Its list, by eight bytes, the two rest counts, the time and the row of the line, and the row of the next line.
     ghost held = { λ t. entries_of t.counts.cells + 5 };
 
     ghost settings = { settings };

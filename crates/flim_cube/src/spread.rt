@@ -9,6 +9,8 @@ use std::alloc::{AllocError, Global};
 /// The lowest bytes of all counts stand together, behind them the second bytes of all, and so on. Bytes that
 /// no count has come to yet aren't there, and stand for 0. So as long as no count is above 255, counting
 /// touches an eighth of the room alone.
+///
+/// The lists that it keeps: `bytes`.
 #[derive(Drop)]
 pub(crate) struct Cells {
     // The bytes one after the other, eight in an entry.

@@ -21,7 +21,7 @@ pub record Holds (t : Fold) (h : History) : Type 0 where
   pub taken : t.taken ≡ length h
   pub floor : t.floor ≡ greatest_time false h
 
--- how many entries it keeps: the cells, the closed bins in the window, and the open bin
+-- how many entries it keeps: its lists, which are the cells and the closed bins in the window, and the open bin
 abbrev pub held : Fold → ℕ
 held t = length t.cells.items + length t.ring.entries + 1
 

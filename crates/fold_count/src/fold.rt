@@ -14,6 +14,8 @@ use tally_base::{Block, FoldSet, Steps, TABLE_BLOCK, Tally};
 ///
 /// A set of groups is a number: bit k - 1 is set for the k-th group of the fold. A window ends `window`
 /// ticks after the photon, that tick included.
+///
+/// The lists that it keeps: `cells` and `ring`. That of the groups in `set` is of fixed size.
 #[derive(Drop)]
 pub struct Fold {
     set: FoldSet,

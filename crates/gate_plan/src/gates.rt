@@ -13,7 +13,8 @@ use arrayvec::ArrayVec;
 use plan_text::Plan;
 use tally_base::{Event, EventKind, Group, ShiftSet};
 
-/// The shifts and the groups of a plan, which sort events.
+/// The shifts and the groups of a plan, which sort events. Its lists and arrays are settings, of fixed size whatever the
+/// file, and so are those of `Gated` and `OnlyGate`: nothing that is held is counted of them.
 #[derive(Drop)]
 pub struct Gates {
     period: u32,

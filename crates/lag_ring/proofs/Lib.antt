@@ -3,4 +3,4 @@ pub mod Lists
 pub mod Sums
 pub mod Between
 pub mod Kept
-pub mod Wholes
+pub mod Carries

@@ -10,6 +10,8 @@ use std::marker::Model;
 /// Entries of rising indices, never more of them than the reach.
 ///
 /// Contracts see a list of entries, and the reach.
+///
+/// The lists that it keeps: `kept`.
 #[derive(Drop)]
 pub(crate) struct Buffered {
     kept: HeapCircularBuffer<Entry>,

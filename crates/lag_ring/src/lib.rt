@@ -6,9 +6,7 @@
 mod buffer;
 mod bytes;
 mod cells;
-mod parts;
 mod ring;
-mod rows;
 mod window;
 
 pub use bytes::{
@@ -16,5 +14,4 @@ pub use bytes::{
 };
 pub use cells::PairCells;
 pub use ring::{Entry, LagRing};
-pub use rows::RowCells;
 pub use window::{Side, total_weight};

@@ -34,6 +34,8 @@ impl Default for Entry {
 ///
 /// Contracts see a list of entries, and the reach. A ring that began anew has its only entry beside
 /// the buffer, which is empty until another comes.
+///
+/// The lists that it keeps: the buffer.
 #[derive(Drop)]
 pub struct LagRing {
     kept: Buffered,

@@ -23,7 +23,7 @@ was_begun t = t.begun
 abbrev pub is_going : LongTrace → Bool
 is_going t = t.going
 
--- How many entries it keeps: the frequencies and the number beside them, the number of the newest bin, where it begins and its count, how many photons came before the origin, and how many events came, with their greatest time.
+-- How many entries it keeps: its array, which is the frequencies, and the number beside them, the number of the newest bin, where it begins and its count, how many photons came before the origin, and how many events came, with their greatest time.
 abbrev pub held : LongTrace → ℕ
 held t = length t.closed.frequencies + 7
 

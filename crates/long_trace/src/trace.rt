@@ -19,6 +19,8 @@ use tally_base::{Block, Event, Failed, Fault, TABLE_BLOCK, TraceSet, floor_behin
 /// many photons came before the origin, and for each count below 1,024 how many bins have it, of those up to
 /// the last that isn't empty; those of a greater count are counted in one number. How much it keeps doesn't
 /// depend on the file. `start` is called first and once, and nothing behind a refused call.
+///
+/// The lists and arrays that it keeps: the frequencies of `closed`.
 #[derive(Drop)]
 pub struct LongTrace {
     set: TraceSet,

@@ -36,6 +36,8 @@ pub enum Phase {
 
 /// Reads a header step by step. It never takes more than `HEADER_LIMIT` bytes. Once it has answered
 /// Done or a refusal, it answers the same to each piece and isn't changed.
+///
+/// The lists and arrays that it keeps: `carried`, of at most 48 bytes, and the 8 bytes of `version`.
 #[derive(Drop)]
 pub struct HeaderReader {
     phase: Phase,

@@ -1,10 +1,14 @@
 // Laws of the made file, each as the contract of a function that does nothing.
 ghost use Rattle.std.{specs.Prelude.{◌≡◌, ◌+◌, ◌*◌, ◌≤◌, ℕ, List, [], Ok, false, length, map}, specs.List.{All}};
-ghost use Rattle.tally_base.{specs.declared.event.Policy.Policy, specs.Events.stops_late};
+ghost use Rattle.tally_base.{specs.declared.event.Policy.Policy, specs.declared.slot.Slot.Slot, specs.Events.stops_late};
+ghost use Rattle.bench_io.specs.Memory.{left_of};
 ghost use Rattle.tally_base.specs.declared.header.RecordType.TheVariants as RecordType;
 ghost use Rattle.ptu_definitions.{specs.Headers.header_answer, specs.Layouts.meaning_of, specs.Times.{base, events}, specs.Words.{words_of, rest_of}};
-ghost use Rattle.ptu_made.{specs.Generator.{photon_limit, made_words}, specs.Records.{IsPhotonOrWrap, made_header, made_photons, made_file, made_refusal}};
+ghost use Rattle.ptu_made.{specs.declared.made.Made.Made, specs.Generator.{photon_limit, made_words}, specs.Records.{IsPhotonOrWrap, made_header, made_photons, made_file, made_refusal}};
 ghost use Rattle.minimal_file.specs.ShortFiles.{bytes_in, timed};
+
+use crate::made::Made;
+use bench_io::Inputs;
 
 /// The file has a header of the record type HydraHarp2T2 and 112 bytes, and behind it its words,
 /// four bytes each and no byte more. There are at least as many words as photons, and at most twice as
@@ -33,6 +37,12 @@ pub fn the_words_are_photons()
         ≡ made_photons seed count }
     ensures wraps { (seed count : ℕ)
         → base (map (meaning_of RecordType.HydraHarp2T2) (made_words seed count)) ≤ 512 * count }
+{}
+
+/// A slot that was not opened has nothing left to read, whatever was read of the other.
+pub fn an_unopened_slot_has_nothing_left()
+    ensures { (made : Made) (slot : Slot) → (⟦<Made as Inputs>⟧.state made).opened slot ≡ false
+        → left_of (⟦<Made as Inputs>⟧.state made) slot ≡ [] }
 {}
 
 /// No record is refused of at most 10,000,000 photons, where late events are dropped and the limit

@@ -13,7 +13,8 @@ use tally_base::{Event, EventKind, Failed, Fault, Mode};
 
 /// Writes a file of photons: first its header, and then the photons in order of time. A T2 file has the
 /// record type HydraHarp2T2 and a T3 file HydraHarp2T3. Before a photon come the wraps that lead to its
-/// time. `start` is called first and once, and nothing behind a refused call. It takes no memory.
+/// time. `start` is called first and once, and nothing behind a refused call. It takes no memory, and
+/// keeps no list.
 #[derive(Drop)]
 pub struct Picker {
     mode: Mode,

@@ -15,6 +15,8 @@ use tally_base::{Block, ImageSet, Steps, TABLE_BLOCK, Tally};
 /// The markers before a photon give it a line and a row, and the time since that line gives it a column.
 /// The photons of the group that have no place in the image are counted in one number, `outside`. Times
 /// are sync periods.
+///
+/// The lists that it keeps: the cells of `counts`.
 #[derive(Drop)]
 pub struct Image {
     set: ImageSet,
@@ -90,8 +92,7 @@ impl Tally for Image {
 
     ghost floor = { λ t. t.floor };
 
-    // The time and the row of the line and the row of the next line are entries, beside the cells and the
-    // rest count.
+    // Its list, the rest count, the time and the row of the line, and the row of the next line.
     ghost held = { λ t. length t.counts.cells.items + 4 };
 
     ghost settings = { settings };

@@ -8,7 +8,7 @@ use Rattle.settle.{specs.Settling.IsInOrder, specs.declared.settle.Settle.Settle
 abbrev pub reach_of : Settle → ℕ
 reach_of s = s.reach
 
--- the events that it keeps back, in order of time and then of place
+-- the events that it keeps back, which are its one list, in order of time and then of place
 abbrev pub kept_back : Settle → List Event
 kept_back s = s.waiting.items
 

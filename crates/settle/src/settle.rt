@@ -19,6 +19,8 @@ pub struct Settled {
 
 /// Events that come in about the order of time. The last few are kept back until no event that is not
 /// late can come before them.
+///
+/// The lists that it keeps: `waiting`.
 #[derive(Drop)]
 pub struct Settle {
     reach: u32,

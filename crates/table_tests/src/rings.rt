@@ -2,9 +2,7 @@
 ghost use Rattle.std.{specs.Prelude.{◌≡◌, ◌<◌, IfOk, length}, specs.List.{AllByRecursion}};
 
 use crate::given::holds;
-use lag_ring::{
-    Entry, LagRing, PairCells, RowCells, Side, byte_lag_sums, put_side, spots_of, total_weight,
-};
+use lag_ring::{Entry, LagRing, PairCells, Side, byte_lag_sums, put_side, spots_of, total_weight};
 use std::alloc::Global;
 use std::marker::Brand;
 use std::sync::ledger::{Blank, Ledger};
@@ -160,37 +158,37 @@ fn filled<L: Ledger>(alloc: Global, blank: Blank) -> Result<PairCells, Fail>
 }
 
 /// Cells to which rows were added, upwards and downwards.
-fn rowed<L: Ledger>(alloc: Global, blank: Blank) -> Result<RowCells, Fail>
+fn rowed<L: Ledger>(alloc: Global, blank: Blank) -> Result<PairCells, Fail>
     requires name { blank.name ≡ L.name }
     requires parts { blank.parts ≡ L.parts }
     requires some { 0 < blank.parts }
     ensures { IfOk result (λ cells. length cells.cells ≡ 4) }
 {
     let mut steps = Steps::<L>::new(blank);
-    let mut cells = RowCells::open(alloc, 4)?;
+    let mut cells = PairCells::open(alloc, 4)?;
     cells.add_upwards(1, &[3, 40], &mut steps);
     cells.add_downwards(2, &[500, 6000, 70000], &mut steps);
     Ok(cells)
 }
 
-/// A cell whose low part overflowed when a row was added.
-fn carried<L: Ledger>(alloc: Global, blank: Blank) -> Result<RowCells, Fail>
+/// A cell that passed 64 bits when a row was added.
+fn carried<L: Ledger>(alloc: Global, blank: Blank) -> Result<PairCells, Fail>
     requires name { blank.name ≡ L.name }
     requires parts { blank.parts ≡ L.parts }
     requires some { 0 < blank.parts }
     ensures { IfOk result (λ cells. length cells.cells ≡ 1) }
 {
     let mut steps = Steps::<L>::new(blank);
-    let mut cells = RowCells::open(alloc, 1)?;
-    cells.add(0, (1 << 63) - 1, &mut steps);
+    let mut cells = PairCells::open(alloc, 1)?;
+    cells.add(0, (1 << 64) - 1, &mut steps);
     cells.add_upwards(0, &[7], &mut steps);
     Ok(cells)
 }
 
 #[test]
-fn parts_are_carried(rt: HostRuntime) -> Result<(), Fail> {
+fn a_row_carries(rt: HostRuntime) -> Result<(), Fail> {
     let cells = carried::<Brand>(rt.alloc(), Blank::new(1))?;
-    holds(cells.get(0) == (1 << 63) + 6, "carried")
+    holds(cells.get(0) == (1 << 64) + 6, "carried")
 }
 
 #[test]

@@ -11,6 +11,8 @@ use tally_base::{Block, Divisor, HistSet, Steps, TABLE_BLOCK, Tally};
 ///
 /// Bin b counts the dtimes from `b * width` on and below `(b + 1) * width`. What lies past the last
 /// bin is counted in one number, `over`.
+///
+/// The lists that it keeps: `cells`.
 #[derive(Drop)]
 pub struct Hist {
     set: HistSet,
@@ -136,6 +138,7 @@ impl Tally for Hist {
 
     ghost floor = { λ t. t.floor };
 
+    // Its list, and `over`.
     ghost held = { λ t. length t.cells.items + 1 };
 
     ghost settings = { settings };

@@ -1,7 +1,7 @@
 use Rattle.std.proofs.Common.{◌≡◌, ◌≤◌, take}
 use Rattle.arrayvec.specs.ArrayVec.{array_vec_len}
 use Rattle.coincidence.specs.Closing.{weights_in}
-use Rattle.coincidence.proofs.closing.weights_of.Given as goal
+use Rattle.coincidence.proofs.closing.put_weights.Given as goal
 
 abbrev pub invariant-loop-bin : goal.invariant-loop-bin
 invariant-loop-bin l = record {
