@@ -8,6 +8,7 @@ pub mod Together
 pub mod Close
 pub mod Blocks
 pub mod Passes
+pub mod Few
 pub mod Shown
 pub mod Work
 pub mod Near

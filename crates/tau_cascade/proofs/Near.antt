@@ -31,7 +31,7 @@ kept_one before e [] spaced = search (rules, arith)
 kept_one before e (f ∷ fs) spaced = search (rules, arith, kept_one before (both_of e f) fs, kept_one before f fs spaced.1)
 
 -- the first of the merged bins has the index of the first one, and the last that of the last
-end_one : (e : Entry) (es : List Entry) → (f : Entry) × (fs : List Entry) × (merged e es ≡ f ∷ fs) × (f.index ≡ e.index) × (last_of f.index fs ≡ last_of e.index es)
+pub end_one : (e : Entry) (es : List Entry) → (f : Entry) × (fs : List Entry) × (merged e es ≡ f ∷ fs) × (f.index ≡ e.index) × (last_of f.index fs ≡ last_of e.index es)
 end_one e [] = (e, [], refl, refl, refl)
 end_one e (f ∷ fs) = (elim (eqb e.index f.index) as (λ b. eqb e.index f.index ≡ b → (g : Entry) × (gs : List Entry) × (cond b (merged (both_of e f) fs) (e ∷ merged f fs) ≡ g ∷ gs) × (g.index ≡ e.index) × (last_of g.index gs ≡ last_of f.index fs)) [
   | true ↦ λ one. let rest = end_one (both_of e f) fs in (rest.0, rest.1, rest.2, rest.3, rest.4 ∙ ap (λ n. last_of n fs) (grind arith))

@@ -4,7 +4,7 @@ use Rattle.tau_cascade.{specs.Bins.{raised, IsSpaced}, specs.Dense.{paired, pair
 use Rattle.std.{proofs.Common.{◌≡◌, ℕ, suc, ◌+◌, ◌-◌, ◌/◌, ◌^◌, ◌<◌, ◌≤◌, List, [], ◌∷◌, ◌++◌, length, map, take, drop, get_or, refl, ap, ◌∙◌, subst, add-one, arith, rules, append_assoc, zero}, specs.List.AllByRecursion, proofs.Math.Nat.div-mul-le_self, proofs.lemmas.Nat.{shr-shr, le-div, pow_pos}, proofs.lemmas.List.{take-take, take-map, drop-map, get_or-take, get_or-map, length-map, length-drop, length-take-le, take-append-drop, drop-take, drop-drop}, proofs.lemmas.List.Sums.sum_by-append, proofs.lemmas.Grind.common_steps}
 
 -- a distance, some levels up
-shares : (i d j n : ℕ) → 0 < n → i + d ≤ j → i / n + d / n ≤ j / n
+pub shares : (i d j n : ℕ) → 0 < n → i + d ≤ j → i / n + d / n ≤ j / n
 shares i d j n some apart = le-div (i / n + d / n) j n some (omega (arith, apart, div-mul-le_self i n, div-mul-le_self d n))
 
 pub spaced-raised : (d up : ℕ) (es : List Entry) → IsSpaced d es → IsSpaced (d / 2 ^ up) (map (raised up) es)

@@ -3,7 +3,7 @@ use Rattle.std.{proofs.Common.{rules}, proofs.Common.{◌≡◌, ◌≢◌, ℕ,
 use native.Mathlib.Numerals.{unary_clauses}
 use Rattle.tally_base.{specs.Settings.CorrelationView, specs.Tally.History, specs.Limits.record_limit}
 use Rattle.lag_ring.{specs.declared.ring.Entry.Entry, specs.Ring.{Ring, IsRising}, proofs.Lists.{all_back, all_join, of_some}, proofs.Rising.all_weaker}
-use Rattle.tau_cascade.{specs.declared.level.Level.Level, specs.Correlation.{bin, in_first, in_second}, specs.Levels.{IsBin, OpenIs, RingIs, CellsAre}, specs.Bins.{raised, onto, merged_all, FitCounts, stretch, IsSpaced, Come, Follow, CanShutAll, CanTake, Took}, proofs.Follows.{rest_at, merged_follow, come_weigh, come_merged, stretch_more}, proofs.Passes.{spaced_upto, far_place, spaced-rising, spaced_behind, spaced_take, spaced_drop, spaced_nearer}}
+use Rattle.tau_cascade.{specs.declared.level.Level.Level, specs.Correlation.{bin, in_first, in_second}, specs.Work.occupied, specs.Levels.{IsBin, OpenIs, RingIs, CellsAre, paired_of}, specs.Bins.{raised, onto, merged_all, FitCounts, stretch, IsSpaced, Come, Follow, CanShutAll, CanTake, Took, ComeAlike, near}, proofs.Paired.occupied_all, proofs.Few.near_put, proofs.Follows.{rest_at, merged_follow, come_weigh, come_merged, stretch_more}, proofs.Passes.{spaced_upto, far_place, spaced-rising, spaced_behind, spaced_take, spaced_drop, spaced_nearer}}
 
 -- The entries of a list before others, so many levels down.
 
@@ -80,6 +80,14 @@ spaced_seam d (suc i) (suc k) (e ∷ f ∷ es) some upto on =
     let rest = spaced_seam d i (suc k) (f ∷ es) some upto.1 on in
     simp unary_clauses (rw one (spaced_behind d e.index f (take (k + i) es) upto.0.0 (rw one at rest)), rest)
 
+-- the same of a stretch of a list
+pub seam : (d least start mid n : ℕ) (list : List Entry) → least ≤ d → start ≤ mid → 0 < n → IsSpaced least (take (mid + 1 - start) (drop start list)) → IsSpaced d (take n (drop mid list)) → IsSpaced least (take (mid + n - start) (drop start list))
+seam d least start mid n list less order some upto on =
+    let one : mid + 1 - start ≡ suc (mid - start) = omega arith in
+    let there : start + (mid - start) ≡ mid = omega arith in
+    let size : mid + n - start ≡ n + (mid - start) = omega arith in
+    rw size (spaced_seam least (mid - start) n (drop start list) some (rw one at upto) (rw (drop-drop, there) (spaced_nearer d least (take n (drop mid list)) less on)))
+
 -- some bins of which the last ones, from a place on, are this one together
 pub record IsCut (es : List Entry) (n : ℕ) (last : Entry) : Type 0 where
   pub few : n < length es
@@ -88,17 +96,15 @@ pub record IsCut (es : List Entry) (n : ℕ) (last : Entry) : Type 0 where
   pub a : last.a ≡ sum_by (λ e. e.a) (drop n es)
   pub b : last.b ≡ sum_by (λ e. e.b) (drop n es)
 
--- The open bin of a level and its ring's stand before those that came, in the same list.
-pub record IsPut (levels first count : ℕ) (l : Level) (was new : List Entry) (from start : ℕ) : Type 0 where
+-- The open bin of a level stands before those that came, in the same list.
+pub record IsPut (levels first count : ℕ) (l : Level) (was new : List Entry) (from : ℕ) : Type 0 where
   pub some : 0 < count
   pub inside : first + count ≤ length new
   pub place : from + length (onto l.open []) ≡ first
-  pub ring_place : start + length l.ring.entries ≡ from
   pub bins : map (raised levels) (drop from new) ≡ onto l.open (map (raised levels) (drop first was))
-  pub ring : map (raised levels) (drop start new) ≡ l.ring.entries ++ map (raised levels) (drop from new)
   pub same : drop first new ≡ drop first was
 
-module _ {levels first count : ℕ} {l : Level} {was new : List Entry} {from start : ℕ} (put : IsPut levels first count l was new from start) where
+module _ {levels first count : ℕ} {l : Level} {was new : List Entry} {from : ℕ} (put : IsPut levels first count l was new from) where
   abbrev here : List Entry
   here = take (first + count - from) (drop from new)
 
@@ -127,28 +133,23 @@ module _ {levels first count : ℕ} {l : Level} {was new : List Entry} {from sta
     pub front_here : stretch from n levels new ≡ take n all
     front_here = rw (← front_all, take-take n (first + count - from) (drop from new) upto) refl
 
-    pub put_here : map (raised levels) (take (from + n - start) (drop start new)) ≡ l.ring.entries ++ take n all
-    put_here =
-        let size : from + n - start ≡ length l.ring.entries + n = omega arith in
-        rw (← take-map, put.ring, size, take-append-add, take-map, front_here) refl
+    -- as far apart as those that came, and the first two
+    pub apart_closed : (d least : ℕ) → least ≤ d → IsSpaced d (take count (drop first was)) → IsSpaced least (take (first + 1 - from) (drop from new)) → IsSpaced least (take n (drop from new))
+    apart_closed d least less came upto' =
+        let all' = seam d least from first count new less (omega (arith, put.place)) put.some upto' (rw put.same came) in
+        rw (← take-take n (first + count - from) (drop from new) upto) (spaced_take least n here all')
 
-    pub parts_here : (take (from - start) (map (raised levels) (take (from + n - start) (drop start new))) ≡ l.ring.entries) × (drop (from - start) (map (raised levels) (take (from + n - start) (drop start new))) ≡ take n all)
-    parts_here = (let size : from - start ≡ length l.ring.entries = omega arith in rw (put_here, size) (take-append_seam l.ring.entries (take n all), drop-append_seam l.ring.entries (take n all)))
+    -- and near as those that came, but for one
+    pub near_closed : (d most : ℕ) → near d (take count (drop first was)) ≤ most → near d (take n (drop from new)) ≤ most + 1
+    near_closed d most few' = (let one = onto_few l.open in omega (arith, near_put d from first count n new (omega (arith, put.place)) (omega (arith, put.place, one)) upto, ap (λ ys. near d (take count ys)) put.same, few'))
 
-    -- as far apart as those that came, and those up to the first of them
-    module _ (d near : ℕ) (less : near ≤ d) (came : IsSpaced d (take count (drop first was))) (first_upto : IsSpaced near (take (first + 1 - start) (drop start new))) where
-      pub apart_here : IsSpaced near (take (from + n - start) (drop start new))
-      apart_here =
-          let one : first + 1 - start ≡ suc (first - start) = omega arith in
-          let there : start + (first - start) ≡ first = omega arith in
-          let all' = spaced_seam near (first - start) count (drop start new) put.some (rw one at first_upto) (rw (drop-drop, there, put.same) (spaced_nearer d near (take count (drop first was)) less came)) in
-          rw (← take-take (from + n - start) (count + (first - start)) (drop start new) (omega (arith, upto))) (spaced_take near (from + n - start) (take (count + (first - start)) (drop start new)) all')
+-- The entries of a ring stand before closed bins, in the same list.
+module _ (levels from start n : ℕ) (rs list new : List Entry) (place : start + length rs ≡ from) (bins : map (raised levels) (drop start new) ≡ rs ++ map (raised levels) (drop from list)) where
+  pub ring_here : map (raised levels) (take (from + n - start) (drop start new)) ≡ rs ++ stretch from n levels list
+  ring_here = (let size : from + n - start ≡ length rs + n = omega arith in rw (← take-map, bins, size, take-append-add, take-map) refl)
 
-      pub apart_closed : IsSpaced near (take n (drop from new))
-      apart_closed =
-          let size : from + n - start ≡ from - start + n = omega arith in
-          let there : start + (from - start) ≡ from = omega arith in
-          (rw (size, drop-take, drop-drop, there) at (spaced_drop near (from - start) (take (from + n - start) (drop start new)) apart_here))
+  pub ring_parts : (take (from - start) (map (raised levels) (take (from + n - start) (drop start new))) ≡ rs) × (drop (from - start) (map (raised levels) (take (from + n - start) (drop start new))) ≡ stretch from n levels list)
+  ring_parts = (let size : from - start ≡ length rs = omega arith in rw (ring_here, size) (take-append_seam rs (stretch from n levels list), drop-append_seam rs (stretch from n levels list)))
 
 -- rising entries before sorted bins
 pub spaced_join : (rs : List Entry) (e : Entry) (es : List Entry) → IsRising rs → AllByRecursion (λ r. r.index < e.index) rs → IsSpaced 0 (e ∷ es) → IsSpaced 0 (rs ++ e ∷ es)
@@ -268,17 +269,24 @@ module _ {set : CorrelationView} {level : ℕ} {l : Level} {es : List Entry} {cl
       bins = merged_comes set level front closed parts.0 (before_take set level n (onto l.open es) closed behind) parts.3;
     }
 
+    pub front_fit : FitCounts (merged_all front)
+    front_fit = come_fit set level (merged_all front) closed parts.0 (omega (arith, can.few, ap length parts.2, length-append open' xs, length-append parts.0 parts.1)) (come_merged set level front closed parts.0 parts.3)
+
     -- where there are none, all stays
-    pub none_closed : n ≤ 0 → RingIs set level l.ring (closed ++ parts.0) × CellsAre set level l.cells (closed ++ parts.0)
-    none_closed none = rw (come_none set level n (onto l.open es) closed parts.0 none parts.3, append-nil) (can.was.ring, can.was.cells)
+    pub none_closed : n ≤ 0 → RingIs set level l.ring (closed ++ parts.0) × CellsAre set level l.cells (closed ++ parts.0) × (paired_of l ≤ 2 * occupied level (closed ++ parts.0))
+    none_closed none = rw (come_none set level n (onto l.open es) closed parts.0 none parts.3, append-nil) (can.was.ring, can.was.cells, can.was.few)
+
+    -- Where the list that was paired has at most twice as many bins as are occupied, so have all.
+    pub few_closed : (paired : ℕ) → paired ≤ paired_of l + 2 * length (merged_all front) → paired ≤ 2 * occupied level (closed ++ parts.0)
+    few_closed paired few' = omega (arith, few', can.was.few, occupied_all set level (merged_all front) closed parts.0 may_close.bins)
 
     -- and those behind it are open then
-    pub take_took : (l' : Level) → l'.open ≡ Some last → RingIs set level l'.ring (closed ++ parts.0) × CellsAre set level l'.cells (closed ++ parts.0)
-        → Took set level l' front closed open' xs parts.0 parts.1
-    take_took l' opened is' =
+    pub take_took : (l' : Level) → l'.open ≡ Some last → RingIs set level l'.ring (closed ++ parts.0) × CellsAre set level l'.cells (closed ++ parts.0) × (paired_of l' ≤ 2 * occupied level (closed ++ parts.0))
+        → (shut : List Entry) → ComeAlike front shut → Took set level l' shut closed open' xs parts.0 parts.1
+    take_took l' opened is' shut alike =
         let here : IsBin set level last parts.1 = one_bin set level (drop n (onto l.open es)) last (closed ++ parts.0) parts.1 (omega (arith, is.few, length-drop n (onto l.open es))) is.here is.a is.b parts.4 in
         let before : AllByRecursion (λ x. bin level x < last.index) (closed ++ parts.0) = all_join (λ x. bin level x < last.index) closed parts.0 (before_last set level (onto l.open es) n last closed is behind) (come_all set level (λ m. m < last.index) front closed parts.0 is.before parts.3) in
-        record { all = parts.2; is = record { opened = rw opened (here, before); ring = is'.0; cells = is'.1 }; bins = parts.3 }
+        record { all = parts.2; is = record { opened = rw opened (here, before); ring = is'.0; cells = is'.1; few = is'.2 }; bins = alike set level closed parts.0 parts.3 }
 
 -- What is put down before those that came fits, since it is not above the first of these.
 pub stretch_fit : (set : CorrelationView) (level : ℕ) (l : Level) (from count levels : ℕ) (list : List Entry) (none : Entry) → 0 < count → from + count ≤ length list → (get_or list from none).index < 2 ^ 64

@@ -1,7 +1,7 @@
 -- Bins that come to a level one after the other, and those that it closes.
-use Rattle.std.{specs.Prelude.{◌≡◌, ℕ, ◌+◌, ◌/◌, ◌^◌, ◌<◌, ◌≤◌, ◌==◌, ⊤, false, Option, None, Some, List, [], ◌∷◌, ◌++◌, map, take, drop, length, filter, nat_le, sum_by, if◌then◌else◌}, specs.List.{AllByRecursion}}
+use Rattle.std.{specs.Prelude.{◌≡◌, ℕ, ◌+◌, ◌-◌, ◌/◌, ◌^◌, ◌<◌, ◌≤◌, ◌==◌, ⊤, false, Option, None, Some, List, [], ◌∷◌, ◌++◌, map, take, drop, length, filter, nat_le, nat_lt, sum_by, if◌then◌else◌}, specs.List.{AllByRecursion}}
 use Rattle.tally_base.{specs.Settings.CorrelationView, specs.Tally.{History, greatest_time, InOrder}, specs.Limits.record_limit, specs.declared.block.Block.Block, specs.Columns.{gathered, events_in}}
-use Rattle.lag_ring.{specs.declared.ring.Entry.Entry, specs.Ring.Ring, specs.Cells.Cells}
+use Rattle.lag_ring.{specs.declared.ring.Entry.Entry, specs.Ring.{Ring, IsRising}, specs.Cells.Cells}
 use Rattle.tau_cascade.{specs.declared.level.Level.Level, specs.Correlation.{Given, bin, in_first, in_second, photons_of}, specs.Levels.{IsBin, LevelIs, RingIs, CellsAre, Chain}}
 
 -- the bin so many levels up in which a bin lies
@@ -39,6 +39,12 @@ onto (Some e) es = e ∷ es
 abbrev pub IsSpaced : ℕ → List Entry → Type 0
 IsSpaced distance [] = ⊤
 IsSpaced distance (e ∷ es) = AllByRecursion (λ f. e.index + distance ≤ f.index) es × IsSpaced distance es
+
+-- how many bins are nearer than a distance to the one before them
+abbrev pub near : ℕ → List Entry → ℕ
+near distance [] = 0
+near distance (e ∷ []) = 0
+near distance (e ∷ f ∷ es) = (if nat_lt (f.index - e.index) distance then 1 else 0) + near distance (f ∷ es)
 
 -- the bins of a stretch of a list, so many levels up
 abbrev pub stretch : ℕ → ℕ → ℕ → List Entry → List Entry
@@ -98,6 +104,12 @@ module _ (set : CorrelationView) (level : ℕ) where
 -- Photons that come in some bins come in these others too.
 abbrev pub ComeAlike : List Entry → List Entry → Type 0
 ComeAlike es fs = (set : CorrelationView) (level : ℕ) (came xs : History) → Come set level came es xs → Come set level came fs xs
+
+-- bins, and the same again where neighbours of one index are one bin or stay as they are
+pub record AreAlike (es fs : List Entry) : Type 0 where
+  pub come : ComeAlike es fs
+  pub merged : merged_all fs ≡ merged_all es
+  pub sorted : (rs : List Entry) → IsSpaced 0 (rs ++ es) → IsRising (rs ++ merged_all es) → IsSpaced 0 (rs ++ fs)
 
 -- photons xs may come in these bins to a level and those above it
 pub record CanCome (set : CorrelationView) (level : ℕ) (ls : List Level) (es : List Entry) (came xs : History) : Type 0 where

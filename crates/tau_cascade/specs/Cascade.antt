@@ -2,7 +2,7 @@
 use Rattle.std.{specs.Prelude.{ℕ, ◌+◌, zero, suc, Option, slice_get}, specs.Option.{option_map, option_map_or}}
 use Rattle.tally_base.{specs.declared.settings.CorrelationSet.CorrelationSet, specs.Settings.{PartSettings, correlation_view}, specs.Settings.PartSettings.CorrelationSettings, specs.Tally.History}
 use Rattle.lag_ring.{specs.declared.ring.Entry.Entry, specs.Cells.Cells, specs.Ring.Ring}
-use Rattle.tau_cascade.{specs.declared.cascade.Cascade.Cascade, specs.StandsFor.StandsFor, specs.Levels.spent}
+use Rattle.tau_cascade.{specs.declared.cascade.Cascade.Cascade, specs.StandsFor.StandsFor, specs.Levels.{spent, paired_of}}
 
 -- what it was opened with
 abbrev pub set_of : Cascade → CorrelationSet
@@ -22,6 +22,10 @@ cells_at t level = option_map (λ l. l.cells) (slice_get t.levels.items level)
 -- the ring of a level, where there is one
 abbrev pub ring_at : Cascade → ℕ → Option Ring
 ring_at t level = option_map (λ l. l.ring) (slice_get t.levels.items level)
+
+-- how many bins the lists had together that a level paired
+abbrev pub paired_at : Cascade → ℕ → ℕ
+paired_at t level = option_map_or paired_of (slice_get t.levels.items level) 0
 
 -- the open bin of a level, where there is such a level
 abbrev pub open_at : Cascade → ℕ → Option (Option Entry)

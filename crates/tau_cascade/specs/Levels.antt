@@ -8,6 +8,10 @@ use Rattle.tau_cascade.{specs.declared.level.Level.Level, specs.Correlation.{bin
 abbrev pub weight_before : ℕ → ℕ → List Entry → ℕ
 weight_before k index es = weight_where (λ e. e.a) (λ i. i + k == index) es
 
+-- how many bins the lists had together that a level paired
+abbrev pub paired_of : Level → ℕ
+paired_of l = sum_by (λ n. n) l.paired.items
+
 module _ (set : CorrelationView) (level : ℕ) where
   -- the entry is the bin of these photons, of which there is one at least
   abbrev pub IsBin : Entry → History → Type 0
@@ -36,6 +40,7 @@ module _ (set : CorrelationView) (level : ℕ) where
     pub opened : OpenIs l.open closed open'
     pub ring : RingIs l.ring closed
     pub cells : CellsAre l.cells closed
+    pub few : paired_of l ≤ 2 * occupied level closed
 
   -- its open bin may be closed
   pub record CanFinish (l : Level) (closed open' : History) : Type 0 where
@@ -47,6 +52,7 @@ module _ (set : CorrelationView) (level : ℕ) where
     pub none : l.open ≡ None
     pub ring : RingIs l.ring came
     pub cells : CellsAre l.cells came
+    pub few : paired_of l ≤ 2 * occupied level came
 
   abbrev pub Finished : Level → Option Entry → History → History → Type 0
   Finished l None closed open' = LevelDone l (closed ++ open') × (closed ≡ []) × (open' ≡ [])

@@ -2,7 +2,7 @@
 use Rattle.std.{specs.Prelude.{ℕ, ◌/◌, zero, suc, max, Bool, true, false, ◌&&◌, ◌==◌, nat_lt, Option, None, Some, unwrap_or, List, [], ◌∷◌, map, filter, count_by, ◌+◌, ◌<◌, ◌-◌, ◌≤◌, take, drop}, specs.Option.{option_map, option_and_then, option_map_or}}
 use Rattle.tally_base.{specs.Settings.CorrelationView, specs.Tally.History}
 use Rattle.lag_ring.specs.declared.ring.Entry.{Entry}
-use Rattle.tau_cascade.{specs.Correlation.{Given, bin, in_first, in_second, photons_of}, specs.declared.level.Coming.Coming, specs.Bins.{stretch, IsSpaced}}
+use Rattle.tau_cascade.{specs.Correlation.{Given, bin, in_first, in_second, photons_of}, specs.declared.level.Coming.Coming, specs.Bins.{stretch, IsSpaced, near}}
 
 -- the greatest number of a list
 abbrev pub greatest : List ℕ → Option ℕ
@@ -40,8 +40,9 @@ coming_bins coming bins = stretch coming.closed.from coming.closed.count coming.
 abbrev pub closed_bins : Coming → List Entry → List Entry
 closed_bins coming bins = stretch coming.closed.from coming.closed.count (coming.levels - 1) bins
 
--- They are in a list of 1192 places with room before them, of 168 on the first level and one less on each above, come from no further down than there are levels, and are as far apart as is said.
+-- They are in a list of 1192 places with room before them, of 168 on the first level and one less on each above, come from no further down than there are levels, and are as far apart and as near to one another as is said.
 pub record IsComing (coming : Coming) (level : ℕ) (bins : List Entry) : Type 0 where
   pub places : (coming.closed.from ≤ 168) × (168 ≤ coming.closed.from + level) × (coming.closed.from + coming.closed.count ≤ 1192)
   pub up : coming.levels ≤ level + 1
   pub spaced : 0 < coming.apart → IsSpaced coming.apart (take coming.closed.count (drop coming.closed.from bins))
+  pub nearer : near coming.gaps.usual (take coming.closed.count (drop coming.closed.from bins)) ≤ coming.gaps.nearer

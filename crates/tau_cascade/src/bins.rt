@@ -1,7 +1,7 @@
 // Bins that come to a level, and those that it closes.
 ghost use Rattle.std.{specs.Prelude.{◌≡◌, ◌+◌, ◌*◌, ◌^◌, ◌<◌, ◌≤◌, false, [], ◌++◌, length, map, take, drop, sum_by, if◌then◌else◌}, specs.List.AllByRecursion};
 ghost use Rattle.tally_base.{specs.Settings.correlation_view, specs.Columns.{events_in, IsSorted}};
-ghost use Rattle.tau_cascade.specs.Bins.{raised, onto, FitCounts, IsSpaced, merged_all, stretch, photon_bins};
+ghost use Rattle.tau_cascade.specs.Bins.{raised, onto, near, FitCounts, IsSpaced, merged_all, stretch, photon_bins};
 
 use lag_ring::{Entry, LagRing};
 use tally_base::{Block, CorrelationSet, TABLE_BLOCK};
@@ -14,6 +14,32 @@ pub(crate) const MOST_LAGS: usize = 128;
 
 /// How many levels there are at most.
 pub(crate) const LEVELS: usize = 40;
+
+/// How many bins are looked at for the usual distance.
+const SOME: usize = 64;
+
+/// What is known of how near bins are to one another.
+#[derive(Clone, Copy)]
+pub(crate) struct Gaps {
+    /// A distance.
+    pub(crate) usual: u64,
+    /// No more bins are nearer than that to the one before them.
+    pub(crate) nearer: usize,
+}
+
+impl Gaps {
+    ghost use Rattle.std.specs.Prelude.{List};
+
+    /// Nothing is known.
+    pub(crate) fn unknown() -> Gaps
+        ensures { (es : List Entry) → near result.usual es ≤ result.nearer }
+    {
+        Gaps {
+            usual: 0,
+            nearer: 0,
+        }
+    }
+}
 
 /// The last bin of a list, and how many are before it.
 #[derive(Clone, Copy)]
@@ -265,14 +291,58 @@ pub(crate) fn first_kept(bins: &[Entry], levels: u32, before: u64) -> usize
     start
 }
 
-/// Whether at most a quarter of the first 64 of these bins, so many levels up, share their bin with the one before them.
-pub(crate) fn hardly_merge(bins: &[Entry], levels: u32) -> bool
-    requires { levels < 64 }
+/// How many of these bins are nearer than a distance to the one before them.
+#[inline(always)]
+fn count_near(bins: &[Entry], distance: u64) -> usize
+    ensures { result ≡ near distance bins.now }
 {
-    let some = bins.len().min(64);
-    let mut same = 0;
-    for at in 1..some {
-        same += usize::from(bins[at].index >> levels == bins[at - 1].index >> levels);
+    let mut count = 0;
+    for at in 1..bins.len() {
+        count += usize::from(bins[at].index.saturating_sub(bins[at - 1].index) < distance);
     }
-    same * 4 <= some
+    count
+}
+
+/// The same of some of them, so many apart.
+#[inline(always)]
+fn some_near(bins: &[Entry], distance: u64, step: usize) -> usize {
+    let mut count = 0;
+    for i in 1..SOME {
+        let at = step.saturating_mul(i);
+        if 0 < at && at < bins.len() {
+            count += usize::from(bins[at].index.saturating_sub(bins[at - 1].index) < distance);
+        }
+    }
+    count
+}
+
+/// A distance that about two of five bins are nearer than to the one before them, or fewer, as far as some of them tell.
+fn usual_gap(bins: &[Entry]) -> u64
+    requires { 0 < length bins.now }
+{
+    let count = bins.len();
+    let step = count / SOME + 1;
+    let mean = bins[count - 1].index.saturating_sub(bins[0].index) / count as u64;
+    for halvings in 0..64u32 {
+        let distance = mean >> halvings;
+        if some_near(bins, distance, step).saturating_mul(5 * step) <= 2 * count {
+            return distance;
+        }
+    }
+    0
+}
+
+/// What is known of how near these bins are to one another, found out if it is wanted and was not known.
+pub(crate) fn known_gaps(bins: &[Entry], known: Gaps, wanted: bool) -> Gaps
+    requires { (0 < length bins.now) × (near known.usual bins.now ≤ known.nearer) }
+    ensures { near result.usual bins.now ≤ result.nearer }
+{
+    if known.usual > 0 || !wanted {
+        return known;
+    }
+    let usual = usual_gap(bins);
+    Gaps {
+        usual,
+        nearer: count_near(bins, usual),
+    }
 }

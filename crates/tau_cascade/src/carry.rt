@@ -1,68 +1,15 @@
 // What goes from level to level.
 ghost use Rattle.std.specs.Prelude.{◌≡◌, ◌+◌, ◌<◌, ◌≤◌, ◌∷◌, length, None};
 ghost use Rattle.tally_base.{specs.Settings.correlation_view, specs.Tally.History};
-ghost use Rattle.tau_cascade.{specs.Levels.{CanEnd, Complete, LevelDone, spent}, specs.Bins.{CanTake, Takes, CanCome, Carries, ComeAlike, FitCounts, merged_all}, specs.Dense.IsZero, specs.Opens.{IsComing, coming_bins, closed_bins}, specs.Grid.IsBeside};
+ghost use Rattle.tau_cascade.{specs.Levels.{CanEnd, Complete, LevelDone, spent}, specs.Bins.{CanCome, Carries}, specs.Dense.IsZero, specs.Opens.{IsComing, coming_bins, closed_bins}, specs.Grid.IsBeside};
 
-use crate::bins::{LEVELS, LIST, MOST_LAGS, hardly_merge, merge};
+use crate::bins::{Gaps, LEVELS, LIST, MOST_LAGS};
 use crate::grid::Grid;
 use crate::laid::PLACES;
 use crate::level::{Closed, Coming, Level};
 use lag_ring::Entry;
 use std::sync::ledger::Ledger;
 use tally_base::{CorrelationSet, Steps};
-
-/// Merges bins that come to a level, in their list, where many share one, or bins that wait there are not light, unless
-/// they are in a grid. That they come to a level `level` is for the clauses alone.
-fn merge_many(bins: &mut [Entry], level: u32, coming: Coming, grid: &Grid, light: bool) -> Coming
-    requires comes { IsComing coming level bins.old × (0 < coming.closed.count)
-        × IsBeside grid.now coming bins.old }
-    requires sized { (length bins.old ≡ LIST) × (level < LEVELS) }
-    requires counts { FitCounts (merged_all (coming_bins coming bins.old)) }
-    ensures comes { IsComing result level bins.new × (0 < result.closed.count)
-        × IsBeside grid.now result bins.new }
-    ensures bins { ComeAlike (coming_bins coming bins.old) (coming_bins result bins.new) }
-{
-    let Closed { from, count } = coming.closed;
-    let apart = coming.apart >> coming.levels > 0;
-    if apart || grid.is_on() || light && hardly_merge(&bins[from..from + count], coming.levels) {
-        return coming;
-    }
-    let count = merge(bins, from, count, coming.levels);
-    Coming {
-        closed: Closed { from, count },
-        levels: 0,
-        apart: 0,
-    }
-}
-
-/// Gives bins of a list to a level, and answers where those are that this closes. What is in `spare` is lost.
-fn give_first<L: Ledger>(
-    first: &mut Level,
-    set: &CorrelationSet,
-    level: u32,
-    bins: &mut [Entry],
-    coming: Coming,
-    spare: &mut [Entry],
-    window: &mut [u16; PLACES],
-    grid: &mut Grid,
-    steps: &mut Steps<L>,
-) -> Coming
-    requires sized { (length bins.old ≡ LIST) × (length spare.old ≡ LIST) × IsZero window.old }
-    requires comes { IsComing coming level bins.old × (0 < coming.closed.count) × (level < LEVELS)
-        × IsBeside grid.old coming bins.old }
-    requires stands { ∥ ((closed : History) × (open' : History) × (xs : History)
-        × CanTake (correlation_view set.now) level first.old (coming_bins coming bins.old)
-        closed open' xs) ∥₁ }
-    ensures follows { Takes (correlation_view set.now) level first.old first.new
-        (coming_bins coming bins.old) (closed_bins result bins.new) }
-    ensures comes { IsComing result (level + 1) bins.new × (0 < result.levels)
-        × IsBeside grid.new result bins.new }
-    ensures zeros { IsZero window.new }
-    ensures steps { steps.new + first.old.cells.added ≡ steps.old + first.new.cells.added }
-{
-    let came = merge_many(bins, level, coming, grid, first.is_light());
-    first.take(set, level, bins, came, spare, window, grid, steps)
-}
 
 /// Gives bins of a list to the first of these levels, and those that this closes to the next level, and so
 /// on. What is in `bins` and `spare` is lost.
@@ -89,7 +36,7 @@ pub(crate) fn carry_all<L: Ledger>(
 {
     if coming.closed.count > 0 {
         if let Some((first, rest)) = levels.split_first_mut() {
-            let next = give_first(first, set, level, bins, coming, spare, window, grid, steps);
+            let next = first.take(set, level, bins, coming, spare, window, grid, steps);
             carry_all(rest, set, level + 1, bins, next, spare, window, grid, steps);
         }
     }
@@ -128,6 +75,7 @@ fn end_first<L: Ledger>(
             },
             levels: 1,
             apart: 0,
+            gaps: Gaps::unknown(),
         };
         carry_all(
             rest,

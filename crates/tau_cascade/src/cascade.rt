@@ -1,9 +1,9 @@
 // A correlation over its levels.
-ghost use Rattle.std.{specs.Prelude.{◌≡◌, ◌+◌, ◌<◌, ◌≤◌, [], ◌++◌, false, length, vec_len, ◌-◌, true, IfOk, None, Some, slice_index}, specs.Option.{ForSome, option_map}};
+ghost use Rattle.std.{specs.Prelude.{◌≡◌, ◌+◌, ◌*◌, ◌<◌, ◌≤◌, [], ◌++◌, false, length, vec_len, ◌-◌, true, IfOk, None, Some, slice_index}, specs.Option.{ForSome, option_map}};
 ghost use Rattle.tally_base.{specs.Settings.correlation_view, specs.Tally.History, specs.Limits.record_limit, specs.Columns.{events_in, IsSorted}, specs.Settings.PartSettings.CorrelationSettings};
 ghost use Rattle.tau_cascade.{specs.StandsFor.{StandsFor, HasTaken}, specs.Levels.spent, specs.Bins.CanGiveBlock};
 
-use crate::bins::{LEVELS, LIST, MOST_LAGS, gather, spacing};
+use crate::bins::{Gaps, LEVELS, LIST, MOST_LAGS, gather, spacing};
 use crate::carry::{carry_all, end_all};
 use crate::grid::Grid;
 use crate::laid::PLACES;
@@ -32,7 +32,7 @@ pub struct Cascade {
 }
 
 impl Cascade {
-    ghost use Rattle.tau_cascade.{specs.Cascade.{Holds, cells_at, ring_at, open_at, set_of, spent_by, added_below}, specs.Correlation.{correlation, lag_count, skipped_lags, photons_of}, specs.Opens.open_bin, specs.Work.{work, IsWithinLevelWork}};
+    ghost use Rattle.tau_cascade.{specs.Cascade.{Holds, paired_at, cells_at, ring_at, open_at, set_of, spent_by, added_below}, specs.Correlation.{correlation, lag_count, skipped_lags, photons_of}, specs.Opens.open_bin, specs.Work.{work, occupied, IsWithinLevelWork}};
 
     /// A correlation of no events, with all the memory that it ever takes, or `AllocError` where it is
     /// wanting.
@@ -73,7 +73,7 @@ impl Cascade {
     }
 
     /// The cells of a level, one for each of its lags from the least on. Beside them a level keeps at most
-    /// `lags` closed bins.
+    /// `lags` closed bins. The lists that it paired had together at most twice as many bins as have photons.
     pub fn level(&self, level: u32) -> &PairCells
         requires { level < (set_of self.now).levels }
         ensures cells { cells_at self.now level ≡ Some result.now }
@@ -87,6 +87,8 @@ impl Cascade {
         ensures own { (h : History) → Holds self.now h
             → IsWithinLevelWork (correlation_view (set_of self.now)) level result.now
             (photons_of (correlation_view (set_of self.now)) h) }
+        ensures few { (h : History) → Holds self.now h → paired_at self.now level
+            ≤ 2 * occupied level (photons_of (correlation_view (set_of self.now)) h) }
     {
         &self.levels[level as usize].cells
     }
@@ -102,8 +104,8 @@ impl Cascade {
         self.levels[level as usize].open
     }
 
-    /// How many pairs are `lag` bins apart on the level, which is one of the level's lags. Before the table
-    /// is closed, those of bins that are open are left out.
+    /// How many pairs are `lag` bins apart on the level, which is one of the level's lags, once the table is
+    /// closed.
     pub fn cell(&self, level: u32, lag: u32) -> u128
         requires level { level < (set_of self.now).levels }
         requires lag { (skipped_lags (correlation_view (set_of self.now)) level < lag)
@@ -154,6 +156,7 @@ fn give_block<L: Ledger>(
         },
         levels: 0,
         apart: spacing(&bins[LEVELS + MOST_LAGS..LEVELS + MOST_LAGS + count]),
+        gaps: Gaps::unknown(),
     };
     carry_all(
         levels,

@@ -1,17 +1,18 @@
 // One level: its open bin, the ring of its last closed bins, and its cells.
-ghost use Rattle.std.{specs.Prelude.{◌≡◌, ◌+◌, ◌-◌, ◌^◌, ◌<◌, ◌≤◌, filter, length, nat_le, take, drop, [], IfOk, map}};
+ghost use Rattle.std.{specs.Prelude.{◌≡◌, ◌+◌, ◌-◌, ◌*◌, ◌^◌, ◌<◌, ◌≤◌, filter, length, nat_le, sum_by, if◌then◌else◌, take, drop, [], ◌++◌, IfOk, map}, specs.List.AllByRecursion};
 ghost use Rattle.lag_ring.specs.Ring.{IsRising, ring as ring_of};
 ghost use Rattle.tally_base.{specs.Settings.correlation_view, specs.Tally.History};
-ghost use Rattle.tau_cascade.{specs.Correlation.skipped_lags, specs.Bins.{raised, merged_at, kept_of, FitCounts, IsSpaced}, specs.Dense.IsZero, specs.Levels.{RingIs, CellsAre}, specs.Grid.{IsEmpty, IsGrid, IsBeside, kept_and}};
+ghost use Rattle.tau_cascade.{specs.Correlation.skipped_lags, specs.Bins.{raised, merged_at, merged_all, kept_of, FitCounts, IsSpaced, AreAlike, ComeAlike}, specs.Dense.IsZero, specs.Levels.{RingIs, CellsAre, paired_of}, specs.Grid.{IsEmpty, IsGrid, IsBeside, kept_and}, specs.Opens.{IsComing, coming_bins, closed_bins}};
 
 use crate::bins::{
-    LEVELS, LIST, apart_all, copy_into, cut_last, first_kept, heaviest_of, lay_out, lower_open,
-    lower_ring, merge,
+    Gaps, LEVELS, LIST, apart_all, copy_into, cut_last, first_kept, heaviest_of, known_gaps,
+    lay_out, lower_open, lower_ring, merge,
 };
 use crate::grid::{Grid, SPAN, TOO_MANY};
 use crate::laid::PLACES;
 use crate::pairing::pair_all;
 use lag_ring::{Entry, LagRing, PairCells, Side, total_weight};
+use noted::Noted;
 use std::alloc::{AllocError, Global};
 use std::sync::ledger::Ledger;
 use tally_base::{CorrelationSet, Steps};
@@ -25,6 +26,8 @@ pub struct Level {
     pub(crate) ring: LagRing,
     /// The pairs of each lag.
     pub(crate) cells: PairCells,
+    /// How many bins each list had that was paired, but for those in a grid, which has one place for each index.
+    pub(crate) paired: Noted<usize>,
     /// No bin of the ring has more photons of either group. Nothing that is counted depends on it.
     heaviest: u64,
 }
@@ -47,6 +50,8 @@ pub(crate) struct Coming {
     pub(crate) levels: u32,
     /// A distance that no two of them fall below, as they stand in the list, or 0.
     pub(crate) apart: u64,
+    /// How near they are to one another, as they stand in the list.
+    pub(crate) gaps: Gaps,
 }
 
 /// A list may stay unmerged where each bin that waits has fewer photons of a group than this. A window nearly always takes
@@ -107,8 +112,54 @@ fn keep_dense(
     heaviest_of(&spare[..end])
 }
 
+/// Notes how many bins a list has that is paired. Those in a grid are not noted, which has one place for each index.
+#[inline(always)]
+fn note_list(paired: &mut Noted<usize>, grid: &Grid, count: usize)
+    ensures { sum_by (λ n. n) paired.new.items
+        ≡ sum_by (λ n. n) paired.old.items + (if nat_le 1 grid.now.len then 0 else count) }
+{
+    if !grid.is_on() {
+        paired.note(&[count]);
+    }
+}
+
+/// Merges bins that a level closes, in their list, unless they are in a grid: where half may share one, or bins that
+/// wait there are not light. That a level `level` closes them is for the clauses alone.
+fn merge_many(list: &mut [Entry], level: u32, closing: Coming, grid: &Grid, light: bool) -> Coming
+    requires comes { IsComing closing (level + 1) list.old × (closing.levels ≤ level + 1)
+        × (0 < closing.closed.count) × (level < LEVELS) × (length list.old ≡ LIST) }
+    requires bins { IsSpaced 0 (coming_bins closing list.old)
+        × FitCounts (merged_all (coming_bins closing list.old))
+        × IsGrid grid.now (coming_bins closing list.old) }
+    ensures comes { IsComing result (level + 1) list.new × (result.levels ≤ level + 1)
+        × (0 < result.closed.count) × (result.closed.from ≡ closing.closed.from)
+        × (result.levels ≤ closing.levels) }
+    ensures bins { AreAlike (coming_bins closing list.old) (coming_bins result list.new) }
+    ensures grid { IsGrid grid.now (coming_bins result list.new) }
+    ensures few { grid.now.len ≡ 0 → length (coming_bins result list.new)
+        ≤ 2 * length (merged_all (coming_bins closing list.old)) }
+{
+    let Closed { from, count } = closing.closed;
+    let levels = closing.levels;
+    if grid.is_on() || closing.apart >> levels > 0 {
+        return closing;
+    }
+    // Once they were merged, they nearly always are again.
+    let gaps = known_gaps(&list[from..from + count], closing.gaps, levels == level);
+    if light && gaps.usual >> levels > 0 && gaps.nearer <= count / 2 {
+        return Coming { gaps, ..closing };
+    }
+    let count = merge(list, from, count, levels);
+    Coming {
+        closed: Closed { from, count },
+        levels: 0,
+        apart: 0,
+        gaps: Gaps::unknown(),
+    }
+}
+
 impl Level {
-    ghost use Rattle.tau_cascade.{specs.Levels.{LevelIs, CanFinish, Finished}, specs.Bins.{CanShutAll, CanTake, Takes, HoldsOfAll}, specs.Opens.{IsComing, coming_bins, closed_bins}};
+    ghost use Rattle.tau_cascade.{specs.Levels.{LevelIs, CanFinish, Finished}, specs.Bins.{CanShutAll, CanTake, Takes, HoldsOfAll}};
 
     /// A level to which nothing came, or `AllocError` where memory for it is wanting.
     pub(crate) fn open(alloc: Global, set: &CorrelationSet, level: u32) -> Result<Level, AllocError>
@@ -119,8 +170,16 @@ impl Level {
             open: None,
             ring: LagRing::open(alloc, set.lags)?,
             cells: PairCells::open(alloc, set.lags - skipped_lags(set, level))?,
+            paired: Noted::new(),
             heaviest: 0,
         })
+    }
+
+    /// Whether the bins of the ring are so light that those that come may go into a grid.
+    #[inline(always)]
+    fn has_light_ring(&self) -> bool {
+        let (front, back) = self.ring.slices();
+        total_weight(Side::First, front) < TOO_MANY && total_weight(Side::First, back) < TOO_MANY
     }
 
     /// Whether the bins that wait here are so light that those that come may stay unmerged.
@@ -159,6 +218,10 @@ impl Level {
         requires stands { ∥ ((closed : History) × (xs : History) × CanShutAll
             (correlation_view set.now) level self.old.ring self.old.cells
             (merged_at start levels list.now) closed xs) ∥₁ }
+        requires few { grid.now.len ≡ 0
+            → length list.now - start ≤ 2 * length (merged_at start levels list.now) }
+        ensures paired { paired_of self.new
+            ≤ paired_of self.old + 2 * length (merged_at start levels list.now) }
         ensures ring { HoldsOfAll (correlation_view set.now) level self.old.ring self.old.cells
             (merged_at start levels list.now) (RingIs (correlation_view set.now) level self.new.ring) }
         ensures cells { HoldsOfAll (correlation_view set.now) level self.old.ring self.old.cells
@@ -167,6 +230,7 @@ impl Level {
             × (steps.new + self.old.cells.added ≡ steps.old + self.new.cells.added) }
     {
         let skipped = skipped_lags(set, level);
+        note_list(&mut self.paired, grid, list.len() - start);
         pair_all(
             &mut self.cells,
             window,
@@ -220,37 +284,95 @@ impl Level {
         // For the proof: the index of the first fits, and nothing that is put before it is above it.
         let _first = list[first].index;
         let from = lower_open(&self.open, list, first, levels);
-        let start = lower_ring(&self.ring, list, from, levels);
-        let apart = apart_all(&list[start..first + 1], came.apart, levels, set.lags);
+        let apart = apart_all(&list[from..first + 1], came.apart, levels, set.lags);
         let last = cut_last(&list[from..end], levels);
-        // Bins behind a heavy ring go into no grid, so that the levels above may merge them.
-        let dense = grid.is_on() || level < DENSE_LEVELS;
-        if dense && total_weight(Side::First, &list[start..from]) < TOO_MANY {
+        // Bins behind a heavy ring go into no grid, so that they may be merged.
+        let dense = (grid.is_on() || level < DENSE_LEVELS) && self.has_light_ring();
+        if dense {
             let bins = &list[from..end];
             grid.follow(&self.open, &list[first..end], bins, levels, &last, window);
         } else {
             grid.clear();
         }
+        let light = self.is_light();
         self.open = Some(last.bin);
         let count = last.closed;
+        let closing = Coming {
+            closed: Closed { from, count },
+            levels,
+            apart,
+            gaps: Gaps {
+                usual: came.gaps.usual,
+                nearer: came.gaps.nearer.saturating_add(1),
+            },
+        };
         if count > 0 {
-            self.shut(
-                set,
-                level,
-                &list[start..from + count],
-                from - start,
-                levels,
-                apart,
-                spare,
-                window,
-                grid,
-                steps,
-            );
+            return self.close(set, level, list, closing, light, spare, window, grid, steps);
         }
         Coming {
-            closed: Closed { from, count },
             levels: levels + 1,
+            ..closing
+        }
+    }
+
+    /// Closes bins of a list, merged first where many share one, and answers where they are then. What is in `spare`, and
+    /// before the bins, is lost.
+    fn close<L: Ledger>(
+        &mut self,
+        set: &CorrelationSet,
+        level: u32,
+        list: &mut [Entry],
+        closing: Coming,
+        light: bool,
+        spare: &mut [Entry],
+        window: &mut [u16; PLACES],
+        grid: &Grid,
+        steps: &mut Steps<L>,
+    ) -> Coming
+        requires comes { IsComing closing (level + 1) list.old × (closing.levels ≤ level + 1)
+            × (0 < closing.closed.count) × (level < LEVELS) }
+        requires room { (length list.old ≡ LIST) × (length spare.old ≡ LIST) × IsZero window.old
+            × (length self.old.ring.entries ≤ closing.closed.from)
+            × AllByRecursion (λ e. e.index * 2 ^ closing.levels < 2 ^ 64) self.old.ring.entries }
+        requires grid { IsGrid grid.now (coming_bins closing list.old) }
+        requires sorted { IsSpaced 0 (self.old.ring.entries ++ coming_bins closing list.old)
+            × FitCounts (merged_all (coming_bins closing list.old)) }
+        requires stands { ∥ ((shut : History) × (xs : History) × CanShutAll
+            (correlation_view set.now) level self.old.ring self.old.cells
+            (merged_all (coming_bins closing list.old)) shut xs) ∥₁ }
+        ensures paired { paired_of self.new
+            ≤ paired_of self.old + 2 * length (merged_all (coming_bins closing list.old)) }
+        ensures ring { HoldsOfAll (correlation_view set.now) level self.old.ring self.old.cells
+            (merged_all (coming_bins closing list.old))
+            (RingIs (correlation_view set.now) level self.new.ring) }
+        ensures cells { HoldsOfAll (correlation_view set.now) level self.old.ring self.old.cells
+            (merged_all (coming_bins closing list.old))
+            (CellsAre (correlation_view set.now) level self.new.cells) }
+        ensures others { (self.new.open ≡ self.old.open) × IsZero window.new
+            × (steps.new + self.old.cells.added ≡ steps.old + self.new.cells.added) }
+        ensures alike { ComeAlike (coming_bins closing list.old) (closed_bins result list.new) }
+        ensures comes { IsComing result (level + 1) list.new × (0 < result.levels)
+            × IsBeside grid.now result list.new }
+    {
+        let shut = merge_many(list, level, closing, grid, light);
+        let Closed { from, count } = shut.closed;
+        let start = lower_ring(&self.ring, list, from, shut.levels);
+        let apart = apart_all(&list[start..from + 1], shut.apart, shut.levels, set.lags);
+        self.shut(
+            set,
+            level,
+            &list[start..from + count],
+            from - start,
+            shut.levels,
             apart,
+            spare,
+            window,
+            grid,
+            steps,
+        );
+        Coming {
+            levels: shut.levels + 1,
+            ..shut
         }
     }
 

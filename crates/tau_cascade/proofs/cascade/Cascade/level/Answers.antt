@@ -24,4 +24,10 @@ pub returns-clause-own : goal.returns-clause-own
 returns-clause-own c = λ h is.
     let t = c.args.self.now in
     let read = slice_get_read t.levels.items t.set.levels c.args.level c.index.result.now (search rules) c.requires c.index.ensures in
-    level_within t.closed (correlation_view t.set) t.levels.items (photons_of (correlation_view t.set) h) is.through c.args.level c.index.result.now read
+    (level_within t.closed (correlation_view t.set) t.levels.items (photons_of (correlation_view t.set) h) is.through c.args.level c.index.result.now read).0
+
+pub returns-clause-few : goal.returns-clause-few
+returns-clause-few c = λ h is.
+    let t = c.args.self.now in
+    let read = slice_get_read t.levels.items t.set.levels c.args.level c.index.result.now (search rules) c.requires c.index.ensures in
+    rw read (level_within t.closed (correlation_view t.set) t.levels.items (photons_of (correlation_view t.set) h) is.through c.args.level c.index.result.now read).1

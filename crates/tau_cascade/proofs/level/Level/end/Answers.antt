@@ -1,5 +1,6 @@
 use Rattle.std.{proofs.Common.{rules}, proofs.Common.{◌≡◌, ◌+◌, ◌<◌, [], ◌∷◌, ◌++◌, length, map, take, drop, refl, arith, slice_set}, proofs.Props.props, proofs.Math.Seq.{take-append_seam, drop-append_seam}, proofs.Math.Logic.{∥∥₁_map, ∥∥₁_elim}, proofs.lemmas.List.{take_more_set, length-take-le, length-set}}
-use Rattle.tau_cascade.{specs.Bins.{raised}, proofs.{Follows.{raised-none, finish_open, finish_shut}, Spread.{spaced-prop, spaced_join}}, proofs.level.Level.end.Goals.{After-lay_out-from}, proofs.level.Level.end.Given.{Over}}
+use Rattle.tally_base.specs.Settings.{correlation_view}
+use Rattle.tau_cascade.{specs.Bins.{raised}, proofs.{Paired.occupied_all, Follows.{raised-none, finish_open, finish_shut}, Spread.{spaced-prop, spaced_join}}, proofs.level.Level.end.Goals.{After-lay_out-from}, proofs.level.Level.end.Given.{Over}}
 use Rattle.tau_cascade.proofs.level.Level.end.Goals as goal
 
 inside : (g : Over) (c : After-lay_out-from g) → c.lay_out-from.result < length c.lay_out-from.new.list
@@ -16,6 +17,7 @@ pub shut-requires : goal.shut-requires
 shut-requires g c =
     let at' = (goal.at.shut-requires g c).After-lay_out-from in
     let few = inside g at' in
+    let long : length (take (c.lay_out-from.result + 1) (slice_set c.lay_out-from.new.list c.lay_out-from.result c.in-Some.last)) ≡ c.lay_out-from.result + 1 = search (rules, arith, length-take-le, length-set) in
     record {
       list = (
         omega arith,
@@ -26,6 +28,7 @@ shut-requires g c =
       );
       room = search (rules, arith, length-take-le, length-set);
       grid = search (rules, arith);
+      few = λ off. rw (alone g at') (omega (arith, long));
       stands = rw (alone g at') (∥∥₁_map c.requires.stands (λ w. (w.0, w.1, finish_shut _ _ _ _ c.in-Some.is _ _ w.2)));
     }
 
@@ -34,4 +37,4 @@ returns-in-Some-clause-follows g c = λ closed open' can.
     let one = alone g (goal.at.returns-in-Some-clause-follows g c).After-lay_out-from in
     let may = finish_shut _ _ _ _ c.in-Some.is closed open' can in
     let was = finish_open _ _ _ _ c.in-Some.is closed open' can in
-    (record { none = refl; ring = c.shut.ensures.ring closed open' (rw one may); cells = c.shut.ensures.cells closed open' (rw one may) }, was.0, was.1)
+    (record { none = refl; ring = c.shut.ensures.ring closed open' (rw one may); cells = c.shut.ensures.cells closed open' (rw one may); few = omega (arith, (rw one at c.shut.ensures.paired), can.was.few, occupied_all (correlation_view c.args.set.now) c.args.level (c.in-Some.last ∷ []) closed open' may.bins) }, was.0, was.1)

@@ -1,28 +1,19 @@
-use Rattle.std.{proofs.Common.{rules}, proofs.Common.{◌≡◌, ◌+◌, ◌-◌, ◌*◌, ◌^◌, ◌<◌, ◌≤◌, [], length, map, take, drop, refl, sym, ap, ◌∙◌, arith}, proofs.Props.props, proofs.Math.Logic.{∥∥₁_map, ∥∥₁_elim}}
+use Rattle.std.{proofs.Common.{rules}, proofs.Common.{◌≡◌, ◌+◌, ◌-◌, ◌*◌, ◌^◌, ◌<◌, ◌≤◌, [], length, map, take, drop, refl, sym, ap, ◌∙◌, arith}, proofs.Props.props, proofs.Math.Logic.{∥∥₁_map, ∥∥₁_elim}, proofs.lemmas.List.length-take}
 use Rattle.lag_ring.{proofs.Lists.{all_front, all_back}}
-use Rattle.tau_cascade.{proofs.Close.no_bin, specs.Bins.{raised, onto}, specs.Grid.IsGrid, proofs.Onward.{grid_some, off_grid, is_grid}, proofs.Spread.{IsPut, same_behind, onto_few, spaced-prop, stretch_fit, all_here, came_here, is_cut, front_all, front_here, put_here, parts_here, apart_here, apart_closed, upto, here_sorted, front_sorted, weights_fit, parts, may_close, none_closed, take_took}, proofs.level.Level.take.Goals.{After-lower_ring-start, Joined-dense, then-dense+then-total_weight-lt-TOO_MANY, else-dense, then-count-gt0, else-count-gt0}, proofs.level.Level.take.Given.{Over}}
+use Rattle.tau_cascade.{proofs.Close.no_bin, specs.Bins.{raised, onto}, specs.Grid.IsGrid, specs.Dense.IsZero, proofs.Onward.{grid_some, off_grid, is_grid}, proofs.Few.near_few, proofs.Spread.{IsPut, same_behind, onto_few, spaced-prop, stretch_fit, all_here, came_here, is_cut, front_all, front_here, apart_closed, near_closed, upto, here_sorted, front_sorted, front_fit, weights_fit, few_closed, parts, may_close, none_closed, take_took}, proofs.level.Level.take.Goals.{After-lower_open-from, Joined-dense, then-dense, else-dense}, proofs.level.Level.take.Given.{Over}}
 use Rattle.tau_cascade.proofs.level.Level.take.Goals as goal
 
 pub lower_open-from-requires-clause-fits : goal.lower_open-from-requires-clause-fits
 lower_open-from-requires-clause-fits g c = all_back (λ e. e.index * 2 ^ c.args.came.levels < 2 ^ 64) c.args.self.now.ring.entries (onto c.args.self.now.open [])
     (stretch_fit _ _ _ _ _ _ c.args.list.now no_bin c.requires.comes.1 (omega (arith, c.requires.comes.0.places)) (omega arith) c.requires.stands)
 
-pub lower_ring-start-requires-clause-room : goal.lower_ring-start-requires-clause-room
-lower_ring-start-requires-clause-room g c =
-    let few : length c.args.self.now.ring.entries ≤ c.args.set.now.lags = ∥∥₁_elim c.requires.stands (hlevel props) (λ w. omega (arith, w.3.was.ring.keeps.within, w.3.was.ring.reach)) in
-    (omega (arith, few, c.requires.comes.0.places, c.args.set.now.some_lags, onto_few c.args.self.now.open), omega (arith, c.requires.comes.0.places), omega (arith, c.requires.comes.0.up))
-
-pub lower_ring-start-requires-clause-fits : goal.lower_ring-start-requires-clause-fits
-lower_ring-start-requires-clause-fits g c = all_front (λ e. e.index * 2 ^ c.args.came.levels < 2 ^ 64) c.args.self.now.ring.entries (onto c.args.self.now.open [])
-    (stretch_fit _ _ _ _ _ _ c.args.list.now no_bin c.requires.comes.1 (omega (arith, c.requires.comes.0.places)) (omega arith) c.requires.stands)
-
 -- what stands in the list then
-is_put : (g : Over) (c : After-lower_ring-start g) → IsPut c.args.came.levels c.args.came.closed.from c.args.came.closed.count c.args.self.now c.args.list.now c.lower_ring-start.new.list c.lower_open-from.result c.lower_ring-start.result
+is_put : (g : Over) (c : After-lower_open-from g) → IsPut c.args.came.levels c.args.came.closed.from c.args.came.closed.count c.args.self.now c.args.list.now c.lower_open-from.new.list c.lower_open-from.result
 is_put g c = search (rules, arith, same_behind)
 
 pub cut_last-last-requires : goal.cut_last-last-requires
 cut_last-last-requires g c =
-    let put = is_put g (goal.at.cut_last-last-requires g c).After-lower_ring-start in
+    let put = is_put g (goal.at.cut_last-last-requires g c).After-lower_open-from in
     record {
       some = search (rules, arith);
       sorted = rw (all_here put) (∥∥₁_elim c.requires.stands (spaced-prop _) (λ w. here_sorted w.3));
@@ -31,7 +22,7 @@ cut_last-last-requires g c =
 
 pub follow-requires-clause-list : goal.follow-requires-clause-list
 follow-requires-clause-list g c =
-    let put = is_put g (goal.at.follow-requires-clause-list g c).After-lower_ring-start in (
+    let put = is_put g (goal.at.follow-requires-clause-list g c).After-lower_open-from in (
       omega (arith, c.requires.comes.0.up),
       rw (all_here put) (∥∥₁_elim c.requires.stands (spaced-prop _) (λ w. here_sorted w.3)),
       all_here put ∙ ap (λ es. onto c.args.self.now.open (map (raised c.args.came.levels) es)) (sym (came_here put)),
@@ -42,56 +33,97 @@ clear-requires g c = grid_some _ _ _ refl c.requires.comes.3.grid
 
 -- the grid stands for those that are closed, or has none
 grid_here : (g : Over) (c : Joined-dense g) → IsGrid c.if-dense.grid (map (raised c.args.came.levels) (take c.cut_last-last.result.closed
-    (take (c.args.came.closed.from + c.args.came.closed.count - c.lower_open-from.result) (drop c.lower_open-from.result c.lower_ring-start.new.list))))
+    (take (c.args.came.closed.from + c.args.came.closed.count - c.lower_open-from.result) (drop c.lower_open-from.result c.lower_open-from.new.list))))
 grid_here g c = elim c.if-dense.branch [
-  | then-dense+then-total_weight-lt-TOO_MANY w ↦ rw w.grid-is w.follow.ensures.grid
+  | then-dense w ↦ rw w.grid-is w.follow.ensures.grid
   | else-dense w ↦ rw w.grid-is (off_grid _ [] _ (omega arith) (is_grid _ [] w.clear.ensures.0))
 ]
 
-pub shut-requires : goal.shut-requires
-shut-requires g c =
-    let at' = goal.at.shut-requires g c in
-    let put = is_put g at'.After-lower_ring-start in
+pub close-requires-clause-comes : goal.close-requires-clause-comes
+close-requires-clause-comes g c =
+    let put = is_put g (goal.at.close-requires-clause-comes g c).After-lower_open-from in
+    let few = c.cut_last-last.ensures.few in
+    let closed = take c.cut_last-last.result.closed (drop c.lower_open-from.result c.lower_open-from.new.list) in (
+      record {
+        places = omega (arith, c.requires.comes.0.places, put.place, onto_few c.args.self.now.open, upto put _ few);
+        up = omega (arith, c.requires.comes.0.up);
+        spaced = λ far. let apart = c.apart_all-apart.ensures far in apart_closed put _ few _ _ apart.0 (c.requires.comes.0.spaced (omega arith)) apart.1;
+        nearer = omega (arith, near_closed put _ few c.args.came.gaps.usual c.args.came.gaps.nearer c.requires.comes.0.nearer, near_few c.args.came.gaps.usual closed, length-take c.cut_last-last.result.closed (drop c.lower_open-from.result c.lower_open-from.new.list), c.saturating_add.ensures);
+      },
+      omega (arith, c.requires.comes.0.up),
+      omega arith,
+      c.requires.comes.2,
+    )
+
+pub close-requires-clause-room : goal.close-requires-clause-room
+close-requires-clause-room g c =
+    let few : length c.args.self.now.ring.entries ≤ c.args.set.now.lags = ∥∥₁_elim c.requires.stands (hlevel props) (λ w. omega (arith, w.3.was.ring.keeps.within, w.3.was.ring.reach)) in (
+      search (rules, arith),
+      search (rules, arith),
+      search (rules, arith),
+      omega (arith, few, c.requires.comes.0.places, c.args.set.now.some_lags, onto_few c.args.self.now.open, c.lower_open-from.ensures.place),
+      all_front (λ e. e.index * 2 ^ c.args.came.levels < 2 ^ 64) c.args.self.now.ring.entries (onto c.args.self.now.open [])
+          (stretch_fit _ _ _ _ _ _ c.args.list.now no_bin c.requires.comes.1 (omega (arith, c.requires.comes.0.places)) (omega arith) c.requires.stands),
+    )
+
+pub close-requires-clause-grid : goal.close-requires-clause-grid
+close-requires-clause-grid g c =
+    let at' = goal.at.close-requires-clause-grid g c in
+    let put = is_put g at'.After-lower_open-from in
+    let few = c.cut_last-last.ensures.few in
+    rw (front_here put _ few, ← front_all put _ few) (grid_here g at'.Joined-dense)
+
+pub close-requires-clause-sorted : goal.close-requires-clause-sorted
+close-requires-clause-sorted g c =
+    let put = is_put g (goal.at.close-requires-clause-sorted g c).After-lower_open-from in
     let few = c.cut_last-last.ensures.few in
     let is = is_cut put _ few _ c.cut_last-last.ensures.before c.cut_last-last.ensures.here c.cut_last-last.ensures.weights.0 c.cut_last-last.ensures.weights.1 in
-    record {
-      list = (
-        omega (arith, c.requires.comes.0.up),
-        rw (put_here put _ few) (∥∥₁_elim c.requires.stands (spaced-prop _) (λ w. front_sorted w.3 is)),
-        (parts_here put _ few).0,
-        λ far. let apart = c.apart_all-apart.ensures far in apart_here put _ few _ _ apart.0 (c.requires.comes.0.spaced (omega arith)) apart.1,
-      );
-      room = search (rules, arith);
-      grid = rw ((parts_here put _ few).1, ← front_all put _ few) (grid_here g at'.Joined-dense);
-      stands = rw ((parts_here put _ few).1) (∥∥₁_map c.requires.stands (λ w. (w.0, (parts w.3 is).0, may_close w.3 is)));
-    }
+    rw (front_here put _ few) (∥∥₁_elim c.requires.stands (spaced-prop _) (λ w. front_sorted w.3 is), ∥∥₁_elim c.requires.stands (hlevel props) (λ w. front_fit w.3 is))
 
-pub returns-clause-follows : goal.returns-clause-follows
-returns-clause-follows g c = λ closed open' xs can.
-    let put = is_put g (goal.at.returns-clause-follows g c).After-lower_ring-start in
+pub close-requires-clause-stands : goal.close-requires-clause-stands
+close-requires-clause-stands g c =
+    let put = is_put g (goal.at.close-requires-clause-stands g c).After-lower_open-from in
+    let few = c.cut_last-last.ensures.few in
+    let is = is_cut put _ few _ c.cut_last-last.ensures.before c.cut_last-last.ensures.here c.cut_last-last.ensures.weights.0 c.cut_last-last.ensures.weights.1 in
+    rw (front_here put _ few) (∥∥₁_map c.requires.stands (λ w. (w.0, (parts w.3 is).0, may_close w.3 is)))
+
+pub returns-then-count-gt0-clause-follows : goal.returns-then-count-gt0-clause-follows
+returns-then-count-gt0-clause-follows g c = λ closed open' xs can.
+    let put = is_put g (goal.at.returns-then-count-gt0-clause-follows g c).After-lower_open-from in
     let few = c.cut_last-last.ensures.few in
     let is = is_cut put _ few _ c.cut_last-last.ensures.before c.cut_last-last.ensures.here c.cut_last-last.ensures.weights.0 c.cut_last-last.ensures.weights.1 in
     let whole = parts can is in
-    let may = may_close can is in
+    let may = may_close can is in (
+      whole.0,
+      whole.1,
+      take_took can is _ c.close.ensures.others.0
+          (c.close.ensures.ring closed whole.0 (rw (front_here put _ few) may), c.close.ensures.cells closed whole.0 (rw (front_here put _ few) may), few_closed can is _ (rw (front_here put _ few) at c.close.ensures.paired))
+          _ (rw (front_here put _ few) at c.close.ensures.alike),
+    )
+
+pub returns-clause-follows : goal.returns-clause-follows
+returns-clause-follows g c = λ closed open' xs can.
+    let put = is_put g (goal.at.returns-clause-follows g c).After-lower_open-from in
+    let few = c.cut_last-last.ensures.few in
+    let is = is_cut put _ few _ c.cut_last-last.ensures.before c.cut_last-last.ensures.here c.cut_last-last.ensures.weights.0 c.cut_last-last.ensures.weights.1 in
+    let whole = parts can is in
     let up : c.args.came.levels + 1 - 1 ≡ c.args.came.levels = omega arith in (
       whole.0,
       whole.1,
-      rw (up, front_here put _ few) (elim c.if-count-gt0.branch [
-        | then-count-gt0 w ↦ rw w.self-is (take_took can is _ w.shut.ensures.others.0
-            (w.shut.ensures.ring closed whole.0 (rw ((parts_here put _ few).1) may), w.shut.ensures.cells closed whole.0 (rw ((parts_here put _ few).1) may)))
-        | else-count-gt0 w ↦ rw w.self-is (take_took can is _ refl (none_closed can is w.if-count-gt0.false))
-      ]),
+      rw (up, front_here put _ few) (take_took can is _ refl (none_closed can is c.if-count-gt0.false) _ (λ set level came xs come. come)),
     )
 
 pub returns-clause-comes : goal.returns-clause-comes
 returns-clause-comes g c =
-    let put = is_put g (goal.at.returns-clause-comes g c).After-lower_ring-start in
+    let put = is_put g (goal.at.returns-clause-comes g c).After-lower_open-from in
     let few = c.cut_last-last.ensures.few in
+    let closed = take c.cut_last-last.result.closed (drop c.lower_open-from.result c.lower_open-from.new.list) in
     let up : c.args.came.levels + 1 - 1 ≡ c.args.came.levels = omega arith in (
       record {
         places = omega (arith, c.requires.comes.0.places, put.place, onto_few c.args.self.now.open, upto put _ few);
         up = omega (arith, c.requires.comes.0.up);
         spaced = λ far. let apart = c.apart_all-apart.ensures far in apart_closed put _ few _ _ apart.0 (c.requires.comes.0.spaced (omega arith)) apart.1;
+        nearer = omega (arith, near_closed put _ few c.args.came.gaps.usual c.args.came.gaps.nearer c.requires.comes.0.nearer, near_few c.args.came.gaps.usual closed, length-take c.cut_last-last.result.closed (drop c.lower_open-from.result c.lower_open-from.new.list), c.saturating_add.ensures);
       },
       omega arith,
       record {

@@ -1,0 +1,115 @@
+-- How many bins are near to the one before them, and how many share it some levels up.
+use Rattle.std.{proofs.Common.{◌≡◌, ◌≢◌, ℕ, zero, suc, ◌+◌, ◌-◌, ◌*◌, ◌/◌, ◌^◌, ◌<◌, ◌≤◌, true, false, cond, eqb, ltb, List, [], ◌∷◌, ◌++◌, length, map, take, drop, get_or, refl, ap, add-one, zero-add, arith, rules}, specs.List.AllByRecursion, proofs.lemmas.Bool.Decides.nat_tests, proofs.lemmas.Nat.{pow_pos}, proofs.Math.Seq.take-nil, proofs.Math.Nat.{div_self, div-mul-le_self, mul-le-mul_right}, proofs.lemmas.Grind.common_steps, proofs.lemmas.List.{take-take, drop-drop, length-map}}
+use Rattle.lag_ring.specs.declared.ring.Entry.{Entry}
+use Rattle.tau_cascade.{specs.Bins.{raised, both_of, merged, merged_all, near, IsSpaced, AreAlike}, proofs.Passes.{shares, spaced-rising}, proofs.Near.end_one, proofs.Follows.come_merged}
+
+-- one bin more
+pub near_more : (d i : ℕ) (es : List Entry) (none : Entry) → suc i < length es
+    → near d (take (suc (suc i)) es) ≡ near d (take (suc i) es) + cond (ltb ((get_or es (suc i) none).index - (get_or es i none).index) d) 1 0
+near_more d i [] none inside = absurd (omega (arith, inside))
+near_more d i (e ∷ []) none inside = absurd (omega (arith, inside))
+near_more d zero (e ∷ f ∷ es) none inside = omega arith
+near_more d (suc i) (e ∷ f ∷ es) none inside = omega (arith, near_more d i (f ∷ es) none (omega (arith, inside)))
+
+pub near_next : (d at' : ℕ) (es : List Entry) (none : Entry) → 0 < at' → at' < length es
+    → near d (take (at' + 1) es) ≡ near d (take at' es) + cond (ltb ((get_or es at' none).index - (get_or es (at' - 1) none).index) d) 1 0
+near_next d zero es none some inside = absurd (omega (arith, some))
+near_next d (suc i) es none some inside = (let one : suc i - 1 ≡ i = omega arith in rw (add-one, one) (near_more d i es none inside))
+
+pub near_at : (d : ℕ) (es : List Entry) → near d (take 1 es) ≡ 0
+near_at d es = search (rules, arith)
+
+-- fewer are near in a part of a list, and one more at most behind one bin
+pub near_take : (d n : ℕ) (es : List Entry) → near d (take n es) ≤ near d es
+near_take d zero es = omega arith
+near_take d (suc n) [] = omega arith
+near_take d (suc zero) (e ∷ []) = omega arith
+near_take d (suc (suc n)) (e ∷ []) = omega arith
+near_take d (suc zero) (e ∷ f ∷ es) = omega arith
+near_take d (suc (suc n)) (e ∷ f ∷ es) = omega (arith, near_take d (suc n) (f ∷ es))
+
+pub near_behind : (d : ℕ) (e : Entry) (es : List Entry) → near d (e ∷ es) ≤ near d es + 1
+near_behind d e [] = omega arith
+near_behind d e (f ∷ es) = grind (arith, common_steps)
+
+near_shift : (d k count : ℕ) (es : List Entry) → k ≤ 1 → near d (take (k + count) es) ≤ near d (take count (drop k es)) + 1
+near_shift d zero count es few = rw zero-add (omega arith)
+near_shift d (suc zero) count [] few = rw (take-nil {A = Entry} (1 + count)) (omega arith)
+near_shift d (suc zero) count (e ∷ es) few = (let one : 1 + count ≡ suc count = omega arith in rw one (near_behind d e (take count es)))
+near_shift d (suc (suc k)) count es few = absurd (omega (arith, few))
+
+-- of a stretch that begins one place before
+pub near_put : (d from first count n : ℕ) (list : List Entry) → from ≤ first → first ≤ from + 1 → n ≤ first + count - from
+    → near d (take n (drop from list)) ≤ near d (take count (drop first list)) + 1
+near_put d from first count n list order one within =
+    let k : ℕ = first - from in
+    let size : first + count - from ≡ k + count = omega arith in
+    let there : from + k ≡ first = omega arith in
+    let cut : near d (take n (drop from list)) ≤ near d (take (k + count) (drop from list)) = rw (← take-take n (k + count) (drop from list) (omega arith)) (near_take d n (take (k + count) (drop from list))) in
+    let back : drop k (drop from list) ≡ drop first list = rw (drop-drop, there) refl in
+    omega (arith, cut, near_shift d k count (drop from list) (omega arith), ap (λ ys. near d (take count ys)) back)
+
+pub near_few : (d : ℕ) (es : List Entry) → near d es ≤ length es
+near_few d [] = omega arith
+near_few d (e ∷ es) = omega (arith, near_behind d e es, near_few d es)
+
+-- none is, where all are as far apart
+pub near_none : (d : ℕ) (es : List Entry) → IsSpaced d es → near d es ≡ 0
+near_none d [] spaced = refl
+near_none d (e ∷ []) spaced = refl
+near_none d (e ∷ f ∷ es) spaced = (let rest = near_none d (f ∷ es) spaced.1 in grind (arith, nat_tests, spaced.0.0))
+
+merged_same : (e f : Entry) (es : List Entry) → e.index ≡ f.index → length (merged e es) ≡ length (merged f es)
+merged_same e f [] same = refl
+merged_same e f (g ∷ es) same = search (rules, arith, nat_tests, merged_same (both_of e g) (both_of f g) es same)
+
+-- those that share a bin are near to the one before them
+pub share_near : (d levels : ℕ) (es : List Entry) → 2 ^ levels ≤ d → length es ≤ length (merged_all (map (raised levels) es)) + near d es
+share_near d levels [] reach = omega arith
+share_near d levels (e ∷ []) reach = omega arith
+share_near d levels (e ∷ f ∷ es) reach =
+    let rest = share_near d levels (f ∷ es) reach in
+    let some : 0 < 2 ^ levels = pow_pos levels in
+    let far : d ≤ f.index - e.index → e.index / 2 ^ levels ≢ f.index / 2 ^ levels = λ apart same. absurd (let up = shares e.index (2 ^ levels) f.index (2 ^ levels) some (omega (arith, apart, reach, some)) in omega (arith, up, div_self some, same)) in
+    let same = merged_same (both_of (raised levels e) (raised levels f)) (raised levels f) (map (raised levels) es) in
+    grind (arith, nat_tests, common_steps, far, same, rest)
+
+-- merged bins stay as they are
+merged_once : (e : Entry) (es : List Entry) → merged_all (merged e es) ≡ merged e es
+merged_once e [] = refl
+merged_once e (f ∷ fs) = (elim (eqb e.index f.index) as (λ b. eqb e.index f.index ≡ b → merged_all (cond b (merged (both_of e f) fs) (e ∷ merged f fs)) ≡ cond b (merged (both_of e f) fs) (e ∷ merged f fs)) [
+  | true ↦ λ one. merged_once (both_of e f) fs
+  | false ↦ λ two.
+      let end = end_one f fs in
+      let rest = (rw end.2 at (merged_once f fs)) in
+      rw end.2 (grind (arith, nat_tests, common_steps, rest, two, end.3))
+]) refl
+
+pub merged_twice : (es : List Entry) → merged_all (merged_all es) ≡ merged_all es
+merged_twice [] = refl
+merged_twice (e ∷ es) = merged_once e es
+
+-- What merging does to the bins that a level closes.
+
+pub near_zero : (es : List Entry) → near 0 es ≡ 0
+near_zero [] = refl
+near_zero (e ∷ []) = refl
+near_zero (e ∷ f ∷ es) = (let rest = near_zero (f ∷ es) in grind (arith, nat_tests, rest))
+
+module _ (d levels : ℕ) (es : List Entry) (reach : 0 < d / 2 ^ levels) where
+  reaches : 2 ^ levels ≤ d
+  reaches = omega (arith, div-mul-le_self d (2 ^ levels), mul-le-mul_right (2 ^ levels) reach)
+
+  -- bins of which none share one
+  pub few_apart : (0 < d → IsSpaced d es) → length (map (raised levels) es) ≤ 2 * length (merged_all (map (raised levels) es))
+  few_apart spaced = omega (arith, share_near d levels es reaches, near_none d es (spaced (omega (arith, reaches, pow_pos levels))), length-map es (raised levels))
+
+  -- bins of which at most half do
+  pub few_share : (most : ℕ) → near d es ≤ most → most ≤ length es / 2 → length (map (raised levels) es) ≤ 2 * length (merged_all (map (raised levels) es))
+  few_share most are few = omega (arith, share_near d levels es reaches, are, few, length-map es (raised levels))
+
+pub alike_same : (es : List Entry) → AreAlike es es
+alike_same es = record { come = λ set level came xs come. come; merged = refl; sorted = λ rs sorted rising. sorted }
+
+pub alike_merged : (es fs : List Entry) → fs ≡ merged_all es → AreAlike es fs
+alike_merged es fs is = rw is (record { come = λ set level came xs come. come_merged set level es came xs come; merged = merged_twice es; sorted = λ rs sorted rising. spaced-rising (rs ++ merged_all es) rising })

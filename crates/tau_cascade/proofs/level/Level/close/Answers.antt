@@ -1,0 +1,61 @@
+use Rattle.std.{proofs.Common.{rules, ◌≡◌, ◌∙◌, ◌+◌, ◌-◌, ◌*◌, ◌^◌, ◌<◌, length, map, take, drop, ap, refl, arith}, proofs.Props.props, proofs.Math.Logic.{∥∥₁_map, ∥∥₁_elim}, proofs.Math.Nat.mul-le-mul_left, proofs.Math.Pow.pow_mono, proofs.lemmas.List.{length-drop, length-map}}
+use Rattle.lag_ring.proofs.Rising.{all_weaker}
+use Rattle.tau_cascade.{specs.Bins.{raised, stretch, merged_all}, specs.Opens.coming_bins, proofs.{Paired.all_rising, Passes.spaced_back, Spread.{ring_here, ring_parts, seam, spaced-prop}}, proofs.level.Level.close.Goals.{After-lower_ring-start}, proofs.level.Level.close.Given.{Over}}
+use Rattle.tau_cascade.proofs.level.Level.close.Goals as goal
+
+pub merge_many-shut-requires-clause-bins : goal.merge_many-shut-requires-clause-bins
+merge_many-shut-requires-clause-bins g c = (spaced_back 0 c.args.self.now.ring.entries _ c.requires.sorted.0, c.requires.sorted.1, c.requires.grid)
+
+pub lower_ring-start-requires-clause-fits : goal.lower_ring-start-requires-clause-fits
+lower_ring-start-requires-clause-fits g c =
+    all_weaker (λ e. e.index * 2 ^ c.args.closing.levels < 2 ^ 64) (λ e. e.index * 2 ^ c.merge_many-shut.result.levels < 2 ^ 64)
+    (λ e fits. omega (arith, fits, mul-le-mul_left e.index (pow_mono {i = c.merge_many-shut.result.levels} {j = c.args.closing.levels} (omega (arith, c.merge_many-shut.ensures.comes))))) c.args.self.now.ring.entries c.requires.room.4
+
+-- the bins of the list that is paired
+abbrev bins : (g : Over) (c : After-lower_ring-start g) → drop (c.merge_many-shut.result.closed.from - c.lower_ring-start.result) (map (raised c.merge_many-shut.result.levels)
+    (take (c.merge_many-shut.result.closed.from + c.merge_many-shut.result.closed.count - c.lower_ring-start.result) (drop c.lower_ring-start.result c.lower_ring-start.new.list)))
+    ≡ coming_bins c.merge_many-shut.result c.merge_many-shut.new.list
+bins g c = (ring_parts c.merge_many-shut.result.levels c.merge_many-shut.result.closed.from c.lower_ring-start.result c.merge_many-shut.result.closed.count
+    c.args.self.now.ring.entries c.merge_many-shut.new.list c.lower_ring-start.new.list c.lower_ring-start.ensures.place c.lower_ring-start.ensures.bins).1
+
+abbrev merged : (g : Over) (c : After-lower_ring-start g) → merged_all (drop (c.merge_many-shut.result.closed.from - c.lower_ring-start.result) (map (raised c.merge_many-shut.result.levels)
+    (take (c.merge_many-shut.result.closed.from + c.merge_many-shut.result.closed.count - c.lower_ring-start.result) (drop c.lower_ring-start.result c.lower_ring-start.new.list))))
+    ≡ merged_all (coming_bins c.args.closing c.args.list.now)
+merged g c = ap merged_all (bins g c) ∙ c.merge_many-shut.ensures.bins.merged
+
+pub shut-requires-clause-list : goal.shut-requires-clause-list
+shut-requires-clause-list g c =
+    let here = ring_here c.merge_many-shut.result.levels c.merge_many-shut.result.closed.from c.lower_ring-start.result c.merge_many-shut.result.closed.count
+    c.args.self.now.ring.entries c.merge_many-shut.new.list c.lower_ring-start.new.list c.lower_ring-start.ensures.place c.lower_ring-start.ensures.bins in
+    let parts = ring_parts c.merge_many-shut.result.levels c.merge_many-shut.result.closed.from c.lower_ring-start.result c.merge_many-shut.result.closed.count
+    c.args.self.now.ring.entries c.merge_many-shut.new.list c.lower_ring-start.new.list c.lower_ring-start.ensures.place c.lower_ring-start.ensures.bins in (
+      omega (arith, c.merge_many-shut.ensures.comes, c.requires.comes),
+      rw here (∥∥₁_elim c.requires.stands (spaced-prop _) (λ w. c.merge_many-shut.ensures.bins.sorted c.args.self.now.ring.entries c.requires.sorted.0 (all_rising _ _ _ refl _ _ _ _ _ w.2))),
+      parts.0,
+      λ far.
+          let apart = c.apart_all-apart.ensures far in
+          seam _ _ c.lower_ring-start.result c.merge_many-shut.result.closed.from c.merge_many-shut.result.closed.count c.lower_ring-start.new.list apart.0
+          (omega (arith, c.lower_ring-start.ensures.place)) (omega (arith, c.merge_many-shut.ensures.comes)) apart.1
+          (rw c.lower_ring-start.ensures.behind (c.merge_many-shut.ensures.comes.0.spaced (omega (arith, apart.0, far)))),
+    )
+
+pub shut-requires-clause-grid : goal.shut-requires-clause-grid
+shut-requires-clause-grid g c = rw (bins g (goal.at.shut-requires-clause-grid g c).After-lower_ring-start) c.merge_many-shut.ensures.grid
+
+pub shut-requires-clause-stands : goal.shut-requires-clause-stands
+shut-requires-clause-stands g c = rw (merged g (goal.at.shut-requires-clause-stands g c).After-lower_ring-start) c.requires.stands
+
+pub shut-requires-clause-few : goal.shut-requires-clause-few
+shut-requires-clause-few g c = λ off.
+    let at' = (goal.at.shut-requires-clause-few g c).After-lower_ring-start in
+    let slice = take (c.merge_many-shut.result.closed.from + c.merge_many-shut.result.closed.count - c.lower_ring-start.result) (drop c.lower_ring-start.result c.lower_ring-start.new.list) in
+    rw (merged g at') (omega (arith, ap length (bins g at'), length-drop (c.merge_many-shut.result.closed.from - c.lower_ring-start.result) (map (raised c.merge_many-shut.result.levels) slice), length-map slice (raised c.merge_many-shut.result.levels), c.merge_many-shut.ensures.few off))
+
+pub returns-clause-paired : goal.returns-clause-paired
+returns-clause-paired g c = rw (← merged g (goal.at.returns-clause-paired g c).After-lower_ring-start) c.shut.ensures.paired
+
+pub returns-clause-ring : goal.returns-clause-ring
+returns-clause-ring g c = rw (← merged g (goal.at.returns-clause-ring g c).After-lower_ring-start) c.shut.ensures.ring
+
+pub returns-clause-cells : goal.returns-clause-cells
+returns-clause-cells g c = rw (← merged g (goal.at.returns-clause-cells g c).After-lower_ring-start) c.shut.ensures.cells
