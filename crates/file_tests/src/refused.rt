@@ -28,7 +28,7 @@ pub(crate) fn with_place(digest: u64, place: u64) -> u64 {
 }
 
 impl EventTaker for Counter {
-    ghost use Rattle.std.{specs.Prelude.{refl}, proofs.Common.{◌∙◌, arith}};
+    ghost use Rattle.std.{specs.Prelude.{refl, true}, proofs.Common.{◌∙◌, arith}};
 
     ghost got = { λ s t l. (t.mode ≡ s.mode) × (t.taken ≡ s.taken + length l)
         × (t.floor ≡ max s.floor (floor_of s.mode l)) };

@@ -8,10 +8,10 @@ ghost use Rattle.file_work.specs.EventLines.{ListsNone, IsOpenIn, ListsPiece};
 use abs_time::{moved_floor, orders_markers};
 use bench_io::{OutBuffer, Sink};
 use command_work::{Job, Reader};
-use list_out::{LINE_SIZE, LINES_SIZE, format_block, format_event};
+use list_out::{LINE_SIZE, LINES, LINES_SIZE, format_block, format_event};
 use record_stream::{EventTaker, RecordStream, Summary};
 use tally_base::{
-    BLOCK_SIZE, Block, Event, Failed, Fault, Header, Mode, OnReserved, Order, Policy, RECORD_LIMIT,
+    Block, Event, Failed, Fault, Header, Mode, OnReserved, Order, Policy, RECORD_LIMIT, TABLE_BLOCK,
 };
 
 /// How the records are read that are listed: late events are marked, and reserved records are left
@@ -28,7 +28,7 @@ const LISTING: Policy = Policy {
 struct EventLines<'o, O: Sink> {
     out: &'o mut O,
     block: OutBuffer,
-    // Room for the lines of a block of events.
+    // Room for the lines of some events of a block.
     text: [u8; LINES_SIZE],
     mode: Mode,
     taken: u64,
@@ -37,7 +37,7 @@ struct EventLines<'o, O: Sink> {
 
 impl<'o, O: Sink> EventTaker for EventLines<'o, O> {
     ghost use Rattle.file_work.specs.EventLines.{Listed, ListedShort, listed_none};
-    ghost use Rattle.std.{specs.Prelude.{refl}, proofs.Common.{◌∙◌}};
+    ghost use Rattle.std.{specs.Prelude.{refl, true}, proofs.Common.{◌∙◌}};
 
     ghost got = { λ s t l. Listed s.out.ghost_name t.out.ghost_name s.mode t.mode s.taken t.taken
         s.floor t.floor (O.faults s.out.now) (O.faults t.out.now)
@@ -76,12 +76,13 @@ impl<'o, O: Sink> EventTaker for EventLines<'o, O> {
         Ok(())
     }
 
-    fn take_block(&mut self, block: &mut Block<BLOCK_SIZE>) -> Result<(), Failed> {
-        if block.len() == 0 {
-            return Ok(());
+    fn take_block(&mut self, block: &mut Block<TABLE_BLOCK>) -> Result<(), Failed> {
+        let mut from = 0;
+        'parts: while from < block.len() {
+            let lines = format_block(block, from, &mut self.text);
+            self.block.put(self.out, lines)?;
+            from += LINES;
         }
-        let lines = format_block(block, &mut self.text);
-        self.block.put(self.out, lines)?;
         self.taken += block.len() as u64;
         self.floor = block.floor_after(orders_markers(self.mode), self.floor);
         Ok(())

@@ -1,1 +1,4 @@
-pub mod BlockLemmas
+mod Prefix
+mod Filled
+pub mod Added
+pub mod Chosen

@@ -1,9 +1,7 @@
 // The fields of eight words, split at once.
-ghost use Rattle.std.specs.Prelude.{◌≡◌, ◌<◌, ◌^◌, ℕ, slice_index};
+ghost use Rattle.std.specs.Prelude.{◌≡◌, ◌<◌, ◌^◌, ℕ, length, slice_index};
 ghost use Rattle.ptu_definitions.specs.Words.{numbers};
-ghost use Rattle.record_layout.specs.Joins.{fields_in};
 
-use ptu_definitions::Raw;
 use record_layout::{Fields, RecordLayout};
 use std::simd::prelude::*;
 
@@ -22,11 +20,9 @@ impl FieldLanes {
 
     /// The fields of eight words of four bytes each, little endian, in the layout `R`.
     #[inline(always)]
-    pub fn of<R: RecordLayout>(words: &[[u8; 4]; 8]) -> FieldLanes
-        ensures fields { (place : ℕ) → place < 8 → fields_at result place
-            ≡ fields_in R.TOP_SHIFT R.DTIME_SHIFT R.DTIME_MASK R.TIME_MASK
-            (slice_index (numbers words.now) place) }
-        ensures records { (place : ℕ) → place < 8 → R.joined (fields_at result place)
+    pub fn of<R: RecordLayout>(words: &[[u8; 4]]) -> FieldLanes
+        requires { length words.now ≡ 8 }
+        ensures { (place : ℕ) → place < 8 → R.joined (fields_at result place)
             ≡ R.meaning (slice_index (numbers words.now) place) }
     {
         let words = u32x8::from_array(numbers_of(words));
@@ -38,23 +34,24 @@ impl FieldLanes {
         }
     }
 
-    /// What the fields of the word at `place`, 0 to 7, say in the layout `R`.
+    /// The fields of the word at `place`, 0 to 7.
     #[inline(always)]
-    pub fn record<R: RecordLayout>(&self, place: usize) -> Raw
+    pub fn fields(&self, place: usize) -> Fields
         requires { place < 8 }
-        ensures { result ≡ R.joined (fields_at self.now place) }
+        ensures { result ≡ fields_at self.now place }
     {
-        R::join(&Fields {
+        Fields {
             top: self.tops[place] as u8,
             dtime: self.dtimes[place] as u16,
             time: self.times[place],
-        })
+        }
     }
 }
 
 /// The numbers of eight words.
 #[inline(always)]
-fn numbers_of(words: &[[u8; 4]; 8]) -> [u32; 8]
+fn numbers_of(words: &[[u8; 4]]) -> [u32; 8]
+    requires { length words.now ≡ 8 }
     ensures { result ≡ numbers words.now }
 {
     [

@@ -1,6 +1,6 @@
 -- The text of a header at known bytes.
-use Rattle.std.{proofs.Common.{◌≡◌, ◌-◌, ◌/◌, ◌%◌, ℕ, zero, suc, List, [], ◌∷◌, ◌++◌, length, take, replicate, refl, codes, ◌∙◌, ◌<◌, false, map, ap, sym, append_assoc, append-nil, arith, rules, true}, specs.Fmt.digits}
-use Rattle.tally_base.{specs.Hexadecimal.hexadecimal, specs.declared.event.Event.Event, specs.Columns.rows, proofs.BlockRows.rows-last, specs.declared.event.EventKind.TheVariants.{Photon, Marker}}
+use Rattle.std.{proofs.Common.{inl, inr, ◌+◌, ◌≤◌, min, drop, ◌≡◌, ◌-◌, ◌/◌, ◌%◌, ℕ, zero, suc, List, [], ◌∷◌, ◌++◌, length, take, replicate, refl, codes, ◌∙◌, ◌<◌, false, map, ap, sym, append_assoc, append-nil, arith, rules, true}, specs.Fmt.digits, proofs.Math.Seq.{drop-append_seam, take-append_seam}, proofs.lemmas.List.take_all, proofs.lemmas.Bool.cases_lt}
+use Rattle.tally_base.{specs.Hexadecimal.hexadecimal, specs.declared.event.Event.Event, specs.Columns.rows, proofs.BlockRows.{length-rows, more_rows, rows-last}, specs.declared.event.EventKind.TheVariants.{Photon, Marker}}
 use Rattle.ptu_definitions.{specs.TagList.{name_in, index_in, code_in, value_in, has_body, is_known}, specs.Headers.{seen, seen_from, seen_preamble}}
 use Rattle.list_out.{specs.HeaderText.{head_text, body_text, kind_with, item_text, preamble_text, shown_text, header_text}, specs.Lines.{event_text, events_text}}
 
@@ -41,6 +41,37 @@ end_text = codes "tag Header_End -1 tyEmpty8 -\n"
 -- the lines of events of which none is late
 abbrev pub lines : List Event → List ℕ
 lines es = events_text (map (λ e. (e, false)) es)
+
+-- rows behind others
+rows-join : {A : Type 0} (f : ℕ → A) (a n : ℕ) → rows f (a + n) ≡ rows f a ++ rows (λ i. f (a + i)) n
+rows-join f a zero = let none : a + 0 ≡ a = omega arith in ap (rows f) none ∙ sym (append-nil (rows f a))
+rows-join f a (suc n) =
+    let next : a + suc n ≡ a + n + 1 = omega arith in
+    ap (rows f) next ∙ more_rows f (a + n) ∙ ap (λ l. l ++ f (a + n) ∷ []) (rows-join f a n)
+    ∙ append_assoc (rows f a) (rows (λ i. f (a + i)) n) (f (a + n) ∷ [])
+
+take-rows : {A : Type 0} (f : ℕ → A) (k n : ℕ) → k ≤ n → take k (rows f n) ≡ rows f k
+take-rows f k n le =
+    let whole : n ≡ k + (n - k) = omega (arith, le) in
+    ap (λ j. take k (rows f j)) whole ∙ ap (take k) (rows-join f k (n - k))
+    ∙ ap (λ j. take j (rows f k ++ rows (λ i. f (k + i)) (n - k))) (sym (length-rows f k)) ∙ take-append_seam (rows f k) _
+
+-- so many rows at most, from a place on
+pub rows-part : {A : Type 0} (f : ℕ → A) (a n m k : ℕ) → a ≤ n → k ≡ min m (n - a) → take m (drop a (rows f n)) ≡ rows (λ i. f (a + i)) k
+rows-part f a n m k le is =
+    let g = λ (i : ℕ). f (a + i) in
+    let whole : n ≡ a + (n - a) = omega (arith, le) in
+    let back : drop a (rows f n) ≡ rows g (n - a) =
+    ap (λ j. drop a (rows f j)) whole ∙ ap (drop a) (rows-join f a (n - a))
+    ∙ ap (λ j. drop j (rows f a ++ rows g (n - a))) (sym (length-rows f a)) ∙ drop-append_seam (rows f a) _ in
+    ap (take m) back ∙ elim (cases_lt (n - a) m) [
+      | inl few ↦
+          let all : n - a ≡ k = omega (arith, is, few) in
+          take_all m (rows g (n - a)) (omega (arith, few, length-rows g (n - a))) ∙ ap (rows g) all
+      | inr many ↦
+          let all : m ≡ k = omega (arith, is, many) in
+          take-rows g m (n - a) many ∙ ap (rows g) all
+    ]
 
 lines-push : (es : List Event) (e : Event) → lines (es ++ e ∷ []) ≡ lines es ++ event_text e false
 lines-push [] e = append-nil (event_text e false)

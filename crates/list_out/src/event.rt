@@ -1,14 +1,17 @@
 // The lines of events.
-ghost use Rattle.std.specs.Prelude.{◌≡◌, ◌+◌, ◌≤◌, ◌++◌, length, drop, map, false};
-ghost use Rattle.tally_base.specs.Columns.{gathered};
+ghost use Rattle.std.specs.Prelude.{◌≡◌, ◌+◌, ◌≤◌, ◌++◌, length, take, drop, map, false};
+ghost use Rattle.tally_base.specs.Columns.{count, gathered};
 ghost use Rattle.list_out.specs.Lines.{event_text, events_text, kind_text, line_end};
 
 use crate::backwards::{LINE_SIZE, write_number, write_text};
 use arrayvec::ArrayVec;
-use tally_base::{BLOCK_SIZE, Block, Event, EventKind, put_text};
+use tally_base::{Block, Event, EventKind, TABLE_BLOCK, put_text};
 
-/// Room for the lines of a block of events, in bytes.
-pub const LINES_SIZE: usize = BLOCK_SIZE * LINE_SIZE;
+/// The most lines that are formatted at once.
+pub const LINES: usize = 64;
+
+/// Room for these, in bytes.
+pub const LINES_SIZE: usize = LINES * LINE_SIZE;
 
 /// Writes what an event is, with its time, before what stands from `end` on, and returns where it starts.
 #[inline(always)]
@@ -89,27 +92,35 @@ pub fn format_event<'l>(event: &Event, late: bool, line: &'l mut [u8; LINE_SIZE]
     &line[start..]
 }
 
-/// Writes the lines of the events of a block, none of them late, at the end of a buffer, and returns where
-/// they start. The last line is written first, and each before what stands behind it.
-fn write_lines(text: &mut [u8; LINES_SIZE], block: &Block<BLOCK_SIZE>) -> usize
+/// Writes the lines of up to 64 events of a block from a place on, none of them late, at the end of a buffer, and
+/// returns where they start. The last line is written first, and each before what stands behind it.
+fn write_lines(text: &mut [u8; LINES_SIZE], block: &Block<TABLE_BLOCK>, from: usize) -> usize
+    requires { from ≤ count block.now }
     ensures inside { result ≤ LINES_SIZE }
     ensures written { drop result text.new
-        ≡ events_text (map (λ e. (e, false)) (gathered block.now)) }
+        ≡ events_text (map (λ e. (e, false)) (take LINES (drop from (gathered block.now)))) }
 {
-    let mut at = block.len().min(BLOCK_SIZE);
+    let mut at = block.len().min(from + LINES);
     let mut start = LINES_SIZE;
-    'back: while at > 0 {
+    'back: while at > from {
         at -= 1;
         start = write_event(text, start, &block.event(at), false);
     }
     start
 }
 
-/// Formats the lines of the events of a block, none of them late, in a buffer, where no line is copied.
-pub fn format_block<'l>(block: &Block<BLOCK_SIZE>, text: &'l mut [u8; LINES_SIZE]) -> &'l [u8]
-    ensures { result.now ≡ events_text (map (λ e. (e, false)) (gathered block.now)) }
+/// Formats the lines of up to 64 events of a block from a place on, none of them late, in a buffer, where no line is
+/// copied.
+pub fn format_block<'l>(
+    block: &Block<TABLE_BLOCK>,
+    from: usize,
+    text: &'l mut [u8; LINES_SIZE],
+) -> &'l [u8]
+    requires { from ≤ count block.now }
+    ensures { result.now
+        ≡ events_text (map (λ e. (e, false)) (take LINES (drop from (gathered block.now)))) }
 {
-    let start = write_lines(text, block);
+    let start = write_lines(text, block, from);
     &text[start..]
 }
 

@@ -10,7 +10,7 @@ mod preamble;
 
 pub use backwards::{LINE_SIZE, write_newline, write_number, write_text, write_wide};
 pub use body::BodyText;
-pub use event::{LINES_SIZE, event_line, format_block, format_event};
+pub use event::{LINES, LINES_SIZE, event_line, format_block, format_event};
 pub use head::header_line;
 pub use line::{put_announced, put_bits, put_count, put_line, put_time};
 pub use preamble::preamble_lines;

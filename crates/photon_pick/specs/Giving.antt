@@ -23,7 +23,7 @@ words_behind p behind photons = each_after (photon_words (mode_of p.picker)) beh
 
 -- The first so many of these places are places of the block.
 pub record ArePlaces {N : ℕ} (events : Block N) (places : List ℕ) (many : ℕ) : Type 0 where
-  pub few : many ≤ 64
+  pub few : many ≤ 1024
   pub inside : (k : ℕ) → k < many → slice_index places k < count events
 
 -- The header was written and no call refused, and the events are photons that fit the picker's mode and come in order, no earlier than its last.

@@ -5,7 +5,7 @@ ghost use Rattle.gate_plan.{specs.Groups.sorting_of, specs.Parting.gated_bits, s
 ghost use Rattle.photon_pick.{specs.Chosen.is_chosen, specs.Giving.events_at};
 
 use gate_plan::Gates;
-use tally_base::{BLOCK_SIZE, Block, Event, EventKind, is_in};
+use tally_base::{Block, Event, EventKind, TABLE_BLOCK, is_in};
 
 /// The groups that an event is in, none for a marker. Where no group has a gate, its input alone tells.
 #[inline(always)]
@@ -29,19 +29,19 @@ fn groups_of(gates: &Gates, gated: bool, e: &Event) -> u64
 pub(crate) fn choose(
     gates: &Gates,
     group: u8,
-    block: &Block<BLOCK_SIZE>,
-    places: &mut [u8; BLOCK_SIZE],
+    block: &Block<TABLE_BLOCK>,
+    places: &mut [u16; TABLE_BLOCK],
 ) -> usize
     requires group { (0 < group) × (group ≤ 64) }
-    ensures few { result ≤ BLOCK_SIZE }
+    ensures few { result ≤ TABLE_BLOCK }
     ensures inside { (k : ℕ) → k < result → slice_index places.new k < count block.now }
     ensures chosen { events_at block.now places.new result
         ≡ filter (is_chosen (sorting_of gates.now) group) (gathered block.now) }
 {
     let gated = gates.has_gates();
     let mut chosen = 0;
-    for at in 0..block.len().min(BLOCK_SIZE) {
-        places[chosen] = at as u8;
+    for at in 0..block.len().min(TABLE_BLOCK) {
+        places[chosen] = at as u16;
         let groups = groups_of(gates, gated, &block.event(at));
         chosen += usize::from(is_in(groups, group));
     }

@@ -6,12 +6,12 @@ ghost use Rattle.photon_pick.specs.Giving.{events_at, pen_on, ArePlaces, CanBeGi
 
 use bench_io::{OutBuffer, Sink};
 use record_write::Picker;
-use tally_base::{BLOCK_SIZE, Block, Fault};
+use tally_base::{Block, Fault, TABLE_BLOCK};
 
 /// Gives the photons at the first so many of these places of a block to a picker, until it refuses one.
 pub(crate) fn give_photons<O: Sink>(
-    events: &Block<BLOCK_SIZE>,
-    places: &[u8; BLOCK_SIZE],
+    events: &Block<TABLE_BLOCK>,
+    places: &[u16; TABLE_BLOCK],
     many: usize,
     picker: &mut Picker,
     block: &mut OutBuffer,

@@ -12,7 +12,7 @@ use bench_io::{OutBuffer, Sink};
 use gate_plan::Gates;
 use record_stream::EventTaker;
 use record_write::Picker;
-use tally_base::{BLOCK_SIZE, Block, Event, Failed, Fault, Mode, is_in};
+use tally_base::{Block, Event, Failed, Fault, Mode, TABLE_BLOCK, is_in};
 
 /// Whether an event is a photon of a group, by its shifted dtime, that isn't late.
 #[inline(always)]
@@ -102,7 +102,7 @@ impl<'g, 'p, 'o, O: Sink> EventTaker for Picks<'g, 'p, 'o, O> {
         }
     }
 
-    fn take_block(&mut self, block: &mut Block<BLOCK_SIZE>) -> Result<(), Failed> {
+    fn take_block(&mut self, block: &mut Block<TABLE_BLOCK>) -> Result<(), Failed> {
         if block.len() == 0 {
             return Ok(());
         }
@@ -113,7 +113,7 @@ impl<'g, 'p, 'o, O: Sink> EventTaker for Picks<'g, 'p, 'o, O> {
         self.taken += block.len() as u64;
         self.floor = block.floor_after(orders_markers(self.mode), self.floor);
         // All places first, and then the photons: so no branch depends on the group.
-        let mut places = [0; BLOCK_SIZE];
+        let mut places = [0; TABLE_BLOCK];
         let many = choose(self.gates, self.group, block, &mut places);
         let given = give_photons(block, &places, many, self.picker, &mut self.block, self.out);
         if let Err(fault) = given {

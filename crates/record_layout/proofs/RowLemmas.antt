@@ -1,7 +1,7 @@
 -- The parts of a record say what its fields say.
-use Rattle.std.{proofs.Common.{◌≡◌, ℕ, Bool, true, false, arith, ◌&&◌, nat_lt, nat_le, ◌==◌}, proofs.lemmas.Grind.common_steps, proofs.lemmas.Bool.Decides.nat_tests}
-use Rattle.ptu_definitions.{specs.Layouts.bits, specs.Kinds.{is_photon, is_marker, is_wrap}}
-use Rattle.record_layout.{specs.Rowed.{raw_of, hydra_t2_code, hydra_t3_code, hydra_t2_unit, hydra_wraps, pico_code, pico_wraps}, specs.Joins.{joined_pico_t2, joined_pico_t3, joined_hydra_t2, joined_hydra_t3}, specs.declared.row.Row.Row}
+use Rattle.std.{proofs.Common.{◌≡◌, ℕ, Bool, true, false, arith}, proofs.lemmas.Grind.common_steps, proofs.lemmas.Bool.Decides.nat_tests}
+use Rattle.ptu_definitions.specs.Layouts.{bits}
+use Rattle.record_layout.{specs.Rowed.{raw_of, hydra_t2_code, hydra_t3_code, hydra_t2_unit, hydra_wraps, pico_code, pico_wraps}, specs.Joins.{joined_pico_t2, joined_pico_t3, joined_hydra_t2, joined_hydra_t3}}
 
 old-t2 : (top time dtime : ℕ) → raw_of (hydra_t2_unit true) (record { code = hydra_t2_code top; time = time; dtime = 0; wraps = hydra_wraps true top time })
     ≡ joined_hydra_t2 true (record { top = top; dtime = dtime; time = time })
@@ -40,14 +40,3 @@ pub row-pico_t3 : (top time dtime marker : ℕ) → marker ≡ bits dtime 0 4
     → raw_of 65536 (record { code = pico_code top marker; time = time; dtime = dtime; wraps = pico_wraps top marker })
     ≡ joined_pico_t3 (record { top = top; dtime = dtime; time = time })
 row-pico_t3 top time dtime marker is = grind (arith, common_steps, nat_tests)
-
--- The kind of a record by its code.
-
-photon : (unit : ℕ) (row : Row) → is_photon (raw_of unit row) ≡ nat_lt row.code 256
-photon unit row = grind (arith, common_steps, nat_tests)
-
-marker : (unit : ℕ) (row : Row) → is_marker (raw_of unit row) ≡ (nat_le 256 row.code && nat_lt row.code 512)
-marker unit row = grind (arith, common_steps, nat_tests)
-
-wrap : (unit : ℕ) (row : Row) → is_wrap (raw_of unit row) ≡ (row.code == 512)
-wrap unit row = grind (arith, common_steps, nat_tests)

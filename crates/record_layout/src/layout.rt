@@ -80,11 +80,42 @@ pub trait RecordLayout {
     {
         Self::join(&fields_of::<Self>(word))
     }
+
+    /// The parts of the record of a word.
+    #[inline(always)]
+    final fn row(word: u32) -> Row
+        ensures record { raw_of UNIT result ≡ meaning word }
+        ensures wraps { UNIT * result.wraps ≡ amount (meaning word) }
+    {
+        Self::split(&fields_of::<Self>(word))
+    }
+
+    /// What the parts of a record say.
+    #[inline(always)]
+    final fn raw(row: &Row) -> Raw
+        ensures { result ≡ raw_of UNIT row.now }
+    {
+        match row.code {
+            0..256 => Raw::Photon {
+                input: row.code as u8,
+                time: row.time,
+                dtime: row.dtime,
+            },
+            256..512 => Raw::Marker {
+                bits: (row.code % 256) as u8,
+                time: row.time,
+            },
+            512 => Raw::Wrap {
+                amount: Self::UNIT * u64::from(row.wraps),
+            },
+            _ => Raw::Reserved,
+        }
+    }
 }
 
 /// The fields of a word.
 #[inline(always)]
-pub(crate) fn fields_of<R: RecordLayout>(word: u32) -> Fields
+fn fields_of<R: RecordLayout>(word: u32) -> Fields
     ensures { result ≡ fields_in R.TOP_SHIFT R.DTIME_SHIFT R.DTIME_MASK R.TIME_MASK word }
 {
     Fields {

@@ -1,12 +1,9 @@
-//! Records of 32 bits: what each means in the four layouts, the parts of up to 64 of them in columns, and how many
-//! there are of each kind. Begin with `layout.rt`; `by_type.rt` finds the layout of a record type, and
-//! `record_stream` reads files with it.
+//! Records of 32 bits: what each means in the four layouts, its parts, and how many there are of each kind. Begin with
+//! `layout.rt`; `by_type.rt` finds the layout of a record type, and `lane_decode` takes many words at once.
 #![tactic(auto)]
 
 mod begun;
 mod by_type;
-mod close;
-mod columns;
 mod counter;
 mod fields;
 mod hydra_t2;
@@ -18,8 +15,6 @@ mod row;
 
 pub use begun::BegunWord;
 pub use by_type::decode;
-pub use close::Close;
-pub use columns::Columns;
 pub use counter::Counter;
 pub use fields::Fields;
 pub use hydra_t2::HydraT2;

@@ -1,9 +1,10 @@
 -- One word more in a block.
-use Rattle.std.{proofs.Common.{rules, ◌≡◌, ◌+◌, ◌*◌, ◌<◌, ◌≤◌, ℕ, List, [], ◌∷◌, ◌++◌, Bool, true, false, length, map, get_or, refl, sym, ap, ◌∙◌, add-zero, append-nil, append_assoc, arith, ◌&&◌, nat_le, count_by, nat_lt, if◌then◌else◌, ◌^◌, take, length-take-le, subst, All, not, IsTrue, max}, specs.Int.{from_le_bytes, w32}, proofs.lemmas.Bool.{cases_Bool, cases_lt, leb-true}, proofs.lemmas.List.Sums.{get_or-le-sum_by, sum_by-cons}, proofs.lemmas.List.Elements.{filter-append}, proofs.lemmas.List.{map_push, map-append}, proofs.Math.Seq.get_or-append_seam}
-use Rattle.tally_base.{specs.declared.event.Event.Event, specs.declared.header.Mode.Mode, specs.Events.{stops_reserved, is_ordered}, specs.Limits.wrap_limit, specs.Columns.{event_by, rows}, specs.Tally.{moves_floor, floor_after, InOrder}, proofs.BlockRows.{length-rows, more_rows, rows-split}, proofs.Floors.floor-more}
+use Rattle.std.{proofs.Common.{rules, ◌≡◌, ◌+◌, ◌*◌, ◌<◌, ◌≤◌, ℕ, List, [], ◌∷◌, ◌++◌, Bool, true, false, length, map, get_or, refl, sym, ap, ◌∙◌, add-zero, append-nil, append_assoc, length-append, arith, ◌&&◌, nat_le, count_by, nat_lt, if◌then◌else◌, ◌^◌, take, length-take-le, subst, All, not, IsTrue, max}, specs.Int.{from_le_bytes, w32}, proofs.lemmas.Bool.{cases_Bool, cases_lt, leb-true}, proofs.lemmas.List.Sums.{get_or-le-sum_by, sum_by-cons}, proofs.lemmas.List.Elements.{filter-append}, proofs.lemmas.List.{map_push, map-append}, proofs.Math.Seq.{get_or-append_seam, take-append_seam}}
+use Rattle.tally_base.{specs.declared.event.Event.Event, specs.declared.header.Mode.Mode, specs.Events.{stops_reserved, is_ordered}, specs.Limits.wrap_limit, specs.Columns.{event_by, rows, event_at, count, gathered, written}, specs.declared.block.Block.Block, specs.Tally.{moves_floor, floor_after, InOrder}, proofs.BlockRows.{length-rows, more_rows, rows-split}, proofs.Floors.floor-more}
 use Rattle.ptu_definitions.{specs.declared.records.Raw.Raw, specs.Kinds.is_reserved, specs.Times.{event_of, amount}, specs.Layouts.Fits, specs.Words.numbers, specs.Streams.StreamSettings, proofs.WordsLemmas.meaning-fits, specs.Kept.{Marked, floor_of}}
 use Rattle.abs_time.{specs.Placing.{base_of, placed_by, IsClock, LeadsOn}, specs.Floors.orders_markers, proofs.Floors.{moves_by, moved_floor-push}}
-use Rattle.record_layout.{specs.declared.row.Row.Row, specs.Rowed.raw_of, specs.InColumns.IsRow}
+use Rattle.record_layout.{specs.declared.row.Row.Row, specs.Rowed.raw_of}
+use Rattle.lane_decode.specs.InColumns.{IsRow}
 use Rattle.record_stream.{specs.Blocks.{chosen, Adds, IsInLine, greatest_with, IsOnTime, on_time}, specs.Rows.{ordered_below, greatest_with_row, gathered_below, event_below}, specs.Walking.{how_of, greatest_of, clock_in, AddsBehind, Gathers, LetsPass}, specs.declared.walk.Walk.Walk, proofs.Steps.{adds-push, clock-push, in_line-push, places-push}, proofs.Wraps.{numbers-more, amount-small}}
 
 -- The event of a record, by its code.
@@ -192,3 +193,21 @@ floor_of-block mode l (e ∷ es) first now is all =
     let next = moved_floor-push mode first now l e false is (λ o. all.1 (ordered-moves mode e o)) in
     floor_of-block mode (l ++ (e, false) ∷ []) es first (if moves_floor (orders_markers mode) e then e.time else now)
     (rw (moves_by mode e, ← not_late (is_ordered mode e) e.time now) next) all.2 ∙ rw append_assoc refl
+
+-- The rows of a block behind its end.
+
+-- rows that agree up to one agree before it
+pub rows-before : {X : Type 0} (f g : ℕ → X) (m n : ℕ) → m ≤ n → rows f n ≡ rows g n → rows f m ≡ rows g m
+rows-before f g m n le same =
+    let one = rows-split f m n le in
+    let other = rows-split g m n le in
+    sym (rw length-rows at (take-append_seam (rows f m) one.0)) ∙ ap (take m) (sym one.1 ∙ same ∙ other.1) ∙ (rw length-rows at (take-append_seam (rows g m) other.0))
+
+-- what was written behind its end leaves its events
+pub gathered-same : {N : ℕ} (old new : Block N) (n : ℕ) → count new ≡ count old → count old ≤ n → written new n ≡ written old n → gathered new ≡ gathered old
+gathered-same old new n counts le same = ap (rows (event_at new)) counts ∙ rows-before (event_at new) (event_at old) old.len n le same
+
+-- how many events come behind those of a block
+pub behind-many : {N : ℕ} (old new : Block N) (n : ℕ) (es : List Event) → written new n ≡ gathered old ++ es → n ≡ count old + length es
+behind-many old new n es are =
+    sym (length-rows (event_at new) n) ∙ ap length are ∙ length-append (gathered old) es ∙ ap (λ k. k + length es) (length-rows (event_at old) old.len)

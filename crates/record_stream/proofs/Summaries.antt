@@ -96,7 +96,7 @@ pub first-rows : (kept : Bool) (time : ℕ) (f : ℕ → Event) (n : ℕ) → 0 
 first-rows true time f n some = rw (rows-first f n some).1 refl
 first-rows false time f n some = rw (rows-first f n some).1 refl
 
-last_with-push : (o : Option ℕ) (xs : List Event) (e : Event) → last_with o (xs ++ e ∷ []) ≡ Some e.time
+pub last_with-push : (o : Option ℕ) (xs : List Event) (e : Event) → last_with o (xs ++ e ∷ []) ≡ Some e.time
 last_with-push o [] e = refl
 last_with-push o (x ∷ xs) e = last_with-push (Some x.time) xs e
 

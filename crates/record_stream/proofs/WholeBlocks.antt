@@ -3,7 +3,8 @@ use Rattle.std.{proofs.Common.{rules, ◌≡◌, ◌+◌, ◌*◌, ◌^◌, ◌%
 use Rattle.ptu_definitions.{specs.declared.records.Raw.Raw, specs.Times.amount}
 use Rattle.tally_base.{specs.declared.event.Event.Event, specs.declared.header.Mode.Mode, specs.declared.header.Mode.TheVariants.{T2, T3}, specs.Codes.{code_in, dtime_in}, specs.Columns.event_by, specs.Limits.wrap_limit}
 use Rattle.abs_time.specs.Placing.{placed_by, base_of}
-use Rattle.record_layout.{specs.declared.row.Row.Row, specs.declared.columns.Columns.Columns, specs.InColumns.{HasRows, row_at, wraps_at, sum_to, time_in, before, Rises}, specs.declared.close.Close.Close, specs.InClose.{stays, staying, HasStayed, code_at, place_at, time_at}, proofs.Chosen.{place-more, place-below, map-places, at-stayed}, proofs.Added.sum-more}
+use Rattle.record_layout.specs.declared.row.Row.{Row}
+use Rattle.lane_decode.{specs.declared.columns.Columns.Columns, specs.InColumns.{HasRows, row_at, wraps_at, sum_to, time_in, before, Rises}, specs.declared.compacted.Compacted.Compacted, specs.InCompacted.{stays, staying, HasStayed, code_at, place_at, time_at}, proofs.Chosen.{place-more, place-below, map-places, at-stayed}, proofs.Added.sum-more}
 use Rattle.record_stream.{specs.Whole.{close_event, last_below}, specs.Rows.{ordered_below, gathered_below, event_below, greatest_with_row}, specs.Walking.{how_of, greatest_of, clock_in, Gathers, LetsPass}, specs.declared.walk.Walk.Walk, proofs.Gathering.{gathers-none, small, gathers-row}}
 
 -- the last time of some records whose code is below this one, or else a lower time
@@ -141,7 +142,7 @@ module _ (walk : Walk) (words : List (List ℕ)) (meaning : ℕ → Raw) (same :
       ∙ ap (last_in ordered code time low) (sym (place-more (stays below columns) n) ∙ ap (staying below columns) next)
 
   -- What is put close together.
-  module _ (n : ℕ) (le : n ≤ 64) (close : Close) (len : ℕ) (has : HasStayed below columns n close len)
+  module _ (n : ℕ) (le : n ≤ 64) (close : Compacted) (len : ℕ) (has : HasStayed below columns n close len)
       (few_placed : placed_by (clock_in walk) + 100 ≤ 2 ^ 64) (fits : (i : ℕ) → i < 64 → time i < 2 ^ 64) where
     abbrev ks : List ℕ
     ks = staying below columns n

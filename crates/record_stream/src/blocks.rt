@@ -1,17 +1,20 @@
 // The words of a piece in blocks, without a branch on what each record is.
-ghost use Rattle.std.specs.Prelude.{◌≡◌, ◌+◌, ◌*◌, ◌%◌, ◌^◌, ◌<◌, ◌≤◌, ◌++◌, ◌∷◌, ◌&&◌, [], List, ℕ, length, map, count_by, true, false, nat_lt, nat_le, if◌then◌else◌, OnOk, OnErr, IfErr};
-ghost use Rattle.tally_base.{specs.declared.header.Mode.Mode, specs.declared.fault.Fault.TheVariants.WriteFault, specs.FaultCounts.FailsOnce, specs.Events.stops_reserved, specs.Limits.{record_limit, wrap_limit}, specs.Columns.{count, sorted, gathered, written}};
+ghost use Rattle.std.specs.Prelude.{◌≡◌, ◌+◌, ◌*◌, ◌%◌, ◌^◌, ◌<◌, ◌≤◌, ◌++◌, ◌∷◌, ◌&&◌, [], List, ℕ, length, map, drop, count_by, true, false, nat_lt, nat_le, if◌then◌else◌, OnOk, OnErr, IfErr};
+ghost use Rattle.tally_base.{specs.declared.event.Event.Event, specs.declared.header.Mode.Mode, specs.declared.fault.Fault.TheVariants.WriteFault, specs.FaultCounts.FailsOnce, specs.Events.stops_reserved, specs.Limits.{record_limit, wrap_limit}, specs.Columns.{count, sorted, gathered, written}};
 ghost use Rattle.ptu_definitions.{specs.Words.numbers, specs.Kinds.{is_reserved, counts_of}, specs.Kept.Marked, specs.Times.event_of};
 ghost use Rattle.abs_time.specs.Placing.{base_of, placed_by};
-ghost use Rattle.record_layout.{specs.InColumns.HasRows, specs.Sums.IsSplit, specs.InClose.{code_at, time_at}};
-ghost use Rattle.record_stream.{specs.Blocks.{on_time, BrokeAmong}, specs.Rows.{ordered_below, gathered_below, event_below, GoesBy}, specs.Feeding.Delivers, specs.OneMore.{summed, with_block}, specs.Whole.last_below, specs.Walking.{how_of, given_by, greatest_of, records_of, summary_in, clock_in, IsBehind, Gathers, IsBlank, IsReady, LetsPass, WalksOn, Stays}};
+ghost use Rattle.record_layout.specs.Sums.{IsSplit};
+ghost use Rattle.lane_decode.{specs.InColumns.HasRows, specs.InCompacted.{code_at, time_at}};
+ghost use Rattle.record_stream.{specs.Blocks.{on_time, BrokeAmong}, specs.Rows.{ordered_below, gathered_below, event_below, GoesBy}, specs.Feeding.Delivers, specs.OneMore.{summed, with_block}, specs.Whole.{last_below, GathersBehind}, specs.Walking.{how_of, given_by, greatest_of, records_of, summary_in, clock_in, IsBehind, Gathers, IsBlank, IsReady, LetsPass, WalksOn, Stays}};
 
 use crate::count::{Sums, stops_reserved};
+use crate::in_blocks::{InBlocks, make_room};
 use crate::taker::EventTaker;
 use crate::walk::Walk;
+use lane_decode::{Columns, Compacted};
 use ptu_definitions::KindCounts;
-use record_layout::{Close, Columns, RecordLayout, Row};
-use tally_base::{BLOCK_SIZE, Block, Fault, Mode, WRAP_LIMIT, joined};
+use record_layout::{RecordLayout, Row};
+use tally_base::{BLOCK_SIZE, Block, Fault, Mode, TABLE_BLOCK, WRAP_LIMIT, joined};
 
 /// The greatest sum of wraps that those of a block of words can't make greater than 2^62.
 pub(crate) const EARLY_ENOUGH: u64 = WRAP_LIMIT - (1 << 56);
@@ -23,7 +26,7 @@ pub(crate) struct Ahead {
     pub base: u64,
     /// The time of the last event in order.
     pub greatest: u64,
-    /// How many events there are in the block.
+    /// How many events there are in the block then.
     pub len: usize,
     /// None of them is late.
     pub in_order: bool,
@@ -39,9 +42,9 @@ impl Ahead {
         place: u64,
         ordered: u16,
         below: u16,
-        block: &mut Block<BLOCK_SIZE>,
+        block: &mut Block<TABLE_BLOCK>,
     )
-        requires room { self.old.len < BLOCK_SIZE }
+        requires room { self.old.len < TABLE_BLOCK }
         requires behind { count block.old ≤ self.old.len }
         requires base { self.old.base + R.UNIT * row.now.wraps ≤ wrap_limit }
         ensures goes { GoesBy ordered R.UNIT row.now self.old self.new }
@@ -49,6 +52,7 @@ impl Ahead {
             ++ event_below below place self.old.base row.now }
         ensures count { count block.new ≡ count block.old }
         ensures unsorted { sorted block.new ≡ sorted block.old }
+        ensures same { written block.new self.old.len ≡ written block.old self.old.len }
     {
         let time = self.base + row.time as u64;
         block.write(self.len, place, joined(row.code, row.dtime), time);
@@ -87,25 +91,23 @@ pub(crate) fn gathered_below(only_ordered: bool, mode: Mode) -> u16
     }
 }
 
-/// Writes the events of words, whose records are in columns, into a block, in place of its own, or those in
-/// order alone, where each of them passes. Whether none is late is known at the end.
+/// Writes the events of words, whose records are in columns, into a block behind its own, or those in order alone,
+/// where each of them passes. Whether none is late is known at the end.
 #[inline(always)]
 pub(crate) fn gather<R: RecordLayout>(
     walk: &Walk,
     words: &[[u8; 4]],
     columns: &Columns,
-    close: &mut Close,
+    close: &mut Compacted,
     only_ordered: bool,
-    block: &mut Block<BLOCK_SIZE>,
+    block: &mut Block<TABLE_BLOCK>,
 ) -> Ahead
     requires meaning { R.meaning ≡ (how_of walk.now).meaning }
     requires rows { HasRows R.meaning R.UNIT columns.now words.now }
     requires few { length words.now ≤ BLOCK_SIZE }
     requires passes { LetsPass walk.now R.meaning words.now }
-    ensures gathers { Gathers walk.now words.now only_ordered result.in_order result.base
-        result.greatest (written block.new result.len) }
-    ensures few { result.len ≤ length words.now }
-    ensures blank { IsBlank block.new }
+    requires room { count block.old + BLOCK_SIZE ≤ TABLE_BLOCK }
+    ensures gathers { GathersBehind walk.now words.now only_ordered block.old block.new result }
 {
     if words.len() != BLOCK_SIZE {
         return gather_each::<R>(walk, words, columns, only_ordered, block);
@@ -119,7 +121,13 @@ pub(crate) fn gather<R: RecordLayout>(
 
 /// The time of the last of the first so many records whose code is below `ordered`, or else this one.
 #[inline(always)]
-fn last_time<R: RecordLayout>(close: &Close, len: usize, ordered: u16, base: u64, low: u64) -> u64
+fn last_time<R: RecordLayout>(
+    close: &Compacted,
+    len: usize,
+    ordered: u16,
+    base: u64,
+    low: u64,
+) -> u64
     requires { len ≤ 64 }
     ensures { result ≡ last_below ordered low (code_at close.now)
         (λ i. time_at base R.UNIT close.now i % 2 ^ 64) len }
@@ -143,20 +151,18 @@ fn gather_whole<R: RecordLayout>(
     walk: &Walk,
     words: &[[u8; 4]],
     columns: &Columns,
-    close: &mut Close,
+    close: &mut Compacted,
     only_ordered: bool,
-    block: &mut Block<BLOCK_SIZE>,
+    block: &mut Block<TABLE_BLOCK>,
 ) -> Ahead
     requires meaning { R.meaning ≡ (how_of walk.now).meaning }
     requires rows { HasRows R.meaning R.UNIT columns.now words.now }
     requires whole { length words.now ≡ BLOCK_SIZE }
     requires passes { LetsPass walk.now R.meaning words.now }
-    ensures gathers { Gathers walk.now words.now only_ordered result.in_order result.base
-        result.greatest (written block.new result.len) }
-    ensures blank { IsBlank block.new }
-    ensures few { result.len ≤ length words.now }
+    requires room { count block.old + BLOCK_SIZE ≤ TABLE_BLOCK }
+    ensures gathers { GathersBehind walk.now words.now only_ordered block.old block.new result }
 {
-    block.clear();
+    let start = block.len();
     let base = walk.clock.base();
     let low = walk.clock.greatest();
     let ordered = ordered_below(walk.clock.mode());
@@ -166,12 +172,12 @@ fn gather_whole<R: RecordLayout>(
     let first = walk.clock.placed() + 1;
     for i in 0..BLOCK_SIZE {
         let place = first.wrapping_add(close.place(i));
-        block.write(i, place, close.mark(i), close.time::<R>(base, i));
+        block.write(start + i, place, close.mark(i), close.time::<R>(base, i));
     }
     Ahead {
         base: base + R::UNIT * u64::from(wraps),
         greatest: last_time::<R>(close, len, ordered, base, low),
-        len,
+        len: start + len,
         in_order,
     }
 }
@@ -183,25 +189,22 @@ fn gather_each<R: RecordLayout>(
     words: &[[u8; 4]],
     columns: &Columns,
     only_ordered: bool,
-    block: &mut Block<BLOCK_SIZE>,
+    block: &mut Block<TABLE_BLOCK>,
 ) -> Ahead
     requires meaning { R.meaning ≡ (how_of walk.now).meaning }
     requires rows { HasRows R.meaning R.UNIT columns.now words.now }
     requires few { length words.now ≤ BLOCK_SIZE }
     requires passes { LetsPass walk.now R.meaning words.now }
-    ensures gathers { Gathers walk.now words.now only_ordered result.in_order result.base
-        result.greatest (written block.new result.len) }
-    ensures few { result.len ≤ length words.now }
-    ensures blank { IsBlank block.new }
+    requires room { count block.old + BLOCK_SIZE ≤ TABLE_BLOCK }
+    ensures gathers { GathersBehind walk.now words.now only_ordered block.old block.new result }
 {
-    block.clear();
     let placed = walk.clock.placed();
     let ordered = ordered_below(walk.clock.mode());
     let below = gathered_below(only_ordered, walk.clock.mode());
     let mut ahead = Ahead {
         base: walk.clock.base(),
         greatest: walk.clock.greatest(),
-        len: 0,
+        len: block.len(),
         in_order: true,
     };
     for i in 0..words.len() {
@@ -211,13 +214,19 @@ fn gather_each<R: RecordLayout>(
     ahead
 }
 
-/// Counts the records of a block, of which these are the kinds and the block has the events. None is late.
-pub(crate) fn add_block(sums: &mut Sums, counts: &KindCounts, block: &Block<BLOCK_SIZE>)
+/// Counts the records of words, of which these are the kinds and the block has the events from a place on. None is late.
+pub(crate) fn add_block(
+    sums: &mut Sums,
+    counts: &KindCounts,
+    block: &Block<TABLE_BLOCK>,
+    start: usize,
+)
     requires few { sums.old.records + counts.now.records ≤ record_limit }
     requires split { IsSplit counts.now }
     requires parts { sums.old.photons + sums.old.markers + sums.old.wraps + sums.old.reserved ≡
         sums.old.records }
-    ensures value { summed sums.new ≡ with_block (summed sums.old) counts.now (gathered block.now) }
+    ensures value { summed sums.new
+        ≡ with_block (summed sums.old) counts.now (drop start (gathered block.now)) }
     ensures records { sums.new.records ≡ sums.old.records + counts.now.records }
     ensures parts { sums.new.photons + sums.new.markers + sums.new.wraps + sums.new.reserved ≡
         sums.new.records }
@@ -229,8 +238,8 @@ pub(crate) fn add_block(sums: &mut Sums, counts: &KindCounts, block: &Block<BLOC
     sums.wraps += counts.wraps;
     sums.reserved += counts.reserved;
     let len = block.len();
-    if len > 0 {
-        sums.first = first_kept(sums.kept, sums.first, block.time(0));
+    if len > start {
+        sums.first = first_kept(sums.kept, sums.first, block.time(start));
         sums.last = block.time(len - 1);
         sums.kept = true;
     }
@@ -243,73 +252,88 @@ fn first_kept(kept: bool, first: u64, time: u64) -> u64
     if kept { first } else { time }
 }
 
-/// Takes at most as many words as a block has places, with columns for their records, room for
-/// those that are events, and a block for these.
+/// Room for the records of a block of words.
+#[derive(Drop)]
+pub(crate) struct Room {
+    /// Their columns.
+    pub columns: Columns,
+    /// Those of them that are events.
+    pub close: Compacted,
+}
+
+/// Takes at most as many words as `Room` has places.
 #[inline(always)]
-fn take_block<R: RecordLayout, S: EventTaker>(
+fn take_block<'t, R: RecordLayout, S: EventTaker>(
     walk: &mut Walk,
     words: &[[u8; 4]],
-    columns: &mut Columns,
-    close: &mut Close,
-    block: &mut Block<BLOCK_SIZE>,
-    taker: &mut S,
+    room: &mut Room,
+    taker: &mut InBlocks<'t, S>,
 ) -> Result<(), Fault>
     requires few { length words.now ≤ BLOCK_SIZE }
     requires meaning { R.meaning ≡ (how_of walk.old).meaning }
-    requires ready { IsReady S.EventTaker walk.old taker.old }
-    ensures delivers { Delivers S.EventTaker (how_of walk.old) (IsBehind walk.old)
+    requires ready { IsReady ⟦<InBlocks<'t, S> as EventTaker>⟧ walk.old taker.old }
+    ensures delivers { Delivers ⟦<InBlocks<'t, S> as EventTaker>⟧ (how_of walk.old) (IsBehind walk.old)
         (IsBehind walk.new) taker.old taker.new (numbers words.now) result }
-    ensures goes_on { OnOk result (WalksOn S.EventTaker walk.old walk.new
+    ensures goes_on { OnOk result (WalksOn ⟦<InBlocks<'t, S> as EventTaker>⟧ walk.old walk.new
         (greatest_of walk.new) taker.new (length words.now)) }
-    ensures stays { Stays S.EventTaker walk.old walk.new taker.old taker.new }
+    ensures stays { Stays ⟦<InBlocks<'t, S> as EventTaker>⟧ walk.old walk.new taker.old taker.new }
 {
-    columns.fill::<R>(words);
-    let counts = columns.kinds::<R>(words);
+    room.columns.fill::<R>(words);
+    let counts = room.columns.kinds::<R>(words);
     let stops = stops_reserved(walk.policy.reserved) && counts.reserved > 0;
-    let room = counts.records <= walk.policy.records - walk.sums.records;
-    if stops || !room || walk.clock.base() > EARLY_ENOUGH {
-        return walk.words::<R, S>(words, taker);
+    let fits = counts.records <= walk.policy.records - walk.sums.records;
+    if stops || !fits || walk.clock.base() > EARLY_ENOUGH {
+        return walk.words::<R, InBlocks<'t, S>>(words, taker);
     }
-    let ahead = gather::<R>(walk, words, columns, close, false, block);
+    let start = taker.block.len();
+    let ahead = gather::<R>(
+        walk,
+        words,
+        &room.columns,
+        &mut room.close,
+        false,
+        &mut taker.block,
+    );
     if !ahead.in_order {
-        return walk.words::<R, S>(words, taker);
+        return walk.words::<R, InBlocks<'t, S>>(words, taker);
     }
-    block.keep(ahead.len);
-    add_block(&mut walk.sums, &counts, block);
+    taker.block.keep(ahead.len);
+    add_block(&mut walk.sums, &counts, &taker.block, start);
     let placed = walk.clock.placed() + counts.records;
     walk.clock.go_on(placed, ahead.base, ahead.greatest);
-    walk.given += ahead.len as u64;
-    if taker.take_block(block).is_err() {
+    walk.given += (ahead.len - start) as u64;
+    if make_room(taker.taker, &mut taker.block, BLOCK_SIZE).is_err() {
         return Err(Fault::WriteFault);
     }
     Ok(())
 }
 
 /// Takes the next words, in blocks, where no event is put in its place.
-pub(crate) fn take_words<R: RecordLayout, S: EventTaker>(
+pub(crate) fn take_words<'t, R: RecordLayout, S: EventTaker>(
     walk: &mut Walk,
     words: &[[u8; 4]],
-    taker: &mut S,
+    taker: &mut InBlocks<'t, S>,
 ) -> Result<(), Fault>
     requires meaning { R.meaning ≡ (how_of walk.old).meaning }
-    requires ready { IsReady S.EventTaker walk.old taker.old }
-    ensures delivers { Delivers S.EventTaker (how_of walk.old) (IsBehind walk.old)
+    requires ready { IsReady ⟦<InBlocks<'t, S> as EventTaker>⟧ walk.old taker.old }
+    ensures delivers { Delivers ⟦<InBlocks<'t, S> as EventTaker>⟧ (how_of walk.old) (IsBehind walk.old)
         (IsBehind walk.new) taker.old taker.new (numbers words.now) result }
-    ensures goes_on { OnOk result (WalksOn S.EventTaker walk.old walk.new
+    ensures goes_on { OnOk result (WalksOn ⟦<InBlocks<'t, S> as EventTaker>⟧ walk.old walk.new
         (greatest_of walk.new) taker.new (length words.now)) }
-    ensures stays { Stays S.EventTaker walk.old walk.new taker.old taker.new }
+    ensures stays { Stays ⟦<InBlocks<'t, S> as EventTaker>⟧ walk.old walk.new taker.old taker.new }
 {
     if words.len() < 2 {
-        return walk.words::<R, S>(words, taker);
+        return walk.words::<R, InBlocks<'t, S>>(words, taker);
     }
-    let mut columns = Columns::new();
-    let mut close = Close::new();
-    let mut block = Block::new();
+    let mut room = Room {
+        columns: Columns::new(),
+        close: Compacted::new(),
+    };
     let mut rest = words;
     'many: while rest.len() > BLOCK_SIZE {
         let (front, back) = rest.split_at(BLOCK_SIZE);
-        take_block::<R, S>(walk, front, &mut columns, &mut close, &mut block, taker)?;
+        take_block::<R, S>(walk, front, &mut room, taker)?;
         rest = back;
     }
-    take_block::<R, S>(walk, rest, &mut columns, &mut close, &mut block, taker)
+    take_block::<R, S>(walk, rest, &mut room, taker)
 }

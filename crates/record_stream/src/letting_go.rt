@@ -7,12 +7,12 @@ ghost use Rattle.record_stream.{specs.Keeping.IsKeeping, specs.LettingGo.{ComesN
 use crate::walk::Walk;
 use arrayvec::ArrayVec;
 use settle::Settle;
-use tally_base::{BLOCK_SIZE, Block, Event};
+use tally_base::{Block, Event, TABLE_BLOCK};
 
 /// Puts an event behind the others, if there is one.
 #[inline(always)]
-fn push_some(block: &mut Block<BLOCK_SIZE>, event: Option<Event>)
-    requires room { length (gathered block.old) < BLOCK_SIZE }
+fn push_some(block: &mut Block<TABLE_BLOCK>, event: Option<Event>)
+    requires room { length (gathered block.old) < TABLE_BLOCK }
     ensures more { gathered block.new ≡ gathered block.old ++ option_to_list event }
     ensures unsorted { sorted block.new ≡ sorted block.old }
 {
@@ -23,8 +23,8 @@ fn push_some(block: &mut Block<BLOCK_SIZE>, event: Option<Event>)
 
 /// Puts events behind the others.
 #[inline(always)]
-fn push_all(block: &mut Block<BLOCK_SIZE>, events: &[Event])
-    requires room { length (gathered block.old) + length events.now ≤ BLOCK_SIZE }
+fn push_all(block: &mut Block<TABLE_BLOCK>, events: &[Event])
+    requires room { length (gathered block.old) + length events.now ≤ TABLE_BLOCK }
     ensures more { gathered block.new ≡ gathered block.old ++ events.now }
     ensures unsorted { sorted block.new ≡ sorted block.old }
 {
@@ -46,7 +46,7 @@ fn stay_all(stay: &mut ArrayVec<Event, 64>, events: &[Event])
 
 /// Puts the events of a block from one on behind the others.
 #[inline(always)]
-fn stay_back(stay: &mut ArrayVec<Event, 64>, block: &Block<BLOCK_SIZE>, from: usize)
+fn stay_back(stay: &mut ArrayVec<Event, 64>, block: &Block<TABLE_BLOCK>, from: usize)
     requires inside { from ≤ count block.now }
     requires room { length stay.old.items + (count block.now - from) ≤ 64 }
     ensures { stay.new.items ≡ stay.old.items ++ drop from (gathered block.now) }
@@ -74,9 +74,9 @@ fn is_full(walk: &Walk, settle: &Settle) -> bool
 /// them into another, in place of its own.
 fn push_block(
     walk: &Walk,
-    block: &Block<BLOCK_SIZE>,
+    block: &Block<TABLE_BLOCK>,
     settle: &mut Settle,
-    out: &mut Block<BLOCK_SIZE>,
+    out: &mut Block<TABLE_BLOCK>,
 )
     requires settles { (how_of walk.now).policy.settle ≢ 0 }
     requires keeps { IsKeeping walk.now settle.old }
@@ -98,9 +98,9 @@ fn push_block(
 /// an array first.
 fn pass_block(
     walk: &Walk,
-    block: &Block<BLOCK_SIZE>,
+    block: &Block<TABLE_BLOCK>,
     settle: &mut Settle,
-    out: &mut Block<BLOCK_SIZE>,
+    out: &mut Block<TABLE_BLOCK>,
     stay: &mut ArrayVec<Event, 64>,
 )
     requires settles { (how_of walk.now).policy.settle ≢ 0 }
@@ -136,9 +136,9 @@ fn pass_block(
 /// another, in place of its own. It has an array for those that stay.
 pub(crate) fn let_go(
     walk: &Walk,
-    block: &Block<BLOCK_SIZE>,
+    block: &Block<TABLE_BLOCK>,
     settle: &mut Settle,
-    out: &mut Block<BLOCK_SIZE>,
+    out: &mut Block<TABLE_BLOCK>,
     stay: &mut ArrayVec<Event, 64>,
 )
     requires settles { (how_of walk.now).policy.settle ≢ 0 }

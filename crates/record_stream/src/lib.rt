@@ -4,6 +4,7 @@
 
 mod blocks;
 mod count;
+mod in_blocks;
 pub mod laws;
 mod letting_go;
 mod settled;

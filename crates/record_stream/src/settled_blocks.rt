@@ -13,9 +13,10 @@ use crate::settled::settle_words;
 use crate::taker::EventTaker;
 use crate::walk::Walk;
 use arrayvec::ArrayVec;
-use record_layout::{Close, Columns, RecordLayout};
+use lane_decode::{Columns, Compacted};
+use record_layout::RecordLayout;
 use settle::Settle;
-use tally_base::{BLOCK_SIZE, Block, Event, Fault};
+use tally_base::{BLOCK_SIZE, Block, Event, Fault, TABLE_BLOCK};
 
 /// Room for a block of words.
 #[derive(Drop)]
@@ -23,11 +24,11 @@ struct Room {
     /// Their records.
     columns: Columns,
     /// Those of them that are events in order.
-    close: Close,
+    close: Compacted,
     /// Their events in order.
-    block: Block<BLOCK_SIZE>,
+    block: Block<TABLE_BLOCK>,
     /// Those that are let go with them.
-    out: Block<BLOCK_SIZE>,
+    out: Block<TABLE_BLOCK>,
     /// Those that stay.
     stay: ArrayVec<Event, 64>,
 }
@@ -36,7 +37,7 @@ impl Room {
     fn new() -> Room {
         Room {
             columns: Columns::new(),
-            close: Close::new(),
+            close: Compacted::new(),
             block: Block::new(),
             out: Block::new(),
             stay: ArrayVec::new(),
@@ -70,6 +71,7 @@ fn settle_block<R: RecordLayout, S: EventTaker>(
     if stops || !fits || walk.clock.base() > EARLY_ENOUGH {
         return settle_words::<R, S>(walk, settle, words, taker);
     }
+    room.block.clear();
     let ahead = gather::<R>(
         walk,
         words,
@@ -83,7 +85,7 @@ fn settle_block<R: RecordLayout, S: EventTaker>(
     }
     room.block.keep(ahead.len);
     let_go(walk, &room.block, settle, &mut room.out, &mut room.stay);
-    add_block(&mut walk.sums, &counts, &room.out);
+    add_block(&mut walk.sums, &counts, &room.out, 0);
     let placed = walk.clock.placed() + counts.records;
     walk.clock.go_on(placed, ahead.base, ahead.greatest);
     walk.given += room.out.len() as u64;

@@ -1,12 +1,13 @@
 // A stream of records that comes in pieces.
-ghost use Rattle.std.{specs.Prelude.{◌≡◌, ◌+◌, ◌*◌, ◌<◌, ◌≤◌, ◌++◌, ◌∷◌, [], List, ℕ, length, None, Some, OnOk, OnErr, IfErr, ◌≢◌, ◌&&◌, not, IsTrue, if◌then◌else◌, Err, false}, proofs.Props.props};
+ghost use Rattle.std.{specs.Prelude.{◌≡◌, ◌+◌, ◌*◌, ◌<◌, ◌≤◌, ◌++◌, ◌∷◌, [], List, ℕ, length, None, Some, OnOk, OnErr, IfErr, ◌≢◌, ◌&&◌, not, IsTrue, if◌then◌else◌, Err, true, false}, proofs.Props.props};
 ghost use Rattle.abs_time.{proofs.Floors.kind_fits-prop, specs.Placing.IsSmall};
-ghost use Rattle.tally_base.{specs.Limits.record_limit, specs.declared.fault.Fault.Fault, specs.declared.fault.Fault.TheVariants.WriteFault, specs.FaultCounts.{FailsOnce, Rose}, specs.Events.is_ordered, specs.Faults.{is_outside, fault_in}};
+ghost use Rattle.tally_base.{specs.Limits.record_limit, specs.declared.fault.Fault.Fault, specs.declared.fault.Fault.TheVariants.WriteFault, specs.FaultCounts.{FailsOnce, Rose}, specs.Events.is_ordered, specs.Faults.{is_outside, fault_in}, specs.Columns.gathered};
 ghost use Rattle.ptu_definitions.{specs.Kept.Marked, specs.Streams.{reading, streamed}, specs.Layouts.Fits, specs.Words.numbers, specs.Headers.Shows};
 ghost use Rattle.record_stream.specs.Keeping.{IsKeeping};
 
 use crate::blocks::take_words;
 use crate::count::Sums;
+use crate::in_blocks::{InBlocks, give_all};
 use crate::settled::give_rest;
 use crate::settled_blocks::settle_blocks;
 use crate::taker::EventTaker;
@@ -15,7 +16,7 @@ use abs_time::Clock;
 use ptu_definitions::Summary;
 use record_layout::{BegunWord, RecordLayout, in_layout};
 use settle::Settle;
-use tally_base::{Fault, Policy, RecordType};
+use tally_base::{Block, Fault, Policy, RecordType};
 
 /// The records of a file, of which the bytes come in pieces. It gives the photons and markers of the whole
 /// words to a taker, each once. Where none may be overtaken it gives all, in file order, each with whether it
@@ -110,43 +111,43 @@ impl RecordStream {
     }
 
     /// Takes the next words.
-    fn words<R: RecordLayout, S: EventTaker>(
+    fn words<'t, R: RecordLayout, S: EventTaker>(
         &mut self,
         words: &[[u8; 4]],
-        taker: &mut S,
+        taker: &mut InBlocks<'t, S>,
     ) -> Result<(), Fault>
         requires meaning { R.meaning ≡ (how_of self.old).meaning }
-        requires follows { IsFollowed S.EventTaker self.old taker.old }
-        ensures delivers { Delivers S.EventTaker (how_of self.old) (IsBehind self.old)
+        requires follows { IsFollowed ⟦<InBlocks<'t, S> as EventTaker>⟧ self.old taker.old }
+        ensures delivers { Delivers ⟦<InBlocks<'t, S> as EventTaker>⟧ (how_of self.old) (IsBehind self.old)
             (IsBehind self.new) taker.old taker.new (numbers words.now) result }
         ensures goes_on { OnOk result
-            (StreamsOn S.EventTaker self.old self.new taker.new (4 * length words.now)) }
+            (StreamsOn ⟦<InBlocks<'t, S> as EventTaker>⟧ self.old self.new taker.new (4 * length words.now)) }
         ensures carried { carried_by self.new ≡ carried_by self.old }
-        ensures stays { Stays S.EventTaker self.old self.new taker.old taker.new }
+        ensures stays { Stays ⟦<InBlocks<'t, S> as EventTaker>⟧ self.old self.new taker.old taker.new }
     {
         if self.walk.policy.settle == 0 {
             take_words::<R, S>(&mut self.walk, words, taker)
         } else {
-            settle_blocks::<R, S>(&mut self.walk, &mut self.settle, words, taker)
+            settle_blocks::<R, InBlocks<'t, S>>(&mut self.walk, &mut self.settle, words, taker)
         }
     }
 
     /// Takes a piece in this layout.
-    fn piece<R: RecordLayout, S: EventTaker>(
+    fn piece<'t, R: RecordLayout, S: EventTaker>(
         &mut self,
         piece: &[u8],
-        taker: &mut S,
+        taker: &mut InBlocks<'t, S>,
     ) -> Result<(), Fault>
         requires meaning { R.meaning ≡ (how_of self.old).meaning }
-        requires follows { IsFollowed S.EventTaker self.old taker.old }
+        requires follows { IsFollowed ⟦<InBlocks<'t, S> as EventTaker>⟧ self.old taker.old }
         ensures at { (bytes : List ℕ) → CarriesOn self.old bytes
             → OnOk result (CarriesOn self.new (bytes ++ piece.now)) }
         ensures fed { (bytes : List ℕ) → CarriesOn self.old bytes
-            → FedPiece S.EventTaker (how_of self.old) taker.old taker.new bytes piece.now
+            → FedPiece ⟦<InBlocks<'t, S> as EventTaker>⟧ (how_of self.old) taker.old taker.new bytes piece.now
             result }
         ensures goes_on { OnOk result
-            (StreamsOn S.EventTaker self.old self.new taker.new (length piece.now)) }
-        ensures stays { Stays S.EventTaker self.old self.new taker.old taker.new }
+            (StreamsOn ⟦<InBlocks<'t, S> as EventTaker>⟧ self.old self.new taker.new (length piece.now)) }
+        ensures stays { Stays ⟦<InBlocks<'t, S> as EventTaker>⟧ self.old self.new taker.old taker.new }
     {
         let (first, words) = self.carried.take(piece);
         self.words::<R, S>(first.as_slice(), taker)?;
@@ -154,7 +155,54 @@ impl RecordStream {
     }
 
     /// Takes a piece in the layout of the record type.
-    fn by_type<S: EventTaker>(&mut self, piece: &[u8], taker: &mut S) -> Result<(), Fault>
+    fn by_type<'t, S: EventTaker>(
+        &mut self,
+        piece: &[u8],
+        taker: &mut InBlocks<'t, S>,
+    ) -> Result<(), Fault>
+        requires follows { IsFollowed ⟦<InBlocks<'t, S> as EventTaker>⟧ self.old taker.old }
+        ensures at { (bytes : List ℕ) → CarriesOn self.old bytes
+            → OnOk result (CarriesOn self.new (bytes ++ piece.now)) }
+        ensures fed { (bytes : List ℕ) → CarriesOn self.old bytes
+            → FedPiece ⟦<InBlocks<'t, S> as EventTaker>⟧ (how_of self.old) taker.old taker.new bytes piece.now
+            result }
+        ensures goes_on { OnOk result
+            (StreamsOn ⟦<InBlocks<'t, S> as EventTaker>⟧ self.old self.new taker.new (length piece.now)) }
+        ensures stays { Stays ⟦<InBlocks<'t, S> as EventTaker>⟧ self.old self.new taker.old taker.new }
+    {
+        in_layout!(self.walk.record_type, self.piece::<R, S>(piece, taker))
+    }
+
+    /// Takes a piece, and gives its events in blocks. None waits for the next call, nor behind a refusal.
+    fn whole<'t, S: EventTaker>(
+        &mut self,
+        piece: &[u8],
+        blocks: &mut InBlocks<'t, S>,
+    ) -> Result<(), Fault>
+        requires follows { IsFollowed S.EventTaker self.old blocks.old.taker.now }
+        requires none { gathered blocks.old.block ≡ [] }
+        ensures at { (bytes : List ℕ) → CarriesOn self.old bytes
+            → OnOk result (CarriesOn self.new (bytes ++ piece.now)) }
+        ensures fed { (bytes : List ℕ) → CarriesOn self.old bytes
+            → FedPiece S.EventTaker (how_of self.old) blocks.old.taker.now blocks.new.taker.now bytes
+            piece.now result }
+        ensures goes_on { OnOk result
+            (StreamsOn S.EventTaker self.old self.new blocks.new.taker.now (length piece.now)) }
+        ensures stays { Stays S.EventTaker self.old self.new blocks.old.taker.now blocks.new.taker.now }
+        ensures name { blocks.new.taker.ghost_name ≡ blocks.old.taker.ghost_name }
+    {
+        let fed = self.by_type(piece, blocks);
+        if is_broken(&fed) {
+            return fed;
+        }
+        if give_all(blocks.taker, &mut blocks.block).is_err() {
+            return Err(Fault::WriteFault);
+        }
+        fed
+    }
+
+    /// Takes a piece, with a block for its events.
+    fn in_blocks<S: EventTaker>(&mut self, piece: &[u8], taker: &mut S) -> Result<(), Fault>
         requires follows { IsFollowed S.EventTaker self.old taker.old }
         ensures at { (bytes : List ℕ) → CarriesOn self.old bytes
             → OnOk result (CarriesOn self.new (bytes ++ piece.now)) }
@@ -165,7 +213,11 @@ impl RecordStream {
             (StreamsOn S.EventTaker self.old self.new taker.new (length piece.now)) }
         ensures stays { Stays S.EventTaker self.old self.new taker.old taker.new }
     {
-        in_layout!(self.walk.record_type, self.piece::<R, S>(piece, taker))
+        let mut blocks = InBlocks {
+            taker,
+            block: Block::new(),
+        };
+        self.whole(piece, &mut blocks)
     }
 
     /// Takes a piece of the bytes, and gives the taker the events of its whole words, but those that it keeps
@@ -201,7 +253,7 @@ impl RecordStream {
         if let Some(fault) = self.refused {
             return Err(fault);
         }
-        match self.by_type(piece, taker) {
+        match self.in_blocks(piece, taker) {
             Ok(()) => Ok(()),
             Err(fault) => {
                 self.refused = Some(fault);
@@ -251,4 +303,12 @@ impl RecordStream {
         give_rest(&mut walk, &mut settle, taker)?;
         Ok(walk.sums.summary())
     }
+}
+
+/// Whether the taker broke.
+fn is_broken(fed: &Result<(), Fault>) -> bool
+    ensures broken { result ≡ true → fed.now ≡ Err WriteFault }
+    ensures whole { result ≡ false → IfErr fed.now (λ fault. fault ≢ WriteFault) }
+{
+    matches!(fed, Err(Fault::WriteFault))
 }

@@ -5,7 +5,7 @@ ghost use Rattle.ptu_definitions.{specs.Layouts.KindFits, specs.Kept.{Marked, fl
 ghost use Rattle.abs_time.specs.Floors.{moved_floor, orders_markers};
 ghost use Rattle.record_stream.specs.Blocks.{on_time, AllFit, BrokeAmong};
 
-use tally_base::{BLOCK_SIZE, Block, Event, Failed, Mode};
+use tally_base::{Block, Event, Failed, Mode, TABLE_BLOCK};
 
 /// What a stream gives its events to, each with whether it is late.
 pub trait EventTaker {
@@ -45,7 +45,7 @@ pub trait EventTaker {
         ensures same { same self.old self.new };
 
     /// Takes the events of a block, which come in order and none late. What it leaves of the block is open.
-    fn take_block(&mut self, block: &mut Block<BLOCK_SIZE>) -> Result<(), Failed>
+    fn take_block(&mut self, block: &mut Block<TABLE_BLOCK>) -> Result<(), Failed>
         requires room { taken self.old + length (gathered block.old) ≤ record_limit }
         requires fit { AllFit (mode self.old) (gathered block.old) }
         requires in_order { InOrder (orders_markers (mode self.old)) (floor self.old)

@@ -11,7 +11,7 @@ use Rattle.report_work.{specs.Reports.{file_report, report_outcome, reporting, r
 use Rattle.command_work.{specs.Outcomes.{Outcome, written}, specs.Behaviours.{Alone, AtEnd, ForTables}, specs.Endings.{Cuts, EndsWith, HasCauses, WantsBehind, outcome}, specs.Works.{AnswersWork, WorkReason}, proofs.Told.all-taken, specs.Tellings.{WritesPiece, WritesEnd, Opens, unless_declined}, proofs.RestEnds.opens-misfit}
 use Rattle.streamed_text.proofs.Texts.{WroteText-none}
 use Rattle.tally_engine.{specs.declared.engine.Engine.Engine, specs.Engine.{header_of, engine_sorting, reading_of, refused_by, HasFed, IsFor, SameEngine, IsCounted, OpensAs}}
-use Rattle.plan_parts.{specs.declared.results.Results.Results, specs.Parts.settings_in}
+use Rattle.tally_engine.{specs.declared.results.Results.Results, specs.Parts.settings_in}
 use Rattle.table_out.{specs.Report.{Table, report, with_events, EachHolds}, proofs.Putting.each_holds_all}
 
 -- ## The plan

@@ -4,7 +4,7 @@ use Rattle.bench_io.{specs.Sinks.{AppendsShort, PassesOn}, proofs.Bytes.{PassesO
 use Rattle.table_out.{specs.Printed.{texts, texts_of}, specs.Report.{PutsText, CutsText, Table, StandsFor, EachHolds, same_kind, part_text, table_text, parts_text, with_events}}
 use Rattle.tally_base.{specs.Settings.PartSettings, specs.Tally.History}
 use Rattle.ptu_definitions.{specs.Prefixes.each_after, proofs.PrefixLemmas.{each-push, each_after-append}}
-use Rattle.plan_parts.{specs.contracts.part.PartTally.TheImpl.ghosts, specs.declared.part.Part.Part, specs.Parts.{settings_in, AllHold}}
+use Rattle.tally_engine.{specs.contracts.part.PartTally.TheImpl.ghosts, specs.declared.part.Part.Part, specs.Parts.{settings_in, AllHold}}
 
 -- the texts of one place more
 texts-push : (text : ℕ → List ℕ) (n : ℕ) → texts text (n + 1) ≡ texts text n ++ text n

@@ -2,7 +2,7 @@
 use Rattle.std.{specs.Str.bytes_eq, specs.Prelude.{ℕ, ◌≡◌, ◌+◌, Bool, List, [], ◌∷◌, ◌++◌, count_by, map, codes, decimal}, specs.declared.option.Option.Option}
 use Rattle.tally_base.{specs.declared.header.Header.Header, specs.RecordTypes.name_of, specs.Settings.PartSettings, specs.Settings.PartSettings.{HistSettings, TraceSettings, StartStopSettings, CoincidenceSettings, ImageSettings, CorrelationSettings, CubeSettings, FoldSettings}, specs.Tally.History}
 use Rattle.ptu_definitions.{specs.declared.records.Summary.Summary, specs.Prefixes.each}
-use Rattle.plan_parts.{specs.declared.part.Part.Part, specs.declared.results.Results.Results, specs.contracts.part.PartTally.TheImpl.ghosts}
+use Rattle.tally_engine.{specs.declared.part.Part.Part, specs.declared.results.Results.Results, specs.contracts.part.PartTally.TheImpl.ghosts}
 use Rattle.list_out.specs.Lines.{line, announced, bits_text, time_text}
 use Rattle.table_out.{specs.Printed.{Printed, table_lines}, specs.Histogram.histogram_printed, specs.Trace.trace_printed, specs.StartStop.startstop_printed, specs.Coincidence.coincidence_printed, specs.Image.image_printed, specs.Correlation.correlation_printed, specs.Cube.cube_printed, specs.Fold.fold_printed}
 use Rattle.bench_io.specs.Sinks.{AppendsShort, PassesOn}

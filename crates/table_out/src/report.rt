@@ -2,14 +2,14 @@
 ghost use Rattle.std.{specs.Prelude.{◌≡◌, ◌+◌, ◌≤◌, true, List, count_by, OnOk, OnErr, IfErr}, specs.Io.KnownBytes.{Appends}};
 ghost use Rattle.bench_io.specs.Sinks.{AppendsShort};
 ghost use Rattle.tally_base.specs.FaultCounts.{FailsOnce};
-ghost use Rattle.plan_parts.specs.Parts.{settings_in, AllClosed};
+ghost use Rattle.tally_engine.specs.Parts.{settings_in, AllClosed};
 ghost use Rattle.table_out.specs.Report.{Table, EachHolds, printed, same_kind, part_text, parts_text, report_of, PutsText, CutsText};
 
 use crate::cells::{Prints, put_table};
 use crate::report_head::report_head;
 use bench_io::{OutBuffer, Sink};
-use plan_parts::{Part, Results, in_part};
 use tally_base::{Failed, Fault, Tally};
+use tally_engine::{Part, Results, in_part};
 
 /// The name of a table's kind.
 fn word(part: &Part) -> &'static str

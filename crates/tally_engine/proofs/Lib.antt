@@ -1,1 +1,5 @@
 pub mod Feeds
+pub mod Tables
+mod Takes
+mod OneByOne
+mod Suits

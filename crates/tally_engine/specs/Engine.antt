@@ -1,11 +1,11 @@
 -- What an engine stands for.
 use Rattle.std.{specs.Prelude.{◌≡◌, ◌<◌, ℕ, All, ◌+◌, List, length, sum_by, None, Result, Ok, Err, ◌⊎◌}, specs.declared.option.Option.Option}
-use Rattle.tally_base.{specs.Columns.gathered, specs.declared.fault.Fault.Fault, specs.declared.header.Header.Header, specs.declared.header.Mode.Mode, specs.Settings.{PartSettings, entries}, specs.declared.fault.Fault.TheVariants.OutOfMemory}
+use Rattle.tally_base.{specs.declared.fault.Fault.Fault, specs.declared.header.Header.Header, specs.declared.header.Mode.Mode, specs.Settings.{PartSettings, entries}, specs.declared.fault.Fault.TheVariants.OutOfMemory}
 use Rattle.ptu_definitions.{specs.Streams.{StreamSettings, streamed}, specs.Words.words_of}
 use Rattle.record_stream.specs.Standing.{how_of, refused_with, carried_by, kept_back_by, bytes_in, HasStreamed}
 use Rattle.plan_text.{specs.Plan.{PlanView, parts_of}, specs.Fits.fits}
 use Rattle.gate_plan.{specs.Shifting.{Sorting, sorting}, specs.Groups.sorting_of, specs.Histories.{history, settled_history, reading_by}}
-use Rattle.plan_parts.{specs.Parts.{settings_in, AllHold, AllClosed, IsWithinWork, entries_in}, specs.declared.results.Results.Results}
+use Rattle.tally_engine.{specs.Parts.{settings_in, AllHold, AllClosed, IsWithinWork, entries_in}, specs.declared.results.Results.Results}
 use Rattle.tally_engine.specs.declared.engine.Engine.{Engine}
 
 -- ## What it was opened with
@@ -55,9 +55,9 @@ HasFed engine bytes = HasStreamed engine.stream bytes × (refused_by engine ≡ 
 
 -- ## How much it keeps
 
--- how many entries it keeps: those of its tables, the carried bytes, the events kept back, and those of its block
+-- how many entries it keeps: those of its tables, the carried bytes, and the events kept back
 abbrev pub held : Engine → ℕ
-held engine = entries_in engine.parts.items + length (carried_by engine.stream) + length (kept_back_by engine.stream) + length (gathered engine.block)
+held engine = entries_in engine.parts.items + length (carried_by engine.stream) + length (kept_back_by engine.stream)
 
 -- how many it keeps at most
 abbrev pub bound : Engine → ℕ

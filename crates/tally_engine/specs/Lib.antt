@@ -1,2 +1,4 @@
 pub mod Engine
-pub mod Pieces
+pub mod Give
+pub mod Part
+pub mod Parts

@@ -2,20 +2,21 @@
 ghost use Rattle.std.specs.Prelude.{◌≡◌, ℕ, All, List, None, Some, false, ◌+◌, ◌*◌, ◌<◌, ◌≤◌, [], ◌++◌, length, Err, OnOk, IfOk, IfErr};
 ghost use Rattle.tally_base.{specs.declared.fault.Fault.Fault, specs.Faults.{is_outside, fault_in}, specs.RecordTypes.mode_of, specs.Limits.record_limit};
 ghost use Rattle.record_stream.specs.Standing.{how_of, given_by, greatest_of, refused_with, HasStreamed};
-ghost use Rattle.fed_parts.specs.Ahead.{Standing};
-ghost use Rattle.tally_engine.specs.Pieces.{IsIdle};
+ghost use Rattle.tally_engine.specs.Give.{Standing};
 ghost use Rattle.plan_text.{specs.ReadPlan.plan_view, specs.Bound.bound as plan_bound};
 ghost use Rattle.ptu_definitions.{specs.Headers.Shows, specs.Streams.{record_refusal, streamed}, specs.Words.words_of};
 
-use crate::part_taker::{feed_parts, finish_parts};
-use fed_parts::{close_all, open_all};
+use crate::give::close_all;
+use crate::open::open_all;
+use crate::part::Part;
+use crate::part_taker::PartTaker;
+use crate::results::Results;
 use gate_plan::Gates;
-use plan_parts::{Part, Results};
 use plan_text::Plan;
 use record_stream::RecordStream;
 use std::alloc::{AllocError, Global};
 use std::sync::ledger::Ledger;
-use tally_base::{Block, Fault, Header, Steps, TABLE_BLOCK, Tally};
+use tally_base::{Fault, Header, Steps, Tally};
 
 /// All tables of a plan, and the stream of a file's records that feeds them.
 ///
@@ -27,9 +28,6 @@ pub struct Engine {
     gates: Gates,
     stream: RecordStream,
     parts: Vec<Part>,
-    // Room for the events that tables are given together. Between two pieces it has none.
-    block: Block<TABLE_BLOCK>,
-    ghost idle: { IsIdle block },
     ghost same_mode: { (how_of stream).mode ≡ mode_of header.record_type },
     ghost standing: { refused_with stream ≡ None
         → All (Standing ⟦<Part as Tally>⟧ (mode_of header.record_type) (given_by stream) (greatest_of stream)) parts.items },
@@ -64,7 +62,6 @@ impl Engine {
                 gates: Gates::of(plan),
                 stream: RecordStream::new(header.record_type, plan.policy),
                 parts,
-                block: Block::new(),
             }),
             Err(AllocError) => Err(Fault::OutOfMemory),
         }
@@ -97,16 +94,15 @@ impl Engine {
         if let Some(refusal) = self.stream.refusal() {
             return Err(refusal);
         }
-        let mode = self.header.record_type.mode();
-        feed_parts(
-            &mut self.stream,
-            piece,
-            mode,
-            &self.gates,
-            &mut self.parts,
-            &mut self.block,
+        let mut taker = PartTaker {
+            gates: &self.gates,
+            parts: &mut self.parts,
             steps,
-        )
+            mode: self.header.record_type.mode(),
+            taken: self.stream.given(),
+            floor: self.stream.greatest(),
+        };
+        self.stream.feed(piece, &mut taker)
     }
 
     /// Gives every table the events that were kept back, closes it, and gives what was counted.
@@ -125,10 +121,16 @@ impl Engine {
             gates,
             stream,
             mut parts,
-            mut block,
         } = self;
-        let mode = header.record_type.mode();
-        let summary = finish_parts(stream, mode, &gates, &mut parts, &mut block, steps)?;
+        let mut taker = PartTaker {
+            gates: &gates,
+            parts: &mut parts,
+            steps: &mut *steps,
+            mode: header.record_type.mode(),
+            taken: stream.given(),
+            floor: stream.greatest(),
+        };
+        let summary = stream.finish(&mut taker)?;
         close_all(&mut parts, steps);
         Ok(Results {
             header,

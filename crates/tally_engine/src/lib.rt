@@ -1,9 +1,14 @@
-//! All tables of a plan, fed by one stream of records. Begin with `Engine` in `engine.rt`.
+//! All tables of a plan: opened, fed by one stream of records, and closed. Begin with `Engine` in `engine.rt`.
 #![tactic(auto)]
 
 mod engine;
+mod give;
 pub mod laws;
+mod open;
+mod part;
 mod part_taker;
+mod results;
 
 pub use engine::Engine;
-pub use plan_parts::{Part, Results};
+pub use part::Part;
+pub use results::Results;

@@ -17,7 +17,7 @@ use gate_plan::{Gates, sort_events};
 use long_trace::{LINES_SIZE, LongTrace};
 use plan_text::Plan;
 use record_stream::{EventTaker, RecordStream, Summary};
-use tally_base::{BLOCK_SIZE, Block, Event, Failed, Fault, Header, Mode, TABLE_BLOCK, TraceSet};
+use tally_base::{Block, Event, Failed, Fault, Header, Mode, TABLE_BLOCK, TraceSet};
 
 /// Gives each event that isn't late to a trace, with its groups, and writes the lines of the bins that it closes,
 /// through a block. It lives for one piece, or for the end.
@@ -27,8 +27,7 @@ struct TraceLines<'g, 't, 'o, O: Sink> {
     trace: &'t mut LongTrace,
     out: &'o mut O,
     block: OutBuffer,
-    // Room for a block of events with their groups, and for their lines.
-    events: Block<TABLE_BLOCK>,
+    // Room for the lines of a block of events.
     lines: ArrayVec<u8, LINES_SIZE>,
     mode: Mode,
     taken: u64,
@@ -83,17 +82,14 @@ impl<'g, 't, 'o, O: Sink> EventTaker for TraceLines<'g, 't, 'o, O> {
         Ok(())
     }
 
-    fn take_block(&mut self, block: &mut Block<BLOCK_SIZE>) -> Result<(), Failed> {
-        let len = block.len();
-        if len == 0 {
+    fn take_block(&mut self, block: &mut Block<TABLE_BLOCK>) -> Result<(), Failed> {
+        if block.len() == 0 {
             return Ok(());
         }
-        self.taken += len as u64;
+        self.taken += block.len() as u64;
         self.floor = block.floor_after(orders_markers(self.mode), self.floor);
-        self.events.clear();
-        self.events.push_front(block, len);
-        sort_events(self.gates, &mut self.events);
-        self.trace.take_block(&self.events, &mut self.lines);
+        sort_events(self.gates, block);
+        self.trace.take_block(block, &mut self.lines);
         self.block.put(self.out, self.lines.as_slice())?;
         Ok(())
     }
@@ -146,7 +142,6 @@ fn trace_piece<O: Sink>(
         trace,
         out,
         block: OutBuffer::new(),
-        events: Block::new(),
         lines: ArrayVec::new(),
         mode,
         taken: stream.given(),
@@ -227,7 +222,6 @@ fn last_lines<O: Sink>(
         trace,
         out,
         block: OutBuffer::new(),
-        events: Block::new(),
         lines: ArrayVec::new(),
         mode,
         taken: stream.given(),

@@ -1,13 +1,22 @@
-use Rattle.std.{proofs.Common.{◌++◌, take, ap, ◌∙◌, rules, arith}, proofs.lemmas.List.take-append-drop, proofs.lemmas.Slice.take-put_mid}
-use Rattle.lane_decode.proofs.BlockLemmas.{eight-more}
+use Rattle.std.{proofs.Common.{◌≡◌, ◌++◌, ℕ, List, map, take, ap, sym, ◌∙◌, rules, arith}, proofs.lemmas.List.{map-append, append_assoc, take-append-drop}, proofs.lemmas.Slice.take-put_mid}
+use Rattle.ptu_definitions.{specs.declared.records.Raw.Raw, specs.Words.numbers}
 use Rattle.lane_decode.proofs.block.decode_words.Goals as goal
 
-pub loop-eight-preserved : goal.loop-eight-preserved
-loop-eight-preserved g c = record {
+-- a part more of the words that are left
+part-more : (meaning : ℕ → Raw) (rest part behind : List (List ℕ)) (all front front' : List Raw)
+    → all ≡ front ++ map meaning (numbers rest) → part ++ behind ≡ rest → front' ≡ front ++ map meaning (numbers part)
+    → all ≡ front' ++ map meaning (numbers behind)
+part-more meaning rest part behind all front front' so_far cut more =
+    let split : map meaning (numbers rest) ≡ map meaning (numbers part) ++ map meaning (numbers behind) =
+    ap (λ words. map meaning (numbers words)) (sym cut) ∙ ap (map meaning) (map-append _ part behind) ∙ map-append meaning (numbers part) (numbers behind) in
+    rw more (so_far ∙ ap (λ l. front ++ l) split ∙ sym (append_assoc front _ _))
+
+pub many-preserved : goal.many-preserved
+many-preserved g c = record {
   long = search rules;
   so_far =
-      eight-more g.R.RecordLayout.meaning c.loop-eight.rest.now c.in-Some.eight.now c.in-Some.behind.now _ _ _ c.loop-eight.invariant.so_far
-      (rw (c.in-Some.ensures.cases.0, c.in-Some.ensures.cases.1) (take-append-drop 8 c.loop-eight.rest.now))
-      (take-put_mid c.loop-eight.at _ c.loop-eight.out c.decode_eight.new.out _ (omega arith) (omega arith)
-      ∙ ap (λ more. take c.loop-eight.at c.loop-eight.out ++ more) c.decode_eight.ensures);
+      part-more g.R.RecordLayout.meaning c.many.rest.now _ _ _ _ _ c.many.invariant.so_far
+      (rw (c.split_at.ensures.front, c.split_at.ensures.back) (take-append-drop _ c.many.rest.now))
+      (take-put_mid c.many.at _ c.many.out c.decode_part.new.out _ (omega arith) (omega arith)
+      ∙ ap (λ more. take c.many.at c.many.out ++ more) c.decode_part.ensures);
 }

@@ -17,13 +17,13 @@ other : (xs : List ℕ) (n k v : ℕ) → k < n → get_or (set xs n v) k 0 ≡ 
 other xs n k v lt = grind (arith, common_steps)
 
 -- those before it stay
-before : (b : Block 64) (places : List ℕ) (n at : ℕ) → events_at b (set places n at) n ≡ events_at b places n
+before : (b : Block 1024) (places : List ℕ) (n at : ℕ) → events_at b (set places n at) n ≡ events_at b places n
 before b places n at = search (rules, arith, same-rows, other)
 
 one-more : (p : Event → Bool) (xs : List Event) (e : Event) → filter p (xs ++ e ∷ []) ≡ filter p xs ++ filter p (e ∷ [])
 one-more p xs e = filter-append p xs (e ∷ [])
 
-chosen-more : (p : Event → Bool) (b : Block 64) (places : List ℕ) (n at : ℕ) (test : Bool)
+chosen-more : (p : Event → Bool) (b : Block 1024) (places : List ℕ) (n at : ℕ) (test : Bool)
     → n < length places → events_at b places n ≡ filter p (rows (event_at b) at) → p (event_at b at) ≡ test
     → events_at b (set places n at) (n + (if test then 1 else 0)) ≡ filter p (rows (event_at b) (at + 1))
 chosen-more p b places n at true inside are is =
@@ -50,7 +50,7 @@ loop-at-preserved c =
     let at = c.loop-at.at in
     let n = c.loop-at.chosen in
     let test = c.is_in.result in
-    let few : at < 64 = search (rules, arith) in
+    let few : at < 1024 = search (rules, arith) in
     let inside : n < length c.loop-at.places = omega (arith, inv.sized, inv.few, few) in
     let more : c.from-chosen.result ≡ (if test then 1 else 0) = search rules in
     let is : is_chosen (sorting_of c.args.gates.now) c.args.group (event_at b at) ≡ test =

@@ -6,7 +6,7 @@ use Rattle.photon_pick.proofs.choosing.choose.Given as goal
 
 abbrev pub invariant-loop-at : goal.invariant-loop-at
 invariant-loop-at l = record {
-  sized : length l.places ≡ 64;
+  sized : length l.places ≡ 1024;
   few : l.chosen ≤ l.at;
   inside : (k : ℕ) → k < l.chosen → slice_index l.places k < l.at;
   chosen : events_at l.block l.places l.chosen ≡ filter (is_chosen (sorting_of l.gates) l.group) (rows (event_at l.block) l.at);

@@ -1,19 +1,22 @@
-use Rattle.std.{proofs.Common.{◌≡◌, ◌+◌, ◌*◌, ◌^◌, ◌<◌, ◌≤◌, ◌++◌, [], ◌∷◌, ℕ, List, true, length, map, take, get_or, refl, sym, ap, ◌∙◌, arith, rules, slice_index}, specs.List.{range_with_len}, specs.Int.{from_le_bytes, w32}, proofs.Math.Nat.mul-le-mul_right, proofs.Math.Seq.take-append_seam, proofs.lemmas.List.take_all, proofs.lemmas.List.FromFn.{take-map-range_with_len, map-range_with_len_more}}
-use Rattle.tally_base.{specs.declared.event.Event.Event, specs.Columns.{event_at, rows, written}, proofs.BlockRows.{length-rows, rows-split}}
+use Rattle.std.{proofs.Common.{◌≡◌, ◌+◌, ◌*◌, ◌^◌, ◌<◌, ◌≤◌, ◌++◌, [], ◌∷◌, ℕ, List, true, length, map, take, get_or, refl, sym, ap, ◌∙◌, append-nil, add-zero, append_assoc, arith, rules, slice_index}, specs.List.{range_with_len}, specs.Int.{from_le_bytes, w32}, proofs.Math.Nat.mul-le-mul_right, proofs.Math.Seq.{take-append_seam, take-append-add}, proofs.lemmas.List.take_all, proofs.lemmas.List.FromFn.{take-map-range_with_len, length-map-range_with_len, map-range_with_len_more}}
+use Rattle.tally_base.{specs.declared.event.Event.Event, specs.Columns.{event_at, rows, gathered}, proofs.BlockRows.{length-rows, rows-split}}
 use Rattle.abs_time.specs.Placing.{placed_by, base_of}
-use Rattle.record_layout.{specs.declared.columns.Columns.Columns, specs.InColumns.{wraps_at, sum_to, time_in, Rises}, specs.InClose.{staying, stays}, proofs.Chosen.few-staying, proofs.Added.sum-few}
-use Rattle.record_stream.{specs.Rows.{gathered_below}, specs.Whole.{close_event}, specs.Walking.{how_of, greatest_of, clock_in}, proofs.WholeBlocks.gathers-close}
+use Rattle.lane_decode.{specs.declared.columns.Columns.Columns, specs.InColumns.{wraps_at, sum_to, time_in, Rises}, specs.InCompacted.{staying, stays}, proofs.Chosen.few-staying, proofs.Added.sum-few}
+use Rattle.record_stream.{specs.Rows.{gathered_below}, specs.Whole.{close_event}, specs.Walking.{how_of, greatest_of, clock_in}, proofs.WholeBlocks.gathers-close, proofs.Gathering.gathered-same}
 use Rattle.record_stream.proofs.blocks.gather_whole.Goals as goal
 
 few-stay : (below : ℕ) (columns : Columns) (n : ℕ) → length (staying below columns n) ≤ n
 unfolding staying
 few-stay below columns n = few-staying (stays below columns) n
 
--- the first rows of those that a function makes
-first-rows : {X : Type 0} (f g : ℕ → X) (m n : ℕ) → n ≤ m → rows f m ≡ map g (range_with_len 0 m) → rows f n ≡ map g (range_with_len 0 n)
-first-rows f g m n le is =
-    let split = rows-split f n m le in
-    sym (rw length-rows at (take-append_seam (rows f n) split.0)) ∙ ap (take n) (sym split.1 ∙ is) ∙ take-map-range_with_len g 0 m n le
+-- the first rows of those that a function makes behind others
+first-rows : {X : Type 0} (f h : ℕ → X) (front : List X) (start m n : ℕ) → n ≤ m → start ≡ length front
+    → rows f (start + m) ≡ front ++ map h (range_with_len 0 m) → rows f (start + n) ≡ front ++ map h (range_with_len 0 n)
+first-rows f h front start m n le at is =
+    let split = rows-split f (start + n) (start + m) (omega (arith, le)) in
+    sym (rw length-rows at (take-append_seam (rows f (start + n)) split.0)) ∙ ap (take (start + n)) (sym split.1 ∙ is)
+    ∙ ap (λ k. take (k + n) (front ++ map h (range_with_len 0 m))) at ∙ take-append-add front (map h (range_with_len 0 m)) n
+    ∙ ap (λ l. front ++ l) (take-map-range_with_len h 0 m n le)
 
 pub fill-len-requires : goal.fill-len-requires
 fill-len-requires g c = record {
@@ -21,35 +24,37 @@ fill-len-requires g c = record {
 }
 
 -- one event more
-one-more : (f : ℕ → Event) (i : ℕ) (old new : List Event) (e : Event) → new ≡ old ++ e ∷ []
-    → e ≡ f i → old ≡ map f (range_with_len 0 i) → new ≡ map f (range_with_len 0 (i + 1))
-one-more f i old new e put is so_far = rw (put, is, so_far) (sym (map-range_with_len_more f 0 i i (omega arith)))
+one-more : (f : ℕ → Event) (i : ℕ) (front old new : List Event) (e : Event) → new ≡ old ++ e ∷ []
+    → e ≡ f i → old ≡ front ++ map f (range_with_len 0 i) → new ≡ front ++ map f (range_with_len 0 (i + 1))
+one-more f i front old new e put is so_far =
+    rw (put, is, so_far) (append_assoc front (map f (range_with_len 0 i)) (f i ∷ []) ∙ ap (λ l. front ++ l) (sym (map-range_with_len_more f 0 i i (omega arith))))
 
 pub loop-i-init : goal.loop-i-init
 loop-i-init g c = record {
-  events = refl;
-  count = sym (length-rows (event_at c.clear.new.self) c.clear.new.self.len) ∙ ap length c.clear.ensures.empty;
-  unsorted = c.clear.ensures.unsorted;
+  events = rw (add-zero, c.len-start.ensures.count) (sym (append-nil (gathered c.args.block.now)));
+  same = refl;
+  same_count = refl;
+  same_sorted = refl;
 }
 
 pub loop-i-preserved : goal.loop-i-preserved
 loop-i-preserved g c =
     let inv = c.loop-i.invariant in
     let i = c.loop-i.i in
+    let start = c.len-start.result in
+    let next : start + i + 1 ≡ start + (i + 1) = omega arith in
     record {
-      events = one-more _ i _ _ _ c.write.ensures.more (rw (c.place.ensures, c.mark.ensures, c.time.ensures) refl) inv.events;
-      count = c.write.ensures.count ∙ inv.count;
-      unsorted = c.write.ensures.unsorted ∙ inv.unsorted;
+      events = ap (rows (event_at c.write.new.self)) (sym next) ∙ one-more _ i _ _ _ _ c.write.ensures.more (rw (c.place.ensures, c.mark.ensures, c.time.ensures) refl) inv.events;
+      same = gathered-same c.loop-i.block c.write.new.self (start + i) c.write.ensures.count (omega (arith, inv.same_count, c.len-start.ensures.count)) c.write.ensures.same ∙ inv.same;
+      same_count = c.write.ensures.count ∙ inv.same_count;
+      same_sorted = c.write.ensures.unsorted ∙ inv.same_sorted;
     }
 
 pub last_time-requires : goal.last_time-requires
 last_time-requires g c = omega (arith, c.fill-len.ensures.stayed.count, few-stay c.gathered_below-below.result c.args.columns.now 64)
 
-pub returns-clause-few : goal.returns-clause-few
-returns-clause-few g c = omega (arith, c.fill-len.ensures.stayed.count, few-stay c.gathered_below-below.result c.args.columns.now 64, c.requires.whole)
-
-pub returns-clause-gathers : goal.returns-clause-gathers
-returns-clause-gathers g c =
+pub returns : goal.returns
+returns g c =
     let walk = c.args.walk.now in
     let words = c.args.words.now in
     let only = c.args.only_ordered in
@@ -77,12 +82,23 @@ returns-clause-gathers g c =
     let len_few : len ≤ 64 = omega (arith, has.count, few-stay (gathered_below only (how_of walk).mode) columns 64) in
     let last : c.loop-i.i ≡ 64 = search (rules, arith) in
     let all = rw last at c.loop-i.invariant.events in
-    let es_are = first-rows (event_at c.loop-i.block) (close_event (c.placed-first.result + 1) c.base-base.result unit close) 64 len len_few all in
-    gathers-close walk words meaning c.requires.meaning c.requires.passes only unit columns c.requires.rows whole sure rises 64
-    (omega arith) close len has few_placed fits (c.base-base.result + c.UNIT.result * c.from.result) c.last_time.result (written c.loop-i.block len)
-    (take_all 64 words (omega (arith, whole))) (rw (c.base-base.ensures.value, c.UNIT.ensures, c.from.ensures, c.fill-len.ensures.wraps) refl)
-    (rw (c.ordered_below-ordered.ensures, c.mode.ensures, walk.same_mode, c.greatest-low.ensures, c.base-base.ensures.value) at c.last_time.ensures)
-    (rw (c.placed-first.ensures.value, c.base-base.ensures.value) at es_are)
+    let inv = c.loop-i.invariant in
+    let es = map (close_event (c.placed-first.result + 1) c.base-base.result unit close) (range_with_len 0 len) in
+    record {
+      gathers = record {
+        es = es;
+        rows = first-rows (event_at c.loop-i.block) (close_event (c.placed-first.result + 1) c.base-base.result unit close) (gathered c.args.block.now) c.len-start.result 64 len len_few c.len-start.ensures.value all;
+        gathers = gathers-close walk words meaning c.requires.meaning c.requires.passes only unit columns c.requires.rows whole sure rises 64
+            (omega arith) close len has few_placed fits (c.base-base.result + c.UNIT.result * c.from.result) c.last_time.result es
+            (take_all 64 words (omega (arith, whole))) (rw (c.base-base.ensures.value, c.UNIT.ensures, c.from.ensures, c.fill-len.ensures.wraps) refl)
+            (rw (c.ordered_below-ordered.ensures, c.mode.ensures, walk.same_mode, c.greatest-low.ensures, c.base-base.ensures.value) at c.last_time.ensures)
+            (rw (c.placed-first.ensures.value, c.base-base.ensures.value) refl);
+        few = omega (arith, whole, len_few, length-map-range_with_len (close_event (c.placed-first.result + 1) c.base-base.result unit close) 0 len);
+        same = inv.same;
+        same_count = inv.same_count;
+        same_sorted = inv.same_sorted;
+      };
+    }
 
-pub returns-clause-blank : goal.returns-clause-blank
-returns-clause-blank g c = record { empty = c.loop-i.invariant.count; unsorted = c.loop-i.invariant.unsorted }
+pub overflow_add-result-2 : goal.overflow_add-result-2
+overflow_add-result-2 g c = omega (arith, c.len-start.ensures.few, c.fill-len.ensures.stayed.count, few-stay c.gathered_below-below.result c.args.columns.now 64)

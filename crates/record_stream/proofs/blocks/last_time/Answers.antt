@@ -1,5 +1,5 @@
 use Rattle.std.{proofs.Common.{◌≡◌, ◌-◌, ◌<◌, ℕ, suc, Bool, true, false, cond, refl, sym, ap, ◌∙◌, nat_lt, arith}, proofs.lemmas.Bool.{lt-ltb, le-ltb}}
-use Rattle.record_layout.specs.InClose.{code_at}
+use Rattle.lane_decode.specs.InCompacted.{code_at}
 use Rattle.record_stream.specs.Whole.{last_below}
 use Rattle.record_stream.proofs.blocks.last_time.Goals as goal
 

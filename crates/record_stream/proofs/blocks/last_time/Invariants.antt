@@ -1,5 +1,5 @@
 use Rattle.std.proofs.Common.{ℕ, ◌≡◌, ◌≤◌, ◌%◌, ◌^◌}
-use Rattle.record_layout.specs.InClose.{code_at, time_at}
+use Rattle.lane_decode.specs.InCompacted.{code_at, time_at}
 use Rattle.record_stream.specs.Whole.{last_below}
 use Rattle.record_stream.proofs.blocks.last_time.Given as goal
 

@@ -7,13 +7,13 @@ use Rattle.record_stream.{specs.Walking.{how_of, clock_in}, proofs.Passed.{block
 use Rattle.record_stream.proofs.letting_go.pass_block.Goals as goal
 
 -- As many as come go, and as many as were kept back stay: the first of both together, and the last.
-record IsCut (b went : Block 64) (s : Settle) (stay : List Event) (len : ℕ) : Type 0 where
+record IsCut (b went : Block 1024) (s : Settle) (stay : List Event) (len : ℕ) : Type 0 where
   joined : kept_back s ++ gathered b ≡ gathered went ++ stay
   many : went.len ≡ len
   as_many : length stay ≡ length (kept_back s)
   last : (time : ℕ) → 0 < b.len → time ≡ time_at went (len - 1) → time ≡ time_after (last_time s) (gathered went)
 
-module _ (b out went : Block 64) (s : Settle) (len held least : ℕ) (pushed waiting all gone rest cleared items stay : List Event) (blank : gathered out ≡ [])
+module _ (b out went : Block 1024) (s : Settle) (len held least : ℕ) (pushed waiting all gone rest cleared items stay : List Event) (blank : gathered out ≡ [])
     (first : pushed ≡ gathered out ++ gone) (more : gathered went ≡ pushed ++ rows (event_at b) (len - least))
     (none : cleared ≡ []) (left : waiting ≡ cleared ++ rest) (back : items ≡ waiting ++ drop (len - least) (gathered b)) (same : stay ≡ items)
     (whole : all ≡ kept_back s) (parts : all ≡ gone ++ rest) (front_len : length gone ≡ len - (len - least))
@@ -40,7 +40,7 @@ module _ (b out went : Block 64) (s : Settle) (len held least : ℕ) (pushed wai
     last = λ time some is. is ∙ rw (time-rows (last_time s) (event_at went) went.len (omega (arith, many_go, count, some)), many_go) refl;
   }
 
-place_is : (b : Block 64) (place len : ℕ) (e : Event) → 0 < b.len → len ≡ b.len → e ≡ event_at b (len - 1) → e.place ≡ place_after place (gathered b)
+place_is : (b : Block 1024) (place len : ℕ) (e : Event) → 0 < b.len → len ≡ b.len → e ≡ event_at b (len - 1) → e.place ≡ place_after place (gathered b)
 place_is b place len e some count is = search (rules, arith, place-rows)
 
 pub time-requires : goal.time-requires

@@ -3,7 +3,7 @@ use Rattle.ptu_definitions.{specs.Words.numbers, specs.Layouts.KindFits, specs.S
 use Rattle.abs_time.{specs.Floors.orders_markers, proofs.Floors.moves_by}
 use Rattle.tally_base.{specs.Columns.{event_at, gathered}, proofs.BlockRows.length-rows, proofs.Floors.order-lower, specs.declared.event.Event.Event, specs.declared.header.Mode.Mode, specs.Events.is_ordered, specs.Tally.{moves_floor, InOrder}}
 use Rattle.settle.{specs.Passing.place_after, specs.declared.settle.Settle.Settle}
-use Rattle.record_stream.{specs.Blocks.{PlacesRise, RisesWithin}, specs.LettingGo.{IsDelivered, AreOrdered}, specs.Walking.{how_of}, proofs.Feeds.delivers-both, proofs.Gathering.gathers-lead, proofs.Settles.kept_on, proofs.Steps.{ok_of, err_of, block_at, block_fed, block_broke, floors_below}, proofs.LettingGo.{block_delivers, come_block}, proofs.Passed.ordered-same}
+use Rattle.record_stream.{specs.Blocks.{PlacesRise, RisesWithin}, specs.LettingGo.{IsDelivered, AreOrdered}, specs.Walking.{how_of}, proofs.Feeds.delivers-both, proofs.Gathering.{gathers-lead, behind-many}, proofs.Settles.kept_on, proofs.Steps.{ok_of, err_of, block_at, block_fed, block_broke, floors_below}, proofs.LettingGo.{block_delivers, come_block}, proofs.Passed.ordered-same}
 use Rattle.record_stream.proofs.settled_blocks.settle_block.Goals as goal
 
 -- the events in order of a list, without the others
@@ -56,9 +56,11 @@ delivers-ordered how settle words came went some d =
 pub let_go-requires-clause-comes : goal.let_go-requires-clause-comes
 let_go-requires-clause-comes g c =
     let mode = (how_of c.args.walk.now).mode in
-    let all = c.gather-ahead.ensures.gathers in
+    let of = c.gather-ahead.ensures.gathers in
+    let all = of.gathers in
+    let kept : gathered c.keep.new.self ≡ of.es = c.keep.ensures.kept ∙ of.rows ∙ ap (λ l. l ++ of.es) c.clear.ensures.empty in
     let line = all.in_line (search rules) in
-    rw (c.keep.ensures.kept, all.chosen) (record {
+    rw (kept, all.chosen) (record {
       places = places-ordered mode _ all.came all.places.rises;
       in_order = line-ordered mode _ all.came line.in_order;
       fit = All-filter (λ (e : Event). is_ordered mode e) (λ (e : Event). KindFits mode e.kind) all.came line.fit;
@@ -73,17 +75,19 @@ take_block-requires-clause-fit g c = rw c.requires.ready.follows.mode_is c.let_g
 
 pub go_on-requires-clause-stands : goal.go_on-requires-clause-stands
 go_on-requires-clause-stands g c =
-    gathers-lead _ c.gather-ahead.ensures.gathers (search rules) (omega (arith, c.placed.ensures.value, c.kinds-counts.ensures.records))
+    gathers-lead _ c.gather-ahead.ensures.gathers.gathers (search rules) (omega (arith, c.placed.ensures.value, c.kinds-counts.ensures.records))
 
 pub take_block-requires-clause-in_order : goal.take_block-requires-clause-in_order
 take_block-requires-clause-in_order g c = search (rules, arith, order-lower)
 
 pub returns-then-is_err-clause-delivers : goal.returns-then-is_err-clause-delivers
 returns-then-is_err-clause-delivers g c = delivers-both g.S.EventTaker (λ before h.
-    let all = c.gather-ahead.ensures.gathers in
+    let of = c.gather-ahead.ensures.gathers in
+    let all = of.gathers in
+    let kept : gathered c.keep.new.self ≡ of.es = c.keep.ensures.kept ∙ of.rows ∙ ap (λ l. l ++ of.es) c.clear.ensures.empty in
     let went = gathered c.let_go.new.out in
     let adds = all.adds (search rules) before h.behind in
-    let passed = rw (c.keep.ensures.kept, all.chosen) at (c.let_go.ensures.delivers before h) in
+    let passed = rw (kept, all.chosen) at (c.let_go.ensures.delivers before h) in
     let d = delivers-ordered (how_of c.args.walk.now) c.let_go.new.settle before all.came went c.requires.ready.settles passed in
     let outs = block_delivers _ _ before (before ++ numbers c.args.words.now) all.came went adds.came d in
     let failed = sym c.is_err.ensures.value ∙ c.if-is_err.true in
@@ -96,7 +100,9 @@ returns g c =
     let walk = c.args.walk.now in
     let how = how_of walk in
     let words = c.args.words.now in
-    let all = c.gather-ahead.ensures.gathers in
+    let of = c.gather-ahead.ensures.gathers in
+    let all = of.gathers in
+    let kept : gathered c.keep.new.self ≡ of.es = c.keep.ensures.kept ∙ of.rows ∙ ap (λ l. l ++ of.es) c.clear.ensures.empty in
     let went = gathered c.let_go.new.out in
     let l = c.let_go.ensures.lets_go in
     let ready = c.requires.ready in
@@ -106,7 +112,7 @@ returns g c =
       delivers = delivers-both s (λ before h.
           let now = before ++ numbers words in
           let adds = all.adds (search rules) before h.behind in
-          let passed = rw (c.keep.ensures.kept, all.chosen) at (c.let_go.ensures.delivers before h) in
+          let passed = rw (kept, all.chosen) at (c.let_go.ensures.delivers before h) in
           let d = delivers-ordered how c.let_go.new.settle before all.came went ready.settles passed in
           let outs = block_delivers how c.let_go.new.settle before now all.came went adds.came d in (
             record {
@@ -121,17 +127,29 @@ returns g c =
           let moved = rw ready.follows.mode_is at (ok_of r fine c.take_block.ensures.moved) in
           search (rules, arith, ok_of, moved, floors_below how.mode _ _ _ went ready.follows.before l.line.greatest);
       stays =
-          let behind = chosen-behind how.mode (c.keep.ensures.kept ∙ all.chosen) all.places in
-          let many = ap length c.keep.ensures.kept ∙ length-rows (event_at c.gather-ahead.new.block) c.gather-ahead.result.len in
-          search (rules, arith, kept_on, behind, many);
+          let behind = chosen-behind how.mode (kept ∙ all.chosen) all.places in
+          let many = ap length kept in
+          search (rules, arith, kept_on, behind, many, of.few);
     }
 
 pub returns-then-is_err-clause-stays : goal.returns-then-is_err-clause-stays
 returns-then-is_err-clause-stays g c =
-    let all = c.gather-ahead.ensures.gathers in
-    let behind = chosen-behind (how_of c.args.walk.now).mode (c.keep.ensures.kept ∙ all.chosen) all.places in
-    let many = ap length c.keep.ensures.kept ∙ length-rows (event_at c.gather-ahead.new.block) c.gather-ahead.result.len in
-    search (rules, arith, kept_on, behind, many)
+    let of = c.gather-ahead.ensures.gathers in
+    let all = of.gathers in
+    let kept : gathered c.keep.new.self ≡ of.es = c.keep.ensures.kept ∙ of.rows ∙ ap (λ l. l ++ of.es) c.clear.ensures.empty in
+    let behind = chosen-behind (how_of c.args.walk.now).mode (kept ∙ all.chosen) all.places in
+    let many = ap length kept in
+    search (rules, arith, kept_on, behind, many, of.few)
 
 pub invariant_of-walk-clause-few_given : goal.invariant_of-walk-clause-few_given
 invariant_of-walk-clause-few_given g c = search (rules, arith, length-rows)
+
+pub gather-ahead-requires-clause-room : goal.gather-ahead-requires-clause-room
+gather-ahead-requires-clause-room g c = omega (arith, length-rows (event_at c.clear.new.self) c.clear.new.self.len, ap length c.clear.ensures.empty)
+
+pub keep-requires : goal.keep-requires
+keep-requires g c =
+    let of = c.gather-ahead.ensures.gathers in
+    let len = behind-many c.clear.new.self c.gather-ahead.new.block c.gather-ahead.result.len of.es of.rows in
+    let none = length-rows (event_at c.clear.new.self) c.clear.new.self.len in
+    (omega (arith, len, of.same_count), omega (arith, len, of.few, c.requires.few, none, ap length c.clear.ensures.empty))

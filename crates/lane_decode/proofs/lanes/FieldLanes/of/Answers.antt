@@ -1,4 +1,4 @@
-use Rattle.std.{proofs.Common.{◌≡◌, ◌<◌, ◌^◌, slice_index, length, refl, sym, ap, ◌∙◌, rules, arith, ◌≤◌, ◌/◌, ℕ, List, get_or, replicate, bit_and}, specs.Simd.Lanes.zip2, proofs.Math.Nat.pow-le-pow_right, proofs.lemmas.Nat.{div_below, pow_pos, and_le_r}, proofs.lemmas.List.get_or-map, proofs.lemmas.Simd.{zip2_splat, length-zip2}}
+use Rattle.std.{proofs.Common.{◌≡◌, ◌<◌, ◌^◌, slice_index, length, sym, ap, ◌∙◌, rules, arith, ◌≤◌, ◌/◌, ℕ, List, get_or, replicate, bit_and}, specs.Simd.Lanes.zip2, proofs.Math.Nat.pow-le-pow_right, proofs.lemmas.Nat.{div_below, pow_pos, and_le_r}, proofs.lemmas.List.get_or-map, proofs.lemmas.Simd.{zip2_splat, length-zip2}}
 use Rattle.lane_decode.proofs.lanes.FieldLanes.of.Goals as goal
 
 -- what a shift and a mask give in each lane
@@ -55,14 +55,8 @@ invariant_of-result-clause-small_dtimes g c place low =
     small-dtime c.numbers_of-words.result c.DTIME_SHIFT.result c.DTIME_MASK.result place
     (omega arith) low (rw c.DTIME_MASK.ensures g.met.R.RecordLayout.dtime_mask_high)
 
-pub returns-clause-fields : goal.returns-clause-fields
-returns-clause-fields g c place low =
-    let words = c.numbers_of-words.result in
-    let long : length c.numbers_of-words.result ≡ 8 = omega arith in
-    rw (shifted-at words c.TOP_SHIFT.result place long low, both-at words c.DTIME_SHIFT.result c.DTIME_MASK.result place long low, masked-at words c.TIME_MASK.result place long low, c.TOP_SHIFT.ensures, c.DTIME_SHIFT.ensures, c.DTIME_MASK.ensures, c.TIME_MASK.ensures, c.numbers_of-words.ensures) refl
-
-pub returns-clause-records : goal.returns-clause-records
-returns-clause-records g c place low =
+pub returns : goal.returns
+returns g c place low =
     let words = c.numbers_of-words.result in
     let long : length c.numbers_of-words.result ≡ 8 = omega arith in
     let small : slice_index c.numbers_of-words.result place < 2 ^ 32 = search rules in

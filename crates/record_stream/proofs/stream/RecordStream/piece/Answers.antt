@@ -10,7 +10,7 @@ returns-in_err-words-clause-fed g c = λ bytes h.
     let p = err_from_is_err_and c.from_residual.result c.from_residual.ensures.1 in
     let fed = rw first at (c.in_err-words.ensures.delivers.fed (words_of bytes) h.1) in
     let whole = cut-words (begun_in c.args.self.now.carried) bytes c.args.piece.now h.0 (listed c.take-first.result.0) _ c.take-first.ensures.words in
-    rw (p.1, p.2) (rw whole at (Fed-more g.S.EventTaker (Unit {0}) (how_of c.args.self.now) _ _ (words_of bytes) _ (numbers c.take-first.result.1.now) _ fed))
+    rw (p.1, p.2) (rw whole at (Fed-more _ (Unit {0}) (how_of c.args.self.now) _ _ (words_of bytes) _ (numbers c.take-first.result.1.now) _ fed))
 
 pub returns-clause-at : goal.returns-clause-at
 returns-clause-at g c = λ bytes h.
@@ -31,4 +31,4 @@ returns-clause-fed g c = λ bytes h.
     let fed = rw first at (c.in_ok-words.ensures.delivers.fed (words_of bytes) h.1) in
     let more = rw c.words.ensures.stays.same_how at (c.words-2.ensures.delivers.fed ws stepped) in
     let whole = cut-words (begun_in c.args.self.now.carried) bytes c.args.piece.now h.0 (listed c.take-first.result.0) _ c.take-first.ensures.words in
-    rw whole at (Fed-trans g.S.EventTaker (how_of c.args.self.now) _ c.words.new.taker _ (words_of bytes) ws _ c.words-2.result fed.1 more)
+    rw whole at (Fed-trans _ (how_of c.args.self.now) _ c.words.new.taker _ (words_of bytes) ws _ c.words-2.result fed.1 more)

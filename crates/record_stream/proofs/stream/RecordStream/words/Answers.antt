@@ -9,7 +9,7 @@ pub settle_blocks-requires-clause-ready : goal.settle_blocks-requires-clause-rea
 settle_blocks-requires-clause-ready g c = search (rules, arith, follows_to, some-is)
 
 pub returns-then-self-eq0-clause-delivers : goal.returns-then-self-eq0-clause-delivers
-returns-then-self-eq0-clause-delivers g c = delivers-both g.S.EventTaker (λ before h.
+returns-then-self-eq0-clause-delivers g c = delivers-both _ (λ before h.
     let d = c.take_words.ensures.delivers in (
       on_ok_weaker c.take_words.result (λ at. record { at = at; settles = search (rules, arith) })
           (d.at before h.at),

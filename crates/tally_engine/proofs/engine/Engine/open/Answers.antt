@@ -4,7 +4,7 @@ use Rattle.plan_text.{specs.Fits.fits, specs.ReadPlan.plan_view}
 use Rattle.record_stream.specs.Standing.{carried_by}
 use Rattle.tally_engine.proofs.Feeds.{kept_within, none_taken}
 use Rattle.gate_plan.proofs.Histories.{history-none}
-use Rattle.fed_parts.{proofs.OneByOne.standing_first, proofs.Suits.suits_T2}
+use Rattle.tally_engine.{proofs.OneByOne.standing_first, proofs.Suits.suits_T2}
 use Rattle.tally_engine.proofs.engine.Engine.open.Goals as goal
 
 pub invariant_of-result-clause-standing : goal.invariant_of-result-clause-standing
@@ -24,4 +24,4 @@ returns-in-Ok-clause-none c = none_taken _ _ _ _ _ _ _ c.new.ensures.empty c.new
 
 pub returns-in-Ok-clause-within : goal.returns-in-Ok-clause-within
 returns-in-Ok-clause-within c = let few : length (carried_by c.new.result) ≤ 48 =
-    search (rules, arith) in kept_within c.in-Ok.parts.items _ _ _ _ few (search (rules, arith)) (search (rules, arith))
+    search (rules, arith) in kept_within c.in-Ok.parts.items _ _ _ few (search (rules, arith))

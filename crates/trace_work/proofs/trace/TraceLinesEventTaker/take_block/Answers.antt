@@ -1,12 +1,7 @@
-use Rattle.std.{proofs.Common.{◌≡◌, ◌<◌, ◌++◌, ◌∙◌, [], ℕ, length, arith, rules, sym, ap, append-nil}, proofs.lemmas.Result.{err_from_is_err_and}}
-use Rattle.tally_base.{specs.Columns.{count, gathered, written}, specs.declared.block.Block.Block}
+use Rattle.std.{proofs.Common.{◌<◌, [], length, arith, rules, sym, append-nil}, proofs.lemmas.Result.{err_from_is_err_and}}
+use Rattle.tally_base.specs.Columns.{gathered}
 use Rattle.trace_work.proofs.TraceSteps.{Traced-block, TracedShort-block, block-in_order, block-below, block-length}
 use Rattle.trace_work.proofs.trace.TraceLinesEventTaker.take_block.Goals as goal
-
--- a block has the events of the one that it is copied from
-copied-is : (b : Block 64) (cleared copy : Block 1024) (len : ℕ) → gathered cleared ≡ [] → len ≡ count b
-    → gathered copy ≡ gathered cleared ++ written b len → gathered copy ≡ gathered b
-copied-is b cleared copy len none all is = is ∙ ap (λ l. l ++ written b len) none ∙ ap (written b) all
 
 pub returns-then-len-eq0-clause-follows : goal.returns-then-len-eq0-clause-follows
 returns-then-len-eq0-clause-follows g c = search (rules, arith, append-nil)
@@ -17,10 +12,9 @@ returns-then-len-eq0-clause-moved g c = search (rules, arith)
 pub returns-in_err-put-clause-broken : goal.returns-in_err-put-clause-broken
 returns-in_err-put-clause-broken g c =
     let es = gathered c.args.block.now in
-    let copied = copied-is c.args.block.now c.clear.new.self c.push_front.new.self c.len-len.result c.clear.ensures.empty c.len-len.ensures.count c.push_front.ensures.more in
     let p = err_from_is_err_and c.from_residual.result c.from_residual.ensures.1 in
     let some : 0 < length es = search (rules, arith) in
-    let given = rw (c.sort_events.ensures.sorted, copied) at c.take_block.ensures.given in
+    let given = rw c.sort_events.ensures.sorted at c.take_block.ensures.given in
     rw p.1 (record {
       front = es;
       back = [];
@@ -32,8 +26,7 @@ returns-in_err-put-clause-broken g c =
 
 pub returns-clause-follows : goal.returns-clause-follows
 returns-clause-follows g c = λ start l h.
-    let copied = copied-is c.args.block.now c.clear.new.self c.push_front.new.self c.len-len.result c.clear.ensures.empty c.len-len.ensures.count c.push_front.ensures.more in
-    let given = rw (c.sort_events.ensures.sorted, copied) at c.take_block.ensures.given in
+    let given = rw c.sort_events.ensures.sorted at c.take_block.ensures.given in
     Traced-block _ _ _ _ _ _ _ _ _ _ _ _ _ _ _ _ l _ _ _ _ (gathered c.args.block.now) c.take_block.new.lines.items _ _ h given (rw c.as_slice.ensures.value at c.in_ok-put.ensures.all) c.in_ok-put.ensures.cause.kept c.requires.in_order (search (rules, arith)) (search rules)
 
 pub take_block-requires-clause-in_order : goal.take_block-requires-clause-in_order

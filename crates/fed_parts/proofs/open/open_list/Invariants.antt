@@ -1,9 +1,0 @@
-use Rattle.std.proofs.Common.{◌≡◌, ◌++◌, map, take}
-use Rattle.plan_parts.specs.Parts.{settings_in, AllOpened}
-use Rattle.fed_parts.proofs.open.open_list.Given as goal
-
-abbrev pub invariant-loop-set : goal.invariant-loop-set
-invariant-loop-set g l = record {
-  settings : settings_in l.parts.items ≡ settings_in l.initial.parts.items ++ map g.S.OpensPart.settings (take l.set-index l.sets);
-  opened : AllOpened l.initial.parts.items → AllOpened l.parts.items;
-}

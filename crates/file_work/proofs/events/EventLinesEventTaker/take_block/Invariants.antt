@@ -1,0 +1,20 @@
+use Rattle.std.proofs.Common.{◌≡◌, ◌-◌, ◌++◌, take, length}
+use Rattle.tally_base.specs.Columns.{gathered}
+use Rattle.bench_io.specs.Sinks.{PassesOn}
+use Rattle.record_stream.specs.Blocks.{on_time}
+use Rattle.list_out.specs.Lines.{events_text}
+use Rattle.file_work.proofs.events.EventLinesEventTaker.take_block.Given as goal
+
+abbrev pub invariant-parts : goal.invariant-parts
+invariant-parts g l = record {
+  sink : l.self.out.ghost_name ≡ l.fn.self.out.ghost_name;
+  mode : l.self.mode ≡ l.fn.self.mode;
+  taken : l.self.taken ≡ l.fn.self.taken;
+  floor : l.self.floor ≡ l.fn.self.floor;
+  kept : g.O.Sink.faults l.self.out.now ≡ g.O.Sink.faults l.fn.self.out.now;
+  text : PassesOn (g.O.Sink.written l.fn.self.out.now) (g.O.Sink.written l.self.out.now)
+      (l.fn.self.block ++ events_text (on_time (take l.from (gathered l.block)))) l.self.block;
+}
+
+abbrev pub decreases-parts : goal.decreases-parts
+decreases-parts g l = length (gathered l.block) - l.from

@@ -1,0 +1,19 @@
+use Rattle.std.{proofs.Common.{rules}, proofs.Common.{arith}, proofs.lemmas.List.{take_all}}
+use Rattle.record_layout.proofs.KindLemmas.{others-fit, counts_of-three}
+use Rattle.lane_decode.proofs.columns.Columns.kinds.Goals as goal
+
+pub overflow_sub-result : goal.overflow_sub-result
+overflow_sub-result g c =
+    let all = take_all c.loop-i.i c.args.words.now c.loop-i-test.false in
+    let seen = c.loop-i.invariant in
+    others-fit g.R.RecordLayout.meaning c.args.words.now _ _ _ (rw all at seen.photons) (rw all at seen.markers) (rw all at seen.wraps)
+
+pub returns-clause-value : goal.returns-clause-value
+returns-clause-value g c = search (rules, arith, take_all, counts_of-three)
+
+pub returns-clause-split : goal.returns-clause-split
+returns-clause-split g c =
+    let all = take_all c.loop-i.i c.args.words.now c.loop-i-test.false in
+    let seen = c.loop-i.invariant in
+    let fit = others-fit g.R.RecordLayout.meaning c.args.words.now _ _ _ (rw all at seen.photons) (rw all at seen.markers) (rw all at seen.wraps) in
+    omega (arith, fit)

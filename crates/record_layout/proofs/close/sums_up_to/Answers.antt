@@ -1,8 +1,0 @@
-use Rattle.record_layout.proofs.Prefix.{sums-are, long-sums}
-use Rattle.record_layout.proofs.close.sums_up_to.Goals as goal
-
-pub returns-clause-lanes : goal.returns-clause-lanes
-returns-clause-lanes c = long-sums c.args.eight c.requires.lanes
-
-pub returns-clause-sums : goal.returns-clause-sums
-returns-clause-sums c = sums-are c.args.eight c.requires.lanes c.requires.few

@@ -1,0 +1,236 @@
+-- A taker with the events that it is given next.
+use Rattle.std.{proofs.Common.{rules, IfErr, inl, inr, ◌≢◌, subst, Ok, Err, OnOk, OnErr, ◌≡◌, ◌+◌, ◌<◌, ◌≤◌, ℕ, List, [], ◌∷◌, ◌++◌, length, refl, sym, ap, ◌∙◌, append-nil, append_assoc, length-append, arith, max, Bool, true, false, IsTrue, ◌&&◌, not}, specs.declared.result.Result.Result, proofs.lemmas.List.map-append, proofs.lemmas.List.Elements.{All-append, All-push}}
+use Rattle.tally_base.{specs.declared.event.Event.Event, specs.declared.fault.Fault.Fault, specs.declared.fault.Fault.TheVariants.WriteFault, specs.FaultCounts.Rose, specs.declared.header.Mode.Mode, specs.Events.is_ordered, specs.declared.block.Block.Block, specs.Columns.{gathered, sorted}, specs.Limits.{time_limit, record_limit}, specs.Tally.{floor_after, moves_floor, InOrder}, proofs.Floors.{floor-append, order-append, order-lower}}
+use Rattle.ptu_definitions.{specs.Kept.{Marked, floor_of}, specs.Layouts.KindFits, specs.Streams.{StreamSettings, given}, proofs.Firsts.record_refusal-inside}
+use Rattle.abs_time.{specs.Floors.{orders_markers, moved_floor}, proofs.Floors.{moves_by, moved_floor-push}}
+use Rattle.record_stream.{specs.Feeding.{GaveOn, BrokeOn, Fed}, specs.Blocks.{on_time, AllFit, BrokeAmong, IsInLine}, specs.InBlocks.{GoesOn, Breaks, Waits, taken_with, floor_with}, specs.declared.taker.EventTaker.Ghosts, proofs.Gathering.floor_of-block, proofs.Steps.length-on_time}
+
+floor_of-append : (mode : Mode) (l m : Marked) → floor_of mode (l ++ m) ≡ max (floor_of mode l) (floor_of mode m)
+floor_of-append mode [] m = omega arith
+floor_of-append mode (x ∷ l) m = rw (floor_of-append mode l m) (omega arith)
+
+-- the greatest time with events in order behind one
+pub floor_of-line : (mode : Mode) (floor : ℕ) (es : List Event) → InOrder (orders_markers mode) floor es
+    → floor_after (orders_markers mode) floor es ≡ max floor (floor_of mode (on_time es))
+floor_of-line mode floor es order = floor_of-block mode [] es floor floor (omega arith) order
+
+-- one event in order
+pub one-order : (mode : Mode) (floor : ℕ) (e : Event) → e.time ≤ time_limit → (IsTrue (is_ordered mode e && not false) → floor ≤ e.time)
+    → InOrder (orders_markers mode) floor (e ∷ [])
+one-order mode floor e time order = (time, λ moves. order (later mode e moves), tt)
+  where
+    later : (mode : Mode) (e : Event) → IsTrue (moves_floor (orders_markers mode) e) → IsTrue (is_ordered mode e && not false)
+    later mode e moves = search (rules, arith, moves_by)
+
+module _ {T : Type 0} (g : Ghosts T) where
+  pub goes_on-trans : {old mid new : T} {es between now : List Event} {l m : Marked}
+      → GoesOn g old mid es between l → GoesOn g mid new between now m → GoesOn g old new es now (l ++ m)
+  goes_on-trans {es = es} {l = l} {m = m} p q = record {
+    front = p.front ++ q.front;
+    parts = sym (append_assoc (on_time es) l m) ∙ ap (λ x. x ++ m) p.parts ∙ append_assoc p.front _ m ∙ ap (λ x. p.front ++ x) q.parts ∙ sym (append_assoc p.front q.front _);
+    follows = λ start x got. rw (← append_assoc) (q.follows start _ (p.follows start x got));
+    counted = omega (arith, p.counted, q.counted, length-append l m);
+    moved = q.moved ∙ rw (p.moved, p.same_mode, floor_of-append) (omega arith);
+    same_mode = q.same_mode ∙ p.same_mode;
+  }
+
+  pub goes_on-last : {old mid new : T} {es between now : List Event} {l : Marked}
+      → GoesOn g old mid es between l → GoesOn g mid new between now [] → GoesOn g old new es now l
+  goes_on-last {old = old} {new = new} {es = es} {now = now} {l = l} p q = subst (λ m. GoesOn g old new es now m) (append-nil l) (goes_on-trans p q)
+
+  -- it broke at what came behind
+  pub breaks-behind : {old mid new : T} {es between : List Event} {l m : Marked}
+      → GoesOn g old mid es between l → Breaks g mid new between m → Breaks g old new es (l ++ m)
+  breaks-behind {es = es} {l = l} {m = m} p q = record {
+    front = p.front ++ q.front;
+    back = q.back;
+    some = omega (arith, length-append p.front q.front, q.some);
+    parts = sym (append_assoc (on_time es) l m) ∙ ap (λ x. x ++ m) p.parts ∙ append_assoc p.front _ m ∙ ap (λ x. p.front ++ x) q.parts ∙ sym (append_assoc p.front q.front q.back);
+    broken = λ start x got. rw (← append_assoc) (q.broken start _ (p.follows start x got));
+  }
+
+  pub breaks-last : {old mid new : T} {es between : List Event} {l : Marked}
+      → GoesOn g old mid es between l → Breaks g mid new between [] → Breaks g old new es l
+  breaks-last {old = old} {new = new} {es = es} {l = l} p q = subst (λ m. Breaks g old new es m) (append-nil l) (breaks-behind p q)
+
+  -- or before that
+  pub breaks-before : {old new : T} {es : List Event} {l : Marked} (m : Marked) → Breaks g old new es l → Breaks g old new es (l ++ m)
+  breaks-before {es = es} {l = l} m b = record {
+    front = b.front;
+    back = b.back ++ m;
+    some = b.some;
+    parts = sym (append_assoc (on_time es) l m) ∙ ap (λ x. x ++ m) b.parts ∙ append_assoc b.front b.back m;
+    broken = b.broken;
+  }
+
+  -- those that wait were given in a block
+  pub goes_on-given : {old new : T} {es : List Event} → ((start : T) (m : Marked) → g.got start old m → g.got start new (m ++ on_time es))
+      → g.taken new ≡ g.taken old + length es → g.mode new ≡ g.mode old → g.floor new ≡ floor_after (orders_markers (g.mode old)) (g.floor old) es
+      → GoesOn g old new es [] []
+  goes_on-given {es = es} follows more mode moved = record {
+    front = on_time es;
+    parts = refl;
+    follows = follows;
+    counted = omega (arith, more);
+    moved = moved ∙ omega arith;
+    same_mode = mode;
+  }
+
+  pub breaks-among : {old new : T} {es : List Event} → BrokeAmong g.got g.broke old new es → Breaks g old new es []
+  breaks-among {es = es} b = record {
+    front = on_time b.front;
+    back = on_time b.back;
+    some = omega (arith, length-on_time b.front, b.some);
+    parts = append-nil (on_time es) ∙ ap on_time b.are ∙ map-append (λ (e : Event). (e, false)) b.front b.back;
+    broken = b.broken;
+  }
+
+  -- more events wait
+  pub goes_on-push : (t : T) (es now more : List Event) → now ≡ es ++ more → InOrder (orders_markers (g.mode t)) (floor_with g t es) more
+      → GoesOn g t t es now (on_time more)
+  goes_on-push t es now more is order = rw is (record {
+    front = [];
+    parts = sym (map-append (λ (e : Event). (e, false)) es more);
+    follows = λ start m got. rw append-nil got;
+    counted = omega (arith, length-append es more, length-on_time more);
+    moved = floor-append (orders_markers (g.mode t)) (g.floor t) es more ∙ floor_of-line (g.mode t) (floor_with g t es) more order;
+    same_mode = refl;
+  })
+
+  -- one late event was given
+  goes_on-late : {old new : T} {none : List Event} (e : Event) → none ≡ [] → ((start : T) (m : Marked) → g.got start old m → g.got start new (m ++ (e, true) ∷ []))
+      → g.taken new ≡ g.taken old + 1 → g.mode new ≡ g.mode old → g.floor new ≡ moved_floor (g.mode old) (g.floor old) e true
+      → GoesOn g old new [] none ((e, true) ∷ [])
+  goes_on-late {old = old} e is follows more mode moved = rw is (record {
+    front = (e, true) ∷ [];
+    parts = refl;
+    follows = follows;
+    counted = omega (arith, more);
+    moved = moved ∙ moved_floor-push (g.mode old) (g.floor old) (g.floor old) [] e true (omega arith) (never (is_ordered (g.mode old) e));
+    same_mode = mode;
+  })
+    where
+      never : {X : Type 0} (b : Bool) → IsTrue (b && not true) → X
+      never b is = search (rules, arith)
+
+  pub late-given : {X E : Type 0} (r : Result X E) (new : T) {old mid : T} {es none : List Event} (e : Event) → none ≡ []
+      → GoesOn g old mid es [] [] → OnOk r ((start : T) (m : Marked) → g.got start mid m → g.got start new (m ++ (e, true) ∷ []))
+      → OnOk r (g.taken new ≡ g.taken mid + 1) → OnOk r (g.mode new ≡ g.mode mid) → OnOk r (g.floor new ≡ moved_floor (g.mode mid) (g.floor mid) e true)
+      → OnOk r (GoesOn g old new es none ((e, true) ∷ []))
+  late-given (Ok x) new e is gave follows more mode moved = goes_on-trans gave (goes_on-late e is follows more mode moved)
+  late-given (Err x) new e is gave follows more mode moved = tt
+
+  pub late-broken : {X E : Type 0} (r : Result X E) (new : T) {old mid : T} {es : List Event} (e : Event) → GoesOn g old mid es [] []
+      → OnErr r ((start : T) (m : Marked) → g.got start mid m → g.broke start new (m ++ (e, true) ∷ []))
+      → OnErr r (Breaks g old new es ((e, true) ∷ []))
+  late-broken (Ok x) new e gave broken = tt
+  late-broken (Err x) new e gave broken = breaks-behind gave (record { front = (e, true) ∷ []; back = []; some = omega arith; parts = refl; broken = broken })
+
+  -- where they lead
+  pub moved-one : {old new : T} {es now : List Event} (e : Event) (late : Bool) → GoesOn g old new es now ((e, late) ∷ [])
+      → (IsTrue (is_ordered (g.mode old) e && not late) → floor_with g old es ≤ e.time)
+      → floor_with g new now ≡ moved_floor (g.mode old) (floor_with g old es) e late
+  moved-one {old = old} {es = es} e late on order = on.moved ∙ sym (moved_floor-push (g.mode old) (floor_with g old es) (floor_with g old es) [] e late (omega arith) order)
+
+  -- as far as before
+  pub floor-still : {old new : T} {es now : List Event} → GoesOn g old new es now [] → floor_with g new now ≡ floor_with g old es
+  floor-still on = on.moved ∙ omega arith
+
+  pub still-order : {old new : T} {es now : List Event} (more : List Event) → GoesOn g old new es now []
+      → InOrder (orders_markers (g.mode old)) (floor_with g old es) more → InOrder (orders_markers (g.mode new)) (floor_with g new now) more
+  still-order {old = old} {new = new} {es = es} more on order =
+      subst (λ (f : ℕ). InOrder (orders_markers (g.mode new)) f more) (sym (floor-still on))
+      (subst (λ (m : Mode). InOrder (orders_markers m) (floor_with g old es) more) (sym on.same_mode) order)
+
+  -- Events that come next wait too.
+  pub record Fits (taker : T) (es more : List Event) : Type 0 where
+    pub order : InOrder (orders_markers (g.mode taker)) (floor_with g taker es) more
+    pub fit : AllFit (g.mode taker) more
+    pub few : taken_with g taker es + length more ≤ record_limit
+
+  pub fits-still : {old new : T} {es now : List Event} (more : List Event) → GoesOn g old new es now [] → Fits old es more → Fits new now more
+  fits-still more on f = record {
+    order = still-order more on f.order;
+    fit = rw on.same_mode f.fit;
+    few = omega (arith, on.counted, f.few);
+  }
+
+  pub waits-push : {N : ℕ} (taker : T) (block now : Block N) (more : List Event) → Waits g taker block → gathered now ≡ gathered block ++ more → sorted now ≡ sorted block
+      → Fits taker (gathered block) more → Waits g taker now
+  waits-push taker block now more w are same f = record {
+    in_order = rw are (order-append (orders_markers (g.mode taker)) (g.floor taker) (gathered block) more w.in_order f.order);
+    fit = rw are (All-append (λ (e : Event). KindFits (g.mode taker) e.kind) (gathered block) more w.fit f.fit);
+    few = λ some. omega (arith, f.few, ap length are, length-append (gathered block) more);
+    unsorted = same ∙ w.unsorted;
+  }
+
+  pub waits-none : {N : ℕ} (taker : T) (block : Block N) → gathered block ≡ [] → sorted block ≡ 0 → Waits g taker block
+  waits-none taker block none unsorted = record {
+    in_order = rw none tt;
+    fit = rw none (λ k d lt. absurd (omega (arith, lt)));
+    few = λ some. absurd (omega (arith, some, ap length none));
+    unsorted = unsorted;
+  }
+
+  pub fits-one : (taker : T) (es : List Event) (e : Event) → e.time ≤ time_limit → (IsTrue (is_ordered (g.mode taker) e && not false) → floor_with g taker es ≤ e.time)
+      → KindFits (g.mode taker) e.kind → taken_with g taker es < record_limit → Fits taker es (e ∷ [])
+  fits-one taker es e time order kind few = record {
+    order = one-order (g.mode taker) (floor_with g taker es) e time order;
+    fit = All-push (λ (e : Event). KindFits (g.mode taker) e.kind) [] e (λ k d lt. absurd (omega (arith, lt))) kind;
+    few = omega (arith, few);
+  }
+
+  pub fits-line : (taker : T) (mode : Mode) (es more : List Event) (low top count : ℕ) → g.mode taker ≡ mode → floor_with g taker es ≤ low
+      → IsInLine mode low top more → taken_with g taker es ≤ count → count + length more ≤ record_limit → Fits taker es more
+  fits-line taker mode es more low top count is below line few room = record {
+    order = order-lower (orders_markers (g.mode taker)) (floor_with g taker es) low more below (rw is line.in_order);
+    fit = rw is line.fit;
+    few = omega (arith, few, room);
+  }
+
+  -- What was given of words whose events went through a block.
+
+  pub gave-whole : {how : StreamSettings} {old new : T} {es now : List Event} {more : Marked} {ws us : List ℕ} → es ≡ [] → now ≡ []
+      → given how us ≡ given how ws ++ more → GoesOn g old new es now more → g.faults new ≡ g.faults old → GaveOn g how old new ws us
+  gave-whole {more = more} none empty adds on kept =
+      let are : more ≡ on.front = ap (λ x. on_time x ++ more) (sym none) ∙ on.parts ∙ ap (λ x. on.front ++ on_time x) empty ∙ append-nil on.front in
+      record { more = more; adds = adds; follows = λ start m got. rw are (on.follows start m got); kept = kept }
+
+  pub broke-whole : {how : StreamSettings} {old new : T} {es : List Event} {more : Marked} (back : Marked) {ws us : List ℕ} → es ≡ []
+      → given how us ≡ given how ws ++ (more ++ back) → Breaks g old new es more → Rose (g.faults old) (g.faults new) → BrokeOn g how old new ws us
+  broke-whole {how = how} {more = more} back {ws = ws} none adds b rose =
+      let are : more ≡ b.front ++ b.back = ap (λ x. on_time x ++ more) (sym none) ∙ b.parts in
+      record {
+        front = b.front;
+        back = b.back ++ back;
+        some = b.some;
+        adds = adds ∙ ap (λ m. given how ws ++ (m ++ back)) are ∙ ap (λ m. given how ws ++ m) (append_assoc b.front b.back back);
+        broken = b.broken;
+        rose = rose;
+      }
+
+  -- at the end
+  pub broke-end : {how : StreamSettings} {old new : T} {es : List Event} {more : Marked} {ws us : List ℕ} → es ≡ []
+      → given how us ≡ given how ws ++ more → Breaks g old new es more → Rose (g.faults old) (g.faults new) → BrokeOn g how old new ws us
+  broke-end {how = how} {more = more} {ws = ws} none adds b rose = broke-whole [] none (adds ∙ ap (λ m. given how ws ++ m) (sym (append-nil more))) b rose
+
+  -- what it was given, whatever is answered
+  pub fed-given : {X : Type 0} {how : StreamSettings} {old new : T} {ws us : List ℕ} (r : Result X Fault) → IfErr r (λ fault. fault ≢ WriteFault)
+      → Fed g how old new ws us r → GaveOn g how old new ws us
+  fed-given (Ok x) whole p = p.1
+  fed-given (Err fault) whole (inl p) = p.1
+  fed-given (Err fault) whole (inr p) = absurd (whole p.0)
+
+  module _ {T' : Type 0} (g' : Ghosts T') {how : StreamSettings} {old new : T} {old' new' : T'} {ws us : List ℕ} where
+    -- where the taker broke
+    pub fed-broke : (X : Type 0) {es : List Event} → es ≡ [] → ((l : Marked) → ((start : T') (m : Marked) → g'.got start old' m → g'.broke start new' (m ++ l)) → Breaks g old new es l)
+        → g'.faults old' ≡ g.faults old → g'.faults new' ≡ g.faults new → Fed g' {X = X} how old' new' ws us (Err WriteFault) → Fed g {X = X} how old new ws us (Err WriteFault)
+    fed-broke X none through before after (inl r) = let e : true ≡ false = record_refusal-inside how us WriteFault r.0 in cc
+    fed-broke X none through before after (inr r) = inr (refl, broke-whole r.1.back none r.1.adds (through r.1.front r.1.broken) (rw (before, after) at r.1.rose))
+
+    -- and where it didn't
+    pub fed-gave : {X : Type 0} (r : Result X Fault) → IfErr r (λ fault. fault ≢ WriteFault) → (GaveOn g' how old' new' ws us → GaveOn g how old new ws us)
+        → Fed g' how old' new' ws us r → Fed g how old new ws us r
+    fed-gave (Ok x) whole through p = (p.0, through p.1)
+    fed-gave (Err fault) whole through (inl p) = inl (p.0, through p.1)
+    fed-gave (Err fault) whole through (inr p) = absurd (whole p.0)

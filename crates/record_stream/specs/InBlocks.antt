@@ -1,0 +1,42 @@
+-- A taker with the events that it is given next.
+use Rattle.std.{specs.Prelude.{ℕ, ◌≡◌, ◌+◌, ◌<◌, ◌≤◌, List, [], ◌++◌, length, max, refl}, proofs.Common.{append-nil, arith}}
+use Rattle.tally_base.{specs.declared.event.Event.Event, specs.declared.block.Block.Block, specs.Columns.{sorted, gathered}, specs.Limits.record_limit, specs.Tally.{floor_after, InOrder}}
+use Rattle.ptu_definitions.specs.Kept.{Marked, floor_of}
+use Rattle.abs_time.specs.Floors.{orders_markers}
+use Rattle.record_stream.{specs.Blocks.{on_time, AllFit}, specs.declared.taker.EventTaker.Ghosts}
+
+module _ {T : Type 0} (g : Ghosts T) where
+  -- how many events it was given, with those that wait
+  abbrev pub taken_with : T → List Event → ℕ
+  taken_with taker es = g.taken taker + length es
+
+  -- the greatest time with them
+  abbrev pub floor_with : T → List Event → ℕ
+  floor_with taker es = floor_after (orders_markers (g.mode taker)) (g.floor taker) es
+
+  -- The events of a block wait for the taker: it can be given them.
+  pub record Waits {N : ℕ} (taker : T) (block : Block N) : Type 0 where
+    pub in_order : InOrder (orders_markers (g.mode taker)) (g.floor taker) (gathered block)
+    pub fit : AllFit (g.mode taker) (gathered block)
+    pub few : 0 < length (gathered block) → taken_with taker (gathered block) ≤ record_limit
+    pub unsorted : sorted block ≡ 0
+
+  -- Behind the events that wait these came: the first of all are given, and the others wait now.
+  pub record GoesOn (old new : T) (es now : List Event) (l : Marked) : Type 0 where
+    pub front : Marked
+    pub parts : on_time es ++ l ≡ front ++ on_time now
+    pub follows : (start : T) (m : Marked) → g.got start old m → g.got start new (m ++ front)
+    pub counted : taken_with new now ≡ taken_with old es + length l
+    pub moved : floor_with new now ≡ max (floor_with old es) (floor_of (g.mode old) l)
+    pub same_mode : g.mode new ≡ g.mode old
+
+  -- It broke at one of them.
+  pub record Breaks (old new : T) (es : List Event) (l : Marked) : Type 0 where
+    pub front : Marked
+    pub back : Marked
+    pub some : 0 < length front
+    pub parts : on_time es ++ l ≡ front ++ back
+    pub broken : (start : T) (m : Marked) → g.got start old m → g.broke start new (m ++ front)
+
+  pub goes_on-none : (t : T) (es : List Event) → GoesOn t t es es []
+  goes_on-none t es = record { front = []; parts = append-nil (on_time es); follows = λ start m got. rw append-nil got; counted = omega arith; moved = omega arith; same_mode = refl }
