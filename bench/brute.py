@@ -20,6 +20,8 @@ import struct
 import sys
 import tomllib
 from collections import Counter, namedtuple
+from collections.abc import Iterator
+from typing import Any
 
 GREATEST_VERSION = int(os.environ.get("PTU_PLAN_VERSION", "2"))
 
@@ -84,7 +86,7 @@ levels = 8
 class Refused(Exception):
     """A fault: the status and the line without its front."""
 
-    def __init__(self, status, line):
+    def __init__(self, status: Any, line: Any) -> None:
         super().__init__(line)
         self.status, self.line = status, line
 
@@ -96,11 +98,11 @@ class NotCompared(Exception):
 # Headers.
 
 
-def printable(data, first):
+def printable(data: Any, first: Any) -> Any:
     return "".join(chr(b) if first <= b <= 0x7E and b != 0x5C else f"\\x{b:02X}" for b in data)
 
 
-def shown_value(kind, value, body):
+def shown_value(kind: Any, value: Any, body: Any) -> Any:
     """The value of a tag as it is printed, with as much of its body as there is."""
     if kind in WITH_BODY:
         return f"{value} " + (printable(body.split(b"\0")[0], 0x20) if kind == "tyAnsiString" else body.hex().upper())
@@ -111,12 +113,12 @@ def shown_value(kind, value, body):
     return str(value) if kind == "tyInt8" else f"{value % 2**64:016X}"
 
 
-def read_header(data, out):
+def read_header(data: Any, out: Any) -> Any:
     """Puts the text of each item behind out, and gives the first value of each name and type, and where records begin."""
     whole = len(data)
     data = data[:HEADER_LIMIT]
 
-    def ends(early=""):
+    def ends(early: str = "") -> None:
         """What is refused where an item passes the end."""
         if early:
             out.append(early)
@@ -129,7 +131,8 @@ def read_header(data, out):
     if len(data) < 16:
         ends()
     out.append(f"magic {data[:8].hex().upper()}\nversion {data[8:16].hex().upper()}\n")
-    tags, at, number, name = {}, 16, 0, None
+    tags: dict[Any, Any] = {}
+    at, number, name = 16, 0, None
     while name != b"Header_End":
         if at + 48 > len(data):
             ends()
@@ -157,14 +160,14 @@ def read_header(data, out):
     return tags, at
 
 
-def type_of(tags):
+def type_of(tags: Any) -> Any:
     return TYPES[tags[b"TTResultFormat_TTTRRecType", "tyInt8"]]
 
 
 # Records.
 
 
-def hydra_meaning(word, is_t2, is_old):
+def hydra_meaning(word: Any, is_t2: Any, is_old: Any) -> Any:
     special, channel = word >> 31, word >> 25 & 63
     time = word & 0x1FFFFFF if is_t2 else word & 1023
     dtime = 0 if is_t2 else word >> 10 & 32767
@@ -181,7 +184,7 @@ def hydra_meaning(word, is_t2, is_old):
     return "reserved", 0, 0, 0
 
 
-def pico_meaning(word, is_t2):
+def pico_meaning(word: Any, is_t2: Any) -> Any:
     channel = word >> 28
     time = word & 0xFFFFFFF if is_t2 else word & 0xFFFF
     bits = word & 15 if is_t2 else word >> 16 & 15
@@ -194,26 +197,28 @@ def pico_meaning(word, is_t2):
     return "marker", bits, 0, time
 
 
-def meaning(record_type, word):
+def meaning(record_type: Any, word: Any) -> Any:
     """What a word is: its kind, its number, its dtime and its time field, or the amount of a wrap."""
     _, family, mode, is_old = record_type
     return pico_meaning(word, mode == 2) if family == "pico" else hydra_meaning(word, mode == 2, is_old)
 
 
-def words_of(data, start):
+def words_of(data: Any, start: Any) -> Any:
     end = start + (len(data) - start) // 4 * 4
     return [word for (word,) in struct.iter_unpack("<I", data[start:end])]
 
 
-def left_over(data, start):
+def left_over(data: Any, start: Any) -> None:
     rest = (len(data) - start) % 4
     if rest:
         raise Refused(17, f"{rest} bytes of a record at the end")
 
 
-def read_records(record_type, words, policy, take):
+def read_records(record_type: Any, words: Any, policy: Any, take: Any) -> Any:
     """Gives each event with whether it is late, and answers how many records there are of each kind."""
-    kinds, base, times = Counter(), 0, []
+    kinds: Counter[Any] = Counter()
+    times: list[Any] = []
+    base = 0
     for place, word in enumerate(words, 1):
         if place > policy["records"]:
             raise Refused(20, f"more than {policy['records']} records")
@@ -242,21 +247,21 @@ def read_records(record_type, words, policy, take):
 NO_POLICY = {"order": "drop", "reserved": "skip", "records": 2**40, "settle": 0}
 
 
-def count_of(kinds):
+def count_of(kinds: Any) -> Any:
     return f"records {sum(kinds.values())}\n" + "".join(f"{kind}s {kinds[kind]}\n" for kind in ("photon", "marker", "wrap")) + f"reserved {kinds['reserved']}\n"
 
 
-def count(data, out):
+def count(data: Any, out: Any) -> None:
     tags, start = read_header(data, [])
     kinds = Counter(meaning(type_of(tags), word)[0] for word in words_of(data, start))
     left_over(data, start)
     out.append(f"type {type_of(tags)[0]}\nannounced {announced(tags)}\n{count_of(kinds)}")
 
 
-def events(data, out):
+def events(data: Any, out: Any) -> None:
     tags, start = read_header(data, [])
 
-    def take(event, is_late):
+    def take(event: Any, is_late: Any) -> None:
         late = " late" if is_late else ""
         if event.is_photon:
             out.append(f"{event.place} photon {event.number} {event.time} {event.dtime}{late}\n")
@@ -270,14 +275,14 @@ def events(data, out):
 # Plans.
 
 
-def as_float(text):
+def as_float(text: Any) -> Any:
     number = float(text)
     if math.isinf(number) and "inf" not in text:
         raise Refused(7, "plan is not TOML")  # ptu refuses a float that is too large
     return number
 
 
-def look_at_numbers(value, depth):
+def look_at_numbers(value: Any, depth: Any) -> None:
     """Refuses integers that don't fit 64 bits. What nests deeper than 80 is not compared."""
     if depth > 80:
         raise NotCompared("it nests deep")
@@ -291,7 +296,7 @@ def look_at_numbers(value, depth):
 NEW_IN_1_1 = re.compile(r"\\[ex]|\d\d:\d\d(?![:\d])|,[ \t]*\}")
 
 
-def breaks_in_braces(text):
+def breaks_in_braces(text: Any) -> bool:
     """Whether a line may end within an inline table."""
     depth = 0
     for c in text:
@@ -301,7 +306,7 @@ def breaks_in_braces(text):
     return False
 
 
-def nests_deep(text):
+def nests_deep(text: Any) -> Any:
     """Whether there may be 80 brackets in one another, or 80 points in a key."""
     depth = deepest = 0
     for c in text:
@@ -310,7 +315,7 @@ def nests_deep(text):
     return deepest >= 80 or any(line.count(".") >= 80 for line in text.split("\n"))
 
 
-def read_document(text):
+def read_document(text: Any) -> Any:
     try:
         text = text.decode("utf-8")
     except UnicodeDecodeError:
@@ -328,34 +333,34 @@ def read_document(text):
     return document
 
 
-def is_within(value, least, greatest):
+def is_within(value: Any, least: Any, greatest: Any) -> Any:
     return type(value) is int and least <= value <= greatest
 
 
-def has_keys(table, needed, other=()):
+def has_keys(table: Any, needed: Any, other: Any = ()) -> Any:
     return all(key in table for key in needed) and all(key in needed or key in other for key in table)
 
 
-def is_gate(value):
+def is_gate(value: Any) -> Any:
     return type(value) is list and len(value) == 2 and all(is_within(n, 0, 32768) for n in value) and value[0] < value[1]
 
 
-def are_inputs(value):
+def are_inputs(value: Any) -> Any:
     good = type(value) is list and 1 <= len(value) <= 65 and all(is_within(n, 0, 64) for n in value)
     return good and all(a < b for a, b in zip(value, value[1:]))
 
 
-def are_numbers(value, groups):
+def are_numbers(value: Any, groups: Any) -> Any:
     good = type(value) is list and 1 <= len(value) <= 6 and all(is_within(n, 1, groups) for n in value)
     return good and all(a < b for a, b in zip(value, value[1:]))
 
 
-def are_gates(value):
+def are_gates(value: Any) -> Any:
     good = type(value) is list and 1 <= len(value) <= 8 and all(is_gate(gate) for gate in value)
     return good and all(a[1] <= b[0] for a, b in zip(value, value[1:]))
 
 
-def are_shifts(tables, at, period):
+def are_shifts(tables: Any, at: Any, period: Any) -> Any:
     shift = tables[at]
     before = tables[at - 1]["input"] if at > 0 else -1
     return is_within(shift["input"], before + 1, 64) and is_within(shift["shift"], 0, period - 1)
@@ -365,7 +370,7 @@ MOST = {"group": 64, "histogram": 32, "trace": 32, "startstop": 16, "coincidence
 NEW_MOST = {"shift": 65, "cube": 2, "fold": 8}
 
 
-def broken_rules(document):
+def broken_rules(document: Any) -> Iterator[Any]:
     """Each broken rule of a document with its index, where those before it hold, in their order."""
     has_new = document.get("version") == 2 and type(document.get("version")) is int and GREATEST_VERSION >= 2
     most = MOST | (NEW_MOST if has_new else {})
@@ -393,7 +398,7 @@ def broken_rules(document):
     one_group = (1, len(groups))
     serpentine = ("serpentine",) if has_new else ()
     big = (1, 2**62)
-    kinds = [
+    kinds: list[Any] = [
         ("histogram", 11, {"group": one_group, "width": (1, 32768), "bins": (1, 32768)}, {}),
         ("trace", 13, {"group": one_group, "width": big, "bins": (1, 2**20)}, {"origin": (0, 2**62)}),
         ("startstop", 15, {"start": one_group, "stop": one_group, "width": big, "bins": (1, 32768)}, {}),
@@ -440,7 +445,7 @@ def broken_rules(document):
             yield 31, at, are_numbers(fold["groups"], len(groups)) and is_within(fold["window"], 1, 2**20)
 
 
-def read_plan(text):
+def read_plan(text: Any) -> Any:
     """The document of a plan that is good."""
     if len(text) > PLAN_LIMIT:
         raise Refused(6, "plan longer than 65536 bytes")
@@ -451,7 +456,7 @@ def read_plan(text):
     return document
 
 
-def fits(plan, mode):
+def fits(plan: Any, mode: Any) -> None:
     """Refuses the first part that suits only the other mode."""
     gated = [at for at, group in enumerate(plan.get("group", []), 1) if "gate" in group or "gates" in group]
     only = {"gate": gated, "shift": plan.get("shift", []), "histogram": plan.get("histogram", [])}
@@ -466,28 +471,28 @@ def fits(plan, mode):
 # Tables.
 
 
-def takes(group, event):
+def takes(group: Any, event: Any) -> Any:
     gates = [group["gate"]] if "gate" in group else group.get("gates")
     passes = gates is None or any(low <= event.dtime < high for low, high in gates)
     return event.is_photon and event.number in group["inputs"] and passes
 
 
-def cell_lines(cells):
+def cell_lines(cells: Any) -> Any:
     return "".join(f"{cell} {cells[cell]}\n" for cell in sorted(cells))
 
 
-def binned(values, bins):
+def binned(values: Any, bins: Any) -> Any:
     """The lines of those that are in a bin, and how many are past the last one."""
     return cell_lines(Counter(value for value in values if value < bins)), sum(value >= bins for value in values)
 
 
-def histogram(number, table, events, groups):
+def histogram(number: Any, table: Any, events: Any, groups: Any) -> str:
     width, bins = table["width"], table["bins"]
     lines, over = binned([e.dtime // width for e in events if takes(groups[table["group"] - 1], e)], bins)
     return f"histogram {number} width {width} bins {bins}\n{lines}over {over}\n"
 
 
-def trace(number, table, events, groups):
+def trace(number: Any, table: Any, events: Any, groups: Any) -> str:
     origin, width, bins = table.get("origin", 0), table["width"], table["bins"]
     times = [e.time for e in events if takes(groups[table["group"] - 1], e)]
     lines, beyond = binned([(time - origin) // width for time in times if time >= origin], bins)
@@ -495,7 +500,7 @@ def trace(number, table, events, groups):
     return f"trace {number} origin {origin} width {width} bins {bins}\n{lines}before {before}\nbeyond {beyond}\n"
 
 
-def start_stop(number, table, events, groups):
+def start_stop(number: Any, table: Any, events: Any, groups: Any) -> str:
     start, stop = groups[table["start"] - 1], groups[table["stop"] - 1]
     photons = [e for e in events if takes(start, e) or takes(stop, e)]
     neighbours = zip(photons, photons[1:])
@@ -504,7 +509,7 @@ def start_stop(number, table, events, groups):
     return f"startstop {number} width {table['width']} bins {table['bins']}\n{lines}over {over}\n"
 
 
-def members(table, events, groups):
+def members(table: Any, events: Any, groups: Any) -> Any:
     """The places and times of the photons of the first group, and those of the second."""
     first, second = groups[table["first"] - 1], groups[table["second"] - 1]
     firsts = [(place, e.time) for place, e in enumerate(events) if takes(first, e)]
@@ -512,10 +517,10 @@ def members(table, events, groups):
     return firsts, seconds
 
 
-def coincidence(number, table, events, groups):
+def coincidence(number: Any, table: Any, events: Any, groups: Any) -> str:
     reach, width = table["reach"], table["width"]
     firsts, seconds = members(table, events, groups)
-    cells = Counter()
+    cells: Counter[Any] = Counter()
     for i, t_i in firsts:
         for j, t_j in seconds:
             if i != j and abs(t_j - t_i) <= reach:
@@ -523,7 +528,7 @@ def coincidence(number, table, events, groups):
     return f"coincidence {number} reach {reach} width {width}\n{cell_lines(cells)}"
 
 
-def correlation(number, table, events, groups):
+def correlation(number: Any, table: Any, events: Any, groups: Any) -> Any:
     lags, levels = table["lags"], table["levels"]
     lines = f"correlation {number} lags {lags} levels {levels}\n"
     firsts, seconds = members(table, events, groups)
@@ -537,12 +542,12 @@ def correlation(number, table, events, groups):
     return lines
 
 
-def has(event, bit):
+def has(event: Any, bit: Any) -> Any:
     """Whether it is a marker with this bit."""
     return not event.is_photon and bit is not None and event.number // 2 ** (bit - 1) % 2 == 1
 
 
-def place_of(photon, earlier, table):
+def place_of(photon: Any, earlier: Any, table: Any) -> Any:
     """The column and row of a photon by all events before it, or None."""
     bit, frame, stop = table["line"], table.get("frame"), table.get("stop")
     lines = [place for place, e in enumerate(earlier) if has(e, bit)]
@@ -564,9 +569,9 @@ def place_of(photon, earlier, table):
     return (table["width"] - 1 - column if table.get("serpentine") and row % 2 == 1 else column, row)
 
 
-def image(number, table, events, groups):
+def image(number: Any, table: Any, events: Any, groups: Any) -> Any:
     group = groups[table["group"] - 1]
-    cells = Counter()
+    cells: Counter[Any] = Counter()
     for place, event in enumerate(events):
         if takes(group, event):
             cells[place_of(event, events[:place], table)] += 1
@@ -577,9 +582,9 @@ def image(number, table, events, groups):
     return lines + f"outside {outside}\n"
 
 
-def cube(number, table, events, groups):
+def cube(number: Any, table: Any, events: Any, groups: Any) -> Any:
     group = groups[table["group"] - 1]
-    cells = Counter()
+    cells: Counter[Any] = Counter()
     for place, event in enumerate(events):
         if takes(group, event):
             pixel = place_of(event, events[:place], table)
@@ -594,10 +599,10 @@ def cube(number, table, events, groups):
     return lines + f"outside {outside}\nover {over}\n"
 
 
-def fold(number, table, events, groups):
+def fold(number: Any, table: Any, events: Any, groups: Any) -> Any:
     members = [groups[n - 1] for n in table["groups"]]
     photons = [event for event in events if any(takes(group, event) for group in members)]
-    cells = Counter()
+    cells: Counter[Any] = Counter()
     for first in photons:
         window = [other for other in photons if first.time <= other.time <= first.time + table["window"]]
         cells[sum(2**k for k, group in enumerate(members) if any(takes(group, other) for other in window))] += 1
@@ -616,21 +621,21 @@ KINDS = {
 }
 
 
-def announced(tags):
+def announced(tags: Any) -> Any:
     return tags.get((b"TTResult_NumberOfRecords", "tyInt8"), "-")
 
 
-def float_bits(tags, name):
+def float_bits(tags: Any, name: Any) -> Any:
     value = tags.get((name, "tyFloat8"))
     return "-" if value is None else f"{value % 2**64:016X}"
 
 
-def run(plan_text, data, out):
+def run(plan_text: Any, data: Any, out: Any) -> None:
     plan = read_plan(plan_text)
     report(plan, data, out)
 
 
-def shifted(event, plan):
+def shifted(event: Any, plan: Any) -> Any:
     """The photon with the dtime that its input's shift gives it."""
     shifts = [shift["shift"] for shift in plan.get("shift", []) if shift["input"] == event.number]
     if not event.is_photon or not shifts:
@@ -638,32 +643,32 @@ def shifted(event, plan):
     return event._replace(dtime=(event.dtime + shifts[0]) % plan["period"])
 
 
-def policy_of(plan):
+def policy_of(plan: Any) -> Any:
     policy = {key: plan.get(key, NO_POLICY[key]) for key in ("order", "reserved", "settle")}
     return policy | {"records": plan.get("limits", {}).get("records", 2**40)}
 
 
-def in_place(plan, taken, mode):
+def in_place(plan: Any, taken: Any, mode: Any) -> Any:
     """The events that aren't late, in the order in which tables are told of them."""
     on_time = [event for event, is_late in taken if not is_late]
     if plan.get("settle", 0):
         # Events that were overtaken are put in their places, and those without an order are left out.
-        on_time = sorted((event for event in on_time if event.is_photon or mode == 3), key=lambda event: event.time)
+        on_time = sorted((event for event in on_time if event.is_photon or mode == 3), key=lambda event: int(event.time))
     return on_time
 
 
-def settled_list(plan, taken, mode):
+def settled_list(plan: Any, taken: Any, mode: Any) -> Any:
     """Those of them whose place no event behind these can change."""
     events = in_place(plan, taken, mode)
     return events[: max(0, len(events) - plan.get("settle", 0))]
 
 
-def kept_list(plan, taken, mode):
+def kept_list(plan: Any, taken: Any, mode: Any) -> Any:
     """The events that aren't late, each photon with its shifted dtime."""
     return [shifted(event, plan) for event in in_place(plan, taken, mode)]
 
 
-def report(plan, data, out):
+def report(plan: Any, data: Any, out: Any) -> None:
     tags, start = read_header(data, [])
     record_type = type_of(tags)
     fits(plan, record_type[2])
@@ -682,14 +687,14 @@ def report(plan, data, out):
             out.append(text(number, table, kept, plan["group"]))
 
 
-def bins_met(plan, table, kept):
+def bins_met(plan: Any, table: Any, kept: Any) -> Any:
     """The counts of the bins that aren't empty by their numbers, and the number before the origin."""
     group, origin, width = plan["group"][table["group"] - 1], table.get("origin", 0), table["width"]
     times = [event.time for event in kept if takes(group, event)]
     return Counter((time - origin) // width for time in times if time >= origin), sum(time < origin for time in times)
 
 
-def endless(plan, data, out):
+def endless(plan: Any, data: Any, out: Any) -> None:
     """The first trace of a plan without end."""
     tags, start = read_header(data, [])
     record_type = type_of(tags)
@@ -713,7 +718,7 @@ def endless(plan, data, out):
     out.append(f"above {sum(bins for often, bins in frequencies.items() if often >= 1024)}\n")
 
 
-def picked_words(photons, mode):
+def picked_words(photons: Any, mode: Any) -> Any:
     """The records of a file of these photons."""
     unit, words, units = 2**25 if mode == 2 else 1024, [], 0
     for photon in photons:
@@ -728,7 +733,7 @@ def picked_words(photons, mode):
     return words
 
 
-def pick(plan, group, data, out):
+def pick(plan: Any, group: Any, data: Any, out: Any) -> None:
     """A file of the photons of a group."""
     tags, start = read_header(data, [])
     record_type = type_of(tags)
@@ -736,16 +741,16 @@ def pick(plan, group, data, out):
     fits(plan, mode)
     taken = []
 
-    def write(photons):
+    def write(photons: Any) -> None:
         out.append(minimal_file(0x01010204 if mode == 2 else 0x01010304, picked_words(photons, mode)).decode("latin-1"))
 
-    def chosen(events):
+    def chosen(events: Any) -> Any:
         """The photons of the group before the first that is too late to be written, and that one, if there is one."""
         photons = [event for event in events if takes(group, shifted(event, plan))]
         late = [at for at, photon in enumerate(photons) if photon.time - photon.time % (2**25 if mode == 2 else 1024) > 2**62]
         return (photons[: late[0]], photons[late[0]]) if late else (photons, None)
 
-    def write_chosen(events):
+    def write_chosen(events: Any) -> None:
         """Writes them, and refuses the one that is too late."""
         photons, late = chosen(events)
         write(photons)
@@ -761,14 +766,14 @@ def pick(plan, group, data, out):
     write_chosen(in_place(plan, taken, mode))
 
 
-def minimal_file(code, words, more=b""):
+def minimal_file(code: Any, words: Any, more: bytes = b"") -> Any:
     """A file of a record type and these words, with other tags before the last."""
     tag = struct.pack("<32siIq", b"TTResultFormat_TTTRRecType", -1, 0x10000008, code)
     end = struct.pack("<32siIq", b"Header_End", -1, 0xFFFF0008, 0)
     return b"PQTTTR\0\0001.0.00\0\0" + tag + more + end + struct.pack(f"<{len(words)}I", *words)
 
 
-def demo(seed, number, out):
+def demo(seed: int, number: Any, out: Any) -> None:
     state, time, words = seed, 0, []
     for _ in range(number):
         state = (state * 6364136223846793005 + 1442695040888963407) % 2**64
@@ -783,7 +788,7 @@ def demo(seed, number, out):
 # The program.
 
 
-def contents(name, slot):
+def contents(name: Any, slot: Any) -> Any:
     try:
         file = open(name, "rb")
     except OSError as error:
@@ -794,11 +799,11 @@ def contents(name, slot):
         return file.read()
 
 
-def is_number(word, most):
+def is_number(word: Any, most: Any) -> Any:
     return re.fullmatch(b"[0-9]{1,20}", word) is not None and int(word) <= most
 
 
-def answer_words(words, out):
+def answer_words(words: Any, out: Any) -> None:
     what = words[0] if words else b""
     if any(not is_text(word) for word in words):
         raise Refused(1, "bad command line")
@@ -824,7 +829,7 @@ def answer_words(words, out):
         raise Refused(1, "bad command line")
 
 
-def is_text(word):
+def is_text(word: Any) -> bool:
     try:
         word.decode("utf-8")
     except UnicodeDecodeError:
@@ -832,9 +837,9 @@ def is_text(word):
     return True
 
 
-def answer(words):
+def answer(words: Any) -> Any:
     """The status, standard output and standard error of some words."""
-    out = []
+    out: list[Any] = []
     try:
         answer_words(words, out)
     except Refused as refused:
@@ -843,7 +848,7 @@ def answer(words):
     return 0, "".join(out).encode("latin-1"), b""
 
 
-def main():
+def main() -> None:
     status, text, error = answer([os.fsencode(word) for word in sys.argv[1:]])
     sys.stdout.buffer.write(text)
     sys.stderr.buffer.write(error)

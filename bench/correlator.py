@@ -23,6 +23,7 @@ import os
 import subprocess
 import sys
 import tempfile
+from typing import Any
 
 import multipletau
 import numpy
@@ -58,23 +59,23 @@ levels = {LEVELS}
 """
 
 
-def light(draws):
+def light(draws: Any) -> Any:
     """Whether the light is on, tick by tick. It stays on or off for 2 * RELAXES ticks in the mean."""
     changes = draws.random(TICKS) < 1 / (2 * RELAXES)
     return numpy.cumsum(changes) % 2 == 1
 
 
-def photons(draws, shines):
+def photons(draws: Any, shines: Any) -> Any:
     """How many photons come in each tick on one input, none or one."""
     return (shines & (draws.random(TICKS) < BRIGHT)).astype(float)
 
 
-def counted(program, first, second):
+def counted(program: str, first: Any, second: Any) -> Any:
     """The cells of the report by level and lag, the photons of each group, and the ticks from first to last."""
     with tempfile.TemporaryDirectory() as folder:
         data, plan = os.path.join(folder, "light.ptu"), os.path.join(folder, "plan.toml")
         write(data, "HydraHarp2T2", t2_words(numpy.flatnonzero(first), numpy.flatnonzero(second)))
-        with open(plan, "w") as out:
+        with open(plan, "w", encoding="utf-8") as out:
             out.write(PLAN)
         run = subprocess.run([program, "run", plan, data], check=True, capture_output=True, text=True)
     report = read_report(run.stdout)
@@ -82,18 +83,18 @@ def counted(program, first, second):
     return report.table("correlation"), totals
 
 
-def known(level, delay):
+def known(level: Any, delay: Any) -> Any:
     """The mean of 1 + exp(-t / RELAXES) over the times between two bins."""
     half = 2**level / (2 * RELAXES)
     return 1 + math.exp(-delay / RELAXES) * (math.sinh(half) / half) ** 2
 
 
-def fail(words):
+def fail(words: Any) -> None:
     print(words, file=sys.stderr)
     sys.exit(1)
 
 
-def main():
+def main() -> None:
     program = sys.argv[1]
     draws = numpy.random.default_rng(SEED)
     shines = light(draws)

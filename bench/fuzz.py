@@ -29,6 +29,8 @@ import struct
 import sys
 import time
 from collections import Counter
+from collections.abc import Callable
+from typing import Any, cast
 
 import brute
 from brute import TAG_TYPES, TYPES, WITH_BODY
@@ -42,7 +44,7 @@ CODE_OF = {name: code for code, name in TAG_TYPES.items()}
 # Headers.
 
 
-def a_name(rng):
+def a_name(rng: random.Random) -> Any:
     kind = rng.randrange(6)
     if kind == 0:
         return rng.choice(KNOWN_NAMES + [b"Header_End "])
@@ -53,7 +55,7 @@ def a_name(rng):
     return rng.choice([b"", b"A", b"HWInpChan_Enabled", b"x" * 31, b"x" * 32, b"File_Comment\0junk"])
 
 
-def a_length(rng):
+def a_length(rng: random.Random) -> Any:
     kind = rng.randrange(40)
     if kind == 0:
         return rng.choice([-1, -(2**63), -rng.randrange(1, 2**40)])
@@ -62,11 +64,11 @@ def a_length(rng):
     return rng.choice([0, 1, 2, 3, 8, rng.randrange(40), rng.randrange(300)])
 
 
-def tag_bytes(ident, index, code, value):
+def tag_bytes(ident: Any, index: Any, code: Any, value: Any) -> Any:
     return struct.pack("<32siIq", ident, index, code, (value + 2**63) % 2**64 - 2**63)
 
 
-def a_tag(rng):
+def a_tag(rng: random.Random) -> Any:
     code = rng.choice(TAG_CODES)
     if rng.randrange(30) == 0:
         code = rng.choice([0, 8, 0x30000008, code ^ 1 << rng.randrange(32), rng.randrange(2**32)])
@@ -75,11 +77,11 @@ def a_tag(rng):
         value = rng.choice([0, 1, -1, 2**63 - 1, -(2**63), rng.randrange(-(2**63), 2**63), rng.randrange(100)])
         return tag_bytes(a_name(rng), index, code, value)
     length = a_length(rng)
-    body = rng.choice([rng.randbytes, lambda n: bytes(rng.choice(b"ab \\~\x7f\x00\x1f") for _ in range(n)), lambda n: b"z" * n])
+    body: Callable[[int], bytes] = rng.choice([rng.randbytes, lambda n: bytes(rng.choice(b"ab \\~\x7f\x00\x1f") for _ in range(n)), lambda n: b"z" * n])
     return tag_bytes(a_name(rng), index, code, length) + body(length if 0 <= length < 400 else rng.randrange(200))
 
 
-def a_known_tag(rng):
+def a_known_tag(rng: random.Random) -> Any:
     """A tag that is read, of its own type or of another."""
     name = rng.choice(KNOWN_NAMES[1:])
     code = CODE_OF["tyInt8"] if name == KNOWN_NAMES[1] else CODE_OF["tyFloat8"]
@@ -88,7 +90,7 @@ def a_known_tag(rng):
     return tag_bytes(name, -1, code, rng.choice([0, -1, 9, rng.randrange(-(2**63), 2**63)]))
 
 
-def a_type_tag(rng, code):
+def a_type_tag(rng: random.Random, code: Any) -> Any:
     kind = rng.randrange(40)
     if kind == 0:
         return b""
@@ -99,7 +101,7 @@ def a_type_tag(rng, code):
     return tag_bytes(KNOWN_NAMES[0], rng.choice([-1, 0, 7]), CODE_OF["tyInt8"], code)
 
 
-def an_end_tag(rng):
+def an_end_tag(rng: random.Random) -> Any:
     if rng.randrange(10):
         return tag_bytes(b"Header_End", -1, CODE_OF["tyEmpty8"], 0)
     if rng.randrange(10) == 0:
@@ -110,7 +112,7 @@ def an_end_tag(rng):
     return tag_bytes(b"Header_End", -1, rng.choice(TAG_CODES[7:]), length) + rng.randbytes(length)
 
 
-def a_header(rng, code):
+def a_header(rng: random.Random, code: Any) -> Any:
     tags = [a_tag(rng) for _ in range(rng.choice([0, 0, 1, 2, 3, rng.randrange(12)]))]
     tags += [a_known_tag(rng) for _ in range(rng.randrange(4))]
     tags += [a_type_tag(rng, code) for _ in range(1 if rng.randrange(10) else 2)]
@@ -119,7 +121,7 @@ def a_header(rng, code):
     return magic + rng.choice([b"1.0.00\0\0", rng.randbytes(8)]) + b"".join(tags) + an_end_tag(rng)
 
 
-def a_hostile_file(rng):
+def a_hostile_file(rng: random.Random) -> Any:
     """A file whose header is looked at: with whatever tags, cut or changed."""
     data = a_header(rng, rng.choice(list(TYPES))) + rng.randbytes(rng.choice([0, 4, 8, rng.randrange(40)]))
     kind = rng.randrange(8)
@@ -137,7 +139,7 @@ def a_hostile_file(rng):
 # Records.
 
 
-def hydra_word(rng, is_t2, time, kind):
+def hydra_word(rng: random.Random, is_t2: Any, time: Any, kind: Any) -> Any:
     mask, low = (2**25 - 1, 0) if is_t2 else (1023, rng.choice([0, 1, 100, 4096, 32767, rng.randrange(32768)]) << 10)
     field = time & mask
     if kind == "photon":
@@ -151,7 +153,7 @@ def hydra_word(rng, is_t2, time, kind):
     return 1 << 31 | 63 << 25 | low | rng.choice([0, 1, 1, 1, 2, 3, rng.randrange(mask + 1) if rng.randrange(20) == 0 else 1])
 
 
-def pico_word(rng, is_t2, time, kind):
+def pico_word(rng: random.Random, is_t2: Any, time: Any, kind: Any) -> Any:
     if kind == "reserved":
         return rng.randrange(5, 15) << 28 | rng.randrange(2**28)
     if is_t2:
@@ -166,7 +168,7 @@ def pico_word(rng, is_t2, time, kind):
     return 15 << 28 | (dtime & 0xFF0 | bits) << 16 | time & 0xFFFF
 
 
-def some_words(rng, code):
+def some_words(rng: random.Random, code: Any) -> Any:
     """Words of a record type, with times that mostly rise."""
     _, family, mode, _ = TYPES[code]
     make = hydra_word if family == "hydra" else pico_word
@@ -187,7 +189,7 @@ def some_words(rng, code):
     return words
 
 
-def a_file(rng, code):
+def a_file(rng: random.Random, code: Any) -> Any:
     """A good file of the type, at times with other tags and with bytes left over."""
     words = some_words(rng, code)
     more = b"".join(a_known_tag(rng) for _ in range(rng.randrange(3))) if rng.randrange(3) == 0 else b""
@@ -195,7 +197,7 @@ def a_file(rng, code):
     return brute.minimal_file(code, words, more) + left
 
 
-def a_long_file(rng, code):
+def a_long_file(rng: random.Random, code: Any) -> Any:
     """Thousands of words: so many of the greatest wrap that they pass the greatest time, or end just before."""
     if rng.randrange(2):
         words = [0xFFFFFFFF] * rng.randrange(4094, 4099) + [rng.randrange(2**32) for _ in range(rng.randrange(3))]
@@ -221,9 +223,9 @@ ODD_VALUES = [
 ]
 
 
-def a_group(rng, mode, version):
+def a_group(rng: random.Random, mode: Any, version: Any) -> Any:
     inputs = sorted(rng.sample(range(65), rng.randrange(1, 6))) if rng.randrange(3) else rng.choice([[0], [1], [0, 1], [0, 1, 2, 3], list(range(65))])
-    group = {"inputs": inputs}
+    group: dict[str, Any] = {"inputs": inputs}
     if rng.randrange(4) == 0 and (mode == 3 or rng.randrange(8) == 0):
         ends = sorted(rng.sample(range(32769), 2 * rng.randrange(1, 4)))
         gates = [list(pair) for pair in zip(ends[::2], ends[1::2])]
@@ -234,13 +236,13 @@ def a_group(rng, mode, version):
     return group
 
 
-def number_to(rng, most, usual):
+def number_to(rng: random.Random, most: Any, usual: Any) -> Any:
     return rng.randrange(1, usual + 1) if rng.randrange(12) else rng.choice([1, most, rng.randrange(1, most + 1)])
 
 
-def a_part(rng, kind, groups, version):
-    one = lambda: rng.randrange(1, groups + 1)
-    width = lambda: rng.choice([1, 2, 7, 64, 2**62, rng.randrange(1, 1000)])
+def a_part(rng: random.Random, kind: Any, groups: Any, version: Any) -> Any:
+    one: Callable[[], int] = lambda: rng.randrange(1, groups + 1)
+    width: Callable[[], int] = lambda: rng.choice([1, 2, 7, 64, 2**62, rng.randrange(1, 1000)])
     if kind == "histogram":
         return {"group": one(), "width": number_to(rng, 32768, 500), "bins": number_to(rng, 32768, 100)}
     if kind == "trace":
@@ -264,7 +266,7 @@ def a_part(rng, kind, groups, version):
     return part | ({"serpentine": rng.randrange(3) > 0} if version == 2 and rng.randrange(2) else {})
 
 
-def a_cube(rng, groups):
+def a_cube(rng: random.Random, groups: Any) -> Any:
     """A cube whose cells are mostly few, and now and then as many as may be."""
     part = a_part(rng, "image", groups, 2)
     part["dwidth"] = number_to(rng, 32768, 500)
@@ -274,10 +276,10 @@ def a_cube(rng, groups):
     return part
 
 
-def a_plan(rng, mode):
+def a_plan(rng: random.Random, mode: Any) -> Any:
     """A plan that is good and mostly suits the mode."""
     version = 2 if brute.GREATEST_VERSION == 2 and rng.randrange(3) == 0 else 1
-    plan = {"version": version} if version == 2 or rng.randrange(3) == 0 else {}
+    plan: dict[str, Any] = {"version": version} if version == 2 or rng.randrange(3) == 0 else {}
     if rng.randrange(5) == 0:
         plan["order"] = rng.choice(["drop", "stop"])
     if rng.randrange(5) == 0:
@@ -305,11 +307,11 @@ def a_plan(rng, mode):
     return plan
 
 
-def an_odd_value(rng):
+def an_odd_value(rng: random.Random) -> Any:
     return rng.choice(ODD_VALUES) if rng.randrange(3) else rng.choice([rng.randrange(-5, 70), rng.randrange(2**63)])
 
 
-def change_table(rng, table):
+def change_table(rng: random.Random, table: Any) -> None:
     """Changes one thing of a table, at any depth."""
     keys = list(table)
     kind = rng.randrange(6)
@@ -329,7 +331,7 @@ def change_table(rng, table):
         table[key] = an_odd_value(rng)
 
 
-def change_list(rng, values):
+def change_list(rng: random.Random, values: Any) -> None:
     kind, at = rng.randrange(6), rng.randrange(len(values))
     if kind == 0:
         values[at] = an_odd_value(rng)
@@ -347,7 +349,7 @@ def change_list(rng, values):
         values[at] = an_odd_value(rng)
 
 
-def change_plan(rng, plan):
+def change_plan(rng: random.Random, plan: Any) -> None:
     kind = rng.randrange(8)
     if kind == 0:
         key = rng.choice(["version", "order", "reserved", "limits", "period", "settle", "settles", "groups", "Version", *brute.MOST, *brute.NEW_MOST])
@@ -361,11 +363,11 @@ def change_plan(rng, plan):
 # Writing plans as TOML.
 
 
-def space(rng):
+def space(rng: random.Random) -> Any:
     return rng.choice(["", "", " ", " ", "\t", "  "])
 
 
-def int_text(rng, value):
+def int_text(rng: random.Random, value: Any) -> Any:
     kind = rng.randrange(12)
     if value < 0 or kind > 4:
         return str(value)
@@ -373,7 +375,7 @@ def int_text(rng, value):
     return text.upper().replace("0X", "0x") if kind == 0 and rng.randrange(2) else text
 
 
-def str_text(rng, value):
+def str_text(rng: random.Random, value: Any) -> Any:
     kind = rng.randrange(6)
     if kind == 0:
         return f"'{value}'"
@@ -386,17 +388,17 @@ def str_text(rng, value):
     return f'"{value}"'
 
 
-def key_text(rng, key):
+def key_text(rng: random.Random, key: Any) -> Any:
     if key == "" or rng.randrange(15) == 0:
         return rng.choice([f'"{key}"', f"'{key}'", str_text(rng, key).replace('"""\n', '"').replace('"""', '"').replace("'''", "'")])
     return key
 
 
-def blank(rng):
+def blank(rng: random.Random) -> Any:
     return rng.choice(["", "", "", " ", "\n", "\r\n", " # c\n", "\n\t"])
 
 
-def value_text(rng, value):
+def value_text(rng: random.Random, value: Any) -> Any:
     if isinstance(value, Raw):
         return str(value)
     if type(value) is bool:
@@ -412,15 +414,15 @@ def value_text(rng, value):
     return "{" + ",".join(pairs) + "}"
 
 
-def pair_line(rng, key, value):
+def pair_line(rng: random.Random, key: Any, value: Any) -> Any:
     return f"{space(rng)}{key}{space(rng)}={space(rng)}{value_text(rng, value)}{space(rng)}" + rng.choice(["", "", "", "# comment"]) + end_of_line(rng)
 
 
-def end_of_line(rng):
+def end_of_line(rng: random.Random) -> Any:
     return "\n" if rng.randrange(10) else rng.choice(["\r\n", "\n\n", "\n # comment \t\n"])
 
 
-def tables_text(rng, key, tables):
+def tables_text(rng: random.Random, key: Any, tables: Any) -> Any:
     """An array of tables under headers, each of which may say its keys by dots."""
     text = ""
     for table in tables:
@@ -429,14 +431,14 @@ def tables_text(rng, key, tables):
     return text
 
 
-def shuffled(rng, things):
+def shuffled(rng: random.Random, things: Any) -> Any:
     things = list(things)
     if rng.randrange(3) == 0:
         rng.shuffle(things)
     return things
 
 
-def plan_text(rng, plan):
+def plan_text(rng: random.Random, plan: Any) -> Any:
     front, back = [], []
     for key, value in shuffled(rng, plan.items()):
         if type(value) is list and value and all(type(table) is dict for table in value) and rng.randrange(4):
@@ -457,7 +459,7 @@ TOML_PIECES = list("[]{}=,.\"'\n\r\t #+-_:019eEZTxob\\\0\x7f") + [
 ]
 
 
-def change_text(rng, text):
+def change_text(rng: random.Random, text: Any) -> Any:
     """The text with some places changed."""
     data = bytearray(text)
     for _ in range(rng.choice([1, 1, 1, 2, 3])):
@@ -475,10 +477,10 @@ def change_text(rng, text):
     return bytes(data)
 
 
-def some_toml(rng):
+def some_toml(rng: random.Random) -> Any:
     """Lines over a few keys, most of which define something anew or go through what is there."""
     keys = ["group", "limits", "a", "records", '"a"', "'limits'", "order", "inputs"]
-    path = lambda: ".".join(rng.choice(keys) for _ in range(rng.choice([1, 1, 2, 3])))
+    path: Callable[[], str] = lambda: ".".join(rng.choice(keys) for _ in range(rng.choice([1, 1, 2, 3])))
     values = ["1", "{}", "[]", "[{}]", "{ a = 1 }", "{ a.records = 1 }", "'drop'", "[[{ a = 2 }], 3]", "{ a = 1, a = 2 }", "{ records = 5 }", "[0]"]
     lines = []
     for _ in range(rng.randrange(1, 7)):
@@ -488,7 +490,7 @@ def some_toml(rng):
     return "\n".join(lines).encode()
 
 
-def deep_toml(rng):
+def deep_toml(rng: random.Random) -> Any:
     deep = rng.choice([1, 40, 78, 79, 80, 81, 100, 500, 5000])
     kind = rng.randrange(4)
     if kind == 0:
@@ -499,7 +501,7 @@ def deep_toml(rng):
     return (f"{text} = 1\n" if kind == 2 else f"[{text}]\n").encode()
 
 
-def a_plan_text(rng, mode):
+def a_plan_text(rng: random.Random, mode: Any) -> Any:
     kind = rng.randrange(100)
     if kind < 4:
         return some_toml(rng)
@@ -522,15 +524,15 @@ def a_plan_text(rng, mode):
 class Case:
     """What a run is given: its words, in which PLAN and FILE stand for its files, and how these come."""
 
-    def __init__(self, words, plan=None, data=None):
+    def __init__(self, words: Any, plan: Any = None, data: Any = None) -> None:
         self.words, self.plan, self.data = words, plan, data
         self.pieces = None  # None: FILE is a file; else a pipe that gives it in pieces
         self.plan_pieces = None
         self.room = "pipe"  # where standard output goes: a pipe, or /dev/full
-        self.memory = None
+        self.memory: int | None = None
 
 
-def pieces_of(rng, data):
+def pieces_of(rng: random.Random, data: Any) -> Any:
     """The data in pieces of at most 4096 bytes, few enough for a pipe."""
     most = rng.choice([1, 3, 7, 47, 100, 1000, 4096])
     most = max(most, len(data) // 100 + 1)
@@ -542,10 +544,10 @@ def pieces_of(rng, data):
     return pieces
 
 
-def word_case(rng):
-    number = lambda: rng.choice([b"0", b"1", b"18446744073709551615", b"18446744073709551616", b"10000000", b"10000001", b"-5", b"+1", b"1 ",
+def word_case(rng: random.Random) -> Any:
+    number: Callable[[], bytes] = lambda: rng.choice([b"0", b"1", b"18446744073709551615", b"18446744073709551616", b"10000000", b"10000001", b"-5", b"+1", b"1 ",
                                  b"00000000000000000007", b"000000000000000000007", b"", b"0x1", "\u0661".encode(), b"9" * 20])
-    word = lambda: rng.choice([b"count", b"header", b"events", b"run", b"trace", b"pick", b"demo", b"Count", b"", b"--help", b"/none", b"\xff", b"-", "\u00e9".encode(), number()])
+    word: Callable[[], bytes] = lambda: rng.choice([b"count", b"header", b"events", b"run", b"trace", b"pick", b"demo", b"Count", b"", b"--help", b"/none", b"\xff", b"-", "\u00e9".encode(), number()])
     words = [word() for _ in range(rng.randrange(6))]
     if rng.randrange(2):
         words = [b"demo", number(), number()] if rng.randrange(2) else [rng.choice([b"count", b"run", b"events", b"trace"]), *words[:2]]
@@ -556,9 +558,9 @@ def word_case(rng):
     return Case(words)
 
 
-def name_case(rng):
+def name_case(rng: random.Random) -> Any:
     """Names that can't be opened, or not read."""
-    name = lambda: rng.choice([b"/none", b"", b"/dev", b"/", b"/dev/null", b"FILE", b"/dev/null/a", b"n" * 300])
+    name: Callable[[], bytes] = lambda: rng.choice([b"/none", b"", b"/dev", b"/", b"/dev/null", b"FILE", b"/dev/null/a", b"n" * 300])
     by_a_plan = [rng.choice([b"run", b"trace", b"pick"]), name().replace(b"FILE", b"PLAN"), name()]
     if by_a_plan[0] == b"pick":
         by_a_plan.insert(2, b"1")
@@ -567,7 +569,7 @@ def name_case(rng):
     return case
 
 
-def large_case(rng):
+def large_case(rng: random.Random) -> Any:
     """Headers at their limit, which take 2^24 bytes."""
     code = rng.choice(list(TYPES))
     front = b"PQTTTR\0\0001.0.00\0\0" + tag_bytes(KNOWN_NAMES[0], -1, CODE_OF["tyInt8"], code)
@@ -576,14 +578,14 @@ def large_case(rng):
     return Case([rng.choice([b"count", b"events"]), b"FILE"], data=data)
 
 
-def by_plan(rng, mode, data):
+def by_plan(rng: random.Random, mode: Any, data: Any) -> Any:
     """One of the commands that have a plan."""
     what = rng.choice([b"run", b"run", b"run", b"trace", b"pick"])
     group = [rng.choice([b"1", b"1", b"1", b"2", b"01", str(rng.randrange(70)).encode()])] if what == b"pick" else []
     return Case([what, b"PLAN", *group, b"FILE"], a_plan_text(rng, mode), data)
 
 
-def case_of(rng):
+def case_of(rng: random.Random) -> Any:
     kind = rng.randrange(2000)
     code = rng.choice(list(TYPES))
     mode = TYPES[code][2]
@@ -609,7 +611,7 @@ def case_of(rng):
     return Case([what, b"FILE"], data=a_hostile_file(rng) if rng.randrange(2) else a_file(rng, code))
 
 
-def make_case(seed, number):
+def make_case(seed: int, number: Any) -> Any:
     rng = random.Random(seed << 40 | number)
     case = case_of(rng)
     if case.data is not None and rng.randrange(3) == 0 and len(case.data) < 400_000:
@@ -624,7 +626,7 @@ def make_case(seed, number):
 # What is said to a case.
 
 
-def expected(case):
+def expected(case: Any) -> Any:
     """The status, standard output and standard error that brute.py gives."""
     read = brute.contents
     brute.contents = lambda name, slot: case.data if name == b"FILE" else case.plan if name == b"PLAN" else read(name, slot)
@@ -642,7 +644,7 @@ def expected(case):
 class Runner:
     """Runs the program on cases. Files stand in memory, and pipes give one piece a read."""
 
-    def __init__(self, program):
+    def __init__(self, program: str) -> None:
         self.program = program
         self.files = {name: os.memfd_create(name) for name in ("PLAN", "FILE")}
         self.outputs = [self.output(), self.output()]
@@ -650,13 +652,13 @@ class Runner:
         for fd in (*self.files.values(), self.null, self.full):
             os.set_inheritable(fd, True)
 
-    def output(self):
+    def output(self) -> Any:
         reads, writes = os.pipe()
         os.set_blocking(reads, False)
         fcntl.fcntl(writes, fcntl.F_SETPIPE_SZ, PIPE_ROOM)
         return reads, writes
 
-    def place(self, name, data, pieces):
+    def place(self, name: Any, data: Any, pieces: Any) -> Any:
         """Puts data where the program can open it: the name, and the end of a pipe that is to be closed."""
         if pieces is None:
             fd = self.files[name]
@@ -671,7 +673,7 @@ class Runner:
         os.close(writes)
         return f"/dev/fd/{reads}".encode(), reads
 
-    def run(self, case):
+    def run(self, case: Any) -> Any:
         names, ends = {}, []
         for name, data, pieces in (("PLAN", case.plan, case.plan_pieces), ("FILE", case.data, case.pieces)):
             if data is not None and name.encode() in case.words:
@@ -683,21 +685,21 @@ class Runner:
         out = self.full if case.room == "full" else self.outputs[0][1]
         actions = [(os.POSIX_SPAWN_DUP2, self.null, 0), (os.POSIX_SPAWN_DUP2, out, 1), (os.POSIX_SPAWN_DUP2, self.outputs[1][1], 2)]
         signal.alarm(600)
-        child = os.posix_spawn(words[0], words, {}, file_actions=actions)
+        child = os.posix_spawn(words[0], words, cast(dict[bytes, bytes], {}), file_actions=actions)
         status = os.waitstatus_to_exitcode(os.waitpid(child, 0)[1])
         signal.alarm(0)
         for end in ends:
             os.close(end)
         return status, self.said(0), self.said(1)
 
-    def said(self, which):
+    def said(self, which: Any) -> Any:
         try:
             return os.read(self.outputs[which][0], PIPE_ROOM)
         except BlockingIOError:
             return b""
 
 
-def keep(folder, seed, number, case, want, got):
+def keep(folder: Any, seed: int, number: Any, case: Any, want: Any, got: Any) -> None:
     path = os.path.join(folder, f"{seed}-{number}")
     os.makedirs(path, exist_ok=True)
     parts = {"words": b"\n".join(case.words), "PLAN": case.plan, "FILE": case.data, "brute.out": want[1], "brute.err": want[2], "ptu.out": got[1], "ptu.err": got[2]}
@@ -708,9 +710,10 @@ def keep(folder, seed, number, case, want, got):
     print(f"case {number} of seed {seed}: ptu says {got[0]} {got[2]!r}, brute.py {want[0]} {want[2]!r}; see {path}", flush=True)
 
 
-def work(program, seed, numbers, folder, told):
+def work(program: str, seed: int, numbers: Any, folder: Any, told: Any) -> None:
     """Runs the cases. It tells each thousand of them: how often each status came, how many differ, how many were not compared."""
-    runner, came, differ, skipped = Runner(program), Counter(), 0, 0
+    came: Counter[Any] = Counter()
+    runner, differ, skipped = Runner(program), 0, 0
     for at, number in enumerate(numbers, 1):
         case = make_case(seed, number)
         try:
@@ -730,7 +733,7 @@ def work(program, seed, numbers, folder, told):
             came, differ, skipped = Counter(), 0, 0
 
 
-def start(program, seed, numbers, folder):
+def start(program: str, seed: int, numbers: Any, folder: Any) -> Any:
     """Starts a worker, and gives the end of the pipe on which it tells what it found."""
     reads, writes = os.pipe()
     if os.fork() == 0:
@@ -742,14 +745,14 @@ def start(program, seed, numbers, folder):
     return os.fdopen(reads)
 
 
-def gather(ends, totals):
+def gather(ends: Any, totals: Any) -> None:
     """Adds up what the workers tell, until all have ended."""
     with selectors.DefaultSelector() as selector:
         for end in ends:
             selector.register(end, selectors.EVENT_READ)
         while selector.get_map():
             for key, _ in selector.select():
-                line = key.fileobj.readline()
+                line = cast(Any, key.fileobj).readline()
                 if not line:
                     selector.unregister(key.fileobj)
                     continue
@@ -759,15 +762,15 @@ def gather(ends, totals):
                 totals["skipped"] += int(skipped)
 
 
-def main():
+def main() -> None:
     options, rest = getopt.getopt(sys.argv[1:], "n:s:j:f:o:")
     given = dict(options)
-    cases, seed, workers, first = (int(given.get(option, usual)) for option, usual in (("-n", 1_000_000), ("-s", 1), ("-j", os.cpu_count()), ("-f", 0)))
+    cases, seed, workers, first = (int(given.get(option, usual)) for option, usual in (("-n", 1_000_000), ("-s", 1), ("-j", os.cpu_count() or 1), ("-f", 0)))
     if len(rest) != 1:
         sys.exit(__doc__)
     folder, began = given.get("-o", "/tmp/ptu_fuzz"), time.time()
     ends = [start(os.path.abspath(rest[0]), seed, range(first + at, first + cases, workers), folder) for at in range(min(workers, cases))]
-    totals = {"came": Counter(), "differ": 0, "skipped": 0}
+    totals: dict[str, Any] = {"came": Counter(), "differ": 0, "skipped": 0}
     try:
         gather(ends, totals)
     except KeyboardInterrupt:

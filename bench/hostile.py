@@ -16,11 +16,14 @@ import re
 import resource
 import shutil
 import signal
+import struct
 import subprocess
 import sys
 import tempfile
 import threading
 import time
+from collections.abc import Callable, Iterator
+from typing import Any
 
 import brute
 
@@ -29,48 +32,47 @@ BENCH = os.path.join(ROOT, "examples", "bench.ptu")
 BENCH_PLAN = os.path.join(ROOT, "examples", "bench.toml")
 SCAN = os.path.join(ROOT, "examples", "scan.ptu")
 MEBIBYTE = 1 << 20
-PROGRAM = None
-FOLDER = None
+PROGRAM = FOLDER = ""
 
 
-def path(name):
+def path(name: Any) -> Any:
     return os.path.join(FOLDER, name)
 
 
-def write(name, data):
+def write(name: Any, data: Any) -> Any:
     with open(path(name), "wb") as file:
         file.write(data)
     return path(name)
 
 
-def limited(limits):
+def limited(limits: Any) -> Any:
     """What is done in the new process before the program begins."""
 
-    def limit():
+    def limit() -> None:
         for which, most in limits.items():
             resource.setrlimit(which, (most, most))
 
     return limit
 
 
-def ptu(*words, limits=None, **rest):
+def ptu(*words: Any, limits: Any = None, **rest: Any) -> Any:
     """Status, standard output and standard error."""
-    options = {"stdin": subprocess.DEVNULL, "stdout": subprocess.PIPE, "stderr": subprocess.PIPE} | rest
-    done = subprocess.run([PROGRAM, *words], preexec_fn=limited(limits or {}), timeout=600, **options)
+    options: dict[str, Any] = {"stdin": subprocess.DEVNULL, "stdout": subprocess.PIPE, "stderr": subprocess.PIPE} | rest
+    done = subprocess.run([PROGRAM, *words], preexec_fn=limited(limits or {}), timeout=600, **options, check=False)
     return done.returncode, done.stdout, done.stderr
 
 
-def shell(text, *words):
+def shell(text: Any, *words: Any) -> Any:
     """The same of a line of the shell, in which $ptu is the program and $1 and on are words."""
-    done = subprocess.run(["bash", "-c", text, "bash", *words], env=os.environ | {"ptu": PROGRAM}, capture_output=True, timeout=600)
+    done = subprocess.run(["bash", "-c", text, "bash", *words], env=os.environ | {"ptu": PROGRAM}, capture_output=True, timeout=600, check=False)
     return done.returncode, done.stdout, done.stderr
 
 
-def line(status, text):
+def line(status: Any, text: Any) -> Any:
     return status, b"", f"ptu: {text}\n".encode()
 
 
-def as_brute(*words):
+def as_brute(*words: Any) -> Any:
     return brute.answer([os.fsencode(word) for word in words])
 
 
@@ -78,7 +80,7 @@ COUNT = None
 USES = []
 
 
-def use(function):
+def use(function: Any) -> Any:
     USES.append(function)
     return function
 
@@ -87,14 +89,14 @@ def use(function):
 
 
 @use
-def a_folder():
+def a_folder() -> Iterator[Any]:
     yield ptu("count", "/"), line(3, "cannot read the data")
     yield ptu("run", "/", BENCH), line(3, "cannot read the plan")
     yield ptu("run", BENCH_PLAN, "/"), line(3, "cannot read the data")
 
 
 @use
-def no_such_file():
+def no_such_file() -> Iterator[Any]:
     yield ptu("count", path("none")), line(2, "cannot open the data")
     yield ptu("run", path("none"), path("none")), line(2, "cannot open the plan")
     yield ptu("count", ""), line(2, "cannot open the data")
@@ -102,7 +104,7 @@ def no_such_file():
 
 
 @use
-def a_loop_of_links():
+def a_loop_of_links() -> Iterator[Any]:
     os.symlink("loop_b", path("loop_a"))
     os.symlink("loop_a", path("loop_b"))
     yield ptu("count", path("loop_a")), line(2, "cannot open the data")
@@ -111,7 +113,7 @@ def a_loop_of_links():
 
 
 @use
-def no_permission():
+def no_permission() -> Iterator[Any]:
     if os.getuid() != 0:
         return
     secret = write("secret", open(BENCH, "rb").read())
@@ -119,16 +121,16 @@ def no_permission():
     os.chmod(FOLDER, 0o755)
     shutil.copy(PROGRAM, path("ptu"))
     os.chmod(path("ptu"), 0o755)
-    done = subprocess.run([path("ptu"), "count", secret], capture_output=True, user=65534, group=65534, extra_groups=[])
+    done = subprocess.run([path("ptu"), "count", secret], capture_output=True, user=65534, group=65534, extra_groups=[], check=False)
     yield (done.returncode, done.stdout, done.stderr), line(2, "cannot open the data")
-    done = subprocess.run([path("ptu"), "run", secret, secret], capture_output=True, user=65534, group=65534, extra_groups=[])
+    done = subprocess.run([path("ptu"), "run", secret, secret], capture_output=True, user=65534, group=65534, extra_groups=[], check=False)
     yield (done.returncode, done.stdout, done.stderr), line(2, "cannot open the plan")
 
 
-def feed(fifo, data, piece=None, pause=0.0):
+def feed(fifo: Any, data: Any, piece: Any = None, pause: float = 0.0) -> Any:
     """Writes the data into a named pipe, in pieces, beside what runs."""
 
-    def writes():
+    def writes() -> None:
         with open(fifo, "wb", buffering=0) as pipe:
             for at in range(0, len(data), piece or len(data)):
                 pipe.write(data[at : at + (piece or len(data))])
@@ -139,13 +141,13 @@ def feed(fifo, data, piece=None, pause=0.0):
     return thread
 
 
-def fifo(name):
+def fifo(name: Any) -> Any:
     os.mkfifo(path(name))
     return path(name)
 
 
 @use
-def a_named_pipe():
+def a_named_pipe() -> Iterator[Any]:
     pipe, data, plan = fifo("pipe"), open(BENCH, "rb").read(), open(BENCH_PLAN, "rb").read()
     feed(pipe, data, 7, 0.001)
     yield ptu("run", BENCH_PLAN, pipe), as_brute("run", BENCH_PLAN, BENCH)
@@ -154,12 +156,12 @@ def a_named_pipe():
 
 
 @use
-def one_named_pipe_as_both():
+def one_named_pipe_as_both() -> Iterator[Any]:
     """It is opened twice: the first writer's text is the plan, and the next one's is the data."""
     pipe, data, plan = fifo("both"), open(BENCH, "rb").read(), open(BENCH_PLAN, "rb").read()
     first = feed(pipe, plan)
 
-    def then():
+    def then() -> None:
         first.join()
         time.sleep(0.2)
         feed(pipe, data)
@@ -169,7 +171,7 @@ def one_named_pipe_as_both():
 
 
 @use
-def standard_input():
+def standard_input() -> Iterator[Any]:
     yield shell('"$ptu" count /dev/stdin <"$1"', BENCH), as_brute("count", BENCH)
     yield shell('cat "$1" | "$ptu" count /dev/stdin', BENCH), as_brute("count", BENCH)
     yield shell('cat "$1" | "$ptu" run /dev/stdin "$2"', BENCH_PLAN, BENCH), as_brute("run", BENCH_PLAN, BENCH)
@@ -179,7 +181,7 @@ def standard_input():
 
 
 @use
-def one_file_as_both():
+def one_file_as_both() -> Iterator[Any]:
     yield ptu("run", BENCH, BENCH), line(7, "plan is not TOML")
     yield ptu("run", BENCH_PLAN, BENCH_PLAN), line(10, "not a PTU file")
     # A pipe is read by the plan to its end, and nothing is left for the data.
@@ -187,7 +189,7 @@ def one_file_as_both():
 
 
 @use
-def devices():
+def devices() -> Iterator[Any]:
     yield ptu("count", "/dev/null"), line(11, "header cut after 0 bytes")
     yield ptu("run", "/dev/null", BENCH), as_brute("run", "/dev/null", BENCH)
     yield ptu("count", "/dev/zero"), line(10, "not a PTU file")
@@ -196,7 +198,7 @@ def devices():
 
 
 @use
-def standard_output_that_takes_nothing():
+def standard_output_that_takes_nothing() -> Iterator[Any]:
     for words in (("count", BENCH), ("header", BENCH), ("events", SCAN), ("run", BENCH_PLAN, BENCH), ("demo", "0", "1")):
         with open("/dev/full", "wb") as full:
             status, _, error = ptu(*words, stdout=full)
@@ -208,14 +210,14 @@ def standard_output_that_takes_nothing():
 
 
 @use
-def standard_error_that_takes_nothing():
+def standard_error_that_takes_nothing() -> Iterator[Any]:
     yield shell('"$ptu" count "$1" 2>&-', path("none")), (2, b"", b"")
     yield shell('"$ptu" count "$1" 2>/dev/full', path("none")), (2, b"", b"")
     yield shell('"$ptu" count "$1" <&- 2>&-', BENCH), as_brute("count", BENCH)
 
 
 @use
-def long_names():
+def long_names() -> Iterator[Any]:
     yield ptu("count", "n" * 100_000), line(2, "cannot open the data")
     yield ptu("run", "n" * 100_000, BENCH), line(2, "cannot open the plan")
     yield ptu("count", "./" * 50_000 + "n"), line(2, "cannot open the data")
@@ -223,10 +225,10 @@ def long_names():
 
 
 @use
-def odd_names():
+def odd_names() -> Iterator[Any]:
     """Names are texts of UTF-8. A file of another name is given by standard input, or by a link."""
     odd = os.fsencode(path("")) + b"\xff\xfe.ptu"
-    shutil.copy(BENCH, odd)
+    shutil.copy(os.fsencode(BENCH), odd)
     yield ptu("count", odd), line(1, "bad command line")
     yield ptu("run", odd, BENCH), line(1, "bad command line")
     yield shell('"$ptu" count /dev/stdin <"$1"', odd), as_brute("count", BENCH)
@@ -242,7 +244,7 @@ def odd_names():
 # Memory and stack.
 
 
-def plan_of(groups, **parts):
+def plan_of(groups: Any, **parts: Any) -> Any:
     """A plan of so many equal tables of each kind."""
     tables = [f"[[group]]\ninputs = {inputs}\n" for inputs in groups]
     for kind, (number, keys) in parts.items():
@@ -256,7 +258,7 @@ LAGS = {"first": 1, "second": 2, "lags": 128, "levels": 40}
 
 
 @use
-def too_little_memory():
+def too_little_memory() -> Iterator[Any]:
     """A plan of 788 MB: 13 coincidences of the greatest reach, and 3 traces of the most bins."""
     plan = write("large.toml", plan_of(["[0, 1]", "[1, 2]"], coincidence=(13, REACH), trace=(3, TRACE)))
     data = write("pairs.ptu", brute.minimal_file(0x01010204, [time << 3 | (time % 3) << 25 for time in range(60)]))
@@ -268,7 +270,7 @@ def too_little_memory():
 
 
 @use
-def the_greatest_plans():
+def the_greatest_plans() -> Iterator[Any]:
     """Each mode's plan of the most tables, each of the greatest settings, in each of which something is counted."""
     spread = [time << 12 | (time % 3) << 25 for time in range(0, 2000, 41)] + [0xFE000001, 5, 1 << 25 | 7]
     data = write("spread_t2.ptu", brute.minimal_file(0x01010204, spread))
@@ -288,7 +290,7 @@ def the_greatest_plans():
 
 
 @use
-def plans_of_the_greatest_length():
+def plans_of_the_greatest_length() -> Iterator[Any]:
     for text in (b"#" * 65536, b"\n" * 65536, b"# a line of 16.\n" * 4095 + b"limits.records=7", b"# a line of 16.\n" * 4095 + b"limits.records=0",
                  b"# a line of 16.\n" * 4095 + b"version = 1 = 2 ", b"[[group]]\n" * 6553 + b"[\n", b"a=1\n" * 16384, b"a." * 32000 + b"a = 1\n"):
         plan = write("long.toml", text)
@@ -298,9 +300,9 @@ def plans_of_the_greatest_length():
             yield ptu("run", plan, BENCH), line(7, "plan is not TOML")
 
 
-def deep_plans():
+def deep_plans() -> Iterator[Any]:
     """Documents that nest as deep as ptu reads, and deeper: 80 parts of a key, 80 brackets, and what both make together."""
-    key = lambda letter, parts: ".".join([letter] * parts)
+    key: Callable[[str, int], str] = lambda letter, parts: ".".join([letter] * parts)
     for parts in (80, 81, 16000):
         yield f"a = {'[' * parts}{']' * parts}", 8 if parts == 80 else 7
         yield f"a = {'{a=' * parts}1{'}' * parts}", 8 if parts == 80 else 7
@@ -315,14 +317,14 @@ def deep_plans():
 
 
 @use
-def plans_that_nest():
+def plans_that_nest() -> Iterator[Any]:
     for text, status in deep_plans():
         plan = write("deep.toml", text.encode())
         got = ptu("run", plan, BENCH)
         yield got, line(8, "plan breaks rule 1 at 0") if status == 8 else line(7, "plan is not TOML")
 
 
-def least_stack(words, want):
+def least_stack(words: Any, want: Any) -> Any:
     """The least stack in KiB, a multiple of 4, with which the program says what it should."""
     low, high = 0, 8192
     while high - low > 4:
@@ -336,7 +338,7 @@ def least_stack(words, want):
 
 
 @use
-def the_stack():
+def the_stack() -> Iterator[Any]:
     """Each command is run with half of the usual 8 MiB, and then with less and less."""
     rows = [
         ("count", ("count", BENCH), as_brute("count", BENCH)),
@@ -356,7 +358,7 @@ def the_stack():
 
 
 @use
-def signals():
+def signals() -> Iterator[Any]:
     """A signal ends it as it ends any program. Stopped and woken, it goes on."""
     pipe, data = fifo("slow"), open(BENCH, "rb").read()
     for number in (signal.SIGINT, signal.SIGTERM, signal.SIGHUP, signal.SIGKILL):
@@ -380,7 +382,7 @@ def signals():
 
 
 @use
-def a_file_that_grows():
+def a_file_that_grows() -> Iterator[Any]:
     """It is read to the end that it has when the end is reached. What is appended meanwhile may be seen in part."""
     front = brute.minimal_file(0x01010304, [])
     grown = write("grows.ptu", front + bytes(4 * 2_000_000))
@@ -391,7 +393,7 @@ def a_file_that_grows():
                 break
             file.write(bytes(4 * 10_000))
     out, err = running.communicate()
-    records = int(re.search(rb"records (\d+)", out)[1])
+    records = int(re.findall(rb"records (\d+)", out)[0])
     yield (running.returncode, err, 2_000_000 <= records <= 4_000_000), (0, b"", True)
     # What is taken away before it is read is missing.
     running = subprocess.Popen([PROGRAM, "count", fifo("cut")], stdout=subprocess.PIPE, stderr=subprocess.PIPE)
@@ -401,7 +403,7 @@ def a_file_that_grows():
 
 
 @use
-def a_sparse_file_of_3_gb():
+def a_sparse_file_of_3_gb() -> Iterator[Any]:
     """Its zeros are photons of input 0 at time 0."""
     front = brute.minimal_file(0x01010304, [])
     sparse = write("sparse.ptu", front)
@@ -414,27 +416,27 @@ def a_sparse_file_of_3_gb():
     yield (status, out.split(b"\n")[-5:], err), (0, [b"trace 1 origin 0 width 1 bins 1", f"0 {records}".encode(), b"before 0", b"beyond 0", b""], b"")
     os.truncate(sparse, (3 << 30) + 1)
     yield ptu("count", sparse), line(17, "1 bytes of a record at the end")
-    blob = brute.struct.pack("<32siIq", b"Blob", -1, 0xFFFFFFFF, 2**62)
+    blob = struct.pack("<32siIq", b"Blob", -1, 0xFFFFFFFF, 2**62)
     sparse = write("header.ptu", front[:16] + blob)
     os.truncate(sparse, 3 << 30)
     yield ptu("count", sparse), line(16, "header longer than 16777216 bytes")
 
 
 @use
-def a_file_limit():
+def a_file_limit() -> Iterator[Any]:
     """Where a file may grow no further, a signal of the system ends it, and where that is turned off status 4."""
     with open(path("short_out"), "wb") as out:
-        status, _, error = ptu("events", SCAN, stdout=out, limits={resource.RLIMIT_FSIZE: 5000})
+        status, _, _ = ptu("events", SCAN, stdout=out, limits={resource.RLIMIT_FSIZE: 5000})
     yield (status, os.path.getsize(path("short_out"))), (-signal.SIGXFSZ, 5000)
     yield shell('trap "" XFSZ; ulimit -f 4; "$ptu" events "$1" >"$2"', SCAN, path("short_out")), line(4, "cannot write")
 
 
-def shown(value):
+def shown(value: Any) -> Any:
     text = repr(value)
     return text if len(text) < 300 else text[:140] + " .. " + text[-140:]
 
 
-def main():
+def main() -> None:
     global PROGRAM, FOLDER
     options, rest = getopt.getopt(sys.argv[1:], "o:")
     if len(rest) != 1:

@@ -21,6 +21,8 @@ import resource
 import subprocess
 import sys
 import tempfile
+from collections.abc import Iterator
+from typing import Any
 
 import numpy
 
@@ -38,7 +40,7 @@ levels = {levels}
 """
 
 
-def photons(path):
+def photons(path: Any) -> Any:
     """The times of the photons of the inputs 1 and 2, and whether each is of input 2."""
     data = numpy.fromfile(path, dtype=numpy.uint8)
     end = bytes(data[: 2**16]).find(b"Header_End\0")
@@ -50,7 +52,7 @@ def photons(path):
     return times[chosen], channel[chosen] == 1
 
 
-def level_counts(times, second, level, lags):
+def level_counts(times: Any, second: Any, level: Any, lags: Any) -> Any:
     """The occupied bins of a level, and their pairs."""
     bins, where = numpy.unique(times >> level, return_inverse=True)
     asks = numpy.zeros(len(bins), bool)  # has a photon of the second input
@@ -60,7 +62,7 @@ def level_counts(times, second, level, lags):
     return len(bins), int(near[asks].sum())
 
 
-def events_of(words, clock):
+def events_of(words: Any, clock: Any) -> Any:
     """The events of some records: each is a time, its input 1 or 2 or else 0, and whether it is a photon."""
     events = []
     for word in words.tolist():
@@ -73,7 +75,7 @@ def events_of(words, clock):
     return events
 
 
-def blocks_of(path):
+def blocks_of(path: Any) -> Iterator[Any]:
     """The events of each block that the tables are given: the time of each, and its input 1 or 2 or else 0.
 
     A block takes the events of as many blocks of 64 records as fit, and ends with a piece of the file.
@@ -84,7 +86,7 @@ def blocks_of(path):
     greatest = 0
     while place < len(data):
         piece = min((place // 8192 + 1) * 8192, len(data))
-        gathered = []
+        gathered: list[Any] = []
         while place < piece:
             end = min(place + 256, piece)
             came = events_of(numpy.frombuffer(data[place : end - (end - place) % 4], "<u4"), clock)
@@ -104,24 +106,24 @@ def blocks_of(path):
             yield gathered
 
 
-def bins_of(block):
+def bins_of(block: Any) -> Any:
     """The photons of the two inputs in a block, each as a bin of one."""
     return [(time, int(group == 1), int(group == 2)) for time, group in block if group]
 
 
-def raised(bins, levels):
+def raised(bins: Any, levels: Any) -> Any:
     """Bins so many levels up, where neighbours of one index stay apart."""
     return [(index >> levels, first, second) for index, first, second in bins]
 
 
-def lowered(bins, levels):
+def lowered(bins: Any, levels: Any) -> Any:
     """Bins so many levels down."""
     return [(index << levels, first, second) for index, first, second in bins]
 
 
-def merged(bins):
+def merged(bins: Any) -> Any:
     """Bins of which neighbours of one index are one."""
-    made = []
+    made: list[Any] = []
     for index, first, second in bins:
         if made and made[-1][0] == index:
             made[-1] = (index, made[-1][1] + first, made[-1][2] + second)
@@ -130,7 +132,7 @@ def merged(bins):
     return made
 
 
-def spacing(bins):
+def spacing(bins: Any) -> Any:
     """The least distance of neighbours."""
     return min((late[0] - early[0] for early, late in zip(bins, bins[1:])), default=2**64 - 1)
 
@@ -138,11 +140,13 @@ def spacing(bins):
 class Level:
     """A level of a correlation: its open bin, the ring of its closed ones, and the additions that it made."""
 
-    def __init__(self, level, lags):
+    def __init__(self, level: Any, lags: Any) -> None:
         self.own, self.lags = lags - lags // 2 if level else lags, lags
-        self.open, self.ring, self.added = [], [], 0
+        self.open: list[Any] = []
+        self.ring: list[Any] = []
+        self.added = 0
 
-    def take(self, came, up, apart):
+    def take(self, came: Any, up: Any, apart: Any) -> Any:
         """Takes bins, so many levels up from where they stand, of which no two are nearer than `apart`, or that is 0.
 
         Answers those that it closes, and such a distance for these.
@@ -155,14 +159,14 @@ class Level:
         self.shut(raised(shut, up), apart >> up)
         return shut, apart
 
-    def shut(self, bins, apart):
+    def shut(self, bins: Any, apart: Any) -> None:
         """Pairs and keeps closed bins."""
         if bins:
             self.added += self.own if apart <= self.lags else 0
             self.ring = [one for one in self.ring + merged(bins) if one[0] + self.lags > bins[-1][0]]
 
 
-def carry_all(levels, bins, up, apart):
+def carry_all(levels: Any, bins: Any, up: Any, apart: Any) -> None:
     """Gives bins, so many levels up from where they stand, to levels: no two are nearer than `apart`, or that is 0."""
     for level in levels:
         if not bins:
@@ -171,7 +175,7 @@ def carry_all(levels, bins, up, apart):
         up += 1
 
 
-def additions_by_level(path, lags, levels):
+def additions_by_level(path: Any, lags: Any, levels: Any) -> Any:
     """The additions that a run makes on each level."""
     all_levels = [Level(level, lags) for level in range(levels)]
     for block in blocks_of(path):
@@ -184,7 +188,7 @@ def additions_by_level(path, lags, levels):
     return [level.added for level in all_levels]
 
 
-def seconds(program, path, lags, levels):
+def seconds(program: str, path: Any, lags: Any, levels: Any) -> Any:
     with tempfile.NamedTemporaryFile("w", suffix=".toml") as plan:
         plan.write(PLAN.format(lags=lags, levels=levels))
         plan.flush()
@@ -197,7 +201,7 @@ def seconds(program, path, lags, levels):
         return best
 
 
-def main():
+def main() -> None:
     program, path = sys.argv[1:3]
     lags = int(sys.argv[3]) if len(sys.argv) > 3 else 16
     times, second = photons(path)

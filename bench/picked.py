@@ -12,6 +12,8 @@ import random
 import subprocess
 import sys
 import tempfile
+from collections.abc import Callable
+from typing import Any
 
 import brute
 
@@ -19,22 +21,22 @@ ROOT = os.path.dirname(os.path.dirname(os.path.abspath(__file__)))
 PLAN = b"version = 2\n[[group]]\ninputs = [0, 2, 3]\n[[group]]\ninputs = [1, 4]\n"
 
 
-def photons(text, inputs=None):
+def photons(text: Any, inputs: Any = None) -> Any:
     """The input, the time and the dtime of each photon among the lines of 'events' that isn't late."""
     lines = [line.split() for line in text.decode().splitlines()]
     chosen = [line for line in lines if line[1] == "photon" and line[-1] != "late"]
     return [line[2:] for line in chosen if inputs is None or int(line[2]) in inputs]
 
 
-def said(program, words):
-    done = subprocess.run([program, *words], stdout=subprocess.PIPE, stderr=subprocess.PIPE)
+def said(program: str, words: Any) -> Any:
+    done = subprocess.run([program, *words], stdout=subprocess.PIPE, stderr=subprocess.PIPE, check=False)
     return done.returncode, done.stdout, done.stderr
 
 
-def differs(program, folder, code, seed):
+def differs(program: str, folder: Any, code: Any, seed: int) -> Any:
     """What is wrong with the files picked of a random file of a type."""
     rng = random.Random(seed)
-    name = lambda end: os.path.join(folder, end)
+    name: Callable[[str], str] = lambda end: os.path.join(folder, end)
     with open(name("plan.toml"), "wb") as file:
         file.write(PLAN)
     with open(name("data.ptu"), "wb") as file:
@@ -58,7 +60,7 @@ def differs(program, folder, code, seed):
     return None
 
 
-def main():
+def main() -> None:
     program = sys.argv[1] if len(sys.argv) > 1 else os.path.join(ROOT, "ptu")
     wrong = 0
     with tempfile.TemporaryDirectory() as folder:

@@ -39,7 +39,9 @@ def task(function: Callable[..., object]) -> Callable[..., object]:
 
 @task
 def only_import(*paths: str) -> None:
-    import ptulab  # noqa: F401
+    import ptulab
+
+    assert ptulab.__all__
 
 
 @task
@@ -68,7 +70,7 @@ def sum_reports(*paths: str) -> None:
 def read_events(path: str) -> None:
     import ptulab
 
-    assert len(ptulab.read_events(path).array)
+    assert len(ptulab.read_events(path))
 
 
 @task

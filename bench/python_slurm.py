@@ -4,8 +4,9 @@
 It starts munged, slurmctld and slurmd on the loopback, with a folder of their own (root and Debian's slurm-wlm, munge and
 snakemake are needed), makes eight files of which one is cut, counts them as jobs of the queue, and cancels one of the jobs
 while it runs. The cancelled job must be counted again, the cut file be listed, and the sum be, to the byte, what one process
-adds up of the other seven. The daemons are ended behind it by their ids. It prints what was seen, and ends with 0 where all
-was so. No figure here is part of the gate.
+adds up of the other seven. Then the same files are counted by an array of jobs (examples/slurm/array.sh), of which one is
+put back into the queue while it runs. The daemons are ended behind it by their ids. It prints what was seen, and ends with 0
+where all was so. No figure here is part of the gate.
 """
 
 import contextlib
@@ -86,7 +87,7 @@ def queue(folder):
             with open(folder / f"{command[0]}.out", "wb") as out:
                 started.append(subprocess.Popen(command, stdout=out, stderr=out))
             until((folder / place).exists, command[0])
-        until(lambda: b"idle" in subprocess.run(["sinfo", "-h", "-o", "%T"], capture_output=True).stdout, "the node")
+        until(lambda: b"idle" in subprocess.run(["sinfo", "-h", "-o", "%T"], capture_output=True, check=False).stdout, "the node")
         yield
     finally:
         for one in reversed(started):
@@ -103,14 +104,49 @@ def make_files(folder, program):
     cut = (folder / "2.ptu").read_bytes()
     (folder / "2.ptu").write_bytes(cut[:-2])
     (folder / "plan.toml").write_text(PLAN)
-    (folder / "slow_ptu").write_text(f'#!/bin/sh\ncase "$3" in */5.ptu) sleep {SLOW} ;; esac\nexec {program} "$@"\n')
+    (folder / "slow_ptu").write_text(f'#!/bin/sh\ncase $(readlink "$3") in */5.ptu) sleep {SLOW} ;; esac\nexec {program} "$@"\n')
     (folder / "slow_ptu").chmod(0o755)
 
 
 def job_of(name):
     """The number of a job that runs, or nothing."""
-    words = ["squeue", "-h", "-t", "RUNNING", "-o", "%i", f"--name={name}"]
-    return subprocess.run(words, capture_output=True, text=True).stdout.split()
+    words = ["squeue", "-h", "-r", "-t", "RUNNING", "-o", "%i", f"--name={name}"]
+    return subprocess.run(words, capture_output=True, text=True, check=False).stdout.split()
+
+
+def by_snakemake(folder, wanted):
+    """A job for each file, one of which is cancelled."""
+    words = ["snakemake", "--profile", str(ROOT / "examples" / "slurm"), "-s", str(ROOT / "examples" / "Snakefile")]
+    words += ["--config", f"data={folder}", f"plan={folder}/plan.toml", f"ptu={folder}/slow_ptu", f"out={folder}/counts", "group=1"]
+    begin = time.monotonic()
+    with open(folder / "snakemake.out", "wb") as out, subprocess.Popen(words, cwd=folder, stdout=out, stderr=out) as run:
+        until(lambda: job_of("count.00005"), "the job of 5.ptu")
+        cancelled = job_of("count.00005")[0]
+        subprocess.run(["scancel", cancelled], check=True)
+    said = (folder / "snakemake.out").read_text()
+    if run.returncode != 0:
+        sys.exit(said)
+    (made,) = (folder / "counts").glob("*/*/sum.txt")
+    assert made.read_bytes() == wanted, "another sum"
+    assert f"{folder}/2.ptu: not added: 2 bytes of a record at the end" in made.with_name("sum.left").read_text()
+    assert "Trying to restart job" in said, said
+    jobs = sum("Submitted job" in line for line in said.splitlines())
+    print(f"8 files by {jobs} jobs in {time.monotonic() - begin:.0f} s: job {cancelled} was cancelled and counted again,")
+
+
+def by_array(folder, wanted):
+    """Four jobs of an array, one of which is put back into the queue."""
+    (folder / "list").write_text("".join(f"{folder}/{number}.ptu\n" for number in range(8)))
+    words = [ROOT / "examples" / "slurm" / "array.sh", folder / "plan.toml", folder / "list", folder / "out", "4", folder / "slow_ptu"]
+    surroundings = os.environ | {"PTULAB": f"{sys.executable} -m ptulab", "PYTHONPATH": str(ROOT / "python" / "src")}
+    begin = time.monotonic()
+    subprocess.run(words, check=True, env=surroundings, stdout=subprocess.DEVNULL)
+    until(lambda: len(job_of("ptulab-count")) == 1, "the job of 5.ptu alone")
+    put_back = job_of("ptulab-count")[0]
+    subprocess.run(["scontrol", "requeue", put_back], check=True)
+    until((folder / "out" / "sum.txt").exists, "the sum")
+    assert (folder / "out" / "sum.txt").read_bytes() == wanted, "another sum"
+    print(f"8 files by an array of 4 jobs in {time.monotonic() - begin:.0f} s, which includes the wait for a job that was put back: {put_back},")
 
 
 def main():
@@ -121,25 +157,12 @@ def main():
     with tempfile.TemporaryDirectory(prefix="python_slurm.") as place:
         folder = Path(place)
         make_files(folder, program)
-        with queue(folder):
-            words = ["snakemake", "--profile", str(ROOT / "examples" / "slurm"), "-s", str(ROOT / "examples" / "Snakefile")]
-            words += ["--config", f"data={folder}", f"plan={folder}/plan.toml", f"ptu={folder}/slow_ptu"]
-            begin = time.monotonic()
-            with open(folder / "snakemake.out", "wb") as out, subprocess.Popen(words, cwd=folder, stdout=out, stderr=out) as run:
-                until(lambda: job_of("count.name=5"), "the job of 5.ptu")
-                cancelled = job_of("count.name=5")[0]
-                subprocess.run(["scancel", cancelled], check=True)
-            said = (folder / "snakemake.out").read_text()
-        if run.returncode != 0:
-            sys.exit(said)
         good = [folder / f"{number}.ptu" for number in range(8) if number != 2]
-        wanted = ptulab.sum_reports(ptulab.run(folder / "plan.toml", path, program=program) for path in good)
-        assert (folder / "sum.report").read_bytes() == b"".join(report_lines(wanted)), "another sum"
-        assert (folder / "sum.left").read_text() == f"{folder}/2.txt: not added: 2 bytes of a record at the end\n"
-        assert "Trying to restart job" in said, said
-        jobs = sum("Submitted job" in line for line in said.splitlines())
-        print(f"8 files by {jobs} jobs in {time.monotonic() - begin:.0f} s: job {cancelled} was cancelled and counted again,")
-        print(f"one file was refused and listed, and the sum of {wanted.head.photons:,} photons is that of one process, byte for byte")
+        whole = ptulab.sum_reports(ptulab.run(folder / "plan.toml", path, program=program) for path in good)
+        with queue(folder):
+            by_snakemake(folder, b"".join(report_lines(whole)))
+            by_array(folder, b"".join(report_lines(whole)))
+        print(f"one file was refused and listed, and each sum of {whole.head.photons:,} photons is that of one process, byte for byte")
 
 
 if __name__ == "__main__":

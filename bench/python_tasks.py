@@ -22,6 +22,7 @@ import sys
 import tempfile
 import time
 from pathlib import Path
+from typing import Any
 
 BENCH = Path(__file__).resolve().parent
 ROOT = BENCH.parent
@@ -40,7 +41,7 @@ TITLES = (
 )
 
 
-def block_of(title):
+def block_of(title: Any) -> Any:
     """The first block of Python below a title of docs/python.md."""
     text = (ROOT / "docs" / "python.md").read_text(encoding="utf-8")
     found = re.search(rf"^##+ {re.escape(title)}\n.*?^```python\n(.*?)^```$", text, flags=re.M | re.S)
@@ -49,12 +50,12 @@ def block_of(title):
     return found[1]
 
 
-def lines_of(block):
+def lines_of(block: Any) -> Any:
     """The lines of a task; blank ones, remarks and the line that imports don't count."""
     return [line for line in block.splitlines() if line and not line.startswith(("#", "import ", "from "))]
 
 
-def furnish(folder, records):
+def furnish(folder: Path, records: Any) -> None:
     """Puts into a folder what the blocks speak of."""
     subprocess.run(["g++", "-std=c++17", "-O2", "-o", folder / "make_shaped", BENCH / "make_shaped.cpp"], check=True)
     subprocess.run([folder / "make_shaped", "scan", str(records), folder / "FILE"], check=True)
@@ -67,11 +68,11 @@ def furnish(folder, records):
     subprocess.run([sys.executable, ROOT / "examples" / "make_samples.py", folder], check=True)
 
 
-def measured(block, folder):
+def measured(block: Any, folder: Path) -> Any:
     """Seconds by the clock and of the processors, and MiB, of a process that runs a block."""
     words = f"import resource, sys\n{block}\n" + "print(max(resource.getrusage(who).ru_maxrss for who in (0, -1)) // 1024, file=sys.stderr)"
     before, began = os.times(), time.perf_counter()
-    run = subprocess.run([sys.executable, "-W", "ignore", "-c", words], cwd=folder, capture_output=True, text=True)
+    run = subprocess.run([sys.executable, "-W", "ignore", "-c", words], cwd=folder, capture_output=True, text=True, check=False)
     wall, after = time.perf_counter() - began, os.times()
     if run.returncode != 0:
         sys.exit(f"{block}\n{run.stderr}")
@@ -79,7 +80,7 @@ def measured(block, folder):
     return wall, processor, int(run.stderr.split()[-1])
 
 
-def main():
+def main() -> None:
     parser = argparse.ArgumentParser(description="Measures the ten tasks of docs/python.md.")
     parser.add_argument("-n", type=int, default=20_000_000, metavar="RECORDS")
     parser.add_argument("-t", type=int, default=3, metavar="TIMES")

@@ -14,6 +14,7 @@ import os
 import re
 import subprocess
 import sys
+from typing import Any
 
 ROOT = os.path.dirname(os.path.dirname(os.path.abspath(__file__)))
 sys.path.insert(0, os.path.join(os.path.dirname(os.path.dirname(os.path.realpath(__file__))), "python", "src"))
@@ -24,13 +25,13 @@ from ptulab.program import refusal  # noqa: E402
 OF_SEVERAL = (5, 12, 14, 16, 18, 20, 22, 25, 28, 29, 31)  # rules that speak of the values of several keys
 
 
-def main():
+def main() -> None:
     parser = argparse.ArgumentParser(description="Says in words what is wrong with a plan.")
     parser.add_argument("plan")
     parser.add_argument("program", nargs="?", default=os.path.join(ROOT, "ptu"))
     parser.add_argument("--file", help="a file that the plan is for")
     given = parser.parse_args()
-    run = subprocess.run([given.program, "run", given.plan, os.devnull], capture_output=True, text=True)
+    run = subprocess.run([given.program, "run", given.plan, os.devnull], capture_output=True, text=True, check=False)
     if run.returncode != 11:  # else the plan was read, and the empty file refused
         print(f"{given.plan}: {run.stderr.strip()}")
         if run.returncode in (7, 8):
@@ -47,7 +48,7 @@ def main():
     sys.exit(any(one.refused for one in found))
 
 
-def explain(path, run):
+def explain(path: Any, run: Any) -> None:
     """Says more of a plan that is no TOML or breaks a rule."""
     try:
         plan = read_plan(path)

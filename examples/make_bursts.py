@@ -8,6 +8,7 @@ of which the bright ones are rare. The same photons come each time.
 
 import random
 import sys
+from typing import Any
 
 from made_file import t2_words, write
 
@@ -18,7 +19,7 @@ BACKGROUND = 2_000  # photons a second
 BURSTS, CROSSING = 800, 400_000  # how many there are, and how many ticks one takes, as a standard deviation
 
 
-def photons():
+def photons() -> Any:
     """The rising times of input 1."""
     draws = random.Random(1974)
     times = [draws.randrange(LENGTH * SECOND) for _ in range(LENGTH * BACKGROUND)]

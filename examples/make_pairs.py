@@ -10,6 +10,8 @@ come each time.
 
 import random
 import sys
+from collections.abc import Iterator
+from typing import Any
 
 from made_file import t2_words, write
 
@@ -20,7 +22,7 @@ BRIGHT, DARK = 40_000, 40_000  # ticks that it stays so, on average
 GROUND = 4_000  # ticks between photons of the background
 
 
-def emitted(draws, blinks):
+def emitted(draws: Any, blinks: Any) -> Iterator[Any]:
     """The times at which the emitter emits."""
     time, dark = 0.0, draws.expovariate(1 / BRIGHT) if blinks else float("inf")
     while True:
@@ -32,10 +34,10 @@ def emitted(draws, blinks):
             dark = time + draws.expovariate(1 / BRIGHT)
 
 
-def photons(blinks=True):
+def photons(blinks: bool = True) -> Any:
     """The rising times of each of the two inputs."""
     draws, background = random.Random(2003), 0.0
-    inputs = [], []
+    inputs: tuple[list[int], list[int]] = ([], [])
     for count, time in enumerate(emitted(draws, blinks)):
         while background < time:
             inputs[draws.random() < 0.5].append(int(background))

@@ -11,7 +11,7 @@ import zlib
 TIMES = 4
 
 
-def chunk(name, data):
+def chunk(name: bytes, data: bytes) -> bytes:
     return struct.pack(">I", len(data)) + name + data + struct.pack(">I", zlib.crc32(name + data))
 
 

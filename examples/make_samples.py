@@ -14,6 +14,7 @@ The same photons come each time.
 
 import os
 import sys
+from typing import Any
 
 import numpy as np
 from made_file import header
@@ -22,7 +23,7 @@ SYNC, TICK = 100e-9, 50e-12  # seconds of a sync period and of a tick of its del
 PERIOD = 2000
 
 
-def write(path, record_type, times, words, tick, **tags):
+def write(path: Any, record_type: str, times: Any, words: Any, tick: Any, **tags: Any) -> None:
     """Events at these times, in any order, by their words without times; T3 files have 10 bits for a time, T2 25."""
     bits = 10 if record_type.endswith("T3") else 25
     order = np.argsort(times, kind="stable")
@@ -34,18 +35,18 @@ def write(path, record_type, times, words, tick, **tags):
         out.write(header(record_type, tick, len(words), **tags) + words.astype("<u4").tobytes())
 
 
-def t3(path, times, inputs, ticks, markers=((), ()), **tags):
+def t3(path: Any, times: Any, inputs: Any, ticks: Any, markers: Any = ((), ()), **tags: Any) -> None:
     """Photons by sync period, input and delay, and markers by sync period and bits."""
     words = np.concatenate((0x80000000 | np.array(markers[1], np.int64) << 25, inputs << 25 | ticks % PERIOD << 10))
     write(path, "HydraHarp2T3", np.concatenate((np.array(markers[0], np.int64), times)), words, SYNC, MeasDesc_Resolution=TICK, **tags)
 
 
-def delays(draws, many, lifetime):
+def delays(draws: Any, many: Any, lifetime: Any) -> Any:
     """Delays in ticks: a pulse of 0.15 ns at 5 ns, and an exponential of this lifetime in seconds."""
     return ((5e-9 + draws.normal(0, 0.15e-9, many) + draws.exponential(lifetime or 1e-30, many)) / TICK).astype(np.int64)
 
 
-def emitter(path):
+def emitter(path: Any) -> None:
     draws = np.random.default_rng(1)
     times = np.flatnonzero(draws.random(10_000_000) < 0.02)
     noise = draws.integers(0, 10_000_000, 10_000)
@@ -54,12 +55,12 @@ def emitter(path):
     t3(path, times, draws.integers(0, 2, len(times)), ticks)
 
 
-def response(path):
+def response(path: Any) -> None:
     draws = np.random.default_rng(2)
     t3(path, draws.integers(0, 10_000_000, 200_000), np.zeros(200_000, np.int64), delays(draws, 200_000, 0))
 
 
-def diffusion(path, step=5e-6, steps=1_000_000, molecules=20, side=8.0, crossing=500e-6, brightness=100_000):
+def diffusion(path: Any, step: float = 5e-6, steps: int = 1_000_000, molecules: int = 20, side: float = 8.0, crossing: float = 500e-6, brightness: int = 100_000) -> None:
     """A plane of ``side`` radii of the focus, that goes on at its edges; a molecule in the middle gives ``brightness``."""
     draws, light = np.random.default_rng(3), np.empty(steps)
     places = draws.uniform(0, side, (2, molecules, 1))
@@ -71,7 +72,7 @@ def diffusion(path, step=5e-6, steps=1_000_000, molecules=20, side=8.0, crossing
     write(path, "HydraHarp2T2", times, draws.integers(0, 2, len(times)) << 25, 1e-9)
 
 
-def molecules(path, many=400, photons=120):
+def molecules(path: Any, many: int = 400, photons: int = 120) -> None:
     draws = np.random.default_rng(4)
     efficiency = np.where(np.arange(many) % 2, 0.2, 0.7)[:, None]
     times = 100_000 * np.arange(many)[:, None] + draws.integers(0, 10_000, (many, photons))
@@ -83,7 +84,7 @@ def molecules(path, many=400, photons=120):
         (times, noise), (inputs, draws.integers(0, 2, 4000)), (ticks, draws.integers(0, PERIOD, 4000)))))  # fmt: skip
 
 
-def two_ways(path, size=64, dwell=8.4, late=12.6, between=700):
+def two_ways(path: Any, size: int = 64, dwell: float = 8.4, late: float = 12.6, between: int = 700) -> None:
     draws, line = np.random.default_rng(5), size * dwell
     starts = between * np.arange(2 * size)
     at = draws.uniform(0, size, (2 * size, 2000))  # the place of a photon along its line, in pixels, from the left
@@ -99,5 +100,6 @@ def two_ways(path, size=64, dwell=8.4, late=12.6, between=700):
 
 
 if __name__ == "__main__":
-    for make in (emitter, response, diffusion, molecules, two_ways):
+    makers: tuple[Any, ...] = (emitter, response, diffusion, molecules, two_ways)
+    for make in makers:
         make(os.path.join(sys.argv[1], f"{make.__name__}.ptu"))

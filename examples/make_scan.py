@@ -14,6 +14,8 @@ import math
 import random
 import struct
 import sys
+from collections.abc import Iterator
+from typing import Any
 
 SIZE = 64  # pixels of a line, and lines of a frame
 FRAMES = 2
@@ -29,12 +31,12 @@ BEADS = [(24, 26, 3.0, 0.50), (41, 29, 2.5, 0.35), (31, 41, 3.5, 0.25)]
 RING = (32, 32, 22.0, 1.8, 0.16)
 
 
-def glow(distance, width):
+def glow(distance: Any, width: Any) -> Any:
     return math.exp(-((distance / width) ** 2))
 
 
 @functools.cache
-def brightness(x, y):
+def brightness(x: Any, y: Any) -> Any:
     """Photons in a sync period at a place: of the ring, and of the beads."""
     column, row, radius, width, bright = RING
     ring = bright * glow(math.hypot(x - column, y - row) - radius, width)
@@ -42,7 +44,7 @@ def brightness(x, y):
     return ring, beads
 
 
-def photon(draws, x, y):
+def photon(draws: Any, x: Any, y: Any) -> Any:
     """The dtime of a photon of this sync period, or None where none comes."""
     ring, beads = brightness(x, y) if x is not None else (0.0, 0.0)
     draw = draws.random()
@@ -57,7 +59,7 @@ def photon(draws, x, y):
     return int(delay % SYNC / TICK)
 
 
-def events():
+def events() -> Iterator[Any]:
     """Each photon and marker: its sync period, and its word but for the sync."""
     draws = random.Random(64)
     sync = 0
@@ -73,7 +75,7 @@ def events():
             sync += 1
 
 
-def records():
+def records() -> Iterator[Any]:
     """The words of all events, with the wraps between them."""
     wraps = 0
     for sync, word in events():
@@ -83,11 +85,11 @@ def records():
         yield word | sync % 1024
 
 
-def tag(name, kind, value):
+def tag(name: str, kind: int, value: bytes) -> bytes:
     return struct.pack("<32siI", name.encode(), -1, kind) + value
 
 
-def header(count):
+def header(count: Any) -> Any:
     return b"".join(
         [
             b"PQTTTR\0\0" + b"1.0.00\0\0",

@@ -8,6 +8,8 @@ come to the inputs 0 and 1 alike, but the cable of the input 1 is 8 ns longer. T
 
 import random
 import sys
+from collections.abc import Iterator
+from typing import Any
 
 from made_file import marker, photon, records, write
 
@@ -17,12 +19,12 @@ LATE = 160  # ticks that the input 1 is behind
 GROUND, BRIGHT = 0.002, 0.08  # photons in a sync period
 
 
-def shines(x, y):
+def shines(x: Any, y: Any) -> Any:
     """Whether the letter stands at a column and a row."""
     return 6 <= y < 42 and (10 <= x < 18 or (x >= 10 and (y < 14 and x < 36 or 22 <= y < 29 and x < 30)))
 
 
-def events():
+def events() -> Iterator[Any]:
     draws, kind = random.Random(7), "HydraHarp2T3"
     for y in range(SIZE):
         yield y * SIZE * DWELL, marker(1)

@@ -13,6 +13,7 @@ import os
 import subprocess
 import sys
 import tempfile
+from typing import Any
 
 import matplotlib
 
@@ -32,31 +33,31 @@ from ptulab.fits import g2  # noqa: E402
 HERE = os.path.dirname(os.path.abspath(__file__))
 
 
-def decay(report, axes):
+def decay(report: Any, axes: Any) -> None:
     table = report.table("histogram")
     axes.semilogy(table.seconds * 1e9, np.maximum(table.counts, 0.5), drawstyle="steps-post")
     axes.set(xlabel="delay after the sync (ns)", ylabel="photons")
 
 
-def trace(report, axes):
+def trace(report: Any, axes: Any) -> None:
     table = report.table("trace")
     width = table.settings["width"] * report.head["global"]
     axes.plot(table.seconds * 1e3, table.counts / width / 1e3, drawstyle="steps-post")
     axes.set(xlabel="time (ms)", ylabel="rate (1000/s)")
 
 
-def image(report, axes):
+def image(report: Any, axes: Any) -> None:
     axes.imshow(report.table("image").counts, cmap="gray", interpolation="nearest")
     axes.set(xlabel="column", ylabel="row")
 
 
-def startstop(report, axes):
+def startstop(report: Any, axes: Any) -> None:
     table = report.table("startstop")
     axes.plot(table.seconds * 1e9, table.counts, drawstyle="steps-post")
     axes.set(xlabel="time from a photon of input 1 to the next of input 2 (ns)", ylabel="pairs")
 
 
-def coincidence(report, axes):
+def coincidence(report: Any, axes: Any) -> None:
     table = report.table("coincidence")
     first, second = (int(report.table("trace", number).counts[0]) for number in (1, 2))
     length = report.head["last"] - report.head["first"]
@@ -65,7 +66,7 @@ def coincidence(report, axes):
     axes.set(xlabel="difference (ns)", ylabel="g2", ylim=(0, None))
 
 
-def correlation(report, axes):
+def correlation(report: Any, axes: Any) -> None:
     table = report.table("correlation")
     photons_of = [int(report.table("trace", number).counts[0]) for number in (1, 2)]
     axes.semilogx(table.seconds, table.normalised(*photons_of), ".-")
@@ -73,7 +74,7 @@ def correlation(report, axes):
     axes.set(xlabel="lag (s)", ylabel="G", ylim=(0, 3))
 
 
-def lifetimes(report, axes, pulse=2e-9, least=25):
+def lifetimes(report: Any, axes: Any, pulse: float = 2e-9, least: int = 25) -> None:
     """The mean delay of each pixel after the pulse, of those with enough photons."""
     table = report.table("cube")
     delays = table.mean_delays() * report.head["resolution"] - pulse
@@ -84,7 +85,7 @@ def lifetimes(report, axes, pulse=2e-9, least=25):
     axes.set(xlabel="column", ylabel="row", facecolor="0.9")
 
 
-def antibunching(report, axes):
+def antibunching(report: Any, axes: Any) -> None:
     table = report.table("coincidence")
     values, bars = g2(table)
     axes.errorbar(table.seconds * 1e9, values, bars, fmt=".", markersize=3, linewidth=0.7)
@@ -92,7 +93,7 @@ def antibunching(report, axes):
     axes.set(xlabel="delay (ns)", ylabel="g2", ylim=(0, None))
 
 
-def diffusion(report, axes):
+def diffusion(report: Any, axes: Any) -> None:
     """A correlation with its bars, from where these are small."""
     table = report.table("correlation")
     values, bars = g2(table)
@@ -102,7 +103,7 @@ def diffusion(report, axes):
     axes.set(xlabel="delay (s)", ylabel="G", xscale="log")
 
 
-def overview(folder, program):
+def overview(folder: str, program: str) -> None:
     """What the three recipes of the README count."""
     with tempfile.TemporaryDirectory() as made:
         molecules, pairs = os.path.join(made, "diffusion.ptu"), os.path.join(made, "steady.ptu")
@@ -112,13 +113,14 @@ def overview(folder, program):
         reports = [report_of(program, plan, data) for plan, data in files.items()]
     figure, axes = plt.subplots(1, 3, figsize=(12, 3.4), layout="constrained")
     titles = "average arrival times of a scan", "correlation of diffusing molecules", "antibunching of one emitter"
-    for draw_one, report, title, place in zip((lifetimes, diffusion, antibunching), reports, titles, axes, strict=True):
+    pictures: tuple[Any, ...] = (lifetimes, diffusion, antibunching)
+    for draw_one, report, title, place in zip(pictures, reports, titles, axes, strict=True):
         draw_one(report, place)
         place.set_title(title)
     figure.savefig(os.path.join(folder, "overview.png"), dpi=90, metadata={"Software": None})
 
 
-def bursts(folder, program):
+def bursts(folder: str, program: str) -> None:
     """Two seconds of single molecules by milliseconds, and how many bins have how many photons, beside what the
     background alone would give."""
     with tempfile.NamedTemporaryFile(suffix=".ptu") as data, tempfile.NamedTemporaryFile() as lines:
@@ -131,7 +133,7 @@ def bursts(folder, program):
     counts[table.bins[seen]] = table.counts[seen]
     left.plot(np.arange(len(counts)) / 1000, counts, linewidth=0.6)
     left.set(xlabel="time (s)", ylabel="photons in a millisecond")
-    often = np.trim_zeros(table.frequencies, "b")
+    often = np.trim_zeros(np.asarray(table.frequencies), "b")
     right.semilogy(often, ".", label="counted")
     mean = make_bursts.BACKGROUND / 1000
     few = np.arange(12)
@@ -142,19 +144,19 @@ def bursts(folder, program):
     figure.savefig(os.path.join(folder, "bursts.png"), dpi=90, metadata={"Software": None})
 
 
-def report_of(program, plan, data):
+def report_of(program: str, plan: Any, data: Any) -> Any:
     run = subprocess.run([program, "run", os.path.join(HERE, plan), data], check=True, capture_output=True, text=True)
     return read_report(run.stdout, os.path.join(HERE, plan))
 
 
-def draw(folder, report, plots):
+def draw(folder: str, report: Any, plots: Any) -> None:
     for plot in plots:
         figure, axes = plt.subplots(figsize=(5, 3.2), layout="constrained")
         plot(report, axes)
         figure.savefig(os.path.join(folder, f"{plot.__name__}.png"), dpi=90, metadata={"Software": None})
 
 
-def main():
+def main() -> None:
     folder = sys.argv[1]
     program = sys.argv[2] if len(sys.argv) > 2 else os.path.join(os.path.dirname(HERE), "ptu")
     draw(folder, report_of(program, "scan.toml", os.path.join(HERE, "scan.ptu")), (decay, trace, image))

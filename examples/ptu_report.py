@@ -21,7 +21,8 @@ from typing import Any
 import numpy as np
 
 sys.path.append(str(Path(__file__).resolve().parents[1] / "python" / "src"))  # where ptulab isn't installed
-from ptulab import PtulabError, Report, Table, read_report  # noqa: E402
+from ptulab import PtulabError, Report, Table  # noqa: E402
+from ptulab import read_report as read_report  # noqa: E402
 from ptulab.exports import written_whole  # noqa: E402
 from ptulab.fits import g2  # noqa: E402
 

@@ -6,6 +6,8 @@ import json
 import os
 import subprocess
 import sys
+from pathlib import Path
+from typing import Any
 
 import pytest
 
@@ -47,15 +49,15 @@ levels = 2
 """
 
 
-def run(*words):
+def run(*words: Any) -> Any:
     return subprocess.run([PTU, *words], check=True, capture_output=True, text=True).stdout
 
 
-def script(*words, **more):
-    return subprocess.run([sys.executable, f"{ROOT}/examples/ptu_report.py", *map(str, words)], capture_output=True, text=True, **more)
+def script(*words: Any, **more: Any) -> Any:
+    return subprocess.run([sys.executable, f"{ROOT}/examples/ptu_report.py", *map(str, words)], capture_output=True, text=True, **more, check=False)
 
 
-def pairs(folder, plan=PAIRS, times=([0, 1], [3, 4, 6, 7, 8])):
+def pairs(folder: Path, plan: Any = PAIRS, times: Any = ([0, 1], [3, 4, 6, 7, 8])) -> Any:
     """The text of the report of a plan over photons of two inputs at these times, which is in report.txt too."""
     (folder / "plan.toml").write_text(plan)
     write(folder / "data.ptu", "HydraHarp2T2", t2_words(*times), tick=1e-12)
@@ -64,12 +66,12 @@ def pairs(folder, plan=PAIRS, times=([0, 1], [3, 4, 6, 7, 8])):
     return text
 
 
-def rows(folder, name):
-    with open(folder / name, newline="") as file:
+def rows(folder: Path, name: str) -> Any:
+    with open(folder / name, newline="", encoding="utf-8") as file:
         return list(csv.reader(file))
 
 
-def test_files_of_each_table(tmp_path):
+def test_files_of_each_table(tmp_path: Path) -> None:
     text = pairs(tmp_path)
     said = script("-", "--csv", tmp_path / "some", input=text)
     assert (said.returncode, said.stdout, said.stderr) == (0, "", "")
@@ -80,7 +82,7 @@ def test_files_of_each_table(tmp_path):
     assert rows(tmp_path / "some", "correlation_1.csv")[0] == ["ticks", "seconds", "level", "count"]
 
 
-def test_a_curve_by_its_plan(tmp_path):
+def test_a_curve_by_its_plan(tmp_path: Path) -> None:
     pairs(tmp_path)
     assert script(tmp_path / "report.txt", "--plan", tmp_path / "plan.toml", "--csv", tmp_path / "some").returncode == 0
     curve = rows(tmp_path / "some", "correlation_1.csv")
@@ -89,7 +91,7 @@ def test_a_curve_by_its_plan(tmp_path):
     assert curve[5][:4] == ["6", "6e-12", "1", "4"] and float(curve[5][4]) == pytest.approx(4 * 64 / 40)
 
 
-def test_g2_of_a_report_by_its_plan(tmp_path):
+def test_g2_of_a_report_by_its_plan(tmp_path: Path) -> None:
     """With the two traces that tell the photons a coincidence has g2 and its bar, worked out by hand, and without them none."""
     pairs(tmp_path)
     assert script(tmp_path / "report.txt", "--plan", tmp_path / "plan.toml", "--csv", tmp_path / "some").returncode == 0
@@ -105,11 +107,11 @@ def test_g2_of_a_report_by_its_plan(tmp_path):
     assert rows(tmp_path / "none", "coincidence_1.csv")[0] == ["ticks", "seconds", "count"]
 
 
-def written(table):
+def written(table: Any) -> Any:
     return [line.split(",") for line in "".join(lines(table)).splitlines()]
 
 
-def test_tables_of_a_scan():
+def test_tables_of_a_scan() -> None:
     """Every cell has a row."""
     cube = read_report(run("run", f"{ROOT}/examples/lifetimes.toml", f"{ROOT}/examples/scan.ptu")).table("cube")
     names, *cells = written(cube)
@@ -122,14 +124,14 @@ def test_tables_of_a_scan():
     assert names == ["row", "column", "count"] and cells[25 * 64 + 24] == ["25", "24", "296"] and len(cells) == 64 * 64
 
 
-def test_a_fold_by_its_groups(tmp_path):
+def test_a_fold_by_its_groups(tmp_path: Path) -> None:
     plan = "version = 2\ngroup = [{ inputs = [2] }, { inputs = [1] }, { inputs = [2] }]\nfold = [{ groups = [2, 3], window = 4 }]\n"
     text = pairs(tmp_path, plan, ([0], [4, 9]))
     fold = read_report(text, str(tmp_path / "plan.toml")).table("fold")
     assert list("".join(lines(fold)).splitlines()) == ["set,groups,count", "0,,0", "1,2,0", "2,3,2", "3,2 3,1"]
 
 
-def test_all_of_a_report_as_json(tmp_path):
+def test_all_of_a_report_as_json(tmp_path: Path) -> None:
     pairs(tmp_path)
     assert script(tmp_path / "report.txt", "--json", tmp_path / "report.json").returncode == 0
     told = json.loads((tmp_path / "report.json").read_text())
@@ -139,7 +141,7 @@ def test_all_of_a_report_as_json(tmp_path):
     assert told["tables"][2]["over"] == 0
 
 
-def test_a_page_of_each_report(tmp_path):
+def test_a_page_of_each_report(tmp_path: Path) -> None:
     pytest.importorskip("plotly")
     pairs(tmp_path)
     said = script(tmp_path / "report.txt", "--plan", tmp_path / "plan.toml", "--page", tmp_path / "page.html")
@@ -149,11 +151,12 @@ def test_a_page_of_each_report(tmp_path):
     assert "correlation 1" in page and "coincidence 1" in page
 
 
-def test_a_text_that_is_no_report(tmp_path):
+def test_a_text_that_is_no_report(tmp_path: Path) -> None:
     with pytest.raises(ValueError):
         read_report("ptu: plan is not TOML\n")
     (tmp_path / "empty.txt").write_text("")
-    said = [script(tmp_path / "empty.txt", *more) for more in (["--csv", tmp_path], [], ["--csv", tmp_path, "--plan", tmp_path / "none"])]
+    words: list[list[Any]] = [["--csv", tmp_path], [], ["--csv", tmp_path, "--plan", tmp_path / "none"]]
+    said = [script(tmp_path / "empty.txt", *more) for more in words]
     assert [one.returncode for one in said] == [1, 2, 1]
     assert said[0].stderr == f"ptu_report.py: {tmp_path}/empty.txt: this is no report of ptu run\n"
     assert "say what to make" in said[1].stderr and "No such file" in said[2].stderr

@@ -1,7 +1,5 @@
 """Fixtures of all tests: the program, and small files."""
 
-import os
-import shutil
 import subprocess
 from collections.abc import Callable, Iterable
 from pathlib import Path
@@ -10,24 +8,22 @@ from typing import Any
 import made
 import pytest
 
+import ptulab
+
 ROOT = Path(__file__).resolve().parents[2]  # the checkout
 EXAMPLES = ROOT / "examples"
 
 
 @pytest.fixture(scope="session")
 def program() -> str:
-    """The path of ptu: that of PTU, out/ptu of the checkout, or the one on the PATH."""
-    built = ROOT / "out" / "ptu"
-    found = os.environ.get("PTU") or (str(built) if built.is_file() else shutil.which("ptu"))
-    if not found:
-        pytest.skip("there is no program ptu: name it by the environment variable PTU")
-    return found
+    """The path of ptu: the one that the package finds, which PTU names in the gate."""
+    return ptulab.find_program()
 
 
 @pytest.fixture
 def ptu(program: str) -> Callable[..., subprocess.CompletedProcess[str]]:
     """Calls the program with these words, whatever its end."""
-    return lambda *words: subprocess.run([program, *map(str, words)], capture_output=True, text=True)
+    return lambda *words: subprocess.run([program, *map(str, words)], capture_output=True, text=True, check=False)
 
 
 @pytest.fixture

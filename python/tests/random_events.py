@@ -4,6 +4,7 @@ Hypothesis chooses how many there are and a seed, since lists that it draws one 
 """
 
 import random
+from typing import Any
 
 import made
 import numpy as np
@@ -12,7 +13,7 @@ from hypothesis import strategies as st
 UNIT = 1024  # what a wrap of HydraHarp2T3 adds
 
 
-def in_order_but_few(steps):
+def in_order_but_few(steps: Any) -> Any:
     """Absolute times of steps of which some go back, never over a wrap."""
     time, events = 0, []
     for step, *rest in steps:
@@ -24,7 +25,7 @@ def in_order_but_few(steps):
     return events
 
 
-def some(many, seed, markers, back):
+def some(many: Any, seed: int, markers: Any, back: Any) -> Any:
     """So many events, of which this part are markers, and this part go back in time."""
     draws = random.Random(seed)
     near = draws.choice((2, 6, 30))
@@ -36,7 +37,7 @@ def some(many, seed, markers, back):
     return in_order_but_few(steps)
 
 
-def events(markers, back):
+def events(markers: Any, back: Any) -> Any:
     return st.builds(some, st.integers(0, 250), st.integers(0, 2**32), st.just(markers), st.just(back))
 
 
@@ -45,7 +46,7 @@ streams = events(0.0, 0.03)
 rising = events(0.0, 0.0).map(lambda these: [(0, 1)] + [(time, number + 1) for time, number, _ in these])
 
 
-def _times(many, seed):
+def _times(many: Any, seed: int) -> Any:
     draws = np.random.default_rng(seed)
     return np.cumsum(draws.integers(0, np.where(draws.random(many) < 0.9, 4, 41)), dtype=np.int64)
 

@@ -1,4 +1,7 @@
-import made
+from collections.abc import Callable
+from pathlib import Path
+from typing import Any
+
 import numpy as np
 import pytest
 import random_events
@@ -9,7 +12,8 @@ import ptulab
 from ptulab.bursts import find_bursts, fret, fused, photons_in
 from ptulab.groups import Group, photons_of
 
-def searched(times, minimum, m, longest):
+
+def searched(times: Any, minimum: int, m: int, longest: float) -> Any:
     """The search photon by photon, as FRETBursts tells it."""
     bursts, start = [], None
     for i in range(len(times) - m + 1):
@@ -25,14 +29,14 @@ def searched(times, minimum, m, longest):
 
 @settings(max_examples=80, deadline=None)
 @given(random_events.times, st.integers(1, 30), st.integers(2, 8), st.floats(0.05, 3), st.sampled_from([-1, 0]))
-def test_bursts_are_those_of_the_plain_search(times, minimum, m, rate, c):
+def test_bursts_are_those_of_the_plain_search(times: Any, minimum: int, m: int, rate: float, c: float) -> None:
     ours = find_bursts(times, rate, minimum=minimum, m=m, c=c)
     assert ours.tolist() == searched(times.tolist(), minimum, m, (m - 1 - c) / rate)
 
 
 @settings(max_examples=60, deadline=None)
 @given(random_events.times, st.integers(0, 30), st.floats(0.2, 2))
-def test_fused_bursts_are_apart(times, gap, rate):
+def test_fused_bursts_are_apart(times: Any, gap: int, rate: float) -> None:
     bursts = find_bursts(times, rate, minimum=3, m=3)
     expected = []
     for one in bursts.tolist():
@@ -43,7 +47,7 @@ def test_fused_bursts_are_apart(times, gap, rate):
     assert fused(bursts, gap).tolist() == expected
 
 
-def molecules(seed=3):
+def molecules(seed: int = 3) -> Any:
     """Two kinds of molecules on a background, of T3: E of 0.2 and 0.7, S of a half; the ticks 0 to 99 excite the donor."""
     draws = np.random.default_rng(seed)
     events = [(int(time), int(number), int(dtime)) for time, number, dtime in zip(
@@ -56,7 +60,7 @@ def molecules(seed=3):
     return sorted(events)
 
 
-def test_two_kinds_of_molecules_are_told_apart(make_file):
+def test_two_kinds_of_molecules_are_told_apart(make_file: Callable[..., Path]) -> None:
     photons = photons_of(make_file("HydraHarp2T3", molecules(), tick=1e-6))
     bursts = fused(find_bursts(photons["time"], 20_000, minimum=50, unit_seconds=1e-6))
     assert len(bursts) == 400 and (np.diff(bursts["start"]) > 90_000).all()
@@ -72,7 +76,7 @@ def test_two_kinds_of_molecules_are_told_apart(make_file):
     assert both.sum() == 400 and (both.sum(axis=0) == result.histogram(24)[0]).all()
 
 
-def test_corrections_of_e_and_s():
+def test_corrections_of_e_and_s() -> None:
     counts = [np.array([100, 0, 40]), np.array([50, 0, 80]), np.array([60, 0, 20])]
     plain = fret(*counts)
     assert plain.E[0] == pytest.approx(1 / 3) and plain.S[0] == pytest.approx(150 / 210) and np.isnan(plain.E[1])
@@ -86,7 +90,7 @@ def test_corrections_of_e_and_s():
         fret(*counts, gamma=0)
 
 
-def test_searches_that_cannot_be():
+def test_searches_that_cannot_be() -> None:
     times = np.array([1, 2, 3])
     for bad in ((0.0, 10), (1.0, 1)):
         with pytest.raises(ValueError):

@@ -1,6 +1,9 @@
 """Plans as documents: what the program reads as TOML is read here, and nothing else."""
 
 import pytest
+from collections.abc import Callable
+from pathlib import Path
+from typing import Any
 
 from ptulab._documents import LONGEST, older, read_plan
 from ptulab.errors import BadPlan
@@ -51,27 +54,27 @@ BAD = [
 
 
 @pytest.mark.parametrize("text", GOOD + ODD)
-def test_what_the_program_reads(tmp_path, ptu, text):
+def test_what_the_program_reads(tmp_path: Path, ptu: Callable[..., Any], text: bytes) -> None:
     (tmp_path / "plan.toml").write_bytes(text)
     assert ptu("run", tmp_path / "plan.toml", "/dev/null").returncode == (11 if text in GOOD else 8)
     assert read_plan(tmp_path / "plan.toml") == read_plan(text)
 
 
 @pytest.mark.parametrize("text", BAD)
-def test_what_the_program_does_not_read(tmp_path, ptu, text):
+def test_what_the_program_does_not_read(tmp_path: Path, ptu: Callable[..., Any], text: bytes) -> None:
     (tmp_path / "plan.toml").write_bytes(text)
     assert ptu("run", tmp_path / "plan.toml", "/dev/null").returncode == 7
     with pytest.raises(BadPlan, match="not TOML"):
         read_plan(text)
 
 
-def test_values_of_the_newer_words():
+def test_values_of_the_newer_words() -> None:
     plan = read_plan(b'\xef\xbb\xbforder = "\\x64\\e"\ngroup = [{\n inputs = [0, 1,], # remark\n}]\n')
     assert plan == {"order": "d\x1b", "group": [{"inputs": [0, 1]}]}
     assert older("a = { b = 1,\n}") == "a = { b = 1  }\n"
 
 
-def test_a_plan_that_is_too_long(tmp_path, ptu):
+def test_a_plan_that_is_too_long(tmp_path: Path, ptu: Callable[..., Any]) -> None:
     (tmp_path / "plan.toml").write_bytes(b"#" * (LONGEST + 1))
     assert ptu("run", tmp_path / "plan.toml", "/dev/null").returncode == 6
     with pytest.raises(BadPlan, match="longer than 65536 bytes"):
@@ -79,6 +82,6 @@ def test_a_plan_that_is_too_long(tmp_path, ptu):
     assert read_plan(b"#" * LONGEST) == {}
 
 
-def test_the_line_that_is_told_is_that_of_the_plan():
+def test_the_line_that_is_told_is_that_of_the_plan() -> None:
     with pytest.raises(BadPlan, match="line 5"):
         read_plan(b"group = [{\n inputs = [0],\n}]\n\norder = drop\n")

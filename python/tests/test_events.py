@@ -2,11 +2,13 @@
 
 import math
 import os
+import pickle
 import re
 import struct
 import subprocess
 import sys
 import tempfile
+import tracemalloc
 from collections.abc import Callable
 from datetime import datetime
 from pathlib import Path
@@ -27,14 +29,14 @@ from ptulab import events as module
 def lines(array: Any) -> list[str]:
     """Events as the program prints them."""
     said = []
-    for record, time, dtime, number, marker, late in array.tolist():
+    for record, time, dtime, number, marker, late in np.asarray(array).tolist():
         kind, more = ("marker", "") if marker else ("photon", f" {dtime}")
         said.append(f"{record} {kind} {number} {time}{more}{' late' if late else ''}")
     return said
 
 
 def printed(program: str, path: Path) -> subprocess.CompletedProcess[str]:
-    return subprocess.run([program, "events", str(path)], capture_output=True, text=True)
+    return subprocess.run([program, "events", str(path)], capture_output=True, text=True, check=False)
 
 
 def ended(path: Path, **bounds: Any) -> tuple[list[str], int, str]:
@@ -63,9 +65,9 @@ def agrees(program: str, path: Path) -> None:
 
 
 # Words of which a good part is wraps, markers and photons near them, and which have all bits.
-PICO = st.builds(lambda high, low: high << 28 | low, st.sampled_from([0, 1, 4, 5, 14, 15, 15, 15]), st.integers(0, 2**28 - 1))
-LOW = st.builds(lambda high, low: high << 28 | low, st.just(15), st.sampled_from([0, 0, 1, 15, 0x10000, 0xF0000, 0xFFF0]))
-HYDRA = st.builds(
+PICO: Any = st.builds(lambda high, low: high << 28 | low, st.sampled_from([0, 1, 4, 5, 14, 15, 15, 15]), st.integers(0, 2**28 - 1))
+LOW: Any = st.builds(lambda high, low: high << 28 | low, st.just(15), st.sampled_from([0, 0, 1, 15, 0x10000, 0xF0000, 0xFFF0]))
+HYDRA: Any = st.builds(
     lambda special, channel, low: special << 31 | channel << 25 | low,
     st.integers(0, 1),
     st.sampled_from([0, 1, 15, 16, 62, 63, 63]),
@@ -195,10 +197,53 @@ def test_pieces_of_any_size(make_file: Callable[..., Path], record_type: str, mo
         assert np.array_equal(ptulab.read_events(path, start=start, stop=stop).array, part)
 
 
+@pytest.mark.parametrize(("record_type", "bytes_an_event"), [("MultiHarpT3", 14), ("MultiHarpT2", 10)])
+def test_events_are_columns(make_file: Callable[..., Path], record_type: str, bytes_an_event: int) -> None:
+    """Each column is of its own, in order and aligned; beside them a record has one bit, and rows are made when asked for."""
+    dtime = (9,) if record_type.endswith("T3") else ()
+    path = make_file(record_type, [(7 * time, 1, *dtime) for time in range(40_000)])
+    records = ptulab.read_header(path).records
+    ptulab.read_events(path)
+    tracemalloc.start()
+    try:
+        events = ptulab.read_events(path)
+        held = tracemalloc.get_traced_memory()[0]
+    finally:
+        tracemalloc.stop()
+    assert held < bytes_an_event * 40_000 + records / 8 + 20_000
+    columns: tuple[Any, ...] = (events.times, events.numbers, events.flags)
+    for column in columns:
+        assert column.shape == (40_000,) and column.flags.c_contiguous and column.flags.aligned
+    rows = events.array
+    assert rows.dtype == ptulab.EVENT and rows.flags.aligned and all(np.array_equal(rows[name], events[name]) for name in ptulab.EVENT.names or ())
+    assert np.array_equal(events["record"], events.records) and int(events.records[-1]) == records
+
+
+def test_a_part_of_events(make_file: Callable[..., Path]) -> None:
+    """By a mask, a slice, places and one place, with the numbers of their records, also when they were pickled."""
+    some = [(300 * place, made.Bits(5) if place % 7 == 3 else place % 3, 0 if place % 7 == 3 else place) for place in range(200)]
+    for path in (make_file("HydraHarpT3", some), make_file("MultiHarpT2", [event[:2] for event in some])):
+        events = ptulab.read_events(path)
+        rows = events.array
+        order = np.argsort(rows["number"], kind="stable")
+        keys: tuple[Any, ...] = (rows["marker"], rows["time"] > 9000, slice(20, 170), slice(None, None, -3), order)
+        for key in keys:
+            part = pickle.loads(pickle.dumps(events[key]))
+            assert np.array_equal(part.array, rows[key]) and part.header == events.header
+            assert np.array_equal(part[part.numbers == 1].array, rows[key][rows[key]["number"] == 1])
+        assert events[5] == rows[5] and events[-1] == rows[-1] and [row.tolist() for row in events] == rows.tolist()
+        with pytest.raises(IndexError):
+            events[200]
+        assert module.events_of(rows, events.header) == events and module.events_of(events) is events
+        both = module.joined([events[:50], events[50:]])
+        assert both == events and np.array_equal(both.records, events.records)
+        assert len(module.joined([])) == 0 and np.concatenate([events[:9], events[9:]]).tolist() == rows.tolist()
+
+
 def test_photons_and_markers_that_are_not_late(make_file: Callable[..., Path]) -> None:
     events = ptulab.read_events(make_file("MultiHarpT3", [(20, 1, 7), (21, made.Bits(5)), (15, 2, 7), (22, 63, 32767)], tick=50e-9, resolution=4e-12))
     assert events.photons["number"].tolist() == [1, 63] and events.photons["dtime"].tolist() == [7, 32767]
-    assert events.markers.tolist() == [(2, 21, 0, 5, True, False)]
+    assert events.markers.array.tolist() == [(2, 21, 0, 5, True, False)]
     assert (events.header.global_seconds, events.header.resolution_seconds) == (50e-9, 4e-12)
 
 
@@ -263,7 +308,8 @@ def test_a_long_header(tmp_path: Path, program: str) -> None:
 
 def test_bounds_that_are_none(make_file: Callable[..., Path]) -> None:
     path = make_file("HydraHarp2T3", [(1, 0)])
-    for bounds in ({"start": -1}, {"start": 2, "stop": 1}):
+    some: tuple[dict[str, Any], ...] = ({"start": -1}, {"start": 2, "stop": 1})
+    for bounds in some:
         with pytest.raises(ValueError):
             ptulab.read_events(path, **bounds)
     with pytest.raises(ValueError):
@@ -276,7 +322,7 @@ def test_paths_that_are_no_file(tmp_path: Path) -> None:
     with pytest.raises(IsADirectoryError):
         ptulab.read_events(tmp_path)
     os.mkfifo(tmp_path / "pipe")
-    for path, status in (("/dev/null", 11), (tmp_path / "pipe", 3)):
+    for path, status in ((Path("/dev/null"), 11), (tmp_path / "pipe", 3)):
         with pytest.raises(BadFile) as fault:
             ptulab.read_events(path)
         assert fault.value.status == status

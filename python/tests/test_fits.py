@@ -1,5 +1,9 @@
 import sys
+import tracemalloc
 import types
+from collections.abc import Callable
+from pathlib import Path
+from typing import Any, Literal
 
 import lmfit
 import made
@@ -7,6 +11,8 @@ import numpy as np
 import pytest
 from hypothesis import given, settings
 from hypothesis import strategies as st
+from lmfit import lineshapes
+from scipy import stats
 
 import ptulab
 from ptulab import fits, segments
@@ -18,7 +24,7 @@ WIDTH, PERIOD = 0.05, 25.0  # nanoseconds of a bin and of the excitation's perio
 BINS = round(PERIOD / WIDTH)
 
 
-def decayed(seed, lifetimes, parts, photons, background=0.0, late=0.0, wide=0.12, pulse_at=2.0):
+def decayed(seed: int, lifetimes: list[float], parts: list[float], photons: int, background: float = 0.0, late: float = 0.0, wide: float = 0.12, pulse_at: float = 2.0) -> Any:
     """Histograms of a decay and of the pulse, photon by photon: a pulse, an exponential delay, the time in its period."""
     draws = np.random.default_rng(seed)
     pulse = draws.normal(pulse_at, wide, photons * 5)
@@ -29,11 +35,11 @@ def decayed(seed, lifetimes, parts, photons, background=0.0, late=0.0, wide=0.12
     return np.histogram(np.concatenate((delays % PERIOD, noise)), edges)[0], np.histogram(pulse % PERIOD, edges)[0]
 
 
-def within(fit, name, known, errors=4):
+def within(fit: fits.Fit, name: str, known: float, errors: float = 4) -> bool:
     return abs(fit.values[name] - known) < errors * fit.errors[name]
 
 
-def test_a_tail_tells_its_lifetime():
+def test_a_tail_tells_its_lifetime() -> None:
     counts, _ = decayed(1, [2.6], [1.0], 100_000, background=3.0)
     axis = np.arange(BINS) * WIDTH
     fit = fits.fit_tail(counts, axis, 3.0, stop=20.0)
@@ -42,18 +48,7 @@ def test_a_tail_tells_its_lifetime():
     assert len(fit.curve) == len(fit.data) == len(fit.residuals)
 
 
-def test_errors_of_a_tail_are_those_of_its_scatter():
-    """The errors that are told are as the scatter of fits of other measurements, also at few photons."""
-    axis = np.arange(BINS) * WIDTH
-    for photons in (2_000, 50_000):
-        found = [fits.fit_tail(decayed(seed, [2.6], [1.0], photons, background=0.2)[0], axis, 3.0) for seed in range(20)]
-        times = np.array([fit.values["lifetime_1"] for fit in found])
-        told = np.median([fit.errors["lifetime_1"] for fit in found])
-        assert abs(times.mean() - 2.6) < 4 * times.std() / np.sqrt(20) + 0.01
-        assert 0.6 < told / times.std(ddof=1) < 1.6
-
-
-def test_two_terms_of_a_tail():
+def test_two_terms_of_a_tail() -> None:
     counts, _ = decayed(2, [0.6, 4.0], [0.5, 0.5], 1_000_000)
     fit = fits.fit_tail(counts, np.arange(BINS) * WIDTH, 2.5, stop=22.0, terms=2)
     times = sorted(fit.values[f"lifetime_{n}"] for n in (1, 2))
@@ -61,7 +56,7 @@ def test_two_terms_of_a_tail():
     assert fits.mean_lifetime(fit) < fits.mean_lifetime(fit, by="intensity")
 
 
-def test_reconvolution_tells_lifetimes_as_short_as_the_pulse():
+def test_reconvolution_tells_lifetimes_as_short_as_the_pulse() -> None:
     for lifetime in (0.2, 3.0):
         counts, pulse = decayed(3, [lifetime], [1.0], 300_000, background=2.0, late=0.03)
         fit = fits.fit_reconvolution(counts, pulse, WIDTH, period=PERIOD)
@@ -70,7 +65,7 @@ def test_reconvolution_tells_lifetimes_as_short_as_the_pulse():
         assert fit.values["amplitude_1"] == pytest.approx(300_000, rel=0.01) and fit.reduced < 1.6
 
 
-def test_a_decay_runs_over_into_the_next_period_and_without_one_over_the_end():
+def test_a_decay_runs_over_into_the_next_period_and_without_one_over_the_end() -> None:
     counts, pulse = decayed(4, [9.0], [1.0], 500_000)
     held = fits.fit_reconvolution(counts, pulse, WIDTH, period=PERIOD, shift=False)
     assert held.values["lifetime_1"] == pytest.approx(9.0, rel=0.02) and held.values["shift"] == 0
@@ -80,7 +75,7 @@ def test_a_decay_runs_over_into_the_next_period_and_without_one_over_the_end():
     assert open_end.values["lifetime_1"] == pytest.approx(2.0, rel=0.03)
 
 
-def test_a_long_decay_without_a_period_is_cut_by_the_end():
+def test_a_long_decay_without_a_period_is_cut_by_the_end() -> None:
     draws, edges = np.random.default_rng(11), np.arange(BINS + 1) * WIDTH
     pulse = draws.normal(2.0, 0.12, 400_000)
     counts = np.histogram(draws.normal(2.0, 0.12, 400_000) + draws.exponential(12.0, 400_000), edges)[0]
@@ -88,7 +83,7 @@ def test_a_long_decay_without_a_period_is_cut_by_the_end():
     assert within(fit, "lifetime_1", 12.0) and within(fit, "amplitude_1", 400_000) and fit.errors["lifetime_1"] < 0.3
 
 
-def test_two_terms_of_a_reconvolution():
+def test_two_terms_of_a_reconvolution() -> None:
     counts, pulse = decayed(5, [0.5, 3.5], [0.4, 0.6], 1_000_000, background=1.0)
     fit = fits.fit_reconvolution(counts, pulse, WIDTH, period=PERIOD, terms=2)
     assert sorted(fit.values[f"lifetime_{n}"] for n in (1, 2)) == pytest.approx([0.5, 3.5], rel=0.06)
@@ -98,32 +93,32 @@ def test_two_terms_of_a_reconvolution():
 
 @settings(max_examples=50, deadline=None)
 @given(st.floats(0.05, 50), st.floats(0.01, 2))
-def test_bins_of_a_decay_are_its_integrals(lifetime, width):
+def test_bins_of_a_decay_are_its_integrals(lifetime: float, width: float) -> None:
     """Of a uniform excitation in bin 0: compared with a numeric integral, and all bins of a circle are the whole."""
-    decay = fits.decay_of_bins(lifetime, width, 40)
+    decay = fits.decay_of_bins(np.arange(40) * width, lifetime, width)
     places = (np.arange(400) + 0.5) / 400 * width
     edges = np.arange(1, 41)[:, None] * width - places
     until = 1 - np.exp(-edges / lifetime)
     numeric = np.diff(until, axis=0, prepend=0).mean(axis=1)
     assert np.allclose(decay, numeric, atol=1e-4, rtol=1e-3)
-    assert fits.decay_of_bins(lifetime, width, 40, 40 * width).sum() == pytest.approx(1, rel=1e-9)
+    assert fits.decay_of_bins(np.arange(40) * width, lifetime, width, 40 * width).sum() == pytest.approx(1, rel=1e-9)
 
 
-def test_a_decay_much_shorter_than_a_bin():
+def test_a_decay_much_shorter_than_a_bin() -> None:
     with np.errstate(over="raise", divide="raise", invalid="raise"):
         for period in (None, 4.0):
-            assert fits.decay_of_bins(1e-4, 1.0, 4, period) == pytest.approx([1 - 1e-4, 1e-4, 0, 0], rel=1e-12)
+            assert fits.decay_of_bins(np.arange(4.0), 1e-4, 1.0, period) == pytest.approx([1 - 1e-4, 1e-4, 0, 0], rel=1e-12)
 
 
 @settings(max_examples=200, deadline=None)
 @given(st.integers(0, 10**7), st.floats(0.01, 1e7))
-def test_residuals_are_those_of_the_likelihood(count, expected):
+def test_residuals_are_those_of_the_likelihood(count: int, expected: float) -> None:
     twice = 2 * (expected - count + (count * np.log(count / expected) if count else 0))
     ours = float(fits.deviance(np.array([float(count)]), np.array([expected]))[0])
     assert ours**2 == pytest.approx(twice, rel=1e-6, abs=1e-7 * max(count, 1)) and ours * (count - expected) >= 0
 
 
-def test_mean_arrivals_of_pixels(make_file):
+def test_mean_arrivals_of_pixels(make_file: Callable[..., Path]) -> None:
     events = [(0, made.Bits(1)), (1, 0, 0), (2, 0, 9), (12, 0, 20), (13, 0, 25), (14, 0, 26), (100, 0, 3)]
     found = cube(make_file("HydraHarp2T3", events), Scan(2, 1, 1, time=20), 5, 6)
     means = fits.mean_delays(found.counts, found.ticks, offset=2.5)
@@ -132,7 +127,7 @@ def test_mean_arrivals_of_pixels(make_file):
     assert fits.mean_delays(found.counts[0, 1], found.ticks) == pytest.approx((22.5 + 55) / 3)
 
 
-def test_phasors_of_single_decays_are_on_the_half_circle():
+def test_phasors_of_single_decays_are_on_the_half_circle() -> None:
     counts, pulse = decayed(6, [3.0], [1.0], 400_000)
     axis, frequency = np.arange(BINS) * WIDTH, 1 / PERIOD
     found = fits.phasor(counts, axis, frequency, reference=complex(fits.phasor(pulse, axis, frequency)))
@@ -148,7 +143,7 @@ DELAYS = np.logspace(-6, 0, 120)
 
 
 @pytest.mark.parametrize("dimensions, triplet", [(2, False), (3, False), (3, True), (2, True)])
-def test_a_correlation_of_diffusion_is_fitted(dimensions, triplet):
+def test_a_correlation_of_diffusion_is_fitted(dimensions: Literal[2, 3], triplet: bool) -> None:
     known = {"number": 2.5, "diffusion": 4e-4} | ({"triplet": 0.25, "triplet_time": 4e-6} if triplet else {})
     exact = fits.fcs_model(DELAYS, structure=5.0 if dimensions == 3 else None, **known)
     errors = 0.004 * (1 + 2 * np.exp(-DELAYS / 1e-5))
@@ -163,7 +158,7 @@ def test_a_correlation_of_diffusion_is_fitted(dimensions, triplet):
     assert doubled.errors["number"] == pytest.approx(2 * fit.errors["number"], rel=0.02)
 
 
-def test_models_are_those_of_the_formulas():
+def test_models_are_those_of_the_formulas() -> None:
     assert fits.fcs_model(np.array([0.0]), 4, 1.0)[0] == 1.25
     assert fits.fcs_model(np.array([2.0]), 1, 2.0)[0] == pytest.approx(1.5)
     assert fits.fcs_model(np.array([2.0]), 1, 2.0, structure=1.0)[0] == pytest.approx(1 + 0.5 / np.sqrt(2))
@@ -172,7 +167,7 @@ def test_models_are_those_of_the_formulas():
     assert fits.fcs_model(np.array([3.0]), 1, 1e9, triplet=0.5, triplet_time=3.0)[0] == pytest.approx(2 + np.exp(-1))
 
 
-def report_of_pairs(program, tmp_path, make_file):
+def report_of_pairs(program: str, tmp_path: Path, make_file: Callable[..., Path]) -> Any:
     draws = np.random.default_rng(8)
     events = sorted((int(time), int(number)) for time, number in zip(draws.integers(0, 200_000, 20_000), draws.integers(1, 3, 20_000)))
     path = make_file("HydraHarp2T2", events, tick=1e-9)
@@ -186,7 +181,7 @@ def report_of_pairs(program, tmp_path, make_file):
     return ptulab.run(plan, path, program=program), path
 
 
-def test_g2_of_reports_and_of_events(program, tmp_path, make_file):
+def test_g2_of_reports_and_of_events(program: str, tmp_path: Path, make_file: Callable[..., Path]) -> None:
     report, path = report_of_pairs(program, tmp_path, make_file)
     values, bars = fits.g2(report.table("coincidence"))
     assert (np.abs(values - 1) < 4.5 * bars).all() and (0.01 < bars).all() and (bars < 0.2).all()
@@ -201,7 +196,7 @@ def test_g2_of_reports_and_of_events(program, tmp_path, make_file):
 CELLS = {"reach": 700, "width": 301}  # five cells, the third around 0, the last of 197 differences
 
 
-def uncorrelated(seed, ticks, rate):
+def uncorrelated(seed: int, ticks: int, rate: float) -> Any:
     """Events of two inputs, each with a photon in a tick with this probability, between markers in the first and the last tick."""
     there = np.random.default_rng(seed).random(2 * ticks) < rate
     there[[0, -1]] = True
@@ -212,7 +207,7 @@ def uncorrelated(seed, ticks, rate):
 
 
 @pytest.mark.parametrize(("first", "second"), [(1, 2), (1, 1), ((1, 2), (1, 2)), ((1, 2), 2)])
-def test_bars_of_wide_cells_are_as_their_scatter(first, second):
+def test_bars_of_wide_cells_are_as_their_scatter(first: Any, second: Any) -> None:
     """Over many measurements the mean of g2 is 1 in each cell, and its scatter is the bar that is told."""
     found = [fits.g2(coincidences(uncorrelated(seed, 40_000, 0.003), first, second, **CELLS)) for seed in range(150)]
     values, bars = (np.array(column) for column in zip(*found))
@@ -220,7 +215,7 @@ def test_bars_of_wide_cells_are_as_their_scatter(first, second):
     assert (values.std(axis=0) / np.sqrt((bars**2).mean(axis=0))) == pytest.approx(np.ones(5), abs=0.22)
 
 
-def test_pairs_that_are_expected_are_those_of_all_places():
+def test_pairs_that_are_expected_are_those_of_all_places() -> None:
     """Photons in each tick have all pairs that there are places for, also behind the length of the measurement."""
     full = uncorrelated(0, 4000, 1.1)
     full["marker"] = False
@@ -230,14 +225,14 @@ def test_pairs_that_are_expected_are_those_of_all_places():
 
 
 @pytest.mark.parametrize("group", [1, 2])
-def test_bars_of_levels_are_as_their_scatter(group):
+def test_bars_of_levels_are_as_their_scatter(group: Any) -> None:
     """The same of a correlation, whose levels have wide bins."""
     found = []
     for seed in range(150):
         events = uncorrelated(seed, 4000, 0.03)[1:-1]
         first, second = events["number"] == 1, events["number"] == group
         table = empty_table("correlation", 1, {"lags": 8, "levels": 5}, None)
-        table.counts = segments.correlation(events["time"], first, second, lags=8, levels=5).astype(np.uint64)
+        table.counts = segments.correlation(events["time"], first, second, lags=8, levels=5).astype(np.int64)
         table.measurements = (Measurement(4000, (int(first.sum()), int(second.sum()))),)
         found.append(fits.g2(table))
     values, bars = (np.array(column) for column in zip(*found))
@@ -245,7 +240,7 @@ def test_bars_of_levels_are_as_their_scatter(group):
     assert scatter.mean() == pytest.approx(1, abs=0.07) and np.abs(scatter - 1).max() < 0.25
 
 
-def test_g2_of_what_has_none(program, tmp_path, make_file):
+def test_g2_of_what_has_none(program: str, tmp_path: Path, make_file: Callable[..., Path]) -> None:
     report, path = report_of_pairs(program, tmp_path, make_file)
     bare = ptulab.run(tmp_path / "plan.toml", path, program=program)
     table = bare.table("coincidence")
@@ -257,14 +252,14 @@ def test_g2_of_what_has_none(program, tmp_path, make_file):
     assert np.isnan(empty[0]).all()
 
 
-def test_lmfit_is_named_where_it_is_missing(monkeypatch):
+def test_lmfit_is_named_where_it_is_missing(monkeypatch: pytest.MonkeyPatch) -> None:
     monkeypatch.setitem(sys.modules, "lmfit", None)
     with pytest.raises(ptulab.Missing, match="python3-lmfit"):
         fits.fit_tail(np.arange(10, 0, -1), np.arange(10.0), 0)
 
 
-def test_fits_that_find_no_end_say_so(monkeypatch):
-    def failing(*words, **more):
+def test_fits_that_find_no_end_say_so(monkeypatch: pytest.MonkeyPatch) -> None:
+    def failing(*words: Any, **more: Any) -> Any:
         raise ValueError("nan values")
 
     endless = types.SimpleNamespace(success=False, message="too many calls")
@@ -274,7 +269,7 @@ def test_fits_that_find_no_end_say_so(monkeypatch):
             fits.fit_tail(np.arange(10, 0, -1), np.arange(10.0), 0)
 
 
-def test_fits_that_cannot_be():
+def test_fits_that_cannot_be() -> None:
     axis = np.arange(10.0)
     for call in (
         lambda: fits.fit_tail(np.zeros(10), axis, 0),
@@ -294,3 +289,292 @@ def test_fits_that_cannot_be():
     for call in (lambda: fits.fit_fcs(axis, axis * np.nan), lambda: fits.fit_tail(np.ones(10), axis, 7, terms=3)):
         with pytest.raises(ptulab.FitFailed):
             call()
+
+
+# Told errors beside the scatter of many measurements, which 300 of them tell to 4 %.
+
+
+def of_period(lifetime: float, width: float, period: float, photons: float, background: float = 0.0) -> Any:
+    """What bins of a decay expect whose pulse comes at 0, in a period that they cover."""
+    edges = np.minimum(np.arange(np.ceil(period / width) + 1) * width, period)
+    decay = -np.diff(np.exp(-edges / lifetime)) / -np.expm1(-period / lifetime)
+    return photons * decay + background * np.diff(edges) / width
+
+
+@pytest.mark.parametrize(("photons", "background"), [(1000, 0.0), (1000, 0.5), (50_000, 2.0)])
+def test_told_errors_of_tails_are_their_scatter(photons: int, background: float) -> None:
+    draws, axis = np.random.default_rng(photons), np.arange(125) * 0.2
+    curve = of_period(2.6, 0.2, 25.0, photons, background)
+    found = [fits.fit_tail(draws.poisson(curve), axis, 0.0) for _ in range(300)]
+    for name, known in (("lifetime_1", 2.6), ("amplitude_1", curve[0] - background)):
+        values, errors = (np.array([getattr(fit, what)[name] for fit in found]) for what in ("values", "errors"))
+        assert np.sqrt((errors**2).mean()) == pytest.approx(values.std(), rel=0.1)
+        few = 0.0 if background else 0.3 * values.std()  # a background isn't less than 0, so in the mean it is more
+        assert values.mean() == pytest.approx(known, abs=4 * values.std() / np.sqrt(300) + few)
+    assert np.mean([fit.reduced for fit in found]) == pytest.approx(1, abs=0.03)
+
+
+@pytest.mark.parametrize("background", [0.0, 1.0])
+def test_told_errors_of_reconvolutions_are_their_scatter(background: float) -> None:
+    """Of photons one by one in a period of 62.5 bins, with a pulse in finer bins and a cable that is 0.15 longer."""
+    draws, edges, period = np.random.default_rng(17), np.arange(64) * 0.4, 25.0
+    pulse = np.histogram(draws.normal(2.0, 0.25, 1_000_000), np.linspace(0, 25.2, 63 * 4 + 1))[0]
+    found = []
+    for _ in range(250):
+        delays = (draws.normal(2.15, 0.25, 4000) + draws.exponential(2.6, 4000)) % period
+        noise = draws.uniform(0, period, draws.poisson(background * period / 0.4))
+        found.append(fits.fit_reconvolution(np.histogram(np.append(delays, noise), edges)[0], pulse, 0.4, period=period))
+    for name, known in (("lifetime_1", 2.6), ("shift", 0.15)):
+        values, errors = (np.array([getattr(fit, what)[name] for fit in found]) for what in ("values", "errors"))
+        assert np.sqrt((errors**2).mean()) == pytest.approx(values.std(), rel=0.1)
+        few = 0.0 if background else 0.3 * values.std()  # a background isn't less than 0, so in the mean it is more
+        assert values.mean() == pytest.approx(known, abs=4 * values.std() / np.sqrt(250) + few)
+    assert np.mean([fit.reduced for fit in found]) == pytest.approx(1, abs=0.03)
+
+
+@pytest.mark.parametrize("told", [True, False])
+def test_told_errors_of_correlations_are_their_scatter(told: bool) -> None:
+    draws, known = np.random.default_rng(9), {"number": 2.5, "diffusion": 4e-4, "baseline": 1.0}
+    exact = fits.fcs_model(DELAYS[::2], structure=5.0, **known)
+    errors = 0.004 * (1 + 2 * np.exp(-DELAYS[::2] / 1e-5)) if told else np.full(60, 0.004)
+    found = [fits.fit_fcs(DELAYS[::2], draws.normal(exact, errors), errors if told else None) for _ in range(300)]
+    for name, value in known.items():
+        values, said = (np.array([getattr(fit, what)[name] for fit in found]) for what in ("values", "errors"))
+        assert np.sqrt((said**2).mean()) == pytest.approx(values.std(), rel=0.1)
+        assert values.mean() == pytest.approx(value, abs=4 * values.std() / np.sqrt(300))
+
+
+def test_every_background_free_decay_has_an_error_of_its_lifetime() -> None:
+    """Also where the background ends on its bound, which half of these do; that has none then."""
+    draws, axis = np.random.default_rng(2), np.arange(125) * 0.2
+    found = [fits.fit_tail(draws.poisson(of_period(2.6, 0.2, 25.0, 500)), axis, 0.0) for _ in range(60)]
+    errors = np.array([[fit.errors["lifetime_1"], fit.errors["background"]] for fit in found])
+    assert ((0.08 < errors[:, 0]) & (errors[:, 0] < 0.2)).all() and 15 < np.isnan(errors[:, 1]).sum() < 45
+
+
+@settings(max_examples=100, deadline=None)
+@given(st.floats(-3, 4))
+def test_deviances_are_those_of_poissons_law(power: float) -> None:
+    """By the logarithms of SciPy's chances: of each count, and in the mean."""
+    expected = 10.0**power
+    counts = np.arange(0, int(expected + 12 * np.sqrt(expected)) + 20)
+    twice = 2 * (stats.poisson.logpmf(counts, np.maximum(counts, 1e-300)) - stats.poisson.logpmf(counts, expected))
+    ours = fits.deviance(counts.astype(float), np.full(len(counts), expected))
+    assert ours**2 == pytest.approx(twice, rel=1e-5, abs=1e-8 * max(expected, 1))
+    mean = float((twice * stats.poisson.pmf(counts, expected)).sum())
+    assert fits.mean_deviance(np.array([expected]))[0] == pytest.approx(mean, rel=3e-5)
+
+
+@pytest.mark.parametrize("rate", [0.05, 0.5, 3.0])
+def test_a_right_model_has_a_reduced_deviance_of_1_also_at_few_counts(rate: float) -> None:
+    draws, axis = np.random.default_rng(3), np.arange(400) * 0.1
+    decay = rate * 40 / 8 * np.exp(-axis / 8.0)
+    reduced = [fits.fit_tail(draws.poisson(decay), axis, 0.0).reduced for _ in range(60)]
+    assert np.mean(reduced) == pytest.approx(1, abs=0.04)
+
+
+# Pulses, bins and periods.
+
+
+@pytest.mark.parametrize(("period", "pulse_at"), [(1562.5, 130.0), (1562.3, 130.0), (1562.5, 1500.0)])
+def test_a_period_of_no_whole_number_of_bins(period: float, pulse_at: float) -> None:
+    """As a plan for such a file has it: 1563 bins of a tick, the last of which is cut; 64 ps ticks of a 100 ns period."""
+    draws = np.random.default_rng(12)
+    delays = (draws.normal(pulse_at, 8, 500_000) + draws.exponential(400.0, 500_000)) % period
+    noise = draws.uniform(0, period, 150_000)
+    counts = np.bincount(np.append(delays, noise).astype(int), minlength=1563)
+    pulse = np.bincount((draws.normal(pulse_at, 8, 500_000) % period).astype(int), minlength=1563)
+    fit = fits.fit_reconvolution(counts, pulse, 1.0, period=period)
+    assert within(fit, "lifetime_1", 400.0) and fit.errors["lifetime_1"] < 2
+    assert within(fit, "background", 150_000 / period) and within(fit, "amplitude_1", 500_000)
+    assert fit.residuals[-1] ** 2 < 16 and 0.85 < fit.reduced < 1.15
+    with pytest.raises(ValueError, match="leave out"):
+        fits.fit_reconvolution(np.append(counts, 0), np.append(pulse, 0), 1.0, period=period)
+
+
+@pytest.mark.parametrize(("width", "tolerance"), [(0.25, 0.005), (0.5, 0.006)])
+def test_bins_wider_than_the_pulse_with_a_pulse_in_finer_ones(width: float, tolerance: float) -> None:
+    draws, bins, finer = np.random.default_rng(1), round(PERIOD / width), round(width / 0.05)
+    counts = np.histogram((draws.normal(2.07, 0.12, 500_000) + draws.exponential(1.0, 500_000)) % PERIOD, bins, (0, PERIOD))[0]
+    pulse = np.histogram(draws.normal(2.0, 0.12, 1_000_000), bins * finer, (0, PERIOD))[0]
+    fit = fits.fit_reconvolution(counts, pulse, width, period=PERIOD)
+    assert fit.values["lifetime_1"] == pytest.approx(1.0, rel=tolerance) and fit.values["shift"] == pytest.approx(0.07, abs=0.005)
+    assert fit.reduced < 2 and fit.axis.shape == fit.curve.shape == (bins,)
+    coarse = fits.fit_reconvolution(counts, pulse.reshape(-1, finer).sum(axis=1), width, period=PERIOD)
+    assert coarse.values["lifetime_1"] < 1 - tolerance and coarse.reduced > 10
+
+
+def test_a_reconvolution_is_that_of_lmfits_own_models() -> None:
+    """A Gaussian convolved with an exponential, as lmfit's lineshapes have it in closed form, also where it is shifted."""
+    fine = np.arange(25_000) * 0.001 + 0.0005
+    pulse = lineshapes.gaussian(fine, 1.0, 2.0, 0.12).reshape(-1, 10).sum(axis=1)
+    shape = fits._Convolved(pulse, 5, 0.05, None)
+    for lifetime, shift in ((0.3, 0.0), (2.6, 0.113), (9.0, -0.4)):
+        known = lineshapes.expgaussian(fine, 1.0, 2.0 + shift, 0.12, 1 / lifetime).reshape(-1, 50).sum(axis=1) * 0.001
+        assert shape.decay(lifetime, shift) == pytest.approx(known, abs=4e-5)
+
+
+@settings(max_examples=60, deadline=None)
+@given(st.floats(0.05, 50), st.floats(0.01, 2), st.floats(-30, 60))
+def test_decays_anywhere_in_a_bin_are_integrals(lifetime: float, width: float, at: float) -> None:
+    """Also of bins that begin before that of the excitation, or within it, and of many earlier pulses."""
+    places = (np.arange(2000) + 0.5) / 2000 * width
+    until = [np.where(edge > places, -np.expm1(-np.maximum(edge - places, 0) / lifetime), 0.0) for edge in (at, at + width)]
+    assert float(fits.decay_of_bins(np.array([at]), lifetime, width)[0]) == pytest.approx((until[1] - until[0]).mean(), abs=1e-3)
+    earlier = fits.decay_of_bins(at + 31.0 * np.arange(0, 1 + int(800 // 31) + int(40 * lifetime / 31)), lifetime, width).sum()
+    assert float(fits.decay_of_bins(np.array([at]), lifetime, width, 31.0)[0]) == pytest.approx(earlier, rel=1e-9, abs=1e-12)
+
+
+# Correlations with a triplet.
+
+
+@pytest.mark.parametrize(("tick", "levels"), [(1e-12, 35), (4e-12, 33), (1e-9, 25)])
+def test_a_triplet_is_found_whatever_the_first_cells_are(tick: float, levels: int) -> None:
+    """20,000 counts a second for a minute: cells of few ticks have a pair now and then, or none."""
+    ticks, level = segments.delays(16, levels)
+    known = {"number": 2.5, "diffusion": 4e-4, "triplet": 0.25, "triplet_time": 4e-6}
+    exact = fits.fcs_model(ticks * tick, structure=5.0, **known)
+    pairs = 2e4**2 * 2.0**level * tick * 60 / 10
+    for seed in range(20):
+        parts = np.random.default_rng(seed).poisson(pairs * exact, (10, len(ticks))) / pairs
+        fit = fits.fit_fcs(ticks * tick, parts.mean(axis=0), parts.std(axis=0, ddof=1) / np.sqrt(10), triplet=True)
+        assert all(fit.values[name] == pytest.approx(value, rel=0.4) for name, value in known.items())
+        assert all(abs(fit.values[name] - value) < 8 * fit.errors[name] for name, value in known.items())
+
+
+def test_fits_that_can_come_no_nearer_are_fits(monkeypatch: pytest.MonkeyPatch) -> None:
+    """MINPACK's end because numbers can't tell a nearer fit is none that failed."""
+    whole = lmfit.minimize
+
+    def as_near_as_can_be(*words: Any, **more: Any) -> Any:
+        result = whole(*words, **more)
+        result.success, result.ier = False, 7
+        return result
+
+    monkeypatch.setattr(lmfit, "minimize", as_near_as_can_be)
+    fit = fits.fit_fcs(DELAYS, fits.fcs_model(DELAYS, 2.5, 4e-4, structure=5.0))
+    assert fit.values["diffusion"] == pytest.approx(4e-4, rel=1e-6)
+
+
+def test_delays_of_nothing_are_left_out() -> None:
+    fit = fits.fit_fcs(np.append(0.0, DELAYS), np.append(99.0, fits.fcs_model(DELAYS, 2.5, 4e-4, structure=5.0)))
+    assert fit.values["number"] == pytest.approx(2.5, rel=1e-5) and len(fit.axis) == 120
+
+
+# Phasors and mean delays.
+
+
+@pytest.mark.parametrize("bins", [8, 16, 64, 500])
+@pytest.mark.parametrize("at", [0, 3])
+def test_phasors_of_bins_of_any_width_are_on_the_half_circle(bins: int, at: int) -> None:
+    """A pulse at the beginning of a bin, told by its time: lifetimes come out, and mixtures lie between."""
+    width, frequency = PERIOD / bins, 1 / PERIOD
+    axis, lifetimes = np.arange(bins) * width, np.array([0.3, 1.0, 4.0, 11.0])
+    counts = np.array([np.roll(of_period(lifetime, width, PERIOD, 1000.0), at) for lifetime in lifetimes])
+    found = fits.phasor(counts, axis, frequency, offset=at * width)
+    assert np.abs(found - 0.5) == pytest.approx(np.full(4, 0.5), rel=1e-9)
+    assert found == pytest.approx(fits.phasor_of_lifetime(lifetimes, frequency, width), rel=1e-9)
+    for ours in fits.lifetimes_of_phasor(found, frequency, width):
+        assert ours == pytest.approx(lifetimes, rel=1e-6)
+    assert fits.phasor(counts[:2].sum(axis=0), axis, frequency, offset=at * width) == pytest.approx(found[:2].mean(), rel=1e-9)
+
+
+def test_phasors_by_a_pulse_or_a_known_dye() -> None:
+    """Of photons with a pulse at 2 ns: without a reference they are turned by 29 degrees, out of the half circle."""
+    axis, frequency, edges = np.arange(BINS) * WIDTH, 1 / PERIOD, np.arange(BINS + 1) * WIDTH
+    draws = np.random.default_rng(5)
+    dye, sample = (decayed(seed, [lifetime], [1.0], 400_000)[0] for seed, lifetime in ((1, 4.1), (2, 2.6)))
+    pulse = np.histogram(draws.normal(2.0, 0.12, 400_000), edges)[0]
+    turned = fits.phasor(sample, axis, frequency)
+    assert abs(turned - 0.5) > 0.55
+    for reference in (fits.phasor_reference(pulse, axis, frequency), fits.phasor_reference(dye, axis, frequency, 4.1)):
+        found = fits.phasor(sample, axis, frequency, reference=reference)
+        assert abs(found - fits.phasor_of_lifetime(2.6, frequency)) < 0.005
+    by_time = fits.phasor(sample, axis, frequency, offset=2.0)
+    assert abs(by_time - fits.phasor_of_lifetime(2.6, frequency)) < 0.005
+    assert fits.phasor(sample, axis, frequency, offset=2.0) == pytest.approx(turned * np.exp(-2j * np.pi * frequency * 2.0))
+    with pytest.raises(ValueError, match="without photons"):
+        fits.phasor_reference(pulse * 0, axis, frequency)
+
+
+def test_lifetimes_that_no_phasor_has_are_nan() -> None:
+    with np.errstate(invalid="raise"):
+        phase, modulation = fits.lifetimes_of_phasor(np.array([0.99 + 0.01j, 1.1 + 0.1j]), 0.04, 3.0)
+    assert np.isnan(phase).all() and np.isnan(modulation).all()
+
+
+def test_the_middle_of_one_bin_wants_its_width() -> None:
+    with pytest.raises(ValueError, match="one bin"):
+        fits.mean_delays(np.array([[5]]), np.array([0.0]))
+    with pytest.raises(ValueError, match="one bin"):
+        fits.phasor(np.array([[5]]), np.array([0.0]), 0.04)
+    assert fits.mean_delays(np.array([[5]]), np.array([10.0]), width=4.0, offset=1.0).tolist() == [11.0]
+
+
+def test_means_of_pythons_own_numbers() -> None:
+    assert fits.mean_delays(np.array([[2**70, 2**70]], object), np.array([0.0, 0.4])).tolist() == pytest.approx([0.4])
+
+
+# Sums.
+
+
+def a_sum(program: str, tmp_path: Path, make_file: Callable[..., Path]) -> Any:
+    """Two measurements of unlike lengths without correlation, one file without events, and their sum."""
+    paths = []
+    for seed, length, photons in ((1, 200_000, 10_000), (2, 600_000, 30_000), (3, 0, 0)):
+        draws = np.random.default_rng(seed)
+        times, inputs = np.sort(draws.integers(0, max(length, 1), 2 * photons)), draws.integers(1, 3, 2 * photons)
+        events = [*zip(times.tolist(), inputs.tolist())]
+        paths.append(make_file("HydraHarp2T2", events, name=f"{seed}.ptu", tick=1e-9))
+    report_of_pairs(program, tmp_path, make_file)
+    return [ptulab.run(tmp_path / "plan.toml", path, program=program) for path in paths], tmp_path / "plan.toml", paths
+
+
+def written_again(tmp_path: Path, report: Any) -> Any:
+    ptulab.write_report(report, tmp_path / "again.txt")
+    return ptulab.read_report(tmp_path / "again.txt")
+
+
+def test_a_file_without_events_leaves_a_sum_as_it_was(program: str, tmp_path: Path, make_file: Callable[..., Path]) -> None:
+    (one, two, empty), plan, paths = a_sum(program, tmp_path, make_file)
+    whole = ptulab.count_files(plan, [*paths[:1], paths[2], paths[1]], program=program).report
+    bare = ptulab.sum_reports([written_again(tmp_path, report) for report in (empty, one, two)])
+    for kind in ("coincidence", "correlation"):
+        known, bars = fits.g2((one + two).table(kind))
+        assert np.array_equal(fits.g2(whole.table(kind))[0], known) and np.abs(known - 1).max() < 5 * bars.max()
+        assert np.array_equal(fits.g2((empty + one + two).table(kind))[1], bars)
+        each = [tuple(report.table(kind).photons[place] for report in (one, two)) for place in (0, 1)]
+        assert fits.g2(bare.table(kind), *each)[0] == pytest.approx(known)
+        assert np.isnan(fits.g2(empty.table(kind))[0]).all()
+    assert np.array_equal(whole.table("correlation").normalised(), (one + two).table("correlation").normalised())
+
+
+def test_given_photons_of_a_sum(program: str, tmp_path: Path, make_file: Callable[..., Path]) -> None:
+    """One number is that of all measurements, shared by their lengths; one alone leaves the other to the plan."""
+    (one, two, _), *_ = a_sum(program, tmp_path, make_file)
+    for kind in ("coincidence", "correlation"):
+        table = (one + two).table(kind)
+        known = fits.g2(table)[0]
+        assert fits.g2(table, *table.photons)[0] == pytest.approx(known, rel=0.02)
+        assert fits.g2(table, 2 * table.photons[0])[0] == pytest.approx(known / 2, rel=0.02)
+        assert fits.g2(table, None, 4 * table.photons[1])[0] == pytest.approx(known / 4, rel=0.02)
+        with pytest.raises(ValueError, match="3 measurements for 2"):
+            fits.g2(table, [1, 2, 3], [1, 2, 3])
+        with pytest.raises(ptulab.NotKnown, match="written as one report"):
+            fits.g2(written_again(tmp_path, one + two).table(kind), *table.photons)
+
+
+def test_a_cube_is_not_copied_to_floating_point() -> None:
+    """Mean delays and phasors of a cube of 16 MiB take a fraction of that."""
+    counts = np.random.default_rng(3).poisson(2.0, (64, 64, 512))
+    axis = np.arange(512.0)
+    tracemalloc.start()
+    try:
+        means, phasors = fits.mean_delays(counts, axis), fits.phasor(counts, axis, 1 / 512)
+        most = tracemalloc.get_traced_memory()[1]
+    finally:
+        tracemalloc.stop()
+    assert most < 4 << 20
+    assert means == pytest.approx(np.average(np.broadcast_to(axis + 0.5, counts.shape), axis=-1, weights=counts))
+    turns = np.exp(2j * np.pi * (axis + 0.5) / 512) * np.cos(np.pi / 512)
+    assert phasors == pytest.approx(counts @ turns / counts.sum(axis=-1))

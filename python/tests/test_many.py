@@ -1,9 +1,12 @@
 """Sums over many files: by processes, by dask on the loopback, and of reports on disk."""
 
-import multiprocessing
+import json
 import os
+import signal
+import socket
 import subprocess
 import sys
+import time
 from pathlib import Path
 
 import numpy as np
@@ -12,7 +15,16 @@ import pytest
 import made
 import ptulab
 from conftest import EXAMPLES
-from ptulab import many
+from hosts import seconds, until
+from plain_sum import plain_sum, report_of
+from hypothesis import given
+from hypothesis import strategies as st
+from ptulab import _progress
+from ptulab._digits import lines_of
+from ptulab._hand_out import HandOut
+from ptulab._parts import File, Part
+from ptulab._processes import Here
+from ptulab._work import Work, keep
 from ptulab.errors import BadPlan, Missing, PtulabError, Refusal, Unlike
 from ptulab.many import Left, count_files, megabytes_of, sum_files
 from ptulab.texts import report_lines, summed_head, write_report
@@ -56,10 +68,12 @@ def same(one, other):
 
 def check(whole, folder, program):
     assert same(whole.report, wanted(folder, program))
+    assert (len(whole.plan), len(whole.program), whole.odd, whole.left_out) == (64, 64, (), ())
     assert whole.added == tuple(str(folder / f"{number}.ptu") for number in (0, 1, 2, 4, 6, 7))
+    host = socket.gethostname()
     assert whole.left == (
-        Left(str(folder / "3.ptu"), 17, "3 bytes of a record at the end"),
-        Left(str(folder / "5.ptu"), None, "global 2e-12, not 1e-12"),
+        Left(str(folder / "3.ptu"), 17, "3 bytes of a record at the end", host),
+        Left(str(folder / "5.ptu"), None, "global 2e-12, not 1e-12", host),
     )
 
 
@@ -97,34 +111,235 @@ def test_files_by_dask_with_a_scheduler_and_three_workers(folder, program):
                 one.wait()
 
 
-def test_what_the_workers_do(folder, program):
-    """The same in this process: the next file each time, and a share of its own."""
-    words, paths = (str(folder / "plan.toml"), program), list(map(str, files_of(folder)))
-    many._begin(many._Turns(multiprocessing.Value("q", 0), multiprocessing.Value("q", 0)))
-    check(many._sum_of(many._in_turns(*words, paths), paths), folder, program)
-    assert (many._turns[0].done.value, many._turns[0].take(8)) == (8, 8)
-    whole = many._of_share(words, list(enumerate(paths))[::2])
-    many._take(whole, many._of_share(words, list(enumerate(paths))[1::2]))
-    check(many._sum_of(whole, paths), folder, program)
+def work_of(folder, program):
+    """What the processes are asked, and the bytes of the program."""
+    code = Path(program).read_bytes()
+    return Work((folder / "plan.toml").read_bytes(), keep(code)), code
 
 
-def test_a_fault_of_the_plan_stops_all_workers(folder, program):
+def test_what_the_processes_do(folder, program):
+    """The same in this process, by three lanes whose sums are collected once in between."""
+    paths, whole = list(map(str, files_of(folder))), Part()
+    by = HandOut(Here(*work_of(folder, program)), paths, whole, None, None)
+    by.due = 0
+    by.run()
+    assert same(whole.sums[by.kind][0], wanted(folder, program)) and whole.sums[by.kind][0].table("correlation").photons is not None
+    assert [place for place, file in sorted(whole.files.items()) if not file.is_added] == [3, 5]
+
+
+def test_a_fault_of_the_plan_stops_it(folder, program):
     (folder / "plan.toml").write_text("version = 3")
-    turns = many._Turns(multiprocessing.Value("q", 0), multiprocessing.Value("q", 0))
-    many._begin(turns)
     with pytest.raises(Refusal, match="rule 2"):
-        many._in_turns(str(folder / "plan.toml"), program, list(map(str, files_of(folder))))
-    assert turns.take(8) == 8 and turns.done.value == 0
+        HandOut(Here(*work_of(folder, program)), list(map(str, files_of(folder))), Part(), None, None).run()
 
 
-def test_the_bar_counts_files(folder, program, capsys):
+# ## What can go wrong on one machine
+
+
+def script(folder, program, words):
+    """A program that does something else with some files; their path is $path."""
+    path = folder / "other_ptu"
+    path.write_text(f'#!/bin/sh\npath=$(readlink "$3")\n{words}\nexec {program} "$@"\n')
+    path.chmod(0o755)
+    return path
+
+
+def plain(folder, program, numbers):
+    return plain_sum(report_of(program, folder / "plan.toml", folder / f"{number}.ptu") for number in numbers)
+
+
+def test_a_plan_that_changes_meanwhile_is_read_once(folder, program):
+    others = ["version = 3", PLAN.replace("bins = 3", "bins = 4"), PLAN.replace("inputs = [2]", "inputs = [1]")]
+    for number in range(3):
+        slow = script(folder, program, f"sleep 0.0{number}")
+        (folder / "plan.toml").write_text(PLAN)
+        words = [sys.executable, "-m", "ptulab", "count", folder / "plan.toml", *files_of(folder), "--program", slow, "-o", folder / "sum.txt"]
+        running = subprocess.Popen(list(map(str, words)), env=made_environment(), stderr=subprocess.DEVNULL)
+        until((folder / "sum.txt.jsonl").exists, "the plan to be read")
+        while running.poll() is None:
+            (folder / "plan.toml").write_text(others[number])
+            time.sleep(0.02)
+            (folder / "plan.toml").write_text(PLAN)
+            time.sleep(0.02)
+        (folder / "plan.toml").write_text(PLAN)
+        assert (running.returncode, (folder / "sum.txt").read_text()) == (3, plain(folder, program, [0, 1, 2, 4, 6, 7]))
+        (folder / "sum.txt.jsonl").unlink()
+
+
+def test_a_file_that_ends_its_process_is_left_with_how(folder, program):
+    """Three processes end with it; the other files are counted."""
+    killer = script(folder, program, 'case $path in *2.ptu) kill -9 $PPID ;; *6.ptu) kill -11 $$ ;; esac')
+    whole = count_files(folder / "plan.toml", files_of(folder), program=killer, processes=2)
+    assert [(Path(one.path).stem, one.status, one.why) for one in whole.left if Path(one.path).stem in "26"] == [
+        ("2", None, "the process that counted it ended (signal 9)"),
+        ("6", -11, "signal 11 ended the program"),
+    ]
+    assert b"".join(report_lines(whole.report)).decode() == plain(folder, program, [0, 1, 4, 7])
+
+
+@pytest.mark.parametrize("number", [signal.SIGKILL, signal.SIGTERM, signal.SIGINT])
+def test_an_end_ends_all_that_runs_and_the_next_goes_on(folder, program, number):
+    waits = script(folder, program, f'case $path in *7.ptu) echo $$ > {folder}/there; exec sleep 1000 ;; esac')
+    words = [sys.executable, "-m", "ptulab", "count", folder / "plan.toml", *files_of(folder), "--program", waits, "-o", folder / "sum.txt"]
+    running = subprocess.Popen(list(map(str, words)), env=made_environment(), stderr=subprocess.PIPE, start_new_session=True)
+    until(lambda: (folder / "there").exists() and (folder / "there").read_text().endswith("\n"), "the last file")
+    running.send_signal(number)
+    assert b"Traceback" not in running.communicate(timeout=seconds(2))[1]
+    assert running.returncode == {signal.SIGKILL: -9, signal.SIGTERM: 143, signal.SIGINT: 130}[number]
+    until(lambda: not Path(f"/proc/{int((folder / 'there').read_text())}").exists(), "the end of the run", 2)
+    (folder / "7.ptu").unlink()
+    assert command("count", folder / "plan.toml", *files_of(folder), "--program", waits, "-o", folder / "sum.txt").returncode == 3
+    assert (folder / "sum.txt").read_text() == plain(folder, program, [0, 1, 2, 4, 6])
+
+
+def test_what_is_no_regular_file_is_refused_at_once(folder, program):
+    os.mkfifo(folder / "a.ptu")
+    (folder / "b.ptu").mkdir()
+    (folder / "c.ptu").symlink_to("/dev/zero")
+    (folder / "d.ptu").symlink_to("0.ptu")
+    whole = count_files(folder / "plan.toml", files_of(folder), program=program)
+    assert [Path(one.path).stem for one in whole.left if one.why == "it is no regular file"] == ["a", "b", "c"]
+    assert str(folder / "d.ptu") in whole.added
+    reports = sum_files(files_of(folder))
+    assert [one.why for one in reports.left][-4:-1] == ["it is no regular file"] * 3
+
+
+def test_a_file_that_grows_while_it_is_counted_is_left(folder, program):
+    grower = script(folder, program, 'case $path in *4.ptu) printf 1234 >> "$path" ;; esac')
+    whole = count_files(folder / "plan.toml", files_of(folder), program=grower)
+    assert [one.why for one in whole.left if one.path.endswith("4.ptu")] == ["it was changed while it was counted"]
+    assert b"".join(report_lines(whole.report)).decode() == plain(folder, program, [0, 1, 2, 6, 7])
+
+
+def test_a_cut_file_is_named(folder, program):
+    (folder / "6.ptu").write_bytes((folder / "6.ptu").read_bytes()[:-8])
+    whole = count_files(folder / "plan.toml", files_of(folder), program=program)
+    odd = str(folder / "6.ptu")
+    assert whole.odd == ((odd, "the header announces 260 records, and there are 258: the file may be cut"),) and odd in whole.added
+
+
+def test_a_program_that_can_not_run_is_told_before_a_file_is_counted(folder, program):
+    (folder / "none").write_bytes(b"\x7fELF of nothing")
+    (folder / "none").chmod(0o755)
+    with pytest.raises(PtulabError, match="the program can't be run|the program ends with"):
+        count_files(folder / "plan.toml", files_of(folder), program=folder / "none")
+
+
+# ## Manifests
+
+
+def manifest(folder):
+    return [json.loads(line) for line in (folder / "sum.txt.jsonl").read_text().splitlines()]
+
+
+def counting(folder, program):
+    """A program that notes each file that it is asked for, and those that it was asked for so far."""
+    noted = folder / "noted"
+    noted.write_text("")
+    return script(folder, program, f'[ -z "$3" ] || basename "$path" >> {noted}'), lambda: noted.read_text().split()
+
+
+def test_a_run_counts_only_what_is_new(folder, program):
+    slow, asked = counting(folder, program)
+    good = [path for path in files_of(folder) if path.stem not in "357"]
+    count_files(folder / "plan.toml", good, program=slow, out=folder / "sum.txt")
+    assert len(asked()) == 5
+    whole = count_files(folder / "plan.toml", [*good, folder / "7.ptu"], program=slow, out=folder / "sum.txt")
+    assert asked()[5:] == ["7.ptu"] and same(whole.report, wanted(folder, program))
+    assert (folder / "sum.txt").read_text() == plain(folder, program, [0, 1, 2, 4, 6, 7])
+    curve, parts = whole.report.table("correlation"), [ptulab.run(folder / "plan.toml", path, program=program) for path in whole.added]
+    assert curve.expected() == pytest.approx(sum(part.table("correlation").expected() for part in parts))
+    lines = {line["file"]: line for line in manifest(folder) if "file" in line}
+    assert [(line["announced"], line["records"], line["status"]) for line in lines.values()] == [(200 + 10 * n, 200 + 10 * n, 0) for n in (0, 1, 2, 4, 6, 7)]
+    again = count_files(folder / "plan.toml", whole.added, program=slow, out=folder / "sum.txt")
+    assert len(asked()) == 6 and again.added == whole.added and same(again.report, whole.report)
+
+
+@pytest.mark.parametrize("change", ["plan", "program", "file", "fewer", "sum", "manifest", "lines"])
+def test_what_is_not_as_it_was_is_counted_anew(folder, program, change):
+    slow, asked = counting(folder, program)
+    files = [folder / f"{number}.ptu" for number in (0, 1, 2)]
+    count_files(folder / "plan.toml", files, program=slow, out=folder / "sum.txt")
+    if change == "plan":
+        (folder / "plan.toml").write_text(PLAN.replace("bins = 3", "bins = 4"))
+    elif change == "program":
+        slow.write_text(slow.read_text() + "\n")
+    elif change == "file":
+        made.write(files[1], "HydraHarp2T2", [(1, 1), (2, 2)], tick=1e-12)
+    elif change == "fewer":
+        del files[1]
+    else:
+        path = folder / ("sum.txt" if change == "sum" else "sum.txt.jsonl")
+        text = path.read_text()
+        path.write_text({"sum": text.replace("\n", " \n", 1), "manifest": "[1]\n", "lines": text.replace("{", "[", 2)}[change])
+    whole = count_files(folder / "plan.toml", files, program=slow, out=folder / "sum.txt")
+    assert len(asked()) == 3 + len(files) == 3 + len(whole.added)
+    assert (folder / "sum.txt").read_text() == plain(folder, program, [path.stem for path in files])
+
+
+def test_a_run_goes_on_from_what_was_collected(folder, program):
+    """It ends at its last file; a manifest that is cut anywhere does no harm."""
+    waits = script(folder, program, "case $path in *7.ptu) sleep 1000 ;; esac")
+    running = subprocess.Popen([sys.executable, "-c", SOON, folder, waits], env=made_environment(), start_new_session=True)
+    until(lambda: (folder / "sum.txt.part").exists(), "what was collected")
+    os.killpg(running.pid, signal.SIGKILL)
+    running.wait()
+    text = (folder / "sum.txt.jsonl").read_bytes()
+    for size in (len(text), len(text) - 3, text.rindex(b'{"sum"'), 40, 0):
+        (folder / "sum.txt.jsonl").write_bytes(text[:size] + b'{"file": "half')
+        whole = count_files(folder / "plan.toml", files_of(folder), program=program, out=folder / "sum.txt")
+        check(whole, folder, program)
+        assert (folder / "sum.txt").read_text() == plain(folder, program, [0, 1, 2, 4, 6, 7])
+
+
+SOON = """
+import sys, pathlib
+from ptulab import _hand_out, count_files
+_hand_out.COLLECT = _hand_out.HOLD = 0.0
+folder = pathlib.Path(sys.argv[1])
+count_files(folder / "plan.toml", sorted(folder.glob("*.ptu")), program=sys.argv[2], processes=2, out=folder / "sum.txt")
+"""
+
+
+def test_the_lock_says_who_holds_it(folder, program):
+    (folder / "sum.txt.lock").write_text(json.dumps({"host": "another", "process": 7, "since": "then"}))
+    said = command("count", folder / "plan.toml", folder / "0.ptu", "--program", program, "-o", folder / "sum.txt")
+    assert said.returncode == 1
+    assert said.stderr == f"ptulab: {folder}/sum.txt: process 7 on another makes it since then; once that has ended, remove {folder}/sum.txt.lock\n"
+    os.utime(folder / "sum.txt.lock", (1, 1))  # a run renews it
+    assert command("count", folder / "plan.toml", folder / "0.ptu", "--program", program, "-o", folder / "sum.txt").returncode == 0
+    ended = subprocess.Popen(["true"])
+    ended.wait()
+    (folder / "sum.txt.lock").write_text(json.dumps({"host": socket.gethostname(), "process": ended.pid, "since": "then"}))
+    assert command("count", folder / "plan.toml", folder / "0.ptu", "--program", program, "-o", folder / "sum.txt").returncode == 0
+    assert not (folder / "sum.txt.lock").exists()
+
+
+# ## Progress
+
+
+def test_lines_say_how_far_it_is(folder, program, capsys, monkeypatch):
+    monkeypatch.setattr(_progress, "EVERY", 0.0)
     count_files(folder / "plan.toml", files_of(folder), program=program, processes=2, progress=True)
-    assert "8/8" in capsys.readouterr().err
+    said = capsys.readouterr().err.splitlines()
+    assert said[-1].startswith("8 of 8 files, 0 of 0 MB, 2 left, the last ") and len(said) == 9 and "to go" in said[0]
+
+
+def test_a_bar_on_a_terminal(folder, capsys, monkeypatch):
+    monkeypatch.setattr("sys.stderr.isatty", lambda: True, raising=False)
+    paths = [str(folder / "0.ptu"), str(folder / "1.ptu")]
+    shown = _progress.Progress(paths, True)
+    shown.settled(File(paths[0], 0))
+    shown.settled(File(paths[0], 0))
+    shown.settled(File(paths[1], why="it is away"))
+    shown.close()
+    said = capsys.readouterr().err
+    assert "2 of 2 files, 1 left, the last" in said and "it is away" in said and "100%" in said
 
 
 def test_without_dask_it_says_what_to_install(folder, program, monkeypatch):
     monkeypatch.setitem(sys.modules, "distributed", None)
-    client = type("Client", (), {"nthreads": lambda self: {"one": 1}})()
+    client = type("Client", (), {"status": "running", "nthreads": lambda self: {}})()
     with pytest.raises(Missing, match="python3-distributed"):
         count_files(folder / "plan.toml", files_of(folder), program=program, client=client)
 
@@ -160,7 +375,7 @@ def test_no_file_can_be_added(folder, program):
     bad = folder / "3.ptu"
     whole = count_files(folder / "plan.toml", [bad, folder / "none.ptu"], program=program, progress=True)
     assert (whole.report, whole.added) == (None, ())
-    assert [(one.status, one.why) for one in whole.left] == [(17, "3 bytes of a record at the end"), (2, "cannot open the data")]
+    assert [(one.status, one.why) for one in whole.left] == [(17, "3 bytes of a record at the end"), (None, "No such file or directory")]
     assert count_files(folder / "plan.toml", [], program=program).report is None
 
 
@@ -176,14 +391,17 @@ def test_reports_on_disk_and_lines_of_refusals(folder, program):
     for path in files_of(folder):
         out = path.with_suffix(".txt")
         reports.append(out)
-        said = subprocess.run([program, "run", folder / "plan.toml", path], capture_output=True)
+        said = subprocess.run([program, "run", folder / "plan.toml", path], capture_output=True, check=False)
         out.write_bytes(said.stdout if said.returncode == 0 else b"refused %d %s" % (said.returncode, said.stderr))
     (folder / "cut.txt").write_bytes(reports[0].read_bytes()[:-5])
     whole = sum_files([*reports, folder / "cut.txt"], folder / "plan.toml")
     assert same(whole.report, wanted(folder, program)) and whole.report.table("correlation").photons is not None
     assert [(one.path.rpartition("/")[2], one.status) for one in whole.left] == [("3.txt", 17), ("5.txt", None), ("cut.txt", None)]
-    with pytest.raises(OSError):
-        sum_files([folder / "none.txt"])
+    alone = sum_files([folder / "none.txt"])
+    assert (alone.report, [one.why for one in alone.left]) == (None, ["No such file or directory"])
+    by_processes = sum_files([*reports, folder / "cut.txt"], folder / "plan.toml", processes=2, out=folder / "sum.txt")
+    assert by_processes.left == whole.left and same(by_processes.report, whole.report)
+    assert (folder / "sum.txt").read_text() == plain(folder, program, [0, 1, 2, 4, 6, 7])
 
 
 def test_reports_of_other_tables_are_left(folder, program):
@@ -193,7 +411,7 @@ def test_reports_of_other_tables_are_left(folder, program):
     paths = [str(folder / f"{name}.txt") for name in "abc"]
     for plan, why in ((None, "other tables"), (folder / "plan.toml", "the plan has other tables than the report")):
         whole = sum_files(paths, plan)
-        assert whole.left == (Left(paths[1], None, why),) and same(whole.report, sum_files(paths[::2], plan).report)
+        assert whole.left == (Left(paths[1], None, why, socket.gethostname()),) and same(whole.report, sum_files(paths[::2], plan).report)
 
 
 # ## Texts
@@ -213,6 +431,13 @@ def test_tables_of_pairs_and_folds_are_written_too(folder, program, ptu):
         (folder / "plan.toml").write_text(text)
         said = ptu("run", folder / "plan.toml", folder / "0.ptu").stdout
         assert b"".join(report_lines(ptulab.read_report(said))).decode() == said
+
+
+@given(st.integers(1, 4).flatmap(lambda number: st.lists(st.tuples(*[st.integers(0, 10**18) | st.integers(0, 11)] * number), max_size=20)))
+def test_lines_of_numbers(lines):
+    columns = [np.array(column, dtype=np.int64) for column in zip(*lines)] or [np.zeros(0, dtype=np.int64)]
+    wanted = "".join(" ".join(map(str, line)) + "\n" for line in lines).encode()
+    assert lines_of(columns) == lines_of([column.astype(object) for column in columns]) == wanted
 
 
 def test_great_counts_are_written_whole(tmp_path, ptu):
@@ -248,14 +473,14 @@ def test_the_memory_of_a_run_is_less(tmp_path, program):
         "cube = [{ group = 1, width = 64, height = 64, dwell = 300, line = 1, frame = 2, stop = 3, dwidth = 1, dbins = 2000 }]"
     )
     limit = f"ulimit -v {megabytes_of(tmp_path / 'plan.toml') * 1024}; exec {program} run {tmp_path}/plan.toml {EXAMPLES}/scan.ptu"
-    assert subprocess.run(["sh", "-c", limit], capture_output=True).returncode == 0
+    assert subprocess.run(["sh", "-c", limit], capture_output=True, check=False).returncode == 0
 
 
 # ## The commands
 
 
 def command(*words, **more):
-    return subprocess.run([sys.executable, "-m", "ptulab", *map(str, words)], capture_output=True, text=True, env=made_environment(), **more)
+    return subprocess.run([sys.executable, "-m", "ptulab", *map(str, words)], capture_output=True, text=True, env=made_environment(), **more, check=False)
 
 
 def made_environment():
@@ -264,9 +489,15 @@ def made_environment():
 
 def test_the_command_count(folder, program):
     said = command("count", folder / "plan.toml", *files_of(folder), "--program", program, "--left", folder / "left", "--processes", 2)
-    assert said.returncode == 0 and same(ptulab.read_report(said.stdout), wanted(folder, program))
+    assert said.returncode == 3 and same(ptulab.read_report(said.stdout), wanted(folder, program))
     assert said.stderr == (folder / "left").read_text() and "3.ptu: not added: 3 bytes of a record" in said.stderr
-    assert command("count", folder / "plan.toml", folder / "3.ptu", "--program", program).returncode == 1
+    assert command("count", folder / "plan.toml", folder / "3.ptu", "--program", program).returncode == 4
+    (folder / "list").write_text("".join(f"{path}\n" for path in files_of(folder)))
+    for words in (["--from", folder / "list", "--share", "1/4"], [*files_of(folder)[1::4]]):
+        assert command("count", folder / "plan.toml", *words, "--program", program, "-o", folder / "out").returncode == 3
+        assert (folder / "out").read_text() == plain(folder, program, [1])
+    assert command("count", folder / "plan.toml").returncode == 2
+    assert command("count", folder / "plan.toml", folder / "0.ptu", "--share", "2/2").returncode == 2
 
 
 def test_the_other_commands_in_this_process(folder, program, capsys, monkeypatch):
@@ -305,7 +536,7 @@ def test_words_that_are_no_command(capsys):
 
 
 def test_a_page_of_standard_input(folder, program):
-    text = subprocess.run([program, "run", EXAMPLES / "bench.toml", EXAMPLES / "bench.ptu"], capture_output=True, text=True).stdout
+    text = subprocess.run([program, "run", EXAMPLES / "bench.toml", EXAMPLES / "bench.ptu"], capture_output=True, text=True, check=False).stdout
     assert command("page", "-", "-o", folder / "page.html", input=text).returncode == 0
     assert (folder / "page.html").stat().st_size > 1_000_000
     said = command("page", "-", "-o", folder / "other.html", input="no report\n")

@@ -2,6 +2,7 @@
 
 import re
 import sys
+from typing import Any
 
 import pytest
 
@@ -13,11 +14,11 @@ pytest.importorskip("ipykernel", reason="python3-ipykernel isn't on this machine
 NUMBER = re.compile(r"\d+\.\d+(?:e[-+]\d+)?")
 
 
-def numbers(text):
+def numbers(text: str) -> Any:
     return [float(number) for number in NUMBER.findall(text)]
 
 
-def test_the_notebook_runs_and_is_rendered_as_it_stands(program, monkeypatch):
+def test_the_notebook_runs_and_is_rendered_as_it_stands(program: str, monkeypatch: pytest.MonkeyPatch) -> None:
     monkeypatch.setenv("PTU", program)
     monkeypatch.setenv("PYDEVD_DISABLE_FILE_VALIDATION", "1")
     monkeypatch.delenv("MPLBACKEND", raising=False)  # pictures are drawn into the notebook
@@ -33,9 +34,9 @@ def test_the_notebook_runs_and_is_rendered_as_it_stands(program, monkeypatch):
     assert [name for name in names if name not in kept] == []
 
 
-def test_the_notebook_is_kept_without_outputs():
+def test_the_notebook_is_kept_without_outputs() -> None:
     import nbformat
 
-    notebook = nbformat.read(DOCS / "notebook.ipynb", as_version=4)
+    notebook = nbformat.read(DOCS / "notebook.ipynb", as_version=4)  # type: ignore[no-untyped-call]
     nbformat.validate(notebook)
     assert all(cell.cell_type == "markdown" or (cell.outputs, cell.execution_count) == ([], None) for cell in notebook.cells)

@@ -1,6 +1,8 @@
 """The rules of a plan, beside the program's own word over random plans."""
 
 import re
+from collections.abc import Callable
+from pathlib import Path
 from typing import Any
 
 import pytest
@@ -17,7 +19,7 @@ NUMBERS = st.one_of(st.sampled_from([1, 1, 2, 2, 3, 4]), st.sampled_from(EDGES))
 OTHERS = st.sampled_from([True, 1.0, "1", [], {}])
 GATE = st.one_of(st.just([0, 5]), st.lists(st.sampled_from([0, 1, 5, 32768, 32769]), min_size=1, max_size=3))
 VALUES: dict[str, st.SearchStrategy[Any]] = {
-    "inputs": st.one_of(st.sets(st.integers(0, 64), min_size=1, max_size=3).map(sorted), st.lists(NUMBERS, max_size=3)),
+    "inputs": st.one_of(st.sets(st.integers(0, 64), min_size=1, max_size=3).map(lambda some: sorted(some)), st.lists(NUMBERS, max_size=3)),
     "gate": GATE,
     "gates": st.one_of(st.just([[0, 5], [5, 9]]), st.lists(GATE, max_size=9)),
     "groups": st.one_of(st.just([1, 2]), st.lists(st.integers(0, 4), max_size=7)),
@@ -67,7 +69,7 @@ def plans(draw: st.DrawFn) -> dict[str, Any]:
 
 @settings(max_examples=100, deadline=None, suppress_health_check=[HealthCheck.function_scoped_fixture])
 @given(plan=plans())
-def test_the_least_broken_rule_is_the_programs(tmp_path, ptu, plan):
+def test_the_least_broken_rule_is_the_programs(tmp_path: Path, ptu: Callable[..., Any], plan: Any) -> None:
     (tmp_path / "plan.toml").write_text("\n".join(f"{key} = {toml(value)}" for key, value in plan.items()))
     told = ptu("run", tmp_path / "plan.toml", "/dev/null")
     found = broken_rules(plan)
@@ -77,7 +79,7 @@ def test_the_least_broken_rule_is_the_programs(tmp_path, ptu, plan):
 
 
 @pytest.mark.parametrize("kind", KINDS)
-def test_too_many_of_a_kind(tmp_path, ptu, kind):
+def test_too_many_of_a_kind(tmp_path: Path, ptu: Callable[..., Any], kind: str) -> None:
     good = {"inputs": [0], "group": 1, "width": 1, "bins": 1, "start": 1, "stop": 1, "first": 1, "second": 1, "reach": 1,
             "height": 1, "dwell": 1, "line": 1, "lags": 2, "levels": 1, "shift": 0, "dwidth": 1, "dbins": 1, "groups": [1], "window": 1}
     plan: dict[str, Any] = {"version": 2, "period": 9, "group": [{"inputs": [0]}]}
@@ -88,13 +90,13 @@ def test_too_many_of_a_kind(tmp_path, ptu, kind):
     assert ptu("run", tmp_path / "plan.toml", "/dev/null").stderr.startswith("ptu: plan breaks rule 7 at ")
 
 
-def test_the_key_is_named():
+def test_the_key_is_named() -> None:
     plan = {"group": [{"inputs": [0]}], "histogram": [{"group": 1, "width": 0, "bins": 40000}, {"group": 2, "width": 1, "bins": 1}]}
     assert [(one.part, one.key) for one in broken_rules(plan)] == [("histogram 1", "width"), ("histogram 1", "bins"), ("histogram 2", "group")]
     assert str(broken_rules(plan)[1]) == "histogram 1: bins = 40000 isn't a whole number from 1 to 32,768 (rule 12)"
     assert broken_rules({"group": [{"inputs": [0]}]}) == []
 
 
-def test_the_examples_keep_the_rules():
+def test_the_examples_keep_the_rules() -> None:
     broken = {path.name for path in EXAMPLES.glob("*.toml") if broken_rules(read_plan(path))}
     assert broken == {"broken.toml"}

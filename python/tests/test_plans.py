@@ -2,6 +2,9 @@
 
 import numpy as np
 import pytest
+from collections.abc import Callable
+from pathlib import Path
+from typing import Any
 
 import made
 from conftest import EXAMPLES
@@ -17,7 +20,7 @@ SCAN = {"ImgHdr_PixX": 4, "ImgHdr_PixY": 2, "ImgHdr_LineStart": 1, "ImgHdr_LineS
 SYNC = 50e-9
 
 
-def scan(dwell):
+def scan(dwell: Any) -> Any:
     """Two lines of four pixels, with a photon in each pixel of the first line, and one in the last of the second."""
     ends = 200 + 4 * dwell
     events = [(200, Bits(5)), *((200 + pixel * dwell, 0, 7) for pixel in range(4)), (ends, Bits(2))]
@@ -25,10 +28,10 @@ def scan(dwell):
 
 
 @pytest.fixture
-def proposed(make_plan, program):
+def proposed(make_plan: Callable[..., Path], program: str) -> Any:
     """The plan for a file and its report; the plan must be good for it."""
 
-    def propose(path):
+    def propose(path: Any) -> Any:
         text = plan_for(path)
         plan = make_plan(text)
         assert check_plan(plan, path, program=program) == []
@@ -38,7 +41,7 @@ def proposed(make_plan, program):
 
 
 @pytest.mark.parametrize("tags", [{"ImgHdr_TimePerPixel": 32 * SYNC * 1e3}, {}])
-def test_the_plan_of_a_scan(make_file, proposed, tags):
+def test_the_plan_of_a_scan(make_file: Callable[..., Path], proposed: Any, tags: Any) -> None:
     text, report = proposed(make_file(T3, scan(32), tick=SYNC, resolution=25e-12, **SCAN, **tags))
     assert f"lasts 32 sync periods ({'the header' if tags else 'measured'}" in text
     assert report.table("image").counts.tolist() == [[1, 1, 1, 1], [0, 0, 0, 1]]
@@ -47,9 +50,9 @@ def test_the_plan_of_a_scan(make_file, proposed, tags):
     assert report.table("histogram").counts.shape == (2000,)
 
 
-def test_the_plan_of_a_scan_in_both_directions_with_broken_pixels(make_file, proposed):
+def test_the_plan_of_a_scan_in_both_directions_with_broken_pixels(make_file: Callable[..., Path], proposed: Any) -> None:
     tags = SCAN | {"ImgHdr_BiDirect": True, "ImgHdr_Frame": -1, "ImgHdr_TimePerPixel": 32.4 * SYNC * 1e3, "ImgHdr_SinCorrection": 70}
-    text, report = proposed(make_file(T3, scan(32), tick=SYNC, **tags))
+    text, _ = proposed(make_file(T3, scan(32), tick=SYNC, **tags))
     assert "no whole number, so the columns are shifted" in text and "like a sine" in text
     assert "version = 2\n" in text and "serpentine = true\n" in text and "frame" not in text
 
@@ -62,12 +65,12 @@ def test_the_plan_of_a_scan_in_both_directions_with_broken_pixels(make_file, pro
         ({"ImgHdr_LineStart": 4, "ImgHdr_LineStop": 4}, "not how long a pixel lasts: no image"),
     ],
 )
-def test_scans_that_no_image_suits(make_file, proposed, tags, said):
+def test_scans_that_no_image_suits(make_file: Callable[..., Path], proposed: Any, tags: Any, said: Any) -> None:
     assert said in proposed(make_file(T3, scan(32), tick=SYNC, **(SCAN | tags)))[0]
 
 
 @pytest.mark.parametrize("number", [float("inf"), float("nan"), 1e300, 5e-324, 0.0, -1.0])
-def test_headers_of_odd_seconds(make_file, proposed, number):
+def test_headers_of_odd_seconds(make_file: Callable[..., Path], proposed: Any, number: Any) -> None:
     """The plan is one that the program takes, whatever numbers stand in the header."""
     for tags in ({"tick": number, "resolution": 1e-12}, {"tick": SYNC, "resolution": number}, {"tick": SYNC, "ImgHdr_TimePerPixel": number}):
         report = proposed(make_file(T3, scan(32), **(SCAN | tags)))[1]
@@ -75,14 +78,14 @@ def test_headers_of_odd_seconds(make_file, proposed, number):
     assert proposed(make_file("HydraHarp2T2", [(0, 1), (1000, 2)], tick=number))[1].table("coincidence").counts.sum() == 1
 
 
-def test_a_deep_file_of_great_pictures_has_few_bins_a_pixel(make_file, proposed):
-    text, report = proposed(make_file(T3, scan(1), tick=SYNC, resolution=2e-12, **(SCAN | {"ImgHdr_PixX": 2048, "ImgHdr_PixY": 2048})))
+def test_a_deep_file_of_great_pictures_has_few_bins_a_pixel(make_file: Callable[..., Path], proposed: Any) -> None:
+    _, report = proposed(make_file(T3, scan(1), tick=SYNC, resolution=2e-12, **(SCAN | {"ImgHdr_PixX": 2048, "ImgHdr_PixY": 2048})))
     cube = report.table("cube").settings
     assert cube["dbins"] == 16 and cube["dbins"] * cube["dwidth"] >= 25000
 
 
-def test_the_plan_of_a_file_of_lifetimes_correlates_it(make_file, proposed):
-    text, report = proposed(make_file("PicoHarpT3", [(time, 1 + time % 2, 9) for time in range(5000)], tick=SYNC, resolution=4e-12))
+def test_the_plan_of_a_file_of_lifetimes_correlates_it(make_file: Callable[..., Path], proposed: Any) -> None:
+    _, report = proposed(make_file("PicoHarpT3", [(time, 1 + time % 2, 9) for time in range(5000)], tick=SYNC, resolution=4e-12))
     assert {table.kind for table in report.tables} == {"trace", "histogram", "correlation"}
     assert report.table("correlation").photons == (2500, 2500)
     assert report.table("correlation").settings == {"lags": 16, "levels": 6}
@@ -90,7 +93,7 @@ def test_the_plan_of_a_file_of_lifetimes_correlates_it(make_file, proposed):
 
 
 @pytest.mark.parametrize(("tick", "width"), [(1e-12, 501), (4e-12, 125), (25e-12, 21), (250e-12, 1), (1e-9, 1), (None, 501)])
-def test_the_reach_of_two_inputs_suits_the_tick(make_file, proposed, tick, width):
+def test_the_reach_of_two_inputs_suits_the_tick(make_file: Callable[..., Path], proposed: Any, tick: Any, width: Any) -> None:
     text, report = proposed(make_file("HydraHarp2T2", [(0, 0), (1, 1), (500, 2), (600, 3), (10**6, 1)], **({} if tick is None else {"tick": tick})))
     table = report.table("coincidence").settings
     assert table["width"] == width and table["reach"] % width == width // 2
@@ -100,24 +103,24 @@ def test_the_reach_of_two_inputs_suits_the_tick(make_file, proposed, tick, width
     assert report.table("trace").counts.sum() == 5
 
 
-def test_the_plan_of_one_input_correlates_it_with_itself(make_file, proposed):
-    text, report = proposed(make_file("MultiHarpT2", [(n * 1000, 4) for n in range(100)], tick=5e-12))
+def test_the_plan_of_one_input_correlates_it_with_itself(make_file: Callable[..., Path], proposed: Any) -> None:
+    _, report = proposed(make_file("MultiHarpT2", [(n * 1000, 4) for n in range(100)], tick=5e-12))
     assert {table.kind for table in report.tables} == {"trace", "correlation"}
     assert report.table("correlation").photons == (100, 100)
 
 
-def test_late_events_and_no_photons(make_file, proposed):
+def test_late_events_and_no_photons(make_file: Callable[..., Path], proposed: Any) -> None:
     assert plan_for(make_file(T3, [(3, Bits(1))])) == "# no photons\n"
     assert "# 1 events are late: with version = 2, try settle" in plan_for(make_file(T3, [(9, 0, 1), (5, 0, 1), (9, 0, 1)]))
 
 
-def test_no_plan_for_a_file_that_is_refused(tmp_path):
+def test_no_plan_for_a_file_that_is_refused(tmp_path: Path) -> None:
     (tmp_path / "bad.ptu").write_text("no such file")
     with pytest.raises(BadFile, match="not a PTU file"):
         plan_for(tmp_path / "bad.ptu")
 
 
-def test_a_look_at_a_file(make_file, monkeypatch):
+def test_a_look_at_a_file(make_file: Callable[..., Path], monkeypatch: pytest.MonkeyPatch) -> None:
     monkeypatch.setattr("ptulab._looks.iter_events", lambda path: __import__("ptulab").iter_events(path, records=3))
     seen = look(make_file(T3, [*scan(10), (5, 3, 99), (900, 3, 98)]))
     assert seen.inputs == {0: 5, 3: 2} and seen.bits == {1: 2, 2: 2, 3: 1}
@@ -126,7 +129,7 @@ def test_a_look_at_a_file(make_file, monkeypatch):
     assert seen.periods_of_line(1, 2) == 40 and seen.periods_of_line(1, 1) == 90 and seen.periods_of_line(1, 4) is None
 
 
-def test_lines_without_an_end_are_left_out():
+def test_lines_without_an_end_are_left_out() -> None:
     seen = look(EXAMPLES / "scan.ptu")
     assert seen.periods_of_line(1, 3) == 300 * 64
     seen.marks = (np.array([0, 100, 140]), np.array([1, 1, 2], dtype=np.uint8))
@@ -151,14 +154,14 @@ GROUP = "group = [{ inputs = [0] }]\n"
         ("version = 2\nperiod = 9\nshift = [{ input = 5, shift = 1 }]\n" + GROUP, "shift 1", "input", "input 5 doesn't occur"),
     ],
 )
-def test_what_does_not_go_with_a_file(make_file, make_plan, program, plan, part, key, said):
+def test_what_does_not_go_with_a_file(make_file: Callable[..., Path], make_plan: Callable[..., Path], program: str, plan: Any, part: Any, key: Any, said: Any) -> None:
     found = check_plan(make_plan(plan), make_file(T3, scan(32), tick=SYNC), program=program)
     assert (part, key) in [(one.part, one.key) for one in found]
     assert any(said in str(one) for one in found if one.key == key), list(map(str, found))
     assert [one.refused for one in found if one.key == "startstop"] == ([True] if part == "startstop 1" else [])
 
 
-def test_gates_want_dtimes(make_file, make_plan, ptu):
+def test_gates_want_dtimes(make_file: Callable[..., Path], make_plan: Callable[..., Path], ptu: Callable[..., Any]) -> None:
     path = make_file("HydraHarp2T2", [(1, 1)])
     plan = make_plan("group = [{ inputs = [1], gate = [0, 5] }]")
     assert ptu("run", plan, path).returncode == 9
@@ -168,7 +171,7 @@ def test_gates_want_dtimes(make_file, make_plan, ptu):
 
 
 @pytest.mark.parametrize(("reach", "width", "keys"), [(10, 3, []), (10, 4, ["reach", "width"]), (11, 3, ["reach"]), (4, 9, [])])
-def test_cells_of_coincidences(make_plan, reach, width, keys):
+def test_cells_of_coincidences(make_plan: Callable[..., Path], reach: Any, width: Any, keys: Any) -> None:
     plan = make_plan(f"group = [{{ inputs = [1] }}]\ncoincidence = [{{ first = 1, second = 1, reach = {reach}, width = {width} }}]")
     found = check_plan(plan)
     assert [one.key for one in found] == keys and not any(one.refused for one in found)
@@ -179,7 +182,7 @@ def test_cells_of_coincidences(make_plan, reach, width, keys):
         make_plan(plan.read_text())
 
 
-def test_a_plan_with_a_mark_in_front_and_late_events(make_file, make_plan, program):
+def test_a_plan_with_a_mark_in_front_and_late_events(make_file: Callable[..., Path], make_plan: Callable[..., Path], program: str) -> None:
     path = make_file(T3, [(9, 0, 1), (5, 0, 1), (9, 0, 1)])
     plan = make_plan("")
     plan.write_bytes(b"\xef\xbb\xbf" + GROUP.encode())
@@ -190,11 +193,11 @@ def test_a_plan_with_a_mark_in_front_and_late_events(make_file, make_plan, progr
     assert refused.refused and "goes back from 9 to 5" in str(refused)
 
 
-def test_a_check_without_a_program_says_so(make_file, make_plan, tmp_path):
+def test_a_check_without_a_program_says_so(make_file: Callable[..., Path], make_plan: Callable[..., Path], tmp_path: Path) -> None:
     (warning,) = check_plan(make_plan(GROUP), make_file(T3, [(9, 0, 1)]), program=tmp_path / "none")
     assert "weren't counted" in str(warning) and not warning.refused
 
 
-def test_the_proposed_plan_is_a_document():
+def test_the_proposed_plan_is_a_document() -> None:
     assert read_plan(plan_for(EXAMPLES / "scan.ptu").encode())["group"] == [{"inputs": [0]}]
     assert made.CODES["HydraHarp2T3"] == 0x01010304

@@ -1,4 +1,7 @@
 import sys
+from collections.abc import Callable, Iterator
+from pathlib import Path
+from typing import Any, cast
 
 import made
 import matplotlib
@@ -10,14 +13,14 @@ import ptulab
 from ptulab import fits, plots
 from ptulab.bursts import fret
 from ptulab.pulsed import coincidences, start_stops
-from ptulab.scans import Scan, cube, image
+from ptulab.scans import Cube, Scan, cube, image
 from ptulab.segments import correlation_by_segments
 
 matplotlib.use("Agg")
 
 
 @pytest.fixture(autouse=True)
-def drawn():
+def drawn() -> Iterator[Any]:
     """Every figure of a test is drawn, so that nothing fails when it is shown, and closed."""
     yield
     from matplotlib import pyplot
@@ -27,17 +30,17 @@ def drawn():
     pyplot.close("all")
 
 
-def labels(axes):
+def labels(axes: Any) -> Any:
     return axes.get_xlabel(), axes.get_ylabel()
 
 
-def bar(axes):
+def bar(axes: Any) -> Any:
     """The label of the figure's colour bar."""
     return [other.get_ylabel() for other in axes.figure.axes if other is not axes]
 
 
 @pytest.fixture
-def t3(program, tmp_path):
+def t3(program: str, tmp_path: Path) -> Any:
     plan = tmp_path / "plan.toml"
     plan.write_text(
         "version = 2\ngroup = [{ inputs = [0] }]\nhistogram = [{ group = 1, width = 64, bins = 64 }]\n"
@@ -49,8 +52,24 @@ def t3(program, tmp_path):
     return ptulab.run(plan, EXAMPLES / "scan.ptu", program=program), plan
 
 
-def test_tables_of_a_scan(t3):
-    report, plan = t3
+def test_the_colours_of_lifetimes_go_by_the_pixels_with_photons_enough() -> None:
+    """A bright square of 2 to 4 ns in a background of three photons a pixel at any time of 50 ns."""
+    draws = np.random.default_rng(5)
+    counts = np.zeros((40, 40, 100), dtype=np.int64)
+    for y, x in np.ndindex(40, 40):
+        bright = 10 <= y < 16 and 10 <= x < 26
+        delays = draws.exponential(2.0 if x < 18 else 4.0, 900) if bright else draws.uniform(0, 50, 3)
+        counts[y, x] = np.bincount((delays[delays < 50] / 0.5).astype(int), minlength=100)
+    made = Cube(Scan(40, 40, 1, time=1), counts, 1, 0, 0, 0.5e-9)
+    axes = plots.plot(made)
+    least, most = axes.images[0].get_clim()
+    assert 1.6 < least < 2.2 and 3.6 < most < 4.6
+    shown: list[Any] = [one.images[0].get_array() for one in (axes, plots.plot_lifetimes(made, threshold=1))]
+    assert [int(np.isnan(one.filled(np.nan)).sum()) for one in shown] == [40 * 40 - 6 * 16, 0]
+
+
+def test_tables_of_a_scan(t3: Any) -> None:
+    report, _ = t3
     decay = plots.plot(report.table("histogram"))
     assert labels(decay) == ("delay after the sync (ns)", "photons a bin") and decay.get_yscale() == "log"
     assert (decay.lines[0].get_ydata() == report.table("histogram").counts).all()
@@ -71,7 +90,7 @@ def test_tables_of_a_scan(t3):
     assert labels(curve) == ("delay (s)", "G (1 without correlation)") and curve.get_xscale() == "log"
 
 
-def test_tables_of_two_detectors(program, tmp_path, make_file):
+def test_tables_of_two_detectors(program: str, tmp_path: Path, make_file: Callable[..., Path]) -> None:
     draws = np.random.default_rng(2)
     events = sorted((int(time), int(number)) for time, number in zip(draws.integers(0, 20_000, 2000), draws.integers(1, 3, 2000)))
     plan = tmp_path / "plan.toml"
@@ -93,10 +112,10 @@ def test_tables_of_two_detectors(program, tmp_path, make_file):
     assert labels(plots.plot(told.table("correlation")))[0] == "delay (ticks)"
 
 
-def test_what_was_counted_here(make_file):
+def test_what_was_counted_here(make_file: Callable[..., Path]) -> None:
     draws = np.random.default_rng(3)
-    events = [(0, made.Bits(1))] + sorted((int(t), int(n), int(d)) for t, n, d in zip(draws.integers(1, 9000, 3000), draws.integers(0, 2, 3000), draws.exponential(20, 3000)))
-    events = ptulab.read_events(make_file("HydraHarp2T3", events, tick=5e-8, resolution=1e-10))
+    some: list[tuple[int, ...]] = [(0, made.Bits(1)), *sorted((int(t), int(n), int(d)) for t, n, d in zip(draws.integers(1, 9000, 3000), draws.integers(0, 2, 3000), draws.exponential(20, 3000)))]
+    events = ptulab.read_events(make_file("HydraHarp2T3", some, tick=5e-8, resolution=1e-10))
     scan = Scan(8, 1, 1, time=9000, frames=True)
     assert bar(plots.plot(image(events, scan))) == ["photons a pixel"]
     assert bar(plots.plot(cube(events, scan, 4, 32))) == ["mean delay (ns)"]
@@ -110,7 +129,7 @@ def test_what_was_counted_here(make_file):
     assert labels(plots.plot(start_stops(events, 0, 1, 2, 20))) == ("time between photons (µs)", "times a bin")
 
 
-def test_fits_are_drawn_over_their_data():
+def test_fits_are_drawn_over_their_data() -> None:
     axis = np.arange(100) * 1e-10
     counts = np.random.default_rng(4).poisson(1000 * np.exp(-axis / 2e-9) + 5)
     fit = fits.fit_tail(counts, axis, 1e-9)
@@ -125,15 +144,15 @@ def test_fits_are_drawn_over_their_data():
     assert labels(ticks)[0] == "delay after the sync (ticks)"
 
 
-def test_correlations_with_a_fit(make_file):
+def test_correlations_with_a_fit(make_file: Callable[..., Path]) -> None:
     path = make_file("HydraHarp2T2", [(int(t), 1) for t in np.sort(np.random.default_rng(6).integers(0, 20000, 3000))], tick=1e-6)
     curve = correlation_by_segments(ptulab.read_events(path), 1, 1, segments=8, levels=6)
-    fit = fits.fit_fcs(curve.seconds, curve.values, curve.errors, dimensions=2)
+    fit = fits.fit_fcs(np.asarray(curve.seconds), curve.values, curve.errors, dimensions=2)
     axes = plots.plot_correlation(curve, fit=fit)
     assert {one.get_text() for one in axes.get_legend().get_texts()} == {"fit", "mean of segments, standard error"}
 
 
-def test_phasors_and_bursts():
+def test_phasors_and_bursts() -> None:
     circle = plots.plot_phasors(fits.phasor_of_lifetime(np.linspace(1, 5, 50), 0.05))
     assert labels(circle) == ("g", "s") and bar(circle) == ["pixels"]
     counts = [np.random.default_rng(n).poisson(30, 200) for n in range(3)]
@@ -142,13 +161,13 @@ def test_phasors_and_bursts():
     assert labels(plots.plot_fret(fret(*counts[:2]))) == ("E", "bursts a bin")
 
 
-def test_matplotlib_is_named_where_it_is_missing(monkeypatch):
-    monkeypatch.setitem(sys.modules, "matplotlib.pyplot", None)
+def test_matplotlib_is_named_where_it_is_missing(monkeypatch: pytest.MonkeyPatch) -> None:
+    monkeypatch.setitem(cast(dict[str, Any], sys.modules), "matplotlib.pyplot", None)
     with pytest.raises(ptulab.Missing, match="python3-matplotlib"):
         plots.plot_decay(np.ones(3))
 
 
-def test_units_keep_numbers_short():
+def test_units_keep_numbers_short() -> None:
     for most, unit in ((2.0, "s"), (0.5, "ms"), (3e-5, "µs"), (9e-9, "ns"), (1e-12, "ps"), (1e-14, "ps"), (0.0, "s")):
         axis, name = plots.in_units(np.array([0.0, most]), np.array([0, 1]))
         assert name == unit and (axis[1] >= 1 or most < 1e-12)

@@ -8,9 +8,10 @@ import sys
 import time
 from collections.abc import Callable
 from pathlib import Path
-from typing import Any
+from typing import Any, cast
 
 import made
+import ptulab_program
 import pytest
 from conftest import EXAMPLES
 
@@ -84,7 +85,7 @@ def test_the_position_of_a_file_that_is_read(tmp_path: Path) -> None:
     slow = "import sys, time\nwith open(sys.argv[3], 'rb', buffering=0) as file:\n    file.read(300)\n    time.sleep(1.5)\nsys.exit(10)\n"
     seen: list[int] = []
 
-    class Bar(tqdm.tqdm):  # type: ignore[misc]
+    class Bar(tqdm.tqdm):  # type: ignore[misc,name-defined]
         def update(self, n: float = 1) -> bool | None:
             seen.append(int(self.n + n))
             return bool(super().update(n))
@@ -101,7 +102,7 @@ def test_the_position_in_a_process_that_is_gone() -> None:
 
 
 def test_a_bar_without_tqdm(monkeypatch: pytest.MonkeyPatch, program: str) -> None:
-    monkeypatch.setitem(sys.modules, "tqdm", None)
+    monkeypatch.setitem(cast(dict[str, Any], sys.modules), "tqdm", None)
     assert ptulab.run(*SCAN, program=program).head.photons == 97492
     with pytest.raises(Missing, match=r"the progress of a run needs tqdm: install python3-tqdm \(Debian\), or the extra ptulab\[many\]"):
         ptulab.run(*SCAN, program=program, progress=True)
@@ -128,13 +129,45 @@ def test_where_the_program_is(tmp_path: Path, monkeypatch: pytest.MonkeyPatch) -
     monkeypatch.setenv("PTU", str(path))
     assert module.find_program() == str(path)
     monkeypatch.chdir(tmp_path)
-    assert module.find_program("other") == str(path)
-    for named in ("nothing", tmp_path / "nothing", tmp_path):
+    others: tuple[Any, ...] = ("./other", Path("other"), "./nothing", "nothing", tmp_path / "nothing", tmp_path)
+    for named in others[:2]:
+        assert module.find_program(named) == str(path)
+    for named in others[2:]:
         with pytest.raises(NoProgram):
             module.find_program(named)
     monkeypatch.setenv("PATH", str(tmp_path))
     monkeypatch.chdir("/")
     assert module.find_program("other") == str(path)
+
+
+def test_a_folder_of_data_brings_no_program(tmp_path: Path, monkeypatch: pytest.MonkeyPatch) -> None:
+    """A name alone is one of the PATH, as in a shell: no file of that name in the working directory is run or hides it,
+    also where the PATH has the working directory, and neither does one of the checkout that can't be run."""
+    for folder in ("data", "bin", "checkout/out"):
+        (tmp_path / folder).mkdir(parents=True)
+        (tmp_path / folder / "ptu").write_text("#!/bin/sh\n")
+    ours = tmp_path / "bin" / "ptu"
+    ours.chmod(0o755)
+    monkeypatch.chdir(tmp_path / "data")
+    monkeypatch.delenv("PTU", raising=False)
+    (tmp_path / "checkout" / "crates.txt").touch()
+    monkeypatch.setattr(ptulab_program, "CHECKOUT", str(tmp_path / "checkout"))
+    monkeypatch.setattr(ptulab_program, "HERE", str(tmp_path))
+    for mode in (0o755, 0o644):
+        Path("ptu").chmod(mode)
+        for folders in (str(ours.parent), f":.:{ours.parent}", f"{ours.parent}:."):
+            monkeypatch.setenv("PATH", folders)
+            for named in (None, "ptu"):
+                assert module.find_program(named) == str(ours)
+            monkeypatch.setenv("PTU", "ptu")
+            assert module.find_program() == str(ours)
+            monkeypatch.delenv("PTU")
+    for folders in ("", ".", str(tmp_path)):
+        monkeypatch.setenv("PATH", folders)
+        with pytest.raises(NoProgram):
+            module.find_program()
+    (tmp_path / "checkout" / "out" / "ptu").chmod(0o755)
+    assert module.find_program() == str(tmp_path / "checkout" / "out" / "ptu")
 
 
 def test_a_program_that_answers_otherwise(tmp_path: Path) -> None:

@@ -6,9 +6,10 @@ import pkgutil
 import re
 import subprocess
 import sys
+from pathlib import Path
 
 import pytest
-from conftest import ROOT
+from conftest import EXAMPLES, ROOT
 
 import ptulab
 
@@ -36,6 +37,14 @@ def test_the_page_tells_of_each_public_name() -> None:
     assert len(names) > 60 and not missing, missing
 
 
+def test_every_module_comes_with_the_package() -> None:
+    """``ptulab.scans`` after ``import ptulab``, whatever else was imported: in a process of its own."""
+    words = [sys.executable, "-c", f"import ptulab; print(*[name for name in {MODULES} if not hasattr(ptulab, name.partition('.')[2])])"]
+    run = subprocess.run(words, capture_output=True, text=True, check=False)
+    assert (run.returncode, run.stdout, run.stderr) == (0, "\n", "")
+    assert {name.partition(".")[2] for name in MODULES} <= {*ptulab.__all__}
+
+
 IMPORTS = """
 import importlib, importlib.abc, pkgutil, sys
 
@@ -57,5 +66,40 @@ LIBRARIES = ["matplotlib", "scipy", "lmfit", "h5py", "tifffile", "xarray", "plot
 def test_only_numpy_is_needed_to_import_it() -> None:
     """Every module is imported where no other library is."""
     words = [sys.executable, "-c", IMPORTS.replace("{words}", repr(LIBRARIES))]
-    run = subprocess.run(words, capture_output=True, text=True, cwd=ROOT / "python" / "src")
+    run = subprocess.run(words, capture_output=True, text=True, check=False)
     assert run.returncode == 0 and int(run.stdout) > 30, run.stderr
+
+
+ELSEWHERE = """
+import mmap, multiprocessing, os, signal, sys
+
+for module, beginnings in ((os, ("sched_", "fork", "register_at_fork", "mkfifo", "geteuid")), (mmap, ("MADV_", "MAP_", "PROT_")), (signal, ("SIGKILL", "SIGHUP"))):
+    for name in [name for name in dir(module) if name.startswith(beginnings)]:
+        delattr(module, name)
+for name in ("fcntl", "resource", "grp", "pwd", "termios"):
+    sys.modules[name] = None  # importing it fails
+multiprocessing.get_all_start_methods = lambda: ["spawn"]
+
+import ptulab
+from ptulab import events, exports, groups, scans
+
+events.GIVEN_BACK = 1  # so that pages are given back at once
+file, report, folder = sys.argv[1:]
+read = ptulab.read_events(file)
+assert sum(map(len, ptulab.iter_events(file, records=1000))) == len(read) > 1000
+whole = ptulab.sum_files([report, report]).report
+assert scans.image(file, scans.Scan(64, 64, line=1, frame=2, time=64 * 300)).counts.any()
+exports.write_npz(whole, folder + "/report.npz")
+ptulab.write_report(whole, folder + "/sum.txt")
+assert (ptulab.read_report(folder + "/sum.txt").table("image").counts == whole.table("image").counts).all()
+assert ptulab.plan_for(file).startswith(("#", "version")) and ptulab.read_header(file) == read.header
+"""
+
+
+def test_the_parts_without_the_program_work_on_other_systems(tmp_path: Path, program: str) -> None:
+    """Where the system has no affinity, fork, advice on memory or modules of Unix, as macOS and Windows."""
+    text = subprocess.run([program, "run", EXAMPLES / "scan.toml", EXAMPLES / "scan.ptu"], capture_output=True, check=True).stdout
+    (tmp_path / "report.txt").write_bytes(text)
+    words = [sys.executable, "-c", ELSEWHERE, str(EXAMPLES / "scan.ptu"), str(tmp_path / "report.txt"), str(tmp_path)]
+    run = subprocess.run(words, capture_output=True, text=True, cwd=ROOT / "python" / "src", check=False)
+    assert (run.returncode, run.stderr) == (0, "")

@@ -49,7 +49,7 @@ def test_events_are_those_that_a_row_says(row: Row) -> None:
 @pytest.mark.parametrize("row", FILES, ids=named)
 def test_events_are_those_of_the_program(tmp_path: Path, program: str, row: Row) -> None:
     (tmp_path / "f").write_bytes(row.holds["file"])
-    run = subprocess.run([program, "events", str(tmp_path / "f")], capture_output=True, text=True)
+    run = subprocess.run([program, "events", str(tmp_path / "f")], capture_output=True, text=True, check=False)
     said, status, line = decoded(row.holds["file"])
     assert (said, status, line) == (run.stdout.splitlines(), run.returncode, run.stderr)
     if status == 0:

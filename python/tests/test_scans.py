@@ -1,4 +1,7 @@
+from collections.abc import Callable
 from fractions import Fraction
+from pathlib import Path
+from typing import Any
 
 import made
 import numpy as np
@@ -19,18 +22,18 @@ BITS = st.one_of(st.none(), st.integers(1, 4))
 
 
 @pytest.fixture(scope="session")
-def folder(tmp_path_factory):
+def folder(tmp_path_factory: pytest.TempPathFactory) -> Path:
     return tmp_path_factory.mktemp("scans")
 
 
-def counted(program, folder, plan, events):
+def counted(program: str, folder: Path, plan: Any, events: Any) -> Any:
     """What ptu counts by a plan, and the events, of a file of these events."""
     (folder / "plan.toml").write_text("version = 2\n" + plan)
     path = made.write(folder / "data.ptu", "HydraHarp2T3", events, tick=1e-8, resolution=1e-11)
     return ptulab.run(folder / "plan.toml", path, program=program), ptulab.read_events(path)
 
 
-def keys(width, height, dwell, line, frame, stop, serpentine):
+def keys(width: int, height: int, dwell: int, line: int, frame: int | None, stop: int | None, serpentine: Any) -> str:
     """The keys of an image of a plan."""
     said = {"group": 1, "width": width, "height": height, "dwell": dwell, "line": line, "frame": frame, "stop": stop}
     told = [f"{key} = {value}" for key, value in said.items() if value is not None]
@@ -41,7 +44,7 @@ def keys(width, height, dwell, line, frame, stop, serpentine):
 @given(
     random_events.scans, st.integers(1, 6), st.integers(1, 4), st.integers(1, 9), st.integers(1, 4), BITS, BITS, st.booleans()
 )
-def test_whole_pixel_times_are_counted_as_ptu_does(program, folder, events, width, height, dwell, line, frame, stop, serpentine):
+def test_whole_pixel_times_are_counted_as_ptu_does(program: str, folder: Path, events: Any, width: int, height: int, dwell: int, line: int, frame: int | None, stop: int | None, serpentine: Any) -> None:
     said = keys(width, height, dwell, line, frame, stop, serpentine)
     plan = f"group = [{{ inputs = [0, 2], gates = [[0, 9], [12, 40]] }}]\nimage = [{{ {said} }}]\n"
     plan += f"cube = [{{ {said}, dwidth = 7, dbins = 4 }}]\n"
@@ -57,11 +60,11 @@ def test_whole_pixel_times_are_counted_as_ptu_does(program, folder, events, widt
     assert (framed.counts.sum(axis=0) == report.table("image").counts).all() and framed.outside == table.rest["outside"]
 
 
-def has(event, bit):
+def has(event: Any, bit: int | None) -> Any:
     return bit is not None and isinstance(event[1], made.Bits) and event[1] >> bit - 1 & 1
 
 
-def place(events, at, scan):
+def place(events: Any, at: int, scan: Any) -> Any:
     """The frame, row and column of a photon, by looking at all markers before it, or None."""
     line = max((i for i in range(at) if has(events[i], scan.line)), default=None)
     if line is None or any(has(event, scan.stop) for event in events[line + 1 : at]):
@@ -98,20 +101,20 @@ def place(events, at, scan):
     st.sampled_from([False, True, "lines"]),
     st.sampled_from([0, 1.5, -2.25, 3]),
 )
-def test_every_photon_is_in_its_place(folder, events, line, frame, stop, time, serpentine, phase):
+def test_every_photon_is_in_its_place(folder: Path, events: Any, line: int, frame: int | None, stop: int | None, time: float | None, serpentine: Any, phase: float) -> None:
     scan = Scan(5, 3, line, stop, frame, time, serpentine, phase, frames=True)
     path = made.write(folder / "fractions.ptu", "HydraHarp2T3", events)
     photons = [at for at, event in enumerate(events) if not isinstance(event[1], made.Bits)]
     places = [place(events, at, scan) for at in photons]
     ours = image(path, scan)
-    expected = np.zeros(ours.counts.shape, np.uint64)
+    expected = np.zeros(ours.counts.shape, np.int64)
     for one in places:
         if one is not None:
             expected[one] += 1
     assert (ours.counts == expected).all() and ours.outside == places.count(None)
 
 
-def test_pixels_of_no_whole_time_are_not_displaced(make_file):
+def test_pixels_of_no_whole_time_are_not_displaced(make_file: Callable[..., Path]) -> None:
     """512 pixels of 8.4 periods, a photon in the middle of each: one in each column, and displaced by a whole time of 8."""
     photons = [(100 + int(8.4 * (column + 0.5)), 0) for column in range(512)]
     path = make_file("HydraHarp2T3", [(100, made.Bits(1)), *photons, (100 + 4301, made.Bits(2))])
@@ -121,7 +124,7 @@ def test_pixels_of_no_whole_time_are_not_displaced(make_file):
     assert displaced.outside == 24 and displaced.counts.min() == 0
 
 
-def test_columns_of_the_scan_stay_in_place(program):
+def test_columns_of_the_scan_stay_in_place(program: str) -> None:
     """The example's scan, by its markers' own time of a line: the sum of each row is that of ptu's image."""
     report = ptulab.run(EXAMPLES / "scan.toml", EXAMPLES / "scan.ptu", program=program)
     events = ptulab.read_events(EXAMPLES / "scan.ptu")
@@ -130,7 +133,7 @@ def test_columns_of_the_scan_stay_in_place(program):
     assert (ours.counts.sum(axis=0) == report.table("image").counts).all()
 
 
-def two_ways(late):
+def two_ways(late: int) -> Any:
     """Three frames of five lines to and fro of 40 periods, with two bright places; those backwards are late."""
     events, pixels = [], 10
     for number in range(15):
@@ -141,7 +144,7 @@ def two_ways(late):
     return events
 
 
-def test_a_phase_of_both_directions_is_found(make_file):
+def test_a_phase_of_both_directions_is_found(make_file: Callable[..., Path]) -> None:
     path = make_file("HydraHarp2T3", two_ways(6))
     scan = Scan(10, 5, 1, stop=2, time=40, serpentine="lines")
     phase = best_phase(path, scan, np.arange(0, 12.0))
@@ -155,8 +158,8 @@ def test_a_phase_of_both_directions_is_found(make_file):
 HEADER = {"ImgHdr_PixX": 512, "ImgHdr_PixY": 256, "ImgHdr_LineStart": 1, "ImgHdr_LineStop": 2, "ImgHdr_Frame": 3, "ImgHdr_BiDirect": True}
 
 
-def test_the_header_tells_of_a_scan(make_file):
-    def told(tags, **other):
+def test_the_header_tells_of_a_scan(make_file: Callable[..., Path]) -> None:
+    def told(tags: Any, **other: Any) -> Any:
         return scan_of(ptulab.read_header(make_file("HydraHarp2T3", [], tick=5e-8, **tags)), **other)
 
     assert told(HEADER) == Scan(512, 256, 1, stop=2, frame=3, serpentine=True)
@@ -171,21 +174,21 @@ def test_the_header_tells_of_a_scan(make_file):
             told({name: value for name, value in HEADER.items() if name != f"ImgHdr_{tag}"})
 
 
-def test_lines_tell_their_markers(make_file):
+def test_lines_tell_their_markers(make_file: Callable[..., Path]) -> None:
     path = make_file("HydraHarp2T3", [(5, made.Bits(1)), (10, made.Bits(3)), (30, made.Bits(2)), (40, made.Bits(1)), (41, 0)])
     lines = lines_of(ptulab.read_events(path), Scan(4, 2, 1, stop=2))
     assert lines["start"].tolist() == [5, 10, 40] and lines["length"].tolist() == [5, 20, 0]
     assert lines["row"].tolist() == [0, 1, 0] and lines["frame"].tolist() == [0, 0, 1]
 
 
-def test_empty_files_give_empty_images(make_file):
+def test_empty_files_give_empty_images(make_file: Callable[..., Path]) -> None:
     path = make_file("HydraHarp2T3", [])
     assert image(path, Scan(3, 2, 1, time=9)).counts.sum() == 0
     assert cube(path, Scan(3, 2, 1, time=9, frames=True), 5, 4).counts.shape == (0, 2, 3, 4)
     assert len(photons_of(path)) == 0 and len(photons_of(ptulab.read_events(path), 1)) == 0
 
 
-def test_settings_that_no_scan_has_are_refused(make_file):
+def test_settings_that_no_scan_has_are_refused(make_file: Callable[..., Path]) -> None:
     for bad in ({"width": 0}, {"line": 5}, {"stop": 0}, {"time": None}, {"time": -1.0}, {"time": float("nan")}, {"phase": float("inf")}):
         with pytest.raises(ValueError):
             Scan(**({"width": 4, "height": 4, "line": 1, "time": 9} | bad))
@@ -201,7 +204,7 @@ def test_settings_that_no_scan_has_are_refused(make_file):
         Group(gates=[(5, 5)])
 
 
-def test_shifts_are_those_of_a_plan(program, folder):
+def test_shifts_are_those_of_a_plan(program: str, folder: Path) -> None:
     events = [(1, 0, 3), (2, 1, 90), (3, 1, 4), (3, made.Bits(1)), (4, 2, 99)]
     plan = "period = 100\nshift = [{ input = 1, shift = 85 }]\ngroup = [{ inputs = [0, 1, 2] }]\n"
     report, events = counted(program, folder, plan + "histogram = [{ group = 1, width = 1, bins = 100 }]\n", events)
@@ -213,13 +216,13 @@ def test_shifts_are_those_of_a_plan(program, folder):
 
 @settings(max_examples=20, deadline=None)
 @given(random_events.scans, st.integers(1, 20), st.booleans())
-def test_pieces_of_a_file_are_put_together(folder, events, piece, by_path):
+def test_pieces_of_a_file_are_put_together(folder: Path, events: Any, piece: int, by_path: bool) -> None:
     """Images, pairs, windows and groups are the same however the file falls into pieces."""
     path = made.write(folder / "pieces.ptu", "HydraHarp2T3", events, tick=1e-8, resolution=1e-11)
     read = ptulab.read_events(path)
     scan = Scan(5, 4, 1, stop=2, frame=3, serpentine=True, phase=1.5, frames=True)
 
-    def counted(source):
+    def counted(source: Any) -> Any:
         pairs, found = coincidences(source, 0, (1, 2), 9), cube(source, scan, 9, 3, (0, 1))
         whole = [image(source, scan).counts, image(source, scan).outside, found.counts, found.outside, found.over]
         seconds = [image(source, scan).global_seconds, found.seconds, pairs.seconds]
@@ -230,3 +233,52 @@ def test_pieces_of_a_file_are_put_together(folder, events, piece, by_path):
         parts = counted(path if by_path else read)
     assert all(np.array_equal(one, other) for one, other in zip(parts, counted(read), strict=True))
     assert parts[5] == 1e-8 and parts[6][1] == pytest.approx(9e-11) and parts[7][-1] == pytest.approx(9e-8)
+
+
+# What leaves a picture empty is said.
+
+
+@pytest.mark.parametrize(
+    ("words", "said"),
+    [
+        ({"frame": 3}, "bit 3, which begins a frame"),
+        ({"line": 4}, "bit 4, which begins a line"),
+        ({"time": None, "stop": 4}, "bit 4, which ends it"),
+        ({"time": 1}, "none comes within a line"),
+    ],
+)
+def test_a_picture_without_photons_says_why(make_file: Callable[..., Path], words: Any, said: str) -> None:
+    path = make_file("HydraHarp2T3", [(5, made.Bits(1)), (9, 0, 3), (12, 0, 3), (40, made.Bits(1)), (44, 0, 1)])
+    scan = Scan(**({"width": 4, "height": 2, "line": 1, "time": 20} | words))
+    for call in (lambda: image(path, scan), lambda: cube(path, scan, 1, 2)):
+        with pytest.warns(UserWarning, match=f"all 3 photons are outside of the image: .*{said}") as told:
+            assert call().outside == 3
+        assert told[0].filename == __file__
+
+
+def test_pictures_with_a_photon_and_of_none_say_nothing(make_file: Callable[..., Path], recwarn: pytest.WarningsRecorder) -> None:
+    path = make_file("HydraHarp2T3", [(5, made.Bits(1)), (9, 0, 3), (50, 0, 3)])
+    scan = Scan(4, 2, 1, time=20)
+    assert image(path, scan).outside == 1 and cube(path, scan, 1, 2).over == 1
+    assert image(path, Scan(4, 2, 1, time=20, frame=3), 2).outside == 0 and not recwarn.list
+
+
+def test_a_sine_that_the_header_tells_of_is_said(make_file: Callable[..., Path], recwarn: pytest.WarningsRecorder) -> None:
+    header = ptulab.read_header(make_file("HydraHarp2T3", [], tick=5e-8, **HEADER, ImgHdr_SinCorrection=80))
+    with pytest.warns(UserWarning, match="ImgHdr_SinCorrection = 80.*aren't straightened"):
+        assert scan_of(header) == Scan(512, 256, 1, stop=2, frame=3, serpentine=True)
+    recwarn.clear()
+    scan_of(ptulab.read_header(make_file("HydraHarp2T3", [], tick=5e-8, **HEADER, ImgHdr_SinCorrection=0)))
+    assert not recwarn.list
+
+
+def test_lines_of_no_time_are_refused(make_file: Callable[..., Path]) -> None:
+    """A time that its nearest fraction makes 0 left the image empty."""
+    path = make_file("HydraHarp2T3", [(5, made.Bits(1)), (5, 0, 3), (6, 0, 3)])
+    for time in (4e-7, 9e-7, Fraction(1, 1_000_001)):
+        with pytest.raises(ValueError, match="a line of"):
+            Scan(4, 4, 1, time=time)
+    assert image(path, Scan(4, 4, 1, time=1e-6)).counts.sum() == 1
+    with pytest.raises(ValueError, match="too short for a phase"):
+        image(path, Scan(2048, 4, 1, time=0.25, phase=1e12 + 0.001))
+    assert Scan(4, 4, 1, time=1e-6).time == 1e-6

@@ -2,6 +2,8 @@
 
 import re
 import sys
+from collections.abc import Iterator
+from typing import Any
 
 import pytest
 from conftest import ROOT
@@ -13,7 +15,7 @@ PAGE = (ROOT / "docs" / "python.md").read_text("utf-8")
 ANCHORS = {title.lower().replace(" ", "-"): title for title in re.findall(r"^##+ (.*)$", PAGE, flags=re.M)}
 
 
-def told():
+def told() -> Iterator[Any]:
     """The title of each row of a table of tasks, and the lines that it tells."""
     for table in re.findall(r"^\| Task \|.*?\n((?:\|.*\n)+)", PAGE, flags=re.M):
         for row in table.splitlines()[1:]:

@@ -1,9 +1,32 @@
 """Python around ``ptu``, the program that counts exactly what is in PTU time-tag files.
 
 Reports and their sums (``read_report``, ``sum_reports``), runs of the program (``run``), and the events of a file
-(``read_events``, ``iter_events``). It is tested, not proved; docs/python.md tells all of it.
+(``read_events``, ``iter_events``); each module comes with it, as ``ptulab.scans``. It is tested, not proved; docs/python.md tells all of it.
 """
 
+from . import (
+    bursts,
+    errors,
+    events,
+    exports,
+    fits,
+    groups,
+    headers,
+    many,
+    page,
+    photon_hdf5,
+    picked,
+    plans,
+    plots,
+    program,
+    pulsed,
+    report,
+    scans,
+    segments,
+    tables,
+    texts,
+    traces,
+)
 from .errors import BadFile, BadPlan, BadReport, FitFailed, Missing, NoProgram, NotKnown, NoTable, PtulabError, Refusal, Unlike
 from .events import EVENT, Events, iter_events, read_events
 from .headers import Header, read_header
@@ -15,12 +38,13 @@ from .report import Head, Report, read_report, sum_reports
 from .tables import Table
 from .texts import write_report
 from .traces import LongTrace, read_trace
+from ._versions import __version__, versions
 
 __all__ = [
-    "EVENT",
     "BadFile",
     "BadPlan",
     "BadReport",
+    "EVENT",
     "Events",
     "Finding",
     "FitFailed",
@@ -38,19 +62,42 @@ __all__ = [
     "Sum",
     "Table",
     "Unlike",
+    "__version__",
+    "bursts",
     "check_plan",
     "count_files",
+    "errors",
+    "events",
+    "exports",
     "find_program",
+    "fits",
+    "groups",
+    "headers",
     "iter_events",
+    "many",
+    "page",
+    "photon_hdf5",
+    "picked",
     "plan_for",
+    "plans",
+    "plots",
+    "program",
+    "pulsed",
     "read_events",
     "read_header",
     "read_plan",
     "read_report",
     "read_trace",
+    "report",
     "run",
+    "scans",
+    "segments",
     "sum_files",
     "sum_reports",
+    "tables",
+    "texts",
+    "traces",
+    "versions",
     "write_page",
     "write_report",
 ]

@@ -1,5 +1,8 @@
 """Lines of whole numbers as an array, at some nanoseconds a number."""
 
+from collections.abc import Sequence
+from typing import Any
+
 import numpy as np
 from numpy.typing import NDArray
 
@@ -47,3 +50,34 @@ def _well_formed(
         and np.count_nonzero(letters == 32) == len(ends) - lines
         and 0 < int(lengths.min()) <= int(lengths.max()) <= MOST_DIGITS
     )
+
+
+def lines_of(columns: Sequence[NDArray[Any]]) -> bytes:
+    """The lines of some columns of whole numbers that aren't negative, with a blank between two of them.
+
+    Every number is written with as many digits as the greatest of its column, and the zeros in front are left out.
+    """
+    if any(column.dtype == object for column in columns):
+        line = "%d " * (len(columns) - 1) + "%d\n"
+        return "".join(map(line.__mod__, zip(*(column.tolist() for column in columns)))).encode("ascii")
+    parts = [_digits_of(column) for column in columns]
+    letters = np.concatenate([part for part, _ in parts])
+    letters[-1] = 10  # the end of a line is the last one's blank
+    shown = np.concatenate([shown for _, shown in parts])
+    return bytes(letters.T[shown.T])
+
+
+def _digits_of(column: NDArray[Any]) -> tuple[NDArray[np.uint8], NDArray[np.bool_]]:
+    """The digits of numbers and a blank, each a row of letters, and which of them are shown."""
+    greatest = int(column.max(initial=0))
+    width = len(str(greatest))
+    rest = column.astype(np.uint32 if greatest < 1 << 32 else np.uint64)
+    letters = np.full((width + 1, len(rest)), 32, np.uint8)
+    shown = np.ones((width + 1, len(rest)), np.bool_)
+    for place in range(width - 1, -1, -1):
+        more = rest // rest.dtype.type(10)
+        letters[place] = rest - more * rest.dtype.type(10) + rest.dtype.type(48)
+        if place < width - 1:
+            shown[place] = rest > 0
+        rest = more
+    return letters, shown

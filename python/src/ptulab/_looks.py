@@ -4,12 +4,11 @@ from __future__ import annotations
 
 import os
 from dataclasses import dataclass, field
-from typing import Any
 
 import numpy as np
 from numpy.typing import NDArray
 
-from .events import iter_events
+from .events import Events, iter_events
 from .headers import Header, read_header
 
 INPUTS, BITS = 65, (1, 2, 3, 4)
@@ -76,7 +75,7 @@ def look(path: str | os.PathLike[str]) -> Look:
     return seen
 
 
-def _times(seen: Look, events: NDArray[Any]) -> None:
+def _times(seen: Look, events: Events) -> None:
     """Takes the least and the greatest time, and the greatest dtime, of events that aren't late."""
     least, most = int(events["time"].min()), int(events["time"].max())
     seen.first = least if seen.first is None else min(seen.first, least)

@@ -8,6 +8,7 @@ from typing import Any
 
 from ._documents import read_plan
 from .errors import NoProgram, Refusal
+from .headers import other_records
 from ._looks import Look, look
 from ._plan_rules import Finding, Plan, broken_rules
 from .program import find_program, run
@@ -31,7 +32,7 @@ def check_plan(plan: PathLike | bytes, file: PathLike | None = None, *, program:
 
     ``plan`` is a path or the bytes of the plan, read as the program reads it. Of a plan that breaks rules each key
     whose value is out of its range is named. With a ``file`` it is looked at whole: a part that doesn't suit its mode,
-    inputs and marker bits that don't occur, a correlation longer than the file; and where the program is found
+    inputs and marker bits that don't occur, a correlation longer than the file, a file that may be cut; and where the program is found
     (``program``, else as ``run`` finds it) the plan is run, and tables that leave out more than a tenth of their photons
     are told. Findings that aren't ``refused`` are warnings.
 
@@ -47,7 +48,7 @@ def check_plan(plan: PathLike | bytes, file: PathLike | None = None, *, program:
         return found
     seen = look(file)
     unsuited = list(_modes(checked, seen))
-    found = [*unsuited, *found, *_inputs(checked, seen), *_markers(checked, seen), *_delays(checked, seen)]
+    found = [*unsuited, *found, *_records(seen), *_inputs(checked, seen), *_markers(checked, seen), *_delays(checked, seen)]
     if not unsuited and not isinstance(plan, bytes):
         found += _counted(plan, file, program)
     return found
@@ -85,6 +86,11 @@ def _modes(plan: Plan, seen: Look) -> Iterator[Finding]:
         for number, _ in enumerate(plan.tables(kind), 1):
             if ONLY[kind] != mode:
                 yield Finding(0, number, f"{kind} {number}", kind, f"a {kind} doesn't suit {mode}: it is of {ONLY[kind]} files only")
+
+
+def _records(seen: Look) -> Iterator[Finding]:
+    if odd := other_records(seen.header.announced, seen.header.records):
+        yield _warning("the file", "", odd)
 
 
 def _inputs(plan: Plan, seen: Look) -> Iterator[Finding]:

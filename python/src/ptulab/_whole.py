@@ -5,7 +5,7 @@ from __future__ import annotations
 import contextlib
 import errno
 import os
-import tempfile
+import secrets
 from collections.abc import Iterator
 from typing import IO
 
@@ -21,16 +21,13 @@ def whole_path(path: str | os.PathLike[str]) -> Iterator[str]:
     target = os.path.realpath(path)
     if os.path.exists(path) and not os.path.isfile(path):
         raise OSError(errno.EINVAL, "no regular file, so none can take its place", os.fspath(path))
+    temporary = os.path.join(os.path.dirname(target), f".ptulab-{secrets.token_hex(8)}")
     try:
-        descriptor, temporary = tempfile.mkstemp(dir=os.path.dirname(target) or ".", prefix=".ptulab-")
+        os.close(os.open(temporary, os.O_CREAT | os.O_EXCL | os.O_WRONLY, 0o666))  # less the mask of the process
     except OSError as error:
         raise OSError(error.errno, error.strerror, os.fspath(path)) from None  # not of the name that nobody knows
-    os.close(descriptor)
     try:
         yield temporary
-        mask = os.umask(0)
-        os.umask(mask)
-        os.chmod(temporary, 0o666 & ~mask)
         os.replace(temporary, target)
     except BaseException:
         with contextlib.suppress(FileNotFoundError):

@@ -11,7 +11,8 @@ import numpy as np
 from numpy.typing import NDArray
 
 from .errors import NotKnown
-from .groups import GroupLike, group_of
+from .groups import GroupLike, Part, group_of
+from ._values import Compared
 
 __all__ = ["BURST", "Fret", "find_bursts", "fret", "fused", "photons_in"]
 
@@ -73,7 +74,7 @@ def fused(bursts: NDArray[np.void], gap: int = 0) -> NDArray[np.void]:
     return result
 
 
-def photons_in(bursts: NDArray[np.void], photons: NDArray[np.void], group: GroupLike) -> NDArray[np.int64]:
+def photons_in(bursts: NDArray[np.void], photons: Part, group: GroupLike) -> NDArray[np.int64]:
     """How many photons of a group each burst has: shape (bursts,).
 
     ``photons``: those in whose times the bursts were found, as ``photons_of`` gives them.
@@ -86,8 +87,8 @@ def photons_in(bursts: NDArray[np.void], photons: NDArray[np.void], group: Group
 Counted = tuple[NDArray[np.int64], NDArray[np.float64]]  # bursts in bins, and the edges of the bins
 
 
-@dataclass(frozen=True)
-class Fret:
+@dataclass(frozen=True, eq=False)
+class Fret(Compared):
     """Of each burst E and S, shape (bursts,), nan where no photon tells.
 
     ``E``: the FRET efficiency, or the proximity ratio where nothing is corrected. ``S``: the stoichiometry, None where

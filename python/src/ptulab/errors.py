@@ -3,6 +3,8 @@
 A path that can't be opened or read is Python's own ``OSError``; all else is a ``PtulabError``.
 """
 
+import shlex
+
 __all__ = [
     "BadFile",
     "BadPlan",
@@ -47,10 +49,16 @@ class FitFailed(PtulabError, ArithmeticError):
 
 
 class BadFile(PtulabError, ValueError):
-    """A PTU file that the program would refuse: ``status`` is its exit status, ``line`` what it would say."""
+    """A PTU file that the program would refuse: ``status`` is its exit status, ``line`` what it would say.
+
+    As a text it also says how the whole records of a file that was cut within one are saved.
+    """
 
     def __init__(self, status: int, line: str, path: str = "") -> None:
-        super().__init__(f"{path}: {line}" if path else line)
+        said = f"{path}: {line}" if path else line
+        if status == 17:
+            said += f" (partial=True reads what is before them, and head -c -{line.split()[0]} {shlex.quote(path)} > COPY saves it)"
+        super().__init__(said)
         self.status, self.line, self.path = status, line, path
 
     def __reduce__(self) -> tuple[type["BadFile"], tuple[int, str, str]]:

@@ -1,4 +1,4 @@
-"""The photons and markers of a PTU file as an array, read from the file itself.
+"""The photons and markers of a PTU file in columns, read from the file itself.
 
 For what a plan can't ask; what a plan can ask is counted by the program (``ptulab.run``), whose counts are proved.
 These functions are tested, not proved: they give what ``ptu events`` prints, which is shown by tests over random
@@ -6,10 +6,12 @@ headers and words of all twelve record types. Layouts, wraps and late events are
 PicoQuant's documentation of the TTTR format and its demo readers.
 """
 
+import functools
 import mmap
 import os
-from collections.abc import Callable, Iterator
-from dataclasses import dataclass
+from collections.abc import Callable, Iterator, Sequence
+from dataclasses import dataclass, field
+from typing import Any, overload
 
 import numpy as np
 from numpy.typing import NDArray
@@ -18,63 +20,175 @@ from .errors import BadFile
 from .headers import Header, read_header
 from ._layouts import RESERVED, WRAP, Words, layout_of
 from ._scratch import keep_scratch
+from ._values import Compared
 
-__all__ = ["EVENT", "Events", "iter_events", "read_events"]
+__all__ = ["EVENT", "Events", "events_of", "iter_events", "read_events"]
 
 EVENT = np.dtype(
-    [("record", "<i8"), ("time", "<i8"), ("dtime", "<i4"), ("number", "u1"), ("marker", "?"), ("late", "?")]
+    [("record", "<i8"), ("time", "<i8"), ("dtime", "<i4"), ("number", "u1"), ("marker", "?"), ("late", "?")], align=True
 )
+MARKER, LATE = 1, 2  # bits of flags
 GREATEST = 1 << 62  # that all wraps of a file may add up to
 PIECE = 1 << 16  # records that are decoded together, so that their arrays stay in the processor's cache
 GIVEN_BACK = 1 << 24  # bytes of the file that stay mapped behind the records that are read
+COLUMNS = {"record": "records", "time": "times", "dtime": "dtimes", "number": "numbers"}  # by their names in rows
+UNKNOWN = Header("", {}, None, None, None, 0, 0)  # of rows alone
 
 
-@dataclass(frozen=True)
-class Events:
-    """The events of a file, or of a part of it.
+@dataclass(eq=False)
+class Records:
+    """The numbers of the records of some events, which are worked out when they are asked for."""
 
-    ``array`` has one element for each photon and marker, in the order of the file, with these fields:
+    make: Callable[[], NDArray[np.int64]]
 
-    - ``record``: the number of its record, from 1;
-    - ``time``: its absolute time, in ticks of T2, in sync periods of T3;
-    - ``dtime``: of a T3 photon its delay after the sync in ticks, else 0;
-    - ``number``: the input of a photon, or the bits of a marker (bit n of a plan has the value 2^(n-1));
-    - ``marker``: whether it is a marker;
-    - ``late``: whether it goes back in time; the program counts such events in no table.
+    @functools.cached_property
+    def numbers(self) -> NDArray[np.int64]:
+        """The numbers, (n,), from 1."""
+        return self.make()
+
+
+def _numbers_of(bits: NDArray[np.uint8], first: int, many: int) -> NDArray[np.int64]:
+    return np.flatnonzero(np.unpackbits(bits, count=many)) + (first + 1)
+
+
+def _numbers_in(rows: NDArray[np.void]) -> NDArray[np.int64]:
+    return np.array(rows["record"])
+
+
+def _numbers_among(records: Records, key: Any) -> NDArray[np.int64]:
+    return np.asarray(records.numbers[key])
+
+
+def _numbers_joined(parts: Sequence[Records]) -> NDArray[np.int64]:
+    return np.concatenate([part.numbers for part in parts])
+
+
+@dataclass(frozen=True, eq=False)
+class Events(Compared):
+    """The events of a file, or some of them, in columns, each of shape (n,), in the order of the file.
+
+    - ``times``: absolute times, in ticks of T2, in sync periods of T3;
+    - ``dtimes``: of a T3 photon its delay after the sync in ticks, else 0;
+    - ``numbers``: the input of a photon, or the bits of a marker (bit n of a plan has the value 2^(n-1));
+    - ``flags``: 1 of a marker, and 2 more of a late event: one that goes back in time, which the program counts in no table.
+
+    ``events[some]`` has those that a slice, a mask or an array of places selects. ``events["time"]`` is a column by the name
+    that it has in rows: ``record`` (from 1), ``time``, ``dtime``, ``number``, ``marker`` and ``late``; ``array`` has the rows,
+    of which ``events[place]`` is one.
     """
 
     header: Header
-    array: NDArray[np.void]
+    times: NDArray[np.int64]
+    dtimes: NDArray[np.int32]
+    numbers: NDArray[np.uint8]
+    flags: NDArray[np.uint8]
+    numbered: Records = field(repr=False, compare=False)
+
+    def __len__(self) -> int:
+        return len(self.times)
+
+    def __iter__(self) -> Iterator[Any]:
+        return iter(self.array)
+
+    @overload
+    def __getitem__(self, key: str) -> NDArray[Any]: ...
+
+    @overload
+    def __getitem__(self, key: int) -> np.void: ...
+
+    @overload
+    def __getitem__(self, key: slice | NDArray[Any]) -> "Events": ...
+
+    def __getitem__(self, key: Any) -> Any:
+        if isinstance(key, str):
+            return self._column(key)
+        if isinstance(key, int | np.integer):
+            return self[np.array([key])].array[0]
+        times = self.times[key]
+        dtimes = self.dtimes[key] if self.dtimes.strides != (0,) else np.broadcast_to(self.dtimes[:1], times.shape)
+        numbered = Records(functools.partial(_numbers_among, self.numbered, key))
+        return Events(self.header, times, dtimes, self.numbers[key], self.flags[key], numbered)
+
+    def _column(self, name: str) -> NDArray[Any]:
+        if name in ("marker", "late"):
+            return np.asarray(self.flags & (MARKER if name == "marker" else LATE) != 0)
+        return np.asarray(getattr(self, COLUMNS[name]))
+
+    def __array__(self, dtype: Any = None) -> NDArray[Any]:
+        rows = np.empty(len(self), dtype=EVENT)
+        for name in EVENT.names or ():
+            rows[name] = self[name]
+        return rows if dtype is None else rows.astype(dtype)
 
     @property
-    def photons(self) -> NDArray[np.void]:
-        """The photons that aren't late, as elements of ``array``."""
-        return np.asarray(self.array[~(self.array["marker"] | self.array["late"])])
+    def records(self) -> NDArray[np.int64]:
+        """The numbers of their records, from 1: 8 bytes an event, once they are asked for."""
+        return self.numbered.numbers
 
     @property
-    def markers(self) -> NDArray[np.void]:
-        """The markers that aren't late, as elements of ``array``."""
-        return np.asarray(self.array[self.array["marker"] & ~self.array["late"]])
+    def array(self) -> NDArray[np.void]:
+        """The same as rows: an array with one element of the type ``EVENT``, 24 bytes, for each event, made anew."""
+        return np.asarray(self)
+
+    @property
+    def photons(self) -> "Events":
+        """The photons that aren't late."""
+        return self[np.asarray(self.flags == 0)]
+
+    @property
+    def markers(self) -> "Events":
+        """The markers that aren't late."""
+        return self[np.asarray(self.flags == MARKER)]
 
 
-def read_events(path: str | os.PathLike[str], *, start: int = 0, stop: int | None = None) -> Events:
+def events_of(rows: Events | NDArray[np.void], header: Header = UNKNOWN) -> Events:
+    """Events in columns, of rows of the type ``EVENT``, of which ``header`` tells what their file says."""
+    if isinstance(rows, Events):
+        return rows
+    flags = rows["marker"] * np.uint8(MARKER) + rows["late"] * np.uint8(LATE)
+    times, dtimes, numbers = (np.ascontiguousarray(rows[name]) for name in ("time", "dtime", "number"))
+    return Events(header, times, dtimes, numbers, flags, Records(functools.partial(_numbers_in, rows)))
+
+
+def joined(parts: Sequence[Events], header: Header = UNKNOWN) -> Events:
+    """Parts of a file with this header, one behind the other; where there is none, no events."""
+    if not parts:
+        return events_of(np.zeros(0, EVENT), header)
+    times, dtimes, numbers, flags = (
+        np.concatenate([getattr(part, name) for part in parts]) for name in ("times", "dtimes", "numbers", "flags")
+    )
+    numbered = Records(functools.partial(_numbers_joined, [part.numbered for part in parts]))
+    return Events(parts[0].header, times, dtimes, numbers, flags, numbered)
+
+
+def read_events(
+    path: str | os.PathLike[str], *, start: int = 0, stop: int | None = None, partial: bool = False
+) -> Events:
     """The events of the records ``start`` (from 0) up to and without ``stop`` of the PTU file at ``path``.
 
-    Times and late marks are those of the whole file. An event takes 23 bytes. Raises ``BadFile``, with the status
-    and the line of the program, for a file that ``ptu events`` refuses.
+    Times and late marks are those of the whole file. An event takes 14 bytes, of T2 10, and a record one bit. With
+    ``partial`` a file whose records are refused has the events before that, as one that was cut within a record. Raises
+    ``BadFile``, with the status and the line of the program, for a file that ``ptu events`` refuses.
     """
     header = read_header(path)
     first, last = _bounds(header, start, stop)
-    array = np.empty(last - first, dtype=EVENT)
-    count = 0
-    for piece in _pieces(path, header, first, stop, lambda most: array[count : count + most]):
-        count += len(piece)
-    array.resize(count, refcheck=False)
-    return Events(header, array)
+    walk = _Walk(path, header)
+    room = _Room(header, first, last - first)
+    try:
+        walk.skip(first)
+        walk.fill(room, last)
+        if last == header.records:
+            _ends_whole(path, header)
+    except BadFile:
+        if not partial:
+            raise
+        if walk.refused > first:
+            walk.fill(room, walk.refused)
+    return room.events()
 
 
-def iter_events(path: str | os.PathLike[str], *, records: int = 1 << 20) -> Iterator[NDArray[np.void]]:
-    """The same events in pieces: one array of the type ``EVENT`` for each ``records`` records of the file.
+def iter_events(path: str | os.PathLike[str], *, records: int = 1 << 20) -> Iterator[Events]:
+    """The same events in pieces: those of each ``records`` records of the file.
 
     The file is mapped, so that memory is that of one piece. A fault behind the header is raised where it is met.
     """
@@ -84,12 +198,9 @@ def iter_events(path: str | os.PathLike[str], *, records: int = 1 << 20) -> Iter
     walk = _Walk(path, header)
     for first in range(0, header.records, records):
         many = min(records, header.records - first)
-        array = np.empty(many, dtype=EVENT)
-        count = 0
-        for at in range(first, first + many, PIECE):
-            count += len(walk.decode(min(PIECE, first + many - at), array[count:]))
-        array.resize(count, refcheck=False)
-        yield array
+        room = _Room(header, first, many)
+        walk.fill(room, first + many)
+        yield room.events()
     _ends_whole(path, header)
 
 
@@ -101,25 +212,36 @@ def _bounds(header: Header, start: int, stop: int | None) -> tuple[int, int]:
     return min(start, last), last
 
 
-def _pieces(
-    path: str | os.PathLike[str], header: Header, first: int, stop: int | None, room: Callable[[int], NDArray[np.void]]
-) -> Iterator[NDArray[np.void]]:
-    """The events from record ``first`` on, piece by piece, each written into the room that it is given."""
-    last = header.records if stop is None else min(stop, header.records)
-    walk = _Walk(path, header)
-    while walk.at < first:
-        many = min(PIECE, first - walk.at)
-        walk.decode(many, np.empty(many, dtype=EVENT))
-    while walk.at < last:
-        many = min(PIECE, last - walk.at)
-        yield walk.decode(many, room(many))
-    if last == header.records:
-        _ends_whole(path, header)
-
-
 def _ends_whole(path: str | os.PathLike[str], header: Header) -> None:
     if header.left_over_bytes:
         raise BadFile(17, f"{header.left_over_bytes} bytes of a record at the end", os.fspath(path))
+
+
+class _Room:
+    """Columns for the events of so many records from ``first`` on, filled piece by piece."""
+
+    def __init__(self, header: Header, first: int, many: int) -> None:
+        self.header, self.first, self.at = header, first, first
+        self.times, self.numbers, self.flags = np.empty(many, np.int64), np.empty(many, np.uint8), np.empty(many, np.uint8)
+        self.dtimes = np.empty(many if header.mode == "T3" else 0, np.int32)
+        self.are_events = np.zeros(many, np.bool_)
+        self.count = 0
+
+    def part(self, are_events: NDArray[np.bool_], many: int) -> slice:
+        """Where the next events stand, of records of which these are events."""
+        self.are_events[self.at - self.first : self.at - self.first + len(are_events)] = are_events
+        self.at += len(are_events)
+        self.count += many
+        return slice(self.count - many, self.count)
+
+    def events(self) -> Events:
+        """What was filled in."""
+        columns: tuple[NDArray[Any], ...] = (self.times, self.numbers, self.flags, self.dtimes)
+        for column in columns[: 4 if self.header.mode == "T3" else 3]:
+            column.resize(self.count, refcheck=False)
+        dtimes = self.dtimes if self.header.mode == "T3" else np.broadcast_to(np.int32(0), self.times.shape)
+        numbered = Records(functools.partial(_numbers_of, np.packbits(self.are_events), self.first, len(self.are_events)))
+        return Events(self.header, self.times, dtimes, self.numbers, self.flags, numbered)
 
 
 class _Walk:
@@ -128,6 +250,7 @@ class _Walk:
     def __init__(self, path: str | os.PathLike[str], header: Header) -> None:
         self.path, self.header, self.layout = os.fspath(path), header, layout_of(header.record_type)
         self.at, self.base, self.greatest = 0, 0, -1
+        self.refused = 0  # up to which record the next ones are good, where one of them is refused
         self.seen = 0  # bytes of the map that were given back
         self.map: mmap.mmap | None = None
         keep_scratch()
@@ -139,29 +262,42 @@ class _Walk:
         """The next words. What lies far behind them is given back to the system."""
         assert self.map is not None
         begin = self.header.length_bytes + 4 * self.at
-        if begin - self.seen > GIVEN_BACK and hasattr(self.map, "madvise"):
+        if begin - self.seen > GIVEN_BACK and hasattr(mmap, "MADV_DONTNEED"):
             end = begin // mmap.PAGESIZE * mmap.PAGESIZE
             self.map.madvise(mmap.MADV_DONTNEED, self.seen, end - self.seen)
             self.seen = end
         return np.frombuffer(self.map[begin : begin + 4 * many], dtype="<u4")
 
-    def decode(self, many: int, into: NDArray[np.void]) -> NDArray[np.void]:
-        """Puts the events of the next ``many`` records into the beginning of ``into``, and gives that beginning."""
+    def skip(self, first: int) -> None:
+        """Goes on to a record."""
+        while self.at < first:
+            many = min(PIECE, first - self.at)
+            self.decode(many, _Room(self.header, self.at, many))
+
+    def fill(self, room: _Room, last: int) -> None:
+        """Puts the events up to a record into a room."""
+        while self.at < last:
+            self.decode(min(PIECE, last - self.at), room)
+
+    def decode(self, many: int, room: _Room) -> None:
+        """Puts the events of the next ``many`` records into a room."""
         words = self.words(many)
         meanings = self.layout.read(words)
         times = self._times(words, np.flatnonzero(meanings == WRAP))
-        which = np.flatnonzero(meanings & 0x7F < RESERVED)
-        events = into[: len(which)]
+        are_events = meanings & 0x7F < RESERVED
+        which = np.flatnonzero(are_events)
         meanings, times = meanings[which], times[which]
-        events["time"] = times
-        events["number"] = meanings & 0x7F
-        events["marker"] = markers = (meanings >> 7).view(np.bool_)
-        events["dtime"] = self._dtimes(words, which, markers)
-        events["late"] = self._late(times, markers)
-        which += self.at + 1
-        events["record"] = which
+        part = room.part(are_events, len(which))
+        room.times[part] = times
+        np.bitwise_and(meanings, 0x7F, out=room.numbers[part])
+        markers = meanings >> 7  # the bit MARKER
+        room.flags[part] = markers
+        late = self._late(times, markers.view(np.bool_))
+        if late is not None:
+            room.flags[part][late] |= LATE
+        if room.header.mode == "T3":
+            room.dtimes[part] = self._dtimes(words, which, markers.view(np.bool_))
         self.at += many
-        return events
 
     def _times(self, words: Words, wraps: NDArray[np.int64]) -> NDArray[np.int64]:
         """The time of each word, if it is an event: its field, and all wraps before it."""
@@ -170,31 +306,30 @@ class _Walk:
         added[wraps] += self.layout.amounts(words[wraps])
         np.cumsum(added, out=added)  # a wrap is less than 2^51, so the first sum beyond 2^62 is no more than that
         if len(wraps) and int(added.max()) > GREATEST or int(added.min()) < 0:
-            place = self.at + 1 + int(np.argmax((added > GREATEST) | (added < 0)))
-            raise BadFile(21, f"record {place} passes the greatest time", self.path)
+            self.refused = self.at + int(np.argmax((added > GREATEST) | (added < 0)))
+            raise BadFile(21, f"record {self.refused + 1} passes the greatest time", self.path)
         self.base = int(added[-1])
         added += words & self.layout.field
         return added
 
-    def _dtimes(self, words: Words, which: NDArray[np.int64], markers: NDArray[np.bool_]) -> NDArray[np.int32] | int:
+    def _dtimes(self, words: Words, which: NDArray[np.int64], markers: NDArray[np.bool_]) -> NDArray[np.int32]:
         shift, bits = self.layout.dtime
-        if not bits:
-            return 0
         dtimes = words[which].view(np.int32)
         dtimes >>= shift
         dtimes &= bits
         dtimes[markers] = 0
         return dtimes
 
-    def _late(self, times: NDArray[np.int64], markers: NDArray[np.bool_]) -> NDArray[np.bool_] | bool:
-        """Which events have a time less than that of an earlier one; markers of T2 have no order."""
+    def _late(self, times: NDArray[np.int64], markers: NDArray[np.bool_]) -> NDArray[np.bool_] | None:
+        """Which events have a time less than that of an earlier one, None where none has; markers of T2 have no order."""
         if self.header.mode == "T2" and markers.any():
             late = np.zeros(len(times), dtype=np.bool_)
-            late[~markers] = self._late(times[~markers], np.zeros(0, np.bool_))
+            found = self._late(times[~markers], np.zeros(0, np.bool_))
+            late[~markers] = False if found is None else found
             return late
         if not len(times) or (times[0] >= self.greatest and np.all(times[1:] >= times[:-1])):
             self.greatest = int(times[-1]) if len(times) else self.greatest
-            return False
+            return None
         greatest = np.maximum(np.maximum.accumulate(times), self.greatest)
         self.greatest = int(greatest[-1])
         return np.asarray(times < greatest)

@@ -4,9 +4,11 @@ Every file appears when it is whole.
 """
 
 import json
+import math
 import os
 from collections.abc import Sequence
 from typing import Any, Literal
+from xml.etree import ElementTree
 
 import numpy as np
 from numpy.typing import NDArray
@@ -23,6 +25,7 @@ from ._whole import whole_path, written_whole
 __all__ = ["write_npz", "write_ome_tiff", "write_photon_hdf5", "write_pycorrfit", "written_whole"]
 
 PathLike = str | os.PathLike[str]
+SPACES = {"": "http://www.openmicroscopy.org/Schemas/OME/2016-06", "xsi": "http://www.w3.org/2001/XMLSchema-instance"}
 
 
 def write_npz(report: Report, path: PathLike) -> None:
@@ -30,7 +33,7 @@ def write_npz(report: Report, path: PathLike) -> None:
 
     A table has the arrays ``KIND_NUMBER`` (its counts), ``KIND_NUMBER_ticks``, where they are known
     ``KIND_NUMBER_seconds`` and ``KIND_NUMBER_levels``, and ``head`` is a text in JSON: the lines of the head, and the
-    settings and rest of each table. Counts that pass 2^64 are decimal texts. Raises ``OSError``.
+    settings and rest of each table. Counts that pass 2^63 are decimal texts. Raises ``OSError``.
     """
     arrays: dict[str, NDArray[Any]] = {}
     told: dict[str, Any] = {"head": dict(report.head.items())}
@@ -48,9 +51,7 @@ def _plain(array: NDArray[Any]) -> NDArray[Any]:
     """An array without Python's objects: whole numbers of 64 bits, or decimal texts."""
     if array.dtype != object:
         return array
-    if int(max(array.flat, default=0)) < 1 << 64 and int(min(array.flat, default=0)) >= 0:
-        return array.astype(np.uint64)
-    return array.astype(str)
+    return array.astype(np.int64 if int(max(array.flat, default=0)) < 1 << 63 else str)
 
 
 def write_pycorrfit(
@@ -103,8 +104,9 @@ def write_ome_tiff(
 
     ``pixels``: an image or a cube, of a report or of ``ptulab.scans``, or an array of shape (rows, columns) or (frames,
     rows, columns), as of mean lifetimes. Whole numbers are stored with 16 bits, or 32 where one needs them, others as
-    floating-point numbers of 32 bits. ``pixel_micrometres``: how long and wide a pixel is. Raises ``ValueError`` for
-    other tables and shapes, no pixels, and counts that pass 32 bits, and ``Missing`` without tifffile.
+    floating-point numbers of 32 bits. ``pixel_micrometres``: how long and wide a pixel is, by default what the header of
+    an image's or a cube's file tells (``ImgHdr_PixResol``). Raises ``ValueError`` for other tables and shapes, no pixels,
+    and counts that pass 32 bits, and ``Missing`` without tifffile.
     """
     tifffile = want("tifffile", "OME-TIFF")
     array, axes = _with_axes(pixels)
@@ -120,6 +122,8 @@ def write_ome_tiff(
     metadata: dict[str, Any] = {"axes": axes}
     if name:
         metadata["Name"] = name
+    if pixel_micrometres is None and isinstance(pixels, Image | Cube):
+        pixel_micrometres = pixels.pixel_micrometres
     if pixel_micrometres is not None:
         for side in ("X", "Y"):
             metadata |= {f"PhysicalSize{side}": pixel_micrometres, f"PhysicalSize{side}Unit": "µm"}
@@ -127,14 +131,26 @@ def write_ome_tiff(
         tifffile.imwrite(part, array, ome=True, photometric="minisblack", metadata=metadata)
         step = _bin_seconds(pixels)
         if step is not None:
-            whole = f'Start="0" End="{array.shape[-3] - 1}"'  # as tifffile tells an axis of lifetimes
-            tifffile.tiffcomment(part, tifffile.tiffcomment(part).replace(whole, _lifetimes(array.shape[-3], step)).encode())
+            tifffile.tiffcomment(part, _with_lifetimes(tifffile.tiffcomment(part), array.shape[-3], step))
 
 
-def _lifetimes(bins: int, seconds: float) -> str:
-    """An axis of lifetimes in picoseconds. Its end is told a little early, since readers count the steps up to it."""
-    step = seconds * 1e12
-    return f'Unit="ps" Start="0" Step="{step:.12g}" End="{step * (bins - 1) * (1 - 1e-8):.12g}"'
+def _with_lifetimes(text: str, bins: int, seconds: float) -> bytes:
+    """The OME-XML that tifffile wrote, whose axis of lifetimes, which it counts by bins, is in picoseconds.
+
+    It ends with the beginning of the last bin. A step has 32 bits, so that this is a whole number of steps for each reader,
+    however it counts them. Raises ``ValueError`` where there is no such axis.
+    """
+    for prefix, name in SPACES.items():
+        ElementTree.register_namespace(prefix, name)
+    root = ElementTree.fromstring(text)
+    axes = [one for one in root.iter() if one.get("Type") == "lifetime"]
+    if len(axes) != 1:
+        raise ValueError("tifffile wrote no axis of lifetimes")
+    part, power = math.frexp(seconds * 1e12)
+    step = math.ldexp(round(math.ldexp(part, 32)), power - 32)
+    told = {"Unit": "ps", "Start": 0.0, "Step": step, "End": step * (bins - 1)}
+    axes[0].attrib.update({word: value if isinstance(value, str) else f"{value:.17g}" for word, value in told.items()})
+    return bytes(ElementTree.tostring(root, encoding="utf-8", xml_declaration=True))
 
 
 def _bin_seconds(pixels: Image | Cube | Table | NDArray[Any]) -> float | None:

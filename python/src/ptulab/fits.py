@@ -2,20 +2,26 @@
 
 Decays are fitted by the likelihood of Poisson counts: the sum of 2 (m - n + n ln(n / m)) over the bins, of n counts
 where m are expected, is made least (Laurence and Chromy, Nature Methods 7, 338, 2010), so that bins of few counts, and
-of none, count as they should. Errors are of one standard deviation, by the curvature at the best fit.
+of none, count as they should.
+
+Errors are of one standard deviation, by the inverse of Fisher's information at the best fit: the sum over the points of
+the products of the model's derivatives over the variance of the point, which is m of Poisson counts (Cowan, Statistical
+Data Analysis, Oxford 1998, chapter 6). A parameter that ended on its bound, as a background of 0, is held for that.
 """
 
+import math
 from collections.abc import Callable, Mapping
-from dataclasses import dataclass, field
+from dataclasses import dataclass, field, replace
 from typing import Any, Literal
 
 import numpy as np
 from numpy.typing import NDArray
 
-from .errors import FitFailed, NotKnown
+from .errors import FitFailed
 from ._optional import want
 from .pulsed import Coincidences
-from .tables import Table
+from .tables import Given, Table, measured, weighted_sums
+from ._values import Compared
 
 __all__ = [
     "Fit",
@@ -29,21 +35,24 @@ __all__ = [
     "mean_lifetime",
     "phasor",
     "phasor_of_lifetime",
+    "phasor_reference",
 ]
 
 Numbers = NDArray[np.float64]
+NO_NEARER = (6, 7, 8)  # of MINPACK's lmdif: the best fit is told as closely as numbers can tell it
 
 
-@dataclass(frozen=True)
-class Fit:
+@dataclass(frozen=True, eq=False)
+class Fit(Compared):
     """What a fit found.
 
     - ``values`` and ``errors``: of each parameter by its name, in the unit of the axis that was given; an error is nan
-      where the fit doesn't tell it, and of a parameter that was held.
+      where the fit doesn't tell it, of a parameter that was held, and of one that ended on its bound.
     - ``axis``, ``data``, ``curve``: shape (points,), what was fitted where, and the best fit there.
-    - ``residuals``: shape (points,), in standard deviations; ``reduced``: the sum of their squares over the points less
-      the parameters, about 1 for a good fit.
-    - ``lmfit``: lmfit's own result, with the correlations of parameters.
+    - ``residuals``: shape (points,), in standard deviations, of counts the roots of their deviances; ``reduced``: the sum
+      of their squares over what it is in the mean if the model is right, so about 1 for a good fit, also where bins have
+      few counts. nan where no more is left to expect than there are parameters.
+    - ``lmfit``: lmfit's own result. Its errors are by the curvature of the residuals, and differ for few counts.
     """
 
     values: Mapping[str, float]
@@ -56,29 +65,75 @@ class Fit:
     lmfit: Any = field(repr=False, compare=False)
 
 
-def _fit(
-    axis: Numbers,
-    data: Numbers,
-    model: Callable[[Mapping[str, float]], Numbers],
-    residual: Callable[[Numbers], Numbers],
-    begin: Any,
-) -> Fit:
+@dataclass(frozen=True)
+class _Law:
+    """How data scatter around a curve: residuals in standard deviations, the variance of each point, and the square of a
+    residual in the mean."""
+
+    residuals: Callable[[Numbers], Numbers]
+    variances: Callable[[Numbers], Numbers]
+    squares: Callable[[Numbers], Numbers]
+
+
+def _poisson(counts: Numbers) -> _Law:
+    return _Law(lambda curve: deviance(counts, curve), lambda curve: np.maximum(curve, 1e-12), mean_deviance)
+
+
+def _normal(values: Numbers, errors: Numbers) -> _Law:
+    return _Law(lambda curve: np.asarray((values - curve) / errors), lambda curve: errors**2, np.ones_like)
+
+
+Model = Callable[[Mapping[str, float]], Numbers]
+
+
+def _fit(axis: Numbers, data: Numbers, model: Model, law: _Law, begin: Any) -> Fit:
     """The fit of a model with parameters that begin so, by least squares of residuals in standard deviations."""
     lmfit = want("lmfit", "fits")
     free = sum(one.vary for one in begin.values())
     if len(data) <= free:
         raise FitFailed(f"{len(data)} points for {free} parameters")
     try:
-        result = lmfit.minimize(lambda now: residual(model(now.valuesdict())), begin, scale_covar=False)
+        result = lmfit.minimize(lambda now: law.residuals(model(now.valuesdict())), begin, scale_covar=False)
     except ValueError as error:
         raise FitFailed(f"the fit failed: {error}") from error
-    if not result.success:
+    if not result.success and getattr(result, "ier", 0) not in NO_NEARER:
         raise FitFailed(f"the fit found no end: {result.message}")
     values = {name: float(one.value) for name, one in result.params.items()}
-    errors = {name: float("nan") if not one.stderr else float(one.stderr) for name, one in result.params.items()}
     curve = model(values)
-    left = residual(curve)
-    return Fit(values, errors, axis, data, curve, left, float((left**2).sum()) / (len(data) - free), result)
+    left = law.residuals(curve)
+    expected = float(law.squares(curve).sum()) - free
+    reduced = float((left**2).sum()) / expected if expected > 0 else float("nan")
+    return Fit(values, _errors(model, law, result.params), axis, data, curve, left, reduced, result)
+
+
+def _errors(model: Model, law: _Law, parameters: Any) -> dict[str, float]:
+    """The standard deviation of each parameter that is free, by Fisher's information."""
+    values = {name: float(one.value) for name, one in parameters.items()}
+    scale = np.sqrt(law.variances(model(values)))
+    slopes = {name: _slope(model, values, name, one.brute_step) / scale for name, one in parameters.items() if one.vary}
+    free = [name for name, slope in slopes.items() if not _on_bound(parameters[name], float(np.linalg.norm(slope)))]
+    errors = dict.fromkeys(values, float("nan"))
+    if free:
+        sizes = np.array([np.linalg.norm(slopes[name]) for name in free])
+        columns = np.stack([slopes[name] / size for name, size in zip(free, sizes, strict=True)])
+        try:
+            variances = np.diagonal(np.linalg.inv(columns @ columns.T)) / sizes**2
+        except np.linalg.LinAlgError:
+            return errors
+        errors |= {name: math.sqrt(one) if one > 0 else float("nan") for name, one in zip(free, variances, strict=True)}
+    return errors
+
+
+def _slope(model: Model, values: Mapping[str, float], name: str, least: float | None) -> Numbers:
+    """The derivative of a model by one parameter, by a step of a ten-thousandth of it or of the size that matters."""
+    step = 1e-4 * (max(abs(values[name]), least or 0.0) or 1.0)
+    above, below = (model({**values, name: values[name] + one}) for one in (step, -step))
+    return (above - below) / (2 * step)
+
+
+def _on_bound(parameter: Any, slope: float) -> bool:
+    """Whether a parameter is as good as on its bound: nearer than a tenth of the error that it would have alone."""
+    return not slope * min(parameter.value - parameter.min, parameter.max - parameter.value) > 0.1
 
 
 def deviance(counts: Numbers, expected: Numbers) -> Numbers:
@@ -90,6 +145,21 @@ def deviance(counts: Numbers, expected: Numbers) -> Numbers:
     near = -y * np.sqrt(some * (1 - y * (2 / 3 - y * (1 / 2 - y * 2 / 5))))  # where the logarithm would lose digits
     far = -np.sign(x) * np.sqrt(2 * some * np.maximum(x - np.log1p(x), 0.0))
     return np.asarray(np.where(counts > 0, np.where(np.abs(x) < 0.01, near, far), -np.sqrt(2 * likely)))
+
+
+def mean_deviance(expected: Numbers) -> Numbers:
+    """The mean of 2 (m - n + n ln(n / m)) over the counts n of Poisson's law where m are ``expected``: shape of it.
+
+    Far below 1 for a few counts in ten bins, at most 1.16 about 1.5 counts, and 1 + 1 / (6 m) + .. for many (McCullagh and
+    Nelder, Generalized Linear Models, 1989, chapter 2).
+    """
+    likely = np.maximum(expected, 1e-12)
+    few = np.minimum(likely, 30.0)
+    chance, mean = np.exp(-few), np.zeros_like(few)
+    for n in range(1, 120):
+        chance = chance * few / n
+        mean += 2 * chance * n * (math.log(n) - np.log(few))
+    return np.asarray(np.where(likely < 30, mean, 1 + 1 / (6 * likely) + 1 / (6 * likely**2)))
 
 
 def _names(terms: int) -> list[tuple[str, str]]:
@@ -104,7 +174,7 @@ def _begin_decay(terms: int, amplitude: float, lifetime: float, most: float, bac
     for n, (size, time) in enumerate(_names(terms)):
         begin.add(size, value=amplitude / terms, min=0)
         begin.add(time, value=min(lifetime * 3.0 ** (n - (terms - 1) / 2), most / 2), min=lifetime * 1e-4, max=most)
-    begin.add("background", value=background, min=0)
+    begin.add("background", value=background, min=0, brute_step=background)
     return begin
 
 
@@ -139,25 +209,30 @@ def fit_tail(
         decays = [now[size] * np.exp(-times / now[time]) for size, time in names]
         return np.asarray(now["background"] + sum(decays))
 
-    return _fit(axis[inside], tail, model, lambda curve: deviance(tail, curve), begin)
+    return _fit(axis[inside], tail, model, _poisson(tail), begin)
 
 
-def decay_of_bins(lifetime: float, width: float, bins: int, period: float | None = None) -> Numbers:
-    """The part of an exponential decay that falls into each bin behind that of its excitation: shape (bins,), sum <= 1.
+def decay_of_bins(delays: Numbers, lifetime: float, width: float, period: float | None = None) -> Numbers:
+    """The part of an exponential decay that falls into a bin which begins so much later than that of its excitation: shape
+    of ``delays``, of which some may be negative.
 
-    An excitation anywhere in bin 0, each place as likely, is followed by a photon k bins later with the probability
-    (1 - q)^2 / d * q^(k-1), where d = width / lifetime and q = exp(-d), and in bin 0 itself 1 - (1 - q) / d: the
-    integral over both bins. With ``period`` what comes from earlier pulses is added, 1 / (1 - exp(-period / lifetime)).
+    An excitation anywhere in a bin, each place as likely, is followed by a photon in a bin that begins t later with the
+    probability exp(-(t - width) / lifetime) * (1 - exp(-d))^2 / d for t of at least a width, where d = width / lifetime: the
+    integral over both bins. For less the part of both that comes after the other is integrated. With ``period`` what
+    comes of all earlier pulses is added, those of t + period, t + 2 * period ..; t is more than -2 periods then.
     """
-    d = width / lifetime
-    decay = np.expm1(-d) ** 2 / d * np.exp(-d * np.maximum(np.arange(bins) - 1.0, 0.0))  # of bin 0 as of bin 1
-    own = 1 + np.expm1(-d) / d
     if period is None:
-        decay[0] = own
-        return np.asarray(decay)
-    decay /= -np.expm1(-period / lifetime)
-    decay[0] = own + decay[0] * np.exp((width - period) / lifetime)
-    return np.asarray(decay)
+        return _of_one_pulse(delays, lifetime, width)
+    rest = _of_one_pulse(delays + 2 * period, lifetime, width) / -math.expm1(-period / lifetime)
+    return _of_one_pulse(delays, lifetime, width) + _of_one_pulse(delays + period, lifetime, width) + rest
+
+
+def _of_one_pulse(delays: Numbers, lifetime: float, width: float) -> Numbers:
+    d, t = width / lifetime, delays / lifetime
+    ahead, near, behind = np.clip(t, -d, 0.0) + d, np.clip(t, 0.0, d), np.maximum(t - d, 0.0)
+    late = np.exp(-behind) * math.expm1(-d) ** 2
+    own = d - near + np.exp(-near - d) + 1 - 2 * np.exp(-near)
+    return np.asarray(np.where(t >= d, late, np.where(t >= 0, own, ahead + np.expm1(-ahead))) / d)
 
 
 def fit_reconvolution(
@@ -165,43 +240,63 @@ def fit_reconvolution(
 ) -> Fit:
     """A fit of a whole decay with the measured pulse: the pulse, shifted, convolved with a sum of decays.
 
-    ``counts`` and ``pulse``: shape (bins,), histograms of the sample and of the instrument's response with equal bins
-    of ``width``, in seconds or ticks. The background of the pulse must have been taken off. ``period``: of the excitation,
-    in the same unit, where its decay runs over into the next; the bins must not go on behind it.
-    ``amplitude_n`` are photons, ``lifetime_n`` and ``shift`` are in the unit of ``width`` (a part of a bin by linear
-    interpolation), ``background`` is counts a bin. Raises ``FitFailed`` and ``ValueError`` where the shapes differ, there
-    are no counts, or one is less than 0, or the bins are longer than the period.
+    ``counts``: shape (bins,), a histogram of the sample, with equal bins of ``width``, in seconds or ticks; ``pulse``: that of
+    the instrument's response, shape (bins,), or (bins * n,) where its bins are n times finer. Its background must have
+    been taken off. ``period``: of the excitation, in the same unit, where its decay runs over into the next. It need be no
+    whole number of bins: the last bin then has what comes before the period ends.
+
+    All is integrated over the bins, with each place in a bin of the pulse as likely. So bins of the pulse must be
+    narrower than the pulse, at most its standard deviation, or a sixteenth of the lifetime. Wider ones make the pulse
+    wider than it is and the lifetime too short (by 2 % where they have twice the standard deviation and a quarter of the
+    lifetime), which ``reduced`` shows. Where the decay has such bins, as in a cube, give the pulse in finer ones.
+
+    ``amplitude_n`` are photons, ``lifetime_n`` and ``shift`` are in the unit of ``width`` (any part of a bin), ``background`` is
+    counts a bin. Raises ``FitFailed`` and ``ValueError`` where the shapes don't go together, there are no counts, or one is
+    less than 0, or the last bin begins behind the period.
     """
     counts, pulse = np.asarray(counts, dtype=np.float64), np.asarray(pulse, dtype=np.float64)
-    _good_counts(counts, pulse)
-    bins = len(counts)
+    bins = len(counts) if counts.ndim == 1 and pulse.size and pulse.size % max(counts.size, 1) == 0 else 0
+    finer = max(pulse.size // max(bins, 1), 1)
+    _good_counts(counts, np.zeros(bins))
+    _good_counts(pulse, np.zeros(bins * finer))
     if not counts.sum() > 0 or not pulse.sum() > 0:
         raise ValueError("a decay and a pulse need counts, in as many bins")
-    circle = 3 * bins if period is None else round(period / width)
-    if circle < bins:
-        raise ValueError(f"{bins} bins of {width} are longer than a period of {period}")
-    names, shape = _names(terms), np.zeros(circle)
-    shape[:bins] = pulse / pulse.sum()
-    axis = np.arange(bins) * width
-    mean = max(float((axis * counts).sum() / counts.sum() - (axis * pulse).sum() / pulse.sum()), width)
+    if period is not None and not (bins - 1) * width < period:
+        raise ValueError(f"{bins} bins of {width} are longer than a period of {period}: leave out those behind it")
+    names, axis, times = _names(terms), np.arange(bins) * width, np.arange(bins * finer) * (width / finer)
+    mean = max(float((axis * counts).sum() / counts.sum() - (times * pulse).sum() / pulse.sum()), width)
     begin = _begin_decay(terms, float(counts.sum()), mean, 100 * bins * width, max(float(counts.min()), 0.1))
-    begin.add("shift", value=0.0, min=-bins * width / 4, max=bins * width / 4, vary=shift)
+    begin.add("shift", value=0.0, min=-bins * width / 4, max=bins * width / 4, vary=shift, brute_step=width)
+    shape = _Convolved(pulse, finer, width, period)
 
     def model(now: Mapping[str, float]) -> Numbers:
-        decay = sum((now[size] * decay_of_bins(now[time], width, circle, period) for size, time in names), np.zeros(circle))
-        if period is None:
-            decay[3 * bins // 2 :] = 0  # so that nothing comes round the circle
-        whole = np.fft.irfft(np.fft.rfft(_moved(shape, now["shift"] / width)) * np.fft.rfft(decay), circle)
-        return np.asarray(now["background"] + np.maximum(whole[:bins], 0.0))
+        decay = sum((now[size] * shape.decay(now[time], now["shift"]) for size, time in names), np.zeros(bins))
+        return np.asarray(now["background"] * shape.parts + decay)
 
-    return _fit(axis, counts, model, lambda curve: deviance(counts, curve), begin)
+    return _fit(axis, counts, model, _poisson(counts), begin)
 
 
-def _moved(shape: Numbers, bins: float) -> Numbers:
-    """A histogram moved by a number of bins, in a circle."""
-    whole = int(np.floor(bins))
-    part = bins - whole
-    return np.asarray((1 - part) * np.roll(shape, whole) + part * np.roll(shape, whole + 1))
+class _Convolved:
+    """A pulse, with its bins, to be convolved with decays."""
+
+    def __init__(self, pulse: Numbers, finer: int, width: float, period: float | None) -> None:
+        self.finer, self.width, self.period = finer, width / finer, period
+        self.delays = np.arange(1 - len(pulse), len(pulse)) * self.width
+        self.size = 1 << len(self.delays).bit_length()  # so that what comes round the circle isn't kept
+        self.pulse = np.fft.rfft(pulse / pulse.sum(), self.size)
+        bins = len(pulse) // finer
+        self.parts = np.ones(bins)  # of each bin that lies before the period ends
+        if period is not None:
+            self.parts[-1] = min(period / width - (bins - 1), 1.0)
+
+    def decay(self, lifetime: float, shift: float) -> Numbers:
+        """What part of the photons of a decay each bin has."""
+        late = decay_of_bins(self.delays - shift, lifetime, self.width, self.period)
+        both = np.fft.irfft(self.pulse * np.fft.rfft(late, self.size), self.size)
+        bins = np.maximum(both[len(late) // 2 : len(late)], 0.0).reshape(-1, self.finer).sum(axis=1)
+        if self.parts[-1] < 1:
+            bins[-1] = max(1 - float(bins[:-1].sum()), 0.0)
+        return np.asarray(bins)
 
 
 def mean_lifetime(fit: Fit, *, by: Literal["amplitude", "intensity"] = "amplitude") -> float:
@@ -217,24 +312,30 @@ def mean_lifetime(fit: Fit, *, by: Literal["amplitude", "intensity"] = "amplitud
     return float((weights * times).sum() / weights.sum())
 
 
-def mean_delays(counts: NDArray[Any], axis: NDArray[Any], *, offset: float = 0.0, threshold: int = 1) -> Numbers:
+def mean_delays(
+    counts: NDArray[Any], axis: NDArray[Any], *, offset: float = 0.0, threshold: int = 1, width: float | None = None
+) -> Numbers:
     """The mean delay of the photons of each pixel: a fast picture of lifetimes. Shape of ``counts`` without its last axis.
 
     ``counts``: shape (.., bins), as of a cube or a histogram; ``axis``: shape (bins,), where bins begin, evenly spaced,
     in seconds or ticks. A photon counts in the middle of its bin. ``offset``, in the same unit, is when the pulse comes,
-    and is taken off; ``threshold``: with fewer photons a pixel is nan. In seconds the middle of a bin is half a tick
-    later than that of ``mean_delays`` of a table, which counts whole ticks.
+    and is taken off; ``threshold``: with fewer photons a pixel is nan. ``width``: of a bin, where the axis has only one,
+    which doesn't tell it; ``ValueError`` without it. In seconds the middle of a bin is half a tick later than that of
+    ``mean_delays`` of a table, which counts whole ticks.
     """
     photons = counts.sum(axis=-1).astype(np.float64)
-    middles = axis + _step(axis) / 2
-    moments = counts @ middles.astype(np.float64) - photons * offset
+    middles = axis + _width(axis, width) / 2 - offset
+    moments = weighted_sums(counts, middles)
     means = np.full(np.shape(photons), np.nan)
     np.divide(moments, photons, out=means, where=photons >= max(threshold, 1))
     return means
 
 
-def _step(axis: NDArray[Any]) -> float:
-    return float(axis[1] - axis[0]) if len(axis) > 1 else 0.0
+def _width(axis: NDArray[Any], width: float | None = None) -> float:
+    """The width of the bins that begin there."""
+    if width is None and len(axis) < 2:
+        raise ValueError("one bin doesn't tell its width: give it")
+    return float(axis[1] - axis[0]) if width is None else width
 
 
 def phasor(
@@ -242,39 +343,72 @@ def phasor(
     axis: NDArray[Any],
     frequency: float,
     *,
+    offset: float = 0.0,
     reference: complex = 1.0,
     threshold: int = 1,
 ) -> NDArray[np.complex128]:
     """The phasor g + i s of the photons of each pixel: shape of ``counts`` without its last axis.
 
-    ``counts`` and ``axis`` as of ``mean_delays``; ``frequency``: in cycles per unit of the axis, as one over the sync
-    period. g and s are the means of cos and sin of 2 pi * frequency * t (Digman, Caiolfa, Zamai and Gratton, Biophysical
-    Journal 94, L14, 2008). ``reference``: what is divided by, the phasor of the pulse, or that of a dye over
-    ``phasor_of_lifetime`` of its lifetime. nan with fewer than ``threshold`` photons.
+    ``counts`` and ``axis`` as of ``mean_delays``, over the whole period; ``frequency``: in cycles per unit of the axis, as
+    one over the sync period. g and s are the means of cos and sin of 2 pi * frequency * (t - offset) (Digman, Caiolfa,
+    Zamai and Gratton, Biophysical Journal 94, L14, 2008) with t in the middle of a bin, times the cosine of half the
+    angle of a bin: then single exponentials lie on the half circle in bins of any width (see ``phasor_of_lifetime``).
+
+    They do only if it is told when the pulse comes, by ``offset``, its time in the unit of the axis, or by ``reference``,
+    what is divided by (``phasor_reference``, of a measured pulse or a known dye). nan with fewer than ``threshold`` photons.
     """
+    angle = 2 * np.pi * frequency
+    width = _width(axis)
     photons = counts.sum(axis=-1).astype(np.float64)
-    turns = np.exp(2j * np.pi * frequency * (axis + _step(axis) / 2))
-    sums = counts @ turns / reference
+    turns = np.exp(1j * angle * (axis + width / 2 - offset)) * math.cos(angle * width / 2)
+    sums = weighted_sums(counts, turns / reference)
     phasors = np.full(np.shape(photons), np.nan + 0j)
     np.divide(sums, photons, out=phasors, where=photons >= max(threshold, 1))
     return phasors
 
 
-def phasor_of_lifetime(lifetime: NDArray[np.float64] | float, frequency: float) -> Any:
-    """The phasor of a single exponential, on the half circle: 1 / (1 - 2 pi i * frequency * lifetime)."""
-    return 1 / (1 - 2j * np.pi * frequency * np.asarray(lifetime))
+def phasor_reference(counts: NDArray[Any], axis: NDArray[Any], frequency: float, lifetime: float = 0.0) -> complex:
+    """What phasors are divided by: that of a measured pulse, or with its ``lifetime`` that of a dye, over what it should be.
+
+    ``counts``: shape (bins,), with the bins of the pixels; its background must have been taken off. A pulse must be wider
+    than the bins: a narrow one can be anywhere in its bin, which tells lifetimes to half a bin only. Raises ``ValueError``
+    without photons.
+    """
+    if not np.sum(counts) > 0:
+        raise ValueError("a reference without photons")
+    width = _width(axis) if lifetime else 0.0
+    return complex(phasor(counts, axis, frequency)) / complex(phasor_of_lifetime(lifetime, frequency, width))
 
 
-def lifetimes_of_phasor(phasors: NDArray[np.complex128], frequency: float) -> tuple[Numbers, Numbers]:
+def phasor_of_lifetime(lifetime: NDArray[np.float64] | float, frequency: float, width: float = 0.0) -> Any:
+    """The phasor of a single exponential, on the half circle: 1 / (1 - 2 pi i * frequency * lifetime).
+
+    As ``phasor`` sees it in bins of this ``width`` of which one begins with the pulse: with the half angle h = pi *
+    frequency * width of a bin, tan(h) * coth(width / (2 * lifetime)) stands there for 2 pi * frequency * lifetime. (The
+    counts of such bins are a geometric series q^k with q = exp(-width / lifetime), whose mean of exp(2 i h (k + 1/2)) is
+    exp(i h) * (1 - q) / (1 - q exp(2 i h)) = 1 / (cos(h) - i sin(h) (1 + q) / (1 - q)).)
+    """
+    lifetime = np.asarray(lifetime, dtype=np.float64)
+    if not width:
+        return 1 / (1 - 2j * np.pi * frequency * lifetime)
+    with np.errstate(divide="ignore"):
+        return 1 / (1 - 1j * math.tan(math.pi * frequency * width) / np.tanh(width / (2 * lifetime)))
+
+
+def lifetimes_of_phasor(phasors: NDArray[np.complex128], frequency: float, width: float = 0.0) -> tuple[Numbers, Numbers]:
     """The lifetimes by phase, s / (g w), and by modulation, sqrt(1 / (g^2 + s^2) - 1) / w, with w = 2 pi * frequency.
 
-    Both are equal of a single exponential. nan where the modulation is above 1.
+    Both are equal of a single exponential. nan where the modulation is above 1. With the ``width`` of the bins what
+    ``phasor_of_lifetime`` tells of them is turned round, and a phasor that is nearer to 1 than that of no lifetime is nan.
     """
-    turning = 2 * np.pi * frequency
     with np.errstate(invalid="ignore", divide="ignore"):
-        phase = phasors.imag / phasors.real / turning
-        modulation = np.sqrt(1 / np.abs(phasors) ** 2 - 1) / turning
-    return np.asarray(phase), np.asarray(modulation)
+        phase = phasors.imag / phasors.real
+        modulation = np.sqrt(1 / np.abs(phasors) ** 2 - 1)
+        if not width:
+            return np.asarray(phase / (2 * np.pi * frequency)), np.asarray(modulation / (2 * np.pi * frequency))
+        least = math.tan(math.pi * frequency * width)
+        by_phase, by_modulation = (width / (2 * np.arctanh(least / one)) for one in (phase, modulation))
+    return np.asarray(by_phase), np.asarray(by_modulation)
 
 
 def fcs_model(
@@ -315,59 +449,74 @@ def fit_fcs(
     """A fit of a normalised correlation by ``fcs_model``.
 
     ``delays``, ``values``, ``errors``: shape (cells,), with errors as of ``correlation_by_segments``; without them all
-    points count alike, and the errors of parameters are scaled by the scatter. Points that are nan, without an error,
-    or outside of ``span`` are left out. Parameters: ``number``, ``diffusion``, ``baseline``, with ``triplet`` also
+    points count alike, and the errors of parameters are scaled by the scatter. Points that are nan, without an error, at
+    no delay or outside of ``span`` are left out. Parameters: ``number``, ``diffusion``, ``baseline``, with ``triplet`` also
     ``triplet`` and ``triplet_time``; ``structure`` is held. Raises ``FitFailed``, and ``ValueError`` for other dimensions.
     """
     if dimensions not in (2, 3):
         raise ValueError(f"a model of {dimensions} dimensions")
     delays, values = np.asarray(delays, dtype=np.float64), np.asarray(values, dtype=np.float64)
     scale = np.ones(len(values)) if errors is None else np.asarray(errors, dtype=np.float64)
-    kept = np.isfinite(values) & np.isfinite(scale) & (scale > 0) & (delays >= span[0]) & (delays <= span[1])
+    kept = np.isfinite(values) & np.isfinite(scale) & (scale > 0) & (delays > 0) & (delays >= span[0]) & (delays <= span[1])
     times, curve, scale = delays[kept], values[kept], scale[kept]
     if len(times) < 6:
         raise FitFailed(f"a curve of {len(times)} points with errors")
-    begin = _begin_fcs(times, curve, triplet)
     fixed = structure if dimensions == 3 else None
+    begin = _begin_fcs(times, curve, scale, fixed, triplet)
 
     def model(now: Mapping[str, float]) -> Numbers:
         return fcs_model(times, structure=fixed, **now)
 
-    fit = _fit(times, curve, model, lambda now: np.asarray((curve - now) / scale), begin)
+    fit = _fit(times, curve, model, _normal(curve, scale), begin)
     return fit if errors is not None else _scaled(fit)
 
 
-def _begin_fcs(times: Numbers, curve: Numbers, triplet: bool) -> Any:
-    """Where a fit of a correlation begins: the height of its first points, and where it has fallen to half of that."""
-    height = max(float(np.median(curve[: max(len(curve) // 10, 1)])) - 1, 1e-6)
-    half = float(times[np.argmin(np.abs(curve - 1 - height / 2))])
+def _begin_fcs(times: Numbers, curve: Numbers, scale: Numbers, structure: float | None, triplet: bool) -> Any:
+    """Where a fit of a correlation begins: at the best of a grid of times, over which the other parameters are linear."""
+    grid = np.geomspace(times[0], times[-1], 24)
+    tries = [(diffusion, dark) for diffusion in grid for dark in (grid[grid < diffusion / 3] if triplet else grid[:1])]
+    found = [_linear_fcs(times, curve, scale, structure, diffusion, dark if triplet else None) for diffusion, dark in tries]
+    best = min(range(len(tries)), key=lambda at: found[at][0])
+    (diffusion, dark), (baseline, height, *more) = tries[best], found[best][1]
     begin = want("lmfit", "fits").Parameters()
-    begin.add("number", value=1 / height, min=1e-9)
-    begin.add("diffusion", value=half, min=float(times[0]) / 100, max=float(times[-1]) * 100)
-    begin.add("baseline", value=1.0)
+    begin.add("number", value=1 / max(height, 1e-6), min=1e-9)
+    begin.add("diffusion", value=diffusion, min=float(times[0]) / 100, max=float(times[-1]) * 100)
+    begin.add("baseline", value=baseline)
     if triplet:
-        begin.add("triplet", value=0.2, min=0, max=0.95)
-        begin.add("triplet_time", value=max(half / 50, float(times[0])), min=float(times[0]) / 10, max=half)
+        begin.add("triplet", value=min(max(more[0] / (height + more[0]), 0.05), 0.9), min=0, max=0.95, brute_step=0.01)
+        begin.add("triplet_time", value=dark, min=float(times[0]) / 100, max=float(times[-1]))
     return begin
+
+
+def _linear_fcs(
+    times: Numbers, curve: Numbers, scale: Numbers, structure: float | None, diffusion: float, dark: float | None
+) -> tuple[float, Numbers]:
+    """The least squares of a correlation with these times, and its baseline, its height and what a triplet adds to it."""
+    shape = fcs_model(times, 1.0, diffusion, structure=structure, baseline=0.0)
+    columns = [np.ones(len(times)), shape, *([] if dark is None else [shape * np.exp(-times / dark)])]
+    scaled = np.stack(columns, axis=1) / scale[:, None]
+    heights = np.linalg.lstsq(scaled, curve / scale, rcond=None)[0]
+    squares = float(((scaled @ heights - curve / scale) ** 2).sum())
+    return (squares if np.all(heights[1:] > 0) else math.inf), heights
 
 
 def _scaled(fit: Fit) -> Fit:
     """The same fit with errors by the scatter of the points, which had none."""
     scatter = float(np.sqrt(fit.reduced))
     errors = {name: error * scatter for name, error in fit.errors.items()}
-    return Fit(fit.values, errors, fit.axis, fit.data, fit.curve, fit.residuals / scatter, 1.0, fit.lmfit)
+    return replace(fit, errors=errors, residuals=fit.residuals / scatter, reduced=1.0)
 
 
 def g2(
-    pairs: Table | Coincidences, first_photons: int | None = None, second_photons: int | None = None
+    pairs: Table | Coincidences, first_photons: Given = None, second_photons: Given = None
 ) -> tuple[Numbers, Numbers]:
     """Pairs normalised so that they are 1 without correlation, and their Poisson bars: both of shape (cells,).
 
     ``pairs``: a coincidence or a correlation of a report, or ``Coincidences``. The photons of the two groups of a report's
-    table are told by its plan (``read_report``), or given. A bar is the root of ``Coincidences.variances`` over what is
-    expected, in cells of any width; groups of a report that share some photons but not all count as different. nan where
-    no pair is expected. Raises ``NotKnown`` for another table, and where photons or the length of the measurement aren't
-    known.
+    table are told by its plan (``read_report``), or given: of a sum for each measurement, or one number for all of it, as
+    ``Table.expected`` takes them. A bar is the root of ``Coincidences.variances`` over what is expected, in cells of any
+    width; groups of a report that share some photons but not all count as different. nan where no pair is expected.
+    Raises ``NotKnown`` for another table, and where photons or the length of the measurement aren't known.
     """
     counts = pairs.counts.astype(np.float64)
     if isinstance(pairs, Table) and pairs.kind != "coincidence":
@@ -382,14 +531,11 @@ def g2(
     return values, bars
 
 
-def _coincidences(table: Table, first_photons: int | None, second_photons: int | None) -> list[Coincidences]:
+def _coincidences(table: Table, first_photons: Given, second_photons: Given) -> list[Coincidences]:
     """A coincidence of a report with the photons and the length of each measurement in it."""
-    found = []
     same = table.groups is not None and len(set(table.groups)) == 1
-    for length, photons in table.measurements:
-        known = photons if first_photons is None or second_photons is None else (first_photons, second_photons)
-        if length is None or known is None or len(known) != 2:
-            raise NotKnown("the photons of the two groups are not known: give them, or read the report with its plan")
-        reach, width = table.settings["reach"], table.settings["width"]
-        found.append(Coincidences(table.counts, reach, width, known[0], known[1], length + 1, None, min(known) if same else 0))
-    return found
+    reach, width = table.settings["reach"], table.settings["width"]
+    return [
+        Coincidences(table.counts, reach, width, first, second, length + 1, None, min(first, second) if same else 0)
+        for length, first, second in measured(table, first_photons, second_photons)
+    ]

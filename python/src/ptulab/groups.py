@@ -2,19 +2,20 @@
 
 import os
 from collections.abc import Collection, Iterable, Iterator, Mapping
-from dataclasses import dataclass
+from dataclasses import dataclass, replace
 from typing import NamedTuple
 
 import numpy as np
 from numpy.typing import NDArray
 
-from .events import EVENT, Events, iter_events
-from .headers import read_header
+from .events import UNKNOWN, Events, events_of, iter_events, joined
+from .headers import Header, read_header
 from ._scratch import keep_scratch
 
 __all__ = ["EventsLike", "Group", "GroupLike", "photons_of", "shifted"]
 
-EventsLike = Events | NDArray[np.void] | str | os.PathLike[str]  # events, or the path of the file that has them
+Part = Events | NDArray[np.void]  # events in columns, or as rows
+EventsLike = Part | str | os.PathLike[str]  # events, or the path of the file that has them
 PIECE = 1 << 18  # events that are looked at together
 
 
@@ -38,16 +39,16 @@ class Group:
             if not 0 <= start < stop:
                 raise ValueError(f"a gate from {start} to {stop}")
 
-    def mask(self, array: NDArray[np.void]) -> NDArray[np.bool_]:
+    def mask(self, events: Part) -> NDArray[np.bool_]:
         """Which of these events are photons of the group: shape (events,)."""
-        found: NDArray[np.bool_] = ~(array["marker"] | array["late"])
+        events = events_of(events)
+        found: NDArray[np.bool_] = events.flags == 0
         if self.inputs is not None:
             known = np.zeros(256, np.bool_)
             known[list(self.inputs)] = True
-            found &= known[array["number"]]
+            found &= known[events.numbers]
         if self.gates is not None:
-            dtimes = array["dtime"]
-            found &= np.logical_or.reduce([(dtimes >= start) & (dtimes < stop) for start, stop in self.gates])
+            found &= np.logical_or.reduce([(events.dtimes >= start) & (events.dtimes < stop) for start, stop in self.gates])
         return found
 
 
@@ -63,13 +64,12 @@ def group_of(group: GroupLike) -> Group:
     return Group(None if group is None else tuple(group))
 
 
-def pieces_of(source: EventsLike) -> Iterator[NDArray[np.void]]:
+def pieces_of(source: EventsLike) -> Iterator[Events]:
     """The events of a source in pieces, so that only one piece's arrays are in memory beside them."""
     keep_scratch()
     if isinstance(source, Events | np.ndarray):
-        array = source.array if isinstance(source, Events) else source
-        for at in range(0, len(array), PIECE):
-            yield array[at : at + PIECE]
+        for at in range(0, len(source), PIECE):
+            yield events_of(source[at : at + PIECE])
     else:
         yield from iter_events(source, records=PIECE)
 
@@ -81,22 +81,26 @@ class Ticks(NamedTuple):
     resolution_seconds: float | None = None
 
 
+def header_of(source: EventsLike) -> Header:
+    """The header of a source, that of rows without anything in it."""
+    if isinstance(source, np.ndarray):
+        return UNKNOWN
+    return source.header if isinstance(source, Events) else read_header(source)
+
+
 def ticks_of(source: EventsLike) -> Ticks:
     """How long the ticks of a source are."""
-    if isinstance(source, np.ndarray):
-        return Ticks()
-    header = source.header if isinstance(source, Events) else read_header(source)
+    header = header_of(source)
     return Ticks(header.global_seconds, header.resolution_seconds)
 
 
-def photons_of(source: EventsLike, group: GroupLike = None) -> NDArray[np.void]:
-    """The photons of a group that aren't late, in the order of the file: events with the fields of ``read_events``."""
+def photons_of(source: EventsLike, group: GroupLike = None) -> Events:
+    """The photons of a group that aren't late, in the order of the file."""
     chosen = group_of(group)
-    found = [piece[chosen.mask(piece)] for piece in pieces_of(source)]
-    return np.concatenate(found) if found else np.zeros(0, EVENT)
+    return joined([piece[chosen.mask(piece)] for piece in pieces_of(source)], header_of(source))
 
 
-def shifted(array: NDArray[np.void], shifts: Mapping[int, int], period: int) -> NDArray[np.void]:
+def shifted(events: Part, shifts: Mapping[int, int], period: int) -> Events:
     """A copy of the events with shifted dtimes, as a plan's ``shift`` has them.
 
     ``shifts`` has for each input the ticks that are added to its dtimes; the sum is taken modulo ``period``, in ticks.
@@ -104,8 +108,9 @@ def shifted(array: NDArray[np.void], shifts: Mapping[int, int], period: int) -> 
     """
     if period < 1:
         raise ValueError("a period has one tick at least")
-    result = array.copy()
+    events = events_of(events)
+    dtimes = np.array(events.dtimes)
     for number, ticks in shifts.items():
-        moved = (result["number"] == number) & ~result["marker"]
-        result["dtime"][moved] = (result["dtime"][moved] + ticks) % period
-    return result
+        moved = (events.numbers == number) & ~events["marker"]
+        dtimes[moved] = (dtimes[moved].astype(np.int64) + ticks) % period
+    return replace(events, dtimes=dtimes)

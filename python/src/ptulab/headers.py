@@ -4,6 +4,7 @@ The format is PicoQuant's (documentation of the unified TTTR file format); ``doc
 here and by the program, and how a header is refused. What is refused here is what the program refuses.
 """
 
+import math
 import mmap
 import os
 import stat
@@ -16,6 +17,7 @@ from typing import Any
 import numpy as np
 
 from .errors import BadFile
+from ._values import Compared
 
 __all__ = ["Header", "read_header"]
 
@@ -42,8 +44,8 @@ WITH_BODY = {FLOATS, TEXT, WIDE, BLOB}
 WITHOUT_BODY = {EMPTY, TRUTH, INTEGER, BITS, COLOUR, FLOAT, DATE}
 
 
-@dataclass(frozen=True)
-class Header:
+@dataclass(frozen=True, eq=False)
+class Header(Compared):
     """What a PTU file says of itself.
 
     ``tags`` has the value of each tag by its name, the first where a name stands twice: a whole number, a
@@ -66,6 +68,12 @@ class Header:
         """``"T2"`` or ``"T3"``."""
         return self.record_type[-2:]
 
+    def pixel_micrometres(self, columns: int) -> float | None:
+        """How long and wide a pixel is by ``ImgHdr_PixResol``, None where that isn't told, or the scan had other columns."""
+        length = self.tags.get("ImgHdr_PixResol")
+        known = isinstance(length, float) and 0 < length < math.inf and self.tags.get("ImgHdr_PixX") == columns
+        return length if known else None
+
     @property
     def created(self) -> datetime | None:
         """When the measurement began, in the clock of its computer, by ``File_CreatingTime``; None where it isn't told."""
@@ -76,6 +84,15 @@ class Header:
             return datetime(1899, 12, 30) + timedelta(days=days)
         except (OverflowError, ValueError):
             return None
+
+
+def other_records(announced: int | None, records: int) -> str:
+    """Words on a file that has another number of records than its header announces; none where that tells nothing, as
+    some programs write the header before they know the number, and announce 0 or nothing."""
+    if not announced or announced == records:
+        return ""
+    said = f"the header announces {announced:,} records, and there are {records:,}"
+    return said + ": the file may be cut" if announced > records else said
 
 
 def read_header(path: str | os.PathLike[str]) -> Header:

@@ -1,24 +1,76 @@
 """Photons as a Photon-HDF5 file: https://photon-hdf5.readthedocs.io, the public specification, version 0.5."""
 
 import os
+from collections.abc import Collection, Sequence
+from dataclasses import dataclass
 from datetime import datetime, timezone
-from importlib.metadata import PackageNotFoundError, version
 from pathlib import Path
-from typing import Any
+from typing import Any, Literal
 
 import numpy as np
-from numpy.typing import NDArray
 
 from .errors import NotKnown
 from .events import Events
 from .groups import GroupLike, photons_of
 from ._optional import want
+from ._versions import __version__
 from ._whole import whole_path
 
-__all__ = ["write_photon_hdf5"]
+__all__ = ["Setup", "write_photon_hdf5"]
 
 PHOTON_HDF5 = "0.5"  # the version of the specification
 FORMAT_URL = "http://photon-hdf5.org/"
+
+
+@dataclass(frozen=True)
+class Setup:
+    """What a measurement was, in the terms of Photon-HDF5.
+
+    - ``kind``: ``"smFRET"``, ``"smFRET-usALEX"`` (lasers that are switched), ``"smFRET-nsALEX"`` (pulses in turn, as PIE) or
+      ``"generic"``.
+    - ``spectral``: the inputs of each spectral channel, the donor's first; ``polarization``: those of each polarisation.
+      Without channels all inputs are one.
+    - ``excitation``: of each laser, the donor's first, the pairs (from, to) of times in which it excites, without the second:
+      of dtimes in ticks, and with an ``alternation_period`` of times, less ``alternation_offset``, modulo that period, in
+      ticks of T2 or sync periods of T3.
+    - ``repetition_rates``: of the pulses of each laser, in hertz; of T3 by default one over the sync period, of T2 a laser is
+      else taken to be continuous. ``excitation_wavelengths`` of lasers and ``detection_wavelengths`` of spectral channels: in
+      metres.
+
+    Raises ``ValueError`` for what the format can't say.
+    """
+
+    kind: Literal["generic", "smFRET", "smFRET-usALEX", "smFRET-nsALEX"] = "generic"
+    spectral: Sequence[Collection[int]] = ()
+    polarization: Sequence[Collection[int]] = ()
+    excitation: Sequence[Sequence[tuple[int, int]]] = ()
+    alternation_period: int | None = None
+    alternation_offset: int = 0
+    repetition_rates: Sequence[float] = ()
+    excitation_wavelengths: Sequence[float] = ()
+    detection_wavelengths: Sequence[float] = ()
+
+    def __post_init__(self) -> None:
+        of_lasers = {len(told) for told in (self.excitation, self.repetition_rates, self.excitation_wavelengths) if told}
+        wrong = {
+            f"no type of measurement: {self.kind}": self.kind not in ("generic", "smFRET", "smFRET-usALEX", "smFRET-nsALEX"),
+            f"{self.kind} has two spectral channels, not {len(self.spectral)}": self.kind != "generic" and len(self.spectral) != 2,
+            f"{self.kind} has two lasers that excite in turn": "ALEX" in self.kind and len(self.excitation) != 2,
+            "smFRET has one laser: smFRET-nsALEX and smFRET-usALEX have two in turn": self.kind == "smFRET" and bool(self.excitation),
+            "smFRET-usALEX has an alternation_period": self.kind == "smFRET-usALEX" and not self.alternation_period,
+            f"lasers are told differently: {self.excitation_wavelengths}, {self.repetition_rates}, {self.excitation}": len(of_lasers) > 1,
+            f"{len(self.spectral)} spectral channels of wavelengths {self.detection_wavelengths}": len(self.detection_wavelengths)
+            not in (0, len(self.spectral)),
+            "wavelengths are in metres": not all(1e-7 < one < 1e-4 for one in (*self.excitation_wavelengths, *self.detection_wavelengths)),
+            f"no rate of a laser: {self.repetition_rates}": not all(rate > 0 for rate in self.repetition_rates),
+        }
+        if found := [why for why, is_wrong in wrong.items() if is_wrong]:
+            raise ValueError(found[0])
+
+    @property
+    def lasers(self) -> int:
+        """How many lasers there are: one where nothing tells."""
+        return max(1, len(self.excitation), len(self.repetition_rates), len(self.excitation_wavelengths))
 
 
 def write_photon_hdf5(
@@ -26,28 +78,30 @@ def write_photon_hdf5(
     path: str | os.PathLike[str],
     *,
     description: str,
+    setup: Setup | None = None,
     author: str = "",
     affiliation: str = "",
     group: GroupLike = None,
     filename: str = "",
-    alternated: bool = False,
 ) -> None:
-    """The photons of a group that aren't late as a Photon-HDF5 file of one spot, for a "generic" measurement.
+    """The photons of a group that aren't late as a Photon-HDF5 file of one spot.
 
     Fields and units are those of the public specification, version 0.5 (Ingargiola, Laurence, Boutelle, Weiss and
     Michalet, Biophysical Journal 110, 26, 2016): ``timestamps`` in units of ``timestamps_unit`` seconds, of T3 the sync
     periods, ``detectors`` the inputs, and of T3 ``nanotimes`` in units of ``tcspc_unit`` seconds. Markers aren't written.
-    ``filename``: of the file the events were read from; ``alternated``: whether lasers alternate, as in PIE. Raises
+    ``setup``: what the measurement was, by default a "generic" one of one spectral channel. ``filename``: of the file the
+    events were read from. Raises ``ValueError`` for photons of inputs that have no channel and times that no laser has,
     ``NotKnown`` where the header doesn't tell the seconds of a tick, and ``Missing`` without h5py.
     """
     h5py = want("h5py", "Photon-HDF5")
+    setup = Setup() if setup is None else setup
     unit, photons = _positive(events.header.global_seconds), photons_of(events, group)
-    times = events.array["time"][~events.array["late"]]
+    times = events.times[~events["late"]]
     tree = {
         "acquisition_duration": float(times.max() + 1) * unit if len(times) else 0.0,
         "description": description,
-        "photon_data": _photon_data(events, photons),
-        "setup": _setup(events, photons, alternated),
+        "photon_data": _photon_data(photons, setup),
+        "setup": _setup(photons, setup),
         "identity": _identity(author, affiliation, Path(path).name),
     }
     if provenance := _provenance(events, filename):
@@ -65,49 +119,85 @@ def _positive(seconds: float | None) -> float:
     return seconds
 
 
-def _photon_data(events: Events, photons: NDArray[np.void]) -> dict[str, Any]:
-    header = events.header
-    inputs = np.unique(photons["number"])
+def _photon_data(photons: Events, setup: Setup) -> dict[str, Any]:
+    header, bins = photons.header, 0
     data: dict[str, Any] = {
-        "timestamps": np.ascontiguousarray(photons["time"]),
+        "timestamps": np.ascontiguousarray(photons.times),
         "timestamps_specs": {"timestamps_unit": header.global_seconds},
-        "detectors": np.ascontiguousarray(photons["number"]),
-        "measurement_specs": {"measurement_type": "generic", "detectors_specs": {"spectral_ch1": inputs}},
+        "detectors": np.ascontiguousarray(photons.numbers),
     }
     if header.mode == "T3":
         period, tick = _positive(header.global_seconds), _positive(header.resolution_seconds)
-        bins = max(round(period / tick), int(photons["dtime"].max(initial=0)) + 1)
-        data["nanotimes"] = photons["dtime"].astype(np.uint16)
+        bins = max(round(period / tick), int(photons.dtimes.max(initial=0)) + 1)
+        data["nanotimes"] = photons.dtimes.astype(np.uint16)
         data["nanotimes_specs"] = {"tcspc_unit": tick, "tcspc_num_bins": bins, "tcspc_range": bins * tick}
-        data["measurement_specs"]["laser_repetition_rate"] = 1 / period
+    elif setup.kind == "smFRET-nsALEX":
+        raise ValueError("smFRET-nsALEX is of T3 files, whose photons have delays")
+    data["measurement_specs"] = _specs(photons, setup, bins)
     return data
 
 
-def _setup(events: Events, photons: NDArray[np.void], alternated: bool) -> dict[str, Any]:
-    inputs, counts = np.unique(photons["number"], return_counts=True)
-    pulsed = events.header.mode == "T3"
-    setup: dict[str, Any] = {
+def _specs(photons: Events, setup: Setup, bins: int) -> dict[str, Any]:
+    """The type of the measurement, its channels, and when which laser excites."""
+    channels = _channels("spectral", setup.spectral or [np.unique(photons.numbers)], photons)
+    channels |= _channels("polarization", setup.polarization, photons) if setup.polarization else {}
+    specs: dict[str, Any] = {"measurement_type": setup.kind, "detectors_specs": channels}
+    if photons.header.mode == "T3":
+        specs["laser_repetition_rate"] = _rates(photons, setup)[0]
+    if setup.alternation_period:
+        specs |= {"alex_period": setup.alternation_period, "alex_offset": setup.alternation_offset}
+    last = 0
+    for start, stop in sorted(pair for laser in setup.excitation for pair in laser):
+        if start < last:
+            raise ValueError(f"times of lasers overlap at {start}")
+        if not start < stop <= (setup.alternation_period or bins):
+            raise ValueError(f"no time of a laser: from {start} to {stop} of {setup.alternation_period or bins}")
+        last = stop
+    return specs | {f"alex_excitation_period{n}": np.array(laser, np.int64).ravel() for n, laser in enumerate(setup.excitation, 1)}
+
+
+def _channels(kind: str, channels: Sequence[Collection[int]], photons: Events) -> dict[str, Any]:
+    """The inputs of each channel. Raises ``ValueError`` where an input with photons is in none, or one is in two."""
+    seen: set[int] = set()
+    for channel in channels:
+        if twice := seen & set(channel):
+            raise ValueError(f"input {min(twice)} is in two {kind} channels")
+        if not len(channel) and len(channels) > 1:
+            raise ValueError(f"a {kind} channel of no input")
+        seen |= set(channel)
+    if missing := set(np.unique(photons.numbers).tolist()) - seen:
+        raise ValueError(f"input {min(missing)} is in no {kind} channel: leave its photons out by a group")
+    return {f"{kind}_ch{n}": np.array(sorted(channel), np.uint8) for n, channel in enumerate(channels, 1)}
+
+
+def _rates(photons: Events, setup: Setup) -> list[float]:
+    """The repetition rate of each laser, or none where they are continuous."""
+    if photons.header.mode == "T2" or setup.repetition_rates:
+        return list(setup.repetition_rates)
+    return [1 / _positive(photons.header.global_seconds)] * setup.lasers
+
+
+def _setup(photons: Events, setup: Setup) -> dict[str, Any]:
+    inputs, counts = np.unique(photons.numbers, return_counts=True)
+    rates = _rates(photons, setup)
+    told: dict[str, Any] = {
         "num_pixels": max(len(inputs), 1),
         "num_spots": 1,
-        "num_spectral_ch": 1,
-        "num_polarization_ch": 1,
+        "num_spectral_ch": max(len(setup.spectral), 1),
+        "num_polarization_ch": max(len(setup.polarization), 1),
         "num_split_ch": 1,
-        "modulated_excitation": alternated,
-        "excitation_alternated": np.array([alternated], np.int8),
-        "excitation_cw": np.array([not pulsed], np.int8),
-        "lifetime": pulsed,
+        "modulated_excitation": bool(setup.excitation),
+        "excitation_alternated": np.array([bool(setup.excitation)] * setup.lasers, np.int8),
+        "excitation_cw": np.array([not rates] * setup.lasers, np.int8),
+        "lifetime": photons.header.mode == "T3",
         "detectors": {"id": inputs, "counts": counts},
     }
-    if pulsed:
-        setup["laser_repetition_rates"] = np.array([1 / _positive(events.header.global_seconds)])
-    return setup
-
-
-def _version() -> str:
-    try:
-        return version("ptulab")
-    except PackageNotFoundError:
-        return "not installed"
+    arrays = {
+        "laser_repetition_rates": rates,
+        "excitation_wavelengths": setup.excitation_wavelengths,
+        "detection_wavelengths": setup.detection_wavelengths,
+    }
+    return told | {name: np.array(values, np.float64) for name, values in arrays.items() if len(values)}
 
 
 def _identity(author: str, affiliation: str, name: str) -> dict[str, Any]:
@@ -116,7 +206,7 @@ def _identity(author: str, affiliation: str, name: str) -> dict[str, Any]:
         "author_affiliation": affiliation,
         "creation_time": datetime.now(timezone.utc).strftime("%Y-%m-%d %H:%M:%S"),
         "software": "ptulab",
-        "software_version": _version(),
+        "software_version": __version__,
         "format_name": "Photon-HDF5",
         "format_version": PHOTON_HDF5,
         "format_url": FORMAT_URL,
@@ -151,6 +241,9 @@ TITLES = {
     "photon_data/measurement_specs/laser_repetition_rate": "Repetition rate of the pulsed excitation laser in Hertz.",
     "photon_data/measurement_specs/detectors_specs": "Mapping between the pixel IDs and the detection channels.",
     "photon_data/measurement_specs/detectors_specs/spectral_ch1": "Pixel IDs for the first spectral channel (i.e. donor in a smFRET measurement).",
+    "photon_data/measurement_specs/detectors_specs/spectral_ch2": "Pixel IDs for the second spectral channel (i.e. acceptor in a smFRET measurement).",
+    "photon_data/measurement_specs/alex_period": "Period of laser alternation in us-ALEX measurements in timestamps units.",
+    "photon_data/measurement_specs/alex_offset": "Time offset for the beginning of the alternation period in timestamps units.",
     "setup": "Information about the experimental setup.",
     "setup/num_pixels": "Total number of detector pixels.",
     "setup/num_spots": 'Number of excitation (or detection) "spots" in the sample.',
@@ -161,6 +254,8 @@ TITLES = {
     "setup/excitation_alternated": "For each excitation source, True if the excitation is alternated.",
     "setup/excitation_cw": "For each excitation source, True if the excitation is continuous wave (CW), False if pulsed.",
     "setup/laser_repetition_rates": "Laser repetition rates in Hertz for each excitation source.",
+    "setup/excitation_wavelengths": "List of excitation wavelengths (center wavelength if broad-band) in increasing order (unit: meter).",
+    "setup/detection_wavelengths": "Reference wavelengths (in meters) for each detection spectral band.",
     "setup/lifetime": "True (or 1) if the measurement includes nanotimes.",
     "setup/detectors": "Group with per-detector information.",
     "setup/detectors/id": "ID of each detector as it appears in photon_data/detectors.",
@@ -183,13 +278,21 @@ TITLES = {
 }
 
 
+NUMBERED = {
+    "spectral_ch": "Pixel IDs for the spectral channel",
+    "polarization_ch": "Pixel IDs for the polarization channel",
+    "alex_excitation_period": "Start and stop values identifying the excitation period of laser",
+}
+
+
 def _put(node: Any, place: str, tree: dict[str, Any], title: str) -> None:
     """Writes a tree of groups, arrays, numbers and texts, each with the attribute TITLE."""
     node.attrs["TITLE"] = np.bytes_(title.encode())
     for name, value in tree.items():
         inner = f"{place}/{name}" if place else name
+        said = TITLES.get(inner) or f"{NUMBERED[name[:-1]]} {name[-1]}."
         if isinstance(value, dict):
-            _put(node.create_group(name), inner, value, TITLES[inner])
+            _put(node.create_group(name), inner, value, said)
             continue
         if isinstance(value, str):
             value = np.bytes_(value.encode() or b" ")  # HDF5 has no text of no length
@@ -197,4 +300,4 @@ def _put(node: Any, place: str, tree: dict[str, Any], title: str) -> None:
             value = np.int8(value)
         large = isinstance(value, np.ndarray) and value.size > 1000
         packed = {"compression": "gzip", "compression_opts": 1, "shuffle": True} if large else {}
-        node.create_dataset(name, data=value, **packed).attrs["TITLE"] = np.bytes_(TITLES[inner].encode())
+        node.create_dataset(name, data=value, **packed).attrs["TITLE"] = np.bytes_(said.encode())

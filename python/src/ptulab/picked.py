@@ -16,6 +16,7 @@ from .errors import NotKnown
 from .events import Events, read_events
 from .headers import FLOAT, INTEGER, TAG, read_header
 from .program import find_program, refusal
+from ._versions import __version__, versions
 from ._whole import written_whole
 
 __all__ = ["pick", "read_picked", "sidecar_of", "write_sidecar", "write_with_resolutions"]
@@ -31,10 +32,10 @@ def pick(plan: PathLike, group: int, file: PathLike, picked: PathLike, *, progra
     """
     words = [find_program(program), "pick", os.fspath(plan), str(group), os.fspath(file)]
     with written_whole(picked) as out:
-        ended = subprocess.run(words, stdout=out, stderr=subprocess.PIPE)
+        ended = subprocess.run(words, stdout=out, stderr=subprocess.PIPE, check=False)
         if ended.returncode != 0:
             raise refusal(ended.returncode, ended.stderr.decode(errors="replace").strip())
-        return write_sidecar(file, picked, plan=Path(plan).name, group=group)
+        return write_sidecar(file, picked, plan=Path(plan).name, group=group, **versions(words[0]) | {"program": Path(words[0]).name})
 
 
 def sidecar_of(picked: PathLike) -> Path:
@@ -47,11 +48,11 @@ def write_sidecar(file: PathLike, picked: PathLike, **more: Any) -> Path:
     """Writes the sidecar of a file that was picked from ``file``, and gives its path.
 
     It is JSON, with ``picked_from``, ``global_seconds`` and ``resolution_seconds`` (null where the header doesn't tell), in
-    decimal digits that give the same number of 64 bits, and what else is told. Raises ``BadFile`` and ``OSError``.
+    decimal digits that give the same number of 64 bits, the version of ``ptulab``, and what else is told. Raises ``BadFile`` and ``OSError``.
     """
     header = read_header(file)
     seconds = {"global_seconds": header.global_seconds, "resolution_seconds": header.resolution_seconds}
-    told: dict[str, Any] = {"picked_from": Path(file).name, **more, **seconds}
+    told: dict[str, Any] = {"picked_from": Path(file).name, "ptulab": __version__, **more, **seconds}
     with written_whole(sidecar_of(picked)) as out:
         out.write(json.dumps(told, indent=1).encode() + b"\n")
     return sidecar_of(picked)

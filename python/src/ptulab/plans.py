@@ -12,6 +12,7 @@ import os
 from collections.abc import Iterator
 
 from ._documents import read_plan
+from .headers import other_records
 from ._looks import Look, look
 from ._plan_checks import check_plan
 from ._plan_rules import BINS_OF_CUBE, Finding
@@ -62,6 +63,8 @@ def _remarks(seen: Look) -> Iterator[str]:
         said += f"# marker bits: {', '.join(f'{bit} ({count} times)' for bit, count in seen.bits.items())}\n"
     if 0 in seen.inputs and _sync_is_input_0(seen):
         said += "# input 0 is the sync\n"
+    if odd := other_records(seen.header.announced, seen.header.records):
+        said += f"# {odd}\n"
     if seen.late:
         said += f"# {seen.late} events are late: with version = 2, try settle = 1, 2, 4 .. 64 until the report has none\n"
     yield said

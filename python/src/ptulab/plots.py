@@ -12,7 +12,7 @@ from ._optional import want
 from .pulsed import Coincidences, StartStops
 from .scans import Cube, Image
 from .segments import Curve
-from .tables import Table
+from .tables import Table, enough
 
 __all__ = [
     "plot",
@@ -132,18 +132,20 @@ def plot_image(image: Image | Table, axes: Any = None) -> Any:
     return plot_picture(counts.sum(axis=0) if counts.ndim == 3 else counts, "photons a pixel", axes=axes)
 
 
-def plot_lifetimes(cube: Cube | Table, axes: Any = None, *, offset: float = 0.0, threshold: int = 1) -> Any:
+def plot_lifetimes(cube: Cube | Table, axes: Any = None, *, offset: float = 0.0, threshold: int | None = None) -> Any:
     """The mean delay of each pixel of a cube, of all frames; ``offset``, in seconds (ticks where the file doesn't tell), is
-    taken off, and pixels with fewer photons than ``threshold`` are grey."""
+    taken off, and pixels with fewer photons than ``threshold`` are grey, by default than a tenth of what the brightest ones
+    have. The colours go from the 2nd to the 98th percentile of the others."""
     counts = cube.counts.sum(axis=0) if cube.counts.ndim == 4 else cube.counts
-    seconds = cube.seconds
-    means = mean_delays(counts, cube.ticks if seconds is None else seconds, offset=offset, threshold=threshold)
+    seconds = cube.seconds if len(cube.ticks) > 1 else None  # one bin doesn't tell how many seconds it has
+    width = float(cube.dwidth if isinstance(cube, Cube) else cube.settings["dwidth"]) if seconds is None else None
+    threshold = enough(counts.sum(axis=-1)) if threshold is None else threshold
+    means = mean_delays(counts, cube.ticks if seconds is None else seconds, offset=offset, threshold=threshold, width=width)
     known = means[np.isfinite(means)]
-    if seconds is None:
-        return plot_picture(means, "mean delay (ticks)", axes=axes, cmap="viridis")
-    _, unit = in_units(known, known)
-    factor = dict((name, factor) for factor, name in UNITS)[unit]
-    return plot_picture(means * factor, f"mean delay ({unit})", axes=axes, cmap="viridis")
+    _, unit = in_units(None if seconds is None else known, known)
+    factor = 1.0 if seconds is None else dict((name, factor) for factor, name in UNITS)[unit]
+    least, most = np.percentile(known, (2, 98)) * factor if len(known) else (None, None)
+    return plot_picture(means * factor, f"mean delay ({unit})", axes=axes, cmap="viridis", least=least, most=most)
 
 
 def plot_correlation(curve: Curve | Table, axes: Any = None, *, fit: Fit | None = None) -> Any:

@@ -9,8 +9,9 @@ import threading
 from collections.abc import Callable, Iterator
 from contextlib import contextmanager, suppress
 from importlib import resources
-from pathlib import Path
 from typing import IO, Any
+
+import ptulab_program
 
 from ._documents import read_plan
 from .errors import BadPlan, BadReport, NoProgram, Refusal
@@ -23,13 +24,18 @@ LOOKS = 0.1  # seconds between two looks at how far the program is
 
 
 def find_program(program: str | os.PathLike[str] | None = None) -> str:
-    """The path of ``ptu``: the one that is given, that of the environment variable PTU, that of the checkout in which
-    this package stands (``out/ptu``), or the one on the PATH. Raises ``NoProgram`` where there is none."""
-    checkout = Path(__file__).resolve().parents[3] / "out" / "ptu"
-    named = os.fspath(program or os.environ.get("PTU") or (checkout if checkout.is_file() else "ptu"))
-    found = shutil.which(os.path.abspath(named) if os.path.dirname(named) or os.path.isfile(named) else named)
+    """The path of ``ptu``: the one that is given, that of the environment variable PTU, the one that goes with this package
+    (in a checkout what was built there, else the one of the wheel or of ``bin/`` for this processor), or the one on the PATH.
+    A text without a slash is the name of one on the PATH, and one in the working directory is found by no name alone, so that
+    a folder of data brings no program along. Raises ``NoProgram`` where there is none."""
+    named = program or os.environ.get("PTU") or ptulab_program.find() or "ptu"
+    if isinstance(named, str) and not os.path.dirname(named):
+        folders = filter(os.path.isabs, os.environ.get("PATH", os.defpath).split(os.pathsep))
+        found = next(filter(None, (shutil.which(os.path.join(folder, named)) for folder in folders)), None)
+    else:
+        found = shutil.which(os.path.abspath(named))
     if found is None:
-        raise NoProgram(f"no program {named}: name it by program= or by the environment variable PTU")
+        raise NoProgram(f"no program {os.fspath(named)}: name it by program= or by the environment variable PTU")
     return found
 
 

@@ -3,42 +3,50 @@
 Times are sync periods (ticks in T2), or, with the period given in ticks of the dtime, sync * period + dtime.
 """
 
+import math
 from dataclasses import dataclass
+from fractions import Fraction
 
 import numpy as np
 from numpy.typing import NDArray
 
 from .errors import NotKnown
-from .groups import EventsLike, GroupLike, group_of, pieces_of, ticks_of
+from .events import Events
+from .groups import EventsLike, GroupLike, group_of, header_of, pieces_of, ticks_of
+from ._values import Compared
 
 __all__ = ["Coincidences", "StartStops", "coincidences", "start_stops"]
 
-DENSE = 8  # where so few units of time come to each time that has photons, all of them are gone through
+DENSE = 8  # where so few units of time come to each time that has photons, or to each pair, all of them are gone through
 BLOCK = 1 << 15  # units of time that are taken together then
+EXACT = 1 << 53  # sums of floating-point numbers below it are those of whole numbers
+SHORT = 64  # up to such a reach pairs of a block are added up one difference at a time, beyond by Fourier transforms
 
 Weights = tuple[NDArray[np.int64], NDArray[np.int64], NDArray[np.int64], NDArray[np.int64]]
 
 
-@dataclass(frozen=True)
-class Coincidences:
+@dataclass(frozen=True, eq=False)
+class Coincidences(Compared):
     """Pairs of photons by their difference of time, the second's less the first's.
 
     - ``counts``: shape (cells,); cell c has the differences c * width - reach up to (c + 1) * width - reach - 1, the last
       one up to reach, as in a report.
     - ``reach``, ``width``: in sync periods, or in ticks where a period was given.
+    - ``period``: of a pulsed source, in the same unit, so 1 of sync periods; None where it isn't known, as in T2 files.
     - ``first_photons``, ``second_photons``: of the two groups; ``both_photons``: that are in both. ``length``: the unit
       times from the first event to the last, both counted.
     - ``unit_seconds``: of a sync period or a tick, None where the file doesn't tell.
     """
 
-    counts: NDArray[np.uint64]
+    counts: NDArray[np.int64]
     reach: int
     width: int
-    first_photons: int
-    second_photons: int
+    first_photons: float
+    second_photons: float
     length: int
     unit_seconds: float | None = None
-    both_photons: int = 0
+    both_photons: float = 0
+    period: float | None = 1
 
     @property
     def _edges(self) -> NDArray[np.int64]:
@@ -85,19 +93,56 @@ class Coincidences:
         part = float(self.both_photons) ** 2 / max(float(self.first_photons) * float(self.second_photons), 1.0)
         return np.asarray(np.maximum(self.counts.astype(np.float64), 1.0) * (1 + part * mirrored / self.widths))
 
-    def central_ratio(self) -> tuple[float, float]:
-        """The pairs of lag 0 over the mean of the other cells, with its Poisson error: g2(0) of a pulsed source.
+    def central_ratio(
+        self, *, delay: float = 0.0, neighbours: int | None = None, period: float | None = None
+    ) -> tuple[float, float]:
+        """The pairs of one pulse over those of two pulses in the mean, with its Poisson error: g2(0) of a pulsed source.
 
-        For coincidences by sync periods with a width of 1, of two different detectors. An error is of one standard
-        deviation; without a pair at lag 0 it is that of one pair. Raises ``NotKnown`` where all other cells are 0.
+        The pairs of a peak are those whose difference is less than half a period from it; a cell with differences of
+        two peaks counts in both by its share (Kurtsiefer, Mayer, Zarda and Weinfurter, Physical Review Letters 85, 290,
+        2000, compare areas of peaks so). ``delay``: where the peak of one pulse is, in the unit of ``reach``, so by how much
+        the second detector's cable is longer; ``neighbours``: how many peaks on either side are taken for the mean, None
+        for all that are whole; ``period``: between two peaks, where it isn't told, as of T2 files.
+
+        An error is of one standard deviation; without a pair of one pulse it is that of one pair. Raises ``NotKnown``
+        where a period isn't known; where cells are wider than an eighth of it and don't begin where peaks do; where the
+        reach doesn't have the whole peak of one pulse and those beside it; where these have no pairs; and where the nearer
+        of them have more or fewer than the further ones, by five standard deviations, as of a source that blinks: take
+        some ``neighbours`` then.
         """
-        at = self.reach // self.width
-        centre, others = int(self.counts[at]), int(self.counts.sum()) - int(self.counts[at])
-        if not others:
+        edges = self._peaks(self.period if period is None else period, delay, neighbours)
+        areas, peaks = self._areas(edges), len(edges) // 2 - 1
+        doubled = 1 + self.both_photons**2 / max(self.first_photons * self.second_photons, 1)  # each pair at d and at -d
+        near = np.abs(np.arange(-peaks, peaks + 1)) <= peaks // 2
+        centre, beside = float(areas[peaks]), float(areas.sum() - areas[peaks])
+        if not beside > 0:
             raise NotKnown("no pairs at other lags to compare with")
-        mean = others / (len(self.counts) - 1)
+        part = (near.sum() - 1) / (2 * peaks)  # of the peaks beside that are near
+        if abs(areas[near].sum() - centre - part * beside) > 5 * math.sqrt(doubled * part * (1 - part) * beside):
+            raise NotKnown("pairs of two pulses depend on how far these are apart, as of a source that blinks: take some neighbours")
+        mean = beside / (2 * peaks)
         ratio = centre / mean
-        return ratio, float(np.sqrt(max(centre, 1) / mean**2 + ratio**2 / others))
+        return ratio, math.sqrt(doubled * (max(centre, 1.0) / mean**2 + ratio**2 / beside))
+
+    def _peaks(self, period: float | None, delay: float, neighbours: int | None) -> NDArray[np.float64]:
+        """Where the peaks of so many neighbours begin and end, from the one of the least difference to the greatest."""
+        if period is None or not 0 < period < math.inf:
+            raise NotKnown("peaks of pulses whose period isn't known: give it")
+        whole = math.floor((self.reach + 0.5 - abs(delay)) / period - 0.5)
+        peaks = whole if neighbours is None else neighbours
+        if not 1 <= peaks <= whole:
+            raise NotKnown(f"a reach of {self.reach} has no {max(peaks, 1)} whole peaks on either side of {delay:g}")
+        edges = delay + period * (np.arange(-peaks, peaks + 2) - 0.5)
+        cells = self._edges - 0.5
+        off = np.abs(edges - cells[np.searchsorted((cells[1:] + cells[:-1]) / 2, edges)]).max()  # from the nearest cell's
+        if 8 * self.width > period and (off > 0.5 or self.width > period):
+            raise NotKnown(f"cells of {self.width} don't begin where peaks with a period of {period:g} do: take finer ones")
+        return np.asarray(edges)
+
+    def _areas(self, edges: NDArray[np.float64]) -> NDArray[np.float64]:
+        """The pairs between each two of these differences; a difference d is the span from d - 1/2 to d + 1/2."""
+        so_far = np.cumsum(np.append(0.0, self.counts.astype(np.float64)))
+        return np.asarray(np.diff(np.interp(edges, self._edges - 0.5, so_far)))
 
 
 def coincidences(
@@ -109,7 +154,8 @@ def coincidences(
     coincidence. Without ``period`` the unit is the sync period (a tick in T2): lag 0 is two photons of one pulse, lag
     -1 a second photon one pulse earlier. With ``period``, the ticks of the dtime in a sync period, the unit is a tick.
 
-    Raises ``ValueError`` for a reach or a width below 1, or times that no floating-point number holds exactly.
+    Raises ``ValueError`` for a reach or a width below 1, or times that can't be told apart: of 2^62 ticks or
+    more, with a period of any part of a tick 2^53.
     """
     if reach < 1 or width < 1:
         raise ValueError(f"coincidences with a reach of {reach} and a width of {width}")
@@ -118,10 +164,11 @@ def coincidences(
     earlier = pair_counts(times, seconds, firsts, reach)
     later[0] -= both.sum()
     counts = np.concatenate((earlier[:0:-1], later))
-    pairs = np.add.reduceat(counts, np.arange(0, 2 * reach + 1, width)).astype(np.uint64)
+    pairs = np.add.reduceat(counts, np.arange(0, 2 * reach + 1, width))
     length = ends[1] - ends[0] + 1 if ends else 0
     one, two, in_both = (int(photons.sum()) for photons in (firsts, seconds, both))
-    return Coincidences(pairs, reach, width, one, two, length, _unit(source, period), in_both)
+    between = period if period is not None else None if header_of(source).mode == "T2" else 1
+    return Coincidences(pairs, reach, width, one, two, length, _unit(source, period), in_both, between)
 
 
 def _unit(source: EventsLike, period: float | None) -> float | None:
@@ -129,14 +176,25 @@ def _unit(source: EventsLike, period: float | None) -> float | None:
     return ticks.global_seconds if period is None else ticks.resolution_seconds
 
 
-def in_ticks(photons: NDArray[np.void], period: float | None) -> NDArray[np.int64]:
-    """The times of events: as they stand, or with the period in ticks of the dtime as sync * period + dtime, in ticks."""
+def in_ticks(photons: Events, period: float | None) -> NDArray[np.int64]:
+    """The times of events: as they stand, or with the period in ticks of the dtime as sync * period + dtime, in ticks.
+
+    The product is rounded to the nearest tick, and to an even one halfway. A period with a part of a tick that is a
+    fraction with a denominator up to 1024, as 1562.5, is multiplied in whole numbers; others as floating-point numbers.
+    """
     times = np.ascontiguousarray(photons["time"])
     if period is None or not len(times):
         return times
-    if not period > 0 or float(times.max()) * period >= 2.0**53:
+    exact = Fraction(period) if period > 0 and math.isfinite(period) else Fraction(0)
+    small = exact.denominator <= 1024
+    most = int(times.max()) * exact
+    if not exact or (most * exact.denominator >= 1 << 62 if small else most >= 1 << 53):
         raise ValueError(f"times of {period} ticks a period can't be told apart")
-    return np.asarray(np.rint(times * float(period)).astype(np.int64) + photons["dtime"])
+    if not small:
+        return np.asarray(np.rint(times * float(period)).astype(np.int64) + photons["dtime"])
+    ticks, rest = np.divmod(times * exact.numerator, exact.denominator)
+    up = (2 * rest > exact.denominator) | ((2 * rest == exact.denominator) & (ticks % 2 == 1))
+    return np.asarray(ticks + up + photons["dtime"])
 
 
 def _occupied(
@@ -177,9 +235,22 @@ def pair_counts(
 
     ``times`` rise, and have so many photons of the first and of the second group each.
     """
-    if len(times) and times[-1] - times[0] < DENSE * len(times):
-        return _pairs_of_dense(times - times[0], firsts, seconds, reach)
-    return _pairs_of_sparse(times, firsts, seconds, reach)
+    counts = np.zeros(reach + 1, np.int64)
+    span = int(times[-1] - times[0]) if len(times) else 0
+    within = min(reach, span)
+    dense = _is_dense(times, firsts, seconds, span, within)
+    found = _pairs_of_dense(times - times[0], firsts, seconds, within) if dense else _pairs_of_sparse(times, firsts, seconds, within)
+    counts[: within + 1] = found
+    return counts
+
+
+def _is_dense(times: NDArray[np.int64], firsts: NDArray[np.int64], seconds: NDArray[np.int64], span: int, reach: int) -> bool:
+    """Whether there is less to do if all units of time are gone through."""
+    if reach <= SHORT:
+        return span < DENSE * len(times)
+    one, two = times[firsts > 0], times[seconds > 0]
+    pairs = np.searchsorted(two, one + reach, side="right") - np.searchsorted(two, one)
+    return span < DENSE * int(pairs.sum())
 
 
 def _pairs_of_sparse(
@@ -204,33 +275,58 @@ def _pairs_of_sparse(
         waiting += len(start)
         if waiting > reach or not len(start):
             differences, products = (np.concatenate(column) for column in zip(*found, strict=True))
-            counts += np.rint(np.bincount(differences, products, reach + 1)).astype(np.int64)
+            _add_products(counts, differences, products)
             found, waiting = [], 0
     return counts
+
+
+def _add_products(counts: NDArray[np.int64], places: NDArray[np.int64], products: NDArray[np.int64]) -> None:
+    if float(products.sum(dtype=np.float64)) < EXACT:
+        counts += np.rint(np.bincount(places, products, len(counts))).astype(np.int64)
+    else:
+        np.add.at(counts, places, products)
 
 
 def _pairs_of_dense(
     times: NDArray[np.int64], firsts: NDArray[np.int64], seconds: NDArray[np.int64], reach: int
 ) -> NDArray[np.int64]:
     """All times have a place, also those without photons: a block of the first group with what is in its reach."""
-    counts, block = np.zeros(reach + 1, np.int64), max(BLOCK, reach)
+    counts = np.zeros(reach + 1, np.int64)
+    size = 1 << min(2 * max(BLOCK, reach), int(times[-1]) + reach + 1).bit_length()
+    block = size - reach
     for begin in range(0, int(times[-1]) + 1, block):
-        low, high, last = np.searchsorted(times, (begin, begin + block, begin + block + reach))
-        one, two = np.zeros(block), np.zeros(block + reach)
+        low, high, last = np.searchsorted(times, (begin, begin + block, begin + size))
+        one, two = np.zeros(block), np.zeros(size)
         one[times[low:high] - begin] = firsts[low:high]
         two[times[low:last] - begin] = seconds[low:last]
-        counts += np.rint(np.correlate(two, one, "valid")).astype(np.int64)
+        counts += _correlated(one, two)
     return counts
 
 
-@dataclass(frozen=True)
-class StartStops:
+def _correlated(one: NDArray[np.float64], two: NDArray[np.float64]) -> NDArray[np.int64]:
+    """The sums of the products of one with two from its first place on, from its second, and so on while it has places.
+
+    By Fourier transforms where that is less work and their rounding, at most a few times 2^-53 of the product of the
+    norms for each halving, can't come near a half.
+    """
+    size = len(two)
+    if float(one.sum()) * float(two.sum()) >= EXACT:
+        return np.asarray(np.correlate(two.astype(np.int64), one.astype(np.int64), "valid").astype(np.int64))
+    rounding = 2.0**-50 * size.bit_length() * float(np.linalg.norm(one)) * float(np.linalg.norm(two))
+    if size - len(one) <= SHORT or rounding > 0.1:
+        return np.asarray(np.rint(np.correlate(two, one, "valid")).astype(np.int64))
+    turned = np.fft.rfft(two) * np.conj(np.fft.rfft(one, size))
+    return np.asarray(np.rint(np.fft.irfft(turned, size)[: size - len(one) + 1]).astype(np.int64))
+
+
+@dataclass(frozen=True, eq=False)
+class StartStops(Compared):
     """Times between neighbours: ``counts`` has shape (bins,), bin b those of b * width up to (b + 1) * width - 1.
 
     ``over``: the longer ones; ``unit_seconds``: of the unit of ``width``, None where the file doesn't tell.
     """
 
-    counts: NDArray[np.uint64]
+    counts: NDArray[np.int64]
     width: int
     over: int
     unit_seconds: float | None = None
@@ -263,10 +359,10 @@ def start_stops(
         either = starts | stops
         parts.append((in_ticks(piece, period)[either], starts[either], stops[either]))
     if not parts:
-        return StartStops(np.zeros(bins, np.uint64), width, 0, _unit(source, period))
+        return StartStops(np.zeros(bins, np.int64), width, 0, _unit(source, period))
     times, starts, stops = (np.concatenate(column) for column in zip(*parts, strict=True))
     order = np.argsort(times, kind="stable")
     times, starts, stops = times[order], starts[order], stops[order]
     cells = (times[1:] - times[:-1])[starts[:-1] & stops[1:]] // width
-    counts = np.bincount(cells[cells < bins], minlength=bins).astype(np.uint64)
+    counts = np.bincount(cells[cells < bins], minlength=bins).astype(np.int64, copy=False)
     return StartStops(counts, width, int(np.count_nonzero(cells >= bins)), _unit(source, period))

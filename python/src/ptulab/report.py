@@ -20,6 +20,7 @@ from ._plan_rules import MOST
 from .errors import BadReport, NoTable, Unlike
 from .headers import RECORD_TYPES
 from ._scratch import keep_scratch
+from ._values import Compared
 from .tables import BY_DTIME, KINDS, Measurement, Table, empty_table, names_of_groups
 
 __all__ = ["Head", "Report", "ReportLike", "read_report", "sum_reports"]
@@ -70,8 +71,8 @@ class Head:
         return ((word, self[word]) for word in HEAD)
 
 
-@dataclass
-class Report:
+@dataclass(eq=False)
+class Report(Compared):
     """What a run counted: the head and the tables, in the order of the report."""
 
     head: Head
@@ -86,7 +87,15 @@ class Report:
 
     def __add__(self, other: "Report") -> "Report":
         """The sum of two reports, as ``sum_reports`` makes it."""
+        if not isinstance(other, Report):
+            return NotImplemented
         return sum_reports([self, other])
+
+    def __radd__(self, other: int) -> "Report":
+        """So that ``sum`` adds up reports, which begins with 0."""
+        if not isinstance(other, int) or other != 0:
+            return NotImplemented
+        return _copy(self)
 
     def __iadd__(self, other: "Report") -> "Report":
         """The same in the arrays of the first, without memory for a third."""
@@ -101,6 +110,12 @@ def read_report(source: ReportLike, plan: str | os.PathLike[str] | None = None) 
     Raises ``BadReport`` for a text that is no whole report, and ``Unlike`` for a plan of other tables.
     """
     return read_stream(source, None if plan is None else read_plan(plan))
+
+
+def read_head(path: str | os.PathLike[str]) -> Head:
+    """The head of the report in the file at a path, without its tables. Raises ``BadReport`` where there is none."""
+    with open(path, "rb") as file:
+        return _Reader(file, os.fspath(path), None, None).head()
 
 
 def sum_reports(reports: Iterable[Report | ReportLike], plan: str | os.PathLike[str] | None = None) -> Report:
@@ -217,7 +232,8 @@ class _Reader:
         self.ended()
         if self.whole is not None and len(self.tables) != len(self.whole.tables):
             raise Unlike(f"{self.name}other tables")
-        self.measured(None if head.first is None or head.last is None else head.last - head.first)
+        if head.photons or head.markers or self.plan is not None:  # nothing is told of a file without events
+            self.measured(None if head.first is None or head.last is None else head.last - head.first)
         return Report(head if self.whole is None else _head_of_sum(self.whole.head, head), tuple(self.tables))
 
     def measured(self, length: int | None) -> None:
@@ -376,15 +392,9 @@ class _Reader:
 
 
 def _add_to(table: Table, places: NDArray[np.int64], counts: NDArray[Any], are_empty: bool) -> None:
-    """Adds to cells, which are all different; in an array of objects where a count then passes 2^63."""
-    if counts.dtype == object and max(counts) > GREATEST:
-        table.counts = table.counts.astype(object)
+    """Adds to cells, which are all different; in an array of objects where a count can then pass 2^63."""
+    before: NDArray[Any] = np.zeros(1, dtype=np.int64) if are_empty else table.counts.reshape(-1)[places]
+    if int(counts.max()) + int(before.max()) > GREATEST:
+        table.counts, before = table.counts.astype(object), before.astype(object)
     cells = table.counts.reshape(-1)
-    counts = counts.astype(cells.dtype)
-    if are_empty:
-        cells[places] = counts
-        return
-    counts += cells[places]
-    cells[places] = counts
-    if cells.dtype != object and int(counts.max()) > GREATEST:
-        table.counts = table.counts.astype(object)
+    cells[places] = counts.astype(cells.dtype, copy=False) + before

@@ -5,6 +5,7 @@ it, and its counts are proved. What stands here is tested to give the same count
 """
 
 import math
+import warnings
 from dataclasses import dataclass, replace
 from fractions import Fraction
 from typing import Any, Literal
@@ -13,8 +14,10 @@ import numpy as np
 from numpy.typing import NDArray
 
 from .errors import NotKnown
-from .groups import EventsLike, GroupLike, group_of, pieces_of, ticks_of
+from .events import Events, joined
+from .groups import EventsLike, GroupLike, group_of, header_of, pieces_of
 from .headers import Header
+from ._values import Compared
 
 __all__ = ["LINE", "Cube", "Image", "Scan", "best_phase", "cube", "image", "lines_of", "scan_of"]
 
@@ -31,8 +34,8 @@ class Scan:
     - ``width``, ``height``: columns and rows.
     - ``line``, ``frame``, ``stop``: marker bits, 1 to 4, that begin a line, begin a frame, and end a line. Without
       ``frame`` a frame has ``height`` lines, counted from the start of the file.
-    - ``time``: how many sync periods a line lasts, any positive number. It is taken as the nearest fraction with a
-      denominator of at most a million. None: each line lasts from its own marker to its stop marker.
+    - ``time``: how many sync periods a line lasts, any number of a millionth or more. It is taken as the nearest fraction
+      with a denominator of at most a million. None: each line lasts from its own marker to its stop marker.
     - ``serpentine``: True where the odd rows of a frame, counted from 0, run backwards, and ``"lines"`` where the odd
       lines of the file do, so that the direction goes on from frame to frame.
     - ``phase``: how many sync periods the lines that run backwards are late; it is taken off the times in them, as the
@@ -60,7 +63,7 @@ class Scan:
                 raise ValueError(f"{name} = {bit}: a marker bit is 1 to 4")
         if self.time is None and self.stop is None:
             raise ValueError("the time of a line isn't known: give its stop marker, or its time in sync periods")
-        if self.time is not None and not (math.isfinite(self.time) and self.time > 0):
+        if self.time is not None and not (math.isfinite(self.time) and self.time * FINEST >= 1):
             raise ValueError(f"a line of {self.time} sync periods")
         if not math.isfinite(self.phase):
             raise ValueError(f"a phase of {self.phase} sync periods")
@@ -71,8 +74,12 @@ def scan_of(header: Header, **other: Any) -> Scan:
 
     A line lasts from its marker to its stop marker, and where there is none PixX * ImgHdr_TimePerPixel (in milliseconds).
     ``other``: settings of ``Scan`` that the header doesn't tell, or tells wrong. Raises ``NotKnown`` where the columns, the
-    rows or the marker of a line aren't told, and ``ValueError`` as ``Scan`` does.
+    rows or the marker of a line aren't told, and ``ValueError`` as ``Scan`` does. Warns of a sine correction
+    (ImgHdr_SinCorrection, of a resonant mirror), which isn't made: columns are of equal time.
     """
+    if header.tags.get("ImgHdr_SinCorrection"):
+        said = f"ImgHdr_SinCorrection = {header.tags['ImgHdr_SinCorrection']}"
+        warnings.warn(f"the header tells of a mirror that swings like a sine ({said}): columns aren't straightened", stacklevel=2)
     tags = {name: header.tags.get(f"ImgHdr_{tag}") for name, tag in TAGS.items()}
     told: dict[str, Any] = {name: value for name, value in tags.items() if isinstance(value, int) and value > 0}
     pixel = header.tags.get("ImgHdr_TimePerPixel")
@@ -85,35 +92,37 @@ def scan_of(header: Header, **other: Any) -> Scan:
     return Scan(**told)
 
 
-@dataclass(frozen=True)
-class Image:
+@dataclass(frozen=True, eq=False)
+class Image(Compared):
     """Photons by their place. ``counts``: shape (rows, columns), or (frames, rows, columns) where frames are an axis.
 
-    ``outside``: photons of the group without a place. ``global_seconds``: of a sync period, None where the file doesn't
-    tell. All counts and ``outside`` add up to the photons of the group that aren't late.
+    ``outside``: photons of the group without a place. ``global_seconds``: of a sync period, and ``pixel_micrometres``: how
+    long and wide a pixel is, None where the file doesn't tell. All counts and ``outside`` add up to the photons of the group that aren't late.
     """
 
     scan: Scan
-    counts: NDArray[np.uint64]
+    counts: NDArray[np.int64]
     outside: int
     global_seconds: float | None = None
+    pixel_micrometres: float | None = None
 
 
-@dataclass(frozen=True)
-class Cube:
+@dataclass(frozen=True, eq=False)
+class Cube(Compared):
     """Photons by place and dtime. ``counts``: shape (rows, columns, bins), or (frames, rows, columns, bins).
 
     ``ticks``: where each bin begins, in ticks of the dtime, of which ``dwidth`` are a bin; ``outside``: photons without
-    a place; ``over``: photons with a place whose dtime is past the last bin; ``resolution_seconds``: of a tick, None
-    where the file doesn't tell.
+    a place; ``over``: photons with a place whose dtime is past the last bin; ``resolution_seconds``: of a tick, and
+    ``pixel_micrometres``: how long and wide a pixel is, None where the file doesn't tell.
     """
 
     scan: Scan
-    counts: NDArray[np.uint64]
+    counts: NDArray[np.int64]
     dwidth: int
     outside: int
     over: int
     resolution_seconds: float | None = None
+    pixel_micrometres: float | None = None
 
     @property
     def ticks(self) -> NDArray[np.int64]:
@@ -126,9 +135,9 @@ class Cube:
         return None if self.resolution_seconds is None else self.ticks * self.resolution_seconds
 
     @property
-    def image(self) -> NDArray[np.uint64]:
+    def image(self) -> NDArray[np.int64]:
         """All photons of each pixel within the bins: the shape of ``counts`` without its last axis."""
-        return np.asarray(self.counts.sum(axis=-1, dtype=np.uint64))
+        return np.asarray(self.counts.sum(axis=-1))
 
 
 def lines_of(source: EventsLike, scan: Scan) -> NDArray[np.void]:
@@ -143,7 +152,7 @@ def lines_of(source: EventsLike, scan: Scan) -> NDArray[np.void]:
     found = [piece[piece["marker"] & ~piece["late"]] for piece in pieces_of(source)]
     if not found:
         return np.zeros(0, LINE)
-    markers = np.concatenate(found)
+    markers = joined(found)
     line, frame, stop = (_with_bit(markers, bit) for bit in (scan.line, scan.frame, scan.stop))
     at = np.flatnonzero(line)
     records = np.append(markers["record"], FOREVER)
@@ -160,7 +169,7 @@ def lines_of(source: EventsLike, scan: Scan) -> NDArray[np.void]:
     return lines
 
 
-def _with_bit(markers: NDArray[np.void], bit: int | None) -> NDArray[np.bool_]:
+def _with_bit(markers: Events, bit: int | None) -> NDArray[np.bool_]:
     if bit is None:
         return np.zeros(len(markers), np.bool_)
     return (markers["number"] >> (bit - 1) & 1).astype(np.bool_)
@@ -181,7 +190,8 @@ def image(source: EventsLike, scan: Scan, group: GroupLike = None) -> Image:
     computed with whole numbers, so that no rounding moves a photon; in lines that run backwards it is
     width - 1 - floor((t - phase) * width / T). With ``T = width * dwell`` this is the image of a plan.
 
-    Raises ``ValueError`` where a line lasts so long that its columns can't be computed so.
+    Raises ``ValueError`` where a line lasts so long, or so short beside the phase, that its columns can't be computed so.
+    Warns where no photon of the group has a place, and says what is missing, as markers with the bit of a frame.
     """
     lines = lines_of(source, scan)
     shape, places = _shape(lines, scan), _Places(lines, scan)
@@ -192,13 +202,15 @@ def image(source: EventsLike, scan: Scan, group: GroupLike = None) -> Image:
         cells, placed = places.of(piece["record"][photons], piece["time"][photons])
         outside += len(placed) - int(np.count_nonzero(placed))
         _add(counts, cells[placed])
-    return Image(scan, counts.astype(np.uint64).reshape(shape), outside, ticks_of(source).global_seconds)
+    _say_if_empty(scan, lines, int(counts.sum()), outside)
+    header = header_of(source)
+    return Image(scan, counts.reshape(shape), outside, header.global_seconds, header.pixel_micrometres(scan.width))
 
 
 def cube(source: EventsLike, scan: Scan, dwidth: int, dbins: int, group: GroupLike = None) -> Cube:
     """The photons of a group by their place, as of ``image``, and by their dtime in ``dbins`` bins of ``dwidth`` ticks.
 
-    Raises ``ValueError`` as ``image`` does, and where there is no bin.
+    Raises ``ValueError`` and warns as ``image`` does, and raises it where there is no bin.
     """
     if dwidth < 1 or dbins < 1:
         raise ValueError(f"{dbins} bins of {dwidth} ticks")
@@ -214,7 +226,9 @@ def cube(source: EventsLike, scan: Scan, dwidth: int, dbins: int, group: GroupLi
         outside += len(placed) - int(np.count_nonzero(placed))
         over += int(np.count_nonzero(placed)) - int(np.count_nonzero(kept))
         _add(counts, cells[kept] * dbins + bins[kept])
-    return Cube(scan, counts.astype(np.uint64).reshape(shape), dwidth, outside, over, ticks_of(source).resolution_seconds)
+    _say_if_empty(scan, lines, int(counts.sum()) + over, outside)
+    header = header_of(source)
+    return Cube(scan, counts.reshape(shape), dwidth, outside, over, header.resolution_seconds, header.pixel_micrometres(scan.width))
 
 
 def best_phase(source: EventsLike, scan: Scan, phases: NDArray[np.float64], group: GroupLike = None) -> float:
@@ -229,11 +243,25 @@ def best_phase(source: EventsLike, scan: Scan, phases: NDArray[np.float64], grou
     return float(max(phases, key=lambda phase: _likeness(image(source, replace(one, phase=float(phase)), group).counts)))
 
 
-def _likeness(counts: NDArray[np.uint64]) -> float:
+def _likeness(counts: NDArray[np.int64]) -> float:
     rows = counts.astype(np.float64)
     first, second = rows[:-1], rows[1:]
     scale = math.sqrt(float((first**2).sum()) * float((second**2).sum()))
     return float((first * second).sum()) / scale if scale else 0.0
+
+
+def _say_if_empty(scan: Scan, lines: NDArray[np.void], placed: int, outside: int) -> None:
+    """Warns where photons are outside, and none has a place."""
+    if placed or not outside:
+        return
+    why = "none comes within a line"
+    if not len(lines):
+        why = f"no marker has the bit {scan.line}, which begins a line"
+    elif scan.frame is not None and lines["frame"].max() < 0:
+        why = f"no marker before a line has the bit {scan.frame}, which begins a frame; without frame= the rows are counted from the first line"
+    elif scan.time is None and not lines["length"].any():
+        why = f"no line has a marker with the bit {scan.stop}, which ends it; with time= all last as long as that"
+    warnings.warn(f"all {outside} photons are outside of the image: {why}", stacklevel=3)
 
 
 def _shape(lines: NDArray[np.void], scan: Scan) -> tuple[int, ...]:
@@ -288,7 +316,10 @@ def _fractions(lines: NDArray[np.void], scan: Scan) -> tuple[Fraction | None, Fr
         raise ValueError(f"a line of {longest} sync periods is too long for columns without rounding")
     if scan.time is None:
         return None, phase
-    return Fraction(scan.time).limit_denominator(min(FINEST, most)), phase
+    time = Fraction(scan.time).limit_denominator(min(FINEST, most))
+    if not time:
+        raise ValueError(f"a line of {scan.time} sync periods is too short for a phase of {scan.phase}")
+    return time, phase
 
 
 def _add(counts: NDArray[np.int64], cells: NDArray[np.int64]) -> None:

@@ -10,16 +10,21 @@ from dataclasses import dataclass
 import numpy as np
 from numpy.typing import NDArray
 
-from .events import EVENT, Events
-from .groups import EventsLike, GroupLike, group_of, pieces_of, ticks_of
+from .events import Events, events_of, joined
+from .groups import EventsLike, GroupLike, Part, group_of, header_of, pieces_of, ticks_of
 from .pulsed import occupied, pair_counts
 from .tables import lags_of
+from ._values import Compared
 
 __all__ = ["Curve", "correlation", "correlation_by_segments", "delays", "edges", "split", "window"]
 
 
-@dataclass(frozen=True)
-class Curve:
+MOST_LAGS = 1 << 20  # of a level, so that all delays have 64 bits
+PART = 8  # of a segment that the longest delay may have by itself
+
+
+@dataclass(frozen=True, eq=False)
+class Curve(Compared):
     """A normalised correlation with its errors; all of shape (cells,) but ``segments``.
 
     - ``ticks``: the delay of each cell, in ticks of T2 or sync periods of T3; ``levels``: the level of each.
@@ -44,10 +49,9 @@ class Curve:
         return None if self.unit_seconds is None else self.ticks * self.unit_seconds
 
 
-def window(source: EventsLike, start: int, stop: int) -> NDArray[np.void]:
+def window(source: EventsLike, start: int, stop: int) -> Events:
     """The events from the time ``start`` on and before ``stop``, in ticks of T2 or sync periods of T3, late ones too."""
-    found = [piece[(piece["time"] >= start) & (piece["time"] < stop)] for piece in pieces_of(source)]
-    return np.concatenate(found) if found else np.zeros(0, EVENT)
+    return joined([piece[(piece["time"] >= start) & (piece["time"] < stop)] for piece in pieces_of(source)], header_of(source))
 
 
 def edges(first: int, last: int, segments: int) -> NDArray[np.int64]:
@@ -63,18 +67,18 @@ def edges(first: int, last: int, segments: int) -> NDArray[np.int64]:
     return first + length * np.arange(segments + 1, dtype=np.int64)
 
 
-def split(source: Events | NDArray[np.void], segments: int) -> Iterator[NDArray[np.void]]:
+def split(source: Part, segments: int) -> Iterator[Events]:
     """The events that aren't late in ``segments`` segments of equal time, from the first to the last of them.
 
     Raises ``ValueError`` where there are no events, or a segment would have no time.
     """
-    array = source.array if isinstance(source, Events) else source
-    array = array[~array["late"]]
-    if not len(array):
+    events = events_of(source)
+    events = events[~events["late"]]
+    if not len(events):
         raise ValueError("no events to split")
-    times = array["time"]
+    times = events.times
     for start, stop in zip(*_sides(edges(int(times.min()), int(times.max()), segments)), strict=True):
-        yield array[(times >= start) & (times < stop)]
+        yield events[(times >= start) & (times < stop)]
 
 
 def _sides(at: NDArray[np.int64]) -> tuple[NDArray[np.int64], NDArray[np.int64]]:
@@ -84,9 +88,9 @@ def _sides(at: NDArray[np.int64]) -> tuple[NDArray[np.int64], NDArray[np.int64]]
 def delays(lags: int, levels: int) -> tuple[NDArray[np.int64], NDArray[np.int64]]:
     """Delay and level of each cell of a correlation, in the order of a report: shape (lags + (levels - 1) * lags / 2,).
 
-    Raises ``ValueError`` for an odd number of lags, or none, and fewer than 1 or more than 40 levels.
+    Raises ``ValueError`` for an odd number of lags, fewer than 2 or more than 2^20, and fewer than 1 or more than 40 levels.
     """
-    if lags < 2 or lags % 2 or not 1 <= levels <= 40:
+    if not 2 <= lags <= MOST_LAGS or lags % 2 or not 1 <= levels <= 40:
         raise ValueError(f"a correlation of {lags} lags and {levels} levels")
     level, lag = lags_of({"lags": lags, "levels": levels})
     return lag << level, level
@@ -123,27 +127,33 @@ def _coarser(
 
 
 def correlation_by_segments(
-    source: EventsLike, first: GroupLike, second: GroupLike, *, segments: int = 10, lags: int = 16, levels: int = 20
+    source: EventsLike, first: GroupLike, second: GroupLike, *, segments: int = 10, lags: int = 16, levels: int | None = None
 ) -> Curve:
     """A correlation with error bars: the mean over segments of equal time, and its standard error.
 
     Each segment is correlated by itself, with times from its beginning, and normalised by its own photons and length:
     G = PAIRS * T^2 / (FIRST * SECOND * 2^L * (T - t)), as in ``docs/correlation.md``, with the segment's length T. The
     error is the standard deviation between segments over the root of their number (Wohland, Rigler and Vogel,
-    Biophysical Journal 80, 2987, 2001). A delay t must be short beside T: choose few segments for long delays. The errors
-    of neighbouring delays go together, so many points can lie off by one error on the same side.
+    Biophysical Journal 80, 2987, 2001), so of few segments it is itself known to a part of 1 / sqrt(2 (segments - 1)). A
+    delay t must be short beside T: choose few segments for long delays. The errors of neighbouring delays go together, so
+    many points can lie off by one error on the same side.
+
+    ``levels``: None for as many as have delays up to an eighth of a segment.
 
     Raises ``ValueError`` where there is no event, for segments without time, and as ``delays`` does.
     """
-    ticks, level = delays(lags, levels)
+    delays(lags, 1 if levels is None else levels)
     times, one, two, ends = _photons(source, first, second)
     at = edges(*ends, segments)
     length = int(at[1] - at[0])
+    levels = max(1, min(40, (length // (PART * lags)).bit_length())) if levels is None else levels
+    ticks, level = delays(lags, levels)
+    places = 2.0**level * np.maximum(length - ticks, 0) / float(length) ** 2  # for a pair of one photon each
     curves: list[NDArray[np.float64]] = []
     for begin, end in zip(np.searchsorted(times, at[:-1]), np.searchsorted(times, at[1:]), strict=True):
         part = slice(begin, end)
         pairs = correlation(times[part] - at[len(curves)], one[part], two[part], lags=lags, levels=levels)
-        expected = float(one[part].sum()) * float(two[part].sum()) * 2.0**level * np.maximum(length - ticks, 0) / length**2
+        expected = float(one[part].sum()) * float(two[part].sum()) * places
         curves.append(np.divide(pairs, expected, out=np.full(len(pairs), np.nan), where=expected > 0))
     values, errors = _mean(np.array(curves))
     unit = ticks_of(source).global_seconds

@@ -1,6 +1,6 @@
 """The tables of a report: what is counted, and on which axes. docs/report.md tells of each kind what its cells are."""
 
-from collections.abc import Callable, Iterable, Mapping
+from collections.abc import Callable, Iterable, Mapping, Sequence
 from dataclasses import dataclass, field
 from typing import Any, NamedTuple
 
@@ -9,12 +9,15 @@ from numpy.typing import NDArray
 
 from .errors import BadReport, NotKnown
 from ._optional import want
+from ._values import Compared
 
 __all__ = ["Measurement", "Table"]
 
 Settings = Mapping[str, int]
+Given = int | Sequence[int] | None  # photons of a group: of all measurements, of each, or those that a plan told
 BY_DTIME = ("histogram", "cube")  # whose axis is the delay after the sync
 MOST_CELLS = 1 << 26  # of a table, by the limits of a plan
+TOGETHER = 1 << 16  # counts that are floating-point numbers at a time
 
 
 class Measurement(NamedTuple):
@@ -25,13 +28,13 @@ class Measurement(NamedTuple):
     photons: tuple[int, ...] | None
 
 
-@dataclass
-class Table:
+@dataclass(eq=False)
+class Table(Compared):
     """A table of a report.
 
     ``counts`` has all cells, those of 0 too: ``(cells,)``, of an image ``(rows, columns)``, of a cube
-    ``(rows, columns, bins)``. They are whole numbers of 64 bits without sign, or Python's own in an array of objects
-    where one passes 2^63: write ``counts.astype(float)`` before you subtract.
+    ``(rows, columns, bins)``. They are whole numbers of 64 bits with a sign, so that they can be subtracted, or Python's
+    own in an array of objects where one passes 2^63, which only pairs and sums can.
     """
 
     kind: str
@@ -58,32 +61,28 @@ class Table:
             return None
         return tuple(map(sum, zip(*(one for one in each if one is not None))))
 
-    def expected(self, first_photons: int | None = None, second_photons: int | None = None) -> NDArray[np.float64]:
+    def expected(self, first_photons: Given = None, second_photons: Given = None) -> NDArray[np.float64]:
         """How many pairs each cell of a correlation would have without correlation: ``(cells,)``.
 
-        By the photons of its two groups, which a plan tells or which are given: first * second * 2^level * (T - t) / T^2
-        with the delay t and the length T of the measurement (docs/correlation.md); of a sum of reports the sum of
-        what each expects. 0 where a delay is longer than the measurement. Raises ``NotKnown`` where photons or
-        length aren't known, or the table is no correlation.
+        By the photons of its two groups: first * second * 2^level * (T - t) / T^2 with the delay t and the length T of the
+        measurement (docs/correlation.md); of a sum of reports the sum of what each expects, so one without events adds
+        nothing. 0 where a delay is longer than the measurement.
+
+        Photons are those that a plan tells, or that are given: a number for each measurement of a sum, or one for all of
+        it, which then is shared by their lengths, as of light of one rate. Raises ``NotKnown`` where photons or a length
+        aren't known, or the table is no correlation.
         """
         if self.kind != "correlation" or self.levels is None:
             raise NotKnown(f"a {self.kind} has no expected pairs")
-        if first_photons is not None and second_photons is not None:
-            pairs = [(self.length, (first_photons, second_photons))]
-        else:
-            pairs = [(one.length, one.photons) for one in self.measurements]  # type: ignore[misc]
         whole = np.zeros(len(self.ticks))
-        for length, photons in pairs:
-            if length is None:
-                raise NotKnown("this correlation can't be normalised: it is of no single measurement with events")
-            if photons is None:
-                raise NotKnown("the photons of the two groups are not known: give them, or read the report with its plan")
+        for length, first, second in measured(self, first_photons, second_photons):
             free = np.maximum(length - self.ticks.astype(float), 0)
-            whole += float(photons[0]) * photons[1] * 2.0**self.levels * free / float(max(length, 1)) ** 2
+            whole += float(first) * float(second) * 2.0**self.levels * free / float(max(length, 1)) ** 2
         return whole
 
-    def normalised(self, first_photons: int | None = None, second_photons: int | None = None) -> NDArray[np.float64]:
-        """A correlation as a curve that is 1 without correlation, ``(cells,)``; nan where no pair is expected."""
+    def normalised(self, first_photons: Given = None, second_photons: Given = None) -> NDArray[np.float64]:
+        """A correlation as a curve that is 1 without correlation, ``(cells,)``; nan where no pair is expected. Photons and
+        errors as of ``expected``."""
         expected = self.expected(first_photons, second_photons)
         return np.where(expected > 0, self.counts.astype(float) / np.where(expected > 0, expected, 1), np.nan)
 
@@ -97,8 +96,7 @@ class Table:
             raise NotKnown(f"a {self.kind} has no dtimes by pixels")
         photons = self.counts.sum(axis=2)
         middles = self.ticks + (self.settings["dwidth"] - 1) / 2
-        weighted = np.stack([row @ middles for row in self.counts]) if len(self.counts) else photons.astype(float)
-        return np.where(photons > 0, weighted / np.where(photons > 0, photons, 1), np.nan)
+        return np.where(photons > 0, weighted_sums(self.counts, middles) / np.where(photons > 0, photons, 1), np.nan)
 
     def patterns(self) -> list[tuple[int, ...]]:
         """Of each cell of a fold the groups that have a photon in the window: their numbers, where a plan told them,
@@ -124,6 +122,49 @@ class Table:
             places["level"] = (along, self.levels)
         name = f"{self.kind} {self.number}"
         return xarray.DataArray(self.counts, dims=axes, coords=places, name=name, attrs={**self.settings, **self.rest})
+
+
+def measured(table: Table, first: Given = None, second: Given = None) -> list[tuple[int, float, float]]:
+    """Of each measurement in a table of pairs its length and the photons of both groups, as ``Table.expected`` takes them.
+
+    Those without photons are left out: they have no length.
+    """
+    some = [one for one in table.measurements if one.photons is None or any(one.photons)]
+    if any(one.length is None for one in some):
+        raise NotKnown("pairs of measurements without a known length, as of a sum that was written as one report")
+    firsts, seconds = (_shares(some, place, given) for place, given in enumerate((first, second)))
+    return [(one.length, float(a), float(b)) for one, a, b in zip(some, firsts, seconds) if one.length is not None]
+
+
+def _shares(measurements: Sequence[Measurement], place: int, given: Given) -> Sequence[float]:
+    """How many photons of the first (0) or the second (1) group each measurement has."""
+    if given is None:
+        known = [one.photons[place] for one in measurements if one.photons is not None and len(one.photons) == 2]
+        if len(known) < len(measurements):
+            raise NotKnown("the photons of the two groups are not known: give them, or read the report with its plan")
+        return known
+    if not isinstance(given, int | np.integer):
+        if len(given) != len(measurements):
+            raise ValueError(f"photons of {len(given)} measurements for {len(measurements)} that have some")
+        return given
+    lengths = [(one.length or 0) + 1 for one in measurements]
+    return [float(given) * length / sum(lengths) for length in lengths]
+
+
+def enough(photons: NDArray[Any]) -> int:
+    """With how many photons a pixel has a mean delay to look at: a tenth of what the brightest have, the 99th percentile."""
+    return max(1, round(0.1 * float(np.percentile(photons, 99)))) if photons.size else 1
+
+
+def weighted_sums(counts: NDArray[Any], weights: NDArray[Any]) -> NDArray[Any]:
+    """``counts @ weights``, of shape (.., bins) and (bins,), with some counts at a time as floating-point numbers."""
+    bins = counts.shape[-1]
+    pixels = counts.reshape(-1, bins)
+    sums = np.empty(len(pixels), np.result_type(weights, np.float64))
+    step = max(1, TOGETHER // max(1, bins))
+    for at in range(0, len(pixels), step):
+        sums[at : at + step] = pixels[at : at + step] @ weights
+    return sums.reshape(counts.shape[:-1])
 
 
 class Kind(NamedTuple):
@@ -247,7 +288,7 @@ def empty_table(kind: str, number: int, settings: dict[str, int], seconds: float
     with np.errstate(all="ignore"):  # a header may tell any floating-point number
         axis = None if seconds is None or kind == "fold" else np.asarray(ticks * seconds, dtype=np.float64)
     levels = lags_of(settings)[0] if kind == "correlation" else None
-    return Table(kind, number, settings, np.zeros(shape, dtype=np.uint64), ticks, axis, levels=levels)
+    return Table(kind, number, settings, np.zeros(shape, dtype=np.int64), ticks, axis, levels=levels)
 
 
 def names_of_groups(kind: str, settings: Mapping[str, Any]) -> tuple[int, ...]:

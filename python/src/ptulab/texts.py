@@ -13,11 +13,12 @@ from numpy.typing import NDArray
 
 from .report import Head, Report
 from .tables import Table, lags_of
+from ._digits import lines_of
 from ._whole import written_whole
 
 __all__ = ["report_lines", "summed_head", "write_report"]
 
-CELLS = 1 << 16  # whose lines are put together
+CELLS = 1 << 12  # whose lines are put together, so that their arrays stay in the nearest cache
 
 
 def report_lines(report: Report) -> Iterator[bytes]:
@@ -54,9 +55,7 @@ def _cells(table: Table) -> Iterator[bytes]:
     there = np.flatnonzero(flat)
     for at in range(0, len(there), CELLS):
         places = there[at : at + CELLS]
-        columns = [*(column.tolist() for column in _columns(table, places)), flat[places].tolist()]
-        line = "%d " * (len(columns) - 1) + "%d\n"
-        yield "".join(map(line.__mod__, zip(*columns))).encode("ascii")
+        yield lines_of([*_columns(table, places), flat[places]])
 
 
 def _columns(table: Table, places: NDArray[np.int64]) -> list[NDArray[Any]]:

@@ -12,6 +12,7 @@ from numpy.typing import NDArray
 
 from ._digits import MOST_DIGITS, whole_numbers
 from .errors import BadReport
+from ._values import Compared
 
 __all__ = ["LongTrace", "read_trace"]
 
@@ -24,8 +25,8 @@ GREATEST = 1 << 62  # of an origin or a width
 LONGEST_END = 1 << 17  # bytes of the lines behind the bins: more than 1026 lines have
 
 
-@dataclass(frozen=True)
-class LongTrace:
+@dataclass(frozen=True, eq=False)
+class LongTrace(Compared):
     """A trace without an end."""
 
     origin: int  # where bin 0 begins, in ticks of T2, in sync periods of T3

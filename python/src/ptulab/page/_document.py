@@ -14,8 +14,9 @@ from typing import Any
 import numpy as np
 from numpy.typing import NDArray
 
+from ..headers import other_records
 from ..report import Head
-from ._figures import ROWS, Curve, Figure, Picture, measured, thinned
+from ._figures import ROWS, Curve, Figure, Picture, limits_of, measured, thinned
 from ._plain import plain_picture
 
 DIGITS = 9  # that numbers have in the page
@@ -43,7 +44,7 @@ def script_json(value: Any) -> str:
 def whole_page(title: str, told: Sequence[tuple[str, str]], plan_text: str | None, head: Head, figures: Sequence[Figure], plotly: str) -> str:
     """The whole document. ``told`` are the lines of the heading, ``plotly`` the library's script."""
     own = _resource("page.js")
-    rules = f"default-src 'none'; img-src data:; style-src 'unsafe-inline'; script-src {_digest(plotly)} {_digest(own)}"
+    rules = f"default-src 'none'; img-src data: blob:; style-src 'unsafe-inline'; script-src {_digest(plotly)} {_digest(own)}"
     parts = [
         '<!doctype html>\n<html lang="en">\n<head>\n<meta charset="utf-8">',
         f'<meta http-equiv="Content-Security-Policy" content="{rules}">',
@@ -86,8 +87,8 @@ def _in_short(head: Head) -> list[tuple[str, str]]:
 
 def _warnings(head: Head) -> str:
     said = []
-    if head.announced is not None and head.announced != head.records:
-        said.append(f"The header announces {head.announced:,} records, and there are {head.records:,}: the file may be cut.")
+    if odd := other_records(head.announced, head.records):
+        said.append(f"{odd[0].upper()}{odd[1:]}.")
     if head.late:
         said.append(f"{head.late:,} events are late, and in no table.")
     return "".join(f'<p class="warn">{escaped(line)}</p>\n' for line in said)
@@ -210,13 +211,12 @@ def _numbers(figure: Figure) -> dict[str, Any] | None:
 def _pixels(figure: Picture) -> dict[str, Any]:
     rows, columns = figure.photons.shape
     of_photons = figure.unit == "photons"
-    seen = figure.values[(figure.photons >= figure.threshold) & np.isfinite(figure.values)]
-    least, most = (0.0, float(seen.max(initial=1.0))) if of_photons else (np.percentile(seen, (2, 98)) if len(seen) else (0.0, 1.0))
+    least, most = limits_of(figure)
     return {
         "kind": "picture", "name": figure.name, "rows": rows, "columns": columns, "block": figure.block, "label": figure.label,
-        "unit": figure.unit,
-        "photons": packed(figure.photons), "values": None if of_photons else packed(figure.values.astype("<f4")), "zmin": float(least),
-        "zmax": float(most), "colours": figure.colours,
+        "unit": figure.unit, "micrometres": figure.micrometres,
+        "photons": packed(figure.photons), "values": None if of_photons else packed(figure.values.astype("<f4")), "zmin": least,
+        "zmax": most, "colours": figure.colours,
     }
 
 

@@ -8,7 +8,7 @@ from __future__ import annotations
 
 import math
 from collections.abc import Callable, Sequence
-from dataclasses import dataclass
+from dataclasses import dataclass, replace
 from typing import Any, NamedTuple
 
 import numpy as np
@@ -16,15 +16,15 @@ from numpy.typing import NDArray
 
 from ..errors import NotKnown
 from ..fits import g2
+from ..headers import Header
 from ..report import Head, Report
-from ..tables import BY_DTIME, Table
+from ..tables import BY_DTIME, Table, enough, weighted_sums
 
 Floats = NDArray[np.float64]
 POINTS = 4096  # of a curve, at most; of more the least and the greatest of each piece are drawn
 SIDE = 512  # columns or rows of a picture, at most; more are added up
 ROWS = 200  # of a table of values, at most
 SIGNIFICANT = 3.0  # errors that a correlation is from 1 where it counts as seen
-DIM = 0.1  # of the photons of the brightest pixels, below which a pixel has no mean delay to look at
 STEADY = 6  # cells that follow with small errors where a correlation begins
 
 
@@ -58,7 +58,8 @@ class Curve:
 class Picture:
     """A picture of pixels: ``photons`` and ``values`` of shape (rows, columns); ``values`` are nan where there is none.
 
-    ``block`` is how many pixels of the table stand in one of the picture, in each direction.
+    ``block`` is how many pixels of the table stand in one of the picture, in each direction; ``micrometres`` how long and
+    wide a pixel of the table is, None where nothing tells.
     """
 
     name: str
@@ -71,14 +72,35 @@ class Picture:
     block: int
     threshold: int
     colours: str
+    micrometres: float | None = None
 
 
 Figure = Curve | Picture
 
 
-def figures_of(report: Report) -> list[Figure]:
-    """The figures of a report, in its order: one for each table, and of a cube the image, the mean delays and the decay."""
-    return [figure for table in report.tables for figure in DRAWN[table.kind](table, scale_of(table, report.head))]
+def figures_of(report: Report, header: Header | None = None) -> list[Figure]:
+    """The figures of a report, in its order: one for each table, and of a cube the image, the mean delays and the decay.
+
+    By the header of the file pictures have micrometres, where they have as many columns as the scan.
+    """
+    figures = [figure for table in report.tables for figure in DRAWN[table.kind](table, scale_of(table, report.head))]
+    if header is None:
+        return figures
+    columns = {f"{table.kind}-{table.number}": table.settings["width"] for table in report.tables if "height" in table.settings}
+    return [
+        replace(one, micrometres=header.pixel_micrometres(columns["-".join(one.name.split("-")[:2])])) if isinstance(one, Picture) else one
+        for one in figures
+    ]
+
+
+def limits_of(picture: Picture) -> tuple[float, float]:
+    """From where to where the colours of a picture go: of photons from 0 to the most, of other values from the 2nd to the
+    98th percentile of the pixels with photons enough, so that background of few photons stretches nothing."""
+    seen = picture.values[(picture.photons >= picture.threshold) & np.isfinite(picture.values)]
+    if picture.unit == "photons":
+        return 0.0, float(seen.max(initial=1.0))
+    least, most = np.percentile(seen, (2, 98)) if len(seen) else (0.0, 1.0)
+    return float(least), float(most)
 
 
 def unit_of(seconds: float) -> tuple[float, str]:
@@ -150,6 +172,12 @@ WHERE = {"over": "past the last bin", "before": "before the first bin", "beyond"
 UNKNOWN = "It isn't normalised, since the photons of the groups aren't known: a plan with a trace of each tells them."
 
 
+POISSON = (
+    "Bars are Poisson errors. Of light that fluctuates, as of molecules that blink or diffuse, they can be several times too small:"
+    " the scatter of segments tells its errors (correlation_by_segments of ptulab.segments)."
+)
+
+
 def _rest(table: Table) -> str:
     what = "times" if table.kind == "startstop" else "photons"
     return " ".join(f"{count(number)} {what} are {WHERE[word]}." for word, number in table.rest.items() if number)
@@ -201,8 +229,11 @@ def _coincidence(table: Table, scale: Scale) -> list[Figure]:
     if not len(values):
         summary += " Without photons in both groups there is no g2."
         return [Curve(**_named(table, "g2"), summary=summary, ys=values, ylabel="", yunit="", **common)]
-    middle, xs = int(np.abs(xs[there]).argmin()), xs[there]
-    summary += f" Normalised, 1 is light without correlation: g2 is {values[middle]:.3g} ± {errors[middle]:.2g} at {xs[middle]:.4g} {unit}."
+    xs = xs[there]
+    middle, lowest = int(np.abs(xs).argmin()), int((values + errors).argmin())  # with its error, which is great where there are few pairs
+    summary += " Normalised, 1 is light without correlation: g2 is lowest"
+    summary += f" at {xs[lowest]:.4g} {unit}, with {values[lowest]:.3g} ± {errors[lowest]:.2g}"
+    summary += "." if middle == lowest else f", and {values[middle]:.3g} ± {errors[middle]:.2g} at {xs[middle]:.4g} {unit}."
     return [Curve(**_named(table, "g2"), summary=f"{summary} Bars are Poisson errors.", ys=values, errors=errors,
                   ylabel="g2 (1 is no correlation)", yunit="", level=1.0, **common)]
 
@@ -234,7 +265,7 @@ def _correlation(table: Table, scale: Scale) -> list[Figure]:
     there = np.isfinite(values)
     xs, values, errors = xs[there], values[there], errors[there]
     begin = start_of(values, errors) if len(values) else 0
-    said = "Normalised, 1 is light without correlation; bars are Poisson errors."
+    said = f"Normalised, 1 is light without correlation. {POISSON}"
     if len(values):
         said += f" From {measured(xs[begin], unit)} on the errors are small: there it is {values[begin]:.4g} ± {errors[begin]:.2g},"
         said += f" and {values[-1]:.4g} at {measured(xs[-1], unit)}."
@@ -297,10 +328,11 @@ def _mean_delays(table: Table, scale: Scale) -> Picture:
     begin = begin_of(table.counts.sum(axis=(0, 1)).astype(np.float64))
     size, width = _block(table), table.settings["dwidth"]
     photons = blocks(table.counts[:, :, begin:].sum(axis=2), size)
-    middles = (np.arange(table.counts.shape[2] - begin) * width + (width - 1) / 2) * tick
-    weighted = blocks(np.stack([row[:, begin:] @ middles for row in table.counts]), size)
+    bins = np.arange(table.counts.shape[2]) - begin
+    middles = np.where(bins < 0, 0.0, bins * width + (width - 1) / 2) * tick
+    weighted = blocks(weighted_sums(table.counts, middles), size)
     values = np.where(photons > 0, weighted / np.where(photons > 0, photons, 1), np.nan)
-    threshold = max(1, round(DIM * float(np.percentile(photons, 99)))) if photons.size else 1
+    threshold = enough(photons)
     seen = values[photons >= threshold]
     summary = f"The mean delay of each pixel after {xs[begin]:.6g} {unit}, where the decay of all pixels begins."
     if len(seen):

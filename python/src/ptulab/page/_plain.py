@@ -9,7 +9,7 @@ from typing import Any
 import numpy as np
 
 from .._optional import want
-from ._figures import Curve, Figure, thinned
+from ._figures import Curve, Figure, limits_of, thinned
 
 INCHES, DOTS = (6.4, 3.6), 80
 
@@ -23,10 +23,13 @@ def plain_picture(figure: Figure) -> str:
         _curve(figure, axes)
     else:
         values = np.where(figure.photons >= figure.threshold, figure.values, np.nan)
-        rows, columns = (size * figure.block - 0.5 for size in values.shape)
-        drawn = axes.imshow(values, interpolation="nearest", extent=(-0.5, columns, rows, -0.5), cmap="viridis")
+        pixel = figure.micrometres or 1.0
+        first, rows, columns = (pixel * (size * figure.block - 0.5) for size in (0, *values.shape))
+        least, most = limits_of(figure)
+        drawn = axes.imshow(values, interpolation="nearest", extent=(first, columns, rows, first), cmap="viridis", vmin=least, vmax=most)
         drawing.colorbar(drawn, label=figure.label)
-        axes.set(xlabel="column (pixels)", ylabel="row (pixels)")
+        across, down = ("column (pixels)", "row (pixels)") if figure.micrometres is None else ("x (µm)", "y (µm)")
+        axes.set(xlabel=across, ylabel=down)
     out = io.BytesIO()
     drawing.savefig(out, format="png", metadata={"Software": None})
     return "data:image/png;base64," + base64.b64encode(out.getvalue()).decode()
@@ -46,6 +49,8 @@ def _curve(curve: Curve, axes: Any) -> None:
         axes.set_xscale("log")
     if curve.log and len(ys) and ys.max() > 0:
         axes.set_yscale("log")
+        labels = want("matplotlib.ticker", "the page").LogFormatterSciNotation(minor_thresholds=(3, 1))  # also within few decades
+        axes.yaxis.set_minor_formatter(labels)
     if curve.start is not None:
         shown = xs >= curve.start
         axes.set_xlim(curve.start, xs[-1])

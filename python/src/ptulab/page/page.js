@@ -22,8 +22,14 @@
     return {
       title: { text: plain(label), standoff: 8 }, type: logarithmic ? "log" : "linear", color: colour("ink"),
       gridcolor: colour("line"), zerolinecolor: colour("line"), linecolor: colour("line"), automargin: true,
-      exponentformat: "power",
+      exponentformat: "power", uirevision: logarithmic ? "log" : "linear",
     };
+  }
+
+  // Labels of a logarithmic axis: each decade of many, of few also 2 and 5 of each.
+  function labelled(axis, values) {
+    const many = decades(values);
+    if (axis.type === "log" && many > 0.7) axis.dtick = many > 3 ? 1 : "D2";
   }
 
   function layout() {
@@ -32,7 +38,7 @@
       paper_bgcolor: colour("paper"), plot_bgcolor: colour("paper"), showlegend: false, hovermode: "closest",
       font: { color: colour("ink"), size: small ? 12 : 14, family: '"DejaVu Sans", system-ui, sans-serif' },
       margin: { l: small ? 48 : 64, r: 14, t: 14, b: small ? 48 : 56 }, dragmode: small ? false : "zoom",
-      hoverlabel: { font: { size: 14 } },
+      hoverlabel: { font: { size: 14 } }, uirevision: "kept", // the zoom stays whatever is drawn anew
     };
   }
 
@@ -58,9 +64,10 @@
     }
     const look = layout();
     look.xaxis = axis(figure.xlabel, figure.xlog);
-    if (figure.xlog && decades(figure.x) > 1.5) look.xaxis.dtick = 1;
+    labelled(look.xaxis, figure.x);
     look.yaxis = axis(figure.ylabel, logarithmic);
-    if (logarithmic && decades(drawn) > 1.5) look.yaxis.dtick = 1;
+    labelled(look.yaxis, drawn);
+    for (const each of [look.xaxis, look.yaxis]) each.uirevision = `${each.type} ${checked(figure, "all")}`;
     if (figure.kind === "bars") look.xaxis.type = "category";
     if (figure.kind === "bars" && logarithmic) look.yaxis.range = [Math.log10(0.5), Math.log10(2 * Math.max(1, ...figure.y))];
     if (figure.start !== null && !checked(figure, "all")) {
@@ -126,18 +133,30 @@
     }
     figure.words = figure.words || Array.from({ length: rows }, (_, y) =>
       Array.from({ length: columns }, (_, x) => plain(cell(figure, x, y))));
+    const [zmin, zmax] = figure.values === figure.photons ? [figure.zmin, figure.zmax] : limits(cells, figure);
+    const pixel = figure.micrometres || 1, first = pixel * (figure.block - 1) / 2, step = pixel * figure.block;
     const trace = {
       type: "heatmap", z: cells, text: figure.words, hovertemplate: "%{text}<extra></extra>", hoverongaps: true,
-      x0: (figure.block - 1) / 2, dx: figure.block, y0: (figure.block - 1) / 2, dy: figure.block,
-      colorscale: figure.colours, zmin: figure.zmin, zmax: figure.zmax,
+      x0: first, dx: step, y0: first, dy: step, colorscale: figure.colours, zmin, zmax,
       colorbar: { title: { text: plain(figure.label), side: "right" }, color: colour("ink"), thickness: narrow.matches ? 8 : 14, len: 0.9, xpad: 4,
         outlinecolor: colour("line"), tickfont: { color: colour("ink") } },
     };
     const look = layout();
-    look.xaxis = Object.assign(axis("column (pixels)", false), { constrain: "domain", showgrid: false, zeroline: false });
-    look.yaxis = Object.assign(axis("row (pixels)", false), {
+    const [across, down] = figure.micrometres ? ["x (\u00b5m)", "y (\u00b5m)"] : ["column (pixels)", "row (pixels)"];
+    look.xaxis = Object.assign(axis(across, false), { constrain: "domain", showgrid: false, zeroline: false });
+    look.yaxis = Object.assign(axis(down, false), {
       autorange: "reversed", scaleanchor: "x", constrain: "domain", showgrid: false, zeroline: false });
     return [[trace], look];
+  }
+
+  // From the 2nd to the 98th percentile of the pixels that are shown, between neighbours by their distance.
+  function limits(cells, figure) {
+    const seen = cells.flat().filter((value) => value !== null).sort((one, other) => one - other);
+    if (!seen.length) return [figure.zmin, figure.zmax];
+    return [0.02, 0.98].map((part) => {
+      const at = part * (seen.length - 1), below = Math.floor(at), above = Math.min(below + 1, seen.length - 1);
+      return seen[below] + (at - below) * (seen[above] - seen[below]);
+    });
   }
 
   function cell(figure, x, y) {

@@ -1,0 +1,188 @@
+"""Photon-HDF5 of each type of measurement: what a reader that knows the specification alone makes of it."""
+
+import re
+from collections.abc import Callable
+from pathlib import Path
+from typing import Any
+
+import h5py
+import made
+import numpy as np
+import pytest
+from conftest import ROOT
+
+import ptulab
+from ptulab.groups import Group
+from ptulab.photon_hdf5 import Setup, write_photon_hdf5
+
+ALWAYS = {
+    "acquisition_duration",
+    "description",
+    "photon_data/timestamps",
+    "photon_data/timestamps_specs/timestamps_unit",
+    "photon_data/detectors",
+    "photon_data/measurement_specs/measurement_type",
+    "photon_data/measurement_specs/detectors_specs/spectral_ch1",
+    "setup/num_pixels",
+    "setup/num_spots",
+    "setup/num_spectral_ch",
+    "setup/num_polarization_ch",
+    "setup/num_split_ch",
+    "setup/modulated_excitation",
+    "setup/lifetime",
+    "setup/excitation_alternated",
+    "setup/excitation_cw",
+    "identity/format_name",
+    "identity/format_version",
+    "identity/format_url",
+    "identity/software",
+    "identity/software_version",
+}
+OF_T3 = {"photon_data/nanotimes", "photon_data/nanotimes_specs/tcspc_unit", "photon_data/nanotimes_specs/tcspc_num_bins"}
+TWO = "photon_data/measurement_specs/detectors_specs/spectral_ch2"
+MANDATORY: dict[str, set[str]] = {
+    "generic": set(),
+    "smFRET": {TWO},
+    "smFRET-usALEX": {TWO, "photon_data/measurement_specs/alex_period"},
+    "smFRET-nsALEX": {TWO, *OF_T3, "photon_data/measurement_specs/laser_repetition_rate", "setup/laser_repetition_rates"},
+}
+NS = Setup("smFRET-nsALEX", spectral=[[0, 2], [1, 3]], excitation=[[(0, 1000)], [(1000, 2000)]])
+US = Setup("smFRET-usALEX", spectral=[[0], [1]], excitation=[[(0, 900)], [(1100, 2000)]], alternation_period=2000, alternation_offset=50)
+
+
+@pytest.fixture
+def molecules(make_file: Callable[..., Path]) -> ptulab.Events:
+    """Photons of four detectors at any delay of 100 ns, some of them late, and some markers."""
+    draws = np.random.default_rng(9)
+    photons = [(int(t), int(n), int(d)) for t, n, d in zip(np.sort(draws.integers(0, 10**5, 3000)), draws.integers(0, 4, 3000), draws.integers(0, 2000, 3000))]
+    some: list[tuple[int, ...]] = [*photons[:2000], (photons[1999][0] // 1024 * 1024, 1, 5), (photons[2000][0], made.Bits(1)), *photons[2000:]]
+    return ptulab.read_events(make_file("MultiHarpT3", some, tick=100e-9, resolution=50e-12))
+
+
+@pytest.fixture
+def stream(make_file: Callable[..., Path]) -> ptulab.Events:
+    """A T2 file of two detectors."""
+    draws = np.random.default_rng(10)
+    some = [(int(t), int(n)) for t, n in zip(np.sort(draws.integers(0, 10**6, 3000)), draws.integers(0, 2, 3000))]
+    return ptulab.read_events(make_file("HydraHarpT2", some, tick=1e-8))
+
+
+def written(events: ptulab.Events, path: Path, **more: Any) -> dict[str, Any]:
+    """The fields of the file that is written, by their places."""
+    write_photon_hdf5(events, path, description="some molecules", **more)
+    found: dict[str, Any] = {}
+    with h5py.File(path) as file:
+        file.visititems(lambda name, node: found.update({name: node[()]}) if isinstance(node, h5py.Dataset) else None)
+    return found
+
+
+def classes(found: dict[str, Any]) -> dict[tuple[int, int], np.ndarray[Any, Any]]:
+    """By the specification alone: the photons of each laser (1, 2) and spectral channel (1, 2)."""
+    specs = "photon_data/measurement_specs/"
+    detectors = found["photon_data/detectors"]
+    if found[specs + "measurement_type"] == b"smFRET-nsALEX":
+        at = found["photon_data/nanotimes"]
+    else:
+        at = (found["photon_data/timestamps"] - found[specs + "alex_offset"]) % found[specs + "alex_period"]
+    result = {}
+    for laser in (1, 2):
+        periods = found[f"{specs}alex_excitation_period{laser}"].reshape(-1, 2)
+        inside = np.logical_or.reduce([(at >= start) & (at < stop) for start, stop in periods])
+        for channel in (1, 2):
+            result[laser, channel] = inside & np.isin(detectors, found[f"{specs}detectors_specs/spectral_ch{channel}"])
+    return result
+
+
+def test_donor_acceptor_and_laser_of_pulses_are_told(molecules: ptulab.Events, tmp_path: Path) -> None:
+    found = written(molecules, tmp_path / "ns.h5", setup=NS)
+    photons = molecules.photons
+    assert found["photon_data/timestamps"].tolist() == photons.times.tolist() and found["photon_data/nanotimes"].tolist() == photons.dtimes.tolist()
+    for (laser, channel), mask in classes(found).items():
+        inputs, gates = NS.spectral[channel - 1], NS.excitation[laser - 1]
+        assert mask.sum() > 500 and np.array_equal(mask, Group(inputs, gates).mask(photons))
+    specs = "photon_data/measurement_specs/"
+    assert found[specs + "laser_repetition_rate"] == pytest.approx(1e7) and found["setup/laser_repetition_rates"] == pytest.approx([1e7, 1e7])
+    assert found["setup/excitation_cw"].tolist() == [0, 0] and found["setup/excitation_alternated"].tolist() == [1, 1]
+    assert (found["setup/modulated_excitation"], found["setup/lifetime"], found["setup/num_spectral_ch"]) == (1, 1, 2)
+
+
+def test_lasers_that_are_switched_are_told(stream: ptulab.Events, tmp_path: Path) -> None:
+    found = written(stream, tmp_path / "us.h5", setup=US)
+    photons = stream.photons
+    at = (photons.times - 50) % 2000
+    for (laser, channel), mask in classes(found).items():
+        ((start, stop),) = US.excitation[laser - 1]
+        assert np.array_equal(mask, (at >= start) & (at < stop) & (photons.numbers == channel - 1)) and mask.sum() > 300
+    assert found["setup/excitation_cw"].tolist() == [1, 1] and found["setup/lifetime"] == 0 and found["setup/modulated_excitation"] == 1
+    pulsed = Setup("smFRET", spectral=[[0], [1]], repetition_rates=[4e7])
+    found = written(stream, tmp_path / "pulsed.h5", setup=pulsed)
+    assert found["setup/excitation_cw"].tolist() == [0] and found["setup/laser_repetition_rates"].tolist() == [4e7]
+
+
+def test_polarisations_and_wavelengths_are_told(molecules: ptulab.Events, tmp_path: Path) -> None:
+    setup = Setup("generic", spectral=[[0, 1], [2, 3]], polarization=[[0, 2], [1, 3]], excitation_wavelengths=[532e-9], detection_wavelengths=[580e-9, 680e-9])
+    found = written(molecules, tmp_path / "all.h5", setup=setup)
+    specs = "photon_data/measurement_specs/detectors_specs/"
+    assert {name.removeprefix(specs): found[name].tolist() for name in found if name.startswith(specs)} == {
+        "spectral_ch1": [0, 1], "spectral_ch2": [2, 3], "polarization_ch1": [0, 2], "polarization_ch2": [1, 3]
+    }
+    assert (found["setup/num_spectral_ch"], found["setup/num_polarization_ch"], found["setup/num_pixels"]) == (2, 2, 4)
+    assert found["setup/excitation_wavelengths"].tolist() == [532e-9] and found["setup/detection_wavelengths"].tolist() == [580e-9, 680e-9]
+
+
+@pytest.mark.parametrize("kind", MANDATORY)
+def test_each_type_has_the_fields_that_it_must_have(molecules: ptulab.Events, stream: ptulab.Events, tmp_path: Path, kind: str) -> None:
+    one, two = Setup("smFRET", spectral=[[0, 2], [1, 3]]), Setup(spectral=[[0, 1, 2, 3]])
+    setup = {"smFRET-nsALEX": NS, "smFRET-usALEX": US, "smFRET": one, "generic": two}[kind]
+    found = written(stream if kind == "smFRET-usALEX" else molecules, tmp_path / "some.h5", setup=setup)
+    assert not (ALWAYS | MANDATORY[kind]) - found.keys()
+    assert found["photon_data/measurement_specs/measurement_type"] == kind.encode()
+
+
+def test_the_page_has_the_same_table() -> None:
+    """docs/python.md lists the fields that each type must have."""
+    text = (ROOT / "docs" / "python.md").read_text("utf-8")
+    told = {row[0]: set(re.findall(r"`([a-z0-9_/]+)`", row[1])) for row in re.findall(r"^\| `?([\w-]+)`? \| (.*photon_data/.*) \|$", text, flags=re.M)}
+    assert told == {"each": ALWAYS, "T3": OF_T3, **{kind: fields - OF_T3 for kind, fields in MANDATORY.items() if fields}}
+
+
+SM: dict[str, Any] = {"spectral": [[0, 2], [1, 3]]}
+
+
+@pytest.mark.parametrize(
+    ("more", "why"),
+    [
+        ({"kind": "smFRET", "spectral": [[0, 1, 2, 3]]}, "two spectral channels"),
+        ({"kind": "smFRET-nsALEX", **SM}, "two lasers"),
+        ({"kind": "smFRET-nsALEX", **SM, "excitation": [[(0, 900)], [(800, 2000)]]}, "overlap"),
+        ({"kind": "smFRET-nsALEX", **SM, "excitation": [[(0, 900)], [(900, 2001)]]}, "2001"),
+        ({"kind": "smFRET-nsALEX", **SM, "excitation": [[(0, 900)], [(900, 900)]]}, "900"),
+        ({"kind": "smFRET-usALEX", **SM, "excitation": [[(0, 900)], [(900, 2000)]]}, "alternation_period"),
+        ({"kind": "smFRET-usALEX", **SM, "excitation": [[(0, 900)], [(900, 2000)]], "alternation_period": 1999}, "2000"),
+        ({"kind": "smFRET", **SM, "excitation": [[(0, 900)], [(900, 2000)]]}, "smFRET"),
+        ({"kind": "smFRET-PAX", **SM}, "smFRET-PAX"),
+        ({"kind": "generic", "spectral": [[0, 1, 2]]}, "input 3"),
+        ({"kind": "generic", "spectral": [[0, 1, 2], [2, 3]]}, "input 2"),
+        ({"kind": "generic", "spectral": [[0, 1, 2, 3]], "polarization": [[0, 1], [2]]}, "input 3"),
+        ({"kind": "generic", "spectral": [[0, 1, 2, 3], []]}, "no input"),
+        ({"kind": "smFRET", **SM, "excitation_wavelengths": [532]}, "metres"),
+        ({"kind": "smFRET", **SM, "detection_wavelengths": [580e-9]}, "5.8e-07"),
+        ({"kind": "smFRET-nsALEX", **SM, "excitation": [[(0, 900)], [(900, 2000)]], "excitation_wavelengths": [532e-9]}, "5.32e-07"),
+        ({"kind": "smFRET", **SM, "repetition_rates": [0.0]}, "rate"),
+    ],
+)
+def test_what_the_format_cannot_say_is_refused(molecules: ptulab.Events, tmp_path: Path, more: dict[str, Any], why: str) -> None:
+    with pytest.raises(ValueError, match=re.escape(why)):
+        write_photon_hdf5(molecules, tmp_path / "no.h5", description="d", setup=Setup(**more))
+    assert not (tmp_path / "no.h5").exists()
+
+
+def test_pulses_in_turn_need_delays(stream: ptulab.Events, tmp_path: Path) -> None:
+    setup = Setup("smFRET-nsALEX", spectral=[[0], [1]], excitation=[[(0, 1000)], [(1000, 2000)]])
+    with pytest.raises(ValueError, match="T3"):
+        write_photon_hdf5(stream, tmp_path / "no.h5", description="d", setup=setup)
+
+
+def test_inputs_that_are_left_out_need_no_channel(molecules: ptulab.Events, tmp_path: Path) -> None:
+    found = written(molecules, tmp_path / "two.h5", setup=Setup("smFRET", spectral=[[0], [1]]), group=[0, 1])
+    assert set(found["photon_data/detectors"].tolist()) == {0, 1} and found["setup/num_pixels"] == 2
