@@ -28,30 +28,32 @@ import shutil
 import subprocess
 import sys
 import tempfile
+from collections.abc import Iterator
+from typing import Any
 
 ROOT = os.path.dirname(os.path.dirname(os.path.abspath(__file__)))
 SHOWN = 40  # lines of a difference
 BUILTINS = {"if", "for", "do", "done", "then", "fi", "cd", "echo", "exit", "export", "source"}
 
 
-def pages():
+def pages() -> Any:
     names = [name for name in sorted(os.listdir(os.path.join(ROOT, "docs"))) if name.endswith((".md", ".1"))]
     return ["README.md", "CONTRIBUTING.md", "CHANGELOG.md", *(f"docs/{name}" for name in names), "examples/README.md"]
 
 
-def blocks(text):
+def blocks(text: str) -> Iterator[Any]:
     """The blocks of a page of Markdown: the line at which one begins, its kind, and its lines."""
     for found in re.finditer(r"^```(\w*)\n(.*?)^```$", text, flags=re.M | re.S):
         yield text.count("\n", 0, found.start()) + 1, found[1], found[2]
 
 
-def man_blocks(text):
+def man_blocks(text: str) -> Iterator[Any]:
     for found in re.finditer(r"^\.nf\n(.*?)^\.fi$", text, flags=re.M | re.S):
         plain = re.sub(r"\\f[BIRP]", "", found[1]).replace("\\-", "-").replace("\\(aq", "'").replace("\\(dq", '"')
         yield text.count("\n", 0, found.start()) + 1, "console", plain
 
 
-def commands(text):
+def commands(text: str) -> Iterator[Any]:
     """Each command of a console block, and what it is said to print."""
     for part in re.split(r"^\$ ", text, flags=re.M)[1:]:
         lines = part.split("\n")
@@ -61,7 +63,7 @@ def commands(text):
         yield "\n".join(lines[:count]), "\n".join(lines[count:])
 
 
-def missing(text):
+def missing(text: str) -> Any:
     """A program that a block calls and that isn't here, or None."""
     quoted = re.sub(r"'[^']*'|\"[^\"]*\"|#.*", "", text)
     for name in re.findall(r"(?:^|[|;&(])\s*([a-z][\w.-]*)(?=\s|$)", quoted, flags=re.M):
@@ -69,31 +71,31 @@ def missing(text):
             return name
 
 
-def search_path():
+def search_path() -> Any:
     return os.path.join(os.getcwd(), "bin") + ":" + os.environ["PATH"]
 
 
-def shell(text):
+def shell(text: str) -> Any:
     """What a command prints, and its status."""
     places = {"PATH": search_path(), "LC_ALL": "C.UTF-8"}
-    run = subprocess.run(["sh", "-c", text], stdout=subprocess.PIPE, stderr=subprocess.STDOUT, env=os.environ | places)
+    run = subprocess.run(["sh", "-c", text], stdout=subprocess.PIPE, stderr=subprocess.STDOUT, env=os.environ | places, check=False)
     return run.stdout.decode(), run.returncode
 
 
-def agrees(said, printed):
+def agrees(said: Any, printed: Any) -> Any:
     """The text that was printed is the one that is said, where a line '..' stands for any lines."""
     parts = re.split(r"^\.\.\n", said, flags=re.M)
     return re.fullmatch("(?:.*\n)*?".join(map(re.escape, parts)), printed) is not None
 
 
-def read_or_nothing(name):
+def read_or_nothing(name: str) -> Any:
     if not os.path.exists(name):
         return ""
     with open(name, encoding="utf-8") as file:
         return file.read()
 
 
-def try_block(kind, text):
+def try_block(kind: str, text: str) -> Iterator[Any]:
     """What is wrong with a block, or nothing."""
     if kind == "console":
         for command, said in commands(text):
@@ -120,7 +122,7 @@ def try_block(kind, text):
             yield f"{text}{printed}"
 
 
-def furnish(program):
+def furnish(program: str) -> None:
     """Puts into this folder what the pages speak of."""
     for name in ("examples", "docs", "bench", "python", "install.sh"):
         os.symlink(os.path.join(ROOT, name), name)
@@ -139,18 +141,18 @@ def furnish(program):
     os.chmod("bin/python3", 0o755)
 
 
-def prose(page):
+def prose(page: Any) -> Any:
     """A page without its blocks."""
     with open(os.path.join(ROOT, page), encoding="utf-8") as file:
         return re.sub(r"^```.*?^```", "", file.read(), flags=re.M | re.S)
 
 
-def anchors(page):
+def anchors(page: Any) -> Any:
     """What a link can name behind a '#': the titles of a page in small letters, with hyphens for spaces."""
     return {re.sub(r"[^\w -]", "", title.lower()).replace(" ", "-") for title in re.findall(r"^#+ (.*)$", prose(page), flags=re.M)}
 
 
-def dead_links(page):
+def dead_links(page: Any) -> Iterator[Any]:
     """Each link of a page to a file or a title of this tree that isn't there, and each file of a crate that it names so."""
     for name in re.findall(r"`(\w+/(?:src|specs|proofs|must-fail)/[\w./-]+)`", prose(page)):
         if not os.path.exists(os.path.join(ROOT, "crates", name)):
@@ -162,7 +164,7 @@ def dead_links(page):
             yield target
 
 
-def try_page(page, program):
+def try_page(page: Any, program: str) -> Any:
     """How many blocks of a page were tried, and how many of them differ."""
     with open(os.path.join(ROOT, page), encoding="utf-8") as file:
         text = file.read()
@@ -186,7 +188,7 @@ def try_page(page, program):
     return tried, wrong
 
 
-def main():
+def main() -> None:
     given = sys.argv[1:]
     program = os.path.abspath(given.pop(0)) if given and not given[0].endswith((".md", ".1")) else os.path.join(ROOT, "ptu")
     results = [(page, *try_page(page, program)) for page in given or pages()]

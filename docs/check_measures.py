@@ -4,7 +4,7 @@
 A figure is a number with a decimal point, with a per cent sign, or with one of the `units` of measures.toml behind it. On the
 `pages` of measures.toml each, outside of blocks of code and tables, must stand in one of these:
 
-- measure.NAME: one number that one or more pages state. It has a `value` and the day on which it was measured (`on`), or is
+- measure.NAME: one number, or the version, that one or more pages state. It has a `value` and the day on which it was measured (`on`), or is
   `counted` here in the tree; with both, what is counted may differ by a tenth. `said` lists its places as PAGE: WORDS, where {}
   stands for the number.
 - told.NAME: places of one page, measured on one day (`on`) under the same conditions (`how`). Each is WORDS with its figures in
@@ -17,7 +17,6 @@ are put there. Ends with 1 where something differs, or where a page has a figure
 """
 
 import datetime
-import pathlib
 import re
 import shutil
 import subprocess
@@ -28,7 +27,7 @@ from typing import Any
 
 from made_parts import ROOT, finish, put_part, read
 
-NUMBER = r"\d+(?:,\d{3})*(?:\.\d+)?"
+NUMBER = r"\d+(?:,\d{3})*(?:\.\d+)*"
 SCRIPT = "check_measures.py"
 
 
@@ -48,25 +47,24 @@ def files(*patterns: str) -> list[str]:
     return [str(path) for pattern in patterns for path in ROOT.glob(pattern)]
 
 
-def built_programs() -> list[pathlib.Path]:
-    return [path for path in (ROOT / "crates/ptu/out/ptu", ROOT / "out/ptu") if path.exists()]
+PROGRAM = ROOT / "bin/x86-64-v2/ptu"
 
 
 def program_kilobytes() -> int | None:
-    """The size of the program in thousands of bytes, None where it isn't built."""
-    built = built_programs()
-    return round(built[0].stat().st_size / 1000) if built else None
+    """The size of the program in thousands of bytes, None where it isn't there."""
+    return round(PROGRAM.stat().st_size / 1000) if PROGRAM.exists() else None
 
 
 def c_library() -> float | None:
-    """The version of the GNU C library that the built program asks for, None where that can't be seen."""
-    if not (built := built_programs()) or not shutil.which("objdump"):
+    """The version of the GNU C library that the program asks for, None where that can't be seen."""
+    if not PROGRAM.exists() or not shutil.which("objdump"):
         return None
-    symbols = subprocess.run(["objdump", "-T", built[0]], capture_output=True, text=True, check=True).stdout
+    symbols = subprocess.run(["objdump", "-T", PROGRAM], capture_output=True, text=True, check=True).stdout
     return max((float(f"{major}.{minor}") for major, minor in re.findall(r"GLIBC_(\d+)\.(\d\d)\b", symbols)), default=None)
 
 
-COUNTERS: dict[str, Callable[[], float | None]] = {
+COUNTERS: dict[str, Callable[[], float | str | None]] = {
+    "version": lambda: read("VERSION").strip(),
     "crates_of_program": crates_of_program,
     "edits_of_gate": lambda: len(files("crates/*/must-fail/*.edit")),
     "other_edits": lambda: len(files("bench/edits/*/*.edit")),
@@ -78,8 +76,8 @@ COUNTERS: dict[str, Callable[[], float | None]] = {
 }
 
 
-def shown(value: float) -> str:
-    return f"{value:,}" if abs(value) >= 10_000 else str(value)
+def shown(value: float | str) -> str:
+    return f"{value:,}" if not isinstance(value, str) and abs(value) >= 10_000 else str(value)
 
 
 def pattern(words: str) -> re.Pattern[str]:
@@ -117,7 +115,7 @@ def faults_of_counts(measures: dict[str, Any]) -> Iterator[str]:
     for name, measure in measures.items():
         counted = COUNTERS[measure["counted"]]() if "counted" in measure else None
         value = measure.setdefault("value", counted)
-        if counted is not None and abs(counted - value) > 0.1 * value:
+        if counted not in (None, value) and abs(counted - value) > 0.1 * value:
             yield f"docs/measures.toml: {name} is {value}, and was counted as {counted}: measure it anew"
 
 

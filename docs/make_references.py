@@ -8,7 +8,7 @@ a run ends so, and plan.md has the rules. Made of these are
 
 - the table of statuses in formats.md, and in README.md if it has that part
 - the statuses and the rules in the man page ptu.1
-- help.txt, which ./ptu --help and the installed ptu-help print
+- help.txt, which ./ptu --help and the installed ptu-help print, with the version (VERSION)
 - the completion examples/ptu.bash
 - python/src/ptulab/refusals.json, by which the package says what a refusal means
 
@@ -183,7 +183,7 @@ def help_text(found: Iterable[Ending]) -> str:
     wide = max(len(usage) for usage, _ in shown)
     lines = [f"  {usage:{wide}}  {does[0].lower()}{does[1:]}" for usage, does in shown]
     said = [f"  {one.status:2} {one.line.removeprefix('ptu: ')}" for one in found if one.line]
-    return f"""ptu turns PicoQuant PTU time-tag files into exact tables of counts.
+    return f"""ptu {read('VERSION').strip()} turns PicoQuant PTU time-tag files into exact tables of counts.
 
 {chr(10).join(lines)}
 
@@ -191,8 +191,9 @@ Status 0: all was done. With any other status standard error has one line: "ptu:
 {chr(10).join(said)}
 
 The program has no options, so 'ptu --help' is a bad command line to it: './ptu --help' in the source folder, and the
-installed 'ptu-help', print this text. All of it, with when each status comes: 'man ptu', or in the source folder
-'man -l docs/ptu.1'. How to write a plan: docs/plan.md. How to read a report: docs/report.md.
+installed 'ptu-help', print this text. There './ptu --build' proves and builds the program anew, and './ptu --path' prints
+which program './ptu' runs. All of it, with when each status comes: 'man ptu', or in the source folder 'man -l docs/ptu.1'.
+How to write a plan: docs/plan.md. How to read a report: docs/report.md.
 """
 
 

@@ -9,6 +9,7 @@ import re
 import shutil
 import sys
 from pathlib import Path
+from typing import Any
 
 import nbformat
 from nbconvert import MarkdownExporter
@@ -18,15 +19,15 @@ DOCS = Path(__file__).resolve().parent
 SECONDS = 600  # for a cell, at most
 
 
-def rendered():
+def rendered() -> Any:
     """The text of the notebook with what its cells print, and its pictures by their names."""
-    notebook = nbformat.read(DOCS / "notebook.ipynb", as_version=4)
+    notebook = nbformat.read(DOCS / "notebook.ipynb", as_version=4)  # type: ignore[no-untyped-call]
     ExecutePreprocessor(timeout=SECONDS, kernel_name="python3").preprocess(notebook, {"metadata": {"path": str(DOCS)}})
     text, more = MarkdownExporter().from_notebook_node(notebook, {"unique_key": "notebook", "output_files_dir": "notebook_files"})
     return readable(text), more["outputs"]
 
 
-def readable(text):
+def readable(text: str) -> Any:
     """Pictures are called by the title above them, and code is py, which docs/check_examples.py doesn't try cell by cell."""
     lines, title = [], ""
     for line in text.splitlines():
@@ -35,7 +36,7 @@ def readable(text):
     return re.sub(r"\n{3,}", "\n\n", "\n".join(lines)).strip() + "\n"
 
 
-def main():
+def main() -> None:
     text, pictures = rendered()
     shutil.rmtree(DOCS / "notebook_files", ignore_errors=True)
     (DOCS / "notebook_files").mkdir()

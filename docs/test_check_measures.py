@@ -1,6 +1,7 @@
 """Tests of check_measures.py: pytest docs"""
 
 import datetime
+from typing import Any
 
 import check_measures
 import pytest
@@ -32,27 +33,27 @@ WORDS = "takes {1.5} to {2.25} seconds"
         (PAGE, ["30 MiB", "4 seconds", "8 KiB"], ["p.md: '8 KiB', a fact of docs/measures.toml, isn't there"]),
     ],
 )
-def test_each_figure_of_a_page_is_known(monkeypatch, page, facts, found):
+def test_each_figure_of_a_page_is_known(monkeypatch: pytest.MonkeyPatch, page: Any, facts: Any, found: Any) -> None:
     monkeypatch.setattr(check_measures, "read", lambda name: page)
     told = {"units": ["seconds", "MiB", "KiB", "records"], "told": {"run": {"page": "p.md", "words": [WORDS]}}, "facts": {"p.md": facts}}
     assert list(unmeasured("p.md", told)) == found
 
 
-def test_the_figures_of_a_place_are_those_of_the_file():
+def test_the_figures_of_a_place_are_those_of_the_file() -> None:
     assert put_figures(PAGE, WORDS, ["1.5", "2.25"]) == PAGE
     assert put_figures(PAGE.replace("2.25", "2.26"), WORDS, ["1.5", "2.25"]) == PAGE
     assert put_figures(PAGE, "takes {1.5} to {2.25} hours", ["1.5", "2.25"]) is None
     assert put_figures(PAGE + PAGE, WORDS, ["1.5", "2.25"]) is None
 
 
-def test_what_was_measured_has_its_day_and_conditions():
+def test_what_was_measured_has_its_day_and_conditions() -> None:
     day = datetime.date(2026, 11, 28)
     assert not list(faults_of_days({"measure": {"a": {"value": 1, "on": day}, "b": {"counted": "python"}}, "table": {"c": {"on": day, "how": "once"}}}))
     assert len(list(faults_of_days({"measure": {"a": {"value": 1}}, "told": {"b": {"on": day}, "c": {"how": "once"}}}))) == 3
 
 
-def test_what_is_counted_may_differ_by_a_tenth(monkeypatch):
+def test_what_is_counted_may_differ_by_a_tenth(monkeypatch: pytest.MonkeyPatch) -> None:
     monkeypatch.setitem(check_measures.COUNTERS, "crates_of_program", lambda: 42)
-    measures = {"a": {"counted": "crates_of_program"}, "b": {"counted": "crates_of_program", "value": 40}, "c": {"counted": "crates_of_program", "value": 30}}
+    measures: dict[str, Any] = {"a": {"counted": "crates_of_program"}, "b": {"counted": "crates_of_program", "value": 40}, "c": {"counted": "crates_of_program", "value": 30}}
     assert [fault.split(": ")[1] for fault in faults_of_counts(measures)] == ["c is 30, and was counted as 42"]
     assert measures["a"]["value"] == 42
