@@ -1,37 +1,56 @@
 -- The sums of a strip, row by row.
-use Rattle.std.{proofs.Common.{◌≡◌, ◌∙◌, ℕ, ◌+◌, ◌-◌, ◌*◌, ◌/◌, ◌<◌, ◌≤◌, eqb, List, length, get_or, take, drop, refl, arith, length-drop}, specs.List.{sum_by, range_with_len}, proofs.lemmas.Bool.Decides.nat_tests, proofs.lemmas.List.{get_or-drop, get_or_past, take_all}}
+use Rattle.std.{proofs.Common.{◌≡◌, ◌∙◌, ℕ, ◌+◌, ◌-◌, ◌*◌, ◌/◌, ◌<◌, ◌≤◌, eqb, cond, List, length, get_or, take, drop, reverse, refl, sym, arith, rules, length-drop, min}, specs.List.{sum_by, range_with_len}, proofs.lemmas.Bool.Decides.nat_tests, proofs.lemmas.List.{get_or-drop, get_or-take, get_or-reverse, get_or_past, length-take, length-reverse}}
 use Rattle.tally_base.specs.Settings.{CoincidenceView}
-use Rattle.lag_ring.{specs.Cells.{upwards_at, downwards_at}}
-use Rattle.coincidence.{specs.declared.pairing.Direction.TheVariants.{Forward, Backward}, specs.Closing.strip_pairs, proofs.LagPairs.{at_one}}
+use Rattle.lag_ring.{specs.Cells.{row_at}}
+use Rattle.coincidence.{specs.declared.pairing.Direction.TheVariants.{Forward, Backward}, specs.Closing.{strip_sum, row_pairs, row_sum}, proofs.LagPairs.{at_one, range-parts, range-both, range-turned}}
 
--- the row of the last sums
-pub last-all : (sums : List ℕ) (count : ℕ) → length sums ≡ 256 → count ≤ 256 → take (256 - (256 - count)) (drop (256 - count) sums) ≡ drop (256 - count) sums
-last-all sums count full few = take_all (256 - (256 - count)) (drop (256 - count) sums) (omega (arith, length-drop (256 - count) sums))
+-- a difference in reach has a cell
+pub row-inside : (n reach width : ℕ) → 0 < width → n ≤ 2 * reach → n / width < 2 * reach / width + 1
+row-inside n reach width some upto = search (rules, arith)
 
-module _ (set : CoincidenceView) (c least count : ℕ) (sums : List ℕ) (single : set.width ≡ 1) (full : length sums ≡ 256) (few : count ≤ 256) (upto : least + count ≤ set.reach) where
-  abbrev row : List ℕ
-  row = take (256 - (256 - count)) (drop (256 - count) sums)
+-- a cell of one tick has one number of a row
+pub row-single : (set : CoincidenceView) (c from : ℕ) (row : List ℕ) → set.width ≡ 1 → row_sum set c from row ≡ row_at from row c
+row-single set c from row single =
+    let cell : (n : ℕ) → eqb (n / set.width) c ≡ eqb n c = λ n. rw single (let same : n / 1 ≡ n = omega arith in rw same refl) in
+    let past : (i : ℕ) → length row ≤ i → get_or row i 0 ≡ 0 = λ i over. get_or_past row i 0 over in
+    at_one (row_pairs set c from row) (c - from) 0 (length row) (λ q low below other. rw (cell (from + q)) (grind (arith, nat_tests)))
+    ∙ rw (cell (from + (c - from))) (grind (arith, nat_tests, past))
 
-  row-at : (j : ℕ) → get_or row j 0 ≡ get_or sums (256 - count + j) 0
-  row-at j = rw (last-all sums count full few) (get_or-drop (256 - count) sums j 0)
+-- one number of a row more
+pub row-more : (set : CoincidenceView) (c from q pairs : ℕ) (row : List ℕ) → pairs ≡ get_or row q 0
+    → sum_by (row_pairs set c from row) (range_with_len 0 (q + 1)) ≡ sum_by (row_pairs set c from row) (range_with_len 0 q) + cond (eqb ((from + q) / set.width) c) (pairs * 1) 0
+row-more set c from q pairs row is = search (rules, arith, range-parts)
 
-  past : (i : ℕ) → 256 ≤ i → get_or sums i 0 ≡ 0
-  past i over = get_or_past sums i 0 (omega arith)
+module _ (set : CoincidenceView) (c least : ℕ) (sums : List ℕ) (full : length sums ≡ 256) (within : least ≤ set.reach) where
+  abbrev count : ℕ
+  count = min (set.reach - least) 256
 
-  single-cell : (n : ℕ) → eqb (n / set.width) c ≡ eqb n c
-  single-cell n = rw single (let same : n / 1 ≡ n = omega arith in rw same refl)
+  abbrev rising : List ℕ
+  rising = take count (reverse sums)
 
-  -- of the lags of a strip one has the cell, and its sum stands in the row
-  pub strip-forward : sum_by (strip_pairs Forward set c least sums) (range_with_len (least + 1) count) ≡ downwards_at (set.reach + (least + count)) row c
+  abbrev falling : List ℕ
+  falling = take (256 - (256 - count)) (drop (256 - count) sums)
+
+  rising-at : (i : ℕ) → i < count → get_or rising i 0 ≡ get_or sums (255 - i) 0
+  rising-at i below = search (rules, arith, get_or-take, get_or-reverse)
+
+  falling-at : (i : ℕ) → i < count → get_or falling i 0 ≡ get_or sums (256 - count + i) 0
+  falling-at i below = search (rules, arith, get_or-take, get_or-drop)
+
+  -- the lags of a strip are the differences of a row, in the same order or turned
+  pub strip-forward : strip_sum Forward set c least sums ≡ row_sum set c (set.reach + least + 1) rising
   strip-forward =
-      at_one (strip_pairs Forward set c least sums) (c - set.reach) (least + 1) count (λ lag from below other. rw (single-cell (set.reach + lag)) (grind (arith, nat_tests)))
-      ∙ rw (single-cell (set.reach + (c - set.reach)), row-at) (grind (arith, nat_tests, past))
+      let len : length rising ≡ count = search (rules, arith, length-take, length-reverse) in
+      rw len (range-both _ _ (least + 1) 0 count (λ i below.
+      let apart : set.reach + (least + 1 + i) ≡ set.reach + least + 1 + (0 + i) = omega arith in
+      let sum : get_or sums (least + 256 - (least + 1 + i)) 0 ≡ get_or rising (0 + i) 0 = let k : least + 256 - (least + 1 + i) ≡ 255 - (0 + i) = omega arith in rw k (sym (rising-at (0 + i) (omega (arith, below)))) in
+      rw (apart, sum) refl))
 
-  pub strip-backward : sum_by (strip_pairs Backward set c least sums) (range_with_len (least + 1) count) ≡ upwards_at (set.reach - (least + count)) row c
+  pub strip-backward : strip_sum Backward set c least sums ≡ row_sum set c (set.reach - least - count) falling
   strip-backward =
-      at_one (strip_pairs Backward set c least sums) (set.reach - c) (least + 1) count (λ lag from below other. rw (single-cell (set.reach - lag)) (grind (arith, nat_tests)))
-      ∙ rw (single-cell (set.reach - (set.reach - c)), row-at) (grind (arith, nat_tests, past))
-
--- a difference in reach has a cell of its own
-pub single-inside : (reach width n : ℕ) → width ≡ 1 → n ≤ 2 * reach → n < 2 * reach / width + 1
-single-inside reach width n single upto = rw single (omega arith)
+      let len : length falling ≡ count = search (rules, arith, length-take, length-drop) in
+      rw len (range-turned _ _ (least + 1) 0 count (λ i below.
+      let q : ℕ = 0 + (count - 1 - i) in
+      let apart : set.reach - (least + 1 + i) ≡ set.reach - least - count + q = omega arith in
+      let sum : get_or sums (least + 256 - (least + 1 + i)) 0 ≡ get_or falling q 0 = let k : least + 256 - (least + 1 + i) ≡ 256 - count + q = omega arith in rw k (sym (falling-at q (omega arith))) in
+      rw (apart, sum) refl))

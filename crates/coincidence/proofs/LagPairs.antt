@@ -1,8 +1,8 @@
 -- Pairs summed lag by lag.
 use Rattle.tally_base.{specs.Settings.{CoincidenceView}, proofs.Sums.{sum_none}}
-use Rattle.lag_ring.{specs.declared.ring.Entry.Entry, specs.declared.window.Side.Side, specs.Bytes.{weight_of, weight_before, weight_at, behind}, specs.Ring.IsRising, proofs.Lists.{all_both, all_join}, proofs.Rising.{all_weaker, all_push}, proofs.Sums.{sum_by-same, sum_by-agree, sum_by-plus, sum_by-times, sum_by-zero, window-before}}
-use Rattle.coincidence.{specs.declared.pairing.Direction.Direction, specs.declared.pairing.Direction.TheVariants.{Forward, Backward}, specs.Pairing.{shifted_by, earlier_weight, pairs_of, pairs_of_all}, specs.Closing.{earlier_side, later_side, lag_pairs, strip_pairs, window_pairs}, proofs.Visits.{pairs_near, pairs_far}}
-use Rattle.std.{proofs.Common.{◌≡◌, ◌≢◌, ◌∙◌, ℕ, zero, suc, ◌+◌, ◌-◌, ◌*◌, ◌/◌, ◌<◌, ◌≤◌, Bool, true, false, ◌&&◌, leb, ltb, eqb, cond, List, [], ◌∷◌, ◌++◌, refl, sym, ap, arith, append_assoc, rules, length, get_or}, specs.List.{sum_by, range_with_len, AllByRecursion}, proofs.lemmas.Grind.common_steps, proofs.lemmas.Bool.Decides.nat_tests, proofs.lemmas.List.Sums.{sum_by-cons, sum_by-append}}
+use Rattle.lag_ring.{specs.declared.ring.Entry.Entry, specs.declared.window.Side.Side, specs.Bytes.{weight_of, weight_before, Have, behind}, specs.Ring.IsRising, proofs.Lists.{all_both, all_join}, proofs.Rising.{all_weaker, all_push}, proofs.Sums.{sum_by-same, sum_by-agree, sum_by-plus, sum_by-times, sum_by-zero, window-before}}
+use Rattle.coincidence.{specs.declared.pairing.Direction.Direction, specs.Pairing.{shifted_by, earlier_side, later_side, pairs_of, pairs_of_all}, specs.Closing.{lag_pairs, strip_pairs, window_pairs}, proofs.Visits.{pairs_near, pairs_far}}
+use Rattle.std.{proofs.Common.{◌≡◌, ◌≢◌, ◌∙◌, ℕ, zero, suc, ◌+◌, ◌-◌, ◌*◌, ◌/◌, ◌<◌, ◌≤◌, Bool, true, false, ◌&&◌, leb, ltb, eqb, cond, List, [], ◌∷◌, ◌++◌, refl, sym, ap, arith, append_assoc, rules, length, get_or, replicate}, specs.List.{sum_by, range_with_len, AllByRecursion}, proofs.lemmas.Grind.common_steps, proofs.lemmas.Bool.Decides.nat_tests, proofs.lemmas.List.get_or-replicate, proofs.lemmas.List.Sums.{sum_by-cons, sum_by-append}}
 
 -- sums over two lists in either order
 swapped : {X Y : Type 0} (f : X → Y → ℕ) (xs : List X) (ys : List Y) → sum_by (λ x. sum_by (f x) ys) xs ≡ sum_by (λ y. sum_by (λ x. f x y) xs) ys
@@ -22,9 +22,6 @@ at_lag d set c index later e lag =
 
 -- the pairs with one earlier entry, lag by lag
 module _ (d : Direction) (set : CoincidenceView) (c index later : ℕ) (e : Entry) (before : e.index < index) where
-  side-weight : earlier_weight d e ≡ weight_of (earlier_side d) e
-  side-weight = elim d as (λ d. earlier_weight d e ≡ weight_of (earlier_side d) e) [ Forward ↦ refl | Backward ↦ refl ]
-
   elsewhere : (lag : ℕ) → lag ≢ index - e.index → at_lag d set c index later e lag ≡ 0
   elsewhere lag other = search (rules, arith)
 
@@ -35,7 +32,7 @@ module _ (d : Direction) (set : CoincidenceView) (c index later : ℕ) (e : Entr
   by_lags : sum_by (at_lag d set c index later e) (range_with_len 1 set.reach) ≡ pairs_of d set c index later e
   by_lags =
       let one = at_one (at_lag d set c index later e) (index - e.index) 1 set.reach (λ lag from below. elsewhere lag) in
-      grind (arith, common_steps, here, pairs_near, side-weight, pairs_far)
+      grind (arith, common_steps, here, pairs_near, pairs_far)
 
 cell-sum : {X : Type 0} (b : Bool) (f : X → ℕ) (later : ℕ) (xs : List X) → cond b (sum_by f xs * later) 0 ≡ sum_by (λ x. cond b (f x * later) 0) xs
 cell-sum true f later xs = sym (sum_by-times f later xs)
@@ -101,46 +98,53 @@ range-parts f a m n = ap (sum_by f) (range-append a m n) ∙ sum_by-append f (ra
 pub range-le : (f : ℕ → ℕ) (a i n : ℕ) → i ≤ n → sum_by f (range_with_len a i) ≤ sum_by f (range_with_len a n)
 range-le f a i n upto = let all : i + (n - i) ≡ n = omega arith in omega (arith, range-parts f a i (n - i), ap (λ k. sum_by f (range_with_len a k)) all)
 
+-- sums of what is the same, and the other way round
+pub range-both : (f g : ℕ → ℕ) (a b n : ℕ) → ((i : ℕ) → i < n → f (a + i) ≡ g (b + i)) → sum_by f (range_with_len a n) ≡ sum_by g (range_with_len b n)
+range-both f g a b zero same = refl
+range-both f g a b (suc n) same =
+    let rest = range-both f g (a + 1) (b + 1) n (λ i below. let x : a + 1 + i ≡ a + (i + 1) = omega arith in let y : b + 1 + i ≡ b + (i + 1) = omega arith in rw (x, y) (same (i + 1) (omega (arith, below)))) in
+    search (rules, arith, sum_by-cons, rest, same 0)
+
+pub range-turned : (f g : ℕ → ℕ) (a b n : ℕ) → ((i : ℕ) → i < n → f (a + i) ≡ g (b + (n - 1 - i))) → sum_by f (range_with_len a n) ≡ sum_by g (range_with_len b n)
+range-turned f g a b zero same = refl
+range-turned f g a b (suc n) same =
+    let rest = range-turned f g (a + 1) b n (λ i below. let x : a + 1 + i ≡ a + (i + 1) = omega arith in let y : n - 1 - i ≡ suc n - 1 - (i + 1) = omega arith in rw (x, y) (same (i + 1) (omega (arith, below)))) in
+    search (rules, arith, sum_by-cons, rest, same 0, range-parts g b n 1)
+
 -- a strip more
 pub range-strip : (f : ℕ → ℕ) (least count : ℕ)
     → sum_by f (range_with_len 1 (least + count)) ≡ sum_by f (range_with_len 1 least) + sum_by f (range_with_len (least + 1) count)
 range-strip f least count = search (rules, arith, range-parts)
 
--- the sum of one lag
-pub strip-term : (d : Direction) (set : CoincidenceView) (c least i shifted pairs : ℕ) (sums : List ℕ)
-    → shifted ≡ shifted_by d set.reach (least + 1 + i) → pairs ≡ get_or sums (256 - 1 - i) 0
-    → strip_pairs d set c least sums (least + 1 + i) ≡ cond (eqb (shifted / set.width) c) (pairs * 1) 0
-strip-term d set c least i shifted pairs sums is_shifted is_pairs = search (rules, arith)
-
 -- the sums of a strip are those of the window
-pub strip-window : (d : Direction) (set : CoincidenceView) (c least count top : ℕ) (sums window spots : List ℕ) → count ≤ 256 → least + 256 ≤ top
-    → ((q : ℕ) → q < 256 → get_or sums q 0 ≡ sum_by (behind window (top - 256 - least + q)) spots)
+pub strip-window : (d : Direction) (set : CoincidenceView) (c least count : ℕ) (sums window spots : List ℕ) → count ≤ 256 → least + 256 ≤ 4096
+    → ((q : ℕ) → q < 256 → get_or sums q 0 ≡ sum_by (behind window (4096 - least - 256 + q)) spots)
     → sum_by (strip_pairs d set c least sums) (range_with_len (least + 1) count) ≡ sum_by
-    (window_pairs d set c window top spots) (range_with_len (least + 1) count)
-strip-window d set c least count top sums window spots few below is =
+    (window_pairs d set c window spots) (range_with_len (least + 1) count)
+strip-window d set c least count sums window spots few below is =
     sum_by-agree (λ lag. (least + 1 ≤ lag) × (lag < least + 1 + count)) (strip_pairs d set c least sums)
-    (window_pairs d set c window top spots) (range_with_len (least + 1) count) (range-within (least + 1) count)
+    (window_pairs d set c window spots) (range_with_len (least + 1) count) (range-within (least + 1) count)
     (λ lag within.
     let q : ℕ = least + 256 - lag in
-    let place : top - 256 - least + q ≡ top - lag = omega arith in
-    let same : get_or sums q 0 ≡ sum_by (behind window (top - lag)) spots = (rw place at (is q (omega arith))) in
+    let place : 4096 - least - 256 + q ≡ 4096 - lag = omega arith in
+    let same : get_or sums q 0 ≡ sum_by (behind window (4096 - lag)) spots = (rw place at (is q (omega arith))) in
     ap (λ n. cond (eqb (shifted_by d set.reach lag / set.width) c) n 0) same)
 
 -- the pairs of a window are those with the entries in it
-pub window-lags : (d : Direction) (set : CoincidenceView) (c top low : ℕ) (window spots : List ℕ) (es later : List Entry) → set.reach ≤ top
-    → ((p : ℕ) → p < length window → get_or window p 0 ≡ weight_at (earlier_side d) top low p es)
-    → AllByRecursion (λ e. (low ≤ e.index) × (e.index - low + top ≤ length window)) later
+pub window-lags : (d : Direction) (set : CoincidenceView) (c low : ℕ) (window spots : List ℕ) (es later : List Entry) → set.reach ≤ 4096
+    → length window ≡ 8192 → Have (earlier_side d) 4096 low (replicate 8192 0) window es
+    → AllByRecursion (λ e. (low ≤ e.index) × (e.index - low < 4096)) later
     → ((f : ℕ → ℕ) → sum_by f spots ≡ sum_by (λ e. f (e.index - low) * weight_of (later_side d) e) later)
-    → sum_by (window_pairs d set c window top spots) (range_with_len 1 set.reach) ≡ sum_by (lag_pairs d set c es later) (range_with_len 1 set.reach)
-window-lags d set c top low window spots es later small has near photons =
-    sum_by-agree (λ lag. (1 ≤ lag) × (lag < 1 + set.reach)) (window_pairs d set c window top spots)
+    → sum_by (window_pairs d set c window spots) (range_with_len 1 set.reach) ≡ sum_by (lag_pairs d set c es later) (range_with_len 1 set.reach)
+window-lags d set c low window spots es later small full have near photons =
+    sum_by-agree (λ lag. (1 ≤ lag) × (lag < 1 + set.reach)) (window_pairs d set c window spots)
     (lag_pairs d set c es later) (range_with_len 1 set.reach) (range-within 1 set.reach)
     (λ lag within.
-    let same : sum_by (λ (e : Entry). get_or window (e.index - low + (top - lag)) 0 * weight_of (later_side d) e) later ≡ sum_by
+    let same : sum_by (λ (e : Entry). get_or window (e.index - low + (4096 - lag)) 0 * weight_of (later_side d) e) later ≡ sum_by
     (λ e. weight_before (earlier_side d) lag e.index es * weight_of (later_side d) e) later =
-    sum_by-agree (λ e. (low ≤ e.index) × (e.index - low + top ≤ length window)) (λ e. get_or window (e.index - low + (top - lag)) 0 * weight_of (later_side d) e) (λ e. weight_before (earlier_side d) lag e.index es * weight_of (later_side d) e) later near
-    (λ e at. ap (λ n. n * weight_of (later_side d) e) (window-before (earlier_side d) window low top es has lag e.index (omega arith) at.0 (omega arith))) in
-    ap (λ n. cond (eqb (shifted_by d set.reach lag / set.width) c) n 0) (photons (behind window (top - lag)) ∙ same))
+    sum_by-agree (λ e. (low ≤ e.index) × (e.index - low < 4096)) (λ e. get_or window (e.index - low + (4096 - lag)) 0 * weight_of (later_side d) e) (λ e. weight_before (earlier_side d) lag e.index es * weight_of (later_side d) e) later near
+    (λ e at. ap (λ n. n * weight_of (later_side d) e) (window-before (earlier_side d) window low 4096 es (λ p inside. omega (arith, get_or-replicate {A = ℕ} 8192 p 0 0 (omega (arith, inside, full)), have p (omega (arith, inside, full)))) lag e.index (omega arith) at.0 (omega arith))) in
+    ap (λ n. cond (eqb (shifted_by d set.reach lag / set.width) c) n 0) (photons (behind window (4096 - lag)) ∙ same))
 
 -- a sum over three lists
 pub three-sums : (f : Entry → ℕ) (front back ring later : List Entry) → front ++ back ≡ ring

@@ -1,7 +1,7 @@
 -- One entry more in the loops over a ring.
 use Rattle.tally_base.{specs.Settings.CoincidenceView, specs.Tally.History, specs.Limits.record_limit}
-use Rattle.lag_ring.{specs.declared.ring.Entry.Entry, proofs.Rising.all_weaker, proofs.Lists.{all_back, all_join, of_some}}
-use Rattle.coincidence.{specs.declared.pairing.Direction.Direction, specs.Pairs.is_in_cell, specs.Pairing.{shifted_by, earlier_weight, pairs_of, pairs_of_all, joined, BinIs, PairingIs, CanShut, CanPut, CanEnd, Came}, specs.declared.pairing.Pairing.Pairing, specs.StandsFor.HasPhotons, specs.declared.pairing.Bin.Bin}
+use Rattle.lag_ring.{specs.declared.ring.Entry.Entry, specs.Bytes.weight_of, proofs.Rising.all_weaker, proofs.Lists.{all_back, all_join, of_some}}
+use Rattle.coincidence.{specs.declared.pairing.Direction.Direction, specs.Pairs.is_in_cell, specs.Pairing.{shifted_by, earlier_side, pairs_of, pairs_of_all, joined, BinIs, PairingIs, CanShut, CanPut, CanEnd, Came}, specs.declared.pairing.Pairing.Pairing, specs.StandsFor.HasPhotons, specs.declared.pairing.Bin.Bin}
 use Rattle.std.{proofs.Common.{◌≡◌, ℕ, ◌+◌, ◌-◌, ◌*◌, ◌/◌, ◌<◌, ◌≤◌, eqb, cond, List, [], ◌∷◌, refl, arith, rules, ◌≢◌, Some, ◌++◌, length, sym, length-append, append_assoc, Bool, true, false}, proofs.lemmas.Grind.common_steps, proofs.lemmas.List.Sums.{sum_by-cons, sum_by-append}, specs.List.AllByRecursion, proofs.Math.Nat.mul-le-mul_left}
 
 module _ (set : CoincidenceView) (index : ℕ) (earlier : Entry) (after : earlier.index < index) (near : index - earlier.index ≤ set.reach) where
@@ -13,7 +13,7 @@ module _ (set : CoincidenceView) (index : ℕ) (earlier : Entry) (after : earlie
 
   -- the cells of an entry in reach
   pub pairs_near : (d : Direction) (later c : ℕ)
-      → pairs_of d set c index later earlier ≡ cond (eqb (shifted_by d set.reach (index - earlier.index) / set.width) c) (earlier_weight d earlier * later) 0
+      → pairs_of d set c index later earlier ≡ cond (eqb (shifted_by d set.reach (index - earlier.index) / set.width) c) (weight_of (earlier_side d) earlier * later) 0
   pairs_near d later c = search (rules, arith, in_forward, in_backward)
 
 -- no cell counts an entry that is out of reach

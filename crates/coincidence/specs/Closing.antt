@@ -1,8 +1,8 @@
 -- Bins that are closed together.
-use Rattle.std.{specs.Prelude.{◌≡◌, ℕ, ◌+◌, ◌-◌, ◌^◌, ◌<◌, ◌≤◌, ◌==◌, ◌/◌, ◌*◌, ◌%◌, slice_index, Option, List, [], ◌∷◌, ◌++◌, length, map, sum_by, if◌then◌else◌}, specs.List.{AllByRecursion, range_with_len}}
+use Rattle.std.{specs.Prelude.{◌≡◌, ℕ, ◌+◌, ◌-◌, ◌^◌, ◌<◌, ◌≤◌, ◌==◌, ◌/◌, ◌*◌, min, slice_index, Option, List, [], ◌∷◌, ◌++◌, length, map, sum_by, if◌then◌else◌}, specs.List.{AllByRecursion, range_with_len}}
 use Rattle.tally_base.{specs.Settings.CoincidenceView, specs.Tally.History, specs.Limits.record_limit}
-use Rattle.lag_ring.{specs.declared.ring.Entry.Entry, specs.declared.window.Side.Side, specs.declared.window.Side.TheVariants.{First, Second}, specs.Cells.Cells, specs.Ring.Ring, specs.Bytes.{weight_of, weight_at, weight_before, IsLight, behind}}
-use Rattle.coincidence.{specs.declared.pairing.Bin.Bin, specs.declared.pairing.Direction.Direction, specs.declared.pairing.Direction.TheVariants.{Forward, Backward}, specs.Pairing.{BinIs, OpenIs, RingIs, CellsAre, bin_pairs, shifted_by}}
+use Rattle.lag_ring.{specs.declared.ring.Entry.Entry, specs.declared.window.Side.{Side, TheVariants.{First, Second}}, specs.Cells.Cells, specs.Ring.Ring, specs.Bytes.{weight_of, weight_at, weight_before, IsLight, behind}}
+use Rattle.coincidence.{specs.declared.pairing.Bin.Bin, specs.declared.pairing.Direction.Direction, specs.declared.pairing.Direction.TheVariants.{Forward, Backward}, specs.declared.pairing.Pairing.Pairing, specs.Pairing.{BinIs, OpenIs, RingIs, CellsAre, bin_pairs, earlier_side, later_side, shifted_by}}
 
 -- A photon came at this tick or later, or the tick is 0.
 abbrev pub Reaches : ℕ → History → Type 0
@@ -22,15 +22,6 @@ abbrev pub BinsAre : CoincidenceView → List Bin → History → History → Ty
 BinsAre set [] closed xs = xs ≡ []
 BinsAre set (bin ∷ bins) closed xs = (here : History) × (rest : History) × (xs ≡ here ++ rest) × BinIs set bin here × AllByRecursion (λ x. x.0.time < bin.weights.index) closed × BinsAre set bins (closed ++ here) rest
 
--- which weights of entries count in a direction: those of earlier ones, and those of later ones
-abbrev pub earlier_side : Direction → Side
-earlier_side Forward = First
-earlier_side Backward = Second
-
-abbrev pub later_side : Direction → Side
-later_side Forward = Second
-later_side Backward = First
-
 -- the pairs of the photons of later entries with those of the entry so many ticks before, where the cell is that of their difference
 abbrev pub lag_pairs : Direction → CoincidenceView → ℕ → List Entry → List Entry → ℕ → ℕ
 lag_pairs direction set c es later lag =
@@ -42,17 +33,24 @@ abbrev pub strip_pairs : Direction → CoincidenceView → ℕ → ℕ → List 
 strip_pairs direction set c least sums lag = if shifted_by direction set.reach lag / set.width == c then slice_index sums (least + 256 - lag) else 0
 
 -- the pairs of photons at some spots with what stands so many ticks before in a window, where the cell is that of the difference
-abbrev pub window_pairs : Direction → CoincidenceView → ℕ → List ℕ → ℕ → List ℕ → ℕ → ℕ
-window_pairs direction set c window top spots lag =
+abbrev pub window_pairs : Direction → CoincidenceView → ℕ → List ℕ → List ℕ → ℕ → ℕ
+window_pairs direction set c window spots lag =
     if shifted_by direction set.reach lag / set.width == c
-    then sum_by (behind window (top - lag)) spots else 0
+    then sum_by (behind window (4096 - lag)) spots else 0
 
--- the sums of so many lags from the one above the least on
-abbrev pub strip_sum : Direction → CoincidenceView → ℕ → ℕ → ℕ → List ℕ → ℕ
-strip_sum direction set c least count sums = sum_by (strip_pairs direction set c least sums) (range_with_len (least + 1) count)
+-- a number of a row, where the first is for the difference so many, and the cell is that of its difference
+abbrev pub row_pairs : CoincidenceView → ℕ → ℕ → List ℕ → ℕ → ℕ
+row_pairs set c from row q = if (from + q) / set.width == c then slice_index row q else 0
 
-abbrev pub window_sum : Direction → CoincidenceView → ℕ → ℕ → ℕ → ℕ → List ℕ → List ℕ → ℕ
-window_sum direction set c least count top window spots = sum_by (window_pairs direction set c window top spots) (range_with_len (least + 1) count)
+abbrev pub row_sum : CoincidenceView → ℕ → ℕ → List ℕ → ℕ
+row_sum set c from row = sum_by (row_pairs set c from row) (range_with_len 0 (length row))
+
+-- the sums of the lags in reach above the least, of 256 at most
+abbrev pub strip_sum : Direction → CoincidenceView → ℕ → ℕ → List ℕ → ℕ
+strip_sum direction set c least sums = sum_by (strip_pairs direction set c least sums) (range_with_len (least + 1) (min (set.reach - least) 256))
+
+abbrev pub window_sum : Direction → CoincidenceView → ℕ → List ℕ → List ℕ → ℕ
+window_sum direction set c window spots = sum_by (window_pairs direction set c window spots) (range_with_len 1 set.reach)
 
 -- the pairs of the photons of later entries with all that are in reach before them
 abbrev pub lag_sum : Direction → CoincidenceView → ℕ → List Entry → List Entry → ℕ
@@ -77,19 +75,6 @@ pub record FitsWindow (set : CoincidenceView) (most low : ℕ) (es later : List 
 abbrev pub IsLow : ℕ → ℕ → List Entry → Type 0
 IsLow most low es = (side : Side) (top p : ℕ) → weight_at side top low p es ≤ most
 
-abbrev pub IsEmpty : List ℕ → Type 0
-IsEmpty window = (p : ℕ) → p < length window → slice_index window p ≡ 0
-
--- each place of a window has the weight of the entries there
-abbrev pub Weighs : Side → ℕ → ℕ → List ℕ → List Entry → Type 0
-Weighs side top low window es = (p : ℕ) → p < length window → slice_index window p ≡ weight_at side top low p es
-
--- A window for so many lags, where each later entry has a place.
-pub record IsOpenFor (reach top low : ℕ) (window : List ℕ) (later : List Entry) : Type 0 where
-  pub lags : (reach ≤ top) × (top ≤ 4096) × (top % 256 ≡ 0)
-  pub wide : top ≤ length window
-  pub near : AllByRecursion (λ e. (low ≤ e.index) × (e.index - low + top ≤ length window)) later
-
 module _ (set : CoincidenceView) where
   -- photons came: those of closed bins, and behind them those of the gathered ones and of the open one
   abbrev pub Gathered : Option Bin → List Bin → History → History → Type 0
@@ -112,3 +97,11 @@ module _ (set : CoincidenceView) where
     pub few : length closed + length xs ≤ record_limit
     pub keep : CanKeepAll ring bins closed xs
     pub had : CellsAre set cells closed
+
+  abbrev pub MayShutAll : Pairing → List Bin → Type 0
+  MayShutAll p bins = ∥ ((closed : History) × (xs : History) × CanShutAll p.ring p.cells bins closed xs) ∥₁
+
+  -- The bins were.
+  pub record ShutsAll (old new : Pairing) (bins : List Bin) : Type 0 where
+    pub ring : (closed xs : History) → CanShutAll old.ring old.cells bins closed xs → RingIs set new.ring (closed ++ xs)
+    pub cells : (closed xs : History) → CanShutAll old.ring old.cells bins closed xs → CellsAre set new.cells (closed ++ xs)

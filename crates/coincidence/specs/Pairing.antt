@@ -1,13 +1,17 @@
 -- What the bins and cells of a table of coincidences stand for: photons that came in order, and how far they are paired.
 use Rattle.std.{specs.Prelude.{◌≡◌, ℕ, ◌+◌, ◌-◌, ◌*◌, ◌/◌, ◌^◌, ◌<◌, ◌≤◌, Bool, ◌&&◌, ◌==◌, Option, None, Some, List, [], ◌++◌, length, slice_index, sum_by, count_by, if◌then◌else◌}, specs.List.{AllByRecursion}}
 use Rattle.tally_base.{specs.Settings.{CoincidenceView, coincidence_cells}, specs.Tally.History, specs.Limits.record_limit}
-use Rattle.lag_ring.{specs.declared.ring.Entry.Entry, specs.Cells.Cells, specs.Ring.{Ring, Weighs, Keeps}}
+use Rattle.lag_ring.{specs.declared.ring.Entry.Entry, specs.declared.window.Side.{Side, TheVariants.{First, Second}}, specs.Cells.Cells, specs.Ring.{Ring, Weighs, Keeps}}
 use Rattle.coincidence.{specs.declared.pairing.Bin.Bin, specs.declared.pairing.Direction.Direction, specs.declared.pairing.Direction.TheVariants.{Forward, Backward}, specs.declared.pairing.Pairing.Pairing, specs.Pairs.{in_first, in_second, is_in_cell, coincidences}}
 
--- how many photons of an earlier entry are in the group of the earlier photon
-abbrev pub earlier_weight : Direction → Entry → ℕ
-earlier_weight Forward e = e.a
-earlier_weight Backward e = e.b
+-- which weights of entries count in a direction: those of earlier ones, and those of later ones
+abbrev pub earlier_side : Direction → Side
+earlier_side Forward = First
+earlier_side Backward = Second
+
+abbrev pub later_side : Direction → Side
+later_side Forward = Second
+later_side Backward = First
 
 -- the difference of two ticks that are so far apart, with the reach added
 abbrev pub shifted_by : Direction → ℕ → ℕ → ℕ
@@ -57,6 +61,10 @@ HasRoom set cells more = (c : ℕ) → c < coincidence_cells set → slice_index
 abbrev pub CountsMore : CoincidenceView → Cells → Cells → (ℕ → ℕ) → Type 0
 CountsMore set old new more = (c : ℕ) → c < coincidence_cells set → slice_index new.cells c ≡ slice_index old.cells c + more c
 
+-- as many steps were taken as additions made
+abbrev pub Pays : Pairing → Pairing → ℕ → ℕ → Type 0
+Pays old new before now = now + old.cells.added ≡ before + new.cells.added
+
 abbrev pub pairing_of : Option Bin → Ring → Cells → Pairing
 pairing_of bin ring cells = record { «open» = bin; ring = ring; cells = cells }
 
@@ -105,6 +113,14 @@ module _ (set : CoincidenceView) where
     pub few : length closed + length xs ≤ record_limit
     pub keep : CanKeep ring bin closed xs
     pub had : CellsAre cells closed
+
+  abbrev pub MayShut : Pairing → Bin → Type 0
+  MayShut p bin = ∥ ((closed : History) × (xs : History) × CanShut p.ring p.cells bin closed xs) ∥₁
+
+  -- The bin was.
+  pub record Shuts (old new : Pairing) (bin : Bin) : Type 0 where
+    pub ring : (closed xs : History) → CanKeep old.ring bin closed xs → RingIs new.ring (closed ++ xs)
+    pub cells : (closed xs : History) → CanShut old.ring old.cells bin closed xs → CellsAre new.cells (closed ++ xs)
 
   -- photons xs of one tick may come, after all that came
   pub record CanPut (p : Pairing) (bin : Bin) (closed open' xs : History) : Type 0 where

@@ -3,10 +3,10 @@ ghost use Rattle.std.{specs.Prelude.{◌≡◌, ℕ, ◌+◌, ◌-◌, ◌^◌, 
 ghost use Rattle.tally_base.{specs.Settings.{coincidence_view, coincidence_cells}, specs.Tally.History};
 ghost use Rattle.lag_ring.{specs.Ring.IsRising, specs.Bytes.{weight_of, IsLight}, specs.Cells.Spends};
 ghost use Rattle.arrayvec.specs.ArrayVec.{array_vec_len};
-ghost use Rattle.coincidence.{specs.Pairing.{RingIs, CellsAre, bin_pairs, CanKeep, HasRoom, CountsMore}, specs.Closing.{weights_in, BinsAre, CanKeepAll, CanShutAll, FitsWindow, Reaches}};
+ghost use Rattle.coincidence.{specs.Pairing.{RingIs, bin_pairs, CanKeep, Pays, HasRoom, CountsMore}, specs.Closing.{weights_in, CanKeepAll, MayShutAll, ShutsAll, FitsWindow, Reaches}};
 
-use crate::lags::{TOP, are_near, pair_lags};
-use crate::pairing::{Bin, keep, least_kept, pair_inside, shut};
+use crate::lags::{Places, TOP, are_near, pair_lags};
+use crate::pairing::{Bin, Pairing, keep, least_kept, pair_inside, shut};
 use arrayvec::ArrayVec;
 use lag_ring::{Entry, LagRing, MOST_SPOTS, PairCells, Side, total_weight, weight_bound};
 use std::sync::ledger::Ledger;
@@ -122,112 +122,67 @@ fn keep_all<L: Ledger>(
     forget(ring, set, last);
 }
 
-/// Pairs bins over a window, and puts them among the closed ones.
+/// Pairs bins over windows, and puts them among the closed ones.
 fn shut_together<L: Ledger>(
-    ring: &mut LagRing,
-    cells: &mut PairCells,
-    set: &CoincidenceSet,
-    low: u64,
+    pairing: &mut Pairing,
+    places: Places,
     bins: &[Bin],
     later: &[Entry],
-    most: usize,
     steps: &mut Steps<L>,
 )
-    requires stands { ∥ ((closed : History) × (xs : History)
-        × CanShutAll (coincidence_view set.now) ring.old cells.old bins.now closed xs) ∥₁ }
+    requires stands { MayShutAll (coincidence_view places.set) pairing.old bins.now }
     requires entries { later.now ≡ weights_in bins.now }
-    requires window { IsRising ring.old.entries
-        × FitsWindow (coincidence_view set.now) most low ring.old.entries later.now }
+    requires window { IsRising pairing.old.ring.entries × FitsWindow (coincidence_view places.set)
+        places.most places.low pairing.old.ring.entries later.now }
     requires some { (0 < length bins.now) × (length bins.now ≤ TABLE_BLOCK) }
-    ensures ring { (closed xs : History)
-        → CanShutAll (coincidence_view set.now) ring.old cells.old bins.now closed xs
-        → RingIs (coincidence_view set.now) ring.new (closed ++ xs) }
-    ensures cells { (closed xs : History)
-        → CanShutAll (coincidence_view set.now) ring.old cells.old bins.now closed xs
-        → CellsAre (coincidence_view set.now) cells.new (closed ++ xs) }
-    ensures steps { steps.new + cells.old.added ≡ steps.old + cells.new.added }
+    ensures shuts { ShutsAll (coincidence_view places.set) pairing.old pairing.new bins.now }
+    ensures steps { Pays pairing.old pairing.new steps.old steps.new }
 {
-    pair_lags(cells, ring, *set, low, later, most, steps);
-    keep_all(ring, cells, set, bins, steps);
+    let Pairing { ring, cells, .. } = pairing;
+    pair_lags(cells, ring, places, later, steps);
+    keep_all(ring, cells, &places.set, bins, steps);
 }
 
 /// Pairs bins one by one, and puts them among the closed ones.
 fn shut_each<L: Ledger>(
-    ring: &mut LagRing,
-    cells: &mut PairCells,
+    pairing: &mut Pairing,
     set: &CoincidenceSet,
     bins: &[Bin],
     steps: &mut Steps<L>,
 )
-    requires stands { ∥ ((closed : History) × (xs : History)
-        × CanShutAll (coincidence_view set.now) ring.old cells.old bins.now closed xs) ∥₁ }
-    ensures ring { (closed xs : History)
-        → CanShutAll (coincidence_view set.now) ring.old cells.old bins.now closed xs
-        → RingIs (coincidence_view set.now) ring.new (closed ++ xs) }
-    ensures cells { (closed xs : History)
-        → CanShutAll (coincidence_view set.now) ring.old cells.old bins.now closed xs
-        → CellsAre (coincidence_view set.now) cells.new (closed ++ xs) }
-    ensures steps { steps.new + cells.old.added ≡ steps.old + cells.new.added }
+    requires stands { MayShutAll (coincidence_view set.now) pairing.old bins.now }
+    ensures shuts { ShutsAll (coincidence_view set.now) pairing.old pairing.new bins.now }
+    ensures steps { Pays pairing.old pairing.new steps.old steps.new }
 {
     for bin in bins {
-        shut(ring, cells, set, bin, steps);
+        shut(pairing, set, bin, steps);
     }
 }
 
-/// Pairs many bins, over a window where they fit it, and puts them among the closed ones.
-fn shut_many<L: Ledger>(
-    ring: &mut LagRing,
-    cells: &mut PairCells,
-    set: &CoincidenceSet,
-    low: u64,
-    bins: &[Bin],
-    steps: &mut Steps<L>,
-)
-    requires some { (0 < length bins.now) × (length bins.now ≤ TABLE_BLOCK) }
-    requires stands { ∥ ((closed : History) × (xs : History)
-        × CanShutAll (coincidence_view set.now) ring.old cells.old bins.now closed xs) ∥₁ }
-    ensures ring { (closed xs : History)
-        → CanShutAll (coincidence_view set.now) ring.old cells.old bins.now closed xs
-        → RingIs (coincidence_view set.now) ring.new (closed ++ xs) }
-    ensures cells { (closed xs : History)
-        → CanShutAll (coincidence_view set.now) ring.old cells.old bins.now closed xs
-        → CellsAre (coincidence_view set.now) cells.new (closed ++ xs) }
-    ensures steps { steps.new + cells.old.added ≡ steps.old + cells.new.added }
-{
-    let mut later = ArrayVec::new();
-    put_weights(&mut later, bins);
-    let most = weight_bound_of(ring, &later);
-    if fits_window(set, ring, low, &later, most) {
-        shut_together(ring, cells, set, low, bins, &later, most as usize, steps);
-    } else {
-        shut_each(ring, cells, set, bins, steps);
-    }
-}
-
-/// Pairs bins that are near one another, and puts them among the closed ones.
+/// Pairs bins, over windows where they fit these and many are in reach, and puts them among the closed ones.
 fn shut_part<L: Ledger>(
-    ring: &mut LagRing,
-    cells: &mut PairCells,
+    pairing: &mut Pairing,
     set: &CoincidenceSet,
     bins: &[Bin],
     steps: &mut Steps<L>,
 )
     requires some { (0 < length bins.now) × (length bins.now ≤ TABLE_BLOCK) }
-    requires stands { ∥ ((closed : History) × (xs : History)
-        × CanShutAll (coincidence_view set.now) ring.old cells.old bins.now closed xs) ∥₁ }
-    ensures ring { (closed xs : History)
-        → CanShutAll (coincidence_view set.now) ring.old cells.old bins.now closed xs
-        → RingIs (coincidence_view set.now) ring.new (closed ++ xs) }
-    ensures cells { (closed xs : History)
-        → CanShutAll (coincidence_view set.now) ring.old cells.old bins.now closed xs
-        → CellsAre (coincidence_view set.now) cells.new (closed ++ xs) }
-    ensures steps { steps.new + cells.old.added ≡ steps.old + cells.new.added }
+    requires stands { MayShutAll (coincidence_view set.now) pairing.old bins.now }
+    ensures shuts { ShutsAll (coincidence_view set.now) pairing.old pairing.new bins.now }
+    ensures steps { Pays pairing.old pairing.new steps.old steps.new }
 {
-    if ring.len() >= MANY && bins.len() >= SOME {
-        shut_many(ring, cells, set, bins[0].weights.index, bins, steps);
-    } else {
-        shut_each(ring, cells, set, bins, steps);
+    if pairing.ring.len() >= MANY && bins.len() >= SOME {
+        let mut later = ArrayVec::new();
+        put_weights(&mut later, bins);
+        let low = bins[0].weights.index;
+        let most = weight_bound_of(&pairing.ring, &later);
+        if fits_window(set, &pairing.ring, low, &later, most) {
+            let (set, most) = (*set, most as usize);
+            shut_together(pairing, Places { set, low, most }, bins, &later, steps);
+            return;
+        }
     }
+    shut_each(pairing, set, bins, steps);
 }
 
 /// How many bins there are before the first that a window from the first one on has no place for.
@@ -236,6 +191,10 @@ fn near_first(bins: &[Bin]) -> usize
     ensures { (0 < result) × (result ≤ length bins.now) }
 {
     let low = bins[0].weights.index;
+    let last = bins[bins.len() - 1].weights.index;
+    if last.saturating_sub(low) < u64::from(TOP) {
+        return bins.len();
+    }
     for count in 1..bins.len() {
         if bins[count].weights.index.saturating_sub(low) >= u64::from(TOP) {
             return count;
@@ -246,27 +205,20 @@ fn near_first(bins: &[Bin]) -> usize
 
 /// Pairs bins, and puts them among the closed ones: as many at once as a window has places for.
 pub(crate) fn shut_all<L: Ledger>(
-    ring: &mut LagRing,
-    cells: &mut PairCells,
+    pairing: &mut Pairing,
     set: &CoincidenceSet,
     bins: &[Bin],
     steps: &mut Steps<L>,
 )
     requires few { length bins.now ≤ TABLE_BLOCK }
-    requires stands { ∥ ((closed : History) × (xs : History)
-        × CanShutAll (coincidence_view set.now) ring.old cells.old bins.now closed xs) ∥₁ }
-    ensures ring { (closed xs : History)
-        → CanShutAll (coincidence_view set.now) ring.old cells.old bins.now closed xs
-        → RingIs (coincidence_view set.now) ring.new (closed ++ xs) }
-    ensures cells { (closed xs : History)
-        → CanShutAll (coincidence_view set.now) ring.old cells.old bins.now closed xs
-        → CellsAre (coincidence_view set.now) cells.new (closed ++ xs) }
-    ensures steps { steps.new + cells.old.added ≡ steps.old + cells.new.added }
+    requires stands { MayShutAll (coincidence_view set.now) pairing.old bins.now }
+    ensures shuts { ShutsAll (coincidence_view set.now) pairing.old pairing.new bins.now }
+    ensures steps { Pays pairing.old pairing.new steps.old steps.new }
 {
     let mut rest = bins;
     while !rest.is_empty() {
         let (part, behind) = rest.split_at(near_first(rest));
-        shut_part(ring, cells, set, part, steps);
+        shut_part(pairing, set, part, steps);
         rest = behind;
     }
 }

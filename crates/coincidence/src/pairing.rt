@@ -2,9 +2,9 @@
 ghost use Rattle.std.{specs.Prelude.{◌≡◌, ℕ, ◌+◌, ◌-◌, ◌*◌, ◌/◌, ◌^◌, ◌<◌, ◌≤◌, [], ◌++◌, length, slice_index, if◌then◌else◌, ◌==◌, nat_le, IfOk, None}, specs.List.AllByRecursion};
 ghost use Rattle.tally_base.{specs.Settings.{coincidence_view, coincidence_cells}, specs.Tally.History};
 ghost use Rattle.lag_ring.specs.Cells.{Spends};
-ghost use Rattle.coincidence.specs.Pairing.{pairs_of, pairs_of_all, pairs_with, bin_pairs, pairing_of, RingIs, CellsAre, CanKeep, CanShut, CanPut, Puts, HasRoom, CountsMore};
+ghost use Rattle.coincidence.specs.Pairing.{pairs_of, pairs_of_all, pairs_with, bin_pairs, pairing_of, RingIs, CanKeep, MayShut, Shuts, Pays, CanPut, Puts, HasRoom, CountsMore};
 
-use lag_ring::{Entry, LagRing, PairCells};
+use lag_ring::{Entry, LagRing, PairCells, Side};
 use std::alloc::{AllocError, Global};
 use std::sync::ledger::Ledger;
 use tally_base::{CoincidenceSet, Steps};
@@ -63,16 +63,27 @@ pub enum Direction {
 }
 
 impl Direction {
-    ghost use Rattle.coincidence.specs.Pairing.{earlier_weight, shifted_by};
+    ghost use Rattle.coincidence.specs.Pairing.{earlier_side, later_side, shifted_by};
 
-    /// How many photons of an entry are the earlier ones of pairs.
+    /// Which weights of entries are those of the earlier photons.
     #[inline(always)]
-    fn weight(self, earlier: &Entry) -> u64
-        ensures { result ≡ earlier_weight self earlier.now }
+    pub(crate) fn earlier(self) -> Side
+        ensures { result ≡ earlier_side self }
     {
         match self {
-            Direction::Forward => earlier.a,
-            Direction::Backward => earlier.b,
+            Direction::Forward => Side::First,
+            Direction::Backward => Side::Second,
+        }
+    }
+
+    /// Which weights of entries are those of the later photons.
+    #[inline(always)]
+    pub(crate) fn later(self) -> Side
+        ensures { result ≡ later_side self }
+    {
+        match self {
+            Direction::Forward => Side::Second,
+            Direction::Backward => Side::First,
         }
     }
 
@@ -153,107 +164,62 @@ pub(crate) fn add_pairs<L: Ledger>(
     cells.add(cell_of(set, shifted), pairs, steps);
 }
 
-/// Pairs the photons of an earlier entry with so many at a later tick, where the two ticks are in reach of
-/// one another.
+/// Photons of one group at one tick.
+#[derive(Clone, Copy)]
+struct Photons {
+    index: u64,
+    count: u64,
+}
+
+/// Pairs the photons of an earlier entry with later ones, where the two ticks are in reach of one another.
 #[inline(always)]
 fn pair_earlier<L: Ledger>(
     cells: &mut PairCells,
     set: CoincidenceSet,
     direction: Direction,
-    index: u64,
-    later: u64,
+    later: Photons,
     earlier: &Entry,
     steps: &mut Steps<L>,
 )
     requires sized { length cells.old.cells ≡ coincidence_cells (coincidence_view set) }
-    requires after { earlier.now.index < index }
+    requires after { earlier.now.index < later.index }
     requires fits { HasRoom (coincidence_view set) cells.old
-        (λ c. pairs_of direction (coincidence_view set) c index later earlier.now) }
+        (λ c. pairs_of direction (coincidence_view set) c later.index later.count earlier.now) }
     ensures cells { CountsMore (coincidence_view set) cells.old cells.new
-        (λ c. pairs_of direction (coincidence_view set) c index later earlier.now) }
+        (λ c. pairs_of direction (coincidence_view set) c later.index later.count earlier.now) }
     ensures spends { Spends cells.old cells.new steps.old steps.new 1 }
 {
-    let apart = index - earlier.index;
+    let apart = later.index - earlier.index;
     if is_near(set, apart) {
-        add_pairs(
-            cells,
-            set,
-            direction.shifted(set, apart),
-            direction.weight(earlier),
-            later,
-            steps,
-        );
+        let shifted = direction.shifted(set, apart);
+        let weight = direction.earlier().weight(earlier);
+        add_pairs(cells, set, shifted, weight, later.count, steps);
     }
 }
 
-/// Pairs the photons of earlier entries with so many at a later tick.
+/// Pairs the photons of earlier entries with later ones.
 #[inline(always)]
 fn pair_direction<L: Ledger>(
     cells: &mut PairCells,
     set: CoincidenceSet,
     direction: Direction,
-    index: u64,
-    later: u64,
+    later: Photons,
     entries: &[Entry],
     steps: &mut Steps<L>,
 )
     requires sized { length cells.old.cells ≡ coincidence_cells (coincidence_view set) }
-    requires after { AllByRecursion (λ e. e.index < index) entries.now }
+    requires after { AllByRecursion (λ e. e.index < later.index) entries.now }
     requires fits { HasRoom (coincidence_view set) cells.old
-        (λ c. pairs_of_all direction (coincidence_view set) c index later entries.now) }
+        (λ c. pairs_of_all direction (coincidence_view set) c later.index later.count entries.now) }
     ensures cells { CountsMore (coincidence_view set) cells.old cells.new
-        (λ c. pairs_of_all direction (coincidence_view set) c index later entries.now) }
+        (λ c. pairs_of_all direction (coincidence_view set) c later.index later.count entries.now) }
     ensures spends { Spends cells.old cells.new steps.old steps.new (length entries.now) }
 {
-    if later > 0 {
+    if later.count > 0 {
         for earlier in entries {
-            pair_earlier(cells, set, direction, index, later, earlier, steps);
+            pair_earlier(cells, set, direction, later, earlier, steps);
         }
     }
-}
-
-/// Pairs the photons of an entry with those of earlier ones, group by group.
-#[inline(always)]
-fn pair_groups<L: Ledger>(
-    cells: &mut PairCells,
-    set: CoincidenceSet,
-    later: &Entry,
-    entries: &[Entry],
-    steps: &mut Steps<L>,
-)
-    requires sized { length cells.old.cells ≡ coincidence_cells (coincidence_view set) }
-    requires after { AllByRecursion (λ e. e.index < later.now.index) entries.now }
-    requires fits { HasRoom (coincidence_view set) cells.old
-        (λ c. pairs_with (coincidence_view set) c later.now entries.now) }
-    ensures cells { CountsMore (coincidence_view set) cells.old cells.new
-        (λ c. pairs_with (coincidence_view set) c later.now entries.now) }
-    ensures spends { Spends cells.old cells.new steps.old steps.new (2 * length entries.now) }
-{
-    let Entry { index, a, b } = *later;
-    pair_direction(cells, set, Direction::Forward, index, b, entries, steps);
-    pair_direction(cells, set, Direction::Backward, index, a, entries, steps);
-}
-
-/// Pairs the photons of an entry with those of earlier ones, where cells have one tick. This is
-/// inlined, so that its loops test no width.
-#[inline(always)]
-fn pair_single_ticks<L: Ledger>(
-    cells: &mut PairCells,
-    set: CoincidenceSet,
-    later: &Entry,
-    entries: &[Entry],
-    steps: &mut Steps<L>,
-)
-    requires single { set.width ≡ 1 }
-    requires sized { length cells.old.cells ≡ coincidence_cells (coincidence_view set) }
-    requires after { AllByRecursion (λ e. e.index < later.now.index) entries.now }
-    requires fits { HasRoom (coincidence_view set) cells.old
-        (λ c. pairs_with (coincidence_view set) c later.now entries.now) }
-    ensures cells { CountsMore (coincidence_view set) cells.old cells.new
-        (λ c. pairs_with (coincidence_view set) c later.now entries.now) }
-    ensures spends { Spends cells.old cells.new steps.old steps.new (2 * length entries.now) }
-{
-    pair_groups(cells, set, later, entries, steps);
 }
 
 /// Pairs the photons of an entry with those of earlier ones.
@@ -272,12 +238,12 @@ fn pair_entries<L: Ledger>(
         (λ c. pairs_with (coincidence_view set.now) c later.now entries.now) }
     ensures spends { Spends cells.old cells.new steps.old steps.new (2 * length entries.now) }
 {
-    let set = *set;
-    if set.width == 1 {
-        pair_single_ticks(cells, set, later, entries, steps);
-    } else {
-        pair_groups(cells, set, later, entries, steps);
-    }
+    // A copy, so that no field is read again for each entry.
+    let own = *set;
+    let Entry { index, a, b } = *later;
+    let (firsts, seconds) = (Photons { index, count: a }, Photons { index, count: b });
+    pair_direction(cells, own, Direction::Forward, seconds, entries, steps);
+    pair_direction(cells, own, Direction::Backward, firsts, entries, steps);
 }
 
 /// Pairs the photons of a bin with one another, and none with itself.
@@ -342,77 +308,49 @@ pub(crate) fn keep(ring: &mut LagRing, set: &CoincidenceSet, bin: &Bin)
 /// Pairs the photons of a bin with one another, and puts it into the ring, which has no other that it
 /// reaches.
 #[inline(always)]
-fn begin<L: Ledger>(
-    ring: &mut LagRing,
-    cells: &mut PairCells,
-    set: &CoincidenceSet,
-    bin: &Bin,
-    steps: &mut Steps<L>,
-)
-    requires far { AllByRecursion (λ e. e.index + set.now.reach < bin.now.weights.index) ring.old.entries }
-    requires stands { ∥ ((closed : History) × (xs : History)
-        × CanShut (coincidence_view set.now) ring.old cells.old bin.now closed xs) ∥₁ }
-    ensures ring { (closed xs : History)
-        → CanKeep (coincidence_view set.now) ring.old bin.now closed xs
-        → RingIs (coincidence_view set.now) ring.new (closed ++ xs) }
-    ensures cells { (closed xs : History)
-        → CanShut (coincidence_view set.now) ring.old cells.old bin.now closed xs
-        → CellsAre (coincidence_view set.now) cells.new (closed ++ xs) }
-    ensures steps { steps.new + cells.old.added ≡ steps.old + cells.new.added }
+fn begin<L: Ledger>(pairing: &mut Pairing, set: &CoincidenceSet, bin: &Bin, steps: &mut Steps<L>)
+    requires far { AllByRecursion (λ e. e.index + set.now.reach < bin.now.weights.index)
+        pairing.old.ring.entries }
+    requires stands { MayShut (coincidence_view set.now) pairing.old bin.now }
+    ensures shuts { Shuts (coincidence_view set.now) pairing.old pairing.new bin.now }
+    ensures steps { Pays pairing.old pairing.new steps.old steps.new }
 {
-    pair_inside(cells, set, bin, steps);
-    ring.restart(bin.weights.index, bin.weights.a, bin.weights.b);
+    pair_inside(&mut pairing.cells, set, bin, steps);
+    pairing
+        .ring
+        .restart(bin.weights.index, bin.weights.a, bin.weights.b);
 }
 
 /// Pairs the photons of a bin with one another and with those of the closed bins, and puts it among
 /// these.
-fn append<L: Ledger>(
-    ring: &mut LagRing,
-    cells: &mut PairCells,
-    set: &CoincidenceSet,
-    bin: &Bin,
-    steps: &mut Steps<L>,
-)
-    requires stands { ∥ ((closed : History) × (xs : History)
-        × CanShut (coincidence_view set.now) ring.old cells.old bin.now closed xs) ∥₁ }
-    ensures ring { (closed xs : History)
-        → CanKeep (coincidence_view set.now) ring.old bin.now closed xs
-        → RingIs (coincidence_view set.now) ring.new (closed ++ xs) }
-    ensures cells { (closed xs : History)
-        → CanShut (coincidence_view set.now) ring.old cells.old bin.now closed xs
-        → CellsAre (coincidence_view set.now) cells.new (closed ++ xs) }
-    ensures steps { steps.new + cells.old.added ≡ steps.old + cells.new.added }
+fn append<L: Ledger>(pairing: &mut Pairing, set: &CoincidenceSet, bin: &Bin, steps: &mut Steps<L>)
+    requires stands { MayShut (coincidence_view set.now) pairing.old bin.now }
+    ensures shuts { Shuts (coincidence_view set.now) pairing.old pairing.new bin.now }
+    ensures steps { Pays pairing.old pairing.new steps.old steps.new }
 {
-    pair(cells, ring, set, bin, steps);
-    keep(ring, set, bin);
+    pair(&mut pairing.cells, &pairing.ring, set, bin, steps);
+    keep(&mut pairing.ring, set, bin);
 }
 
 /// Pairs the photons of a bin, and puts it among the closed ones. Where the last of those is out of
 /// reach, which is the most frequent case, no other pairs with it.
 #[inline(always)]
 pub(crate) fn shut<L: Ledger>(
-    ring: &mut LagRing,
-    cells: &mut PairCells,
+    pairing: &mut Pairing,
     set: &CoincidenceSet,
     bin: &Bin,
     steps: &mut Steps<L>,
 )
-    requires stands { ∥ ((closed : History) × (xs : History)
-        × CanShut (coincidence_view set.now) ring.old cells.old bin.now closed xs) ∥₁ }
-    ensures ring { (closed xs : History)
-        → CanKeep (coincidence_view set.now) ring.old bin.now closed xs
-        → RingIs (coincidence_view set.now) ring.new (closed ++ xs) }
-    ensures cells { (closed xs : History)
-        → CanShut (coincidence_view set.now) ring.old cells.old bin.now closed xs
-        → CellsAre (coincidence_view set.now) cells.new (closed ++ xs) }
-    ensures steps { steps.new + cells.old.added ≡ steps.old + cells.new.added }
+    requires stands { MayShut (coincidence_view set.now) pairing.old bin.now }
+    ensures shuts { Shuts (coincidence_view set.now) pairing.old pairing.new bin.now }
+    ensures steps { Pays pairing.old pairing.new steps.old steps.new }
 {
-    if bin.weights.index.saturating_sub(ring.newest()) > u64::from(set.reach) {
-        begin(ring, cells, set, bin, steps);
+    if bin.weights.index.saturating_sub(pairing.ring.newest()) > u64::from(set.reach) {
+        begin(pairing, set, bin, steps);
     } else {
         // A copy, so that a bin that is alone need not stand in memory.
         let near = *bin;
-        append(ring, cells, set, &near, steps);
+        append(pairing, set, &near, steps);
     }
 }
 
@@ -421,24 +359,23 @@ pub(crate) fn shut<L: Ledger>(
 #[inline(always)]
 pub(crate) fn put<L: Ledger>(
     waiting: Option<Bin>,
-    ring: &mut LagRing,
-    cells: &mut PairCells,
+    pairing: &mut Pairing,
     set: &CoincidenceSet,
     bin: Bin,
     steps: &mut Steps<L>,
 ) -> Option<Bin>
     requires stands { ∥ ((closed : History) × (open' : History) × (xs : History) × CanPut
-        (coincidence_view set.now) (pairing_of waiting ring.old cells.old) bin closed open' xs) ∥₁ }
-    ensures follows { Puts (coincidence_view set.now) (pairing_of waiting ring.old cells.old)
-        (pairing_of result ring.new cells.new) bin }
-    ensures steps { steps.new + cells.old.added ≡ steps.old + cells.new.added }
+        (coincidence_view set.now) (pairing_of waiting pairing.old.ring pairing.old.cells) bin closed open' xs) ∥₁ }
+    ensures follows { Puts (coincidence_view set.now) (pairing_of waiting pairing.old.ring pairing.old.cells)
+        (pairing_of result pairing.new.ring pairing.new.cells) bin }
+    ensures steps { Pays pairing.old pairing.new steps.old steps.new }
 {
     match waiting {
         Some(open) => {
             if open.weights.index == bin.weights.index {
                 Some(open.with(&bin))
             } else {
-                shut(ring, cells, set, &open, steps);
+                shut(pairing, set, &open, steps);
                 Some(bin)
             }
         }
@@ -470,7 +407,7 @@ impl Pairing {
         ensures steps { steps.new + self.old.cells.added ≡ steps.old + self.new.cells.added }
     {
         if let Some(open) = self.open {
-            shut(&mut self.ring, &mut self.cells, set, &open, steps);
+            shut(self, set, &open, steps);
             self.open = None;
         }
     }

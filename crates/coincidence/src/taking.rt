@@ -27,30 +27,13 @@ pub(crate) fn take_block<L: Ledger>(
     ensures steps { steps.new + pairing.old.cells.added ≡ steps.old + pairing.new.cells.added }
 {
     if pairing.ring.len() >= MANY {
-        take_together(pairing, set, block, steps);
+        let mut bins = ArrayVec::new();
+        let open = gather_block(set, pairing.open, block, &mut bins);
+        shut_all(pairing, set, &bins, steps);
+        pairing.open = open;
     } else {
         take_each(pairing, set, block, steps);
     }
-}
-
-/// Gives the photons of a block to the bins. What they close is paired at the end.
-fn take_together<L: Ledger>(
-    pairing: &mut Pairing,
-    set: &CoincidenceSet,
-    block: &Block<TABLE_BLOCK>,
-    steps: &mut Steps<L>,
-)
-    requires sorted { IsSorted block.now }
-    requires stands { ∥ ((h : History)
-        × CanTake (coincidence_view set.now) pairing.old (gathered block.now) h) ∥₁ }
-    ensures follows { TakesOn (coincidence_view set.now) pairing.old pairing.new
-        (gathered block.now) (events_in block.now) }
-    ensures steps { steps.new + pairing.old.cells.added ≡ steps.old + pairing.new.cells.added }
-{
-    let mut bins = ArrayVec::new();
-    let open = gather_block(set, pairing.open, block, &mut bins);
-    shut_all(&mut pairing.ring, &mut pairing.cells, set, &bins, steps);
-    pairing.open = open;
 }
 
 /// Gives the photons of a block to the bins, one by one, but for those that are alone in their reach.
@@ -77,8 +60,7 @@ fn take_each<L: Ledger>(
         let second = block.has_photon(at, own.second);
         if first | second {
             let bin = Bin::of_photon(block.time(at), first, second);
-            let (ring, cells) = (&mut pairing.ring, &mut pairing.cells);
-            open = put(open, ring, cells, &own, bin, steps);
+            open = put(open, pairing, &own, bin, steps);
         }
         let passed = pass_lone(own, &mut pairing.ring, open, block, at);
         open = passed.0;

@@ -1,6 +1,6 @@
 -- How many entries have an index in a range.
 use Rattle.std.{proofs.Common.{rules}, proofs.Common.{◌≡◌, ℕ, ◌+◌, ◌-◌, ◌<◌, ◌≤◌, Bool, true, ◌&&◌, ltb, leb, List, [], ◌∷◌, length, cond, sym, ap, ◌∙◌, arith, ◌++◌, map}, specs.List.{count_by, AllByRecursion, range_with_len}, proofs.lemmas.Grind.common_steps, proofs.lemmas.List.Sums.{sum_by-cons, length-filter}, proofs.lemmas.List.{append_assoc, length-append}, proofs.lemmas.List.FromFn.{map-range_with_len_more, length-map-range_with_len}}
-use Rattle.lag_ring.{specs.declared.ring.Entry.Entry, specs.Ring.IsRising, proofs.Rising.filter_passed, proofs.Lists.all_both, proofs.Sums.sum_by-agree, specs.Cells.{upwards_from, downwards_from}}
+use Rattle.lag_ring.{specs.declared.ring.Entry.Entry, specs.Ring.IsRising, proofs.Rising.filter_passed, proofs.Lists.all_both, proofs.Sums.sum_by-agree, specs.Cells.{places_from}}
 
 abbrev pub between : ℕ → ℕ → Entry → Bool
 between low high e = leb low e.index && ltb e.index high
@@ -34,14 +34,8 @@ few_kept es low index rising from below =
 more_of : (f : ℕ → ℕ) (xs ys : List ℕ) (n : ℕ) → ys ≡ xs ++ map f (range_with_len 0 n) → ys ++ f n ∷ [] ≡ xs ++ map f (range_with_len 0 (n + 1))
 more_of f xs ys n is = search (rules, arith, append_assoc, map-range_with_len_more)
 
-pub upwards_more : (xs ys : List ℕ) (from n : ℕ) → ys ≡ xs ++ upwards_from from n → ys ++ (from + n) ∷ [] ≡ xs ++ upwards_from from (n + 1)
-upwards_more xs ys from n = more_of (λ q. from + q) xs ys n
+pub places_more : (xs ys : List ℕ) (from n : ℕ) → ys ≡ xs ++ places_from from n → ys ++ (from + n) ∷ [] ≡ xs ++ places_from from (n + 1)
+places_more xs ys from n = more_of (λ q. from + q) xs ys n
 
-pub downwards_more : (xs ys : List ℕ) (from n : ℕ) → ys ≡ xs ++ downwards_from from n → ys ++ (from - n) ∷ [] ≡ xs ++ downwards_from from (n + 1)
-downwards_more xs ys from n = more_of (λ q. from - q) xs ys n
-
-pub upwards_length : (xs ys : List ℕ) (from n : ℕ) → ys ≡ xs ++ upwards_from from n → length ys ≡ length xs + n
-upwards_length xs ys from n is = rw is (omega (arith, length-append xs (upwards_from from n), length-map-range_with_len (λ q. from + q) 0 n))
-
-pub downwards_length : (xs ys : List ℕ) (from n : ℕ) → ys ≡ xs ++ downwards_from from n → length ys ≡ length xs + n
-downwards_length xs ys from n is = rw is (omega (arith, length-append xs (downwards_from from n), length-map-range_with_len (λ q. from - q) 0 n))
+pub places_length : (xs ys : List ℕ) (from n : ℕ) → ys ≡ xs ++ places_from from n → length ys ≡ length xs + n
+places_length xs ys from n is = rw is (omega (arith, length-append xs (places_from from n), length-map-range_with_len (λ q. from + q) 0 n))

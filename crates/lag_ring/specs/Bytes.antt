@@ -38,13 +38,6 @@ Fit side top low window es = (p : ℕ) → p < length window → slice_index win
 abbrev pub Have : Side → ℕ → ℕ → List ℕ → List ℕ → List Entry → Type 0
 Have side top low old new es = (p : ℕ) → p < length old → slice_index new p ≡ slice_index old p + weight_at side top low p es
 
--- the same of two windows, one for each group
-abbrev pub BothFit : ℕ → ℕ → List ℕ → List ℕ → List Entry → Type 0
-BothFit top low firsts seconds es = Fit First top low firsts es × Fit Second top low seconds es
-
-abbrev pub BothHave : ℕ → ℕ → List ℕ → List ℕ → List ℕ → List ℕ → List Entry → Type 0
-BothHave top low firsts seconds firsts' seconds' es = Have First top low firsts firsts' es × Have Second top low seconds seconds' es
-
 -- A window serves photons at some spots up to the greatest lag: its places have few photons each, and so many lags have a place behind each spot.
 pub record ServesSpots (most top : ℕ) (window spots : List ℕ) : Type 0 where
   pub weighed : (0 < most) × (most ≤ 255)

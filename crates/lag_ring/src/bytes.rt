@@ -1,6 +1,6 @@
 // Weights by tick in bytes, and the pairs that single photons make over them at many lags at once.
 ghost use Rattle.std.{specs.Prelude.{◌≡◌, ℕ, ◌+◌, ◌-◌, ◌*◌, ◌^◌, ◌<◌, ◌≤◌, ◌==◌, [], ◌∷◌, ◌++◌, take, length, slice_index, sum_by, if◌then◌else◌}, specs.List.{AllByRecursion}};
-ghost use Rattle.lag_ring.{specs.declared.window.Side.TheVariants.{First, Second}, specs.Bytes.{weight_of, weight_at, IsLight, behind, Fit, Have, BothFit, BothHave}};
+ghost use Rattle.lag_ring.{specs.Bytes.{weight_of, IsLight, behind, Fit, Have}};
 ghost use Rattle.arrayvec.specs.ArrayVec.{array_vec_len};
 
 use crate::ring::Entry;
@@ -40,47 +40,8 @@ fn put_byte(window: &mut [u8], at: usize, weight: u64)
     window[at] += weight as u8;
 }
 
-/// Adds the weights of an entry to the place of its index in two windows, where they have that place.
-#[inline(always)]
-fn put_entry(firsts: &mut [u8], seconds: &mut [u8], top: u64, low: u64, entry: &Entry)
-    requires early { entry.now.index + top < 2 ^ 64 }
-    requires sized { length seconds.old ≡ length firsts.old }
-    requires first { (p : ℕ) → p < length firsts.old → slice_index firsts.old p
-        + (if entry.now.index + top == low + p then entry.now.a else 0) < 2 ^ 8 }
-    requires second { (p : ℕ) → p < length firsts.old → slice_index seconds.old p
-        + (if entry.now.index + top == low + p then entry.now.b else 0) < 2 ^ 8 }
-    ensures firsts { (p : ℕ) → p < length firsts.old → slice_index firsts.new p
-        ≡ slice_index firsts.old p
-        + (if entry.now.index + top == low + p then entry.now.a else 0) }
-    ensures seconds { (p : ℕ) → p < length firsts.old → slice_index seconds.new p
-        ≡ slice_index seconds.old p
-        + (if entry.now.index + top == low + p then entry.now.b else 0) }
-    ensures same { (length firsts.new ≡ length firsts.old)
-        × (length seconds.new ≡ length firsts.old) }
-{
-    let place = entry.index + top;
-    if place >= low && place - low < firsts.len() as u64 {
-        put_byte(firsts, (place - low) as usize, entry.a);
-        put_byte(seconds, (place - low) as usize, entry.b);
-    }
-}
-
-/// Adds the weights of entries to the places of their indices in two windows, one for each group: place `p` is
-/// that of the index which is `top` below `low + p`. An index without a place counts nowhere.
-pub fn put_bytes(firsts: &mut [u8], seconds: &mut [u8], top: u64, low: u64, entries: &[Entry])
-    requires early { AllByRecursion (λ e. e.index + top < 2 ^ 64) entries.now }
-    requires sized { length seconds.old ≡ length firsts.old }
-    requires fit { BothFit top low firsts.old seconds.old entries.now }
-    ensures have { BothHave top low firsts.old seconds.old firsts.new seconds.new entries.now }
-    ensures same { (length firsts.new ≡ length firsts.old)
-        × (length seconds.new ≡ length firsts.old) }
-{
-    for entry in entries {
-        put_entry(firsts, seconds, top, low, entry);
-    }
-}
-
-/// The same for one of the two groups, in one window.
+/// Adds the weights of entries in one of the two groups to the places of their indices in a window: place `p` is that
+/// of the index which is `top` below `low + p`. An index without a place counts nowhere.
 pub fn put_side(window: &mut [u8], side: Side, top: u64, low: u64, entries: &[Entry])
     requires early { AllByRecursion (λ e. e.index + top < 2 ^ 64) entries.now }
     requires fit { Fit side top low window.old entries.now }

@@ -1,6 +1,6 @@
 // Cells that count pairs, one number each.
-ghost use Rattle.std.specs.Prelude.{◌≡◌, ℕ, ◌+◌, ◌-◌, ◌%◌, ◌^◌, ◌<◌, ◌≤◌, [], ◌∷◌, ◌++◌, IfOk, length, replicate, slice_index, slice_set};
-ghost use Rattle.lag_ring.specs.Cells.{upwards_at, downwards_at, upwards_from, downwards_from, without_carry, carry_of};
+ghost use Rattle.std.specs.Prelude.{◌≡◌, ℕ, ◌+◌, ◌%◌, ◌^◌, ◌<◌, ◌≤◌, [], ◌∷◌, ◌++◌, IfOk, length, replicate, slice_index, slice_set};
+ghost use Rattle.lag_ring.specs.Cells.{row_at, places_from, without_carry, carry_of};
 
 use noted::Noted;
 use std::alloc::{AllocError, Global};
@@ -51,7 +51,7 @@ fn add_low(cell: &mut u128, more: u32) -> u64
 /// Adds each number of a row to the lower half of its cell, from one cell upwards. The answer is 2^63 or more where a
 /// carry may be lost.
 #[inline(always)]
-fn add_lows_upwards<L: Ledger>(
+fn add_lows<L: Ledger>(
     cells: &mut [u128],
     from: usize,
     row: &[u32],
@@ -60,10 +60,10 @@ fn add_lows_upwards<L: Ledger>(
 ) -> u64
     requires inside { from + length row.now ≤ length cells.old }
     ensures lows { (c : ℕ) → c < length cells.old
-        → slice_index cells.new c ≡ without_carry (slice_index cells.old c) (upwards_at from row.now c) }
+        → slice_index cells.new c ≡ without_carry (slice_index cells.old c) (row_at from row.now c) }
     ensures sums { result < ROOM → (c : ℕ) → c < length cells.old
-        → slice_index cells.new c ≡ slice_index cells.old c + upwards_at from row.now c }
-    ensures places { additions.new.items ≡ additions.old.items ++ upwards_from from (length row.now) }
+        → slice_index cells.new c ≡ slice_index cells.old c + row_at from row.now c }
+    ensures places { additions.new.items ≡ additions.old.items ++ places_from from (length row.now) }
     ensures steps { steps.new ≡ steps.old + length row.now }
 {
     let mut seen = 0;
@@ -77,11 +77,11 @@ fn add_lows_upwards<L: Ledger>(
 
 /// Carries where a row was added to lower halves from one cell upwards.
 #[inline(never)]
-fn carry_upwards(cells: &mut [u128], from: usize, row: &[u32])
+fn carry_lows(cells: &mut [u128], from: usize, row: &[u32])
     requires inside { from + length row.now ≤ length cells.old }
     requires few { (q : ℕ) → q < length row.now → slice_index cells.old (from + q) < 2 ^ 81 }
     ensures carried { (c : ℕ) → c < length cells.old → slice_index cells.new c
-        ≡ slice_index cells.old c + carry_of (slice_index cells.old c) (upwards_at from row.now c) }
+        ≡ slice_index cells.old c + carry_of (slice_index cells.old c) (row_at from row.now c) }
 {
     for q in 0..row.len() {
         if cells[from + q] % HALF < u128::from(row[q]) {
@@ -92,7 +92,7 @@ fn carry_upwards(cells: &mut [u128], from: usize, row: &[u32])
 
 /// Adds each number of a row to its cell, from one cell upwards.
 #[inline(always)]
-fn add_row_upwards<L: Ledger>(
+fn add_each<L: Ledger>(
     cells: &mut [u128],
     from: usize,
     row: &[u32],
@@ -103,78 +103,13 @@ fn add_row_upwards<L: Ledger>(
     requires sums { (q : ℕ) → q < length row.now
         → slice_index cells.old (from + q) + slice_index row.now q ≤ 2 ^ 80 }
     ensures cells { (c : ℕ) → c < length cells.old
-        → slice_index cells.new c ≡ slice_index cells.old c + upwards_at from row.now c }
-    ensures places { additions.new.items ≡ additions.old.items ++ upwards_from from (length row.now) }
+        → slice_index cells.new c ≡ slice_index cells.old c + row_at from row.now c }
+    ensures places { additions.new.items ≡ additions.old.items ++ places_from from (length row.now) }
     ensures steps { steps.new ≡ steps.old + length row.now }
 {
-    let seen = add_lows_upwards(cells, from, row, additions, steps);
+    let seen = add_lows(cells, from, row, additions, steps);
     if seen >= ROOM {
-        carry_upwards(cells, from, row);
-    }
-}
-
-/// Adds each number of a row to the lower half of its cell, from one cell downwards. The answer is 2^63 or more where a
-/// carry may be lost.
-#[inline(always)]
-fn add_lows_downwards<L: Ledger>(
-    cells: &mut [u128],
-    from: usize,
-    row: &[u32],
-    additions: &mut Noted<usize>,
-    steps: &mut Steps<L>,
-) -> u64
-    requires inside { (from < length cells.old) × (length row.now ≤ from + 1) }
-    ensures lows { (c : ℕ) → c < length cells.old
-        → slice_index cells.new c ≡ without_carry (slice_index cells.old c) (downwards_at from row.now c) }
-    ensures sums { result < ROOM → (c : ℕ) → c < length cells.old
-        → slice_index cells.new c ≡ slice_index cells.old c + downwards_at from row.now c }
-    ensures places { additions.new.items ≡ additions.old.items ++ downwards_from from (length row.now) }
-    ensures steps { steps.new ≡ steps.old + length row.now }
-{
-    let mut seen = 0;
-    for q in 0..row.len() {
-        seen |= add_low(&mut cells[from - q], row[q]);
-        additions.note(&[from - q]);
-        steps.tick();
-    }
-    seen
-}
-
-/// Carries where a row was added to lower halves from one cell downwards.
-#[inline(never)]
-fn carry_downwards(cells: &mut [u128], from: usize, row: &[u32])
-    requires inside { (from < length cells.old) × (length row.now ≤ from + 1) }
-    requires few { (q : ℕ) → q < length row.now → slice_index cells.old (from - q) < 2 ^ 81 }
-    ensures carried { (c : ℕ) → c < length cells.old → slice_index cells.new c
-        ≡ slice_index cells.old c + carry_of (slice_index cells.old c) (downwards_at from row.now c) }
-{
-    for q in 0..row.len() {
-        if cells[from - q] % HALF < u128::from(row[q]) {
-            cells[from - q] += HALF;
-        }
-    }
-}
-
-/// Adds each number of a row to its cell, from one cell downwards.
-#[inline(always)]
-fn add_row_downwards<L: Ledger>(
-    cells: &mut [u128],
-    from: usize,
-    row: &[u32],
-    additions: &mut Noted<usize>,
-    steps: &mut Steps<L>,
-)
-    requires inside { (from < length cells.old) × (length row.now ≤ from + 1) }
-    requires sums { (q : ℕ) → q < length row.now
-        → slice_index cells.old (from - q) + slice_index row.now q ≤ 2 ^ 80 }
-    ensures cells { (c : ℕ) → c < length cells.old
-        → slice_index cells.new c ≡ slice_index cells.old c + downwards_at from row.now c }
-    ensures places { additions.new.items ≡ additions.old.items ++ downwards_from from (length row.now) }
-    ensures steps { steps.new ≡ steps.old + length row.now }
-{
-    let seen = add_lows_downwards(cells, from, row, additions, steps);
-    if seen >= ROOM {
-        carry_downwards(cells, from, row);
+        carry_lows(cells, from, row);
     }
 }
 
@@ -208,39 +143,20 @@ impl PairCells {
     /// Adds a row of numbers of pairs to as many cells, in one step each: the first to the cell
     /// `from`, and each further one to the cell above.
     #[inline(always)]
-    #[tactic(auto, using(crate::proofs::Between::upwards_length))]
-    pub fn add_upwards<L: Ledger>(&mut self, from: u32, row: &[u32], steps: &mut Steps<L>)
+    #[tactic(auto, using(crate::proofs::Between::places_length))]
+    pub fn add_row<L: Ledger>(&mut self, from: u32, row: &[u32], steps: &mut Steps<L>)
         requires inside { from + length row.now ≤ length self.old.cells }
         requires sums { (q : ℕ) → q < length row.now
             → slice_index self.old.cells (from + q) + slice_index row.now q ≤ 2 ^ 80 }
-        ensures cells { (c : ℕ) → c < length self.old.cells → slice_index self.new.cells c
-            ≡ slice_index self.old.cells c + upwards_at from row.now c }
+        ensures cells { (c : ℕ) → c < length self.old.cells
+            → slice_index self.new.cells c ≡ slice_index self.old.cells c + row_at from row.now c }
         ensures same { length self.new.cells ≡ length self.old.cells }
         ensures added { self.new.added ≡ self.old.added + length row.now }
-        ensures places { self.new.places ≡ self.old.places ++ upwards_from from (length row.now) }
+        ensures places { self.new.places ≡ self.old.places ++ places_from from (length row.now) }
         ensures steps { steps.new ≡ steps.old + length row.now }
     {
         let additions = &mut self.additions;
-        add_row_upwards(&mut self.cells, from as usize, row, additions, steps);
-    }
-
-    /// Adds a row of numbers of pairs to as many cells, in one step each: the first to the cell
-    /// `from`, and each further one to the cell below.
-    #[inline(always)]
-    #[tactic(auto, using(crate::proofs::Between::downwards_length))]
-    pub fn add_downwards<L: Ledger>(&mut self, from: u32, row: &[u32], steps: &mut Steps<L>)
-        requires inside { (from < length self.old.cells) × (length row.now ≤ from + 1) }
-        requires sums { (q : ℕ) → q < length row.now
-            → slice_index self.old.cells (from - q) + slice_index row.now q ≤ 2 ^ 80 }
-        ensures cells { (c : ℕ) → c < length self.old.cells → slice_index self.new.cells c
-            ≡ slice_index self.old.cells c + downwards_at from row.now c }
-        ensures same { length self.new.cells ≡ length self.old.cells }
-        ensures added { self.new.added ≡ self.old.added + length row.now }
-        ensures places { self.new.places ≡ self.old.places ++ downwards_from from (length row.now) }
-        ensures steps { steps.new ≡ steps.old + length row.now }
-    {
-        let additions = &mut self.additions;
-        add_row_downwards(&mut self.cells, from as usize, row, additions, steps);
+        add_each(&mut self.cells, from as usize, row, additions, steps);
     }
 
     /// How many pairs a cell has.

@@ -9,9 +9,7 @@ mod cells;
 mod ring;
 mod window;
 
-pub use bytes::{
-    BYTE_LAGS, MOST_SPOTS, byte_lag_sums, put_bytes, put_side, spots_of, weight_bound,
-};
+pub use bytes::{BYTE_LAGS, MOST_SPOTS, byte_lag_sums, put_side, spots_of, weight_bound};
 pub use cells::PairCells;
 pub use ring::{Entry, LagRing};
 pub use window::{Side, total_weight};

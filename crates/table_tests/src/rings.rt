@@ -157,7 +157,7 @@ fn filled<L: Ledger>(alloc: Global, blank: Blank) -> Result<PairCells, Fail>
     Ok(cells)
 }
 
-/// Cells to which rows were added, upwards and downwards.
+/// Cells to which rows were added.
 fn rowed<L: Ledger>(alloc: Global, blank: Blank) -> Result<PairCells, Fail>
     requires name { blank.name ≡ L.name }
     requires parts { blank.parts ≡ L.parts }
@@ -166,8 +166,8 @@ fn rowed<L: Ledger>(alloc: Global, blank: Blank) -> Result<PairCells, Fail>
 {
     let mut steps = Steps::<L>::new(blank);
     let mut cells = PairCells::open(alloc, 4)?;
-    cells.add_upwards(1, &[3, 40], &mut steps);
-    cells.add_downwards(2, &[500, 6000, 70000], &mut steps);
+    cells.add_row(1, &[3, 40], &mut steps);
+    cells.add_row(0, &[70000, 6000, 500], &mut steps);
     Ok(cells)
 }
 
@@ -181,7 +181,7 @@ fn carried<L: Ledger>(alloc: Global, blank: Blank) -> Result<PairCells, Fail>
     let mut steps = Steps::<L>::new(blank);
     let mut cells = PairCells::open(alloc, 1)?;
     cells.add(0, (1 << 64) - 1, &mut steps);
-    cells.add_upwards(0, &[7], &mut steps);
+    cells.add_row(0, &[7], &mut steps);
     Ok(cells)
 }
 

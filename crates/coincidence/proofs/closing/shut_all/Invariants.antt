@@ -6,8 +6,8 @@ use Rattle.coincidence.proofs.closing.shut_all.Given as goal
 abbrev pub invariant-loop-rest : goal.invariant-loop-rest
 invariant-loop-rest g l = record {
   few : length l.rest ≤ 1024;
-  so_far : (closed xs : History) → CanShutAll (coincidence_view l.set) l.initial.ring l.initial.cells l.bins closed xs → (done : History) × (left : History) × (xs ≡ done ++ left) × CanShutAll (coincidence_view l.set) l.ring l.cells l.rest (closed ++ done) left;
-  steps : l.steps + l.initial.cells.added ≡ l.initial.steps + l.cells.added;
+  so_far : (closed xs : History) → CanShutAll (coincidence_view l.set) l.initial.pairing.ring l.initial.pairing.cells l.bins closed xs → (done : History) × (left : History) × (xs ≡ done ++ left) × CanShutAll (coincidence_view l.set) l.pairing.ring l.pairing.cells l.rest (closed ++ done) left;
+  steps : l.steps + l.initial.pairing.cells.added ≡ l.initial.steps + l.pairing.cells.added;
 }
 
 abbrev pub decreases-loop-rest : goal.decreases-loop-rest

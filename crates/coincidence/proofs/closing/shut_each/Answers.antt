@@ -15,6 +15,6 @@ loop-bin-preserved g c = record {
   so_far = λ closed xs can.
       let was = c.loop-bin.invariant.so_far closed xs can in
       let next = next_shut _ _ _ _ (record { weights = record { index = 0; a = 0; b = 0 }; both = 0 }) _ _ c.loop-bin-test.true _ was.3 in
-      (was.0 ++ next.0, next.1, three_runs xs was.0 next.0 next.1 was.1 was.2 next.2, rw (← append_assoc closed was.0 next.0) (next.4 _ _ (c.shut.ensures.ring _ next.0 next.3.keep) (c.shut.ensures.cells _ next.0 next.3)));
+      (was.0 ++ next.0, next.1, three_runs xs was.0 next.0 next.1 was.1 was.2 next.2, rw (← append_assoc closed was.0 next.0) (next.4 _ _ (c.shut.ensures.shuts.ring _ next.0 next.3.keep) (c.shut.ensures.shuts.cells _ next.0 next.3)));
   steps = omega (arith, c.loop-bin.invariant.steps, c.shut.ensures.steps);
 }

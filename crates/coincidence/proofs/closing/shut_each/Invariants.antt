@@ -5,6 +5,6 @@ use Rattle.coincidence.proofs.closing.shut_each.Given as goal
 
 abbrev pub invariant-loop-bin : goal.invariant-loop-bin
 invariant-loop-bin g l = record {
-  so_far : (closed xs : History) → CanShutAll (coincidence_view l.set) l.initial.ring l.initial.cells l.bins closed xs → (done : History) × (rest : History) × (xs ≡ done ++ rest) × CanShutAll (coincidence_view l.set) l.ring l.cells (drop l.bin-index l.bins) (closed ++ done) rest;
-  steps : l.steps + l.initial.cells.added ≡ l.initial.steps + l.cells.added;
+  so_far : (closed xs : History) → CanShutAll (coincidence_view l.set) l.initial.pairing.ring l.initial.pairing.cells l.bins closed xs → (done : History) × (rest : History) × (xs ≡ done ++ rest) × CanShutAll (coincidence_view l.set) l.pairing.ring l.pairing.cells (drop l.bin-index l.bins) (closed ++ done) rest;
+  steps : l.steps + l.initial.pairing.cells.added ≡ l.initial.steps + l.pairing.cells.added;
 }

@@ -1,8 +1,11 @@
-use Rattle.std.{proofs.Common.{rules}, proofs.Common.{◌≤◌, ◌+◌, ◌-◌, ◌++◌, ℕ, length, arith}}
+use Rattle.std.{proofs.Common.{rules}, proofs.Common.{◌≤◌, ◌<◌, ◌+◌, ◌-◌, ◌++◌, ℕ, length, arith}, proofs.lemmas.List.{get_or-replicate}}
 use Rattle.tally_base.specs.Settings.{coincidence_view}
 use Rattle.lag_ring.{specs.declared.ring.Entry.Entry, proofs.Rising.all_weaker}
-use Rattle.coincidence.{proofs.LagPairs.{window-lags}}
+use Rattle.coincidence.{specs.declared.lags.TheConstants.TOP, proofs.LagPairs.{window-lags}}
 use Rattle.coincidence.proofs.lags.pair_side.Goals as goal
+
+pub fill-requires-clause-fit : goal.fill-requires-clause-fit
+fill-requires-clause-fit g c = λ p inside. omega (arith, get_or-replicate {A = ℕ} 8192 p 0 0 inside, c.requires.photons.0.weighed.1, c.requires.photons.1 c.earlier.result 4096 p)
 
 pub spots_of-spots-requires-clause-few : goal.spots_of-spots-requires-clause-few
 spots_of-spots-requires-clause-few g c = search (rules, arith)
@@ -10,21 +13,22 @@ spots_of-spots-requires-clause-few g c = search (rules, arith)
 pub pair_window-requires-clause-window : goal.pair_window-requires-clause-window
 pair_window-requires-clause-window g c = record {
   weighed = c.requires.photons.0.weighed;
-  light = λ p inside. omega arith;
+  light = λ p inside. omega (arith, get_or-replicate {A = ℕ} 8192 p 0 0 (omega (arith, inside, c.fill.ensures.same)), c.fill.ensures.have p (omega (arith, inside, c.fill.ensures.same)), c.requires.photons.1 c.earlier.result TOP p);
   few = rw c.deref.ensures.0 (omega (arith, c.spots_of-spots.ensures.few));
-  near =
-      let last : ℕ = length c.args.window.now - c.args.places.top in
-      let spots = c.spots_of-spots.ensures.within last (all_weaker (λ (e : Entry). (c.args.places.low ≤ e.index) × (e.index - c.args.places.low + c.args.places.top ≤ length c.args.window.now)) (λ (e : Entry). e.index - c.args.places.low ≤ last) (λ e is. omega (arith, is.1)) c.args.later.now c.requires.opens.near) in
-      all_weaker (λ s. s ≤ last) (λ s. s + c.args.places.top ≤ length c.args.window.now)
-      (λ s is. omega (arith, is, c.requires.opens.wide)) c.deref.result.now (rw c.deref.ensures.0 spots);
+  near = all_weaker (λ s. s ≤ 4095) (λ s. s + 4096 ≤ length c.fill.new.window) (λ s is. omega (arith, is, c.fill.ensures.same)) c.deref.result.now
+      (rw c.deref.ensures.0 (c.spots_of-spots.ensures.within 4095 (all_weaker (λ (e : Entry). (c.args.places.low ≤ e.index) × (e.index - c.args.places.low < 4096)) (λ (e : Entry). e.index - c.args.places.low ≤ 4095) (λ e is. omega (arith, is.1)) c.args.later.now c.requires.photons.0.near)));
 }
 
 pub pair_window-requires-clause-fits : goal.pair_window-requires-clause-fits
-pair_window-requires-clause-fits g c = λ at inside.
-    let same = window-lags c.args.direction (coincidence_view c.args.set) at c.args.places.top c.args.places.low c.args.window.now c.spots_of-spots.result.items (c.args.ring.now.entries ++ c.args.later.now) c.args.later.now c.requires.opens.lags.0 c.requires.has c.requires.opens.near (λ f. rw c.requires.photons.2 at (c.spots_of-spots.ensures.sums f)) in
-    rw (c.deref.ensures.0, same) (c.requires.fits at inside)
+pair_window-requires-clause-fits g c = λ at inside. rw (
+  c.deref.ensures.0,
+  window-lags c.args.direction (coincidence_view c.args.places.set) at c.args.places.low c.fill.new.window c.spots_of-spots.result.items (c.args.ring.now.entries ++ c.args.later.now) c.args.later.now c.requires.photons.0.reach
+      c.fill.ensures.same (rw c.earlier.ensures at c.fill.ensures.have) c.requires.photons.0.near (λ f. rw c.later.ensures at (c.spots_of-spots.ensures.sums f)),
+) (c.requires.fits at inside)
 
 pub returns-clause-cells : goal.returns-clause-cells
-returns-clause-cells g c = λ at inside.
-    let same = window-lags c.args.direction (coincidence_view c.args.set) at c.args.places.top c.args.places.low c.args.window.now c.spots_of-spots.result.items (c.args.ring.now.entries ++ c.args.later.now) c.args.later.now c.requires.opens.lags.0 c.requires.has c.requires.opens.near (λ f. rw c.requires.photons.2 at (c.spots_of-spots.ensures.sums f)) in
-    rw (c.deref.ensures.0, same) at (c.pair_window.ensures.cells at inside)
+returns-clause-cells g c = λ at inside. rw (
+  c.deref.ensures.0,
+  window-lags c.args.direction (coincidence_view c.args.places.set) at c.args.places.low c.fill.new.window c.spots_of-spots.result.items (c.args.ring.now.entries ++ c.args.later.now) c.args.later.now c.requires.photons.0.reach
+      c.fill.ensures.same (rw c.earlier.ensures at c.fill.ensures.have) c.requires.photons.0.near (λ f. rw c.later.ensures at (c.spots_of-spots.ensures.sums f)),
+) at (c.pair_window.ensures.cells at inside)

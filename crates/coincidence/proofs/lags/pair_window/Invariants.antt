@@ -5,7 +5,7 @@ use Rattle.coincidence.proofs.lags.pair_window.Given as goal
 
 abbrev pub invariant-loop-strip : goal.invariant-loop-strip
 invariant-loop-strip g l = record {
-  cells : (c : ℕ) → c < coincidence_cells (coincidence_view l.set) → get_or l.cells.cells c 0 ≡ get_or l.initial.cells.cells c 0 + sum_by (window_pairs l.direction (coincidence_view l.set) c l.window l.top l.spots) (range_with_len 1 (min (l.strip * 256) l.set.reach));
+  cells : (c : ℕ) → c < coincidence_cells (coincidence_view l.set) → get_or l.cells.cells c 0 ≡ get_or l.initial.cells.cells c 0 + sum_by (window_pairs l.direction (coincidence_view l.set) c l.window l.spots) (range_with_len 1 (min (l.strip * 256) l.set.reach));
   same : length l.cells.cells ≡ length l.initial.cells.cells;
   added : l.cells.added ≤ l.initial.cells.added + min (l.strip * 256) l.set.reach;
   steps : l.steps + l.initial.cells.added ≡ l.initial.steps + l.cells.added;

@@ -13,11 +13,8 @@ pair-requires-clause-both g c = ∥∥₁_elim c.requires.stands (hlevel props) 
 pub pair-requires-clause-fits : goal.pair-requires-clause-fits
 pair-requires-clause-fits g c = ∥∥₁_elim c.requires.stands (hlevel props) (λ w. may_fit _ _ _ _ _ _ w.2)
 
-pub returns-clause-cells : goal.returns-clause-cells
-returns-clause-cells g c = search (rules, arith, cells_shut)
+pub returns-clause-shuts : goal.returns-clause-shuts
+returns-clause-shuts g c = record { ring = λ closed xs can. c.keep.ensures.ring closed xs can; cells = search (rules, arith, cells_shut) }
 
 pub keep-requires : goal.keep-requires
 keep-requires g c = record { stands = ∥∥₁_map c.requires.stands (λ w. (w.0, w.1, w.2.keep)) }
-
-pub returns-clause-ring : goal.returns-clause-ring
-returns-clause-ring g c = λ closed xs can. c.keep.ensures.ring closed xs can

@@ -8,8 +8,5 @@ pair_inside-requires-clause-both g c = ∥∥₁_elim c.requires.stands (hlevel 
 pub pair_inside-requires-clause-fits : goal.pair_inside-requires-clause-fits
 pair_inside-requires-clause-fits g c = ∥∥₁_elim c.requires.stands (hlevel props) (λ w. alone_fits _ _ _ _ _ _ w.2 c.requires.far)
 
-pub returns-clause-ring : goal.returns-clause-ring
-returns-clause-ring g c = search (rules, arith, ring_alone)
-
-pub returns-clause-cells : goal.returns-clause-cells
-returns-clause-cells g c = search (rules, arith, cells_alone)
+pub returns-clause-shuts : goal.returns-clause-shuts
+returns-clause-shuts g c = record { ring = search (rules, arith, ring_alone); cells = search (rules, arith, cells_alone) }

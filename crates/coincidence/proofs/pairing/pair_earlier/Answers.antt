@@ -9,11 +9,11 @@ add_pairs-requires-clause-inside g c = search (rules, arith, shifted_inside)
 pub add_pairs-requires-clause-sum : goal.add_pairs-requires-clause-sum
 add_pairs-requires-clause-sum g c =
     let set = coincidence_view c.args.set in
-    let near : c.args.index - c.args.earlier.now.index ≤ c.args.set.reach = search rules in
-    let at : ℕ = shifted_by c.args.direction c.args.set.reach (c.args.index - c.args.earlier.now.index) / c.args.set.width in
+    let near : c.args.later.index - c.args.earlier.now.index ≤ c.args.set.reach = search rules in
+    let at : ℕ = shifted_by c.args.direction c.args.set.reach (c.args.later.index - c.args.earlier.now.index) / c.args.set.width in
     let inside : at < coincidence_cells set = search (rules, arith, shifted_inside) in
-    let fits = (rw (pairs_near set c.args.index c.args.earlier.now c.requires.after near c.args.direction c.args.later at) at (c.requires.fits at inside)) in
-    rw (c.shifted.ensures, c.weight.ensures) (one_fits _ _ _ at fits)
+    let fits = (rw (pairs_near set c.args.later.index c.args.earlier.now c.requires.after near c.args.direction c.args.later.count at) at (c.requires.fits at inside)) in
+    rw (c.shifted-shifted.ensures, c.weight-weight.ensures, c.earlier.ensures) (one_fits _ _ _ at fits)
 
 pub returns-then-is_near-clause-cells : goal.returns-then-is_near-clause-cells
 returns-then-is_near-clause-cells g c = search (rules, arith, pairs_near)

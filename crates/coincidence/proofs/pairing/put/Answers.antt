@@ -16,6 +16,6 @@ returns-else-open-bin g c = record {
   follows = λ closed open' xs can.
       let may = can_shut _ _ _ _ c.in-Some.is closed open' xs can in
       let after = moved_on _ _ _ _ c.in-Some.is closed open' xs can c.if-open-bin.false in
-      (_, xs, refl, record { opened = (can.is, after); ring = c.shut.ensures.ring closed open' may.keep; cells = c.shut.ensures.cells closed open' may });
+      (_, xs, refl, record { opened = (can.is, after); ring = c.shut.ensures.shuts.ring closed open' may.keep; cells = c.shut.ensures.shuts.cells closed open' may });
   steps = c.shut.ensures.steps;
 }

@@ -14,25 +14,19 @@ count_bin-requires-clause-inside c = search (rules, arith, last_of)
 
 pub count_bin-requires-clause-room : goal.count_bin-requires-clause-room
 count_bin-requires-clause-room c =
-    let bin = c.args.bin.now in
-    let bins = c.args.ring.now.entries in
     let counted = rw c.meet.ensures.met at c.count_closed.ensures.sum in
-    omega (arith, counted, where_at_most (λ tick. nat_lt tick c.args.before) (joined bin.b bins), photons_joined bin.b bins, photons_push bins bin, c.requires.room)
+    omega (arith, counted, where_at_most (λ tick. nat_lt tick c.args.before) (joined c.args.bin.now.b c.args.ring.now.entries), photons_joined c.args.bin.now.b c.args.ring.now.entries, photons_push c.args.ring.now.entries c.args.bin.now, c.requires.room)
 
 pub push-requires-clause-above : goal.push-requires-clause-above
 push-requires-clause-above c =
-    let bin = c.args.bin.now in
-    let bins = c.args.ring.now.entries in
     rw (c.retire.ensures.kept, c.meet.ensures.met)
-    (below_kept c.args.before bin.index (joined bin.b bins) (below_joined bin.b bin.index bins c.requires.held.above))
+    (below_kept c.args.before c.args.bin.now.index (joined c.args.bin.now.b c.args.ring.now.entries) (below_joined c.args.bin.now.b c.args.bin.now.index c.args.ring.now.entries c.requires.held.above))
 
 pub push-requires-clause-room : goal.push-requires-clause-room
 push-requires-clause-room c =
-    let bin = c.args.bin.now in
-    let bins = c.args.ring.now.entries in
     let rising = rw (c.retire.ensures.kept, c.meet.ensures.met) at c.retire.ensures.rising in
-    let few = room_left c.args.before bin.index c.args.ring.now.reach (joined bin.b bins) rising
-    (below_joined bin.b bin.index bins c.requires.held.above) c.if-bin-before.false c.requires.near in
+    let few = room_left c.args.before c.args.bin.now.index c.args.ring.now.reach (joined c.args.bin.now.b c.args.ring.now.entries) rising
+    (below_joined c.args.bin.now.b c.args.bin.now.index c.args.ring.now.entries c.requires.held.above) c.if-bin-before.false c.requires.near in
     rw (c.retire.ensures.kept, c.meet.ensures.met) (omega (arith, few))
 
 pub returns-then-bin-before-clause-cells : goal.returns-then-bin-before-clause-cells
@@ -40,50 +34,38 @@ returns-then-bin-before-clause-cells c = search (rules, arith, of_push)
 
 pub returns-then-bin-before-clause-kept : goal.returns-then-bin-before-clause-kept
 returns-then-bin-before-clause-kept c =
-    let bin = c.args.bin.now in
-    let bins = c.args.ring.now.entries in
     rw (c.retire.ensures.kept, c.meet.ensures.met)
-    (ap (λ es. ring_of es c.args.ring.now.reach) (kept_short c.args.before (joined bin.b bins) bin c.if-bin-before.true))
+    (ap (λ es. ring_of es c.args.ring.now.reach) (kept_short c.args.before (joined c.args.bin.now.b c.args.ring.now.entries) c.args.bin.now c.if-bin-before.true))
 
 pub returns-then-bin-before-clause-within : goal.returns-then-bin-before-clause-within
 returns-then-bin-before-clause-within c =
-    let bin = c.args.bin.now in
-    let bins = c.args.ring.now.entries in
-    let few = few_after c.args.before (joined bin.b bins) in
-    rw (c.retire.ensures.kept, c.meet.ensures.met) (omega (arith, few, length-map bins (join bin.b), c.requires.held.within))
+    let few = few_after c.args.before (joined c.args.bin.now.b c.args.ring.now.entries) in
+    rw (c.retire.ensures.kept, c.meet.ensures.met) (omega (arith, few, length-map c.args.ring.now.entries (join c.args.bin.now.b), c.requires.held.within))
 
 pub returns-then-bin-before-clause-sum : goal.returns-then-bin-before-clause-sum
 returns-then-bin-before-clause-sum c =
-    let bin = c.args.bin.now in
-    let bins = c.args.ring.now.entries in
     let counted = rw c.meet.ensures.met at c.count_closed.ensures.sum in
     rw (c.retire.ensures.kept, c.meet.ensures.met)
-    (omega (arith, c.count_bin.ensures.sum, counted, photons_kept c.args.before (joined bin.b bins), photons_joined bin.b bins, photons_push bins bin))
+    (omega (arith, c.count_bin.ensures.sum, counted, photons_kept c.args.before (joined c.args.bin.now.b c.args.ring.now.entries), photons_joined c.args.bin.now.b c.args.ring.now.entries, photons_push c.args.ring.now.entries c.args.bin.now))
 
 pub returns-else-bin-before-clause-cells : goal.returns-else-bin-before-clause-cells
 returns-else-bin-before-clause-cells c = search (rules, arith, of_late)
 
 pub returns-else-bin-before-clause-kept : goal.returns-else-bin-before-clause-kept
 returns-else-bin-before-clause-kept c =
-    let bin = c.args.bin.now in
-    let bins = c.args.ring.now.entries in
     rw (c.push.ensures.pushed, c.retire.ensures.kept, c.meet.ensures.met)
-    (ap (λ es. ring_of es c.args.ring.now.reach) (kept_long c.args.before (joined bin.b bins) bin c.if-bin-before.false))
+    (ap (λ es. ring_of es c.args.ring.now.reach) (kept_long c.args.before (joined c.args.bin.now.b c.args.ring.now.entries) c.args.bin.now c.if-bin-before.false))
 
 pub returns-else-bin-before-clause-within : goal.returns-else-bin-before-clause-within
 returns-else-bin-before-clause-within c =
-    let bin = c.args.bin.now in
-    let bins = c.args.ring.now.entries in
     let rising = rw (c.retire.ensures.kept, c.meet.ensures.met) at c.retire.ensures.rising in
-    let few = room_left c.args.before bin.index c.args.ring.now.reach (joined bin.b bins) rising
-    (below_joined bin.b bin.index bins c.requires.held.above) c.if-bin-before.false c.requires.near in
+    let few = room_left c.args.before c.args.bin.now.index c.args.ring.now.reach (joined c.args.bin.now.b c.args.ring.now.entries) rising
+    (below_joined c.args.bin.now.b c.args.bin.now.index c.args.ring.now.entries c.requires.held.above) c.if-bin-before.false c.requires.near in
     rw (c.push.ensures.pushed, c.retire.ensures.kept, c.meet.ensures.met)
-    (omega (arith, few, length-append (filter (λ e. nat_le c.args.before e.index) (joined bin.b bins)) (bin ∷ [])))
+    (omega (arith, few, length-append (filter (λ e. nat_le c.args.before e.index) (joined c.args.bin.now.b c.args.ring.now.entries)) (c.args.bin.now ∷ [])))
 
 pub returns-else-bin-before-clause-sum : goal.returns-else-bin-before-clause-sum
 returns-else-bin-before-clause-sum c =
-    let bin = c.args.bin.now in
-    let bins = c.args.ring.now.entries in
     let counted = rw c.meet.ensures.met at c.count_closed.ensures.sum in
     rw (c.push.ensures.pushed, c.retire.ensures.kept, c.meet.ensures.met)
-    (omega (arith, counted, photons_kept c.args.before (joined bin.b bins), photons_joined bin.b bins, photons_push bins bin, photons_push (filter (λ e. nat_le c.args.before e.index) (joined bin.b bins)) bin))
+    (omega (arith, counted, photons_kept c.args.before (joined c.args.bin.now.b c.args.ring.now.entries), photons_joined c.args.bin.now.b c.args.ring.now.entries, photons_push c.args.ring.now.entries c.args.bin.now, photons_push (filter (λ e. nat_le c.args.before e.index) (joined c.args.bin.now.b c.args.ring.now.entries)) c.args.bin.now))

@@ -9,6 +9,6 @@ pub returns-in-Some : goal.returns-in-Some
 returns-in-Some g c = record {
   follows = λ came can.
       let may = end_shut _ _ _ c.in-Some.is came can in
-      rw can.was.2 (record { shut = refl; ring = c.shut.ensures.ring _ _ may.keep; cells = c.shut.ensures.cells _ _ may });
+      rw can.was.2 (record { shut = refl; ring = c.shut.ensures.shuts.ring _ _ may.keep; cells = c.shut.ensures.shuts.cells _ _ may });
   steps = c.shut.ensures.steps;
 }
