@@ -23,7 +23,7 @@ pub range_few : (f : ℕ → ℕ) (most n : ℕ) → ((q : ℕ) → f q ≤ most
 range_few f most n low = (rw length-range_with_len at (sum_by-le f most (range_with_len 0 n) (search (rules, low))))
 
 -- two ranges as one
-range_parts : (f : ℕ → ℕ) (n m : ℕ) → sum_by f (range_with_len 0 (n + m)) ≡ sum_by f (range_with_len 0 n) + sum_by (λ q. f (n + q)) (range_with_len 0 m)
+pub range_parts : (f : ℕ → ℕ) (n m : ℕ) → sum_by f (range_with_len 0 (n + m)) ≡ sum_by f (range_with_len 0 n) + sum_by (λ q. f (n + q)) (range_with_len 0 m)
 range_parts f n zero = search (rules, arith)
 range_parts f n (suc m) =
     let one : n + suc m ≡ suc (n + m) = omega arith in
@@ -39,7 +39,7 @@ by_lanes f lanes (suc rows) =
     (sum_by-same _ _ (range_with_len 0 lanes) (λ q. range_next (λ r. f (lanes * r + q)) rows))
 
 -- of a sum over places one counts
-one_place : (f : ℕ → ℕ) (base k w a n : ℕ) → sum_by (λ q. f (base + q) * cond (eqb (k + 0) (base + q)) w 0) (range_with_len a n)
+pub one_place : (f : ℕ → ℕ) (base k w a n : ℕ) → sum_by (λ q. f (base + q) * cond (eqb (k + 0) (base + q)) w 0) (range_with_len a n)
     ≡ cond (leb (base + a) k && ltb k (base + a + n)) (f k * w) 0
 one_place f base k w a zero = grind (arith, nat_tests)
 one_place f base k w a (suc n) = grind (arith, common_steps, sum_by-cons, one_place f base k w (a + 1) n)

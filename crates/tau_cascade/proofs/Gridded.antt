@@ -1,14 +1,32 @@
 -- What a ring keeps of the bins of a grid.
-use Rattle.std.{proofs.Common.{◌≡◌, ◌∙◌, ℕ, zero, suc, ◌+◌, ◌-◌, ◌*◌, ◌<◌, ◌≤◌, Bool, true, false, ◌&&◌, cond, leb, ltb, List, [], ◌∷◌, ◌++◌, length, map, refl, sym, arith, rules}, specs.List.{sum_by, filter, AllByRecursion, range_with_len}, proofs.lemmas.Bool.Decides.nat_tests, proofs.lemmas.List.Elements.filter-append, proofs.lemmas.List.Sums.{sum_by-cons, sum_by-append}, proofs.lemmas.Grind.common_steps}
+use Rattle.std.{proofs.Common.{◌≡◌, ◌∙◌, ℕ, zero, suc, ◌+◌, ◌-◌, ◌*◌, ◌<◌, ◌≤◌, Bool, true, false, ◌&&◌, cond, eqb, leb, ltb, min, List, [], ◌∷◌, ◌++◌, length, map, refl, sym, arith, rules}, specs.List.{sum_by, filter, AllByRecursion, range_with_len}, proofs.lemmas.Bool.Decides.nat_tests, proofs.lemmas.List.Elements.filter-append, proofs.lemmas.List.Sums.{sum_by-cons, sum_by-append, sum_by-le-sum_by}, proofs.lemmas.Grind.common_steps}
 use Rattle.tally_base.{specs.Settings.CorrelationView, specs.Tally.History}
-use Rattle.lag_ring.{specs.declared.ring.Entry.Entry, specs.declared.window.Side.{Side, TheVariants.{First, Second}}, specs.Bytes.{weight_of, weight_at}, specs.Ring.{Ring, ring, IsRising, weight_where}, proofs.Lists.{all_front, all_back, all_join, all_passed}, proofs.Rising.{all_weaker}, proofs.Sums.{sum_by-agree, sum_by-zero, sum_by-filter, sum_by-same}, proofs.Between.few_kept}
-use Rattle.tau_cascade.{proofs.Dots.{below_range, by_bins}, proofs.Follows.weigh, specs.Levels.RingIs, specs.Correlation.{bin}, specs.declared.grid.Grid.Grid, specs.Bins.{merged_all}, specs.Grid.{Stands, bin_at, bins_from, kept_and, photons}, proofs.Keeping.rising_filter}
+use Rattle.lag_ring.{specs.declared.ring.Entry.Entry, specs.declared.window.Side.{Side, TheVariants.{First, Second}}, specs.Bytes.{weight_of, weight_at}, specs.Ring.{Ring, ring, IsRising, weight_where}, proofs.Lists.{all_front, all_back, all_join, all_passed}, proofs.Rising.{all_weaker}, proofs.Sums.{sum_by-agree, sum_by-plus, sum_by-zero, sum_by-filter, sum_by-same}, proofs.Between.few_kept}
+use Rattle.tau_cascade.{proofs.Dots.{below_range, range_few, range_agree, one_place, by_bins}, proofs.Follows.weigh, specs.Levels.RingIs, specs.Correlation.{bin}, specs.declared.grid.Grid.Grid, specs.Bins.{merged_all}, specs.Grid.{Stands, bin_at, bins_from, kept_and, photons, filled}, proofs.Keeping.rising_filter}
+
+-- bins have at most so many places that have photons as they are
+filled_bins : (base n : ℕ) (us : List Entry) → sum_by (λ p. min 1 (weight_at First 0 base p us + weight_at Second 0 base p us)) (range_with_len 0 n) ≤ length us
+filled_bins base n [] = omega (arith, range_few (λ p. 0) 0 n (λ q. omega arith))
+filled_bins base n (e ∷ us) =
+    let old : ℕ → ℕ = λ p. min 1 (weight_at First 0 base p us + weight_at Second 0 base p us) in
+    let here : ℕ → ℕ = λ p. 1 * cond (eqb (e.index + 0) (base + p)) 1 0 in
+    let more = sum_by-le-sum_by (λ p. min 1 (weight_at First 0 base p (e ∷ us) + weight_at Second 0 base p (e ∷ us))) (λ p. old p + here p) (range_with_len 0 n)
+    (λ p. grind (arith, nat_tests, sum_by-cons (λ (f : Entry). cond (eqb (f.index + 0) (base + p)) f.a 0) e us, sum_by-cons (λ (f : Entry). cond (eqb (f.index + 0) (base + p)) f.b 0) e us)) in
+    grind (arith, more, sum_by-plus old here (range_with_len 0 n), one_place (λ q. 1) base e.index 1 0 n, filled_bins base n us)
 
 merged_weight_all : (side : Side) (test : ℕ → Bool) (es : List Entry) → weight_where (weight_of side) test (merged_all es) ≡ weight_where (weight_of side) test es
 merged_weight_all side test [] = refl
 merged_weight_all side test (e ∷ es) =
     let h : Entry → ℕ = λ f. cond (test f.index) (weight_of side f) 0 in
     weigh h (λ f g same. rw (← same) (search (rules, arith))) e es ∙ sym (sum_by-cons h e es)
+
+-- a grid has no more places with photons than it stands for bins
+pub filled_few : (g : Grid) (es : List Entry) (n : ℕ) → n ≤ 4096 → Stands g es → sum_by (filled g.firsts g.seconds) (range_with_len 0 n) ≤ length (merged_all es)
+filled_few g es n within stands =
+    let weight = λ (side : Side) (p : ℕ). merged_weight_all side (λ i. eqb (i + 0) (g.base + p)) es in
+    let same = range_agree (filled g.firsts g.seconds) (λ p. min 1 (weight_at First 0 g.base p (merged_all es) + weight_at Second 0 g.base p (merged_all es))) n
+    (λ p inside. rw (stands.firsts p (omega arith), stands.seconds p (omega arith), weight First p, weight Second p) refl) in
+    rw same (filled_bins g.base n (merged_all es))
 
 -- bins that have photons, and nothing where a test passes, are all where it doesn't
 none_pass : (test : ℕ → Bool) (us : List Entry) → AllByRecursion (λ e. ltb 0 (photons e) ≡ true) us → ((side : Side) → weight_where (weight_of side) test us ≡ 0)

@@ -1,6 +1,6 @@
 -- The weights of bins by index, where bins are dense.
-use Rattle.std.{specs.Prelude.{ℕ, ◌≡◌, ◌+◌, ◌-◌, ◌*◌, ◌%◌, ◌^◌, ◌<◌, ◌≤◌, nat_lt, nat_le, List, [], ◌++◌, map, filter, sum_by, slice_index}, specs.List.{AllByRecursion, range_with_len}}
-use Rattle.lag_ring.{specs.declared.ring.Entry.Entry, specs.declared.window.Side.{Side, TheVariants.{First, Second}}, specs.Bytes.weight_at}
+use Rattle.std.{specs.Prelude.{ℕ, ◌≡◌, ◌+◌, ◌-◌, ◌*◌, ◌%◌, ◌^◌, ◌<◌, ◌≤◌, if◌then◌else◌, ◌/◌, nat_lt, nat_le, min, List, [], ◌++◌, map, filter, sum_by, slice_index}, specs.List.{AllByRecursion, range_with_len}}
+use Rattle.lag_ring.{specs.declared.ring.Entry.Entry, specs.declared.window.Side.{Side, TheVariants.{First, Second}}, specs.Bytes.{weight_of, weight_at}}
 use Rattle.tau_cascade.{specs.declared.grid.Grid.Grid, specs.declared.level.Coming.Coming, specs.Opens.closed_bins}
 
 -- places, of which the first is that of an index, have the weights of bins on one side
@@ -34,6 +34,18 @@ pub record IsGrid (g : Grid) (es : List Entry) : Type 0 where
 pub record IsBeside (g : Grid) (coming : Coming) (bins : List Entry) : Type 0 where
   pub up : 0 < g.len → 0 < coming.levels
   pub grid : IsGrid g (closed_bins coming bins)
+
+-- bins have fewer photons of the first group than are too many
+abbrev pub FewFirsts : List Entry → Type 0
+FewFirsts es = sum_by (weight_of First) es < 2 ^ 15
+
+-- how many bins are multiplied of a list with so many: those, or a quarter as many as a grid that has them has places
+abbrev pub counted : Grid → ℕ → ℕ
+counted g bins = if nat_le 1 g.len then (g.len + 3) / 4 else bins
+
+-- 1 at a place that has photons, and else 0
+abbrev pub filled : List ℕ → List ℕ → ℕ → ℕ
+filled firsts seconds p = min 1 (slice_index firsts p + slice_index seconds p)
 
 -- what two neighbouring places have together, at one place behind so many others
 abbrev pub halved : ℕ → List ℕ → ℕ → ℕ

@@ -18,6 +18,15 @@ pub(crate) const LEVELS: usize = 40;
 /// How many bins are looked at for the usual distance.
 const SOME: usize = 64;
 
+/// The lags above some that are skipped, up to the last.
+#[derive(Clone, Copy)]
+pub(crate) struct LagRange {
+    /// How many of the first lags are skipped.
+    pub(crate) skipped: u32,
+    /// The last lag.
+    pub(crate) last: u32,
+}
+
 /// What is known of how near bins are to one another.
 #[derive(Clone, Copy)]
 pub(crate) struct Gaps {

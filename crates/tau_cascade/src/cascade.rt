@@ -73,7 +73,8 @@ impl Cascade {
     }
 
     /// The cells of a level, one for each of its lags from the least on. Beside them a level keeps at most
-    /// `lags` closed bins. The lists that it paired had together at most twice as many bins as have photons.
+    /// `lags` closed bins. The lists that it paired had together at most twice as many bins as have photons, where four
+    /// places of a grid count as a bin.
     pub fn level(&self, level: u32) -> &PairCells
         requires { level < (set_of self.now).levels }
         ensures cells { cells_at self.now level ≡ Some result.now }

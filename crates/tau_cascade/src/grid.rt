@@ -2,11 +2,11 @@
 // level.
 ghost use Rattle.std.{specs.Prelude.{◌≡◌, ℕ, ◌+◌, ◌-◌, ◌*◌, ◌/◌, ◌%◌, ◌^◌, ◌<◌, ◌≤◌, ◌==◌, true, false, List, [], ◌++◌, length, map, take, drop, nat_le, slice_index, sum_by, if◌then◌else◌}, specs.List.{AllByRecursion, range_with_len}, specs.Option.ForSome};
 ghost use Rattle.lag_ring.{specs.declared.window.Side.TheVariants.{First, Second}, specs.Bytes.weight_at};
-ghost use Rattle.tau_cascade.{specs.Bins.{raised, onto, IsSpaced}, specs.Dense.{ArePaired, IsZero}, specs.Grid.{HaveWeights, Stands, IsEmpty, photons, IsGrid, halved, product, dots, bins_from}};
+ghost use Rattle.tau_cascade.{specs.Bins.{raised, onto, IsSpaced, merged_all}, specs.Dense.{ArePaired, IsZero}, specs.Grid.{HaveWeights, Stands, IsEmpty, photons, IsGrid, halved, product, dots, bins_from, filled, FewFirsts, counted}};
 
-use crate::bins::{LIST, Last, MOST_LAGS};
+use crate::bins::{LIST, LagRange, Last, MOST_LAGS};
 use crate::laid::{PLACES, TOP, clear_window};
-use lag_ring::{Entry, Side, total_weight};
+use lag_ring::Entry;
 use std::simd::Simd;
 
 /// How many places a grid has.
@@ -20,6 +20,9 @@ const NOT_FEW: u64 = 8;
 
 /// How many places are multiplied at once.
 const LANES: usize = 16;
+
+/// How many places are counted at once.
+const ROW: usize = 128;
 
 /// The weights of bins by index.
 #[derive(Clone, Copy)]
@@ -176,6 +179,19 @@ fn dot_heavy(a: &[u16], b: &[u16]) -> u64
     sum
 }
 
+/// How many of these places have photons.
+#[inline(always)]
+fn count_filled(firsts: &[u16], seconds: &[u16]) -> u16
+    requires sized { (length seconds.now ≡ length firsts.now) × (length firsts.now < 2 ^ 16) }
+    ensures { result ≡ sum_by (filled firsts.now seconds.now) (range_with_len 0 (length firsts.now)) }
+{
+    let mut count = 0;
+    for at in 0..firsts.len() {
+        count += firsts[at].max(seconds[at]).min(1);
+    }
+    count
+}
+
 /// Adds the weights in the first group of bins, so many levels up, to the places of their indices in a window, where they
 /// have one: place `TOP` is that of the index `low`.
 fn put_firsts(window: &mut [u16], low: u64, bins: &[Entry], levels: u32)
@@ -307,9 +323,39 @@ impl Grid {
         self.len = at;
     }
 
+    /// Whether at least one place in eight has photons.
+    fn is_dense(&self) -> bool
+        requires { self.now.len ≤ SPAN }
+        ensures { result ≡ true → (es : List Entry) → Stands self.now es
+            → self.now.len ≤ 8 * length (merged_all es) }
+    {
+        let mut count = 0;
+        for row in 0..(self.len + ROW - 1) / ROW {
+            let at = ROW * row;
+            let more = count_filled(&self.firsts[at..at + ROW], &self.seconds[at..at + ROW]);
+            count += usize::from(more);
+            if self.len <= 8 * count {
+                return true;
+            }
+        }
+        false
+    }
+
+    /// Takes all bins out where fewer than one place in eight has photons.
+    fn clear_sparse(&mut self)
+        requires { ∥ ((es : List Entry) × Stands self.old es) ∥₁ }
+        ensures grid { (es : List Entry) → IsGrid self.old es → IsGrid self.new es }
+        ensures dense { (es : List Entry) → IsGrid self.new es
+            → self.new.len ≤ 8 * length (merged_all es) }
+    {
+        if !self.is_dense() {
+            self.clear();
+        }
+    }
+
     /// Goes on from the bins that came to a level, on the level below, to those that are closed on this one: makes one place of
     /// two, adds the open bin, and takes out those of the last bin. Where bins are in no grid, it takes them from the
-    /// list, if they are dense.
+    /// list. They stay in it if they are dense.
     pub(crate) fn follow(
         &mut self,
         was: &Option<Entry>,
@@ -330,6 +376,8 @@ impl Grid {
         requires here { AllByRecursion (λ e. e.index ≡ last.now.bin.index)
             (map (raised levels) (drop last.now.closed bins.now)) }
         ensures grid { IsGrid self.new (map (raised levels) (take last.now.closed bins.now)) }
+        ensures dense { self.new.len
+            ≤ 8 * length (merged_all (map (raised levels) (take last.now.closed bins.now))) }
         ensures zeros { IsZero window.new }
     {
         if self.len > 0 {
@@ -341,6 +389,7 @@ impl Grid {
         if self.len == 0 && last.closed > 0 {
             self.lay(&bins[..last.closed], levels);
         }
+        self.clear_sparse();
     }
 
     /// Makes one place of two, and adds the open bin, as far back as it is. Where there is no room for it, all bins are
@@ -366,27 +415,26 @@ impl Grid {
         }
     }
 
-    /// Puts into the sum of each lag above `skipped` and up to `lags` the products of the weights in the second group with
-    /// those so far before them in a window.
+    /// Puts into the sum of each lag of a range the products of the weights in the second group with those so far before
+    /// them in a window.
     fn put_dots(
         &self,
         sums: &mut [u128; MOST_LAGS],
         window: &[u16; PLACES],
-        skipped: u32,
-        lags: u32,
+        range: LagRange,
         rows: usize,
     )
-        requires lags { (skipped ≤ lags) × (lags ≤ MOST_LAGS) × (LANES * rows ≤ SPAN) }
-        ensures sums { (p : ℕ) → p < lags - skipped → slice_index sums.new p
-            ≡ dots window.now (TOP - (p + skipped + 1)) self.now.seconds (LANES * rows) }
+        requires lags { (range.skipped ≤ range.last) × (range.last ≤ MOST_LAGS) × (LANES * rows ≤ SPAN) }
+        ensures sums { (p : ℕ) → p < range.last - range.skipped → slice_index sums.new p
+            ≡ dots window.now (TOP - (p + range.skipped + 1)) self.now.seconds (LANES * rows) }
     {
         let len = LANES * rows;
         let behind = &self.seconds[..len];
-        let near = &window[TOP - lags as usize..TOP + len];
+        let near = &window[TOP - range.last as usize..TOP + len];
         let most = u64::from(most_of(near)) * u64::from(most_of(behind));
         let light = most * (rows as u64) < 1 << 16;
-        for p in 0..lags - skipped {
-            let from = TOP - (p + skipped + 1) as usize;
+        for p in 0..range.last - range.skipped {
+            let from = TOP - (p + range.skipped + 1) as usize;
             let part = &window[from..from + len];
             sums[p as usize] = u128::from(if light {
                 dot_light(part, behind, rows)
@@ -396,40 +444,49 @@ impl Grid {
         }
     }
 
-    /// Sums the pairs of the bins of a list, so many levels up, from `start` on with those before them, at the lags above
-    /// `skipped` and up to `lags`, and answers true; or false where the bins from `start` on are in no grid, or those before
-    /// them have too many photons.
+    /// Sums the pairs of the bins of a list, so many levels up, from `start` on, which it has, with those before them, at
+    /// the lags of a range.
     pub(crate) fn sum(
         &self,
         sums: &mut [u128; MOST_LAGS],
         window: &mut [u16; PLACES],
-        skipped: u32,
-        lags: u32,
+        range: LagRange,
         list: &[Entry],
         start: usize,
         levels: u32,
-    ) -> bool
-        requires lags { (skipped ≤ lags) × (lags ≤ MOST_LAGS) }
+    )
+        requires lags { (range.skipped ≤ range.last) × (range.last ≤ MOST_LAGS) }
         requires list { (start ≤ length list.now) × (levels < 64)
             × IsSpaced 0 (map (raised levels) list.now) }
-        requires grid { IsGrid self.now (drop start (map (raised levels) list.now)) }
+        requires grid { IsGrid self.now (drop start (map (raised levels) list.now))
+            × (0 < self.now.len) × FewFirsts (take start (map (raised levels) list.now)) }
         requires zeros { IsZero window.old × ((p : ℕ) → slice_index sums.old p ≡ 0) }
-        ensures sums { result ≡ true
-            → ArePaired skipped lags start sums.old sums.new (map (raised levels) list.now) }
-        ensures none { result ≡ false → sums.new ≡ sums.old }
+        ensures sums { ArePaired range.skipped range.last start sums.old sums.new (map (raised levels) list.now) }
         ensures zeros { IsZero window.new }
     {
-        let before = &list[..start];
-        if self.len == 0 || total_weight(Side::First, before) >= TOO_MANY {
-            return false;
-        }
         window[TOP..TOP + self.len].copy_from_slice(&self.firsts[..self.len]);
-        put_firsts(&mut window[..TOP + self.len], self.base, before, levels);
+        put_firsts(
+            &mut window[..TOP + self.len],
+            self.base,
+            &list[..start],
+            levels,
+        );
         // Behind the last place there are zeros.
         let rows = (self.len + LANES - 1) / LANES;
-        self.put_dots(sums, window, skipped, lags, rows);
+        self.put_dots(sums, window, range, rows);
         clear_window(window, self.len as u64 - 1);
-        true
+    }
+
+    /// How many bins are multiplied where a list has so many: those, or a quarter as many as a grid has places.
+    #[inline(always)]
+    pub(crate) fn counted(&self, bins: usize) -> usize
+        ensures { result ≡ counted self.now bins }
+    {
+        if self.is_on() {
+            self.len.div_ceil(4)
+        } else {
+            bins
+        }
     }
 
     /// The place from which on no bin is before an index, where there are bins, and a list has room for those from there on

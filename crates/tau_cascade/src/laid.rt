@@ -4,7 +4,7 @@ ghost use Rattle.std.{specs.Prelude.{◌≡◌, ℕ, ◌+◌, ◌-◌, ◌*◌, 
 ghost use Rattle.lag_ring.{specs.declared.window.Side.TheVariants.Second, specs.Bytes.{product_at, IsLight}};
 ghost use Rattle.tau_cascade.{specs.Dense.{laid, placed, IsLaid, IsZero, HavePaired, AreWithin, HaveRoom}, specs.Bins.{IsSpaced, raised}};
 
-use crate::bins::MOST_LAGS;
+use crate::bins::{LagRange, MOST_LAGS};
 use lag_ring::Entry;
 use std::simd::Simd;
 
@@ -261,38 +261,37 @@ fn sum_laid<const N: usize>(
     }
 }
 
-/// Adds the pairs of the bins of a list, so many levels up, from `start` on with those before them, at the lags above
-/// `skipped` and up to `lags`, to sums, and answers true. The last sum is that of the first lag. Where the first bin
-/// is further before those than the lags, or bins are too heavy, the answer is false.
+/// Adds the pairs of the bins of a list, so many levels up, from `start` on with those before them, at the lags of a range,
+/// to sums, and answers true. The last sum is that of the first lag. Where the first bin is further before those than the
+/// lags, or bins are too heavy, the answer is false.
 pub(crate) fn sum_part<const N: usize>(
     sums: &mut [u32; N],
     window: &mut [u16; PLACES],
-    skipped: u32,
-    lags: u32,
+    range: LagRange,
     list: &[Entry],
     start: usize,
     levels: u32,
 ) -> bool
-    requires lags { (skipped ≤ lags) × (lags ≤ MOST_LAGS) × (lags - skipped ≤ N)
+    requires lags { (range.skipped ≤ range.last) × (range.last ≤ MOST_LAGS) × (range.last - range.skipped ≤ N)
         × (N ≤ 64) }
     requires list { (start < length list.now) × (length list.now - start ≤ CLOSE_PART)
         × IsSpaced 0 (map (raised levels) list.now) × (levels < 64) }
     requires room { IsZero window.old × HaveRoom N (length list.now - start) sums.old }
-    ensures sums { result ≡ true → HavePaired N skipped lags sums.old sums.new
+    ensures sums { result ≡ true → HavePaired N range.skipped range.last sums.old sums.new
         start (map (raised levels) list.now) }
     ensures within { AreWithin N (length list.now - start) sums.old sums.new }
     ensures zeros { IsZero window.new }
 {
     let first = list[0].index >> levels;
     let span = (list[start].index >> levels) - first;
-    if span > u64::from(lags) {
+    if span > u64::from(range.last) {
         return false;
     }
     let mut places = [0; CLOSE_PART];
-    let laying = lay_all(window, &mut places, first, list, start, levels, lags);
+    let laying = lay_all(window, &mut places, first, list, start, levels, range.last);
     let light = laying.heaviest < TOO_HEAVY;
     if light {
-        let from = TOP - N - skipped as usize;
+        let from = TOP - N - range.skipped as usize;
         sum_laid(sums, window, &places, &list[start..], from, laying.heaviest);
     }
     clear_window(window, laying.last.place);

@@ -1,12 +1,12 @@
 // One level: its open bin, the ring of its last closed bins, and its cells.
-ghost use Rattle.std.{specs.Prelude.{◌≡◌, ◌+◌, ◌-◌, ◌*◌, ◌^◌, ◌<◌, ◌≤◌, filter, length, nat_le, sum_by, if◌then◌else◌, take, drop, [], ◌++◌, IfOk, map}, specs.List.AllByRecursion};
+ghost use Rattle.std.{specs.Prelude.{true, ◌≡◌, ◌+◌, ◌-◌, ◌*◌, ◌^◌, ◌<◌, ◌≤◌, filter, length, nat_le, take, drop, [], ◌++◌, IfOk, map}, specs.List.AllByRecursion};
 ghost use Rattle.lag_ring.specs.Ring.{IsRising, ring as ring_of};
 ghost use Rattle.tally_base.{specs.Settings.correlation_view, specs.Tally.History};
-ghost use Rattle.tau_cascade.{specs.Correlation.skipped_lags, specs.Bins.{raised, merged_at, merged_all, kept_of, FitCounts, IsSpaced, AreAlike, ComeAlike}, specs.Dense.IsZero, specs.Levels.{RingIs, CellsAre, paired_of}, specs.Grid.{IsEmpty, IsGrid, IsBeside, kept_and}, specs.Opens.{IsComing, coming_bins, closed_bins}};
+ghost use Rattle.tau_cascade.{specs.Correlation.skipped_lags, specs.Bins.{raised, merged_at, merged_all, kept_of, FitCounts, IsSpaced, AreAlike, ComeAlike}, specs.Dense.IsZero, specs.Levels.{RingIs, CellsAre, paired_of}, specs.Grid.{IsEmpty, IsGrid, IsBeside, FewFirsts, counted, kept_and}, specs.Opens.{IsComing, coming_bins, closed_bins}};
 
 use crate::bins::{
-    Gaps, LEVELS, LIST, apart_all, copy_into, cut_last, first_kept, heaviest_of, known_gaps,
-    lay_out, lower_open, lower_ring, merge,
+    Gaps, LEVELS, LIST, LagRange, apart_all, copy_into, cut_last, first_kept, heaviest_of,
+    known_gaps, lay_out, lower_open, lower_ring, merge,
 };
 use crate::grid::{Grid, SPAN, TOO_MANY};
 use crate::laid::PLACES;
@@ -26,7 +26,7 @@ pub struct Level {
     pub(crate) ring: LagRing,
     /// The pairs of each lag.
     pub(crate) cells: PairCells,
-    /// How many bins each list had that was paired, but for those in a grid, which has one place for each index.
+    /// How many bins each list had that was paired, or a quarter as many as the grid had places.
     pub(crate) paired: Noted<usize>,
     /// No bin of the ring has more photons of either group. Nothing that is counted depends on it.
     heaviest: u64,
@@ -112,17 +112,6 @@ fn keep_dense(
     heaviest_of(&spare[..end])
 }
 
-/// Notes how many bins a list has that is paired. Those in a grid are not noted, which has one place for each index.
-#[inline(always)]
-fn note_list(paired: &mut Noted<usize>, grid: &Grid, count: usize)
-    ensures { sum_by (λ n. n) paired.new.items
-        ≡ sum_by (λ n. n) paired.old.items + (if nat_le 1 grid.now.len then 0 else count) }
-{
-    if !grid.is_on() {
-        paired.note(&[count]);
-    }
-}
-
 /// Merges bins that a level closes, in their list, unless they are in a grid: where half may share one, or bins that
 /// wait there are not light. That a level `level` closes them is for the clauses alone.
 fn merge_many(list: &mut [Entry], level: u32, closing: Coming, grid: &Grid, light: bool) -> Coming
@@ -130,13 +119,14 @@ fn merge_many(list: &mut [Entry], level: u32, closing: Coming, grid: &Grid, ligh
         × (0 < closing.closed.count) × (level < LEVELS) × (length list.old ≡ LIST) }
     requires bins { IsSpaced 0 (coming_bins closing list.old)
         × FitCounts (merged_all (coming_bins closing list.old))
-        × IsGrid grid.now (coming_bins closing list.old) }
+        × IsGrid grid.now (coming_bins closing list.old)
+        × (grid.now.len ≤ 8 * length (merged_all (coming_bins closing list.old))) }
     ensures comes { IsComing result (level + 1) list.new × (result.levels ≤ level + 1)
         × (0 < result.closed.count) × (result.closed.from ≡ closing.closed.from)
         × (result.levels ≤ closing.levels) }
     ensures bins { AreAlike (coming_bins closing list.old) (coming_bins result list.new) }
     ensures grid { IsGrid grid.now (coming_bins result list.new) }
-    ensures few { grid.now.len ≡ 0 → length (coming_bins result list.new)
+    ensures few { counted grid.now (length (coming_bins result list.new))
         ≤ 2 * length (merged_all (coming_bins closing list.old)) }
 {
     let Closed { from, count } = closing.closed;
@@ -177,9 +167,12 @@ impl Level {
 
     /// Whether the bins of the ring are so light that those that come may go into a grid.
     #[inline(always)]
-    fn has_light_ring(&self) -> bool {
+    fn has_light_ring(&self) -> bool
+        ensures { result ≡ true → FewFirsts self.now.ring.entries }
+    {
         let (front, back) = self.ring.slices();
-        total_weight(Side::First, front) < TOO_MANY && total_weight(Side::First, back) < TOO_MANY
+        let more = total_weight(Side::First, back);
+        total_weight(Side::First, front).saturating_add(more) < TOO_MANY
     }
 
     /// Whether the bins that wait here are so light that those that come may stay unmerged.
@@ -214,12 +207,13 @@ impl Level {
             × (0 < apart → IsSpaced apart list.now) }
         requires room { (start < length list.now) × (length list.now ≤ length spare.old)
             × IsZero window.old × (length spare.old ≡ LIST) }
-        requires grid { IsGrid grid.now (drop start (map (raised levels) list.now)) }
+        requires grid { IsGrid grid.now (drop start (map (raised levels) list.now))
+            × (0 < grid.now.len → FewFirsts self.old.ring.entries) }
         requires stands { ∥ ((closed : History) × (xs : History) × CanShutAll
             (correlation_view set.now) level self.old.ring self.old.cells
             (merged_at start levels list.now) closed xs) ∥₁ }
-        requires few { grid.now.len ≡ 0
-            → length list.now - start ≤ 2 * length (merged_at start levels list.now) }
+        requires few { counted grid.now (length list.now - start)
+            ≤ 2 * length (merged_at start levels list.now) }
         ensures paired { paired_of self.new
             ≤ paired_of self.old + 2 * length (merged_at start levels list.now) }
         ensures ring { HoldsOfAll (correlation_view set.now) level self.old.ring self.old.cells
@@ -230,13 +224,16 @@ impl Level {
             × (steps.new + self.old.cells.added ≡ steps.old + self.new.cells.added) }
     {
         let skipped = skipped_lags(set, level);
-        note_list(&mut self.paired, grid, list.len() - start);
+        let range = LagRange {
+            skipped,
+            last: set.lags,
+        };
         pair_all(
             &mut self.cells,
+            &mut self.paired,
             window,
             grid,
-            skipped,
-            set.lags,
+            range,
             list,
             start,
             levels,
@@ -287,8 +284,8 @@ impl Level {
         let apart = apart_all(&list[from..first + 1], came.apart, levels, set.lags);
         let last = cut_last(&list[from..end], levels);
         // Bins behind a heavy ring go into no grid, so that they may be merged.
-        let dense = (grid.is_on() || level < DENSE_LEVELS) && self.has_light_ring();
-        if dense {
+        let dense = grid.is_on() || level < DENSE_LEVELS;
+        if dense && self.has_light_ring() {
             let bins = &list[from..end];
             grid.follow(&self.open, &list[first..end], bins, levels, &last, window);
         } else {
@@ -334,7 +331,9 @@ impl Level {
         requires room { (length list.old ≡ LIST) × (length spare.old ≡ LIST) × IsZero window.old
             × (length self.old.ring.entries ≤ closing.closed.from)
             × AllByRecursion (λ e. e.index * 2 ^ closing.levels < 2 ^ 64) self.old.ring.entries }
-        requires grid { IsGrid grid.now (coming_bins closing list.old) }
+        requires grid { IsGrid grid.now (coming_bins closing list.old)
+            × (0 < grid.now.len → FewFirsts self.old.ring.entries)
+            × (grid.now.len ≤ 8 * length (merged_all (coming_bins closing list.old))) }
         requires sorted { IsSpaced 0 (self.old.ring.entries ++ coming_bins closing list.old)
             × FitCounts (merged_all (coming_bins closing list.old)) }
         requires stands { ∥ ((shut : History) × (xs : History) × CanShutAll

@@ -1,12 +1,13 @@
 // Pairs of bins with those before them.
-ghost use Rattle.std.{specs.Prelude.{◌≡◌, ◌≢◌, true, false, ℕ, ◌+◌, ◌-◌, ◌*◌, ◌^◌, ◌<◌, ◌≤◌, length, map, take, drop, slice_index}, specs.List.{AllByRecursion}};
+ghost use Rattle.std.{specs.Prelude.{◌≡◌, ◌≢◌, true, false, ℕ, ◌+◌, ◌-◌, ◌*◌, ◌^◌, ◌<◌, ◌≤◌, length, map, take, drop, slice_index, sum_by}, specs.List.{AllByRecursion}};
 ghost use Rattle.lag_ring.specs.Cells.{Spends};
-ghost use Rattle.tau_cascade.{specs.Levels.weight_before, specs.Dense.{paired_from, ArePaired, AddsAtMost, AddsOnce, SameOutside, IsZero, HavePaired, AreWithin, HaveRoom}, specs.Bins.{IsSpaced, raised}, specs.Grid.IsGrid};
+ghost use Rattle.tau_cascade.{specs.Levels.weight_before, specs.Dense.{paired_from, ArePaired, AddsAtMost, AddsOnce, SameOutside, IsZero, HavePaired, AreWithin, HaveRoom}, specs.Bins.{IsSpaced, raised}, specs.Grid.{IsGrid, FewFirsts, counted}};
 
-use crate::bins::{MOST_LAGS, first_kept};
+use crate::bins::{LagRange, MOST_LAGS, first_kept};
 use crate::grid::Grid;
 use crate::laid::{CLOSE_PART, PLACES, sum_part};
 use lag_ring::{Entry, PairCells};
+use noted::Noted;
 use std::sync::ledger::Ledger;
 use tally_base::Steps;
 
@@ -83,50 +84,48 @@ fn is_apart(list: &[Entry], levels: u32, lags: u32) -> bool
 fn sum_near<const N: usize>(
     sums: &mut [u32; N],
     window: &mut [u16; PLACES],
-    skipped: u32,
-    lags: u32,
+    range: LagRange,
     list: &[Entry],
     start: usize,
     levels: u32,
 ) -> bool
-    requires lags { (skipped ≤ lags) × (lags ≤ MOST_LAGS) × (lags - skipped ≤ N)
+    requires lags { (range.skipped ≤ range.last) × (range.last ≤ MOST_LAGS) × (range.last - range.skipped ≤ N)
         × (N ≤ 64) }
     requires list { (start < length list.now) × (length list.now - start ≤ CLOSE_PART)
         × IsSpaced 0 (map (raised levels) list.now) × (levels < 64) }
     requires room { IsZero window.old × HaveRoom N (length list.now - start) sums.old }
-    ensures sums { result ≡ true → HavePaired N skipped lags sums.old sums.new
+    ensures sums { result ≡ true → HavePaired N range.skipped range.last sums.old sums.new
         start (map (raised levels) list.now) }
     ensures within { AreWithin N (length list.now - start) sums.old sums.new }
     ensures zeros { IsZero window.new }
 {
-    is_apart(list, levels, lags) || sum_part(sums, window, skipped, lags, list, start, levels)
+    is_apart(list, levels, range.last) || sum_part(sums, window, range, list, start, levels)
 }
 
 /// The same for a whole list, part by part.
 fn sum_parts<const N: usize>(
     sums: &mut [u32; N],
     window: &mut [u16; PLACES],
-    skipped: u32,
-    lags: u32,
+    range: LagRange,
     list: &[Entry],
     start: usize,
     levels: u32,
 ) -> bool
-    requires lags { (skipped ≤ lags) × (lags ≤ MOST_LAGS) × (lags - skipped ≤ N)
+    requires lags { (range.skipped ≤ range.last) × (range.last ≤ MOST_LAGS) × (range.last - range.skipped ≤ N)
         × (N ≤ 64) }
     requires list { (start ≤ length list.now) × (length list.now - start ≤ CLOSE_LIST)
         × IsSpaced 0 (map (raised levels) list.now) × (levels < 64) }
     requires zeros { IsZero window.old × ((q : ℕ) → q < N → slice_index sums.old q ≡ 0) }
-    ensures sums { result ≡ true → HavePaired N skipped lags sums.old sums.new
+    ensures sums { result ≡ true → HavePaired N range.skipped range.last sums.old sums.new
         start (map (raised levels) list.now) }
     ensures zeros { IsZero window.new }
 {
     let mut at = start;
     'parts: while at < list.len() {
         let end = list.len().min(at + CLOSE_PART);
-        let near = first_in_reach(list, at, list[at].index >> levels, levels, lags);
+        let near = first_in_reach(list, at, list[at].index >> levels, levels, range.last);
         let part = &list[near..end];
-        if !sum_near(sums, window, skipped, lags, part, at - near, levels) {
+        if !sum_near(sums, window, range, part, at - near, levels) {
             return false;
         }
         at = end;
@@ -140,44 +139,57 @@ fn sum_parts<const N: usize>(
 fn pair_close<L: Ledger, const N: usize>(
     cells: &mut PairCells,
     window: &mut [u16; PLACES],
-    skipped: u32,
-    lags: u32,
+    range: LagRange,
     list: &[Entry],
     start: usize,
     levels: u32,
     steps: &mut Steps<L>,
 ) -> bool
-    requires lags { (skipped ≤ lags) × (length cells.old.cells ≡ lags - skipped)
-        × (lags ≤ MOST_LAGS) × (lags - skipped ≤ 2 * N) × (N ≤ 64) }
+    requires lags { (range.skipped ≤ range.last) × (length cells.old.cells ≡ range.last - range.skipped)
+        × (range.last ≤ MOST_LAGS) × (range.last - range.skipped ≤ 2 * N) × (N ≤ 64) }
     requires list { (start ≤ length list.now) × IsSpaced 0 (map (raised levels) list.now)
         × (levels < 64) × IsZero window.old }
-    requires fits { (p : ℕ) → p < lags - skipped → slice_index cells.old.cells p
-        + paired_from start (p + skipped + 1) (map (raised levels) list.now) ≤ 2 ^ 80 }
-    ensures cells { result ≡ true → ArePaired skipped lags start
+    requires fits { (p : ℕ) → p < range.last - range.skipped → slice_index cells.old.cells p
+        + paired_from start (p + range.skipped + 1) (map (raised levels) list.now) ≤ 2 ^ 80 }
+    ensures cells { result ≡ true → ArePaired range.skipped range.last start
         cells.old.cells cells.new.cells (map (raised levels) list.now) }
     ensures none { result ≡ false → (cells.new ≡ cells.old) × (steps.new ≡ steps.old) }
-    ensures spends { Spends cells.old cells.new steps.old steps.new (lags - skipped)
+    ensures spends { Spends cells.old cells.new steps.old steps.new (range.last - range.skipped)
         × AddsAtMost 1 cells.old cells.new }
     ensures zeros { IsZero window.new }
 {
     if list.len() - start > CLOSE_LIST {
         return false;
     }
-    let middle = lags.min(skipped + N as u32);
+    let middle = range.last.min(range.skipped + N as u32);
+    let nearer = LagRange {
+        last: middle,
+        ..range
+    };
     let mut near = [0; N];
-    if !sum_parts(&mut near, window, skipped, middle, list, start, levels) {
+    if !sum_parts(&mut near, window, nearer, list, start, levels) {
         return false;
     }
-    if middle == lags {
-        add_sums(cells, 0, lags - skipped, &near, steps);
+    if middle == range.last {
+        add_sums(cells, 0, range.last - range.skipped, &near, steps);
         return true;
     }
+    let further = LagRange {
+        skipped: middle,
+        ..range
+    };
     let mut far = [0; N];
-    if !sum_parts(&mut far, window, middle, lags, list, start, levels) {
+    if !sum_parts(&mut far, window, further, list, start, levels) {
         return false;
     }
-    add_sums(cells, 0, middle - skipped, &near, steps);
-    add_sums(cells, middle - skipped, lags - middle, &far, steps);
+    add_sums(cells, 0, middle - range.skipped, &near, steps);
+    add_sums(
+        cells,
+        middle - range.skipped,
+        range.last - middle,
+        &far,
+        steps,
+    );
     true
 }
 
@@ -186,59 +198,57 @@ fn pair_lanes<L: Ledger>(
     cells: &mut PairCells,
     window: &mut [u16; PLACES],
     grid: &Grid,
-    skipped: u32,
-    lags: u32,
+    range: LagRange,
     list: &[Entry],
     start: usize,
     levels: u32,
     steps: &mut Steps<L>,
 ) -> bool
-    requires lags { (skipped ≤ lags) × (length cells.old.cells ≡ lags - skipped)
-        × (lags ≤ MOST_LAGS) }
+    requires lags { (range.skipped ≤ range.last) × (length cells.old.cells ≡ range.last - range.skipped)
+        × (range.last ≤ MOST_LAGS) }
     requires list { (start ≤ length list.now) × IsSpaced 0 (map (raised levels) list.now)
         × (levels < 64) × IsZero window.old }
-    requires fits { (p : ℕ) → p < lags - skipped → slice_index cells.old.cells p
-        + paired_from start (p + skipped + 1) (map (raised levels) list.now) ≤ 2 ^ 80 }
-    ensures cells { result ≡ true → ArePaired skipped lags start
+    requires fits { (p : ℕ) → p < range.last - range.skipped → slice_index cells.old.cells p
+        + paired_from start (p + range.skipped + 1) (map (raised levels) list.now) ≤ 2 ^ 80 }
+    ensures cells { result ≡ true → ArePaired range.skipped range.last start
         cells.old.cells cells.new.cells (map (raised levels) list.now) }
     ensures none { result ≡ false → (cells.new ≡ cells.old) × (steps.new ≡ steps.old) }
-    ensures spends { Spends cells.old cells.new steps.old steps.new (lags - skipped)
+    ensures spends { Spends cells.old cells.new steps.old steps.new (range.last - range.skipped)
         × AddsAtMost 1 cells.old cells.new }
     ensures zeros { IsZero window.new }
 {
     if grid.is_on() {
         return false;
     }
-    match lags - skipped {
-        0..=8 => pair_close::<L, 8>(cells, window, skipped, lags, list, start, levels, steps),
-        9..=16 => pair_close::<L, 16>(cells, window, skipped, lags, list, start, levels, steps),
-        _ => pair_close::<L, 64>(cells, window, skipped, lags, list, start, levels, steps),
+    match range.last - range.skipped {
+        0..=8 => pair_close::<L, 8>(cells, window, range, list, start, levels, steps),
+        9..=16 => pair_close::<L, 16>(cells, window, range, list, start, levels, steps),
+        _ => pair_close::<L, 64>(cells, window, range, list, start, levels, steps),
     }
 }
 
 /// Adds the pairs of so many photons of the second group at `index` with those of earlier bins, so many levels up, to the
-/// sums of the lags above `skipped` and up to `lags`.
+/// sums of the lags of a range.
 #[inline(always)]
 fn sum_one(
     sums: &mut [u128; MOST_LAGS],
-    skipped: u32,
-    lags: u32,
+    range: LagRange,
     bins: &[Entry],
     levels: u32,
     index: u64,
     weight: u64,
 )
-    requires lags { (lags ≤ skipped + MOST_LAGS) × (levels < 64) }
-    requires fits { (p : ℕ) → p < lags - skipped → slice_index sums.old p
-        + weight_before (p + skipped + 1) index (map (raised levels) bins.now) * weight < 2 ^ 128 }
-    ensures { (p : ℕ) → p < lags - skipped → slice_index sums.new p ≡ slice_index sums.old p
-        + weight_before (p + skipped + 1) index (map (raised levels) bins.now) * weight }
+    requires lags { (range.last ≤ range.skipped + MOST_LAGS) × (levels < 64) }
+    requires fits { (p : ℕ) → p < range.last - range.skipped → slice_index sums.old p
+        + weight_before (p + range.skipped + 1) index (map (raised levels) bins.now) * weight < 2 ^ 128 }
+    ensures { (p : ℕ) → p < range.last - range.skipped → slice_index sums.new p ≡ slice_index sums.old p
+        + weight_before (p + range.skipped + 1) index (map (raised levels) bins.now) * weight }
 {
     for bin in bins {
         let lag = index.saturating_sub(bin.index >> levels);
-        if lag > u64::from(skipped) && lag <= u64::from(lags) {
+        if lag > u64::from(range.skipped) && lag <= u64::from(range.last) {
             let pairs = u128::from(bin.a) * u128::from(weight);
-            sums[(lag - u64::from(skipped) - 1) as usize] += pairs;
+            sums[(lag - u64::from(range.skipped) - 1) as usize] += pairs;
         }
     }
 }
@@ -247,24 +257,23 @@ fn sum_one(
 /// `sum_one`.
 fn sum_each(
     sums: &mut [u128; MOST_LAGS],
-    skipped: u32,
-    lags: u32,
+    range: LagRange,
     list: &[Entry],
     start: usize,
     levels: u32,
 )
-    requires lags { lags ≤ skipped + MOST_LAGS }
+    requires lags { range.last ≤ range.skipped + MOST_LAGS }
     requires list { (start ≤ length list.now) × (levels < 64)
         × IsSpaced 0 (map (raised levels) list.now) }
-    requires fits { (p : ℕ) → p < lags - skipped → slice_index sums.old p
-        + paired_from start (p + skipped + 1) (map (raised levels) list.now) < 2 ^ 128 }
-    ensures { ArePaired skipped lags start sums.old sums.new (map (raised levels) list.now) }
+    requires fits { (p : ℕ) → p < range.last - range.skipped → slice_index sums.old p
+        + paired_from start (p + range.skipped + 1) (map (raised levels) list.now) < 2 ^ 128 }
+    ensures { ArePaired range.skipped range.last start sums.old sums.new (map (raised levels) list.now) }
 {
     for at in start..list.len() {
         let bin = list[at];
         let index = bin.index >> levels;
-        let near = first_in_reach(list, at, index, levels, lags);
-        sum_one(sums, skipped, lags, &list[near..at], levels, index, bin.b);
+        let near = first_in_reach(list, at, index, levels, range.last);
+        sum_one(sums, range, &list[near..at], levels, index, bin.b);
     }
 }
 
@@ -283,45 +292,49 @@ fn add_each<L: Ledger>(cells: &mut PairCells, count: u32, sums: &[u128], steps: 
     }
 }
 
-/// Pairs the bins of a list, so many levels up, from `start` on with those before them, at the lags above `skipped` and
-/// up to `lags`: over a grid, if they are in one, over a window in which they are laid close together, or else bin by
-/// bin. No two fall below the distance `apart`, as they stand in the list, where it isn't 0. Where that is out of reach,
-/// there are no pairs.
+/// Pairs the bins of a list, so many levels up, from `start` on with those before them, at the lags of a range: over a
+/// grid, if they are in one, over a window in which they are laid close together, or else bin by bin. No two fall below
+/// the distance `apart`, as they stand in the list, where it isn't 0. Where that is out of reach, there are no pairs.
+/// Notes how many bins that list has, or a quarter as many as the grid has places.
 pub(crate) fn pair_all<L: Ledger>(
     cells: &mut PairCells,
+    paired: &mut Noted<usize>,
     window: &mut [u16; PLACES],
     grid: &Grid,
-    skipped: u32,
-    lags: u32,
+    range: LagRange,
     list: &[Entry],
     start: usize,
     levels: u32,
     apart: u64,
     steps: &mut Steps<L>,
 )
-    requires lags { (skipped ≤ lags) × (length cells.old.cells ≡ lags - skipped)
-        × (lags ≤ MOST_LAGS) }
+    requires lags { (range.skipped ≤ range.last) × (length cells.old.cells ≡ range.last - range.skipped)
+        × (range.last ≤ MOST_LAGS) }
     requires list { (start ≤ length list.now) × IsSpaced 0 (map (raised levels) list.now)
         × (levels < 64) × IsZero window.old }
     requires apart { 0 < apart → IsSpaced apart list.now }
-    requires grid { IsGrid grid.now (drop start (map (raised levels) list.now)) }
-    requires fits { (p : ℕ) → p < lags - skipped → slice_index cells.old.cells p
-        + paired_from start (p + skipped + 1) (map (raised levels) list.now) ≤ 2 ^ 80 }
-    ensures cells { ArePaired skipped lags start cells.old.cells cells.new.cells
+    requires grid { IsGrid grid.now (drop start (map (raised levels) list.now))
+        × (0 < grid.now.len → FewFirsts (take start (map (raised levels) list.now))) }
+    requires fits { (p : ℕ) → p < range.last - range.skipped → slice_index cells.old.cells p
+        + paired_from start (p + range.skipped + 1) (map (raised levels) list.now) ≤ 2 ^ 80 }
+    ensures cells { ArePaired range.skipped range.last start cells.old.cells cells.new.cells
         (map (raised levels) list.now) }
-    ensures spends { Spends cells.old cells.new steps.old steps.new (lags - skipped)
+    ensures noted { sum_by (λ n. n) paired.new.items
+        ≡ sum_by (λ n. n) paired.old.items + counted grid.now (length list.now - start) }
+    ensures spends { Spends cells.old cells.new steps.old steps.new (range.last - range.skipped)
         × AddsAtMost 1 cells.old cells.new × IsZero window.new }
 {
-    if apart >> levels > u64::from(lags)
-        || pair_lanes(
-            cells, window, grid, skipped, lags, list, start, levels, steps,
-        )
+    paired.note(&[grid.counted(list.len() - start)]);
+    if apart >> levels > u64::from(range.last)
+        || pair_lanes(cells, window, grid, range, list, start, levels, steps)
     {
         return;
     }
     let mut sums = [0; MOST_LAGS];
-    if !grid.sum(&mut sums, window, skipped, lags, list, start, levels) {
-        sum_each(&mut sums, skipped, lags, list, start, levels);
+    if grid.is_on() {
+        grid.sum(&mut sums, window, range, list, start, levels);
+    } else {
+        sum_each(&mut sums, range, list, start, levels);
     }
-    add_each(cells, lags - skipped, &sums, steps);
+    add_each(cells, range.last - range.skipped, &sums, steps);
 }

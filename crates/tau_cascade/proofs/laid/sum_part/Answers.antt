@@ -39,10 +39,10 @@ returns-clause-sums g c = λ is p inside. elim c.if-light.branch [
       let start : ℕ = c.args.start in
       let places = c.lay_all-laying.new.places in
       let most : ℕ = c.lay_all-laying.result.last.place in
-      let k : ℕ = p + c.args.skipped + 1 in
+      let k : ℕ = p + c.args.range.skipped + 1 in
       let n : ℕ = g.row.N in
-      let from : 192 - n - c.args.skipped + (n - 1 - p) ≡ 192 - k = omega (arith, inside, c.requires.lags) in
-      let pairs = laid-paired (c.args.lags + 1) _ start (map (raised c.args.levels) list) (placed (drop start list) places) c.requires.list.2 e.places
+      let from : 192 - n - c.args.range.skipped + (n - 1 - p) ≡ 192 - k = omega (arith, inside, c.requires.lags) in
+      let pairs = laid-paired (c.args.range.last + 1) _ start (map (raised c.args.levels) list) (placed (drop start list) places) c.requires.list.2 e.places
       c.lay_all-laying.new.window most c.lay_all-laying.array_long e.near.1 (placed_upto (drop start list) places most e.near.0)
       (e.all.weights (omega (arith, w.if-light.true))) k (omega arith) (omega (arith, inside)) (omega (arith, inside, c.requires.lags)) in
       let sums = (rw (take_rest list start, from) at (w.sum_laid.ensures.sums (n - 1 - p) (omega (arith, inside, c.requires.lags)))) in

@@ -6,9 +6,9 @@ use Rattle.tau_cascade.proofs.pairing.sum_one.Goals as goal
 pub overflow_add-sums : goal.overflow_add-sums
 overflow_add-sums c =
     let a = c.args in
-    let p = c.saturating_sub-lag.result - a.skipped - 1 in
-    let k = p + a.skipped + 1 in
-    let inside : p < a.lags - a.skipped = search (rules, arith) in
+    let p = c.saturating_sub-lag.result - a.range.skipped - 1 in
+    let k = p + a.range.skipped + 1 in
+    let inside : p < a.range.last - a.range.skipped = search (rules, arith) in
     let more = weight_more a.bins.now a.levels c.loop-bin.bin-index no_bin c.loop-bin-test.true k a.index a.weight in
     let part = mul-le-mul_right a.weight (sum_by-take-le (λ (f : Entry). cond (eqb (f.index + k) a.index) f.a 0) (map (raised a.levels) a.bins.now) (c.loop-bin.bin-index + 1)) in
     let fits = c.requires.fits p inside in
@@ -16,7 +16,7 @@ overflow_add-sums c =
 
 pub loop-bin-preserved : goal.loop-bin-preserved
 loop-bin-preserved c = λ p inside.
-    let more = weight_more c.args.bins.now c.args.levels c.loop-bin.bin-index no_bin c.loop-bin-test.true (p + c.args.skipped + 1) c.args.index c.args.weight in
+    let more = weight_more c.args.bins.now c.args.levels c.loop-bin.bin-index no_bin c.loop-bin-test.true (p + c.args.range.skipped + 1) c.args.index c.args.weight in
     let was = c.loop-bin.invariant p inside in
     elim c.if-lag-from.branch [
       | then-lag-from+then-lag-from-2 w ↦ rw w.sums-is (grind (arith, common_steps))

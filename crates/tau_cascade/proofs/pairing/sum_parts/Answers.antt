@@ -27,6 +27,6 @@ parts-preserved g c =
       few = λ q inside. omega (arith, e.within q inside, inv.few q inside, long, near.ensures.place, more, inv.behind);
       sums = λ p inside.
           let next = paired_between a.levels list near.result at end no_bin near.ensures.place more upto c.requires.list.2
-          (p + a.skipped + 1) a.lags a.start (omega (arith, inside)) inv.behind near.ensures.far in
+          (p + a.range.skipped + 1) a.range.last a.start (omega (arith, inside)) inv.behind near.ensures.far in
           omega (arith, next, e.sums c.if-not-sum_near.false p inside, inv.sums p inside);
     }

@@ -8,7 +8,7 @@ invariant-parts g l = record {
   within : l.at ≤ length l.list;
   zeros : IsZero l.window;
   few : (q : ℕ) → q < g.row.N → get_or l.sums q 0 ≤ 4190209 * (l.at - l.start);
-  sums : HavePaired g.row.N l.skipped l.lags l.initial.sums l.sums l.start (take l.at (map (raised l.levels) l.list));
+  sums : HavePaired g.row.N l.range.skipped l.range.last l.initial.sums l.sums l.start (take l.at (map (raised l.levels) l.list));
 }
 
 abbrev pub decreases-parts : goal.decreases-parts

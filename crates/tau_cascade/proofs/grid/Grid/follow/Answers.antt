@@ -1,6 +1,6 @@
-use Rattle.std.{proofs.Common.{rules, map, take, arith}, proofs.lemmas.List.{take-map, length-take-le, map-append, take-append-drop}}
-use Rattle.tau_cascade.{specs.Bins.{raised}, specs.Grid.{IsGrid}, proofs.Passes.{spaced_take, raised-again}, proofs.Onward.{off_grid, last_inside}}
-use Rattle.tau_cascade.proofs.grid.Grid.follow.Goals.{Joined-self-gt0, Joined-self-gt0-2, then-self-gt0-2, else-self-gt0-2}
+use Rattle.std.{proofs.Common.{refl, rules, map, take, arith}, proofs.lemmas.List.{take-map, length-take-le, map-append, take-append-drop}}
+use Rattle.tau_cascade.{specs.Bins.{raised}, specs.Grid.{IsGrid}, proofs.Passes.{spaced_take, raised-again}, proofs.Onward.{off_grid, grid_some, last_inside}}
+use Rattle.tau_cascade.proofs.grid.Grid.follow.Goals.{Joined-self-eq0, Joined-self-gt0, Joined-self-gt0-2, then-self-gt0-2, else-self-gt0-2}
 use Rattle.tau_cascade.proofs.grid.Grid.follow.Goals as goal
 
 raised_here : (c : Joined-self-gt0) → IsGrid c.if-self-gt0.self (map (raised c.args.levels) c.args.bins.now)
@@ -27,5 +27,14 @@ lay-requires-clause-none c =
     let at' = goal.at.lay-requires-clause-none c in
     ((cut_here at'.Joined-self-gt0-2 (raised_here at'.Joined-self-gt0)).off c.if-self-eq0.true, c.if-self-eq0.true)
 
-pub returns-else-self-eq0-clause-grid : goal.returns-else-self-eq0-clause-grid
-returns-else-self-eq0-clause-grid c = search (rules, arith, cut_here, raised_here)
+closed_here : (c : Joined-self-eq0) → IsGrid c.if-self-eq0.self (map (raised c.args.levels) (take c.args.last.now.closed c.args.bins.now))
+closed_here c = search (rules, arith, cut_here, raised_here)
+
+pub clear_sparse-requires : goal.clear_sparse-requires
+clear_sparse-requires c = grid_some _ _ _ refl (closed_here (goal.at.clear_sparse-requires c).Joined-self-eq0)
+
+pub returns-clause-grid : goal.returns-clause-grid
+returns-clause-grid c = c.clear_sparse.ensures.grid _ (closed_here (goal.at.returns-clause-grid c).Joined-self-eq0)
+
+pub returns-clause-dense : goal.returns-clause-dense
+returns-clause-dense c = c.clear_sparse.ensures.dense _ (c.clear_sparse.ensures.grid _ (closed_here (goal.at.returns-clause-dense c).Joined-self-eq0))

@@ -17,16 +17,16 @@ dot_parts window seconds from n m fit = range_agree _ _ m (λ q inside. rw (part
 
 pub dot_light-requires-clause-light : goal.dot_light-requires-clause-light
 dot_light-requires-clause-light c =
-    let from : ℕ = 192 - (c.loop-p.p + c.args.skipped + 1) in
+    let from : ℕ = 192 - (c.loop-p.p + c.args.range.skipped + 1) in
     let len : ℕ = 16 * c.args.rows in
-    let near = part_few c.args.window.now from (from + len - from) (192 - c.args.lags) (192 + len - (192 - c.args.lags)) c.most_of.result
+    let near = part_few c.args.window.now from (from + len - from) (192 - c.args.range.last) (192 + len - (192 - c.args.range.last)) c.most_of.result
     (omega (arith, c.loop-p-test.true)) (omega (arith, c.loop-p-test.true, c.requires.lags)) c.most_of.ensures in
     ∣ (_, c.if-light.true, λ i. mul-le-mul (omega (arith, near i, c.from.ensures)) (omega (arith, c.most_of-2.ensures i, c.from-2.ensures))) ∣₁
 
 pub loop-p-preserved : goal.loop-p-preserved
 loop-p-preserved c =
     let window : List ℕ = c.args.window.now in
-    let from : ℕ = 192 - (c.loop-p.p + c.args.skipped + 1) in
+    let from : ℕ = 192 - (c.loop-p.p + c.args.range.skipped + 1) in
     let len : ℕ = 16 * c.args.rows in
     let parts = dot_parts window c.args.self.now.seconds from (from + len - from) len (omega arith) in
     let long : length (take (from + len - from) (drop from window)) ≡ len = search (rules, arith, length-take-le, length-drop) in

@@ -1,6 +1,6 @@
 use Rattle.std.{proofs.Common.{◌≡◌, ◌∙◌, ℕ, ◌+◌, ◌-◌, ◌*◌, ◌/◌, ◌<◌, ◌≤◌, ◌&&◌, leb, ltb, true, eqb, cond, List, ◌++◌, length, get_or, map, take, drop, sym, arith, rules}, specs.List.{sum_by, range_with_len}, proofs.lemmas.Bool.Decides.nat_tests, proofs.lemmas.List.{places, get_or_append_left, get_or-append_right, get_or-take, get_or-drop, length-take-le, take-append-drop, take-map}, proofs.lemmas.List.Sums.{sum_by-append, sum_by-le-sum_by}}
 use Rattle.lag_ring.{specs.declared.ring.Entry.Entry, specs.declared.window.Side.TheVariants.{First, Second}, specs.Bytes.{weight_of, weight_at}, proofs.Sums.{sum_by-agree, sum_by-same, sum_by-zero, window-before, weight_at-le}}
-use Rattle.tau_cascade.{proofs.Gridded.sum_by-map, proofs.Places.mid_put, specs.declared.grid.Grid.Grid, specs.Levels.weight_before, specs.Dense.paired, specs.Bins.{raised, IsSpaced}, specs.Grid.{photons, Stands}, proofs.Close.paired-all, proofs.Passes.spaced_back, proofs.Dots.{range_agree, by_bins}}
+use Rattle.tau_cascade.{proofs.Places.mid_put, specs.declared.grid.Grid.Grid, specs.Levels.weight_before, specs.Dense.paired, specs.Bins.{raised, IsSpaced}, specs.Grid.{photons, Stands}, proofs.Close.paired-all, proofs.Passes.spaced_back, proofs.Dots.{range_agree, by_bins}}
 use borrow.Rule.Slice.PartMut.{put_mid, post_of, same_len_mid, mid_len}
 use Rattle.tau_cascade.proofs.grid.Grid.sum.Goals as goal
 
@@ -79,22 +79,20 @@ module _ (g : Grid) (es : List Entry) (stands : Stands g es) (window part : List
 
 pub put_firsts-requires-clause-fit : goal.put_firsts-requires-clause-fit
 put_firsts-requires-clause-fit c =
-    let before = take c.args.start c.args.list.now in
-    let few = sum_by-map (weight_of First) (raised c.args.levels) before in
-    room c.args.self.now _ (c.requires.grid.on (omega (arith, c.if-self-eq0.false))) c.args.window.now _ (c.told-window, search (rules, arith))
-    c.copy_from_slice.ensures.after c.requires.zeros.0 (map (raised c.args.levels) before)
-    (omega (arith, few, c.total_weight.ensures.total, c.if-total_weight-ge-TOO_MANY.false))
+    room c.args.self.now _ (c.requires.grid.0.on c.requires.grid.1) c.args.window.now _ (c.told-window, search (rules, arith))
+    c.copy_from_slice.ensures.after c.requires.zeros.0 (map (raised c.args.levels) (take c.args.start c.args.list.now))
+    (rw (← take-map) c.requires.grid.2)
 
 pub clear_window-requires-clause-behind : goal.clear_window-requires-clause-behind
 clear_window-requires-clause-behind c = λ p from upto.
-    clear c.args.self.now _ (c.requires.grid.on (omega (arith, c.if-self-eq0.false))) c.args.window.now _ (c.told-window, search (rules, arith))
+    clear c.args.self.now _ (c.requires.grid.0.on c.requires.grid.1) c.args.window.now _ (c.told-window, search (rules, arith))
     c.copy_from_slice.ensures.after c.requires.zeros.0 _ _ (split c.args.levels c.args.start c.args.list.now) _ c.put_firsts.ensures.same
-    c.put_firsts.ensures.have p (omega (arith, from, c.if-self-eq0.false)) upto
+    c.put_firsts.ensures.have p (omega (arith, from, c.requires.grid.1)) upto
 
 pub returns-clause-sums : goal.returns-clause-sums
-returns-clause-sums c = λ is p inside.
-    let on = c.requires.grid.on (omega (arith, c.if-self-eq0.false)) in
+returns-clause-sums c = λ p inside.
+    let on = c.requires.grid.0.on c.requires.grid.1 in
     let found = pairs c.args.self.now _ on c.args.window.now _ (c.told-window, search (rules, arith)) c.copy_from_slice.ensures.after c.requires.zeros.0
     _ _ (split c.args.levels c.args.start c.args.list.now) _ c.put_firsts.ensures.same c.put_firsts.ensures.have ((c.args.self.now.len + 16 - 1) / 16)
-    (p + c.args.skipped + 1) (omega arith) (omega (arith, on.few)) (omega arith) (omega (arith, inside, c.requires.lags)) c.requires.list.2 in
+    (p + c.args.range.skipped + 1) (omega arith) (omega (arith, on.few)) (omega arith) (omega (arith, inside, c.requires.lags)) c.requires.list.2 in
     rw (take-map (raised c.args.levels) c.args.start c.args.list.now) (omega (arith, c.put_dots.ensures.sums p inside ∙ found, c.requires.zeros.1 p))

@@ -4,7 +4,7 @@ use Rattle.tau_cascade.{specs.Bins.{raised, stretch, merged_all}, specs.Opens.co
 use Rattle.tau_cascade.proofs.level.Level.close.Goals as goal
 
 pub merge_many-shut-requires-clause-bins : goal.merge_many-shut-requires-clause-bins
-merge_many-shut-requires-clause-bins g c = (spaced_back 0 c.args.self.now.ring.entries _ c.requires.sorted.0, c.requires.sorted.1, c.requires.grid)
+merge_many-shut-requires-clause-bins g c = (spaced_back 0 c.args.self.now.ring.entries _ c.requires.sorted.0, c.requires.sorted.1, c.requires.grid.0, c.requires.grid.2)
 
 pub lower_ring-start-requires-clause-fits : goal.lower_ring-start-requires-clause-fits
 lower_ring-start-requires-clause-fits g c =
@@ -40,16 +40,18 @@ shut-requires-clause-list g c =
     )
 
 pub shut-requires-clause-grid : goal.shut-requires-clause-grid
-shut-requires-clause-grid g c = rw (bins g (goal.at.shut-requires-clause-grid g c).After-lower_ring-start) c.merge_many-shut.ensures.grid
+shut-requires-clause-grid g c = (rw (bins g (goal.at.shut-requires-clause-grid g c).After-lower_ring-start) c.merge_many-shut.ensures.grid, c.requires.grid.1)
 
 pub shut-requires-clause-stands : goal.shut-requires-clause-stands
 shut-requires-clause-stands g c = rw (merged g (goal.at.shut-requires-clause-stands g c).After-lower_ring-start) c.requires.stands
 
 pub shut-requires-clause-few : goal.shut-requires-clause-few
-shut-requires-clause-few g c = λ off.
+shut-requires-clause-few g c =
     let at' = (goal.at.shut-requires-clause-few g c).After-lower_ring-start in
     let slice = take (c.merge_many-shut.result.closed.from + c.merge_many-shut.result.closed.count - c.lower_ring-start.result) (drop c.lower_ring-start.result c.lower_ring-start.new.list) in
-    rw (merged g at') (omega (arith, ap length (bins g at'), length-drop (c.merge_many-shut.result.closed.from - c.lower_ring-start.result) (map (raised c.merge_many-shut.result.levels) slice), length-map slice (raised c.merge_many-shut.result.levels), c.merge_many-shut.ensures.few off))
+    let size : length slice - (c.merge_many-shut.result.closed.from - c.lower_ring-start.result) ≡ length (coming_bins c.merge_many-shut.result c.merge_many-shut.new.list) =
+    omega (arith, ap length (bins g at'), length-drop (c.merge_many-shut.result.closed.from - c.lower_ring-start.result) (map (raised c.merge_many-shut.result.levels) slice), length-map slice (raised c.merge_many-shut.result.levels)) in
+    rw (merged g at', size) c.merge_many-shut.ensures.few
 
 pub returns-clause-paired : goal.returns-clause-paired
 returns-clause-paired g c = rw (← merged g (goal.at.returns-clause-paired g c).After-lower_ring-start) c.shut.ensures.paired

@@ -1,4 +1,4 @@
-use Rattle.std.{proofs.Common.{rules}, proofs.Common.{◌≡◌, ◌+◌, ◌<◌, [], ◌∷◌, ◌++◌, length, map, take, drop, refl, arith, slice_set}, proofs.Props.props, proofs.Math.Seq.{take-append_seam, drop-append_seam}, proofs.Math.Logic.{∥∥₁_map, ∥∥₁_elim}, proofs.lemmas.List.{take_more_set, length-take-le, length-set}}
+use Rattle.std.{proofs.Common.{rules}, proofs.Common.{◌≡◌, ◌+◌, ◌<◌, [], ◌∷◌, ◌++◌, length, map, take, drop, refl, arith, slice_set}, proofs.Props.props, proofs.lemmas.Bool.Decides.nat_tests, proofs.Math.Seq.{take-append_seam, drop-append_seam}, proofs.Math.Logic.{∥∥₁_map, ∥∥₁_elim}, proofs.lemmas.List.{take_more_set, length-take-le, length-set}}
 use Rattle.tally_base.specs.Settings.{correlation_view}
 use Rattle.tau_cascade.{specs.Bins.{raised}, proofs.{Paired.occupied_all, Follows.{raised-none, finish_open, finish_shut}, Spread.{spaced-prop, spaced_join}}, proofs.level.Level.end.Goals.{After-lay_out-from}, proofs.level.Level.end.Given.{Over}}
 use Rattle.tau_cascade.proofs.level.Level.end.Goals as goal
@@ -28,7 +28,7 @@ shut-requires g c =
       );
       room = search (rules, arith, length-take-le, length-set);
       grid = search (rules, arith);
-      few = λ off. rw (alone g at') (omega (arith, long));
+      few = rw (alone g at') (grind (arith, nat_tests, long));
       stands = rw (alone g at') (∥∥₁_map c.requires.stands (λ w. (w.0, w.1, finish_shut _ _ _ _ c.in-Some.is _ _ w.2)));
     }
 

@@ -15,7 +15,7 @@ pub keep_dense-self-requires : goal.keep_dense-self-requires
 keep_dense-self-requires g c =
     let at = c.place_from.ensures c.in-Some.place c.in-Some.is in
     let here = standing g (goal.at.keep_dense-self-requires g c).After-saturating_sub-before in
-    let kept = dense_stands here _ c.requires.stands c.args.grid.now c.in-Some.place (c.requires.grid.on at.0) at.1 in
+    let kept = dense_stands here _ c.requires.stands c.args.grid.now c.in-Some.place (c.requires.grid.0.on at.0) at.1 in
     record { grid = search (rules, arith); spare = search (rules, arith, at.2, kept.2); rising = kept.0; room = kept.1 }
 
 pub keep-self-requires : goal.keep-self-requires
@@ -29,7 +29,7 @@ returns-clause-ring g c = λ closed xs can.
     elim c.match-place_from.branch [
       | in-Some w ↦
           let at = c.place_from.ensures w.in-Some.place w.in-Some.is in
-          rw (w.self-is, w.keep_dense-self.ensures) (dense_near here _ closed xs can c.args.grid.now w.in-Some.place (c.requires.grid.on at.0) at.1)
+          rw (w.self-is, w.keep_dense-self.ensures) (dense_near here _ closed xs can c.args.grid.now w.in-Some.place (c.requires.grid.0.on at.0) at.1)
       | in-None w ↦ rw (w.self-is, w.keep-self.ensures) (keeps_near here _ closed xs can).1
     ]
 

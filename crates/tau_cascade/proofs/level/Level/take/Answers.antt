@@ -1,6 +1,6 @@
-use Rattle.std.{proofs.Common.{rules}, proofs.Common.{◌≡◌, ◌+◌, ◌-◌, ◌*◌, ◌^◌, ◌<◌, ◌≤◌, [], length, map, take, drop, refl, sym, ap, ◌∙◌, arith}, proofs.Props.props, proofs.Math.Logic.{∥∥₁_map, ∥∥₁_elim}, proofs.lemmas.List.length-take}
-use Rattle.lag_ring.{proofs.Lists.{all_front, all_back}}
-use Rattle.tau_cascade.{proofs.Close.no_bin, specs.Bins.{raised, onto}, specs.Grid.IsGrid, specs.Dense.IsZero, proofs.Onward.{grid_some, off_grid, is_grid}, proofs.Few.near_few, proofs.Spread.{IsPut, same_behind, onto_few, spaced-prop, stretch_fit, all_here, came_here, is_cut, front_all, front_here, apart_closed, near_closed, upto, here_sorted, front_sorted, front_fit, weights_fit, few_closed, parts, may_close, none_closed, take_took}, proofs.level.Level.take.Goals.{After-lower_open-from, Joined-dense, then-dense, else-dense}, proofs.level.Level.take.Given.{Over}}
+use Rattle.std.{proofs.Common.{rules}, proofs.Common.{List, ◌≡◌, ◌+◌, ◌-◌, ◌*◌, ◌^◌, ◌<◌, ◌≤◌, [], length, map, take, drop, refl, sym, ap, ◌∙◌, arith}, proofs.Props.props, proofs.Math.Logic.{∥∥₁_map, ∥∥₁_elim}, proofs.lemmas.List.length-take}
+use Rattle.lag_ring.{specs.declared.ring.Entry.Entry, proofs.Lists.{all_front, all_back}}
+use Rattle.tau_cascade.{proofs.Close.no_bin, specs.Bins.{raised, onto, merged_all}, specs.Grid.{IsGrid, FewFirsts}, specs.Dense.IsZero, proofs.Onward.{grid_some, off_grid, is_grid}, proofs.Few.near_few, proofs.Spread.{IsPut, same_behind, onto_few, spaced-prop, stretch_fit, all_here, came_here, is_cut, front_all, front_here, apart_closed, near_closed, upto, here_sorted, front_sorted, front_fit, weights_fit, few_closed, parts, may_close, none_closed, take_took}, proofs.level.Level.take.Goals.{After-lower_open-from, Joined-dense, then-dense+then-has_light_ring, else-dense}, proofs.level.Level.take.Given.{Over}}
 use Rattle.tau_cascade.proofs.level.Level.take.Goals as goal
 
 pub lower_open-from-requires-clause-fits : goal.lower_open-from-requires-clause-fits
@@ -31,12 +31,17 @@ follow-requires-clause-list g c =
 pub clear-requires : goal.clear-requires
 clear-requires g c = grid_some _ _ _ refl c.requires.comes.3.grid
 
--- the grid stands for those that are closed, or has none
-grid_here : (g : Over) (c : Joined-dense g) → IsGrid c.if-dense.grid (map (raised c.args.came.levels) (take c.cut_last-last.result.closed
-    (take (c.args.came.closed.from + c.args.came.closed.count - c.lower_open-from.result) (drop c.lower_open-from.result c.lower_open-from.new.list))))
+-- the bins that are closed, as they stand in the list
+abbrev closing : (g : Over) (c : Joined-dense g) → List Entry
+closing g c = map (raised c.args.came.levels) (take c.cut_last-last.result.closed
+    (take (c.args.came.closed.from + c.args.came.closed.count - c.lower_open-from.result) (drop c.lower_open-from.result c.lower_open-from.new.list)))
+
+-- the grid stands for those, or has none
+grid_here : (g : Over) (c : Joined-dense g) → IsGrid c.if-dense.grid (closing g c) × (0 < c.if-dense.grid.len → FewFirsts c.args.self.now.ring.entries)
+    × (c.if-dense.grid.len ≤ 8 * length (merged_all (closing g c)))
 grid_here g c = elim c.if-dense.branch [
-  | then-dense w ↦ rw w.grid-is w.follow.ensures.grid
-  | else-dense w ↦ rw w.grid-is (off_grid _ [] _ (omega arith) (is_grid _ [] w.clear.ensures.0))
+  | then-dense+then-has_light_ring w ↦ rw w.grid-is (w.follow.ensures.grid, λ some. w.has_light_ring.ensures w.if-has_light_ring.true, w.follow.ensures.dense)
+  | else-dense w ↦ rw w.grid-is (off_grid _ [] _ (omega arith) (is_grid _ [] w.clear.ensures.0), λ some. absurd (omega (arith, w.clear.ensures.1)), omega (arith, w.clear.ensures.1))
 ]
 
 pub close-requires-clause-comes : goal.close-requires-clause-comes
@@ -128,6 +133,6 @@ returns-clause-comes g c =
       omega arith,
       record {
         up = λ some. omega arith;
-        grid = rw (up, front_here put _ few, ← front_all put _ few) (grid_here g (goal.at.returns-clause-comes g c).Joined-dense);
+        grid = rw (up, front_here put _ few, ← front_all put _ few) (grid_here g (goal.at.returns-clause-comes g c).Joined-dense).0;
       },
     )
