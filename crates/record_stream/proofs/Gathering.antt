@@ -1,6 +1,6 @@
 -- One word more in a block.
-use Rattle.std.{proofs.Common.{rules, ◌≡◌, ◌+◌, ◌*◌, ◌<◌, ◌≤◌, ℕ, List, [], ◌∷◌, ◌++◌, Bool, true, false, length, map, get_or, refl, sym, ap, ◌∙◌, add-zero, append-nil, append_assoc, length-append, arith, ◌&&◌, nat_le, count_by, nat_lt, if◌then◌else◌, ◌^◌, take, length-take-le, subst, All, not, IsTrue, max}, specs.Int.{from_le_bytes, w32}, proofs.lemmas.Bool.{cases_Bool, cases_lt, leb-true}, proofs.lemmas.List.Sums.{get_or-le-sum_by, sum_by-cons}, proofs.lemmas.List.Elements.{filter-append}, proofs.lemmas.List.{map_push, map-append}, proofs.Math.Seq.{get_or-append_seam, take-append_seam}}
-use Rattle.tally_base.{specs.declared.event.Event.Event, specs.declared.header.Mode.Mode, specs.Events.{stops_reserved, is_ordered}, specs.Limits.wrap_limit, specs.Columns.{event_by, rows, event_at, count, gathered, written}, specs.declared.block.Block.Block, specs.Tally.{moves_floor, floor_after, InOrder}, proofs.BlockRows.{length-rows, more_rows, rows-split}, proofs.Floors.floor-more}
+use Rattle.std.{proofs.Common.{rules, ◌≡◌, ◌+◌, ◌*◌, ◌<◌, ◌≤◌, le-leb, ℕ, List, [], ◌∷◌, ◌++◌, Bool, true, false, length, map, get_or, refl, sym, ap, ◌∙◌, add-zero, append-nil, append_assoc, arith, ◌&&◌, nat_le, count_by, nat_lt, if◌then◌else◌, ◌^◌, take, length-take-le, subst, All, not, IsTrue, max}, specs.Int.{from_le_bytes, w32}, proofs.lemmas.Bool.{cases_Bool, cases_lt, leb-true}, proofs.lemmas.List.Sums.{get_or-le-sum_by, sum_by-cons}, proofs.lemmas.List.Elements.{filter-append}, proofs.lemmas.List.{map_push, map-append}, proofs.Math.Seq.{get_or-append_seam}}
+use Rattle.tally_base.{specs.declared.event.Event.Event, specs.declared.header.Mode.Mode, specs.Events.{stops_reserved, is_ordered}, specs.Limits.wrap_limit, specs.Columns.{event_by, rows, count}, specs.Tally.{moves_floor, floor_after, InOrder}, proofs.BlockRows.{length-rows, more_rows, rows-split}, proofs.Floors.floor-more}
 use Rattle.ptu_definitions.{specs.declared.records.Raw.Raw, specs.Kinds.is_reserved, specs.Times.{event_of, amount}, specs.Layouts.Fits, specs.Words.numbers, specs.Streams.StreamSettings, proofs.WordsLemmas.meaning-fits, specs.Kept.{Marked, floor_of}}
 use Rattle.abs_time.{specs.Placing.{base_of, placed_by, IsClock, LeadsOn}, specs.Floors.orders_markers, proofs.Floors.{moves_by, moved_floor-push}}
 use Rattle.record_layout.{specs.declared.row.Row.Row, specs.Rowed.raw_of}
@@ -30,7 +30,7 @@ module _ (place base unit : ℕ) (row : Row) where
 -- What words mean, and one row more.
 
 -- counting by a test of what words mean, over their bytes
-count_by-meanings : (p : Raw → Bool) (meaning : ℕ → Raw) (words : List (List ℕ))
+pub count_by-meanings : (p : Raw → Bool) (meaning : ℕ → Raw) (words : List (List ℕ))
     → count_by (λ bytes. p (meaning (from_le_bytes w32 bytes))) words ≡ count_by p (map meaning (numbers words))
 count_by-meanings p meaning [] = refl
 count_by-meanings p meaning (bytes ∷ words) = search (rules, arith, sum_by-cons, count_by-meanings p meaning words)
@@ -49,58 +49,50 @@ pub none-reserved : (how : StreamSettings) (meaning : ℕ → Raw) (words : List
     → (is_reserved (how.meaning w) && stops_reserved how.policy.reserved) ≡ false
 none-reserved how meaning words i d w same lt is none = search (rules, arith, and_false, none-at, count_by-meanings)
 
-both : (a b : Bool) → (a && b) ≡ true → (a ≡ true) × (b ≡ true)
-both a b h = search (rules, arith)
+module _ (how : StreamSettings) (low base top base' top' n unit : ℕ) (es es' : List Event) (row : Row) (w : ℕ)
+    (base_is : base' ≡ base + unit * row.wraps) (top_is : top' ≡ greatest_with_row (ordered_below how.mode) top base row) (rises : top ≤ top')
+    (events_are : es' ≡ es ++ event_of (n + 1) base (raw_of unit row)) (means : raw_of unit row ≡ how.meaning w) where
+  on : IsOnTime how.mode top (event_of (n + 1) base (raw_of unit row))
+  on = on_time-row (n + 1) base unit row how.mode top (rw top_is at (le-leb top top' rises))
 
-module _ (how : StreamSettings) (low base top base' top' n unit : ℕ) (in_order in_order' : Bool) (es es' : List Event) (row : Row)
-    (base_is : base' ≡ base + unit * row.wraps) (top_is : top' ≡ greatest_with_row (ordered_below how.mode) top base row)
-    (in_order_is : in_order' ≡ (in_order && nat_le top top')) (events_are : es' ≡ es ++ event_of (n + 1) base (raw_of unit row)) where
-  pub in_line-more : (w : ℕ) → raw_of unit row ≡ how.meaning w → Fits how.mode (how.meaning w) → base ≤ wrap_limit → (in_order ≡ true → IsInLine how.mode low top es)
-      → in_order' ≡ true → IsInLine how.mode low top' es'
-  in_line-more w means fits few line sure =
-      let two = both in_order (nat_le top top') (sym in_order_is ∙ sure) in
-      let on = on_time-row (n + 1) base unit row how.mode top (rw top_is at two.1) in
+  pub in_line-more : Fits how.mode (how.meaning w) → base ≤ wrap_limit → IsInLine how.mode low top es → IsInLine how.mode low top' es'
+  in_line-more fits few line =
       rw (top_is, events_are, ← (greatest-row (n + 1) base unit row how.mode top))
-      (in_line-push how.mode low top (n + 1) base es (raw_of unit row) (line two.0) (rw means fits) few on)
+      (in_line-push how.mode low top (n + 1) base es (raw_of unit row) line (rw means fits) few on)
 
-  pub adds-more : (next : ℕ) (before ws : List ℕ) (w : ℕ) → next ≡ n + 1 → raw_of unit row ≡ how.meaning w
-      → unit * row.wraps ≡ amount (how.meaning w) → n < how.policy.records → base + unit * row.wraps ≤ wrap_limit
-      → (is_reserved (how.meaning w) && stops_reserved how.policy.reserved) ≡ false → (in_order ≡ true → Adds how n base top before ws es)
-      → in_order' ≡ true → Adds how next base' top' before (ws ++ w ∷ []) es'
-  adds-more next before ws w counted means amounts room few go adds sure =
-      let two = both in_order (nat_le top top') (sym in_order_is ∙ sure) in
-      let on = on_time-row (n + 1) base unit row how.mode top (rw top_is at two.1) in
-      let same : unit * row.wraps ≡ amount (raw_of unit row) = amounts ∙ ap amount (sym means) in
-      let pushed = adds-push how n base top before ws w es (adds two.0) room (raw_of unit row) means (rw means go) (rw (← same) few) on in
-      rw (counted, base_is, same, top_is, ← greatest-row (n + 1) base unit row how.mode top, events_are) pushed
+  module _ (next : ℕ) (ws : List ℕ) (counted : next ≡ n + 1) (amounts : unit * row.wraps ≡ amount (how.meaning w)) where
+    pub adds-more : (before : List ℕ) → n < how.policy.records → base + unit * row.wraps ≤ wrap_limit
+        → (is_reserved (how.meaning w) && stops_reserved how.policy.reserved) ≡ false → Adds how n base top before ws es
+        → Adds how next base' top' before (ws ++ w ∷ []) es'
+    adds-more before room few go adds =
+        let same : unit * row.wraps ≡ amount (raw_of unit row) = amounts ∙ ap amount (sym means) in
+        let pushed = adds-push how n base top before ws w es adds room (raw_of unit row) means (rw means go) (rw (← same) few) on in
+        rw (counted, base_is, same, top_is, ← greatest-row (n + 1) base unit row how.mode top, events_are) pushed
 
-  pub leads-more : (next : ℕ) (records : List Raw) (ws : List ℕ) (w : ℕ) → next ≡ n + 1 → raw_of unit row ≡ how.meaning w → unit * row.wraps ≡ amount (how.meaning w) → (in_order ≡ true → IsClock how.mode n base top (records ++ map how.meaning ws))
-      → in_order' ≡ true → IsClock how.mode next base' top' (records ++ map how.meaning (ws ++ w ∷ []))
-  leads-more next records ws w counted means amounts clock sure =
-      let two = both in_order (nat_le top top') (sym in_order_is ∙ sure) in
-      let on = on_time-row (n + 1) base unit row how.mode top (rw top_is at two.1) in
-      let pushed = clock-push how.mode n base top (records ++ map how.meaning ws) (raw_of unit row) (clock two.0) on in
-      rw (counted, base_is, amounts, top_is, map_push how.meaning ws w) (rw (greatest-row (n + 1) base unit row how.mode top, means, append_assoc) at pushed)
+    pub leads-more : (records : List Raw) → IsClock how.mode n base top (records ++ map how.meaning ws)
+        → IsClock how.mode next base' top' (records ++ map how.meaning (ws ++ w ∷ []))
+    leads-more records clock =
+        let pushed = clock-push how.mode n base top (records ++ map how.meaning ws) (raw_of unit row) clock on in
+        rw (counted, base_is, amounts, top_is, map_push how.meaning ws w) (rw (greatest-row (n + 1) base unit row how.mode top, means, append_assoc) at pushed)
 
 -- All events of a list, or those in order alone.
 pub chosen-append : (only : Bool) (mode : Mode) (xs ys : List Event) → chosen only mode (xs ++ ys) ≡ chosen only mode xs ++ chosen only mode ys
 chosen-append only mode xs ys = search (rules, arith, filter-append)
 
 -- nothing is gathered of no words
-pub gathers-none : (walk : Walk) (words : List (List ℕ)) (only : Bool) {in_order : Bool} (sum greatest : ℕ) (es : List Event) → words ≡ [] → es ≡ [] → sum ≡ base_of (clock_in walk) → sum ≤ wrap_limit → greatest ≡ greatest_of walk → Gathers walk words only in_order sum greatest es
+pub gathers-none : (walk : Walk) (words : List (List ℕ)) (only : Bool) (sum greatest : ℕ) (es : List Event) → words ≡ [] → es ≡ [] → sum ≡ base_of (clock_in walk) → sum ≤ wrap_limit → greatest ≡ greatest_of walk → Gathers walk words only sum greatest es
 gathers-none walk words only sum greatest es no_words none sum_is low greatest_is = search (rules, arith, append-nil, add-zero)
 
 -- where all events are gathered
-pub gathers-all : (walk : Walk) (words : List (List ℕ)) (in_order : Bool) (sum greatest : ℕ) (es : List Event)
-    → Gathers walk words false in_order sum greatest es → in_order ≡ true
-    → IsInLine (how_of walk).mode (greatest_of walk) greatest es × AddsBehind walk words sum greatest es
-gathers-all walk words in_order sum greatest es g sure = search (rules, arith)
+pub gathers-all : (walk : Walk) (words : List (List ℕ)) (sum greatest : ℕ) (es : List Event)
+    → Gathers walk words false sum greatest es → IsInLine (how_of walk).mode (greatest_of walk) greatest es × AddsBehind walk words sum greatest es
+gathers-all walk words sum greatest es g = search (rules, arith)
 
--- where none is late they lead the clock on
-pub gathers-lead : {walk : Walk} {words : List (List ℕ)} {only in_order : Bool} {sum greatest : ℕ} {es : List Event} (n : ℕ)
-    → Gathers walk words only in_order sum greatest es → in_order ≡ true → n ≡ placed_by (clock_in walk) + length words
+-- they lead the clock on
+pub gathers-lead : {walk : Walk} {words : List (List ℕ)} {only : Bool} {sum greatest : ℕ} {es : List Event} (n : ℕ)
+    → Gathers walk words only sum greatest es → n ≡ placed_by (clock_in walk) + length words
     → ∥ ((more : List Raw) × LeadsOn (clock_in walk) n sum greatest more) ∥₁
-gathers-lead {walk = walk} {words = words} n g sure count = ∣ (map (how_of walk).meaning (numbers words), rw count (g.leads sure)) ∣₁
+gathers-lead {walk = walk} {words = words} n g count = ∣ (map (how_of walk).meaning (numbers words), rw count g.leads) ∣₁
 
 -- What is gathered of one word more.
 
@@ -117,12 +109,12 @@ module _ (walk : Walk) (words : List (List ℕ)) (meaning : ℕ → Raw) (same :
   small = rw now.amounts (amount-small walk.record_type w)
 
   -- one word more
-  pub gathers-row : (in_order in_order' : Bool) (base base' top top' : ℕ) (es es' : List Event) → base + unit * row.wraps ≤ wrap_limit → base' ≡ base + unit * row.wraps
-      → top' ≡ greatest_with_row (ordered_below (how_of walk).mode) top base row → in_order' ≡ (in_order && nat_le top top')
+  pub gathers-row : (base base' top top' : ℕ) (es es' : List Event) → base + unit * row.wraps ≤ wrap_limit → base' ≡ base + unit * row.wraps
+      → top' ≡ greatest_with_row (ordered_below (how_of walk).mode) top base row → top ≤ top'
       → es' ≡ es ++ event_below (gathered_below only (how_of walk).mode) (placed_by (clock_in walk) + i + 1) base row
-      → Gathers walk (take i words) only in_order base top es → Gathers walk (take (i + 1) words) only in_order' base' top' es'
+      → Gathers walk (take i words) only base top es → Gathers walk (take (i + 1) words) only base' top' es'
   unfolding w
-  gathers-row in_order in_order' base base' top top' es es' few base_is top_is in_order_is es_are old =
+  gathers-row base base' top top' es es' few base_is top_is rises es_are old =
       let how = how_of walk in
       let n = placed_by (clock_in walk) + i in
       let more = event_of (n + 1) base (raw_of unit row) in
@@ -134,24 +126,22 @@ module _ (walk : Walk) (words : List (List ℕ)) (meaning : ℕ → Raw) (same :
       let room : n < how.policy.records = omega (arith, passes.room, walk.few_placed, lt) in
       let go = none-reserved how meaning words i [] w same lt refl passes.reserved in
       let places = places-push (placed_by (clock_in walk)) n base old.came (raw_of unit row) (rw count at old.places) in
+      let k = placed_by (clock_in walk) + length (take (i + 1) words) in
       record {
         limit = omega (arith, few, base_is);
         came = came;
         chosen = chosen_is;
         places = record { rises = places.rises; last = omega (arith, places.last, next) };
-        in_line = in_line-more how (greatest_of walk) base top base' top' n unit in_order in_order' old.came came row base_is top_is in_order_is refl w now.raw
+        in_line = in_line-more how (greatest_of walk) base top base' top' n unit old.came came row w base_is top_is rises refl now.raw
             (meaning-fits walk.record_type w) (omega (arith, few)) old.in_line;
-        leads = λ sure records h.
-            let so_far = λ (o : in_order ≡ true).
-            subst (λ m. IsClock m n base top (records ++ map how.meaning (numbers (take i words)))) walk.same_mode (rw count at (old.leads o records h)) in
-            let k = placed_by (clock_in walk) + length (take (i + 1) words) in
+        leads = λ records h.
+            let so_far = subst (λ m. IsClock m n base top (records ++ map how.meaning (numbers (take i words)))) walk.same_mode (rw count at (old.leads records h)) in
             subst (λ m. IsClock m k base' top' (records ++ map how.meaning (numbers (take (i + 1) words)))) (sym walk.same_mode)
-            (rw (numbers-more words i [] lt) (leads-more how (greatest_of walk) base top base' top' n unit in_order in_order' old.came came row base_is top_is
-            in_order_is refl k records (numbers (take i words)) w (omega (arith, next)) now.raw now.amounts so_far sure));
-        adds = λ sure before h. rw (numbers-more words i [] lt, ← append_assoc)
-            (adds-more how (greatest_of walk) base top base' top' n unit in_order in_order' old.came came row base_is top_is in_order_is refl
-            (placed_by (clock_in walk) + length (take (i + 1) words)) before (before ++ numbers (take i words)) w (omega (arith, next)) now.raw now.amounts
-            room few go (λ o. rw count at (old.adds o before h)) sure);
+            (rw (numbers-more words i [] lt) (leads-more how (greatest_of walk) base top base' top' n unit old.came came row w base_is top_is rises refl now.raw
+            k (numbers (take i words)) (omega (arith, next)) now.amounts records so_far));
+        adds = λ before h. rw (numbers-more words i [] lt, ← append_assoc)
+            (adds-more how (greatest_of walk) base top base' top' n unit old.came came row w base_is top_is rises refl now.raw
+            k (before ++ numbers (take i words)) (omega (arith, next)) now.amounts before room few go (rw count at (old.adds before h)));
       }
 
 -- The events of a block, one by one.
@@ -193,21 +183,3 @@ floor_of-block mode l (e ∷ es) first now is all =
     let next = moved_floor-push mode first now l e false is (λ o. all.1 (ordered-moves mode e o)) in
     floor_of-block mode (l ++ (e, false) ∷ []) es first (if moves_floor (orders_markers mode) e then e.time else now)
     (rw (moves_by mode e, ← not_late (is_ordered mode e) e.time now) next) all.2 ∙ rw append_assoc refl
-
--- The rows of a block behind its end.
-
--- rows that agree up to one agree before it
-pub rows-before : {X : Type 0} (f g : ℕ → X) (m n : ℕ) → m ≤ n → rows f n ≡ rows g n → rows f m ≡ rows g m
-rows-before f g m n le same =
-    let one = rows-split f m n le in
-    let other = rows-split g m n le in
-    sym (rw length-rows at (take-append_seam (rows f m) one.0)) ∙ ap (take m) (sym one.1 ∙ same ∙ other.1) ∙ (rw length-rows at (take-append_seam (rows g m) other.0))
-
--- what was written behind its end leaves its events
-pub gathered-same : {N : ℕ} (old new : Block N) (n : ℕ) → count new ≡ count old → count old ≤ n → written new n ≡ written old n → gathered new ≡ gathered old
-gathered-same old new n counts le same = ap (rows (event_at new)) counts ∙ rows-before (event_at new) (event_at old) old.len n le same
-
--- how many events come behind those of a block
-pub behind-many : {N : ℕ} (old new : Block N) (n : ℕ) (es : List Event) → written new n ≡ gathered old ++ es → n ≡ count old + length es
-behind-many old new n es are =
-    sym (length-rows (event_at new) n) ∙ ap length are ∙ length-append (gathered old) es ∙ ap (λ k. k + length es) (length-rows (event_at old) old.len)

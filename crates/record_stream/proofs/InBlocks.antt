@@ -1,9 +1,9 @@
 -- A taker with the events that it is given next.
 use Rattle.std.{proofs.Common.{rules, IfErr, inl, inr, ◌≢◌, subst, Ok, Err, OnOk, OnErr, ◌≡◌, ◌+◌, ◌<◌, ◌≤◌, ℕ, List, [], ◌∷◌, ◌++◌, length, refl, sym, ap, ◌∙◌, append-nil, append_assoc, length-append, arith, max, Bool, true, false, IsTrue, ◌&&◌, not}, specs.declared.result.Result.Result, proofs.lemmas.List.map-append, proofs.lemmas.List.Elements.{All-append, All-push}}
-use Rattle.tally_base.{specs.declared.event.Event.Event, specs.declared.fault.Fault.Fault, specs.declared.fault.Fault.TheVariants.WriteFault, specs.FaultCounts.Rose, specs.declared.header.Mode.Mode, specs.Events.is_ordered, specs.declared.block.Block.Block, specs.Columns.{gathered, sorted}, specs.Limits.{time_limit, record_limit}, specs.Tally.{floor_after, moves_floor, InOrder}, proofs.Floors.{floor-append, order-append, order-lower}}
+use Rattle.tally_base.{specs.declared.event.Event.Event, specs.declared.fault.Fault.Fault, specs.declared.fault.Fault.TheVariants.WriteFault, specs.FaultCounts.Rose, specs.declared.header.Mode.Mode, specs.Events.is_ordered, specs.declared.block.Block.Block, specs.Columns.{gathered, sorted}, specs.Limits.{time_limit, record_limit}, specs.Tally.{floor_after, moves_floor, InOrder}, proofs.Floors.{floor-append, order-append}}
 use Rattle.ptu_definitions.{specs.Kept.{Marked, floor_of}, specs.Layouts.KindFits, specs.Streams.{StreamSettings, given}, proofs.Firsts.record_refusal-inside}
 use Rattle.abs_time.{specs.Floors.{orders_markers, moved_floor}, proofs.Floors.{moves_by, moved_floor-push}}
-use Rattle.record_stream.{specs.Feeding.{GaveOn, BrokeOn, Fed}, specs.Blocks.{on_time, AllFit, BrokeAmong, IsInLine}, specs.InBlocks.{GoesOn, Breaks, Waits, taken_with, floor_with}, specs.declared.taker.EventTaker.Ghosts, proofs.Gathering.floor_of-block, proofs.Steps.length-on_time}
+use Rattle.record_stream.{specs.Feeding.{GaveOn, BrokeOn, Fed}, specs.Blocks.{on_time, AllFit, BrokeAmong}, specs.InBlocks.{GoesOn, Breaks, Waits, taken_with, floor_with}, specs.declared.taker.EventTaker.Ghosts, proofs.Gathering.floor_of-block, proofs.Steps.length-on_time}
 
 floor_of-append : (mode : Mode) (l m : Marked) → floor_of mode (l ++ m) ≡ max (floor_of mode l) (floor_of mode m)
 floor_of-append mode [] m = omega arith
@@ -178,14 +178,6 @@ module _ {T : Type 0} (g : Ghosts T) where
     order = one-order (g.mode taker) (floor_with g taker es) e time order;
     fit = All-push (λ (e : Event). KindFits (g.mode taker) e.kind) [] e (λ k d lt. absurd (omega (arith, lt))) kind;
     few = omega (arith, few);
-  }
-
-  pub fits-line : (taker : T) (mode : Mode) (es more : List Event) (low top count : ℕ) → g.mode taker ≡ mode → floor_with g taker es ≤ low
-      → IsInLine mode low top more → taken_with g taker es ≤ count → count + length more ≤ record_limit → Fits taker es more
-  fits-line taker mode es more low top count is below line few room = record {
-    order = order-lower (orders_markers (g.mode taker)) (floor_with g taker es) low more below (rw is line.in_order);
-    fit = rw is line.fit;
-    few = omega (arith, few, room);
   }
 
   -- What was given of words whose events went through a block.

@@ -1,22 +1,11 @@
 -- What is gathered of a whole block.
-use Rattle.std.{proofs.Common.{rules, ◌≡◌, ◌+◌, ◌*◌, ◌^◌, ◌%◌, ◌<◌, ◌≤◌, ◌++◌, [], ◌∷◌, ℕ, zero, suc, Bool, true, false, List, length, map, take, get_or, cond, nat_le, nat_lt, refl, sym, ap, subst, ◌∙◌, append-nil, arith, slice_index, ⊎_elim, inl, inr, ◌⊎◌}, specs.List.{range_with_len}, specs.Prelude.{if◌then◌else◌}, proofs.lemmas.Grind.common_steps, proofs.lemmas.Bool.{cases_Bool, le-ltb, le-leb, ltb-true, ltb-false}, proofs.lemmas.Bool.Decides.nat_tests, proofs.lemmas.List.{map-append, take_more, take_all, get_or-take}}
-use Rattle.ptu_definitions.{specs.declared.records.Raw.Raw, specs.Times.amount}
-use Rattle.tally_base.{specs.declared.event.Event.Event, specs.declared.header.Mode.Mode, specs.declared.header.Mode.TheVariants.{T2, T3}, specs.Codes.{code_in, dtime_in}, specs.Columns.event_by, specs.Limits.wrap_limit}
-use Rattle.abs_time.specs.Placing.{placed_by, base_of}
-use Rattle.record_layout.specs.declared.row.Row.{Row}
-use Rattle.lane_decode.{specs.declared.columns.Columns.Columns, specs.InColumns.{HasRows, row_at, wraps_at, sum_to, time_in, before, Rises}, specs.declared.compacted.Compacted.Compacted, specs.InCompacted.{stays, staying, HasStayed, code_at, place_at, time_at}, proofs.Chosen.{place-more, place-below, map-places, at-stayed}, proofs.Added.sum-more}
-use Rattle.record_stream.{specs.Whole.{close_event, last_below}, specs.Rows.{ordered_below, gathered_below, event_below, greatest_with_row}, specs.Walking.{how_of, greatest_of, clock_in, Gathers, LetsPass}, specs.declared.walk.Walk.Walk, proofs.Gathering.{gathers-none, small, gathers-row}}
-
--- the last time of some records whose code is below this one, or else a lower time
-pub last_in : ℕ → (ℕ → ℕ) → (ℕ → ℕ) → ℕ → List ℕ → ℕ
-last_in ordered codes times low [] = low
-last_in ordered codes times low (k ∷ ks) = last_in ordered codes times (if nat_lt (codes k) ordered then times k else low) ks
-
-pub last-more : (ordered : ℕ) (codes times : ℕ → ℕ) (low : ℕ) (ks : List ℕ) (k : ℕ)
-    → last_in ordered codes times low (ks ++ k ∷ []) ≡ (if nat_lt (codes k) ordered then times k else last_in ordered codes times low ks)
-unfolding last_in
-last-more ordered codes times low [] k = refl
-last-more ordered codes times low (x ∷ ks) k = last-more ordered codes times (if nat_lt (codes x) ordered then times x else low) ks k
+use Rattle.std.{proofs.Common.{rules, ◌≡◌, ◌+◌, ◌*◌, ◌-◌, ◌^◌, ◌%◌, ◌<◌, ◌≤◌, ◌++◌, [], ◌∷◌, ℕ, zero, suc, Bool, true, false, List, Option, Some, None, length, map, take, get_or, cond, nat_lt, unwrap_or, count_by, IfSome, refl, sym, ap, subst, ◌∙◌, append-nil, length-append, arith, slice_index, ⊎_elim, inl, inr, ◌⊎◌}, specs.List.{range_with_len}, specs.Option.option_or, specs.Prelude.{if◌then◌else◌}, specs.Int.{from_le_bytes, w32}, proofs.lemmas.Grind.common_steps, proofs.lemmas.Bool.{cases_Bool, ltb-true}, proofs.lemmas.Bool.Decides.nat_tests, proofs.lemmas.List.{map-append, length-map, take_all, get_or-take}}
+use Rattle.ptu_definitions.{specs.declared.records.Raw.Raw, specs.declared.records.KindCounts.KindCounts, specs.Kinds.{is_photon, is_marker, counts_of}, specs.Times.amount, specs.Words.numbers}
+use Rattle.tally_base.{specs.declared.event.Event.Event, specs.declared.header.Mode.Mode, specs.declared.header.Mode.TheVariants.{T2, T3}, specs.Limits.wrap_limit, specs.Tally.{moves_floor, floor_after}, proofs.Floors.floor-push}
+use Rattle.abs_time.{specs.declared.clock.Clock.Clock, specs.Placing.{placed_by, base_of}, specs.Floors.orders_markers}
+use Rattle.record_layout.{specs.declared.row.Row.Row, specs.Rowed.raw_of, proofs.KindLemmas.count-more}
+use Rattle.lane_decode.{specs.declared.columns.Columns.Columns, specs.InColumns.{HasRows, row_at, wraps_at, sum_to, time_in, before, Rises}, specs.declared.compacted.Compacted.Compacted, specs.InCompacted.{stays, staying, HasStayed, place_at, time_at}, proofs.Chosen.{place-more, few-staying as few-stay, place-below, map-places, at-stayed}, proofs.Added.sum-more}
+use Rattle.record_stream.{specs.OneMore.{first_with, last_with, or_time, time_if}, specs.Whole.{event_in, events_below, close_event, last_below, last_time, InReach}, specs.Rows.{ordered_below, gathered_below, event_below, greatest_with_row}, specs.Walking.{how_of, greatest_of, clock_in, Gathers, LetsPass}, specs.declared.walk.Walk.Walk, proofs.Gathering.{gathers-none, small, gathers-row, count_by-meanings}, proofs.Summaries.last_with-push}
 
 -- the codes below which events in order are, and events are
 below-few : (only : Bool) (mode : Mode) → (ordered_below mode ≤ gathered_below only mode) × (gathered_below only mode ≤ 512)
@@ -25,14 +14,11 @@ below-few false T3 = (omega arith, omega arith)
 below-few true T2 = (omega arith, omega arith)
 below-few true T3 = (omega arith, omega arith)
 
-module _ (walk : Walk) (words : List (List ℕ)) (meaning : ℕ → Raw) (same : meaning ≡ (how_of walk).meaning) (passes : LetsPass walk meaning words) (only : Bool)
+module _ (walk : Walk) (words : List (List ℕ)) (meaning : ℕ → Raw) (same : meaning ≡ (how_of walk).meaning) (passes : LetsPass walk meaning words)
     (unit : ℕ) (columns : Columns) (rows : HasRows meaning unit columns words) (whole : length words ≡ 64)
-    (sure : Bool) (rises : sure ≡ true → Rises (greatest_of walk) (time_in (base_of (clock_in walk)) unit columns) 64) where
+    (rises : Rises (greatest_of walk) (time_in (base_of (clock_in walk)) unit columns) 64) where
   abbrev ordered : ℕ
   ordered = ordered_below (how_of walk).mode
-
-  abbrev below : ℕ
-  below = gathered_below only (how_of walk).mode
 
   abbrev low : ℕ
   low = greatest_of walk
@@ -47,21 +33,17 @@ module _ (walk : Walk) (words : List (List ℕ)) (meaning : ℕ → Raw) (same :
   row = row_at columns
 
   abbrev code : ℕ → ℕ
-  code i = code_in (slice_index columns.marks i)
+  code i = (row_at columns i).code
 
   -- the sum of the wraps before a record
-  pub base_at : ℕ → ℕ
+  base_at : ℕ → ℕ
   base_at n = start + unit * sum_to (wraps_at columns) n
 
-  pub top_at : ℕ → ℕ
-  top_at zero = low
-  top_at (suc n) = greatest_with_row ordered (top_at n) (base_at n) (row n)
+  top_at : ℕ → ℕ
+  top_at n = unwrap_or (last_below ordered code time n) low
 
-  abbrev pub event : ℕ → Event
-  event i = event_by (placed_by (clock_in walk) + i + 1) (code_in (slice_index columns.marks i)) (dtime_in (slice_index columns.marks i)) (time i)
-
-  pub events_at : ℕ → List Event
-  events_at n = map event (staying below columns n)
+  events_at : Bool → ℕ → List Event
+  events_at only n = map (event_in (placed_by (clock_in walk)) start unit columns) (staying (gathered_below only (how_of walk).mode) columns n)
 
   base-more : (n : ℕ) → base_at (suc n) ≡ base_at n + unit * (row n).wraps
   unfolding base_at sum_to
@@ -71,134 +53,253 @@ module _ (walk : Walk) (words : List (List ℕ)) (meaning : ℕ → Raw) (same :
   unfolding base_at sum_to
   base-few zero le = omega arith
   base-few (suc n) le =
-      let one = small walk words meaning same passes only n (omega (arith, whole, le)) unit (row n) (rows n (omega (arith, whole, le))) in
+      let one = small walk words meaning same passes false n (omega (arith, whole, le)) unit (row n) (rows n (omega (arith, whole, le))) in
       omega (arith, base-few n (omega (arith, le)), base-more n, one)
 
   -- the time of an event, by the wraps before it
-  value : (n : ℕ) → n < 64 → code n < below → time n ≡ base_at n + (row n).time
+  value : (n : ℕ) → n < 64 → code n < 512 → time n ≡ base_at n + (row n).time
   unfolding base_at
-  value n lt few =
+  value n lt event =
       let is = rows n (omega (arith, whole, lt)) in
-      let event : (row n).code < 512 = omega (arith, few, below-few only (how_of walk).mode) in
       let none : unit * wraps_at columns n ≡ 0 = is.amounts ∙ ap amount (sym is.raw) ∙ grind (arith, common_steps, nat_tests, event) in
       ap (λ s. start + unit * s + slice_index columns.times n) (sum-more (wraps_at columns) n) ∙ omega (arith, none)
 
-  top-more : (n : ℕ) (b : Bool) → nat_lt (code n) ordered ≡ b → top_at (suc n) ≡ cond b (base_at n + (row n).time) (top_at n)
-  unfolding top_at
-  top-more n b is = ap (λ t. cond t (base_at n + (row n).time) (top_at n)) is
+  few-ordered : (n : ℕ) → nat_lt (code n) ordered ≡ true → code n < 512
+  few-ordered n is = omega (arith, ltb-true (code n) ordered is, below-few false (how_of walk).mode)
+
+  top-more : (n : ℕ) → n < 64 → top_at (suc n) ≡ greatest_with_row ordered (top_at n) (base_at n) (row n)
+  unfolding top_at last_below
+  top-more n lt = by_case (nat_lt (code n) ordered) refl
+    where
+      by_case : (b : Bool) → nat_lt (code n) ordered ≡ b → unwrap_or (if nat_lt (code n) ordered then Some (time n) else last_below ordered code time n) low ≡ (if nat_lt (code n) ordered then base_at n + (row n).time else unwrap_or (last_below ordered code time n) low)
+      by_case true is = rw is (value n lt (few-ordered n is))
+      by_case false is = rw is refl
 
   top-step : (n : ℕ) → n < 64 → (top_at (suc n) ≡ time n) ⊎ (top_at (suc n) ≡ top_at n)
   top-step n lt = ⊎_elim
-      (λ (yes : nat_lt (code n) ordered ≡ true). inl (top-more n true yes
-      ∙ sym (value n lt (omega (arith, ltb-true (code n) ordered yes, below-few only (how_of walk).mode)))))
-      (λ (no : nat_lt (code n) ordered ≡ false). inr (top-more n false no)) (cases_Bool (nat_lt (code n) ordered))
+      (λ (is : nat_lt (code n) ordered ≡ true). inl (top-more n lt ∙ rw is (sym (value n lt (few-ordered n is)))))
+      (λ (is : nat_lt (code n) ordered ≡ false). inr (top-more n lt ∙ rw is refl)) (cases_Bool (nat_lt (code n) ordered))
 
-  top-low : sure ≡ true → (n : ℕ) → n ≤ 64 → top_at n ≤ before low time n
-  unfolding top_at
-  top-low is zero le = omega arith
-  top-low is (suc n) le = grind (arith, top-step n (omega (arith, le)), top-low is n (omega (arith, le)), rises is n (omega (arith, le)))
+  top-low : (n : ℕ) → n ≤ 64 → top_at n ≤ before low time n
+  unfolding top_at last_below
+  top-low zero le = omega arith
+  top-low (suc n) le = grind (arith, top-step n (omega (arith, le)), top-low n (omega (arith, le)), rises n (omega (arith, le)))
 
-  top-rises : (n : ℕ) → n < 64 → sure ≡ true → nat_le (top_at n) (top_at (suc n)) ≡ true
-  top-rises n lt is = le-leb (top_at n) (top_at (suc n)) (grind (arith, top-step n lt, top-low is n (omega (arith, lt)), rises is n lt))
+  top-rises : (n : ℕ) → n < 64 → top_at n ≤ top_at (suc n)
+  top-rises n lt = grind (arith, top-step n lt, top-low n (omega (arith, lt)), rises n lt)
 
-  events-more : (n : ℕ) → n < 64 → events_at (n + 1) ≡ events_at n ++ event_below below (placed_by (clock_in walk) + n + 1) (base_at n) (row n)
+  events-more : (only : Bool) (n : ℕ) → n < 64 → events_at only (n + 1) ≡ events_at only n ++ event_below (gathered_below only (how_of walk).mode) (placed_by (clock_in walk) + n + 1) (base_at n) (row n)
   unfolding events_at staying
-  events-more n lt =
-      search (rules, arith, place-more, map-append, value, ltb-true)
+  events-more only n lt = search (rules, arith, place-more, map-append, value, ltb-true, below-few)
 
-  none-yet : Gathers walk (take 0 words) only sure (base_at 0) (top_at 0) (events_at 0)
-  unfolding base_at top_at events_at staying sum_to
-  none-yet = gathers-none walk (take 0 words) only (start + unit * 0) low [] refl refl (omega arith) (omega (arith, passes.base)) refl
-
-  pub gathers-upto : (n : ℕ) → n ≤ 64 → Gathers walk (take n words) only sure (base_at n) (top_at n) (events_at n)
-  gathers-upto zero le = none-yet
-  gathers-upto (suc n) le =
+  gathers-upto : (only : Bool) (n : ℕ) → n ≤ 64 → Gathers walk (take n words) only (base_at n) (top_at n) (events_at only n)
+  unfolding base_at top_at events_at staying sum_to last_below
+  gathers-upto only zero le = gathers-none walk (take 0 words) only (start + unit * 0) low [] refl refl (omega arith) (omega (arith, passes.base)) refl
+  gathers-upto only (suc n) le =
       let next : n + 1 ≡ suc n = omega arith in
       let lt : n < 64 = omega (arith, le) in
       let is = rows n (omega (arith, whole, le)) in
       let one = small walk words meaning same passes only n (omega (arith, whole, le)) unit (row n) is in
       let few : base_at n + unit * (row n).wraps ≤ wrap_limit = omega (arith, base-few n (omega (arith, le)), one, passes.base, le) in
-      let events_are : events_at (suc n) ≡ events_at n ++ event_below below (placed_by (clock_in walk) + n + 1) (base_at n) (row n) =
-      ap events_at (sym next) ∙ events-more n lt in
-      subst (λ k. Gathers walk (take k words) only sure (base_at (suc n)) (top_at (suc n)) (events_at (suc n))) next
-      (gathers-row walk words meaning same passes only n (omega (arith, whole, le)) unit (row n) is sure sure (base_at n) (base_at (suc n)) (top_at n) (top_at (suc n)) (events_at n) (events_at (suc n))
-      few (base-more n) (top-more n (nat_lt (code n) ordered) refl) (search (rules, arith, top-rises n lt)) events_are (gathers-upto n (omega (arith, le))))
+      let events_are : events_at only (suc n) ≡ events_at only n ++ event_below (gathered_below only (how_of walk).mode) (placed_by (clock_in walk) + n + 1) (base_at n) (row n) =
+      ap (events_at only) (sym next) ∙ events-more only n lt in
+      subst (λ k. Gathers walk (take k words) only (base_at (suc n)) (top_at (suc n)) (events_at only (suc n))) next
+      (gathers-row walk words meaning same passes only n (omega (arith, whole, le)) unit (row n) is (base_at n) (base_at (suc n)) (top_at n) (top_at (suc n)) (events_at only n) (events_at only (suc n))
+      few (base-more n) (top-more n lt) (top-rises n lt) events_are (gathers-upto only n (omega (arith, le))))
 
-  last-step : (n : ℕ) → n < 64 → (b : Bool) → nat_lt (code n) below ≡ b → top_at n ≡ last_in ordered code time low (staying below columns n)
-      → top_at (suc n) ≡ last_in ordered code time low (staying below columns n ++ cond b (n ∷ []) [])
-  last-step n lt true is so_far =
-      rw (top-more n (nat_lt (code n) ordered) refl, ← value n lt (ltb-true (code n) below is), so_far)
-      (sym (last-more ordered code time low (staying below columns n) n))
-  last-step n lt false is so_far =
-      let no : nat_lt (code n) ordered ≡ false = le-ltb (code n) ordered (omega (arith, ltb-false (code n) below is, below-few only (how_of walk).mode)) in
-      rw (top-more n false no, so_far, append-nil) refl
+  -- what is gathered of the whole block
+  pub gathers-whole : (only : Bool) (sum : ℕ) (top : Option ℕ) → sum ≡ start + unit * sum_to (wraps_at columns) 64 → top ≡ last_time ordered start unit columns
+      → Gathers walk words only sum (unwrap_or top low) (events_below (gathered_below only (how_of walk).mode) (clock_in walk) unit columns)
+  unfolding base_at top_at events_at
+  gathers-whole only sum top sum_is top_is =
+      rw (sum_is, top_is) (subst (λ l. Gathers walk l only (base_at 64) (top_at 64) (events_at only 64)) (take_all 64 words (omega (arith, whole))) (gathers-upto only 64 (omega arith)))
 
-  pub top-is : (n : ℕ) → n ≤ 64 → top_at n ≡ last_in ordered code time low (staying below columns n)
-  unfolding top_at staying last_in
-  top-is zero le = refl
-  top-is (suc n) le =
+-- Events of columns.
+
+module _ (columns : Columns) (f : ℕ → Event) where
+  abbrev evs : ℕ → ℕ → List Event
+  evs below n = map f (staying below columns n)
+
+  evs-more : (below n : ℕ) → evs below (n + 1) ≡ evs below n ++ (if nat_lt (row_at columns n).code below then f n ∷ [] else [])
+  unfolding staying
+  evs-more below n = search (rules, arith, place-more, map-append)
+
+  -- the last one
+  pub last-is : (below : ℕ) (times : ℕ → ℕ) → ((i : ℕ) → (f i).time ≡ times i) → (o : Option ℕ) (n : ℕ)
+      → last_with o (evs below n) ≡ option_or (last_below below (λ i. (row_at columns i).code) times n) o
+  unfolding last_below staying
+  last-is below times same o zero = refl
+  last-is below times same o (suc n) =
       let next : n + 1 ≡ suc n = omega arith in
-      last-step n (omega (arith, le)) (nat_lt (code n) below) refl (top-is n (omega (arith, le)))
-      ∙ ap (last_in ordered code time low) (sym (place-more (stays below columns) n) ∙ ap (staying below columns) next)
+      ap (λ k. last_with o (evs below k)) (sym next) ∙ ap (last_with o) (evs-more below n) ∙ by_case (nat_lt (row_at columns n).code below) refl (last-is below times same o n)
+    where
+      by_case : (b : Bool) → nat_lt (row_at columns n).code below ≡ b
+          → last_with o (evs below n) ≡ option_or (last_below below (λ i. (row_at columns i).code) times n) o
+          → last_with o (evs below n ++ (if nat_lt (row_at columns n).code below then f n ∷ [] else [])) ≡ option_or (if nat_lt (row_at columns n).code below then Some (times n) else last_below below (λ i. (row_at columns i).code) times n) o
+      by_case true is so_far = rw is (last_with-push o (evs below n) (f n) ∙ ap Some (same n))
+      by_case false is so_far = rw (is, append-nil) so_far
 
-  -- What is put close together.
-  module _ (n : ℕ) (le : n ≤ 64) (close : Compacted) (len : ℕ) (has : HasStayed below columns n close len)
-      (few_placed : placed_by (clock_in walk) + 100 ≤ 2 ^ 64) (fits : (i : ℕ) → i < 64 → time i < 2 ^ 64) where
-    abbrev ks : List ℕ
-    ks = staying below columns n
+-- the greatest time with them
+module _ (columns : Columns) (placed base unit : ℕ) where
+  event : ℕ → Event
+  event = event_in placed base unit columns
 
-    at : ℕ → ℕ
-    at j = get_or (staying below columns n) j 0
+  ordered-code : (mode : Mode) (n : ℕ) → nat_lt (row_at columns n).code 512 ≡ true → moves_floor (orders_markers mode) (event_in placed base unit columns n) ≡ nat_lt (row_at columns n).code (ordered_below mode)
+  ordered-code T2 n event = grind (arith, common_steps, nat_tests, event)
+  ordered-code T3 n event = grind (arith, common_steps, nat_tests, event)
 
-    in-columns : (j : ℕ) → j < len → at j < 64
-    unfolding staying at
-    in-columns j lt = omega (arith, place-below (stays below columns) 0 n j (omega (arith, lt, has.count)), le)
+  low-code : (mode : Mode) (n : ℕ) → nat_lt (row_at columns n).code 512 ≡ false → nat_lt (row_at columns n).code (ordered_below mode) ≡ false
+  low-code T2 n none = grind (arith, common_steps, nat_tests, none)
+  low-code T3 n none = none
 
-    mark-same : (j : ℕ) → j < len → slice_index close.marks j ≡ slice_index columns.marks (at j)
-    unfolding at
-    mark-same j lt = at-stayed (λ i. slice_index columns.marks i) close.marks ks len j has.marks lt (omega (arith, lt, has.count))
+  pub floor-is : (mode : Mode) (floor n : ℕ) → floor_after (orders_markers mode) floor (evs columns (event_in placed base unit columns) 512 n) ≡ unwrap_or (last_below (ordered_below mode) (λ i. (row_at columns i).code) (time_in base unit columns) n) floor
+  unfolding last_below staying
+  floor-is mode floor zero = refl
+  floor-is mode floor (suc n) =
+      let next : n + 1 ≡ suc n = omega arith in
+      ap (λ k. floor_after (orders_markers mode) floor (evs columns (event_in placed base unit columns) 512 k)) (sym next)
+      ∙ ap (floor_after (orders_markers mode) floor) (evs-more columns (event_in placed base unit columns) 512 n) ∙ by_case (nat_lt (row_at columns n).code 512) refl (floor-is mode floor n)
+    where
+      codes : ℕ → ℕ
+      codes i = (row_at columns i).code
 
-    time-same : (j : ℕ) → j < len → time_at start unit close j % 2 ^ 64 ≡ time (at j)
-    unfolding at
-    time-same j lt =
-        let few : j < length ks = omega (arith, lt, has.count) in
-        let sums = at-stayed (λ i. sum_to (wraps_at columns) (i + 1)) close.sums ks len j has.sums lt few in
-        rw (sums, at-stayed (λ i. slice_index columns.times i) close.times ks len j has.times lt few)
-        (omega (arith, fits (get_or ks j 0) (in-columns j lt)))
+      by_case : (b : Bool) → nat_lt (row_at columns n).code 512 ≡ b
+          → floor_after (orders_markers mode) floor (evs columns (event_in placed base unit columns) 512 n) ≡ unwrap_or (last_below (ordered_below mode) (λ i. (row_at columns i).code) (time_in base unit columns) n) floor
+          → floor_after (orders_markers mode) floor (evs columns (event_in placed base unit columns) 512 n ++ (if nat_lt (row_at columns n).code 512 then event_in placed base unit columns n ∷ [] else [])) ≡ unwrap_or (if nat_lt (row_at columns n).code (ordered_below mode) then Some (time_in base unit columns n) else last_below (ordered_below mode) (λ i. (row_at columns i).code) (time_in base unit columns) n) floor
+      by_case true is so_far =
+          rw is (floor-push (orders_markers mode) floor (evs columns (event_in placed base unit columns) 512 n) (event_in placed base unit columns n) ∙ rw (ordered-code mode n is, so_far) (picked (nat_lt (row_at columns n).code (ordered_below mode))))
+        where
+          picked : (b : Bool) → (if b then time_in base unit columns n else unwrap_or (last_below (ordered_below mode) (λ i. (row_at columns i).code) (time_in base unit columns) n) floor) ≡ unwrap_or (if b then Some (time_in base unit columns n) else last_below (ordered_below mode) (λ i. (row_at columns i).code) (time_in base unit columns) n) floor
+          picked true = refl
+          picked false = refl
+      by_case false is so_far = rw (is, append-nil, low-code mode n is) so_far
 
-    place-same : (j : ℕ) → j < len → (placed_by (clock_in walk) + 1 + place_at close j) % 2 ^ 64 ≡ placed_by (clock_in walk) + at j + 1
-    unfolding at
-    place-same j lt =
-        let is : place_at close j ≡ get_or ks j 0 = sym (get_or-take len close.places j 0 lt) ∙ ap (λ l. get_or l j 0) has.places in
-        ap (λ k. (placed_by (clock_in walk) + 1 + k) % 2 ^ 64) is ∙ omega (arith, in-columns j lt, few_placed)
+-- How many they are.
+one-kind : (unit n : ℕ) (row : Row) → length (if nat_lt row.code 512 then n ∷ [] else []) ≡ cond (is_photon (raw_of unit row)) 1 0 + cond (is_marker (raw_of unit row)) 1 0
+one-kind unit n row = grind (arith, common_steps, nat_tests)
 
-    event-same : (j : ℕ) → j < len → close_event (placed_by (clock_in walk) + 1) start unit close j ≡ event (at j)
-    event-same j lt = rw (place-same j lt, mark-same j lt, time-same j lt) refl
+module _ (meaning : ℕ → Raw) (unit : ℕ) (columns : Columns) (words : List (List ℕ)) (rows : HasRows meaning unit columns words) where
+  many-upto : (n : ℕ) → n ≤ length words → length (staying 512 columns n)
+      ≡ count_by (λ bytes. is_photon (meaning (from_le_bytes w32 bytes))) (take n words) + count_by (λ bytes. is_marker (meaning (from_le_bytes w32 bytes))) (take n words)
+  unfolding staying
+  many-upto zero le = refl
+  many-upto (suc n) le =
+      let next : n + 1 ≡ suc n = omega arith in
+      let lt : n < length words = omega (arith, le) in
+      let photons = count-more (λ bytes. is_photon (meaning (from_le_bytes w32 bytes))) words n [] lt in
+      let markers = count-more (λ bytes. is_marker (meaning (from_le_bytes w32 bytes))) words n [] lt in
+      let one = rw (rows n lt).raw at (one-kind unit n (row_at columns n)) in
+      let more = ap length (place-more (stays 512 columns) n) ∙ length-append (staying 512 columns n) (if nat_lt (row_at columns n).code 512 then n ∷ [] else []) in
+      subst (λ k. length (staying 512 columns k) ≡ count_by (λ bytes. is_photon (meaning (from_le_bytes w32 bytes))) (take k words) + count_by (λ bytes. is_marker (meaning (from_le_bytes w32 bytes))) (take k words)) next
+      (omega (arith, more, one, photons, markers, many-upto n (omega (arith, le))))
 
-    pub all-events : map (close_event (placed_by (clock_in walk) + 1) start unit close) (range_with_len 0 len) ≡ events_at n
-    unfolding events_at at
-    all-events =
-        let f = close_event (placed_by (clock_in walk) + 1) start unit close in
-        rw has.count (map-places f event ks 0 (λ j lt. ap f (omega arith) ∙ event-same j (omega (arith, lt, has.count))))
+  pub many-events : (k : KindCounts) → length words ≡ 64 → k ≡ counts_of (map meaning (numbers words)) → k.photons + k.markers ≡ length (staying 512 columns 64)
+  many-events k whole is =
+      let all = take_all 64 words (omega (arith, whole)) in
+      rw is (sym (rw (all, count_by-meanings is_photon meaning words, count_by-meanings is_marker meaning words) at (many-upto 64 (omega (arith, whole)))))
 
-    last-places : (m : ℕ) → m ≤ len
-        → last_below ordered low (code_at close) (λ i. time_at start unit close i % 2 ^ 64) m ≡ last_in ordered code time low (take m ks)
-    unfolding last_below last_in at
-    last-places zero few = refl
-    last-places (suc m) few =
-        let next : m + 1 ≡ suc m = omega arith in
-        let lt : m < len = omega (arith, few) in
-        rw (mark-same m lt, time-same m lt, last-places m (omega (arith, few))) (sym (last-more ordered code time low (take m ks) (get_or ks m 0)))
-        ∙ ap (last_in ordered code time low) (sym (take_more ks m 0 (omega (arith, lt, has.count))) ∙ ap (λ k. take k ks) next)
+pub few-staying : (below : ℕ) (columns : Columns) (n : ℕ) → length (staying below columns n) ≤ n
+unfolding staying
+few-staying below columns n = few-stay (stays below columns) n
 
-    pub last-is : last_below ordered low (code_at close) (λ i. time_at start unit close i % 2 ^ 64) len ≡ top_at n
-    last-is = last-places len (omega arith) ∙ ap (last_in ordered code time low) (take_all len ks (omega (arith, has.count))) ∙ sym (top-is n le)
+-- The events of records that were put close together.
+module _ (clock : Clock) (unit : ℕ) (columns : Columns) (reach : InReach clock unit columns) (below : ℕ) (close : Compacted) (len : ℕ) (has : HasStayed below columns 64 close len) where
+  at : ℕ → ℕ
+  at j = get_or (staying below columns 64) j 0
 
-    pub gathers-close : (sum top : ℕ) (es : List Event) → take n words ≡ words → sum ≡ start + unit * sum_to (wraps_at columns) n
-        → top ≡ last_below ordered low (code_at close) (λ i. time_at start unit close i % 2 ^ 64) len
-        → es ≡ map (close_event (placed_by (clock_in walk) + 1) start unit close) (range_with_len 0 len)
-        → Gathers walk words only sure sum top es
-    unfolding base_at
-    gathers-close sum top es all sum_is top_is es_are =
-        rw (sum_is, top_is ∙ last-is, es_are ∙ all-events)
-        (subst (λ l. Gathers walk l only sure (start + unit * sum_to (wraps_at columns) n) (top_at n) (events_at n)) all (gathers-upto n le))
+  in-columns : (j : ℕ) → j < len → at j < 64
+  unfolding staying at
+  in-columns j lt = omega (arith, place-below (stays below columns) 0 64 j (omega (arith, lt, has.count)))
+
+  mark-same : (j : ℕ) → j < len → slice_index close.marks j ≡ slice_index columns.marks (at j)
+  unfolding at
+  mark-same j lt = at-stayed (λ i. slice_index columns.marks i) close.marks (staying below columns 64) len j has.marks lt (omega (arith, lt, has.count))
+
+  time-same : (j : ℕ) → j < len → time_at (base_of clock) unit close j % 2 ^ 64 ≡ time_in (base_of clock) unit columns (at j)
+  unfolding at
+  time-same j lt =
+      let few : j < length (staying below columns 64) = omega (arith, lt, has.count) in
+      let sums = at-stayed (λ i. sum_to (wraps_at columns) (i + 1)) close.sums (staying below columns 64) len j has.sums lt few in
+      rw (sums, at-stayed (λ i. slice_index columns.times i) close.times (staying below columns 64) len j has.times lt few)
+      (omega (arith, reach.times (get_or (staying below columns 64) j 0) (in-columns j lt)))
+
+  place-same : (j : ℕ) → j < len → (placed_by clock + 1 + place_at close j) % 2 ^ 64 ≡ placed_by clock + at j + 1
+  unfolding at
+  place-same j lt =
+      let is : place_at close j ≡ get_or (staying below columns 64) j 0 = sym (get_or-take len close.places j 0 lt) ∙ ap (λ l. get_or l j 0) has.places in
+      ap (λ k. (placed_by clock + 1 + k) % 2 ^ 64) is ∙ omega (arith, in-columns j lt, reach.places)
+
+  event-same : (j : ℕ) → j < len → close_event (placed_by clock + 1) (base_of clock) unit close j ≡ event_in (placed_by clock) (base_of clock) unit columns (at j)
+  event-same j lt = rw (place-same j lt, mark-same j lt, time-same j lt) refl
+
+  pub close-events : map (close_event (placed_by clock + 1) (base_of clock) unit close) (range_with_len 0 len) ≡ events_below below clock unit columns
+  unfolding at
+  close-events =
+      let f = close_event (placed_by clock + 1) (base_of clock) unit close in
+      rw has.count (map-places f (event_in (placed_by clock) (base_of clock) unit columns) (staying below columns 64) 0 (λ j lt. ap f (omega arith) ∙ event-same j (omega (arith, lt, has.count))))
+
+-- Sums of wraps, and the first and the last of some records.
+
+pub product-more : (unit : ℕ) (f : ℕ → ℕ) (n : ℕ) → unit * sum_to f (n + 1) ≡ unit * sum_to f n + unit * f n
+product-more unit f n = rw (sum-more f n) (omega arith)
+
+-- one step back
+pub last-step : (below : ℕ) (codes times : ℕ → ℕ) (n : ℕ) (b : Bool) → 0 < n → nat_lt (codes (n - 1)) below ≡ b
+    → last_below below codes times n ≡ (if b then Some (times (n - 1)) else last_below below codes times (n - 1))
+unfolding last_below
+last-step below codes times n b some is =
+    let next : n ≡ suc (n - 1) = omega (arith, some) in
+    ap (last_below below codes times) next ∙ rw is refl
+
+pub none-more : (below : ℕ) (columns : Columns) (n : ℕ) → staying below columns n ≡ [] → nat_lt (row_at columns n).code below ≡ false → staying below columns (n + 1) ≡ []
+unfolding staying
+none-more below columns n none is = place-more (stays below columns) n ∙ rw (none, is) refl
+
+first-stays : (below : ℕ) (columns : Columns) (n d : ℕ) → staying below columns n ≡ [] → nat_lt (row_at columns n).code below ≡ true
+    → (rest : List ℕ) × (staying below columns (n + 1 + d) ≡ n ∷ rest)
+unfolding staying
+first-stays below columns n zero none is =
+    let next : n + 1 + 0 ≡ n + 1 = omega arith in
+    ([], ap (staying below columns) next ∙ place-more (stays below columns) n ∙ rw (none, is) refl)
+first-stays below columns n (suc d) none is =
+    let so_far = first-stays below columns n d none is in
+    let next : n + 1 + suc d ≡ n + 1 + d + 1 = omega arith in
+    (so_far.0 ++ cond (stays below columns (n + 1 + d)) ((n + 1 + d) ∷ []) [], ap (staying below columns) next ∙ place-more (stays below columns) (n + 1 + d) ∙ ap (λ l. l ++ cond (stays below columns (n + 1 + d)) ((n + 1 + d) ∷ []) []) so_far.1)
+
+pub first-is : (below : ℕ) (columns : Columns) (n : ℕ) (k : ℕ) (ks : List ℕ) → n < 64 → staying below columns n ≡ [] → nat_lt (row_at columns n).code below ≡ true
+    → staying below columns 64 ≡ k ∷ ks → k ≡ n
+first-is below columns n k ks lt none is are =
+    let all = first-stays below columns n (63 - n) none is in
+    let whole : n + 1 + (63 - n) ≡ 64 = omega (arith, lt) in
+    ap (λ l. get_or l 0 0) (sym are ∙ ap (staying below columns) (sym whole) ∙ all.1)
+
+or_none : (o : Option ℕ) → option_or o None ≡ o
+or_none None = refl
+or_none (Some t) = refl
+
+if_some : {P : Type 0} (o : Option ℕ) → P → IfSome o (λ t. P)
+if_some None p = tt
+if_some (Some t) p = p
+
+module _ (clock : Clock) (unit : ℕ) (columns : Columns) where
+  pub few-events : (below : ℕ) → length (events_below below clock unit columns) ≤ 64
+  few-events below = omega (arith, length-map (staying below columns 64) (event_in (placed_by clock) (base_of clock) unit columns), few-staying below columns 64)
+
+  pub last-event : last_with None (events_below 512 clock unit columns) ≡ last_time 512 (base_of clock) unit columns
+  last-event = last-is columns (event_in (placed_by clock) (base_of clock) unit columns) 512 (time_in (base_of clock) unit columns) (λ i. refl) None 64 ∙ or_none (last_time 512 (base_of clock) unit columns)
+
+  pub first-event : (kept : Bool) (before first : ℕ) (last : Option ℕ) → last_with None (events_below 512 clock unit columns) ≡ last
+      → ((at : ℕ) (more : List ℕ) → staying 512 columns 64 ≡ at ∷ more → first ≡ (if kept then before else time_in (base_of clock) unit columns at))
+      → IfSome last (λ time. Some first ≡ first_with (time_if kept before) (events_below 512 clock unit columns))
+  first-event kept before first last last_is first_is = by_case (staying 512 columns 64) refl
+    where
+      f : ℕ → Event
+      f = event_in (placed_by clock) (base_of clock) unit columns
+
+      picked : (kept : Bool) (time : ℕ) → Some (if kept then before else time) ≡ or_time (time_if kept before) time
+      picked true time = refl
+      picked false time = refl
+
+      by_case : (ks : List ℕ) → staying 512 columns 64 ≡ ks → IfSome last (λ time. Some first ≡ first_with (time_if kept before) (events_below 512 clock unit columns))
+      by_case [] is = subst (λ (o : Option ℕ). IfSome o (λ time. Some first ≡ first_with (time_if kept before) (events_below 512 clock unit columns))) (ap (λ l. last_with None (map (event_in (placed_by clock) (base_of clock) unit columns) l)) (sym is) ∙ last_is) tt
+      by_case (k ∷ ks) is = if_some last (ap Some (first_is k ks is) ∙ picked kept (time_in (base_of clock) unit columns k) ∙ ap (λ l. first_with (time_if kept before) (map (event_in (placed_by clock) (base_of clock) unit columns) l)) (sym is))

@@ -1,9 +1,9 @@
 -- What a taker is given by words that come behind others.
-use Rattle.std.specs.Prelude.{ℕ, ◌≡◌, ◌<◌, ◌≤◌, List, [], ◌++◌, length, map, None, Some, Result, Ok, Err, OnOk, ◌⊎◌}
+use Rattle.std.specs.Prelude.{ℕ, ◌≡◌, ◌+◌, ◌<◌, ◌≤◌, List, [], ◌++◌, length, map, None, Some, Result, Ok, Err, OnOk, ◌⊎◌}
 use Rattle.ptu_definitions.{specs.declared.records.Summary.Summary, specs.Kept.Marked, specs.Words.words_of, specs.Streams.{StreamSettings, refusals, record_refusal, given, events_in}}
-use Rattle.tally_base.{specs.declared.fault.Fault.Fault, specs.declared.fault.Fault.TheVariants.WriteFault, specs.declared.header.Mode.Mode, specs.FaultCounts.Rose}
-use Rattle.abs_time.{specs.declared.clock.Clock.Clock, specs.Placing.HasPlaced}
-use Rattle.record_stream.{specs.OneMore.so_far, specs.declared.taker.EventTaker.Ghosts}
+use Rattle.tally_base.{specs.declared.fault.Fault.Fault, specs.declared.fault.Fault.TheVariants.WriteFault, specs.declared.header.Mode.Mode, specs.FaultCounts.Rose, specs.declared.event.Event.Event, specs.Limits.record_limit, specs.Tally.InOrder}
+use Rattle.abs_time.{specs.declared.clock.Clock.Clock, specs.Placing.HasPlaced, specs.Floors.orders_markers}
+use Rattle.record_stream.{specs.Blocks.{on_time, AllFit}, specs.OneMore.so_far, specs.declared.taker.EventTaker.Ghosts}
 
 -- Where a stream stands that took these words and refused none.
 pub record IsAt (how : StreamSettings) (clock : Clock) (sum : Summary) (count : ℕ) (words : List ℕ) : Type 0 where
@@ -18,6 +18,18 @@ module _ {T : Type 0} (g : Ghosts T) where
     pub mode_is : g.mode taker ≡ mode
     pub few : g.taken taker ≤ count
     pub before : g.floor taker ≤ greatest
+
+  -- The taker, of this mode, can be given the events: they are not too many, and come in order.
+  pub record CanTake (mode : Mode) (taker : T) (es : List Event) : Type 0 where
+    pub mode_is : g.mode taker ≡ mode
+    pub room : g.taken taker + length es ≤ record_limit
+    pub fit : AllFit mode es
+    pub in_order : InOrder (orders_markers mode) (g.floor taker) es
+
+  -- It was given them.
+  pub record WasGiven (old new : T) (es : List Event) : Type 0 where
+    pub follows : (start : T) (l : Marked) → g.got start old l → g.got start new (l ++ on_time es)
+    pub same_mode : g.mode new ≡ g.mode old
 
   -- It got what the words call for that came behind others.
   pub record GaveOn (how : StreamSettings) (old new : T) (words now : List ℕ) : Type 0 where

@@ -1,8 +1,8 @@
 -- What is known of a record by its code.
-use Rattle.std.{specs.Prelude.{ℕ, ◌≡◌, ◌+◌, ◌*◌, ◌≤◌, ◌&&◌, Bool, true, false, nat_lt, nat_le, List, [], ◌∷◌, if◌then◌else◌, ◌++◌, map, None, Ok}, specs.declared.option.Option.Option}
+use Rattle.std.{specs.Prelude.{ℕ, ◌≡◌, ◌+◌, ◌≤◌, Bool, true, false, nat_lt, List, [], ◌∷◌, if◌then◌else◌, ◌++◌, map, None, Ok}, specs.declared.option.Option.Option}
 use Rattle.tally_base.{specs.declared.event.Event.Event, specs.declared.header.Mode.Mode, specs.declared.header.Mode.TheVariants.{T2, T3}, specs.Columns.event_by, specs.declared.fault.Fault.Fault, specs.Events.stops_late}
 use Rattle.record_layout.specs.declared.row.Row.{Row}
-use Rattle.record_stream.{specs.declared.blocks.Ahead.Ahead, specs.OneMore.with_raw, specs.Walking.{how_of, given_by, records_of, summary_in, clock_in}, specs.declared.walk.Walk.Walk}
+use Rattle.record_stream.{specs.OneMore.with_raw, specs.Walking.{how_of, given_by, records_of, summary_in, clock_in}, specs.declared.walk.Walk.Walk}
 use Rattle.ptu_definitions.{specs.declared.records.Raw.Raw, specs.Streams.{StreamSettings, refusal, late_refusal}, specs.Times.{event_after, events}}
 use Rattle.abs_time.{specs.declared.clock.Placed.Placed, specs.Placing.{HasPlaced, IsNext, Moves, place_answer, greatest_by, placed_by}}
 
@@ -14,14 +14,6 @@ ordered_below T3 = 512
 -- the greatest time with a record, which is not late
 abbrev pub greatest_with_row : ℕ → ℕ → ℕ → Row → ℕ
 greatest_with_row ordered greatest base row = if nat_lt row.code ordered then base + row.time else greatest
-
--- A row more: its wraps are summed, the greatest time and whether all are in order go on, and one event is added at most.
-pub record GoesBy (ordered unit : ℕ) (row : Row) (old new : Ahead) : Type 0 where
-  pub base : new.base ≡ old.base + unit * row.wraps
-  pub greatest : new.greatest ≡ greatest_with_row ordered old.greatest old.base row
-  pub in_order : new.in_order ≡ (old.in_order && nat_le old.greatest new.greatest)
-  pub behind : old.len ≤ new.len
-  pub few : new.len ≤ old.len + 1
 
 -- those of all events, or of those in order alone
 abbrev pub gathered_below : Bool → Mode → ℕ

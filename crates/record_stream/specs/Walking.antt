@@ -1,6 +1,6 @@
 -- How far a walk is.
 use Rattle.std.specs.Prelude.{ℕ, Bool, true, not, IsTrue, ◌&&◌, ◌≡◌, ◌+◌, ◌^◌, ◌<◌, ◌≤◌, List, [], ◌∷◌, ◌++◌, length, map, count_by}
-use Rattle.tally_base.{specs.declared.event.Event.Event, specs.Columns.{count, sorted}, specs.declared.block.Block.Block, specs.Events.{is_ordered, stops_reserved}, specs.Limits.wrap_limit}
+use Rattle.tally_base.{specs.declared.event.Event.Event, specs.Events.{is_ordered, stops_reserved}, specs.Limits.wrap_limit}
 use Rattle.ptu_definitions.{specs.declared.records.Raw.Raw, specs.declared.records.Summary.Summary, specs.Kept.Marked, specs.Kinds.is_reserved, specs.Streams.{StreamSettings, reading}, specs.Words.numbers}
 use Rattle.abs_time.{specs.declared.clock.Clock.Clock, specs.Placing.{base_of, greatest_by, placed_by, IsSmall, LeadsOn}, specs.Floors.moved_floor}
 use Rattle.record_stream.{specs.Blocks.{chosen as chosen_of, Adds, IsInLine, RisesWithin}, specs.Feeding.{IsAt, Follows, GaveOn}, specs.declared.taker.EventTaker.Ghosts, specs.OneMore.{with_event, summed}, specs.declared.walk.Walk.Walk}
@@ -50,27 +50,22 @@ AddsBehind walk words sum greatest es =
 abbrev pub LeadsBehind : Walk → List (List ℕ) → ℕ → ℕ → Type 0
 LeadsBehind walk words sum greatest = LeadsOn (clock_in walk) (placed_by (clock_in walk) + length words) sum greatest (map (how_of walk).meaning (numbers words))
 
--- These are the events of some words that come next, or those in order alone. Up to this sum of wraps and this greatest
--- time none of them is late, where that is said.
-pub record Gathers (walk : Walk) (words : List (List ℕ)) (only_ordered in_order : Bool) (sum greatest : ℕ) (es : List Event) : Type 0 where
+-- These are the events of some words that come next, or those in order alone. None of them is late, up to this sum of
+-- wraps and this greatest time.
+pub record Gathers (walk : Walk) (words : List (List ℕ)) (only_ordered : Bool) (sum greatest : ℕ) (es : List Event) : Type 0 where
   pub limit : sum ≤ wrap_limit
   pub came : List Event
   pub chosen : es ≡ chosen_of only_ordered (how_of walk).mode came
   pub places : RisesWithin (placed_by (clock_in walk)) (placed_by (clock_in walk) + length words) came
-  pub in_line : in_order ≡ true → IsInLine (how_of walk).mode (greatest_of walk) greatest came
-  pub leads : in_order ≡ true → LeadsBehind walk words sum greatest
-  pub adds : in_order ≡ true → AddsBehind walk words sum greatest came
+  pub in_line : IsInLine (how_of walk).mode (greatest_of walk) greatest came
+  pub leads : LeadsBehind walk words sum greatest
+  pub adds : AddsBehind walk words sum greatest came
 
 -- None of these words can be refused as one too many, for its wraps or as reserved.
 pub record LetsPass (walk : Walk) (meaning : ℕ → Raw) (words : List (List ℕ)) : Type 0 where
   pub room : records_of walk + length words ≤ (how_of walk).policy.records
   pub base : base_of (clock_in walk) + 2 ^ 56 ≤ wrap_limit
   pub reserved : stops_reserved (how_of walk).policy.reserved ≡ true → count_by is_reserved (map meaning (numbers words)) ≡ 0
-
--- A block with no events, of which no groups are known.
-pub record IsBlank {N : ℕ} (block : Block N) : Type 0 where
-  pub empty : count block ≡ 0
-  pub unsorted : sorted block ≡ 0
 
 module _ {T : Type 0} (g : Ghosts T) where
   -- The taker is of the mode of the walk, and no further on.

@@ -1,25 +1,51 @@
--- The records of a whole block that stay.
-use Rattle.std.specs.Prelude.{ℕ, zero, suc, ◌≡◌, ◌≤◌, ◌+◌, ◌%◌, ◌^◌, Bool, List, ◌++◌, length, nat_lt, if◌then◌else◌}
-use Rattle.tally_base.{specs.declared.event.Event.Event, specs.Codes.{code_in, dtime_in}, specs.Columns.{event_by, count, sorted, gathered, written}, specs.declared.block.Block.Block}
-use Rattle.record_stream.{specs.declared.blocks.Ahead.Ahead, specs.declared.walk.Walk.Walk, specs.Walking.Gathers}
-use Rattle.lane_decode.{specs.declared.compacted.Compacted.Compacted, specs.InCompacted.{mark_at, place_at, time_at}}
+-- A block of words whose records are in columns.
+use Rattle.std.{specs.Prelude.{ℕ, zero, suc, ◌≡◌, ◌<◌, ◌≤◌, ◌+◌, ◌%◌, ◌^◌, Bool, List, length, map, nat_lt, None, Some, if◌then◌else◌}, specs.declared.option.Option.Option, specs.Option.unwrap_or}
+use Rattle.tally_base.{specs.declared.event.Event.Event, specs.Codes.{code_in, dtime_in}, specs.Columns.event_by, specs.Limits.record_limit}
+use Rattle.ptu_definitions.{specs.Kinds.counts_of, specs.Words.numbers}
+use Rattle.record_layout.specs.Sums.{IsSplit}
+use Rattle.abs_time.{specs.declared.clock.Clock.Clock, specs.Placing.{base_of, mode_of, placed_by}}
+use Rattle.record_stream.{specs.declared.ahead.Ahead.Ahead, specs.declared.walk.Walk.Walk, specs.Rows.{ordered_below, gathered_below}, specs.Walking.{how_of, greatest_of, records_of, clock_in, Gathers}}
+use Rattle.lane_decode.{specs.declared.columns.Columns.Columns, specs.InColumns.{row_at, wraps_at, time_in}, specs.declared.compacted.Compacted.Compacted, specs.InCompacted.{staying, mark_at, place_at, time_at}}
 
--- the event of a record, where the first of the columns has this place
+-- the event of a record, where so many were placed before the first one, whose time counts from this base
+abbrev pub event_in : ℕ → ℕ → ℕ → Columns → ℕ → Event
+event_in placed base unit columns i = event_by (placed + i + 1) (row_at columns i).code (row_at columns i).dtime (time_in base unit columns i)
+
+-- the events of the records whose codes are below this one
+abbrev pub events_below : ℕ → Clock → ℕ → Columns → List Event
+events_below below clock unit columns = map (event_in (placed_by clock) (base_of clock) unit columns) (staying below columns 64)
+
+-- the event of a record that was put close to others
 abbrev pub close_event : ℕ → ℕ → ℕ → Compacted → ℕ → Event
 close_event first base unit close i = event_by ((first + place_at close i) % 2 ^ 64) (code_in (mark_at close i)) (dtime_in (mark_at close i)) (time_at base unit close i % 2 ^ 64)
 
--- the last of the first so many times whose code is below this one, or else a lower time
-unfoldable pub last_below : ℕ → ℕ → (ℕ → ℕ) → (ℕ → ℕ) → ℕ → ℕ
-last_below ordered low codes times zero = low
-last_below ordered low codes times (suc n) = if nat_lt (codes n) ordered then times n else last_below ordered low codes times n
+-- the last of the first so many times whose code is below this one
+unfoldable pub last_below : ℕ → (ℕ → ℕ) → (ℕ → ℕ) → ℕ → Option ℕ
+last_below below codes times zero = None
+last_below below codes times (suc n) = if nat_lt (codes n) below then Some (times n) else last_below below codes times n
 
--- Behind the events of a block those of some words were written, or those in order alone; up to the end that is told they
--- are what comes next.
-pub record GathersBehind {N : ℕ} (walk : Walk) (words : List (List ℕ)) (only_ordered : Bool) (old new : Block N) (ahead : Ahead) : Type 0 where
-  pub es : List Event
-  pub rows : written new ahead.len ≡ gathered old ++ es
-  pub gathers : Gathers walk words only_ordered ahead.in_order ahead.base ahead.greatest es
-  pub few : length es ≤ length words
-  pub same : gathered new ≡ gathered old
-  pub same_count : count new ≡ count old
-  pub same_sorted : sorted new ≡ sorted old
+-- that of records
+abbrev pub last_time : ℕ → ℕ → ℕ → Columns → Option ℕ
+last_time below base unit columns = last_below below (λ i. (row_at columns i).code) (time_in base unit columns) 64
+
+-- Their places and times are numbers of 64 bits.
+pub record InReach (clock : Clock) (unit : ℕ) (columns : Columns) : Type 0 where
+  pub few : (i : ℕ) → i < 64 → wraps_at columns i ≤ 2 ^ 25
+  pub times : (i : ℕ) → i < 64 → time_in (base_of clock) unit columns i < 2 ^ 64
+  pub places : placed_by clock + 64 ≤ record_limit
+
+-- What their events are, in short.
+pub record IsAhead (clock : Clock) (unit : ℕ) (columns : Columns) (ahead : Ahead) : Type 0 where
+  pub events : ahead.counts.photons + ahead.counts.markers ≡ length (events_below 512 clock unit columns)
+  pub last : ahead.last ≡ last_time 512 (base_of clock) unit columns
+  pub greatest : ahead.greatest ≡ last_time (ordered_below (mode_of clock)) (base_of clock) unit columns
+
+-- None of the words is refused, no event of theirs is late, and this is where they lead.
+pub record LeadsTo (walk : Walk) (words : List (List ℕ)) (unit : ℕ) (columns : Columns) (ahead : Ahead) : Type 0 where
+  pub counts : ahead.counts ≡ counts_of (map (how_of walk).meaning (numbers words))
+  pub records : ahead.counts.records ≡ length words
+  pub split : IsSplit ahead.counts
+  pub room : records_of walk + 64 ≤ (how_of walk).policy.records
+  pub reach : InReach (clock_in walk) unit columns
+  pub in_short : IsAhead (clock_in walk) unit columns ahead
+  pub gathers : (only : Bool) → Gathers walk words only ahead.base (unwrap_or ahead.greatest (greatest_of walk)) (events_below (gathered_below only (how_of walk).mode) (clock_in walk) unit columns)

@@ -4,7 +4,13 @@ ghost use Rattle.abs_time.proofs.Floors.{kind_fits-prop};
 ghost use Rattle.tally_base.{specs.FaultCounts.FailsOnce, specs.Columns.{sorted, gathered}, proofs.Floors.in_order-prop};
 ghost use Rattle.record_stream.specs.InBlocks.{GoesOn, Breaks, Waits};
 
+use crate::ahead::Ahead;
+use crate::blocks::put_events;
+use crate::columns_taker::TakesColumns;
 use crate::taker::EventTaker;
+use abs_time::Clock;
+use lane_decode::{Columns, Compacted};
+use record_layout::RecordLayout;
 use tally_base::{BLOCK_SIZE, Block, Event, Failed, TABLE_BLOCK};
 
 /// Gives a taker the events that wait, so that none does.
@@ -57,6 +63,8 @@ pub struct InBlocks<'t, S: EventTaker> {
     pub taker: &'t mut S,
     // The events that it is given next, with room for those of 64 words more.
     pub block: Block<TABLE_BLOCK>,
+    // Room for the records of 64 words that stay.
+    pub close: Compacted,
     ghost waits: { Waits S.EventTaker taker.now block } by { Prim.hlevel (props, in_order-prop, kind_fits-prop) },
     ghost room: { length (gathered block) + 64 ≤ 1024 },
 }
@@ -107,6 +115,19 @@ impl<'t, S: EventTaker> EventTaker for InBlocks<'t, S> {
         }
         make_room(self.taker, &mut self.block, more)?;
         self.block.push_front(block, more);
+        make_room(self.taker, &mut self.block, BLOCK_SIZE)
+    }
+}
+
+impl<'t, S: EventTaker> TakesColumns for InBlocks<'t, S> {
+    #[inline(always)]
+    fn take_columns<R: RecordLayout>(
+        &mut self,
+        clock: &Clock,
+        columns: &Columns,
+        _ahead: &Ahead,
+    ) -> Result<(), Failed> {
+        put_events::<R>(clock, columns, 512, &mut self.close, &mut self.block);
         make_room(self.taker, &mut self.block, BLOCK_SIZE)
     }
 }

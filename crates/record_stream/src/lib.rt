@@ -2,7 +2,9 @@
 //! with `stream.rt` and `taker.rt`; `blocks.rt` takes 64 words at a time, and `walk.rt` one.
 #![tactic(auto)]
 
+mod ahead;
 mod blocks;
+mod columns_taker;
 mod count;
 mod in_blocks;
 pub mod laws;
@@ -11,6 +13,7 @@ mod settled;
 mod settled_blocks;
 mod stream;
 mod taker;
+mod unwritten;
 mod walk;
 
 pub use ptu_definitions::Summary;

@@ -2,17 +2,20 @@
 ghost use Rattle.std.{specs.Prelude.{◌≡◌, ◌+◌, ◌*◌, ◌<◌, ◌≤◌, ◌++◌, ◌∷◌, [], List, ℕ, length, None, Some, OnOk, OnErr, IfErr, ◌≢◌, ◌&&◌, not, IsTrue, if◌then◌else◌, Err, true, false}, proofs.Props.props};
 ghost use Rattle.abs_time.{proofs.Floors.kind_fits-prop, specs.Placing.IsSmall};
 ghost use Rattle.tally_base.{specs.Limits.record_limit, specs.declared.fault.Fault.Fault, specs.declared.fault.Fault.TheVariants.WriteFault, specs.FaultCounts.{FailsOnce, Rose}, specs.Events.is_ordered, specs.Faults.{is_outside, fault_in}, specs.Columns.gathered};
-ghost use Rattle.ptu_definitions.{specs.Kept.Marked, specs.Streams.{reading, streamed}, specs.Layouts.Fits, specs.Words.numbers, specs.Headers.Shows};
+ghost use Rattle.ptu_definitions.{specs.Kept.Marked, specs.Streams.{reading, record_refusal, streamed}, specs.Layouts.Fits, specs.Words.{numbers, words_of}, specs.Headers.Shows};
 ghost use Rattle.record_stream.specs.Keeping.{IsKeeping};
 
 use crate::blocks::take_words;
+use crate::columns_taker::TakesColumns;
 use crate::count::Sums;
 use crate::in_blocks::{InBlocks, give_all};
 use crate::settled::give_rest;
 use crate::settled_blocks::settle_blocks;
 use crate::taker::EventTaker;
+use crate::unwritten::Unwritten;
 use crate::walk::Walk;
 use abs_time::Clock;
+use lane_decode::Compacted;
 use ptu_definitions::Summary;
 use record_layout::{BegunWord, RecordLayout, in_layout};
 use settle::Settle;
@@ -38,7 +41,7 @@ pub struct RecordStream {
 }
 
 impl RecordStream {
-    ghost use Rattle.record_stream.{specs.OneMore.with_event, specs.Feeding.{Follows, Delivers, FedPiece}, specs.Standing.{how_of, given_by, greatest_of, refused_with, carried_by, kept_back_by, records_of, bytes_in, summary_in, clock_in, IsBehind, CarriesOn, HasStreamed, IsFollowed, StreamsOn, Stays}, specs.Ending.Ended};
+    ghost use Rattle.record_stream.{specs.OneMore.with_event, specs.Feeding.{Follows, Delivers, FedPiece}, specs.Standing.{how_of, given_by, greatest_of, refused_with, carried_by, kept_back_by, records_of, bytes_in, summary_in, clock_in, IsBehind, CarriesOn, HasStreamed, IsFollowed, StreamsOn, Stays}, specs.Ending.Ended, specs.Pieces.TakesOn};
 
     /// The stream of a file of this type, which was given no bytes. The greatest number of records is 1
     /// to 2^40, and at most 64 events may overtake one.
@@ -111,66 +114,62 @@ impl RecordStream {
     }
 
     /// Takes the next words.
-    fn words<'t, R: RecordLayout, S: EventTaker>(
+    fn words<R: RecordLayout, W: TakesColumns>(
         &mut self,
         words: &[[u8; 4]],
-        taker: &mut InBlocks<'t, S>,
+        taker: &mut W,
     ) -> Result<(), Fault>
         requires meaning { R.meaning ≡ (how_of self.old).meaning }
-        requires follows { IsFollowed ⟦<InBlocks<'t, S> as EventTaker>⟧ self.old taker.old }
-        ensures delivers { Delivers ⟦<InBlocks<'t, S> as EventTaker>⟧ (how_of self.old) (IsBehind self.old)
+        requires follows { IsFollowed W.EventTaker self.old taker.old }
+        ensures delivers { Delivers W.EventTaker (how_of self.old) (IsBehind self.old)
             (IsBehind self.new) taker.old taker.new (numbers words.now) result }
         ensures goes_on { OnOk result
-            (StreamsOn ⟦<InBlocks<'t, S> as EventTaker>⟧ self.old self.new taker.new (4 * length words.now)) }
+            (StreamsOn W.EventTaker self.old self.new taker.new (4 * length words.now)) }
         ensures carried { carried_by self.new ≡ carried_by self.old }
-        ensures stays { Stays ⟦<InBlocks<'t, S> as EventTaker>⟧ self.old self.new taker.old taker.new }
+        ensures stays { Stays W.EventTaker self.old self.new taker.old taker.new }
     {
         if self.walk.policy.settle == 0 {
-            take_words::<R, S>(&mut self.walk, words, taker)
+            take_words::<R, W>(&mut self.walk, words, taker)
         } else {
-            settle_blocks::<R, InBlocks<'t, S>>(&mut self.walk, &mut self.settle, words, taker)
+            settle_blocks::<R, W>(&mut self.walk, &mut self.settle, words, taker)
         }
     }
 
     /// Takes a piece in this layout.
-    fn piece<'t, R: RecordLayout, S: EventTaker>(
+    fn piece<R: RecordLayout, W: TakesColumns>(
         &mut self,
         piece: &[u8],
-        taker: &mut InBlocks<'t, S>,
+        taker: &mut W,
     ) -> Result<(), Fault>
         requires meaning { R.meaning ≡ (how_of self.old).meaning }
-        requires follows { IsFollowed ⟦<InBlocks<'t, S> as EventTaker>⟧ self.old taker.old }
+        requires follows { IsFollowed W.EventTaker self.old taker.old }
         ensures at { (bytes : List ℕ) → CarriesOn self.old bytes
             → OnOk result (CarriesOn self.new (bytes ++ piece.now)) }
         ensures fed { (bytes : List ℕ) → CarriesOn self.old bytes
-            → FedPiece ⟦<InBlocks<'t, S> as EventTaker>⟧ (how_of self.old) taker.old taker.new bytes piece.now
+            → FedPiece W.EventTaker (how_of self.old) taker.old taker.new bytes piece.now
             result }
         ensures goes_on { OnOk result
-            (StreamsOn ⟦<InBlocks<'t, S> as EventTaker>⟧ self.old self.new taker.new (length piece.now)) }
-        ensures stays { Stays ⟦<InBlocks<'t, S> as EventTaker>⟧ self.old self.new taker.old taker.new }
+            (StreamsOn W.EventTaker self.old self.new taker.new (length piece.now)) }
+        ensures stays { Stays W.EventTaker self.old self.new taker.old taker.new }
     {
         let (first, words) = self.carried.take(piece);
-        self.words::<R, S>(first.as_slice(), taker)?;
-        self.words::<R, S>(words, taker)
+        self.words::<R, W>(first.as_slice(), taker)?;
+        self.words::<R, W>(words, taker)
     }
 
     /// Takes a piece in the layout of the record type.
-    fn by_type<'t, S: EventTaker>(
-        &mut self,
-        piece: &[u8],
-        taker: &mut InBlocks<'t, S>,
-    ) -> Result<(), Fault>
-        requires follows { IsFollowed ⟦<InBlocks<'t, S> as EventTaker>⟧ self.old taker.old }
+    fn by_type<W: TakesColumns>(&mut self, piece: &[u8], taker: &mut W) -> Result<(), Fault>
+        requires follows { IsFollowed W.EventTaker self.old taker.old }
         ensures at { (bytes : List ℕ) → CarriesOn self.old bytes
             → OnOk result (CarriesOn self.new (bytes ++ piece.now)) }
         ensures fed { (bytes : List ℕ) → CarriesOn self.old bytes
-            → FedPiece ⟦<InBlocks<'t, S> as EventTaker>⟧ (how_of self.old) taker.old taker.new bytes piece.now
+            → FedPiece W.EventTaker (how_of self.old) taker.old taker.new bytes piece.now
             result }
         ensures goes_on { OnOk result
-            (StreamsOn ⟦<InBlocks<'t, S> as EventTaker>⟧ self.old self.new taker.new (length piece.now)) }
-        ensures stays { Stays ⟦<InBlocks<'t, S> as EventTaker>⟧ self.old self.new taker.old taker.new }
+            (StreamsOn W.EventTaker self.old self.new taker.new (length piece.now)) }
+        ensures stays { Stays W.EventTaker self.old self.new taker.old taker.new }
     {
-        in_layout!(self.walk.record_type, self.piece::<R, S>(piece, taker))
+        in_layout!(self.walk.record_type, self.piece::<R, W>(piece, taker))
     }
 
     /// Takes a piece, and gives its events in blocks. None waits for the next call, nor behind a refusal.
@@ -216,6 +215,7 @@ impl RecordStream {
         let mut blocks = InBlocks {
             taker,
             block: Block::new(),
+            close: Compacted::new(),
         };
         self.whole(piece, &mut blocks)
     }
@@ -254,6 +254,37 @@ impl RecordStream {
             return Err(fault);
         }
         match self.in_blocks(piece, taker) {
+            Ok(()) => Ok(()),
+            Err(fault) => {
+                self.refused = Some(fault);
+                Err(fault)
+            }
+        }
+    }
+
+    /// Takes a piece of the bytes, whose events nobody is given: it does the same as `feed`, and refuses the same.
+    pub fn pass(&mut self, piece: &[u8]) -> Result<(), Fault>
+        ensures takes { TakesOn self.old self.new piece.now }
+        ensures answer { refused_with self.old ≡ None → (bytes : List ℕ) → HasStreamed self.old bytes
+            → fault_in result ≡ record_refusal (how_of self.old) (words_of (bytes ++ piece.now)) }
+        ensures kept { (fault : Fault) → refused_with self.old ≡ Some fault
+            → (result ≡ Err fault) × (self.new ≡ self.old) }
+        ensures refused { refused_with self.new ≡ fault_in result }
+        ensures counted { OnOk result (bytes_in self.new ≡ bytes_in self.old + length piece.now) }
+        ensures few { length (kept_back_by self.new) ≤ (how_of self.new).policy.settle }
+        ensures shown { (bytes : List ℕ) → HasStreamed self.old bytes
+            → IfErr result (λ fault. fault ≢ WriteFault → Shows (streamed (how_of self.old))
+            (bytes ++ piece.now) (Err fault)) }
+    {
+        if let Some(fault) = self.refused {
+            return Err(fault);
+        }
+        let mut taker = Unwritten {
+            mode: self.walk.clock.mode(),
+            taken: self.given(),
+            floor: self.greatest(),
+        };
+        match self.by_type(piece, &mut taker) {
             Ok(()) => Ok(()),
             Err(fault) => {
                 self.refused = Some(fault);

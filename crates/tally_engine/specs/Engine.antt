@@ -1,7 +1,7 @@
 -- What an engine stands for.
-use Rattle.std.{specs.Prelude.{◌≡◌, ◌<◌, ℕ, All, ◌+◌, List, length, sum_by, None, Result, Ok, Err, ◌⊎◌}, specs.declared.option.Option.Option}
-use Rattle.tally_base.{specs.declared.fault.Fault.Fault, specs.declared.header.Header.Header, specs.declared.header.Mode.Mode, specs.Settings.{PartSettings, entries}, specs.declared.fault.Fault.TheVariants.OutOfMemory}
-use Rattle.ptu_definitions.{specs.Streams.{StreamSettings, streamed}, specs.Words.words_of}
+use Rattle.std.{specs.Prelude.{◌≡◌, ◌<◌, ◌≤◌, ℕ, All, ◌+◌, ◌*◌, ◌++◌, IfErr, OnOk, List, length, sum_by, None, Result, Ok, Err, ◌⊎◌}, specs.declared.option.Option.Option}
+use Rattle.tally_base.{specs.declared.fault.Fault.Fault, specs.declared.header.Header.Header, specs.declared.header.Mode.Mode, specs.Settings.{PartSettings, entries}, specs.declared.fault.Fault.TheVariants.OutOfMemory, specs.Faults.fault_in, specs.Limits.record_limit}
+use Rattle.ptu_definitions.{specs.Headers.Shows, specs.Streams.{StreamSettings, record_refusal, streamed}, specs.Words.words_of}
 use Rattle.record_stream.specs.Standing.{how_of, refused_with, carried_by, kept_back_by, bytes_in, HasStreamed}
 use Rattle.plan_text.{specs.Plan.{PlanView, parts_of}, specs.Fits.fits}
 use Rattle.gate_plan.{specs.Shifting.{Sorting, sorting}, specs.Groups.sorting_of, specs.Histories.{history, settled_history, reading_by}}
@@ -62,6 +62,17 @@ held engine = entries_in engine.parts.items + length (carried_by engine.stream) 
 -- how many it keeps at most
 abbrev pub bound : Engine → ℕ
 bound engine = 48 + (reading_of engine).policy.settle + sum_by entries (parts_in engine)
+
+-- An engine that had refused nothing was given a piece: this is what it answers, and where it stands then.
+pub record TakesPiece {X : Type 0} (old new : Engine) (piece : List ℕ) (answer : Result X Fault) : Type 0 where
+  pub taken : (bytes : List ℕ) → HasFed old bytes → HasFed new (bytes ++ piece)
+  pub told : (bytes : List ℕ) → HasFed old bytes → fault_in answer ≡ record_refusal (reading_of old) (words_of (bytes ++ piece))
+  pub refused : refused_by new ≡ fault_in answer
+  pub shown : (bytes : List ℕ) → HasFed old bytes → IfErr answer (λ fault. Shows (streamed (reading_of old)) (bytes ++ piece) (Err fault))
+  pub counted : OnOk answer (bytes_fed new ≡ bytes_fed old + length piece)
+  pub limit : bytes_fed new ≤ 4 * record_limit + 3
+  pub same : SameEngine old new
+  pub within : held new ≤ bound new
 
 -- ## What comes of it
 

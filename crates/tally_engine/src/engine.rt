@@ -37,7 +37,7 @@ pub struct Engine {
 }
 
 impl Engine {
-    ghost use Rattle.tally_engine.specs.Engine.{OpensAs, reading_of, refused_by, bytes_fed, HasFed, IsFor, SameEngine, Finishes, held, bound};
+    ghost use Rattle.tally_engine.specs.Engine.{OpensAs, TakesPiece, parts_in, reading_of, refused_by, bytes_fed, HasFed, IsFor, SameEngine, Finishes, held, bound};
 
     /// An engine of no bytes, for a plan and the header of a file.
     ///
@@ -94,6 +94,26 @@ impl Engine {
         if let Some(refusal) = self.stream.refusal() {
             return Err(refusal);
         }
+        if self.parts.is_empty() {
+            return self.pass(piece);
+        }
+        self.count(piece, steps)
+    }
+
+    /// Takes a piece where there is no table, so that no event is written.
+    fn pass(&mut self, piece: &[u8]) -> Result<(), Fault>
+        requires going { refused_by self.old ≡ None }
+        requires none { length (parts_in self.old) ≡ 0 }
+        ensures { TakesPiece self.old self.new piece.now result }
+    {
+        self.stream.pass(piece)
+    }
+
+    /// Takes a piece, and gives its events to every table.
+    fn count<L: Ledger>(&mut self, piece: &[u8], steps: &mut Steps<L>) -> Result<(), Fault>
+        requires going { refused_by self.old ≡ None }
+        ensures { TakesPiece self.old self.new piece.now result }
+    {
         let mut taker = PartTaker {
             gates: &self.gates,
             parts: &mut self.parts,

@@ -23,9 +23,6 @@ pub(crate) fn give<L: Ledger>(
     ensures took { Each (HasTaken ⟦<Part as Tally>⟧ (gathered block.old)
         (with_groups (sorting_of gates.now) (gathered block.old))) parts.old parts.new }
 {
-    if parts.is_empty() {
-        return;
-    }
     if block.len() > 0 {
         sort_events(gates, block);
         give_all(parts, block, steps);

@@ -1,127 +1,104 @@
-use Rattle.std.{proofs.Common.{subst, ◌≡◌, ◌≤◌, ◌<◌, [], length, refl, ap, sym, inr, ◌∙◌, append-nil, drop, length-append, arith, rules}, proofs.Math.Seq.drop-append_seam}
-use Rattle.abs_time.{specs.Placing.greatest_by, specs.Floors.orders_markers}
-use Rattle.tally_base.{specs.declared.header.Mode.Mode, specs.Columns.{event_at, gathered}, specs.Tally.floor_after, proofs.BlockRows.length-rows}
-use Rattle.ptu_definitions.specs.Words.{numbers}
-use Rattle.record_stream.{specs.InBlocks.floor_with, specs.Walking.{how_of, greatest_of, given_by}, proofs.Gathering.{gathers-all, gathers-lead, behind-many}, proofs.Feeds.{delivers-both, delivers-behind}, proofs.Steps.{ok_of, err_of, block_at, block_fed, block_broke, floors_below, length-on_time}, proofs.InBlocks.{fits-line, waits-push, goes_on-trans, goes_on-last, goes_on-push, breaks-behind, breaks-last, floor_of-line}}
+use Rattle.std.proofs.Common.{◌≡◌, [], false, max, refl, ap, sym, subst, inr, ◌∙◌, unwrap_or, arith}
+use Rattle.tally_base.{specs.declared.header.Mode.Mode, proofs.Floors.order-lower}
+use Rattle.ptu_definitions.{specs.Words.numbers, specs.Kept.floor_of}
+use Rattle.abs_time.specs.{Floors.orders_markers}
+use Rattle.record_stream.{specs.Blocks.on_time, specs.Feeding.CanTake, specs.Whole.events_below, specs.Walking.{how_of, greatest_of, clock_in}, proofs.Gathering.{gathers-all, gathers-lead}, proofs.Feeds.delivers-both, proofs.Steps.{ok_of, err_of, block_at, block_fed, block_broke, length-on_time}, proofs.InBlocks.floor_of-line, proofs.WholeBlocks.{few-events, last-event, first-event}}
 use Rattle.record_stream.proofs.blocks.take_block.Goals as goal
 
-pub returns-then-not-ahead-clause-delivers : goal.returns-then-not-ahead-clause-delivers
-returns-then-not-ahead-clause-delivers g c =
-    let same = c.gather-ahead.ensures.gathers.same in
-    delivers-behind _ (λ start l on. rw same on) refl c.words-then-not-ahead.ensures.delivers
-
-pub keep-requires : goal.keep-requires
-keep-requires g c =
-    let of = c.gather-ahead.ensures.gathers in
-    let len = behind-many c.args.taker.now.block c.gather-ahead.new.block c.gather-ahead.result.len of.es of.rows in
-    let old = length-rows (event_at c.args.taker.now.block) c.args.taker.now.block.len in
-    (omega (arith, len, of.same_count), omega (arith, len, of.few, c.requires.few, c.args.taker.now.room, old))
+pub take_columns-requires-clause-can : goal.take_columns-requires-clause-can
+take_columns-requires-clause-can g c =
+    let walk = c.args.walk.now in
+    let lead = c.in-Some.ensures in
+    let unit = g.R.RecordLayout.UNIT in
+    let columns = c.fill.new.self in
+    let es = events_below 512 (clock_in walk) unit columns in
+    let line = (gathers-all walk c.args.words.now _ _ es (lead.gathers false)).0 in
+    let follows = c.requires.ready.follows in
+    let few = few-events (clock_in walk) unit columns 512 in
+    subst (λ (m : Mode). CanTake g.W.EventTaker m c.args.taker.now es) (sym walk.same_mode) (record {
+      mode_is = follows.mode_is;
+      room = omega (arith, follows.few, walk.few_given, walk.limit, lead.room, few);
+      fit = line.fit;
+      in_order = order-lower (orders_markers (how_of walk).mode) _ (greatest_of walk) es follows.before line.in_order;
+    })
 
 pub go_on-requires-clause-stands : goal.go_on-requires-clause-stands
 go_on-requires-clause-stands g c =
-    gathers-lead _ c.gather-ahead.ensures.gathers.gathers (search rules) (omega (arith, c.placed.ensures.value, c.kinds-counts.ensures.records))
+    let lead = c.in-Some.ensures in
+    rw (c.unwrap_or-greatest.ensures, c.greatest-low.ensures)
+    (gathers-lead _ (lead.gathers false) (omega (arith, c.placed.ensures.value, lead.records)))
 
-pub overflow_sub-walk : goal.overflow_sub-walk
-overflow_sub-walk g c =
-    let of = c.gather-ahead.ensures.gathers in
-    let len = behind-many c.args.taker.now.block c.gather-ahead.new.block c.gather-ahead.result.len of.es of.rows in
-    omega (arith, len, c.len-start.ensures.count)
+pub go_on-requires-clause-limit : goal.go_on-requires-clause-limit
+go_on-requires-clause-limit g c = (c.in-Some.ensures.gathers false).limit
 
 pub overflow_add-walk : goal.overflow_add-walk
 overflow_add-walk g c =
-    let of = c.gather-ahead.ensures.gathers in
-    let len = behind-many c.args.taker.now.block c.gather-ahead.new.block c.gather-ahead.result.len of.es of.rows in
-    omega (arith, len, of.few, c.requires.few, c.args.walk.now.few_given, c.args.walk.now.few, c.args.walk.now.limit)
+    let lead = c.in-Some.ensures in
+    let walk = c.args.walk.now in
+    omega (arith, walk.few_given, walk.limit, lead.room, lead.in_short.events, few-events (clock_in walk) g.R.RecordLayout.UNIT c.fill.new.self 512)
+
+pub overflow_add-walk-2 : goal.overflow_add-walk-2
+overflow_add-walk-2 g c =
+    let lead = c.in-Some.ensures in
+    let walk = c.args.walk.now in
+    omega (arith, walk.few_given, walk.limit, lead.room, lead.in_short.events, few-events (clock_in walk) g.R.RecordLayout.UNIT c.fill.new.self 512)
 
 pub invariant_of-walk-clause-few_given : goal.invariant_of-walk-clause-few_given
 invariant_of-walk-clause-few_given g c =
-    let of = c.gather-ahead.ensures.gathers in
-    let len = behind-many c.args.taker.now.block c.gather-ahead.new.block c.gather-ahead.result.len of.es of.rows in
-    omega (arith, len, of.few, c.len-start.ensures.count, c.args.walk.now.few_given, c.add_block.ensures.records, c.kinds-counts.ensures.records)
-
-pub make_room-requires : goal.make_room-requires
-make_room-requires g c =
-    let s = g.S.EventTaker in
-    let walk = c.args.walk.now in
-    let taker = c.args.taker.now in
-    let of = c.gather-ahead.ensures.gathers in
-    let all = gathers-all walk c.args.words.now _ _ _ of.es of.gathers (search rules) in
-    let follows = c.requires.ready.follows in
-    let fits = fits-line s taker.taker.now (how_of walk).mode (gathered taker.block) of.es (greatest_of walk) _ (given_by walk) follows.mode_is follows.before all.0 follows.few
-    (omega (arith, of.few, c.requires.few, walk.few_given, c.if-not-fits.false, walk.limit, walk.few, c.kinds-counts.ensures.records)) in
-    record { waits = (waits-push s taker.taker.now taker.block c.keep.new.self of.es taker.waits (c.keep.ensures.kept ∙ of.rows) (c.keep.ensures.unsorted ∙ of.same_sorted) fits, omega arith) }
+    let lead = c.in-Some.ensures in
+    omega (arith, c.args.walk.now.few_given, c.add_block.ensures.records, lead.split, lead.records)
 
 pub returns-then-is_err-clause-delivers : goal.returns-then-is_err-clause-delivers
-returns-then-is_err-clause-delivers g c = delivers-both _ (λ before h.
-    let s = g.S.EventTaker in
+returns-then-is_err-clause-delivers g c = delivers-both g.W.EventTaker (λ before h.
     let walk = c.args.walk.now in
-    let taker = c.args.taker.now in
-    let of = c.gather-ahead.ensures.gathers in
-    let all = gathers-all walk c.args.words.now _ _ _ of.es of.gathers (search rules) in
-    let adds = all.1 before h in
-    let follows = c.requires.ready.follows in
-    let fits = fits-line s taker.taker.now (how_of walk).mode (gathered taker.block) of.es (greatest_of walk) _ (given_by walk) follows.mode_is follows.before all.0 follows.few
-    (omega (arith, of.few, c.requires.few, walk.few_given, c.if-not-fits.false, walk.limit, walk.few, c.kinds-counts.ensures.records)) in
-    let are = c.keep.ensures.kept ∙ of.rows in
+    let lead = c.in-Some.ensures in
+    let es = events_below 512 (clock_in walk) g.R.RecordLayout.UNIT c.fill.new.self in
+    let adds = (gathers-all walk c.args.words.now _ _ es (lead.gathers false)).1 before h in
     let failed = sym c.is_err.ensures.value ∙ c.if-is_err.true in
-    let broke = err_of c.make_room.result failed c.make_room.ensures.broken in
-    let some : 0 < length of.es = omega (arith, broke.1, taker.room, ap length are, length-append (gathered taker.block) of.es) in (
-      tt,
-      inr (
-        refl,
-        block_broke of.es h.clear adds (adds.delivers c.requires.ready.plain) _
-            (record { front = of.es; back = []; some = some; are = sym (append-nil of.es); broken = λ start l on. breaks-behind s on (breaks-last s (goes_on-push s _ _ _ of.es are fits.order) broke.0) })
-            (err_of c.make_room.result failed c.make_room.ensures.cause.once),
-      ),
-    ))
+    let r = c.take_columns.result in
+    (tt, inr (refl, block_broke es h.clear adds (adds.delivers c.requires.ready.plain) g.W.EventTaker (err_of r failed c.take_columns.ensures.broken) (err_of r failed c.take_columns.ensures.cause.once))))
 
 pub returns-clause-delivers : goal.returns-clause-delivers
-returns-clause-delivers g c = delivers-both _ (λ before h.
-    let s = g.S.EventTaker in
+returns-clause-delivers g c = delivers-both g.W.EventTaker (λ before h.
     let walk = c.args.walk.now in
-    let taker = c.args.taker.now in
-    let of = c.gather-ahead.ensures.gathers in
-    let all = gathers-all walk c.args.words.now _ _ _ of.es of.gathers (search rules) in
-    let adds = all.1 before h in
+    let lead = c.in-Some.ensures in
+    let unit = g.R.RecordLayout.UNIT in
+    let columns = c.fill.new.self in
+    let words = c.args.words.now in
+    let es = events_below 512 (clock_in walk) unit columns in
+    let adds = (gathers-all walk words _ _ es (lead.gathers false)).1 before h in
     let plain = adds.delivers c.requires.ready.plain in
-    let follows = c.requires.ready.follows in
-    let fits = fits-line s taker.taker.now (how_of walk).mode (gathered taker.block) of.es (greatest_of walk) _ (given_by walk) follows.mode_is follows.before all.0 follows.few
-    (omega (arith, of.few, c.requires.few, walk.few_given, c.if-not-fits.false, walk.limit, walk.few, c.kinds-counts.ensures.records)) in
-    let are = c.keep.ensures.kept ∙ of.rows in
     let fine = sym c.is_err.ensures.value ∙ c.if-is_err.false in
-    let on = goes_on-last s (goes_on-push s _ (gathered taker.block) _ of.es are fits.order) (ok_of c.make_room.result fine c.make_room.ensures.gave) in
-    let len = behind-many taker.block c.gather-ahead.new.block c.gather-ahead.result.len of.es of.rows in
-    let start : c.len-start.result ≡ length (gathered taker.block) = c.len-start.ensures.value in
-    let from : drop c.len-start.result (gathered c.keep.new.self) ≡ of.es = rw (start, are) (drop-append_seam (gathered taker.block) of.es) in (
-      block_at (numbers c.args.words.now) of.es h adds plain (c.go_on.ensures.same_mode ∙ walk.same_mode)
-          (omega (arith, c.go_on.ensures.count, c.placed.ensures.value, c.kinds-counts.ensures.records)) c.go_on.ensures.base c.go_on.ensures.greatest
-          (rw from at c.add_block.ensures.value) (rw c.requires.meaning at c.kinds-counts.ensures.value) (omega (arith, len, c.len-start.ensures.count)),
-      block_fed of.es h.clear adds plain _ (λ start l got. goes_on-trans s got on) (ok_of c.make_room.result fine c.make_room.ensures.cause.kept),
+    let r = c.take_columns.result in
+    let last = last-event (clock_in walk) unit columns ∙ sym lead.in_short.last in
+    let first = first-event (clock_in walk) unit columns walk.sums.kept walk.sums.first c.first_time-first.result c.in-Some.ahead.last last (rw c.base.ensures.value at c.first_time-first.ensures) in
+    let top = c.go_on.ensures.greatest ∙ c.unwrap_or-greatest.ensures ∙ ap (unwrap_or c.in-Some.ahead.greatest) c.greatest-low.ensures in (
+      block_at (numbers words) es h adds plain (c.go_on.ensures.same_mode ∙ walk.same_mode) (omega (arith, c.go_on.ensures.count, c.placed.ensures.value, lead.records))
+          c.go_on.ensures.base top (c.add_block.ensures.value es last first) lead.counts (omega (arith, lead.in_short.events)),
+      block_fed es h.clear adds plain g.W.EventTaker (ok_of r fine c.take_columns.ensures.given).follows (ok_of r fine c.take_columns.ensures.cause.kept),
     ))
 
 pub returns-clause-goes_on : goal.returns-clause-goes_on
 returns-clause-goes_on g c =
-    let s = g.S.EventTaker in
     let walk = c.args.walk.now in
-    let taker = c.args.taker.now in
-    let of = c.gather-ahead.ensures.gathers in
-    let all = gathers-all walk c.args.words.now _ _ _ of.es of.gathers (search rules) in
+    let w = g.W.EventTaker in
+    let lead = c.in-Some.ensures in
+    let es = events_below 512 (clock_in walk) g.R.RecordLayout.UNIT c.fill.new.self in
+    let line = (gathers-all walk c.args.words.now _ _ es (lead.gathers false)).0 in
     let follows = c.requires.ready.follows in
-    let fits = fits-line s taker.taker.now (how_of walk).mode (gathered taker.block) of.es (greatest_of walk) _ (given_by walk) follows.mode_is follows.before all.0 follows.few
-    (omega (arith, of.few, c.requires.few, walk.few_given, c.if-not-fits.false, walk.limit, walk.few, c.kinds-counts.ensures.records)) in
-    let are = c.keep.ensures.kept ∙ of.rows in
     let fine = sym c.is_err.ensures.value ∙ c.if-is_err.false in
-    let on = goes_on-last s (goes_on-push s _ (gathered taker.block) _ of.es are fits.order) (ok_of c.make_room.result fine c.make_room.ensures.gave) in
-    let len = behind-many taker.block c.gather-ahead.new.block c.gather-ahead.result.len of.es of.rows in
-    let moved = on.moved ∙ sym (floor_of-line (s.mode taker.taker.now) (floor_with s taker.taker.now (gathered taker.block)) of.es fits.order) in
-    let below = subst (λ (m : Mode). floor_after (orders_markers m) (floor_with s taker.taker.now (gathered taker.block)) of.es ≤ c.gather-ahead.result.greatest) (sym follows.mode_is)
-    (floors_below (how_of walk).mode (floor_with s taker.taker.now (gathered taker.block)) (greatest_of walk) c.gather-ahead.result.greatest of.es follows.before all.0.greatest) in
-    let bound : floor_with s c.make_room.new.taker (gathered c.make_room.new.block) ≤ greatest_by c.go_on.new.self = omega (arith, moved, below, c.go_on.ensures.greatest) in
+    let given = ok_of c.take_columns.result fine c.take_columns.ensures.given in
+    let taker = c.args.taker.now in
+    let mode = (how_of walk).mode in
+    let got = given.follows taker [] (g.met.W.EventTaker.got_none taker) in
+    let moved : w.floor c.take_columns.new.self ≡ max (w.floor taker) (floor_of mode (on_time es)) = rw follows.mode_is at (g.met.W.EventTaker.floor_is taker _ _ got) in
+    let top = c.go_on.ensures.greatest ∙ c.unwrap_or-greatest.ensures ∙ ap (unwrap_or c.in-Some.ahead.greatest) c.greatest-low.ensures in
+    let most = sym (floor_of-line mode (greatest_of walk) es line.in_order) ∙ line.greatest in
     record {
       follows = record {
-        mode_is = on.same_mode ∙ follows.mode_is;
-        few = omega (arith, on.counted, follows.few, length-on_time of.es, len, c.len-start.ensures.count);
-        before = bound;
+        mode_is = given.same_mode ∙ follows.mode_is;
+        few = omega (arith, g.met.W.EventTaker.taken_is taker _ _ got, follows.few, length-on_time es, lead.in_short.events);
+        before = omega (arith, moved, most, top, follows.before);
       };
-      counted = omega (arith, c.add_block.ensures.records, c.kinds-counts.ensures.records);
+      counted = omega (arith, c.add_block.ensures.records, lead.records);
     }

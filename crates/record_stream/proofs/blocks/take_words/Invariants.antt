@@ -1,13 +1,12 @@
 use Rattle.std.proofs.Common.{◌≡◌, ◌++◌, List, ℕ, length}
 use Rattle.ptu_definitions.specs.Words.{numbers}
 use Rattle.record_stream.specs.Walking.{greatest_of, IsBehind, Took}
-use Rattle.record_stream.specs.contracts.in_blocks.InBlocksEventTaker.TheImpl.{ghosts}
 use Rattle.record_stream.proofs.blocks.take_words.Given as goal
 
 abbrev pub invariant-many : goal.invariant-many
 invariant-many g l =
     (seen : List (List ℕ)) × (l.words ≡ seen ++ l.rest)
-    × Took (ghosts g.row.S g.S.EventTaker g.S.EventTaker-dict) (IsBehind l.fn.walk) (IsBehind l.walk) l.fn.walk l.walk (greatest_of l.walk) l.fn.taker l.taker (numbers seen) (length seen)
+    × Took g.W.EventTaker (IsBehind l.fn.walk) (IsBehind l.walk) l.fn.walk l.walk (greatest_of l.walk) l.fn.taker l.taker (numbers seen) (length seen)
 
 abbrev pub decreases-many : goal.decreases-many
 decreases-many g l = length l.rest

@@ -1,9 +1,9 @@
-use Rattle.std.{proofs.Common.{◌≡◌, ◌≤◌, ◌++◌, ℕ, List, length, map, refl, ap, sym, inr, ◌∙◌, arith, rules, ◌≢◌, ◌<◌, [], ◌∷◌, if◌then◌else◌}, proofs.lemmas.Bool.ne_eqb, proofs.lemmas.List.Elements.{All-filter, filter-append}}
+use Rattle.std.{proofs.Common.{◌≡◌, ◌≤◌, ◌++◌, ℕ, List, true, length, map, refl, ap, sym, inr, unwrap_or, ◌∙◌, arith, rules, ◌≢◌, ◌<◌, [], ◌∷◌, if◌then◌else◌}, proofs.lemmas.Bool.ne_eqb, proofs.lemmas.List.Elements.{All-filter, filter-append}}
 use Rattle.ptu_definitions.{specs.Words.numbers, specs.Layouts.KindFits, specs.Settled.{ordered}, specs.Streams.{StreamSettings}, specs.Times.events, proofs.DeliveredLaws.{delivered-append, delivered_after}}
 use Rattle.abs_time.{specs.Floors.orders_markers, proofs.Floors.moves_by}
 use Rattle.tally_base.{specs.Columns.{event_at, gathered}, proofs.BlockRows.length-rows, proofs.Floors.order-lower, specs.declared.event.Event.Event, specs.declared.header.Mode.Mode, specs.Events.is_ordered, specs.Tally.{moves_floor, InOrder}}
 use Rattle.settle.{specs.Passing.place_after, specs.declared.settle.Settle.Settle}
-use Rattle.record_stream.{specs.Blocks.{PlacesRise, RisesWithin}, specs.LettingGo.{IsDelivered, AreOrdered}, specs.Walking.{how_of}, proofs.Feeds.delivers-both, proofs.Gathering.{gathers-lead, behind-many}, proofs.Settles.kept_on, proofs.Steps.{ok_of, err_of, block_at, block_fed, block_broke, floors_below}, proofs.LettingGo.{block_delivers, come_block}, proofs.Passed.ordered-same}
+use Rattle.record_stream.{specs.Blocks.{PlacesRise, RisesWithin}, specs.LettingGo.{IsDelivered, AreOrdered}, specs.Rows.ordered_below, specs.Walking.{how_of, clock_in}, specs.Whole.events_below, proofs.Feeds.delivers-both, proofs.Gathering.gathers-lead, proofs.WholeBlocks.few-events, proofs.Settles.kept_on, proofs.Steps.{ok_of, err_of, block_at, block_fed, block_broke, floors_below}, proofs.LettingGo.{block_delivers, come_block}, proofs.Passed.ordered-same}
 use Rattle.record_stream.proofs.settled_blocks.settle_block.Goals as goal
 
 -- the events in order of a list, without the others
@@ -55,40 +55,63 @@ delivers-ordered how settle words came went some d =
 
 pub let_go-requires-clause-comes : goal.let_go-requires-clause-comes
 let_go-requires-clause-comes g c =
-    let mode = (how_of c.args.walk.now).mode in
-    let of = c.gather-ahead.ensures.gathers in
-    let all = of.gathers in
-    let kept : gathered c.keep.new.self ≡ of.es = c.keep.ensures.kept ∙ of.rows ∙ ap (λ l. l ++ of.es) c.clear.ensures.empty in
-    let line = all.in_line (search rules) in
+    let walk = c.args.walk.now in
+    let mode = (how_of walk).mode in
+    let all = c.in-Some.ensures.gathers true in
+    let es = events_below (ordered_below mode) (clock_in walk) g.R.RecordLayout.UNIT c.fill.new.self in
+    let below = c.ordered_below-below.ensures ∙ ap ordered_below (c.mode.ensures ∙ walk.same_mode) in
+    let kept : gathered c.put_events.new.block ≡ es = c.put_events.ensures.more ∙ rw (c.clear.ensures.empty, below) refl in
     rw (kept, all.chosen) (record {
       places = places-ordered mode _ all.came all.places.rises;
-      in_order = line-ordered mode _ all.came line.in_order;
-      fit = All-filter (λ (e : Event). is_ordered mode e) (λ (e : Event). KindFits mode e.kind) all.came line.fit;
+      in_order = line-ordered mode _ all.came all.in_line.in_order;
+      fit = All-filter (λ (e : Event). is_ordered mode e) (λ (e : Event). KindFits mode e.kind) all.came all.in_line.fit;
       ordered = those_ordered mode all.came;
     })
 
+pub put_events-requires-clause-room : goal.put_events-requires-clause-room
+put_events-requires-clause-room g c = omega (arith, length-rows (event_at c.clear.new.self) c.clear.new.self.len, ap length c.clear.ensures.empty)
+
 pub take_block-requires-clause-room : goal.take_block-requires-clause-room
-take_block-requires-clause-room g c = search (rules, arith, length-rows)
+take_block-requires-clause-room g c =
+    let walk = c.args.walk.now in
+    let how = how_of walk in
+    let lead = c.in-Some.ensures in
+    let all = lead.gathers true in
+    let es = events_below (ordered_below how.mode) (clock_in walk) g.R.RecordLayout.UNIT c.fill.new.self in
+    let below = c.ordered_below-below.ensures ∙ ap ordered_below (c.mode.ensures ∙ walk.same_mode) in
+    let kept : gathered c.put_events.new.block ≡ es = c.put_events.ensures.more ∙ rw (c.clear.ensures.empty, below) refl in
+    let few = few-events (clock_in walk) g.R.RecordLayout.UNIT c.fill.new.self (ordered_below how.mode) in
+    let ready = c.requires.ready in
+    omega (arith, ready.follows.few, ready.keeps.room, c.let_go.ensures.lets_go.count, ap length kept, few, lead.room, walk.limit)
 
 pub take_block-requires-clause-fit : goal.take_block-requires-clause-fit
 take_block-requires-clause-fit g c = rw c.requires.ready.follows.mode_is c.let_go.ensures.lets_go.line.fit
 
-pub go_on-requires-clause-stands : goal.go_on-requires-clause-stands
-go_on-requires-clause-stands g c =
-    gathers-lead _ c.gather-ahead.ensures.gathers.gathers (search rules) (omega (arith, c.placed.ensures.value, c.kinds-counts.ensures.records))
-
 pub take_block-requires-clause-in_order : goal.take_block-requires-clause-in_order
 take_block-requires-clause-in_order g c = search (rules, arith, order-lower)
 
+pub go_on-requires-clause-limit : goal.go_on-requires-clause-limit
+go_on-requires-clause-limit g c = (c.in-Some.ensures.gathers true).limit
+
+pub go_on-requires-clause-stands : goal.go_on-requires-clause-stands
+go_on-requires-clause-stands g c =
+    let lead = c.in-Some.ensures in
+    rw (c.unwrap_or-greatest.ensures, c.greatest-low.ensures)
+    (gathers-lead _ (lead.gathers true) (omega (arith, c.placed.ensures.value, lead.records)))
+
 pub returns-then-is_err-clause-delivers : goal.returns-then-is_err-clause-delivers
 returns-then-is_err-clause-delivers g c = delivers-both g.S.EventTaker (λ before h.
-    let of = c.gather-ahead.ensures.gathers in
-    let all = of.gathers in
-    let kept : gathered c.keep.new.self ≡ of.es = c.keep.ensures.kept ∙ of.rows ∙ ap (λ l. l ++ of.es) c.clear.ensures.empty in
+    let walk = c.args.walk.now in
+    let how = how_of walk in
+    let lead = c.in-Some.ensures in
+    let all = lead.gathers true in
+    let es = events_below (ordered_below how.mode) (clock_in walk) g.R.RecordLayout.UNIT c.fill.new.self in
+    let below = c.ordered_below-below.ensures ∙ ap ordered_below (c.mode.ensures ∙ walk.same_mode) in
+    let kept : gathered c.put_events.new.block ≡ es = c.put_events.ensures.more ∙ rw (c.clear.ensures.empty, below) refl in
     let went = gathered c.let_go.new.out in
-    let adds = all.adds (search rules) before h.behind in
+    let adds = all.adds before h.behind in
     let passed = rw (kept, all.chosen) at (c.let_go.ensures.delivers before h) in
-    let d = delivers-ordered (how_of c.args.walk.now) c.let_go.new.settle before all.came went c.requires.ready.settles passed in
+    let d = delivers-ordered how c.let_go.new.settle before all.came went c.requires.ready.settles passed in
     let outs = block_delivers _ _ before (before ++ numbers c.args.words.now) all.came went adds.came d in
     let failed = sym c.is_err.ensures.value ∙ c.if-is_err.true in
     let broke = err_of c.take_block.result failed c.take_block.ensures.broken in
@@ -97,59 +120,70 @@ returns-then-is_err-clause-delivers g c = delivers-both g.S.EventTaker (λ befor
 pub returns : goal.returns
 returns g c =
     let s = g.S.EventTaker in
+    let words = c.args.words.now in
     let walk = c.args.walk.now in
     let how = how_of walk in
-    let words = c.args.words.now in
-    let of = c.gather-ahead.ensures.gathers in
-    let all = of.gathers in
-    let kept : gathered c.keep.new.self ≡ of.es = c.keep.ensures.kept ∙ of.rows ∙ ap (λ l. l ++ of.es) c.clear.ensures.empty in
+    let lead = c.in-Some.ensures in
+    let all = lead.gathers true in
+    let es = events_below (ordered_below how.mode) (clock_in walk) g.R.RecordLayout.UNIT c.fill.new.self in
+    let below = c.ordered_below-below.ensures ∙ ap ordered_below (c.mode.ensures ∙ walk.same_mode) in
+    let kept : gathered c.put_events.new.block ≡ es = c.put_events.ensures.more ∙ rw (c.clear.ensures.empty, below) refl in
+    let few = few-events (clock_in walk) g.R.RecordLayout.UNIT c.fill.new.self (ordered_below how.mode) in
     let went = gathered c.let_go.new.out in
     let l = c.let_go.ensures.lets_go in
     let ready = c.requires.ready in
     let r = c.take_block.result in
     let fine = sym c.is_err.ensures.value ∙ c.if-is_err.false in
+    let top = c.go_on.ensures.greatest ∙ c.unwrap_or-greatest.ensures ∙ ap (unwrap_or c.in-Some.ahead.greatest) c.greatest-low.ensures in
     record {
       delivers = delivers-both s (λ before h.
           let now = before ++ numbers words in
-          let adds = all.adds (search rules) before h.behind in
+          let adds = all.adds before h.behind in
           let passed = rw (kept, all.chosen) at (c.let_go.ensures.delivers before h) in
           let d = delivers-ordered how c.let_go.new.settle before all.came went ready.settles passed in
           let outs = block_delivers how c.let_go.new.settle before now all.came went adds.came d in (
             record {
               behind = block_at (numbers words) went h.behind adds outs (c.go_on.ensures.same_mode ∙ walk.same_mode)
-                  (omega (arith, c.go_on.ensures.count, c.placed.ensures.value, c.kinds-counts.ensures.records)) c.go_on.ensures.base c.go_on.ensures.greatest
-                  c.add_block.ensures.value (rw c.requires.meaning at c.kinds-counts.ensures.value) (rw c.len.ensures.value refl);
+                  (omega (arith, c.go_on.ensures.count, c.placed.ensures.value, lead.records)) c.go_on.ensures.base top
+                  c.add_given.ensures.value lead.counts (rw c.len.ensures.value refl);
               come = come_block how c.let_go.new.settle before now all.came went adds.came d c.args.settle.now h.come l.line;
             },
             block_fed went h.behind.clear adds outs s (ok_of r fine c.take_block.ensures.follows) (ok_of r fine c.take_block.ensures.cause.kept),
           ));
       goes_on =
           let moved = rw ready.follows.mode_is at (ok_of r fine c.take_block.ensures.moved) in
-          search (rules, arith, ok_of, moved, floors_below how.mode _ _ _ went ready.follows.before l.line.greatest);
+          let counted = lead.records in
+          search (rules, arith, ok_of, moved, counted, floors_below how.mode _ _ _ went ready.follows.before l.line.greatest);
       stays =
           let behind = chosen-behind how.mode (kept ∙ all.chosen) all.places in
           let many = ap length kept in
-          search (rules, arith, kept_on, behind, many, of.few);
+          let counted = lead.records in
+          search (rules, arith, kept_on, behind, many, few, counted);
     }
 
 pub returns-then-is_err-clause-stays : goal.returns-then-is_err-clause-stays
 returns-then-is_err-clause-stays g c =
-    let of = c.gather-ahead.ensures.gathers in
-    let all = of.gathers in
-    let kept : gathered c.keep.new.self ≡ of.es = c.keep.ensures.kept ∙ of.rows ∙ ap (λ l. l ++ of.es) c.clear.ensures.empty in
-    let behind = chosen-behind (how_of c.args.walk.now).mode (kept ∙ all.chosen) all.places in
+    let walk = c.args.walk.now in
+    let how = how_of walk in
+    let lead = c.in-Some.ensures in
+    let all = lead.gathers true in
+    let es = events_below (ordered_below how.mode) (clock_in walk) g.R.RecordLayout.UNIT c.fill.new.self in
+    let below = c.ordered_below-below.ensures ∙ ap ordered_below (c.mode.ensures ∙ walk.same_mode) in
+    let kept : gathered c.put_events.new.block ≡ es = c.put_events.ensures.more ∙ rw (c.clear.ensures.empty, below) refl in
+    let few = few-events (clock_in walk) g.R.RecordLayout.UNIT c.fill.new.self (ordered_below how.mode) in
+    let behind = chosen-behind how.mode (kept ∙ all.chosen) all.places in
     let many = ap length kept in
-    search (rules, arith, kept_on, behind, many, of.few)
+    let counted = lead.records in
+    search (rules, arith, kept_on, behind, many, few, counted)
 
 pub invariant_of-walk-clause-few_given : goal.invariant_of-walk-clause-few_given
-invariant_of-walk-clause-few_given g c = search (rules, arith, length-rows)
-
-pub gather-ahead-requires-clause-room : goal.gather-ahead-requires-clause-room
-gather-ahead-requires-clause-room g c = omega (arith, length-rows (event_at c.clear.new.self) c.clear.new.self.len, ap length c.clear.ensures.empty)
-
-pub keep-requires : goal.keep-requires
-keep-requires g c =
-    let of = c.gather-ahead.ensures.gathers in
-    let len = behind-many c.clear.new.self c.gather-ahead.new.block c.gather-ahead.result.len of.es of.rows in
-    let none = length-rows (event_at c.clear.new.self) c.clear.new.self.len in
-    (omega (arith, len, of.same_count), omega (arith, len, of.few, c.requires.few, none, ap length c.clear.ensures.empty))
+invariant_of-walk-clause-few_given g c =
+    let walk = c.args.walk.now in
+    let how = how_of walk in
+    let lead = c.in-Some.ensures in
+    let all = lead.gathers true in
+    let es = events_below (ordered_below how.mode) (clock_in walk) g.R.RecordLayout.UNIT c.fill.new.self in
+    let below = c.ordered_below-below.ensures ∙ ap ordered_below (c.mode.ensures ∙ walk.same_mode) in
+    let kept : gathered c.put_events.new.block ≡ es = c.put_events.ensures.more ∙ rw (c.clear.ensures.empty, below) refl in
+    let few = few-events (clock_in walk) g.R.RecordLayout.UNIT c.fill.new.self (ordered_below how.mode) in
+    omega (arith, c.requires.ready.keeps.room, c.let_go.ensures.lets_go.count, ap length kept, few, c.add_given.ensures.records, lead.records, c.len.ensures.value)
