@@ -1,13 +1,13 @@
 -- What is shown of a command for the cases of its shape, and that its outcome then is what they call for.
 use Rattle.std.{proofs.Common.{◌≡◌, ℕ, List, None, Some, Ok, Err, refl, sym, ap, ◌∙◌, ◌⊎◌, subst, inl, inr, Result, arith, rules}, specs.declared.option.Option.{Option}}
 use Rattle.toml.specs.Data.{table}
-use Rattle.tally_base.{specs.declared.fault.Fault.Fault, specs.declared.header.Header.Header, specs.Faults.status_of, specs.RecordTypes.mode_of}
+use Rattle.tally_base.{specs.declared.fault.Fault.Fault, specs.declared.fault.Fault.TheVariants.Usage, specs.declared.header.Header.Header, specs.Faults.{status_of, fault_in}, specs.RecordTypes.mode_of}
 use Rattle.bench_io.specs.Inputs.{File}
 use Rattle.ptu_definitions.specs.Headers.{header_answer}
 use Rattle.plan_text.{specs.Plan.{PlanView, plan}, specs.ReadPlan.plan_answer, specs.Fits.fits, proofs.Called.{called, valid, answers, plans}, proofs.Misfits.{misfit_named, is_first}}
-use Rattle.command_work.{specs.Outcomes.{Outcome, refused, written, StatusIn}, specs.Behaviours.{Work, Behaviour, NoCommand, Alone, OnFile, ByPlan}, specs.Endings.{on_file, unless, by_plan, outcome}}
+use Rattle.command_work.{specs.Outcomes.{Outcome, refused, written, StatusIn}, specs.Behaviours.{Work, Behaviour, Alone, OnFile, ByPlan}, specs.Endings.{on_file, unless, by_plan, outcome}, specs.Tellings.{Telling, unless_declined, if_suited, headed_end}}
 use Rattle.file_work.specs.FileOutcomes.{header_outcome}
-use Rattle.command_laws.{specs.Cases.{FileCase, HeaderCase, PrintCase}, specs.CommandCases.{RecordCases, Need, Needs, CommandCases, BadWords, Writes, ReadsHeader, ReadsRecords, ReadsByPlan, Has, Lacks, SuitCase, NeedCase, PlanCase, ShapeCase}, specs.Causes.EndsCut, proofs.FaultStatuses.some-same, proofs.CaseSteps.{Answer, file-holds, file-only, header-holds, header-only, not_fit}, proofs.Prints.{print-holds, print-only}}
+use Rattle.command_laws.{specs.Cases.{FileCase, HeaderCase, PrintCase}, specs.CommandCases.{RecordCases, Need, Needs, CommandCases, BadWords, Writes, ReadsHeader, ReadsRecords, ReadsByPlan, Has, Lacks, SuitCase, NeedCase, PlanCase, ShapeCase}, specs.Causes.EndsCut, proofs.FaultStatuses.some-same, proofs.CaseSteps.{file-holds, file-only, header-holds, header-only, not_fit}, proofs.Prints.{print-holds, print-only}}
 
 -- what records end a run with a fault for
 pub data Call : Type 0 where
@@ -35,20 +35,15 @@ pub record RecordsMeet (further : ℕ → Type 0) (records : RecordCases) (end_o
 
 -- the same of a work that begins with a header
 pub record FileMeets (further : ℕ → Type 0) (records : RecordCases) (work : Work) : Type 0 where
-  pub end_of : Answer → Outcome
-  pub is : (bytes : List ℕ) → work.outcome bytes ≡ end_of (header_answer bytes)
-  pub fails : (fault : Fault) → end_of (Err fault) ≡ refused fault
-  pub told : RecordsMeet further records (λ header behind. end_of (Ok (header, behind)))
+  pub tells : Header → Telling
+  pub is : (bytes : List ℕ) → work.outcome bytes ≡ headed_end tells (header_answer bytes)
+  pub told : RecordsMeet further records (λ header. (tells header).ends)
 
 -- and of one by a plan that has what is needed
 pub record PlannedMeets (further : ℕ → Type 0) (records : RecordCases) (view : PlanView) (work : Work) : Type 0 where
-  pub end_of : Answer → Outcome
-  pub fit_of : Header → List ℕ → Result (Unit {0}) Fault → Outcome
-  pub is : (bytes : List ℕ) → work.outcome bytes ≡ end_of (header_answer bytes)
-  pub fails : (fault : Fault) → end_of (Err fault) ≡ refused fault
-  pub headed : (header : Header) (behind : List ℕ) → end_of (Ok (header, behind)) ≡ fit_of header behind (fits (mode_of header.record_type) view)
-  pub misfit : (header : Header) (behind : List ℕ) (fault : Fault) → fit_of header behind (Err fault) ≡ refused fault
-  pub told : RecordsMeet further records (λ header behind. fit_of header behind (Ok tt))
+  pub tells : Header → Telling
+  pub is : (bytes : List ℕ) → work.outcome bytes ≡ headed_end (if_suited view tells) (header_answer bytes)
+  pub told : RecordsMeet further records (λ header. (tells header).ends)
 
 -- what a plan lacks is told by what is needed
 pub record NeedMeets (further : ℕ → Type 0) (need : Need) (lacks : PlanView → Option Fault) : Type 0 where
@@ -71,7 +66,7 @@ pub record PlanMeets (further : ℕ → Type 0) (need : Need) (records : PlanVie
 
 -- what is shown of a command
 abbrev pub MeetsCases : Behaviour → CommandCases → Type 0
-MeetsCases NoCommand BadWords = Unit {0}
+MeetsCases (Alone end) BadWords = end ≡ refused Usage
 MeetsCases (Alone end) (Writes text) = end ≡ written text
 MeetsCases (OnFile file writing work) ReadsHeader = (bytes : List ℕ) → work.outcome bytes ≡ header_outcome bytes
 MeetsCases (OnFile file writing work) (ReadsRecords further records) = FileMeets further records work
@@ -91,29 +86,31 @@ module _ (further : ℕ → Type 0) (records : RecordCases) (work : Work) (told 
   records-hold : FileCase (HeaderCase records.ends) data_file (on_file work data_file)
   records-hold =
       file-holds work (HeaderCase records.ends) (λ bytes. subst (HeaderCase records.ends bytes)
-      (sym (told.is bytes)) (header-holds told.end_of records.ends told.fails told.told.holds bytes)) data_file
+      (sym (told.is bytes)) (header-holds told.tells records.ends told.told.holds bytes)) data_file
 
   records-only : (end : Outcome) → FileCase (HeaderCase records.ends) data_file end → on_file work data_file ≡ end
   records-only end h = file-only work (HeaderCase records.ends)
-      (λ bytes end h. told.is bytes ∙ header-only told.end_of records.ends told.fails told.told.only bytes end h) data_file end h
+      (λ bytes end h. told.is bytes ∙ header-only told.tells records.ends told.told.only bytes end h) data_file end h
 
 -- ## By a plan
 
 module _ (further : ℕ → Type 0) (records : RecordCases) (view : PlanView) (work : Work) (told : PlannedMeets further records view work) where
-  suit-holds : (header : Header) (behind : List ℕ) → SuitCase view records.ends header behind (told.end_of (Ok (header, behind)))
-  suit-holds header behind =
-      subst (SuitCase view records.ends header behind) (sym (told.headed header behind)) (by (fits (mode_of header.record_type) view) refl)
+  -- what is made of the bytes after a header, by what the plan's fit to it is
+  abbrev end_as : Header → List ℕ → Result (Unit {0}) Fault → Outcome
+  end_as header behind fit = (unless_declined (fault_in fit) (told.tells header)).ends behind
+
+  suit-holds : (header : Header) (behind : List ℕ) → SuitCase view records.ends header behind ((if_suited view told.tells header).ends behind)
+  suit-holds header behind = by (fits (mode_of header.record_type) view) refl
     where
-      by : (r : Result (Unit {0}) Fault) → fits (mode_of header.record_type) view ≡ r → SuitCase view records.ends header behind (told.fit_of header behind r)
-      by (Err fault) e = inl (fault, misfit_named (mode_of header.record_type) view fault e, told.misfit header behind fault)
+      by : (r : Result (Unit {0}) Fault) → fits (mode_of header.record_type) view ≡ r → SuitCase view records.ends header behind (end_as header behind r)
+      by (Err fault) e = inl (fault, misfit_named (mode_of header.record_type) view fault e, refl)
       by (Ok done) e = inr (λ fault misfit. not_fit fault (sym e ∙ is_first (mode_of header.record_type) view fault misfit), told.told.holds header behind)
 
-  suit-only : (header : Header) (behind : List ℕ) (end : Outcome) → SuitCase view records.ends header behind end → told.end_of (Ok (header, behind)) ≡ end
-  suit-only header behind end (inl h) =
-      told.headed header behind ∙ ap (told.fit_of header behind) (is_first (mode_of header.record_type) view h.0 h.1) ∙ told.misfit header behind h.0 ∙ sym h.2
-  suit-only header behind end (inr h) = told.headed header behind ∙ by (fits (mode_of header.record_type) view) refl
+  suit-only : (header : Header) (behind : List ℕ) (end : Outcome) → SuitCase view records.ends header behind end → (if_suited view told.tells header).ends behind ≡ end
+  suit-only header behind end (inl h) = ap (end_as header behind) (is_first (mode_of header.record_type) view h.0 h.1) ∙ sym h.2
+  suit-only header behind end (inr h) = by (fits (mode_of header.record_type) view) refl
     where
-      by : (r : Result (Unit {0}) Fault) → fits (mode_of header.record_type) view ≡ r → told.fit_of header behind r ≡ end
+      by : (r : Result (Unit {0}) Fault) → fits (mode_of header.record_type) view ≡ r → end_as header behind r ≡ end
       by (Err fault) e = absurd (h.0 fault (misfit_named (mode_of header.record_type) view fault e))
       by (Ok done) e = told.told.only header behind end h.1
 
@@ -121,12 +118,12 @@ module _ (further : ℕ → Type 0) (records : RecordCases) (view : PlanView) (w
   planned-holds data_file =
       let case = SuitCase view records.ends in
       file-holds work (HeaderCase case)
-      (λ bytes. subst (HeaderCase case bytes) (sym (told.is bytes)) (header-holds told.end_of case told.fails suit-holds bytes)) data_file
+      (λ bytes. subst (HeaderCase case bytes) (sym (told.is bytes)) (header-holds (if_suited view told.tells) case suit-holds bytes)) data_file
 
   planned-only : (data_file : File) (end : Outcome) → FileCase (HeaderCase (SuitCase view records.ends)) data_file end → on_file work data_file ≡ end
   planned-only data_file end h =
       let case = SuitCase view records.ends in
-      file-only work (HeaderCase case) (λ bytes end h. told.is bytes ∙ header-only told.end_of case told.fails suit-only bytes end h) data_file end h
+      file-only work (HeaderCase case) (λ bytes end h. told.is bytes ∙ header-only (if_suited view told.tells) case suit-only bytes end h) data_file end h
 
 module _ (further : ℕ → Type 0) (need : Need) (records : PlanView → RecordCases) (lacks : PlanView
     → Option Fault) (work : PlanView → Work) (told : PlanMeets further need records lacks work) where
@@ -162,7 +159,7 @@ module _ (further : ℕ → Type 0) (need : Need) (records : PlanView → Record
 pub told-holds : (does : Behaviour) (shape : CommandCases) → MeetsCases does shape
     → (plan_file data_file : File) → ShapeCase shape plan_file data_file (outcome does plan_file data_file)
 unfolding outcome
-told-holds NoCommand BadWords told plan_file data_file = refl
+told-holds (Alone end) BadWords told plan_file data_file = told
 told-holds (Alone end) (Writes text) told plan_file data_file = told
 told-holds (OnFile file writing work) ReadsHeader told plan_file data_file = printed-holds work told data_file
 told-holds (OnFile file writing work) (ReadsRecords further records) told plan_file data_file = records-hold further records work told data_file
@@ -174,7 +171,7 @@ told-holds does other told plan_file data_file = absurd told
 pub told-only : (does : Behaviour) (shape : CommandCases) → MeetsCases does shape → (plan_file data_file : File) (end : Outcome)
     → ShapeCase shape plan_file data_file end → outcome does plan_file data_file ≡ end
 unfolding outcome
-told-only NoCommand BadWords told plan_file data_file end h = sym h
+told-only (Alone whole) BadWords told plan_file data_file end h = told ∙ sym h
 told-only (Alone whole) (Writes text) told plan_file data_file end h = told ∙ sym h
 told-only (OnFile file writing work) ReadsHeader told plan_file data_file end h = printed-only work told data_file end h
 told-only (OnFile file writing work) (ReadsRecords further records) told plan_file data_file end h = records-only further records work told data_file end h

@@ -1,9 +1,9 @@
 -- Steps that the tables of cases of all commands share.
-use Rattle.std.{proofs.Common.{◌≡◌, ℕ, List, [], ◌∷◌, length, Bool, true, false, None, Ok, Err, refl, sym, ap, ◌∙◌, inl, inr, ◌≢◌, ◌<◌, ◌≤◌, arith, ◌==◌, Result, nat_lt, if◌then◌else◌, rules}, specs.declared.option.Option.Option, proofs.lemmas.Bool.Decides.nat_tests}
+use Rattle.std.{proofs.Common.{◌≡◌, ℕ, List, [], ◌∷◌, length, Bool, true, false, None, Ok, Err, refl, sym, ap, ◌∙◌, inl, inr, ◌≢◌, ◌<◌, ◌≤◌, arith, ◌==◌, Result, nat_lt, if◌then◌else◌, rules}, proofs.lemmas.Bool.Decides.nat_tests}
 use Rattle.tally_base.{specs.declared.fault.Fault.Fault, specs.declared.fault.Fault.TheVariants.TruncatedRecord, specs.declared.header.Header.Header}
 use Rattle.bench_io.specs.Inputs.{File}
 use Rattle.ptu_definitions.{specs.declared.records.Summary.Summary, specs.Headers.header_answer, specs.Words.{words_of, rest_of}, specs.Streams.{StreamSettings, record_refusal, summary, streamed, or_refusal}, proofs.Sound.one_answer}
-use Rattle.command_work.{specs.Endings.on_file, specs.Outcomes.{Outcome, refused}, specs.Behaviours.Work}
+use Rattle.command_work.{specs.Endings.on_file, specs.Outcomes.{Outcome}, specs.Behaviours.Work, specs.Tellings.{Telling, headed_end}}
 use Rattle.command_laws.specs.Cases.{FileCase, HeaderCase}
 
 -- ## Tests
@@ -46,18 +46,19 @@ file-only work case only data_file end h = search (rules, arith)
 abbrev pub Answer : Type 0
 Answer = Result (Header × List ℕ) Fault
 
-pub header-holds : (out : Answer → Outcome) (case : Header → List ℕ → Outcome → Type 0) → ((fault : Fault) → out (Err fault) ≡ refused fault) → ((header : Header) (behind : List ℕ) → case header behind (out (Ok (header, behind)))) → (bytes : List ℕ)
-    → HeaderCase case bytes (out (header_answer bytes))
-header-holds out case fails holds bytes = by (header_answer bytes) refl
-  where
-    by : (r : Answer) → header_answer bytes ≡ r → HeaderCase case bytes (out r)
-    by (Err fault) e = inl (fault, (one_answer bytes (Err fault)).1 e, fails fault)
-    by (Ok found) e = inr (found.0, found.1, (one_answer bytes (Ok found)).1 e, holds found.0 found.1)
+module _ (tells : Header → Telling) (case : Header → List ℕ → Outcome → Type 0) where
+  pub header-holds : ((header : Header) (behind : List ℕ) → case header behind ((tells header).ends behind)) → (bytes : List ℕ)
+      → HeaderCase case bytes (headed_end tells (header_answer bytes))
+  header-holds holds bytes = by (header_answer bytes) refl
+    where
+      by : (r : Answer) → header_answer bytes ≡ r → HeaderCase case bytes (headed_end tells r)
+      by (Err fault) e = inl (fault, (one_answer bytes (Err fault)).1 e, refl)
+      by (Ok found) e = inr (found.0, found.1, (one_answer bytes (Ok found)).1 e, holds found.0 found.1)
 
-pub header-only : (out : Answer → Outcome) (case : Header → List ℕ → Outcome → Type 0) → ((fault : Fault) → out (Err fault) ≡ refused fault) → ((header : Header) (behind : List ℕ) (end : Outcome) → case header behind end → out (Ok (header, behind)) ≡ end) → (bytes : List ℕ) (end : Outcome)
-    → HeaderCase case bytes end → out (header_answer bytes) ≡ end
-header-only out case fails only bytes end (inl h) = ap out ((one_answer bytes (Err h.0)).0 h.1) ∙ fails h.0 ∙ sym h.2
-header-only out case fails only bytes end (inr h) = ap out ((one_answer bytes (Ok (h.0, h.1))).0 h.2) ∙ only h.0 h.1 end h.3
+  pub header-only : ((header : Header) (behind : List ℕ) (end : Outcome) → case header behind end → (tells header).ends behind ≡ end) → (bytes : List ℕ) (end : Outcome)
+      → HeaderCase case bytes end → headed_end tells (header_answer bytes) ≡ end
+  header-only only bytes end (inl h) = ap (headed_end tells) ((one_answer bytes (Err h.0)).0 h.1) ∙ sym h.2
+  header-only only bytes end (inr h) = ap (headed_end tells) ((one_answer bytes (Ok (h.0, h.1))).0 h.2) ∙ only h.0 h.1 end h.3
 
 -- ## Records that are cut, and parts that suit
 
@@ -74,11 +75,3 @@ fit = Ok tt
 
 pub not_fit : (fault : Fault) → fit ≡ Err fault → ⊥
 not_fit fault e = cc
-
--- ## Outcomes
-
-abbrev pub end_with : List ℕ → Option Fault → Outcome
-end_with text fault = record { text = text; fault = fault }
-
-pub same-end : (a b : List ℕ) (f g : Option Fault) → a ≡ b → f ≡ g → end_with a f ≡ end_with b g
-same-end a b f g p q = rw (p, q) refl

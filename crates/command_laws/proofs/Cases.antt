@@ -10,12 +10,12 @@ use Rattle.list_out.specs.Lines.{events_text, lines_of}
 use Rattle.table_out.{specs.Printed.{texts, table_lines}, specs.StartStop.startstop_printed, specs.Report.{head_text, printed, Table, table_text, report, with_events}}
 use Rattle.ptu_made.{specs.Generator.made_words, specs.Records.made_header}
 use Rattle.long_trace.specs.Texts.{open_text, whole_text}
-use Rattle.report_work.{specs.Reports.{report_of, if_fits, report_behind, report_outcome, any_plan, reporting}, specs.Demo.{demo_plan, demo_report}}
-use Rattle.file_work.specs.FileOutcomes.{counts_text, with_counts, counts_behind, count_outcome, listing, events_behind, counting, listing_all}
-use Rattle.trace_work.{specs.TraceOutcomes.{trace_of, no_trace, traced, records_traced, traced_if_fits, traced_behind, tracing}, specs.TraceTexts.{settled-whole, settled-first}}
-use Rattle.command_work.specs.Outcomes.{Outcome, refused, written, IsIn}
+use Rattle.report_work.{specs.Reports.{reported, reports, any_plan, reporting}, specs.Demo.{demo_plan, demo_report}}
+use Rattle.file_work.specs.FileOutcomes.{counts_text, counted_end, counts, listing, lists_by, counting, listing_all}
+use Rattle.trace_work.{specs.TraceOutcomes.{trace_of, no_trace, traced, records_traced, traces_with, tracing}, specs.TraceTexts.{settled-whole, settled-first}}
+use Rattle.command_work.{specs.Outcomes.{Outcome, refused, written, IsIn}, proofs.RestEnds.{end_with, same-end}}
 use Rattle.ptu_cli.proofs.ByteFaults.{least-status}
-use Rattle.command_laws.{specs.Cases.{WholeCase, CountCase, StreamCase, list_text, startstop_by_places, by_places, placed_text, report_by_places, words_report, trace_text, TraceCase, HasTrace, TracedCase}, specs.CommandCases.{RefusedIn, count_cases, stream_cases, events_cases, run_cases, trace_cases, NeedsNothing, Needs}, proofs.FaultStatuses.{of-refused, of-written, of-end, whole-cause, range-as, wider, listed-status}, proofs.CaseSteps.{end_with, same-end, lt-true, lt-false, true-lt, false-lt, empty-true, empty-false, true-empty, false-empty, whole_answer, streamed-clear}, proofs.CaseShapes.{Call, IsCut, IsRefused, IsLate, CallsBy, RecordsMeet, FileMeets, PlanMeets, needs-by}}
+use Rattle.command_laws.{specs.Cases.{WholeCase, CountCase, StreamCase, list_text, startstop_by_places, by_places, placed_text, report_by_places, words_report, trace_text, TraceCase, HasTrace, TracedCase}, specs.CommandCases.{RefusedIn, count_cases, stream_cases, events_cases, run_cases, trace_cases, NeedsNothing, Needs}, proofs.FaultStatuses.{of-refused, of-written, of-end, whole-cause, range-as, wider, listed-status}, proofs.CaseSteps.{lt-true, lt-false, true-lt, false-lt, empty-true, empty-false, true-empty, false-empty, whole_answer, streamed-clear}, proofs.CaseShapes.{Call, IsCut, IsRefused, IsLate, CallsBy, RecordsMeet, FileMeets, PlanMeets, needs-by}}
 
 -- ## A report by places
 
@@ -68,7 +68,7 @@ abbrev count_end : Header → List ℕ → Bool → Outcome
 count_end header behind many = if many then refused (RecordLimit record_limit) else whole_end behind (count_text header behind) (length (rest_of behind) == 0)
 
 count-steps : (header : Header) (behind : List ℕ)
-    → count_outcome (with_counts header (counted header.record_type behind)) ≡ count_end header behind (nat_lt record_limit (length (words_of behind)))
+    → counted_end header (counted header.record_type behind) ≡ count_end header behind (nat_lt record_limit (length (words_of behind)))
 unfolding counted records_of
 count-steps header behind = search (rules, arith)
 
@@ -77,11 +77,11 @@ count-by : (header : Header) (behind : List ℕ) (many : Bool)
 count-by header behind true h = inl (lt-true _ _ h, refl)
 count-by header behind false h = inr (lt-false _ _ h, whole-holds behind (count_text header behind) _ refl)
 
-count-holds : (header : Header) (behind : List ℕ) → CountCase header behind (count_outcome (with_counts header (counted header.record_type behind)))
+count-holds : (header : Header) (behind : List ℕ) → CountCase header behind (counted_end header (counted header.record_type behind))
 count-holds header behind = subst (CountCase header behind) (sym (count-steps header behind)) (count-by header behind _ refl)
 
 count-only : (header : Header) (behind : List ℕ) (end : Outcome) → CountCase header behind end
-    → count_outcome (with_counts header (counted header.record_type behind)) ≡ end
+    → counted_end header (counted header.record_type behind) ≡ end
 count-only header behind end (inl h) = count-steps header behind ∙ ap (count_end header behind) (true-lt _ _ h.0) ∙ sym h.1
 count-only header behind end (inr h) = search (rules, arith, count-steps, count_end, false-lt, whole-only, count_text)
 
@@ -98,9 +98,8 @@ count-ends IsLate header behind fault never = absurd never
 
 pub count-told : FileMeets (IsIn 20 20) count_cases counting
 count-told = record {
-  end_of = λ r. count_outcome (counts_behind r);
+  tells = counts;
   is = λ bytes. refl;
-  fails = λ fault. refl;
   told = record {
     holds = count-holds;
     only = count-only;
@@ -190,9 +189,8 @@ list-streams header behind = record {
 
 pub events-told : FileMeets (IsIn 20 21) events_cases listing_all
 events-told = record {
-  end_of = events_behind;
+  tells = lists_by;
   is = λ bytes. refl;
-  fails = λ fault. refl;
   told = stream-meets (IsIn 20 21) listing list_text list_text _ list-streams listed-status;
 }
 
@@ -208,18 +206,14 @@ run-told = record {
     status = λ view fault never. absurd never;
   };
   works = λ view has. record {
-    end_of = λ r. report_outcome (report_behind view r);
-    fit_of = λ header behind r. report_outcome (if_fits view header behind r);
+    tells = reports view;
     is = λ bytes. refl;
-    fails = λ fault. refl;
-    headed = λ header behind. refl;
-    misfit = λ header behind fault. refl;
-    told = stream-meets (IsIn 18 21) (reading_by view) (λ header words. []) (words_report view) (λ header behind r. report_outcome (report_of view header behind r)) (report-streams view) (λ header. least-status (reading_by view header));
+    told = stream-meets (IsIn 18 21) (reading_by view) (λ header words. []) (words_report view) (reported view) (report-streams view) (λ header. least-status (reading_by view header));
   };
 }
   where
     report-streams : (view : PlanView) (header : Header) (behind : List ℕ) → Streams (reading_by view header) (λ words. [])
-        (words_report view header (words_of behind)) behind (λ r. report_outcome (report_of view header behind r))
+        (words_report view header (words_of behind)) behind (reported view header behind)
     report-streams view header behind =
         record { refused_is = λ fault least. refl; cut_is = λ none fault. refl; whole_is = λ none. ap written (words-same view header (words_of behind)) }
 
@@ -233,8 +227,8 @@ module _ (set : TraceView) (view : PlanView) (header : Header) (behind : List �
       (traced (Some set) (sorting view) (reading_by view header) behind)
   trace-streams = record {
     refused_is =
-        λ fault least. same-end _ _ _ _ (ap (open_text set) (settled-first (sorting view) (reading_by view header) (words_of behind) fault least)) refl;
-    cut_is = λ none fault. same-end _ _ _ _ (ap (open_text set) (settled-whole (sorting view) (reading_by view header) (words_of behind) none)) refl;
+        λ fault least. same-end _ _ _ (ap (open_text set) (settled-first (sorting view) (reading_by view header) (words_of behind) fault least)) refl;
+    cut_is = λ none fault. same-end _ _ _ (ap (open_text set) (settled-whole (sorting view) (reading_by view header) (words_of behind) none)) refl;
     whole_is = λ none. refl;
   }
 
@@ -262,12 +256,8 @@ pub trace-told : PlanMeets (IsIn 18 22) (Needs HasTrace NoTrace) trace_cases no_
 trace-told = record {
   needs = needs-by (IsIn 18 22) HasTrace NoTrace no_trace trace-decides ((omega arith, omega arith), (omega arith, omega arith));
   works = λ view has. record {
-    end_of = traced_behind view;
-    fit_of = traced_if_fits view;
+    tells = λ header. traces_with (trace_of view) (sorting view) (reading_by view header);
     is = λ bytes. refl;
-    fails = λ fault. refl;
-    headed = λ header behind. refl;
-    misfit = λ header behind fault. refl;
     told = record {
       holds = λ header behind. traced-holds has.0 view header behind has.1;
       only = λ header behind end h. traced-only h.0 view header behind end h.1 h.2;

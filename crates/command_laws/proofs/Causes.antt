@@ -9,7 +9,7 @@ use Rattle.command_work.{specs.Endings.outcome, specs.Outcomes.{Outcome, refused
 use Rattle.file_work.specs.FileOutcomes.{header_outcome}
 use Rattle.ptu_cli.{specs.Behaviours.behaviour, proofs.ByteFaults.{called-status, misfit-status}}
 use Rattle.command_words.specs.Commands.{Request, Pick, Events}
-use Rattle.pick_work.specs.PickOutcomes.{records_picked}
+use Rattle.pick_work.specs.PickOutcomes.{picks_of}
 use Rattle.command_laws.{specs.Ends.{ends_with, photons_written, ListsWritten, EndsWellOrLate}, specs.Causes.{OfRecords, IsValidPlan, Headed, Unheaded, IsPlanWith, Absent, NoPlan, Misfits, NoHeader, Lacking, TooLate, IsPickable, EndsWithFault, MayCallFor}, specs.Cases.{FileCase, HeaderCase, PrintCase, HasGroup, settled_photons, kept_photons, FirstLate, LateAtEnd, AllPicked, PickedCase}, specs.CommandCases.{RecordCases, Need, CommandCases, NamesLate, pick_cases, cases, Lacks, Has, Suits, SuitCase, NeedCase, PlanCase, ShapeCase, Needs, BadWords, Writes, ReadsHeader, ReadsRecords, ReadsByPlan}, proofs.FaultStatuses.{some-same, of-refused, of-written, range-as, wider, unheaded-status, cut_behind-status}, proofs.CaseShapes.{Call, IsCut, IsRefused, IsLate, CallsBy, RecordsMeet, MeetsCases}, proofs.Prints.print-holds, proofs.PickPhotons.none-or-late, proofs.PickCases.{first-settled, picked-holds}, proofs.Proved.{told, one-outcome, listed-picked}}
 use Rattle.gate_plan.specs.Shifting.{sorting}
 use Rattle.minimal_file.specs.ShortFiles.{minimal_file}
@@ -290,7 +290,7 @@ pub pick-is-listed : (plan_name file name : List ℕ) (group : ℕ) (plan_file d
     → ListsWritten group plan_file data_file name (ends_with (Pick plan_name group file) plan_file data_file).text
 unfolding minimal_file
 pick-is-listed plan_name file name group plan_file data_file view header behind usable headed suits few =
-    let end = records_picked view group header behind in
+    let end = (picks_of group view header).ends behind in
     let is = picked-end plan_name group file plan_file data_file view header behind end usable headed suits (picked-holds view group header behind) in
     let text : end.text ≡ picked_file (mode_of header.record_type) (photons_written group view header behind) = refl in
     ap (λ (o : Outcome). outcome (behaviour (Some (Events name))) None (Some o.text)) is

@@ -6,7 +6,7 @@ use Rattle.record_stream.proofs.Lasts.{streamed-refused}
 use Rattle.plan_text.specs.Plan.{PlanView}
 use Rattle.gate_plan.specs.Histories.{reading_by}
 use Rattle.photon_pick.{specs.Late.too_late, specs.Ends.photons_by, specs.Texts.photons_in}
-use Rattle.pick_work.specs.PickOutcomes.{no_group, chosen_by, records_picked, picked_if_fits, picked_behind, picking}
+use Rattle.pick_work.specs.PickOutcomes.{no_group, chosen_by, picks_of, picking}
 use Rattle.command_work.specs.Outcomes.{Outcome, StatusIn}
 use Rattle.ptu_cli.proofs.ByteFaults.{least-status}
 use Rattle.command_laws.{specs.Cases.{NoneRefused, HasGroup, settled_photons, kept_photons, FirstLate, LateAtRecord, LateAtEnd, RefusedInTime, SettledInTime, AllPicked, pick_end, PickedCase}, specs.CommandCases.{pick_statuses, NamesLate, pick_cases, Needs}, proofs.FaultStatuses.{of-written, of-end, range-as, wider}, proofs.CaseShapes.{Call, IsCut, IsRefused, IsLate, CallsBy, PlanMeets, needs-by}, proofs.PickPhotons.{late-ends, none-or-late, late-more, picked_end, end-late, end-in_time, in-settled, in-before, least-late, clear-front, all-end}, proofs.CaseSteps.{empty-true, empty-false, true-empty, false-empty, whole_answer, streamed-clear}}
@@ -24,7 +24,7 @@ module _ (view : PlanView) (group : ℕ) (header : Header) (behind : List ℕ) w
   chooses = chosen_by view group
 
   abbrev whole_end : Outcome
-  whole_end = records_picked view group header behind
+  whole_end = (picks_of group view header).ends behind
 
   abbrev settled : List ℕ → List Event
   settled = settled_photons view group header
@@ -164,12 +164,8 @@ pick-told group = record {
   needs = needs-by pick_statuses (HasGroup group) (NoGroup group) (no_group group)
       (group-decides group) ((omega arith, omega arith), inr (omega arith, omega arith));
   works = λ view has. record {
-    end_of = picked_behind view group;
-    fit_of = picked_if_fits view group;
+    tells = picks_of group view;
     is = λ bytes. refl;
-    fails = λ fault. refl;
-    headed = λ header behind. refl;
-    misfit = λ header behind fault. refl;
     told = record {
       holds = picked-holds view group;
       only = picked-only view group;

@@ -1,7 +1,7 @@
 -- The photons that `pick` writes, and the first of them that is too late.
 use Rattle.std.{proofs.Common.{◌≡◌, ◌∙◌, ℕ, List, [], ◌∷◌, ◌++◌, Bool, true, false, cond, None, Some, Ok, Err, map, refl, sym, ap, inl, inr, append_assoc, append-nil, ◌⊎◌, Result, arith, rules}, specs.List.filter, specs.declared.option.Option.Option, proofs.lemmas.List.Elements.filter-append}
 use Rattle.tally_base.{specs.declared.event.Event.Event, specs.declared.fault.Fault.Fault, specs.declared.fault.Fault.TheVariants.PickTime, specs.declared.header.Mode.Mode, specs.Faults.fault_in}
-use Rattle.ptu_definitions.{specs.declared.records.Summary.Summary, specs.Streams.{IsFirst, StreamSettings, record_refusal, given, last_in, streamed}, specs.Prefixes.first, specs.Settled.{not_marked, settled_by}, specs.Times.events, specs.Words.words_of, proofs.DeliveredLaws.{delivered-settled, delivered-none}, proofs.Firsts.{given-all, given-before}, proofs.StreamLemmas.{given-front, given-stays, refused-more}}
+use Rattle.ptu_definitions.{specs.declared.records.Summary.Summary, specs.Streams.{IsFirst, StreamSettings, record_refusal, given, last_in, streamed}, specs.Prefixes.first, specs.Settled.{not_marked, settled_by}, specs.Times.events, specs.Words.words_of, proofs.DeliveredLaws.{delivered-settled, delivered-none}, proofs.Firsts.{given-all, given-before}, proofs.StreamLemmas.{given-front, refused-more}}
 use Rattle.minimal_file.specs.ShortFiles.{short_header, minimal_file, bytes_in}
 use Rattle.record_write.specs.Picked.{is_too_late, picked_words, picked_file}
 use Rattle.photon_pick.{specs.Late.{too_late, writable}, specs.Texts.{photons_in, late_or}, specs.Ends.{photons_by, photons_of, end_text, end_fault}, proofs.Parts.chosen-more, proofs.Ends.{kept-are, clear-from_ok}}
@@ -164,7 +164,3 @@ module _ (chooses : Event → Bool) (how : StreamSettings) where
       let front = front-of words more bytes parts in
       end-late how.mode (photons_of chooses how bytes) (fault_in (streamed how bytes))
       (late-more how.mode (photons_in chooses how words) front.0 (photons_of chooses how bytes) front.1 h)
-
-  pub in-stays : (words more : List ℕ) (fault : Fault) → record_refusal how words ≡ Some fault
-      → photons_in chooses how (words ++ more) ≡ photons_in chooses how words
-  in-stays words more fault refused = ap (λ l. filter chooses (not_marked l)) (given-stays how words more fault refused)

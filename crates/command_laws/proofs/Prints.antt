@@ -3,8 +3,8 @@ use Rattle.std.{proofs.Common.{◌≡◌, ℕ, List, [], ◌∷◌, ◌++◌, No
 use Rattle.tally_base.specs.Faults.{fault_in}
 use Rattle.ptu_definitions.{specs.TagList.Item, specs.Endings.HasHeader, specs.Headers.{header_answer, head_of, seen, seen_preamble, HasNoFront, HasLongestFront}, proofs.Sound.one_answer, proofs.SeenLemmas.{seen-header, seen_preamble-header}, proofs.SeenLaws.{seen-longest, seen-none}, proofs.Longest.some-longest}
 use Rattle.list_out.specs.HeaderText.{preamble_part, item_text, shown_text, header_text}
-use Rattle.command_laws.{specs.Cases.{Prints, PrintCase}, proofs.CaseSteps.same-end}
-use Rattle.command_work.specs.Outcomes.{Outcome}
+use Rattle.command_laws.specs.Cases.{Prints, PrintCase}
+use Rattle.command_work.{specs.Outcomes.Outcome, proofs.RestEnds.same-end}
 use Rattle.file_work.specs.FileOutcomes.{header_outcome}
 
 shown-at : (bytes : List ℕ) (start : Option (List ℕ)) (items : List Item) → seen_preamble bytes ≡ start
@@ -49,5 +49,5 @@ print-holds bytes = record {
 
 pub print-only : (bytes : List ℕ) (end : Outcome) → PrintCase bytes end → header_outcome bytes ≡ end
 print-only bytes end h =
-    same-end (header_text bytes) end.text (fault_in (header_answer bytes)) end.fault (head-text bytes ∙ prints-only (head_of bytes) end.text h.prints)
+    same-end (header_outcome bytes) end.text end.fault (head-text bytes ∙ prints-only (head_of bytes) end.text h.prints)
     (ap fault_in ((one_answer bytes h.answer).0 h.is_answer) ∙ sym h.fault_is)

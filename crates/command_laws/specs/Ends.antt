@@ -11,7 +11,7 @@ use Rattle.list_out.specs.Lines.{events_text}
 use Rattle.record_write.specs.Picked.{picked_words, picked_events}
 use Rattle.command_words.specs.Commands.{Request, Events}
 use Rattle.ptu_cli.specs.Behaviours.{behaviour}
-use Rattle.command_work.{specs.Endings.outcome, specs.Outcomes.{Outcome, written, StatusIn}, specs.Behaviours.{Work, Behaviour, NoCommand, Alone, OnFile, ByPlan}}
+use Rattle.command_work.{specs.Endings.outcome, specs.Outcomes.{Outcome, written, StatusIn}, specs.Behaviours.{Work, Behaviour, Alone, OnFile, ByPlan}}
 use Rattle.command_laws.{specs.Cases.HasGroup, specs.CommandCases.{CommandCases, Needs, Suits, cases}, specs.Causes.{Headed, IsPlanWith, EndsWithFault, TooLate}}
 
 -- how a command ends over its files, where nothing outside fails
@@ -49,7 +49,6 @@ GoesOnOrShows work bytes = work.goes_on bytes ⊎ Shows work.outcome bytes (work
 
 -- Bytes of FILE call for no end of the command by themselves, or for one that stays.
 abbrev pub EndsStay : Behaviour → Type 0
-EndsStay NoCommand = Unit {0}
 EndsStay (Alone end) = Unit {0}
 EndsStay (OnFile file writing work) = (bytes : List ℕ) → GoesOnOrShows work bytes
 EndsStay (ByPlan plan file writing memory lacks work) = (view : PlanView) (bytes : List ℕ) → GoesOnOrShows (work view) bytes

@@ -122,39 +122,3 @@ module _ (t : Telling) (is : IsText t) (wants : Type 0) (state : InputState) (a 
       → ReadsRest t [] first wants (still state a c before after) (Err fault)
   open-fails first fault (inl h) = front-fails first [] first fault refl h
   open-fails first fault (inr h) = search (rules, arith, once-refl, quiet-memory)
-
--- the rest was read
-pub rest-follows : (t : Telling) (wants : Type 0) (first : List ℕ) (at : Span) (a : Option (List ℕ)) (before : ℕ) (r : Result (Unit {0}) Fault) → WroteText [] (t.text first) a at.old before at.faults_before → ReadsRest t (t.text first) first ⊥ at r → ReadsRest t [] first wants (record at { old = a; faults_before = before }) r
-rest-follows t wants first at a before r wrote rest = record {
-  answer = ⊎_elim (λ h. inl h) (λ h. inr (ended h)) rest.answer;
-  reason = IfErr-weaker r _ _
-      (λ fault h.
-      HasReason-follows _ _ _ _ _ _ _ _ fault (λ slot no. no) (λ slot h. (h.0, h.1, read h.2)) (λ h. (Rose-kept _ _ _ wrote.kept h.0, cut h.1)) (λ no. absurd no.wants) h)
-      rest.reason;
-  once = record { inputs = rest.once.inputs; out = counts-behind _ _ _ _ wrote.kept rest.once.out };
-  few = rest.few;
-}
-  where
-    joined : (text more : List ℕ) → text ≡ t.text first ++ more → text ≡ wrote.more ++ more
-    joined text more e = e ∙ ap (λ l. l ++ more) wrote.adds
-
-    ended : EndsText t (t.text first) first ⊥ at (fault_in r) → EndsText t [] first wants (record at { old = a; faults_before = before }) (fault_in r)
-    ended h = record {
-      taken = h.taken;
-      consumes = h.consumes;
-      more = wrote.more ++ h.more;
-      written = Appends-trans _ _ _ _ _ wrote.written h.written;
-      is = λ left follows. h.is left follows ∙ ap (λ l. end_with (l ++ h.more) (fault_in r)) wrote.adds;
-    }
-
-    read : ReadsText t (t.text first) first ⊥ at → ReadsText t [] first wants (record at { old = a; faults_before = before })
-    read h = record { taken = h.taken; consumes = h.consumes; more = wrote.more ++ h.more; adds = joined _ h.more h.adds; written = Appends-trans _ _ _ _ _ wrote.written h.written; unrefused = h.unrefused; unended = h.unended }
-
-    cut : CutsText t (t.text first) first ⊥ at → CutsText t [] first wants (record at { old = a; faults_before = before })
-    cut h = record {
-      taken = h.taken;
-      consumes = h.consumes;
-      cut = λ left follows.
-          let more = h.cut left follows in
-          record { more = wrote.more ++ more.more; adds = joined _ more.more more.adds; short = AppendsShort-behind _ _ _ _ _ wrote.written more.short };
-    }

@@ -1,11 +1,11 @@
 -- The text of bytes that grow, and how a call of the loop's body ends it.
-use Rattle.std.{proofs.Common.{◌≡◌, ◌∙◌, ◌≤◌, ℕ, List, [], ◌++◌, None, Some, Ok, Err, refl, ap, inl, inr, ⊎_elim, append_assoc, append-nil, length, take, arith, ◌⊎◌, true, false, Result, IfErr, IsErrAnd, rules, length-append, ◌≢◌, ◌+◌, OnOk}, specs.declared.option.Option.Option, proofs.lemmas.List.length-take, specs.Io.KnownBytes.Appends, proofs.lemmas.Bool.cases_Bool}
-use Rattle.tally_base.{specs.declared.fault.Fault.Fault, specs.declared.fault.Fault.TheVariants.{ReadFault, WriteFault}, specs.declared.slot.Slot.Slot, specs.declared.slot.Slot.TheVariants.Data, specs.Faults.{is_outside, fault_in, HasReason}, proofs.Reasons.HasReason-inside, specs.FaultCounts.Rose, specs.declared.header.Header.Header, specs.declared.header.Mode.Mode}
+use Rattle.std.{proofs.Common.{◌≡◌, ◌∙◌, ◌≤◌, ℕ, List, [], ◌++◌, None, Some, Ok, Err, refl, sym, ap, inl, inr, ⊎_elim, append_assoc, append-nil, length, take, arith, ◌⊎◌, true, false, Result, IfErr, IsErrAnd, rules, length-append, ◌≢◌, ◌+◌, ◌<◌, OnOk}, specs.declared.option.Option.Option, proofs.lemmas.List.length-take, specs.Io.KnownBytes.Appends}
+use Rattle.tally_base.{specs.declared.fault.Fault.Fault, specs.declared.fault.Fault.TheVariants.{ReadFault, WriteFault}, specs.declared.slot.Slot.Slot, specs.declared.slot.Slot.TheVariants.Data, specs.Faults.{is_outside, fault_in, HasReason}, proofs.Reasons.HasReason-inside, specs.FaultCounts.Rose, specs.declared.header.Header.Header, specs.RecordTypes.mode_of}
 use Rattle.bench_io.{specs.Given.{Consumes, IsAtEnd}, specs.Inputs.{InputState, KeepsOther, OpensNone}, proofs.States.{Consumes-nil, Consumes-kept, Consumes-trans}, specs.Sinks.AppendsShort}
 use Rattle.streamed_text.{specs.Texts.{WroteText, CutText, WritesText}, proofs.Texts.{WroteText-none, WroteText-trans, CutText-behind, CutText-more}}
-use Rattle.command_work.{specs.Outcomes.{SaysNoEnd, InputsOnce, OutOnce, Outcome, refused, MayChange}, specs.Behaviours.piece_limit, specs.Endings.Span, specs.Works.TakesFew, specs.Tellings.{Telling, IsText, WritesPiece, WritesEnd, Opens, unless_declined, headed_end, headed_text, HeadedGoes}, specs.Rests.{EndsText, ReadsRest}, proofs.Once.{out-inside, counts-behind, IsQuiet, quiet-none, quiet-write, quiet-inside, once-refl, once-read, once-unread, Rose-kept}, proofs.Told.fails-on, proofs.PlanTold.misfit-inside}
+use Rattle.command_work.{specs.Outcomes.{SaysNoEnd, InputsOnce, OutOnce, Outcome}, specs.Behaviours.{piece_limit, AtEnd, AsItReads}, specs.Endings.{Span, Cuts}, specs.Works.{TakesFew, WantsNone}, specs.Tellings.{Telling, RefusalStays, IsText, WritesPiece, WritesEnd, Opens, unless_declined, if_suited, headed_end, headed_text, headed_work, headed_so_far, IsAllOrNothing, Suits}, specs.Rests.{EndsText, ReadsRest}, proofs.Once.{out-inside, counts-behind, IsQuiet, quiet-none, quiet-write, quiet-inside, once-refl, once-read, once-unread, Rose-kept}, proofs.Told.fails-on, proofs.PlanTold.misfit-inside}
 use Rattle.plan_text.{specs.Plan.PlanView, specs.Fits.fits, proofs.Misfits.misfit_named}
-use Rattle.ptu_definitions.{specs.Words.words_of, specs.Streams.{StreamSettings, record_refusal, refusals, streamed}}
+use Rattle.ptu_definitions.{specs.Headers.header_answer, specs.Streams.{StreamSettings, record_refusal, refusals}}
 use Rattle.record_stream.{specs.declared.stream.RecordStream.RecordStream, specs.Standing.{refused_with, bytes_in}, specs.Pieces.StaysOpen}
 
 -- What is made of bytes that are refused or not.
@@ -25,48 +25,61 @@ err-from : (r : Result (Unit {0}) Fault) (fault : Fault) → fault_in r ≡ Some
 err-from r fault h = search (rules, arith)
 
 -- where a plan's parts suit a file
-pub fits-law : (mode : Mode) (plan : PlanView) {t : Telling} → IsText t → IsText (unless_declined (fault_in (fits mode plan)) t)
-fits-law mode plan {t} is = declined-law _ t (λ fault h. misfit-inside mode plan fault (misfit_named mode plan fault (err-from (fits mode plan) fault h))) is
+pub suited-law : (plan : PlanView) (tells : Header → Telling) → ((header : Header) → IsText (tells header)) → (header : Header) → IsText (if_suited plan tells header)
+suited-law plan tells is header =
+    let mode = mode_of header.record_type in
+    declined-law _ (tells header) (λ fault h. misfit-inside mode plan fault (misfit_named mode plan fault (err-from (fits mode plan) fault h))) (is header)
 
--- ## What a file is made of
+-- ## A text that is cut short is not empty
 
--- by the header's answer
-module _ (tells : Header → Telling) where
-  pub ends-headed : (out : Result (Header × List ℕ) Fault → Outcome)
-      → ((header : Header) (behind : List ℕ) → out (Ok (header, behind)) ≡ (tells header).ends behind) → ((fault : Fault) → out (Err fault) ≡ refused fault)
-      → (answer : Result (Header × List ℕ) Fault) → out answer ≡ headed_end tells answer
-  ends-headed out found failed (Ok it) = found it.0 it.1
-  ends-headed out found failed (Err fault) = failed fault
+pub AppendsShort-none : (a b : Option (List ℕ)) → AppendsShort a b [] → ⊥
+AppendsShort-none a b q = let e : length {A = ℕ} [] ≡ length (q.0 ++ q.1) = ap length q.3 in let some = q.2 in omega (arith, e, some, length-append q.0 q.1)
 
-  pub text-headed : (shown : Result (Header × List ℕ) Fault → List ℕ)
-      → ((header : Header) (behind : List ℕ) → shown (Ok (header, behind)) ≡ (tells header).text behind) → ((fault : Fault) → shown (Err fault) ≡ [])
-      → (answer : Result (Header × List ℕ) Fault) → shown answer ≡ headed_text tells answer
-  text-headed shown found failed (Ok it) = found it.0 it.1
-  text-headed shown found failed (Err fault) = failed fault
+-- ## The work on a file with a header
 
-  pub goes-headed : (goes : Result (Header × List ℕ) Fault → Type 0)
-      → ((header : Header) (behind : List ℕ) → (tells header).refuses behind ≡ None → goes (Ok (header, behind)))
-      → ((fault : Fault) → MayChange (Some fault) → goes (Err fault))
-      → (answer : Result (Header × List ℕ) Fault) → HeadedGoes tells answer → goes answer
-  goes-headed goes found failed (Ok it) h = found it.0 it.1 h
-  goes-headed goes found failed (Err fault) h = failed fault h
+-- a header that is declined, and else what is made of the bytes after it
+pub declined-stays : (declined : Option Fault) (t : Telling) → RefusalStays t → RefusalStays (unless_declined declined t)
+declined-stays None t stays = stays
+declined-stays (Some why) t stays = λ bytes more fault is. ap (end_with []) is
 
--- by whether a plan's parts suit it
-module _ (t : Telling) (behind : List ℕ) where
-  pub ends-fit : (out : Result (Unit {0}) Fault → Outcome) → out (Ok tt) ≡ t.ends behind → ((fault : Fault) → out (Err fault) ≡ refused fault)
-      → (fit : Result (Unit {0}) Fault) → out fit ≡ (unless_declined (fault_in fit) t).ends behind
-  ends-fit out suits misfit (Ok done) = suits
-  ends-fit out suits misfit (Err fault) = misfit fault
+pub declined-late : (declined : Option Fault) (t : Telling) (bytes : List ℕ) → (t.text bytes ≡ []) × IsAllOrNothing (t.ends bytes)
+    → ((unless_declined declined t).text bytes ≡ []) × IsAllOrNothing ((unless_declined declined t).ends bytes)
+declined-late None t bytes late = late
+declined-late (Some why) t bytes late = (refl, inl refl)
 
-  pub text-fit : (shown : Result (Unit {0}) Fault → List ℕ) → shown (Ok tt) ≡ t.text behind → ((fault : Fault) → shown (Err fault) ≡ [])
-      → (fit : Result (Unit {0}) Fault) → shown fit ≡ (unless_declined (fault_in fit) t).text behind
-  text-fit shown suits misfit (Ok done) = suits
-  text-fit shown suits misfit (Err fault) = misfit fault
+cuts-late : (end : Outcome) (old new : Option (List ℕ)) → IsAllOrNothing end → AppendsShort old new end.text → Cuts {A = List ℕ → List ℕ} AtEnd end old new
+cuts-late end old new (inl empty) short = absurd (AppendsShort-none old new (rw empty at short))
+cuts-late end old new (inr none) short = (none, short)
 
-  pub goes-fit : (goes : Result (Unit {0}) Fault → Type 0) → (t.refuses behind ≡ None → goes (Ok tt)) → (fit : Result (Unit {0}) Fault)
-      → (unless_declined (fault_in fit) t).refuses behind ≡ None → goes fit
-  goes-fit goes suits (Ok done) h = suits h
-  goes-fit goes suits (Err fault) h = cc
+module _ (tells : Header → Telling) (good : List ℕ → Type 0) (is : (header : Header) → IsText (tells header)) where
+  -- where the text is written as it reads
+  pub suits-as_it_reads : Suits (headed_work tells good) (AsItReads (headed_so_far tells)) WantsNone tells (λ header. ⊥)
+  suits-as_it_reads = record {
+    ends = λ bytes. refl;
+    text = λ bytes. refl;
+    cuts = λ bytes old new short. short;
+    goes = λ bytes goes. goes;
+    wanting = λ bytes behind header answer wants few. wants;
+    is = is;
+  }
+
+  -- where it is written at the end, and only at a good one
+  pub suits-at_end : (memory : List ℕ → Type 0) (wants : Header → Type 0)
+      → ((header : Header) (bytes : List ℕ) → ((tells header).text bytes ≡ []) × IsAllOrNothing ((tells header).ends bytes))
+      → ((bytes behind : List ℕ) (header : Header) → header_answer bytes ≡ Ok (header, behind) → wants header → length behind < piece_limit → memory bytes)
+      → Suits (headed_work tells good) AtEnd memory tells wants
+  suits-at_end memory wants late wanting = record {
+    ends = λ bytes. refl;
+    text = λ bytes. (by (header_answer bytes)).0;
+    cuts = λ bytes old new. cuts-late (headed_end tells (header_answer bytes)) old new (by (header_answer bytes)).1;
+    goes = λ bytes goes. goes;
+    wanting = wanting;
+    is = is;
+  }
+    where
+      by : (answer : Result (Header × List ℕ) Fault) → ([] ≡ headed_text tells answer) × IsAllOrNothing (headed_end tells answer)
+      by (Ok it) = let it_is = late it.0 it.1 in (sym it_is.0, it_is.1)
+      by (Err fault) = (refl, inl refl)
 
 -- ## What opening wrote
 
@@ -86,19 +99,10 @@ module _ (X : Type 0) (t : Telling) (wants : Type 0) (old new : Option (List ℕ
       → AppendsShort old new head → Rose before after → Opens {X = X} t wants old new before after (Err fault)
   opens-cut fault head is write short rose = inl (inr (write, record { more = head; adds = is; cut = short; rose = rose }))
 
--- ## A text that is cut short is not empty
-
-pub AppendsShort-none : (a b : Option (List ℕ)) → AppendsShort a b [] → ⊥
-AppendsShort-none a b q = let e : length {A = ℕ} [] ≡ length (q.0 ++ q.1) = ap length q.3 in let some = q.2 in omega (arith, e, some, length-append q.0 q.1)
-
 -- Streams of records that have refused nothing.
 
 pub not_written : (refused : Option Fault) → refused ≡ None → refused ≢ Some WriteFault
 not_written refused none = search (rules, arith)
-
-pub streamed-open : (how : StreamSettings) (bytes : List ℕ) → record_refusal how (words_of bytes) ≡ None → MayChange (fault_in (streamed how bytes))
-unfolding streamed
-streamed-open how bytes none = search (rules, arith, cases_Bool)
 
 -- a stream that refused nothing took the whole piece
 pub stays-open : {A : Type 0} (old new : RecordStream) (piece : List ℕ) (r : Result A Fault)

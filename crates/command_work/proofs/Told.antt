@@ -3,7 +3,7 @@ use Rattle.std.{proofs.Common.{◌≡◌, ◌≢◌, ℕ, List, [], ◌++◌, tr
 use Rattle.tally_base.{specs.declared.slot.Slot.Slot, specs.declared.fault.Fault.Fault, specs.declared.slot.Slot.TheVariants.Data, specs.Faults.{fault_in, is_outside}}
 use Rattle.bench_io.{specs.Inputs.{File, InputState, IsOpened}, specs.Given.{Given, no_bytes, Consumes, GivesCount, IsAtEnd, MayFollow, IsOf}}
 use Rattle.ptu_definitions.specs.Headers.{Shows}
-use Rattle.command_work.{specs.Outcomes.{Says, SaysNoEnd, Outcome, InputsOnce}, specs.Endings.{FileOf, outcome, on_file, Answers, EndsWith, StopsIn, Cuts, Span, TakesData, HasCauses, AreItsFiles, ForItsFiles, Tells, ToldAreIts, Asks}, specs.Behaviours.{Work, Writing, OnFile, Behaviour, NoCommand, Alone, ByPlan}, specs.Works.{AnswersWork, EndsWork, ReadsWork, CutsWork, WantsNone, WorkReason, TakesFew}}
+use Rattle.command_work.{specs.Outcomes.{Says, SaysNoEnd, Outcome, InputsOnce}, specs.Endings.{FileOf, HasPlan, outcome, on_file, Answers, EndsWith, StopsIn, Cuts, Span, TakesData, HasCauses, AreItsFiles, ForItsFiles, Tells, ToldAreIts, Asks}, specs.Behaviours.{Work, Writing, OnFile, Behaviour, Alone, ByPlan}, specs.Works.{AnswersWork, EndsWork, ReadsWork, CutsWork, WantsNone, WorkReason, TakesFew}}
 
 -- at the end nothing stands behind
 pub Says-at_end : {A : Type 0} (meaning : List ℕ → A) (taken : List ℕ) (given : Given) (answer : A)
@@ -97,8 +97,7 @@ pub files-map : (does : Behaviour) (after : InputState) (p q : Outcome → Type 
 files-map does after p q f all = λ plan_file data_file may. f (outcome does plan_file data_file) (all plan_file data_file may)
 
 -- files that are told for both words are among those that may be the run's
-pub told-are-its : (does : Behaviour) (before after : InputState) (plan_file data_file : File) → Asks does before after → ToldAreIts does before after → Tells before does plan_file data_file → AreItsFiles does after plan_file data_file
-told-are-its NoCommand before after plan_file data_file asks its tells = tt
+pub told-are-its : (does : Behaviour) (before after : InputState) (plan_file data_file : File) → Asks does (HasPlan after) before after → ToldAreIts does before after → Tells before does plan_file data_file → AreItsFiles does after plan_file data_file
 told-are-its (Alone end) before after plan_file data_file asks its tells = tt
 told-are-its (OnFile file writing work) before after plan_file data_file asks its tells = its data_file tells.1
 told-are-its (ByPlan plan file writing memory lacks work) before after plan_file data_file asks its tells = search (rules, arith)

@@ -40,9 +40,7 @@ pub data Memory : Type 0 where
 
 -- How a command comes to its end.
 pub data Behaviour : Type 1 where
-  -- the words are no command
-  NoCommand : Behaviour
-  -- There is neither a word PLAN nor a word FILE. The text is written at the end, and memory may be wanting.
+  -- There is neither a word PLAN nor a word FILE, or the words are no command. The text is written at the end, and memory may be wanting where it would end well.
   Alone : (end : Outcome) → Behaviour
   -- FILE is opened and read. No memory is taken.
   OnFile : (file : List ℕ) (writing : Writing (List ℕ → List ℕ)) (work : Work) → Behaviour

@@ -1,10 +1,10 @@
 -- What a run of the program leaves, by what its command does.
 use Rattle.std.{specs.Prelude.{ℕ, ◌≡◌, ◌⊎◌, ◌+◌, ◌≤◌, ◌<◌, List, ◌++◌, length, true, false, None, Some, Result, Ok, Err, IsErrAnd, IfErr}, specs.declared.option.Option.Option, specs.Io.KnownBytes.{Keeps, Appends}}
-use Rattle.tally_base.{specs.declared.slot.Slot.Slot, specs.declared.slot.Slot.TheVariants.{Plan, Data}, specs.declared.fault.Fault.Fault, specs.declared.fault.Fault.TheVariants.{Usage, OpenFault}, specs.Faults.{line_of, is_outside, fault_in, HasReason}, specs.FaultCounts.Rose, specs.declared.header.Header.Header, specs.RecordTypes.mode_of}
+use Rattle.tally_base.{specs.declared.slot.Slot.Slot, specs.declared.slot.Slot.TheVariants.{Plan, Data}, specs.declared.fault.Fault.Fault, specs.declared.fault.Fault.TheVariants.OpenFault, specs.Faults.{line_of, is_outside, fault_in, HasReason}, specs.FaultCounts.Rose, specs.declared.header.Header.Header, specs.RecordTypes.mode_of}
 use Rattle.bench_io.{specs.Sinks.AppendsShort, specs.Given.{IsOf, IsAtEnd}, specs.Inputs.{File, InputState, IsOpened}, specs.declared.inputs.Inputs.Ghosts as InputGhosts, specs.declared.sink.Sink.Ghosts as SinkGhosts}
 use Rattle.ptu_definitions.specs.Headers.{header_answer}
 use Rattle.plan_text.{specs.Plan.{PlanView, parts_of}, specs.ReadPlan.{text_limit, plan_answer}, specs.Fits.fits}
-use Rattle.command_work.{specs.Outcomes.{InputsOnce, OutOnce, Outcome, refused, status}, specs.Behaviours.{piece_limit, Work, Writing, AtEnd, AsItReads, so_far, under, Memory, ForPlan, ForTables, Behaviour, NoCommand, Alone, OnFile, ByPlan}}
+use Rattle.command_work.{specs.Outcomes.{InputsOnce, OutOnce, Outcome, refused, status}, specs.Behaviours.{piece_limit, Work, Writing, AtEnd, AsItReads, so_far, under, Memory, ForPlan, ForTables, Behaviour, Alone, OnFile, ByPlan}}
 
 -- ## What the files call for
 
@@ -23,7 +23,6 @@ by_plan lacks work (Ok plan) data_file = unless (lacks plan) (on_file (work plan
 
 -- what a command ends with over the files of its words PLAN and FILE, where nothing outside fails
 unfoldable pub outcome : Behaviour → File → File → Outcome
-outcome NoCommand plan_file data_file = refused Usage
 outcome (Alone end) plan_file data_file = end
 outcome (OnFile file writing work) plan_file data_file = on_file work data_file
 outcome (ByPlan plan file writing memory lacks work) None data_file = refused (OpenFault Plan)
@@ -31,7 +30,6 @@ outcome (ByPlan plan file writing memory lacks work) (Some text) data_file = by_
 
 -- each word FILE or PLAN is meant for its slot
 abbrev pub IsMeant : InputState → Behaviour → Type 0
-IsMeant state NoCommand = Unit {0}
 IsMeant state (Alone end) = Unit {0}
 IsMeant state (OnFile file writing work) = state.meant Data file ≡ true
 IsMeant state (ByPlan plan file writing memory lacks work) = (state.meant Plan plan ≡ true) × (state.meant Data file ≡ true)
@@ -50,7 +48,6 @@ FileOf after slot file = after.opened slot ≡ true → (bytes : List ℕ) × (f
 
 -- These may be the files of the words PLAN and FILE.
 abbrev pub AreItsFiles : Behaviour → InputState → File → File → Type 0
-AreItsFiles NoCommand after plan_file data_file = Unit {0}
 AreItsFiles (Alone end) after plan_file data_file = Unit {0}
 AreItsFiles (OnFile file writing work) after plan_file data_file = FileOf after Data data_file
 AreItsFiles (ByPlan plan file writing memory lacks work) after plan_file data_file = FileOf after Plan plan_file × FileOf after Data data_file
@@ -68,14 +65,12 @@ pub record HasPlan (after : InputState) (lacks : PlanView → Option Fault) (pla
 
 -- The inputs tell this file for the word FILE, if the command comes to it by such a file of PLAN: that of a plan that is refused or lacks something never does.
 abbrev pub TellsData : InputState → Behaviour → File → File → Type 0
-TellsData state NoCommand plan_file data_file = Unit {0}
 TellsData state (Alone end) plan_file data_file = Unit {0}
 TellsData state (OnFile file writing work) plan_file data_file = state.contents file ≡ Some data_file
 TellsData state (ByPlan plan file writing memory lacks work) plan_file data_file = (view : PlanView) → IsPlan plan_file view → lacks view ≡ None → state.contents file ≡ Some data_file
 
 -- The inputs tell this file for the word PLAN.
 abbrev pub TellsPlan : InputState → Behaviour → File → Type 0
-TellsPlan state NoCommand plan_file = Unit {0}
 TellsPlan state (Alone end) plan_file = Unit {0}
 TellsPlan state (OnFile file writing work) plan_file = Unit {0}
 TellsPlan state (ByPlan plan file writing memory lacks work) plan_file = state.contents plan ≡ Some plan_file
@@ -94,7 +89,6 @@ ToldIsIts slot before after name = (file : File) → before.contents name ≡ So
 
 -- The file that they tell for a word may be its slot's, each for itself.
 abbrev pub ToldAreIts : Behaviour → InputState → InputState → Type 0
-ToldAreIts NoCommand before after = Unit {0}
 ToldAreIts (Alone end) before after = Unit {0}
 ToldAreIts (OnFile file writing work) before after = ToldIsIts Data before after file
 ToldAreIts (ByPlan plan file writing memory lacks work) before after = ToldIsIts Plan before after plan × ToldIsIts Data before after file
@@ -112,14 +106,17 @@ Answers does after result old new =
     IsErrAnd result (λ fault. is_outside fault ≡ true)
     ⊎ ForItsFiles does after (λ end. EndsWith end (fault_in result) old new)
 
+-- what says that the file of PLAN is a plan which lacks nothing for the command
+abbrev pub PlanSays : Type 1
+PlanSays = (PlanView → Option Fault) → PlanView → Type 0
+
 -- The command asks for this slot, and no earlier case ends the run.
-abbrev pub Reaches : Behaviour → InputState → Slot → Type 0
-Reaches NoCommand after slot = ⊥
-Reaches (Alone end) after slot = ⊥
-Reaches (OnFile file writing work) after Plan = ⊥
-Reaches (OnFile file writing work) after Data = Unit {0}
-Reaches (ByPlan plan file writing memory lacks work) after Plan = Unit {0}
-Reaches (ByPlan plan file writing memory lacks work) after Data = (view : PlanView) × HasPlan after lacks view
+abbrev pub Reaches : Behaviour → PlanSays → Slot → Type 0
+Reaches (Alone end) is_plan slot = ⊥
+Reaches (OnFile file writing work) is_plan Plan = ⊥
+Reaches (OnFile file writing work) is_plan Data = Unit {0}
+Reaches (ByPlan plan file writing memory lacks work) is_plan Plan = Unit {0}
+Reaches (ByPlan plan file writing memory lacks work) is_plan Data = (view : PlanView) × is_plan lacks view
 
 -- The bytes that the reads of FILE gave call for no end by themselves, and what the command writes of them meanwhile was written.
 pub record StopsIn (writing : Writing (List ℕ → List ℕ)) (work : Work) (after : InputState) (old new : Option (List ℕ)) : Type 0 where
@@ -127,12 +124,11 @@ pub record StopsIn (writing : Writing (List ℕ → List ℕ)) (work : Work) (af
   pub text : Appends old new (so_far writing (after.given Data).bytes)
 
 -- What a run leaves on standard output where a read failed.
-abbrev pub LeavesUnread : Behaviour → Slot → InputState → Option (List ℕ) → Option (List ℕ) → Type 0
-LeavesUnread NoCommand slot after old new = ⊥
-LeavesUnread (Alone end) slot after old new = ⊥
-LeavesUnread (OnFile file writing work) slot after old new = StopsIn writing work after old new
-LeavesUnread (ByPlan plan file writing memory lacks work) Plan after old new = Keeps old new × (length (after.given Plan).bytes ≤ text_limit)
-LeavesUnread (ByPlan plan file writing memory lacks work) Data after old new = (view : PlanView) × HasPlan after lacks view × StopsIn (under view writing) (work view) after old new
+abbrev pub LeavesUnread : Behaviour → PlanSays → Slot → InputState → Option (List ℕ) → Option (List ℕ) → Type 0
+LeavesUnread (Alone end) is_plan slot after old new = ⊥
+LeavesUnread (OnFile file writing work) is_plan slot after old new = StopsIn writing work after old new
+LeavesUnread (ByPlan plan file writing memory lacks work) is_plan Plan after old new = Keeps old new × (length (after.given Plan).bytes ≤ text_limit)
+LeavesUnread (ByPlan plan file writing memory lacks work) is_plan Data after old new = (view : PlanView) × is_plan lacks view × StopsIn (under view writing) (work view) after old new
 
 -- A text was cut short. One that is written at the end is cut only where the run would have ended well.
 abbrev pub Cuts : {A : Type 0} → Writing A → Outcome → Option (List ℕ) → Option (List ℕ) → Type 0
@@ -140,7 +136,6 @@ Cuts AtEnd end old new = (end.fault ≡ None) × AppendsShort old new end.text
 Cuts (AsItReads text) end old new = AppendsShort old new end.text
 
 abbrev pub CutsShort : Behaviour → Outcome → Option (List ℕ) → Option (List ℕ) → Type 0
-CutsShort NoCommand end old new = ⊥
 CutsShort (Alone written) end old new = (end.fault ≡ None) × AppendsShort old new end.text
 CutsShort (OnFile file writing work) end old new = Cuts writing end old new
 CutsShort (ByPlan plan file writing memory lacks work) end old new = Cuts writing end old new
@@ -170,19 +165,18 @@ WantsBehind ForPlan plan taken = ⊥
 WantsBehind ForTables plan taken = StopsAtHeader plan taken
 
 -- The data were opened, behind a plan that lacks nothing, and memory may be wanting behind the bytes that their reads gave.
-pub record StopsBehind (memory : Memory) (lacks : PlanView → Option Fault) (after : InputState) : Type 0 where
+pub record StopsBehind (memory : Memory) (lacks : PlanView → Option Fault) (is_plan : PlanSays) (after : InputState) : Type 0 where
   pub plan : PlanView
-  pub has : HasPlan after lacks plan
+  pub has : is_plan lacks plan
   pub opened : after.opened Data ≡ true
   pub wants : WantsBehind memory plan (after.given Data).bytes
 
 -- What a run leaves that ends for want of memory: nothing is written, and the command takes memory there. By a plan that is for the plan, and the data were not asked for; or for its tables.
-abbrev pub RunsOut : Behaviour → InputState → Option (List ℕ) → Option (List ℕ) → Type 0
-RunsOut NoCommand after old new = ⊥
-RunsOut (Alone end) after old new = Keeps old new
-RunsOut (OnFile file writing work) after old new = ⊥
-RunsOut (ByPlan plan file writing memory lacks work) after old new =
-    Keeps old new × (((after.asked Data ≡ false) × WantsForPlan after) ⊎ StopsBehind memory lacks after)
+abbrev pub RunsOut : Behaviour → PlanSays → InputState → Option (List ℕ) → Option (List ℕ) → Type 0
+RunsOut (Alone end) is_plan after old new = (end.fault ≡ None) × Keeps old new
+RunsOut (OnFile file writing work) is_plan after old new = ⊥
+RunsOut (ByPlan plan file writing memory lacks work) is_plan after old new =
+    Keeps old new × (((after.asked Data ≡ false) × WantsForPlan after) ⊎ StopsBehind memory lacks is_plan after)
 
 -- No more of a plan is read than one byte more than a plan may have.
 abbrev pub TakesPlan : InputState → Type 0
@@ -197,16 +191,15 @@ pub record TakesData (work : Work) (after : InputState) : Type 0 where
   pub few : length last ≤ piece_limit
 
 -- The data are asked for only behind a plan that lacks nothing, and what is taken of them is what its work takes.
-abbrev pub AsksByPlan : (PlanView → Option Fault) → (PlanView → Work) → InputState → Type 0
-AsksByPlan lacks work after = after.asked Data ≡ true → (view : PlanView) × HasPlan after lacks view × (after.opened Data ≡ true → TakesData (work view) after)
+abbrev pub AsksByPlan : (PlanView → Option Fault) → (PlanView → Work) → PlanSays → InputState → Type 0
+AsksByPlan lacks work is_plan after = after.asked Data ≡ true → (view : PlanView) × is_plan lacks view × (after.opened Data ≡ true → TakesData (work view) after)
 
 -- What a command asks for and takes, however it ends. Without a word PLAN it never asks for a plan, and without a word FILE it leaves the inputs as they were.
 -- The data are asked for only behind a plan that lacks nothing, and opened only where they are asked for.
-abbrev pub Asks : Behaviour → InputState → InputState → Type 0
-Asks NoCommand before after = after ≡ before
-Asks (Alone end) before after = after ≡ before
-Asks (OnFile file writing work) before after = (after.asked Plan ≡ false) × (after.opened Data ≡ true → TakesData work after)
-Asks (ByPlan plan file writing memory lacks work) before after = TakesPlan after × AsksByPlan lacks work after × (after.opened Data ≡ true → after.asked Data ≡ true)
+abbrev pub Asks : Behaviour → PlanSays → InputState → InputState → Type 0
+Asks (Alone end) is_plan before after = after ≡ before
+Asks (OnFile file writing work) is_plan before after = (after.asked Plan ≡ false) × (after.opened Data ≡ true → TakesData work after)
+Asks (ByPlan plan file writing memory lacks work) is_plan before after = TakesPlan after × AsksByPlan lacks work is_plan after × (after.opened Data ≡ true → after.asked Data ≡ true)
 
 -- A fault has its line on standard error, and no write there failed; or a prefix of it where one did.
 abbrev pub TellsFault : Option (List ℕ) → Option (List ℕ) → ℕ → ℕ → Option Fault → Type 0
@@ -255,7 +248,7 @@ pub record Once (span : Span) (fault : Option Fault) : Type 0 where
 
 -- An opening failed: the command came to the slot, the count of its openings that failed rose, and nothing was written.
 abbrev pub FailsOpening : Behaviour → Slot → InputState → InputState → Option (List ℕ) → Option (List ℕ) → Type 0
-FailsOpening does slot before after old new = Reaches does after slot × Rose (before.open_faults slot) (after.open_faults slot) × Keeps old new
+FailsOpening does slot before after old new = Reaches does (HasPlan after) slot × Rose (before.open_faults slot) (after.open_faults slot) × Keeps old new
 
 -- A read of the slot failed: the count of those rose.
 abbrev pub ReadFailed : Slot → InputState → InputState → Type 0
@@ -263,7 +256,7 @@ ReadFailed slot before after = Rose (before.read_faults slot) (after.read_faults
 
 -- A read failed: the command came to the slot, which was opened and of which no read had said the end, the count of its reads that failed rose, and standard output holds what was called for so far.
 abbrev pub FailsReading : Behaviour → Slot → InputState → InputState → Option (List ℕ) → Option (List ℕ) → Type 0
-FailsReading does slot before after old new = Reaches does after slot × (after.opened slot ≡ true) × ¬ (IsAtEnd (after.given slot)) × ReadFailed slot before after × LeavesUnread does slot after old new
+FailsReading does slot before after old new = Reaches does (HasPlan after) slot × (after.opened slot ≡ true) × ¬ (IsAtEnd (after.given slot)) × ReadFailed slot before after × LeavesUnread does (HasPlan after) slot after old new
 
 -- The text that its files call for was cut short.
 abbrev pub CutsOutcome : Behaviour → InputState → Option (List ℕ) → Option (List ℕ) → Type 0
@@ -275,13 +268,13 @@ HasCauses does span = HasReason
     (λ slot. FailsOpening does slot span.before span.after span.old span.new)
     (λ slot. FailsReading does slot span.before span.after span.old span.new)
     (Rose span.faults_before span.faults_after × CutsOutcome does span.after span.old span.new)
-    (RunsOut does span.after span.old span.new)
+    (RunsOut does (HasPlan span.after) span.after span.old span.new)
 
 -- all that a command does
 pub record Does (behaves : Behaviour) (span : Span) (result : Result (Unit {0}) Fault) : Type 0 where
   pub answer : Answers behaves span.after result span.old span.new
   pub causes : IfErr result (HasCauses behaves span)
-  pub asks : Asks behaves span.before span.after
+  pub asks : Asks behaves (HasPlan span.after) span.before span.after
   pub once : Once span (fault_in result)
   pub files : ToldAreIts behaves span.before span.after
 
@@ -289,8 +282,7 @@ pub record Does (behaves : Behaviour) (span : Span) (result : Result (Unit {0}) 
 
 -- The status is that of want of memory, and the command takes memory.
 abbrev pub LacksMemory : Behaviour → ℕ → Type 0
-LacksMemory NoCommand result = ⊥
-LacksMemory (Alone end) result = result ≡ 5
+LacksMemory (Alone end) result = (end.fault ≡ None) × (result ≡ 5)
 LacksMemory (OnFile file writing work) result = ⊥
 LacksMemory (ByPlan plan file writing memory lacks work) result = result ≡ 5
 
@@ -305,7 +297,6 @@ IsGoodFor work (Some bytes) = work.good bytes
 
 -- The words are a command, and its files are good ones.
 abbrev pub IsGood : Behaviour → File → File → Type 0
-IsGood NoCommand plan_file data_file = ⊥
 IsGood (Alone end) plan_file data_file = end.fault ≡ None
 IsGood (OnFile file writing work) plan_file data_file = IsGoodFor work data_file
 IsGood (ByPlan plan file writing memory lacks work) plan_file data_file = (view : PlanView) × IsPlan plan_file view × (lacks view ≡ None) × IsGoodFor (work view) data_file

@@ -1,9 +1,10 @@
 -- What a command makes of the bytes after a header.
 use Rattle.std.{specs.Prelude.{ℕ, ◌≡◌, ◌⊎◌, ◌<◌, List, [], ◌++◌, length, false, None, Some, Result, Ok, Err}, specs.declared.option.Option.Option, specs.Io.KnownBytes.Keeps}
-use Rattle.tally_base.{specs.declared.fault.Fault.Fault, specs.declared.fault.Fault.TheVariants.OutOfMemory, specs.declared.header.Header.Header, specs.Faults.is_outside}
+use Rattle.tally_base.{specs.declared.fault.Fault.Fault, specs.declared.fault.Fault.TheVariants.OutOfMemory, specs.declared.header.Header.Header, specs.Faults.{is_outside, fault_in}, specs.RecordTypes.mode_of}
 use Rattle.bench_io.specs.Sinks.{AppendsShort}
 use Rattle.streamed_text.specs.Texts.{WritesText}
 use Rattle.ptu_definitions.specs.Headers.{header_answer}
+use Rattle.plan_text.{specs.Plan.PlanView, specs.Fits.fits}
 use Rattle.command_work.{specs.Outcomes.{Outcome, refused, MayChange}, specs.Behaviours.{piece_limit, Work, Writing, so_far}, specs.Endings.Cuts}
 
 -- the text of bytes while more may come, what they end with if they are all, and why they are refused
@@ -12,9 +13,13 @@ pub record Telling : Type 0 where
   pub ends : List ℕ → Outcome
   pub refuses : List ℕ → Option Fault
 
+-- A refusal of bytes is the end of all that begin with them.
+abbrev pub RefusalStays : Telling → Type 0
+RefusalStays t = (bytes more : List ℕ) (fault : Fault) → t.refuses bytes ≡ Some fault → t.ends (bytes ++ more) ≡ record { text = t.text bytes; fault = Some fault }
+
 -- The end of bytes that are refused stays, the text of bytes is in front of what they end with, with more of them, and no refusal is from outside.
 pub record IsText (t : Telling) : Type 0 where
-  pub refused : (bytes more : List ℕ) (fault : Fault) → t.refuses bytes ≡ Some fault → t.ends (bytes ++ more) ≡ record { text = t.text bytes; fault = Some fault }
+  pub refused : RefusalStays t
   pub front : (bytes more : List ℕ) → (tail : List ℕ) × ((t.ends (bytes ++ more)).text ≡ t.text bytes ++ tail)
   pub inside : (bytes : List ℕ) (fault : Fault) → t.refuses bytes ≡ Some fault → is_outside fault ≡ false
   pub end_inside : (bytes : List ℕ) (fault : Fault) → (t.ends bytes).fault ≡ Some fault → is_outside fault ≡ false
@@ -41,6 +46,10 @@ unless_declined (Some fault) t = record {
   refuses = λ bytes. Some fault;
 }
 
+-- the same of a header that each part of a plan suits, and else the refusal for the first that doesn't
+abbrev pub if_suited : PlanView → (Header → Telling) → Header → Telling
+if_suited plan tells header = unless_declined (fault_in (fits (mode_of header.record_type) plan)) (tells header)
+
 -- ## A header, and the bytes after it
 
 -- what they end with
@@ -57,6 +66,22 @@ headed_text tells (Err fault) = []
 abbrev pub HeadedGoes : (Header → Telling) → Result (Header × List ℕ) Fault → Type 0
 HeadedGoes tells (Ok found) = (tells found.0).refuses found.1 ≡ None
 HeadedGoes tells (Err fault) = MayChange (Some fault)
+
+-- the work on a file that makes this of the bytes after its header, where these files are good ones
+abbrev pub headed_work : (Header → Telling) → (List ℕ → Type 0) → Work
+headed_work tells good = record {
+  outcome = λ bytes. headed_end tells (header_answer bytes);
+  goes_on = λ bytes. HeadedGoes tells (header_answer bytes);
+  good = good;
+}
+
+-- what is written of a file while more may come
+abbrev pub headed_so_far : (Header → Telling) → List ℕ → List ℕ
+headed_so_far tells bytes = headed_text tells (header_answer bytes)
+
+-- A text is written whole, or nothing of it where there is a fault.
+abbrev pub IsAllOrNothing : Outcome → Type 0
+IsAllOrNothing end = (end.text ≡ []) ⊎ (end.fault ≡ None)
 
 -- This work on a file is what is made of the bytes after its header.
 pub record Suits (work : Work) (writing : Writing (List ℕ → List ℕ)) (memory : List ℕ → Type 0) (tells : Header → Telling) (wants : Header → Type 0) : Type 0 where

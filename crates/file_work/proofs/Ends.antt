@@ -4,7 +4,7 @@ use Rattle.tally_base.{specs.declared.fault.Fault.Fault, specs.declared.header.H
 use Rattle.bench_io.{specs.Sinks.AppendsShort, proofs.Bytes.{Appends-trans, Appends-same, AppendsShort-behind, AppendsShort-more, AppendsShort-same}}
 use Rattle.ptu_definitions.{specs.Headers.{header_answer, Shows, seen}, specs.declared.records.Summary.Summary, specs.Words.{words_of, counted, record_limit}, specs.Kept.{Marked, marked}, specs.Prefixes.each, specs.Settled.{ordered, settles, delivered}, specs.Times.events, specs.Streams.{StreamSettings, given, last_in, streamed}, proofs.DeliveredLaws.delivered_last-0, specs.declared.records.KindCounts.KindCounts, specs.TagList.Item}
 use Rattle.list_out.{specs.HeaderText.header_text, proofs.Final.{header_text-grows, header_text-refused, header_text-done}, specs.Lines.{events_text, lines_of}}
-use Rattle.file_work.{specs.FileOutcomes.{header_outcome, counts_text, with_counts, count_outcome}, specs.BodyPieces.{AppendsHeader, CutsHeader}, specs.EventLines.lists, specs.CountPieces.{counts, CountsBytes}, specs.CountLaws.counts-clear}
+use Rattle.file_work.{specs.FileOutcomes.{header_outcome, counts_text, counted_end, counts, lists}, specs.BodyPieces.{AppendsHeader, CutsHeader}, specs.CountPieces.CountsBytes, specs.CountLaws.counts-clear}
 use Rattle.command_work.specs.Tellings.{WritesEnd, WritesPiece}
 use Rattle.record_stream.{specs.declared.taker.EventTaker.Ghosts, specs.Ending.Ended}
 use Rattle.streamed_text.proofs.Texts.{WroteText-none}
@@ -87,8 +87,8 @@ takes-piece old new record_type piece r taken limit = search (rules, arith, with
 -- ## The end
 
 module _ (header : Header) (bytes : List ℕ) where
-  ends-is : (r : Result KindCounts Fault) → r ≡ counted header.record_type bytes → (counts header).ends bytes ≡ count_outcome (with_counts header r)
-  ends-is r is = ap (λ c. count_outcome (with_counts header c)) (sym is)
+  ends-is : (r : Result KindCounts Fault) → r ≡ counted header.record_type bytes → (counts header).ends bytes ≡ counted_end header r
+  ends-is r is = ap (counted_end header) (sym is)
 
   pub ends-refused : (fault : Fault) (a : Option (List ℕ)) (faults : ℕ)
       → Err fault ≡ counted header.record_type bytes → WritesEnd (counts header) bytes a a faults faults (Err fault)

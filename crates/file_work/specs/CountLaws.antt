@@ -1,10 +1,9 @@
 -- What holds of the counts of bytes that grow.
-use Rattle.std.{proofs.Common.{◌≡◌, ◌∙◌, ◌+◌, ◌<◌, ◌≤◌, ◌==◌, ℕ, List, [], ◌++◌, Bool, true, false, length, length-append, arith, refl, sym, ap, None, Some, Ok, Err, nat_lt, if◌then◌else◌, Result}, specs.declared.option.Option.Option, proofs.lemmas.Bool.Decides.nat_tests}
+use Rattle.std.{proofs.Common.{◌≡◌, ◌∙◌, ◌+◌, ◌<◌, ◌≤◌, ◌==◌, ℕ, List, [], ◌++◌, Bool, true, false, length, length-append, arith, refl, sym, ap, None, Some, Ok, Err, nat_lt, if◌then◌else◌, Result, inl, inr}, specs.declared.option.Option.Option, proofs.lemmas.Bool.Decides.nat_tests}
 use Rattle.tally_base.{specs.declared.fault.Fault.Fault, specs.declared.fault.Fault.TheVariants.{RecordLimit, TruncatedRecord}, specs.declared.header.Header.Header, specs.declared.header.RecordType.RecordType, specs.Faults.{is_outside, fault_in}}
-use Rattle.bench_io.specs.Sinks.{AppendsShort}
-use Rattle.ptu_definitions.{specs.declared.records.KindCounts.KindCounts, specs.Words.{words_of, rest_of, counted, records_of, record_limit}, specs.Kinds.counts_of, specs.Headers.header_answer, proofs.WordsLemmas.words_of-append}
-use Rattle.command_work.{specs.Outcomes.MayChange, specs.Behaviours.AtEnd, specs.Endings.Cuts, specs.Works.WantsNone, specs.Tellings.{IsText, Suits}, proofs.RestEnds.{AppendsShort-none, end_with, ends-headed, text-headed, goes-headed}}
-use Rattle.file_work.{specs.FileOutcomes.{with_counts, counts_behind, file_counts, count_outcome, counting}, specs.CountPieces.{too_many, counts}}
+use Rattle.ptu_definitions.{specs.declared.records.KindCounts.KindCounts, specs.Words.{words_of, rest_of, counted, records_of, record_limit}, specs.Kinds.counts_of, proofs.WordsLemmas.words_of-append}
+use Rattle.command_work.{specs.Behaviours.AtEnd, specs.Works.WantsNone, specs.Tellings.{IsText, IsAllOrNothing, Suits}, proofs.RestEnds.{end_with, suits-at_end}}
+use Rattle.file_work.specs.FileOutcomes.{counted_end, too_many, counts, counting}
 
 -- ## Too many records
 
@@ -42,22 +41,8 @@ counted-inside record_type bytes fault h = by (nat_lt record_limit (length (word
     by false true h = cc
     by false false h = let same : TruncatedRecord (length (rest_of bytes)) ≡ fault = cc in rw (← same) refl
 
--- records that aren't too many may be followed by others
-counted-open : (record_type : RecordType) (bytes : List ℕ) → too_many bytes ≡ None → MayChange (fault_in (counted record_type bytes))
-unfolding counted
-counted-open record_type bytes none = by (nat_lt record_limit (length (words_of bytes))) (length (rest_of bytes) == 0) none
-  where
-    by : (many whole : Bool) → (if many then Some (RecordLimit record_limit) else None) ≡ None → MayChange (fault_in (if many then Err (RecordLimit record_limit) else if whole then Ok (counts_of (records_of record_type bytes)) else Err (TruncatedRecord (length (rest_of bytes)))))
-    by true whole h = cc
-    by false true h = tt
-    by false false h = refl
-
 module _ (header : Header) where
-  with_counts-open : (r : Result KindCounts Fault) → MayChange (fault_in r) → MayChange (fault_in (with_counts header r))
-  with_counts-open (Ok counts) h = tt
-  with_counts-open (Err fault) h = h
-
-  pub ends-fault : (r : Result KindCounts Fault) → (count_outcome (with_counts header r)).fault ≡ fault_in r
+  pub ends-fault : (r : Result KindCounts Fault) → (counted_end header r).fault ≡ fault_in r
   ends-fault (Ok counts) = refl
   ends-fault (Err fault) = refl
 
@@ -65,28 +50,17 @@ module _ (header : Header) where
   counts-law = record {
     refused = λ bytes more fault h.
         let many = many-from bytes fault h in
-        ap (λ r. count_outcome (with_counts header r)) (counted-limit header.record_type (bytes ++ more) (many-more bytes more many.0)) ∙ ap (λ (f : Fault). end_with [] (Some f)) many.1;
+        ap (counted_end header) (counted-limit header.record_type (bytes ++ more) (many-more bytes more many.0)) ∙ ap (λ (f : Fault). end_with [] (Some f)) many.1;
     front = λ bytes more. (((counts header).ends (bytes ++ more)).text, refl);
     inside = λ bytes fault h. rw (← (many-from bytes fault h).1) refl;
     end_inside = λ bytes fault h. counted-inside header.record_type bytes fault (sym (ends-fault (counted header.record_type bytes)) ∙ h);
   }
 
--- ## The work
-
--- counts that are cut short are those of a file that ends well
-cuts : (old new : Option (List ℕ)) (r : Result (Header × KindCounts) Fault) → AppendsShort old new (count_outcome r).text → Cuts {A = List ℕ → List ℕ} AtEnd (count_outcome r) old new
-cuts old new (Ok found) short = (refl, short)
-cuts old new (Err fault) short = absurd (AppendsShort-none old new short)
+-- counts are written at a good end
+late : (header : Header) (r : Result KindCounts Fault) → IsAllOrNothing (counted_end header r)
+late header (Ok counts) = inr refl
+late header (Err fault) = inl refl
 
 pub counting-suits : Suits counting AtEnd WantsNone counts (λ header. ⊥)
-counting-suits = record {
-  ends = λ bytes. ends-headed counts (λ r. count_outcome (counts_behind r)) (λ header behind. refl) (λ fault. refl) (header_answer bytes);
-  text = λ bytes. text-headed counts (λ r. []) (λ header behind. refl) (λ fault. refl) (header_answer bytes);
-  cuts = λ bytes old new. cuts old new (file_counts bytes);
-  goes = λ bytes.
-      goes-headed counts (λ r. MayChange (fault_in (counts_behind r)))
-      (λ header behind h. with_counts-open header (counted header.record_type behind) (counted-open header.record_type behind h))
-      (λ fault h. h) (header_answer bytes);
-  wanting = λ bytes behind header answer wants few. wants;
-  is = counts-law;
-}
+counting-suits = suits-at_end counts _ counts-law WantsNone (λ header. ⊥)
+    (λ header bytes. (refl, late header (counted header.record_type bytes))) (λ bytes behind header answer wants few. wants)

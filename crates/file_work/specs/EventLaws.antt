@@ -1,11 +1,11 @@
 -- What holds of the lines of events of bytes that grow.
 use Rattle.std.proofs.Common.{◌≡◌, ◌∙◌, ℕ, List, [], ◌∷◌, ◌++◌, None, refl, sym, ap, append_assoc}
-use Rattle.tally_base.{specs.declared.header.Header.Header, specs.Faults.fault_in}
-use Rattle.ptu_definitions.{specs.Headers.header_answer, specs.Kept.Marked, specs.Words.{words_of, rest_of}, specs.Streams.{StreamSettings, record_refusal, given}, proofs.Firsts.{record_refusal-inside, streamed-inside}, proofs.WordsLemmas.words_of-append, proofs.StreamLemmas.{given-front, given-stays}}
+use Rattle.tally_base.specs.Faults.{fault_in}
+use Rattle.ptu_definitions.{specs.Kept.Marked, specs.Words.{words_of, rest_of}, specs.Streams.{StreamSettings, record_refusal, given}, proofs.Firsts.{record_refusal-inside, streamed-inside}, proofs.WordsLemmas.words_of-append, proofs.StreamLemmas.{given-front, given-stays}}
 use Rattle.record_stream.{specs.declared.stream.RecordStream.RecordStream, specs.Standing.how_of, proofs.Lasts.{streamed-shown, streamed-clear}}
 use Rattle.list_out.specs.Lines.{event_text, events_text, lines_of}
-use Rattle.command_work.{specs.Outcomes.MayChange, specs.Behaviours.AsItReads, specs.Works.WantsNone, specs.Tellings.{Telling, IsText, Suits}, proofs.RestEnds.{same-end, ends-headed, text-headed, goes-headed, streamed-open}}
-use Rattle.file_work.{specs.FileOutcomes.{listing, listed, events_behind, events_so_far, listing_all}, specs.EventLines.{lists, HasListed}}
+use Rattle.command_work.{specs.Behaviours.AsItReads, specs.Works.WantsNone, specs.Tellings.{IsText, Suits}, proofs.RestEnds.{same-end, suits-as_it_reads}}
+use Rattle.file_work.{specs.FileOutcomes.{listing, listed, lists, lists_by, events_so_far, listing_all}, specs.EventLines.HasListed}
 
 pub events_text-append : (l m : Marked) → events_text (l ++ m) ≡ events_text l ++ events_text m
 events_text-append [] m = refl
@@ -28,16 +28,5 @@ lists-law how = record {
 pub listed-clear : (stream : RecordStream) (bytes : List ℕ) → HasListed stream bytes → record_refusal (how_of stream) (words_of bytes) ≡ None
 listed-clear stream bytes h = streamed-clear _ _ _ _ _ _ _ _ h.streamed h.going
 
-abbrev lists_by : Header → Telling
-lists_by header = lists (listing header)
-
-pub listing-suits : Suits listing_all (AsItReads events_so_far) WantsNone (λ header. lists (listing header)) (λ header. ⊥)
-listing-suits = record {
-  ends = λ bytes. ends-headed lists_by events_behind (λ header behind. refl) (λ fault. refl) (header_answer bytes);
-  text = λ bytes. text-headed lists_by (λ r. (events_behind r).text) (λ header behind. refl) (λ fault. refl) (header_answer bytes);
-  cuts = λ bytes old new h. h;
-  goes = λ bytes.
-      goes-headed lists_by (λ r. MayChange (events_behind r).fault) (λ header. streamed-open (listing header)) (λ fault h. h) (header_answer bytes);
-  wanting = λ bytes behind header answer wants few. wants;
-  is = λ header. lists-law (listing header);
-}
+pub listing-suits : Suits listing_all (AsItReads events_so_far) WantsNone lists_by (λ header. ⊥)
+listing-suits = suits-as_it_reads lists_by _ (λ header. lists-law (listing header))

@@ -2,11 +2,11 @@
 use Rattle.std.{specs.Prelude.{ℕ, ◌≡◌, ◌+◌, max, List, [], ◌++◌, length, refl, None, Result}, proofs.Common.{append-nil, arith}, specs.declared.option.Option.Option}
 use Rattle.tally_base.{specs.declared.header.Mode.Mode, specs.declared.fault.Fault.Fault}
 use Rattle.bench_io.{specs.Sinks.{AppendsShort, PassesOn}, proofs.Bytes.PassesOn-held, specs.declared.sink.Sink.Ghosts}
-use Rattle.ptu_definitions.{specs.Kept.{Marked, floor_of}, specs.Words.words_of, specs.Streams.{StreamSettings, record_refusal}}
-use Rattle.list_out.specs.Lines.{events_text, lines_of}
-use Rattle.command_work.specs.Tellings.{Telling, WritesPiece}
+use Rattle.ptu_definitions.specs.Kept.{Marked, floor_of}
+use Rattle.list_out.specs.Lines.{events_text}
+use Rattle.command_work.specs.Tellings.{WritesPiece}
 use Rattle.record_stream.{specs.declared.stream.RecordStream.RecordStream, specs.Standing.{how_of, refused_with, HasStreamed}}
-use Rattle.file_work.specs.FileOutcomes.{listed}
+use Rattle.file_work.specs.FileOutcomes.{lists}
 
 -- Nothing was listed yet: no event was taken, and the block is empty.
 pub record ListsNone (taken floor : ℕ) (held : List ℕ) : Type 0 where
@@ -30,16 +30,6 @@ pub record ListedShort (old new : Option (List ℕ)) (held held' : List ℕ) (l 
 
 pub listed_none : (name : ℕ) (mode : Mode) (taken floor faults : ℕ) (old : Option (List ℕ)) (held : List ℕ) → Listed name name mode mode taken taken floor floor faults faults old old held held []
 listed_none name mode taken floor faults old held = record { same_sink = refl; same_mode = refl; counted = omega arith; moved = omega arith; kept = refl; text = rw (append-nil held) (PassesOn-held old held) }
-
--- What the events of words write that come after others.
-
--- the lines of events
-abbrev pub lists : StreamSettings → Telling
-lists how = record {
-  text = λ bytes. lines_of how (words_of bytes);
-  ends = listed how;
-  refuses = λ bytes. record_refusal how (words_of bytes);
-}
 
 -- The stream is read in this mode, keeps no event back, and has refused nothing.
 pub record IsOpenIn (mode : Mode) (stream : RecordStream) : Type 0 where

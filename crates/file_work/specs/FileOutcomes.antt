@@ -1,9 +1,9 @@
 -- What `count`, `header` and `events` do with the bytes of FILE, and what they end with where nothing outside fails.
-use Rattle.std.specs.Prelude.{ℕ, List, ◌++◌, codes, decimal, Result, Ok, Err}
-use Rattle.tally_base.{specs.declared.fault.Fault.Fault, specs.declared.header.Header.Header, specs.RecordTypes.name_of, specs.Faults.fault_in, specs.declared.event.Policy.Policy, specs.declared.event.Order.TheVariants.Drop, specs.declared.event.OnReserved.TheVariants.Skip}
-use Rattle.ptu_definitions.{specs.declared.records.KindCounts.KindCounts, specs.Headers.header_answer, specs.Words.{counted, record_limit, words_of}, specs.Streams.{StreamSettings, reading, streamed}}
+use Rattle.std.{specs.Prelude.{ℕ, List, [], ◌++◌, length, nat_lt, codes, decimal, None, Some, Result, Ok, Err, if◌then◌else◌}, specs.declared.option.Option.Option}
+use Rattle.tally_base.{specs.declared.fault.Fault.Fault, specs.declared.fault.Fault.TheVariants.RecordLimit, specs.declared.header.Header.Header, specs.RecordTypes.name_of, specs.Faults.fault_in, specs.declared.event.Policy.Policy, specs.declared.event.Order.TheVariants.Drop, specs.declared.event.OnReserved.TheVariants.Skip}
+use Rattle.ptu_definitions.{specs.declared.records.KindCounts.KindCounts, specs.Headers.header_answer, specs.Words.{counted, record_limit, words_of}, specs.Streams.{StreamSettings, reading, record_refusal, streamed}}
 use Rattle.list_out.{specs.Lines.{lines_of, line, announced}, specs.HeaderText.header_text}
-use Rattle.command_work.{specs.Outcomes.{Outcome, refused, written, MayChange, IsCut}, specs.Behaviours.{Work, AreWhole, AreRead, IsHeaded}}
+use Rattle.command_work.{specs.Outcomes.{Outcome, refused, written, IsCut}, specs.Behaviours.{Work, AreWhole, AreRead, IsHeaded}, specs.Tellings.{Telling, headed_work, headed_so_far}}
 
 -- what `count` prints
 unfoldable pub counts_text : Header → KindCounts → List ℕ
@@ -16,22 +16,22 @@ counts_text header counts =
     ++ line (codes "wraps") (decimal counts.wraps)
     ++ line (codes "reserved") (decimal counts.reserved)
 
--- a header and the counts of the records behind it
-abbrev pub with_counts : Header → Result KindCounts Fault → Result (Header × KindCounts) Fault
-with_counts header (Ok counts) = Ok (header, counts)
-with_counts header (Err fault) = Err fault
+-- what the records behind a header end with, by their counts
+abbrev pub counted_end : Header → Result KindCounts Fault → Outcome
+counted_end header (Ok counts) = written (counts_text header counts)
+counted_end header (Err fault) = refused fault
 
-abbrev pub counts_behind : Result (Header × List ℕ) Fault → Result (Header × KindCounts) Fault
-counts_behind (Ok found) = with_counts found.0 (counted found.0.record_type found.1)
-counts_behind (Err fault) = Err fault
+-- the fault of too many records
+abbrev pub too_many : List ℕ → Option Fault
+too_many bytes = if nat_lt record_limit (length (words_of bytes)) then Some (RecordLimit record_limit) else None
 
--- the header of a whole file, and the counts of its records
-abbrev pub file_counts : List ℕ → Result (Header × KindCounts) Fault
-file_counts file = counts_behind (header_answer file)
-
-abbrev pub count_outcome : Result (Header × KindCounts) Fault → Outcome
-count_outcome (Ok found) = written (counts_text found.0 found.1)
-count_outcome (Err fault) = refused fault
+-- the counts of the records, at their end
+abbrev pub counts : Header → Telling
+counts header = record {
+  text = λ bytes. [];
+  ends = λ bytes. counted_end header (counted header.record_type bytes);
+  refuses = too_many;
+}
 
 -- A header is printed as far as it goes.
 abbrev pub header_outcome : List ℕ → Outcome
@@ -48,22 +48,22 @@ listing header = reading header.record_type listing_policy
 abbrev pub listed : StreamSettings → List ℕ → Outcome
 listed how bytes = record { text = lines_of how (words_of bytes); fault = fault_in (streamed how bytes) }
 
-abbrev pub events_behind : Result (Header × List ℕ) Fault → Outcome
-events_behind (Ok found) = listed (listing found.0) found.1
-events_behind (Err fault) = refused fault
+-- the lines of events, as they are read
+abbrev pub lists : StreamSettings → Telling
+lists how = record {
+  text = λ bytes. lines_of how (words_of bytes);
+  ends = listed how;
+  refuses = λ bytes. record_refusal how (words_of bytes);
+}
 
--- what listing the events of a whole file ends with
-abbrev pub events_outcome : List ℕ → Outcome
-events_outcome file = events_behind (header_answer file)
+-- those of a file with this header
+abbrev pub lists_by : Header → Telling
+lists_by header = lists (listing header)
 
 -- ## What they do
 
 abbrev pub counting : Work
-counting = record {
-  outcome = λ bytes. count_outcome (file_counts bytes);
-  goes_on = λ bytes. MayChange (fault_in (file_counts bytes));
-  good = IsHeaded (λ header behind. AreWhole behind);
-}
+counting = headed_work counts (IsHeaded (λ header behind. AreWhole behind))
 
 abbrev pub printing : Work
 printing = record {
@@ -74,11 +74,7 @@ printing = record {
 
 -- the lines of the events of these bytes
 abbrev pub events_so_far : List ℕ → List ℕ
-events_so_far bytes = (events_outcome bytes).text
+events_so_far = headed_so_far lists_by
 
 abbrev pub listing_all : Work
-listing_all = record {
-  outcome = events_outcome;
-  goes_on = λ bytes. MayChange (events_outcome bytes).fault;
-  good = IsHeaded (λ header behind. AreRead (listing header) behind);
-}
+listing_all = headed_work lists_by (IsHeaded (λ header behind. AreRead (listing header) behind))

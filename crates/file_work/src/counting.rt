@@ -15,7 +15,7 @@ pub struct CountReader {
 
 impl Reader for CountReader {
     ghost use Rattle.record_layout.specs.Counting.{room};
-    ghost use Rattle.file_work.{specs.CountPieces.{counts, CountsBytes}, specs.CountLaws.{counts-law, counts-clear}};
+    ghost use Rattle.file_work.{specs.FileOutcomes.counts, specs.CountPieces.CountsBytes, specs.CountLaws.{counts-law, counts-clear}};
 
     ghost tells = { λ r. counts r.header };
 
@@ -43,7 +43,7 @@ pub struct Counting;
 
 impl Job for Counting {
     ghost use Rattle.command_work.{specs.Behaviours.AtEnd, specs.Works.WantsNone};
-    ghost use Rattle.file_work.{specs.FileOutcomes.counting, specs.CountPieces.counts, specs.CountLaws.counting-suits};
+    ghost use Rattle.file_work.{specs.FileOutcomes.{counting, counts}, specs.CountLaws.counting-suits};
 
     type Reader = CountReader;
 

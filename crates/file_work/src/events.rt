@@ -142,7 +142,7 @@ impl Reader for EventReader {
     ghost use Rattle.std.specs.Prelude.{◌+◌, ◌*◌, ◌-◌};
     ghost use Rattle.ptu_definitions.specs.Words.{record_limit};
     ghost use Rattle.record_stream.specs.Standing.{bytes_in};
-    ghost use Rattle.file_work.{specs.EventLines.{lists, HasListed}, specs.EventLaws.{lists-law, listed-clear}};
+    ghost use Rattle.file_work.{specs.FileOutcomes.lists, specs.EventLines.HasListed, specs.EventLaws.{lists-law, listed-clear}};
 
     ghost tells = { λ r. lists (how_of r.stream) };
 
@@ -178,7 +178,7 @@ pub struct Listing;
 
 impl Job for Listing {
     ghost use Rattle.command_work.{specs.Behaviours.AsItReads, specs.Works.WantsNone};
-    ghost use Rattle.file_work.{specs.FileOutcomes.{events_so_far, listing, listing_all}, specs.EventLines.lists, specs.EventLaws.listing-suits};
+    ghost use Rattle.file_work.{specs.FileOutcomes.{events_so_far, lists_by, listing_all}, specs.EventLaws.listing-suits};
 
     type Reader = EventReader;
 
@@ -188,7 +188,7 @@ impl Job for Listing {
 
     ghost wanting = { λ job. WantsNone };
 
-    ghost tells = { λ job header. lists (listing header) };
+    ghost tells = { λ job header. lists_by header };
 
     ghost wants = { λ job header. ⊥ };
 

@@ -1,15 +1,15 @@
 -- What holds of the photons that are picked of bytes that grow.
-use Rattle.std.proofs.Common.{◌≡◌, ◌∙◌, ℕ, List, ◌++◌, Bool, None, Ok, refl, sym, ap, append_assoc}
-use Rattle.tally_base.{specs.declared.event.Event.Event, specs.declared.header.Header.Header, specs.RecordTypes.mode_of}
-use Rattle.ptu_definitions.{specs.Headers.header_answer, specs.Words.words_of, specs.Streams.StreamSettings}
-use Rattle.plan_text.{specs.Plan.PlanView, specs.Fits.fits}
+use Rattle.std.proofs.Common.{◌≡◌, ◌∙◌, ℕ, List, ◌++◌, Bool, None, sym, ap, append_assoc}
+use Rattle.tally_base.specs.declared.event.Event.{Event}
+use Rattle.ptu_definitions.{specs.Words.words_of, specs.Streams.StreamSettings}
+use Rattle.plan_text.specs.Plan.{PlanView}
 use Rattle.gate_plan.specs.Histories.{reading_by}
 use Rattle.record_stream.{specs.declared.stream.RecordStream.RecordStream, specs.Standing.how_of, proofs.Lasts.streamed-clear}
 use Rattle.minimal_file.specs.ShortFiles.{short_header}
 use Rattle.record_write.specs.declared.picker.Picker.{Picker}
 use Rattle.photon_pick.{specs.Texts.{text_in, refusal_in}, proofs.Stays.{text-front, refused-stays, refused-inside, end-inside, unrefused}}
-use Rattle.command_work.{specs.Behaviours.AsItReads, specs.Works.WantsNone, specs.Tellings.{Telling, IsText, Suits}, proofs.RestEnds.{same-end, fits-law, ends-headed, text-headed, goes-headed, ends-fit, text-fit, goes-fit}}
-use Rattle.pick_work.specs.PickOutcomes.{chosen_by, picked_if_fits, picked_behind, so_far_if_fits, so_far_behind, pick_so_far, goes_on_behind, picking, picks, picks_by, HasWritten}
+use Rattle.command_work.{specs.Behaviours.AsItReads, specs.Works.WantsNone, specs.Tellings.{IsText, Suits}, proofs.RestEnds.{same-end, suited-law, suits-as_it_reads}}
+use Rattle.pick_work.specs.PickOutcomes.{chosen_by, pick_so_far, picking, picks, picks_by, HasWritten}
 
 pub picks-law : (chooses : Event → Bool) (how : StreamSettings) → IsText (picks chooses how)
 picks-law chooses how = record {
@@ -24,26 +24,5 @@ picks-law chooses how = record {
 pub written-clear : (chooses : Event → Bool) (stream : RecordStream) (picker : Picker) (bytes : List ℕ) → HasWritten chooses stream picker bytes → refusal_in chooses (how_of stream) (words_of bytes) ≡ None
 written-clear chooses stream picker bytes h = unrefused chooses (how_of stream) (words_of bytes) picker h.picked (streamed-clear _ _ _ _ _ _ _ _ h.streamed h.going)
 
-module _ (group : ℕ) (plan : PlanView) where
-  abbrev shown : Header → Telling
-  shown header = picks (chosen_by plan group) (reading_by plan header)
-
-  pub picking-suits : Suits (picking group plan) (AsItReads (pick_so_far group plan)) WantsNone (picks_by group plan) (λ header. ⊥)
-  picking-suits = record {
-    ends = λ bytes.
-        ends-headed (picks_by group plan) (picked_behind plan group)
-        (λ header behind. ends-fit (shown header) behind (picked_if_fits plan group header behind) refl (λ fault. refl)
-        (fits (mode_of header.record_type) plan)) (λ fault. refl) (header_answer bytes);
-    text = λ bytes.
-        text-headed (picks_by group plan) (so_far_behind plan group)
-        (λ header behind. text-fit (shown header) behind (so_far_if_fits plan group header behind) refl (λ fault. refl)
-        (fits (mode_of header.record_type) plan)) (λ fault. refl) (header_answer bytes);
-    cuts = λ bytes old new h. h;
-    goes = λ bytes.
-        goes-headed (picks_by group plan) (goes_on_behind plan group)
-        (λ header behind. goes-fit (shown header) behind
-        (λ r. (r ≡ Ok (tt {0})) × (refusal_in (chosen_by plan group) (reading_by plan header) (words_of behind) ≡ None))
-        (λ h. (refl, h)) (fits (mode_of header.record_type) plan)) (λ fault h. h) (header_answer bytes);
-    wanting = λ bytes behind header answer wants few. wants;
-    is = λ header. fits-law (mode_of header.record_type) plan (picks-law (chosen_by plan group) (reading_by plan header));
-  }
+pub picking-suits : (group : ℕ) (plan : PlanView) → Suits (picking group plan) (AsItReads (pick_so_far group plan)) WantsNone (picks_by group plan) (λ header. ⊥)
+picking-suits group plan = suits-as_it_reads (picks_by group plan) _ (suited-law plan _ (λ header. picks-law (chosen_by plan group) (reading_by plan header)))

@@ -5,7 +5,7 @@ use Rattle.bench_io.{specs.Inputs.{File, InputState}, proofs.Bytes.{Appends-nil,
 use Rattle.plan_text.{specs.Plan.PlanView, specs.ReadPlan.plan_answer}
 use Rattle.command_words.specs.Commands.{Request}
 use Rattle.ptu_cli.{specs.Behaviours.behaviour, proofs.ByteFaults.{IsOfBytes, plan_answer-bytes}, proofs.Sound.{WorkIsSound, IsSound, sound}}
-use Rattle.command_work.{specs.Outcomes.{Outcome, status}, specs.Behaviours.{Work, Behaviour, NoCommand, Alone, OnFile, ByPlan}, specs.Endings.{on_file, unless, by_plan, outcome, Span, HasCauses, NoneRose, IsGood, IsGoodFor, AreItsFiles, ForItsFiles, Answers, TellsFault, EndsWith, EndsBy, Does, RunsOut, LacksMemory}, proofs.PlanTold.outcome-planned, proofs.Told.{files-map, some-file}, proofs.Once.{IsQuiet, quiet-none}}
+use Rattle.command_work.{specs.Outcomes.{Outcome, status}, specs.Behaviours.{Work, Behaviour, Alone, OnFile, ByPlan}, specs.Endings.{HasPlan, on_file, unless, by_plan, outcome, Span, HasCauses, NoneRose, IsGood, IsGoodFor, AreItsFiles, ForItsFiles, Answers, TellsFault, EndsWith, EndsBy, Does, RunsOut, LacksMemory}, proofs.PlanTold.outcome-planned, proofs.Told.{files-map, some-file}, proofs.Once.{IsQuiet, quiet-none}}
 
 -- ## Good files
 
@@ -15,7 +15,6 @@ good-work work (Some bytes) is h = is.well bytes h
 
 good-does : (does : Behaviour) (plan_file data_file : File) → IsSound does → IsGood does plan_file data_file → (outcome does plan_file data_file).fault ≡ None
 unfolding outcome
-good-does NoCommand plan_file data_file is h = absurd h
 good-does (Alone end) plan_file data_file is h = h
 good-does (OnFile file writing work) plan_file data_file is h = good-work work data_file is h
 good-does (ByPlan plan file writing memory lacks work) plan_file data_file is h =
@@ -24,7 +23,7 @@ good-does (ByPlan plan file writing memory lacks work) plan_file data_file is h 
 
 pub good-ends : (request : Option Request) (plan_file data_file : File)
     → IsGood (behaviour request) plan_file data_file → (outcome (behaviour request) plan_file data_file).fault ≡ None
-good-ends None plan_file data_file h = absurd h
+good-ends None plan_file data_file h = cc
 good-ends (Some request) plan_file data_file h = good-does (behaviour (Some request)) plan_file data_file (sound request) h
 
 -- ## A bad command line
@@ -46,7 +45,6 @@ plan-words lacks work (Ok view) data_file is h =
 
 outcome-words : (does : Behaviour) (plan_file data_file : File) → IsSound does → status (outcome does plan_file data_file).fault ≢ 1
 unfolding outcome
-outcome-words NoCommand plan_file data_file is = absurd is
 outcome-words (Alone end) plan_file data_file is = is
 outcome-words (OnFile file writing work) plan_file data_file is = file-words work data_file is
 outcome-words (ByPlan plan file writing memory lacks work) None data_file is = λ e. omega arith
@@ -63,7 +61,6 @@ outside-status _ e = cc
 
 -- Some files always may be those of a run.
 pub some-files : (does : Behaviour) (after : InputState) → AreItsFiles does after (Some (after.given Plan).bytes) (Some (after.given Data).bytes)
-some-files NoCommand after = tt
 some-files (Alone end) after = tt
 some-files (OnFile file writing work) after = some-file after Data
 some-files (ByPlan plan file writing memory lacks work) after = (some-file after Plan, some-file after Data)
@@ -120,9 +117,8 @@ only_memory o r w m OutOfMemory e no_o no_r no_w h = (refl, h)
 only_memory o r w m _ e no_o no_r no_w h = cc
 
 may_want : (does : Behaviour) (span : Span) (fault : Fault) → fault ≡ OutOfMemory
-    → RunsOut does span.after span.old span.new → LacksMemory does (status_of fault)
-may_want NoCommand span fault is h = absurd h
-may_want (Alone end) span fault is h = ap status_of is
+    → RunsOut does (HasPlan span.after) span.after span.old span.new → LacksMemory does (status_of fault)
+may_want (Alone end) span fault is h = (h.0, ap status_of is)
 may_want (OnFile file writing work) span fault is h = absurd h
 may_want (ByPlan plan file writing memory lacks work) span fault is h = ap status_of is
 

@@ -1,7 +1,8 @@
 -- What each command does, told once.
 use Rattle.std.{specs.Prelude.{List, None, Some, map, string_bytes}, specs.declared.string.String.String, specs.declared.alloc.Global.Global, specs.declared.option.Option.Option}
+use Rattle.tally_base.specs.declared.fault.Fault.TheVariants.{Usage}
 use Rattle.list_out.specs.HeaderText.{header_text}
-use Rattle.command_work.{specs.Outcomes.written, specs.Behaviours.{AtEnd, AsItReads, ForPlan, ForTables, Behaviour, NoCommand, Alone, OnFile, ByPlan}}
+use Rattle.command_work.{specs.Outcomes.{refused, written}, specs.Behaviours.{AtEnd, AsItReads, ForPlan, ForTables, Behaviour, Alone, OnFile, ByPlan}}
 use Rattle.file_work.specs.FileOutcomes.{counting, printing, events_so_far, listing_all}
 use Rattle.report_work.{specs.Reports.{any_plan, reporting}, specs.Demo.demo_report}
 use Rattle.trace_work.specs.TraceOutcomes.{no_trace, trace_so_far, tracing}
@@ -9,7 +10,7 @@ use Rattle.pick_work.specs.PickOutcomes.{no_group, pick_so_far, picking}
 use Rattle.command_words.specs.Commands.{Request, request_of, Count, Events, Run, Trace, Pick, Demo, Header as HeaderOf}
 
 abbrev pub behaviour : Option Request → Behaviour
-behaviour None = NoCommand
+behaviour None = Alone (refused Usage)
 behaviour (Some (Count file)) = OnFile file AtEnd counting
 behaviour (Some (HeaderOf file)) = OnFile file (AsItReads header_text) printing
 behaviour (Some (Events file)) = OnFile file (AsItReads events_so_far) listing_all

@@ -4,7 +4,7 @@ use Rattle.tally_base.{specs.declared.slot.Slot.Slot, specs.declared.fault.Fault
 use Rattle.bench_io.{specs.Inputs.{File, InputState}, specs.declared.inputs.Inputs.Ghosts as InputGhosts, specs.declared.sink.Sink.Ghosts as SinkGhosts}
 use Rattle.command_words.specs.Commands.{Request}
 use Rattle.ptu_cli.specs.Behaviours.{behaviour}
-use Rattle.command_work.{specs.Outcomes.{InputsOnce, OutOnce, Outcome, status}, specs.Endings.{AreItsFiles, ForItsFiles, ToldAreIts, TellsFault, EndsBy, FailsOpening, FailsReading, CutsOutcome, RunsOut, Asks, LacksMemory, NoneRose, IsGood}}
+use Rattle.command_work.{specs.Outcomes.{InputsOnce, OutOnce, Outcome, status}, specs.Endings.{HasPlan, AreItsFiles, ForItsFiles, ToldAreIts, TellsFault, EndsBy, FailsOpening, FailsReading, CutsOutcome, RunsOut, Asks, LacksMemory, NoneRose, IsGood}}
 
 -- The states before a run and behind it: of the inputs, of standard output and of standard error, each with the count of its failed writes.
 pub record Around : Type 0 where
@@ -65,9 +65,9 @@ pub record Runs (request : Option Request) (run : Around) (result : ℕ) : Type 
   -- A write failed.
   pub unwritten : result ≡ 4 → Rose run.out_faults_before run.out_faults_after × CutsOutcome (behaviour request) run.after run.out_before run.out_after × TellsOn run (Some WriteFault)
   -- It ends for want of memory where it takes memory. That memory was refused is not said.
-  pub memory : result ≡ 5 → RunsOut (behaviour request) run.after run.out_before run.out_after × TellsOn run (Some OutOfMemory)
+  pub memory : result ≡ 5 → RunsOut (behaviour request) (HasPlan run.after) run.after run.out_before run.out_after × TellsOn run (Some OutOfMemory)
   -- What it asked for and took, whatever its status is.
-  pub asks : Asks (behaviour request) run.before run.after
+  pub asks : Asks (behaviour request) (HasPlan run.after) run.before run.after
   -- It does not go on behind a call that failed: with status 0 no count of the inputs and of standard output moved, and else none but the one of the fault whose line is told, by one.
   pub once : (fault : Option Fault) × (result ≡ status fault) × TellsOn run fault × MovesOnly run fault
   -- Where no count of the inputs and of standard output rose, it ends as its files call for or for want of memory, and well where they are good.

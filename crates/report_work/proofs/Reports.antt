@@ -7,8 +7,8 @@ use Rattle.plan_text.{specs.declared.plan.Plan.Plan, specs.Plan.PlanView, specs.
 use Rattle.gate_plan.specs.Histories.{policy_of, reading_by, history}
 use Rattle.ptu_made.{specs.Generator.{made_words, photon_limit}, specs.Records.{made_file, made_header}, specs.declared.made.Made.Made, specs.Made.{made_state, made_agrees}, proofs.MadeEvents.{all-made, words-bytes, few-words, unrefused}}
 use Rattle.minimal_file.{specs.ShortFiles.{short_header, minimal_file, bytes_in}, proofs.ShortHeaders.short-answer}
-use Rattle.report_work.{specs.Reports.{file_report, report_outcome, reporting, report_of, reports, reports_by, MayWant, CountsBy}, specs.Demo.{demo_text, demo_plan, demo_reading, demo_report}}
-use Rattle.command_work.{specs.Outcomes.{Outcome, written}, specs.Behaviours.{Alone, AtEnd, ForTables}, specs.Endings.{Cuts, EndsWith, HasCauses, WantsBehind, outcome}, specs.Works.{AnswersWork, WorkReason}, proofs.Told.all-taken, specs.Tellings.{WritesPiece, WritesEnd, Opens, unless_declined}, proofs.RestEnds.opens-misfit}
+use Rattle.report_work.{specs.Reports.{reporting, reported, reports, reports_by, MayWant, CountsBy}, specs.Demo.{demo_text, demo_plan, demo_reading, demo_report}}
+use Rattle.command_work.{specs.Outcomes.{Outcome, written}, specs.Behaviours.{Alone, AtEnd, ForTables}, specs.Endings.{Cuts, EndsWith, HasCauses, WantsBehind, outcome}, specs.Works.{AnswersWork, WorkReason}, proofs.Told.all-taken, specs.Tellings.{WritesPiece, WritesEnd, Opens, unless_declined, headed_end}, proofs.RestEnds.opens-misfit}
 use Rattle.streamed_text.proofs.Texts.{WroteText-none}
 use Rattle.tally_engine.{specs.declared.engine.Engine.Engine, specs.Engine.{header_of, engine_sorting, reading_of, refused_by, HasFed, IsFor, SameEngine, IsCounted, OpensAs}}
 use Rattle.tally_engine.{specs.declared.results.Results.Results, specs.Parts.settings_in}
@@ -47,13 +47,16 @@ made-streamed seed count few =
     rw (whole.0, whole.1, unrefused_words) refl
 
 -- the report is that of a run over these files
-pub made-report : (seed count : ℕ) → count ≤ photon_limit → file_report demo_plan (made_file seed count) ≡ Ok (demo_report seed count)
+pub made-report : (seed count : ℕ) → count ≤ photon_limit → (reporting demo_plan).outcome (made_file seed count) ≡ written (demo_report seed count)
 unfolding made_file minimal_file demo_report
 made-report seed count few =
     let answer : header_answer (short_header T2 ++ bytes_in (made_words seed count)) ≡ Ok (made_header, bytes_in (made_words seed count)) =
     short-answer T2 (bytes_in (made_words seed count)) in
     let whole : words_of (bytes_in (made_words seed count)) ≡ made_words seed count = (words-bytes (made_words seed count) (all-made seed count)).0 in
-    rw (answer, suits, made-streamed seed count few, whole) refl
+    let end : reported demo_plan made_header (bytes_in (made_words seed count)) (Ok (summary demo_reading (made_words seed count))) ≡ written (demo_report seed count) = rw whole refl in
+    ap (headed_end (reports_by demo_plan)) answer
+    ∙ ap (λ (r : Result (Unit {0}) Fault). (unless_declined (fault_in r) (reports demo_plan made_header)).ends (bytes_in (made_words seed count))) suits
+    ∙ ap (reported demo_plan made_header (bytes_in (made_words seed count))) (made-streamed seed count few) ∙ end
 
 module _ (seed count : ℕ) (plan : PlanView) (few : count ≤ photon_limit) (same_plan : plan ≡ demo_plan) where
   -- what is said of the made file is its report
@@ -64,7 +67,7 @@ module _ (seed count : ℕ) (plan : PlanView) (few : count ≤ photon_limit) (sa
       let file = made_file seed count in
       let is = made_agrees after Data file told in
       let whole : taken ++ is.more ≡ file = ap (λ l. l ++ is.more) (sym (all-taken start ((made_state after).given Data) taken none took)) ∙ sym is.parts in
-      (is.more, is.may_follow, ap (reporting plan).outcome whole ∙ ap (λ (view : PlanView). (reporting view).outcome file) same_plan ∙ ap report_outcome (made-report seed count few))
+      (is.more, is.may_follow, ap (reporting plan).outcome whole ∙ ap (λ (view : PlanView). (reporting view).outcome file) same_plan ∙ made-report seed count few)
 
   -- the report was written, or a fault from outside came
   pub ends-demo : (after : Made) (start : Given) (old new : Option (List ℕ)) (r : Result (Unit {0}) Fault) → start ≡ no_bytes → (made_state after).told Data ≡ Some (made_file seed count) → AnswersWork (reporting plan) start ((made_state after).given Data) old new r
@@ -94,7 +97,7 @@ module _ (seed count : ℕ) (plan : PlanView) (few : count ≤ photon_limit) (sa
             let is = demo-told after _ h.1.taken none told h.1.consumes in
             subst (λ (end : Outcome). Cuts {A = List ℕ → List ℕ} AtEnd end old new) is.2 (h.1.cut is.0 is.1),
       ))
-      (λ h. h.keeps)
+      (λ h. (refl, h.keeps))
       h)
       reason
 
@@ -146,7 +149,7 @@ module _ (plan : PlanView) (engine : Engine) (bytes : List ℕ) (is : IsFor engi
   pub ends-refused : (fault : Fault) (a : Option (List ℕ)) (faults : ℕ) → streamed (reading_of engine) bytes ≡ Err fault
       → WritesEnd (reports plan (header_of engine)) bytes a a faults faults (Err fault)
   ends-refused fault a faults refused =
-      let ends = ap (λ r. report_outcome (report_of plan (header_of engine) bytes r)) (rw is.reads at refused) in
+      let ends = ap (reported plan (header_of engine) bytes) (rw is.reads at refused) in
       inl (ap (λ (o : Outcome). o.fault) ends, record { more = []; adds = ap (λ (o : Outcome). o.text) ends; written = Appends-nil a; kept = refl })
 
   module _ (results : Results) (counted : IsCounted engine bytes results) where
@@ -158,7 +161,7 @@ module _ (plan : PlanView) (engine : Engine) (bytes : List ℕ) (is : IsFor engi
 
     ends-counted : (reports plan (header_of engine)).ends bytes ≡ written (report results.header results.summary tables)
     ends-counted =
-        ap (λ r. report_outcome (report_of plan (header_of engine) bytes r)) (rw is.reads at counted.summary_is)
+        ap (reported plan (header_of engine) bytes) (rw is.reads at counted.summary_is)
         ∙ rw (counted.header_is, counted.parts_are, is.parts_are, is.sorting_is, is.reads) refl
 
     -- the report was written, or cut short

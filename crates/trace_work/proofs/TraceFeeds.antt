@@ -125,10 +125,8 @@ module _ {T : Type 0} (g : Ghosts T) (trace : T → LongTrace) (told : T → Opt
         record {
           clear = ap fault_in rest.streams;
           stands = last-holds summary rest;
-          more = it.0;
-          adds = it.1;
-          written = rw (written, written') (Appends-flushed (told a) (told b) c it.0 (held b) it.2 flushed);
-          kept = rw (counted, counted') (still ∙ rest.kept);
+          wrote = rw (written, written', counted, counted')
+              (record { more = it.0; adds = it.1; written = Appends-flushed (told a) (told b) c it.0 (held b) it.2 flushed; kept = still ∙ rest.kept });
         }
 
     -- The flush failed behind them.
@@ -138,10 +136,8 @@ module _ {T : Type 0} (g : Ghosts T) (trace : T → LongTrace) (told : T → Opt
         let it = last-adds summary rest in
         record {
           clear = ap fault_in rest.streams;
-          more = it.0;
-          adds = it.1;
-          cut = rw (written, written') (AppendsShort-flushed (told a) (told b) c it.0 (held b) it.2 short);
-          rose = rw (counted, counted') (rw rest.kept at rose);
+          cut = rw (written, written', counted, counted')
+              (record { more = it.0; adds = it.1; cut = AppendsShort-flushed (told a) (told b) c it.0 (held b) it.2 short; rose = rw rest.kept at rose });
         }
 
     -- A write failed at one of the events.
@@ -164,10 +160,8 @@ module _ {T : Type 0} (g : Ghosts T) (trace : T → LongTrace) (told : T → Opt
           r.0,
           record {
             clear = clear-whole how bytes clear r.2;
-            more = it.0;
-            adds = it.1;
-            cut = rw (written, written') (AppendsShort-kept (told a) (told b) c it.0 it.2 (Keeps-from_none (told b) c (rw it.3 at flushed)));
-            rose = rw (counted, counted', still) r.1.rose;
+            cut = rw (written, written', counted, counted')
+                (record { more = it.0; adds = it.1; cut = AppendsShort-kept (told a) (told b) c it.0 it.2 (Keeps-from_none (told b) c (rw it.3 at flushed)); rose = rw still r.1.rose });
           },
         )
 

@@ -17,9 +17,6 @@ pub floor-below : (mode : Mode) (e : Event) (floor low : ℕ) → low ≤ floor 
 floor-below T2 e floor low below order = search (rules, arith)
 floor-below T3 e floor low below order = search (rules, arith)
 
-pub floor-late : (mode : Mode) (e : Event) (floor : ℕ) → (if is_ordered mode e && not true then e.time else floor) ≡ floor
-floor-late mode e floor = search (rules, arith)
-
 -- the same of a block of them that are shifted
 pub block-in_order : (mode : Mode) (by : Sorting) (low floor : ℕ) (es es' : List Event) → low ≤ floor
     → InOrder (orders_markers mode) floor es → es' ≡ map (shifted by) es → InOrder false low es'

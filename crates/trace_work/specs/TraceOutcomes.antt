@@ -1,11 +1,11 @@
 -- What `trace` ends with over the bytes of a file.
 use Rattle.std.{specs.Prelude.{ℕ, ◌≡◌, List, [], ◌∷◌, None, Some, Result, Ok, Err, ◌+◌, max, ◌++◌, length, refl}, specs.declared.option.Option.Option, proofs.Common.{append-nil, arith}}
 use Rattle.tally_base.{specs.declared.fault.Fault.Fault, specs.declared.fault.Fault.TheVariants.NoTrace, specs.declared.header.Header.Header, specs.RecordTypes.mode_of, specs.Settings.{PartSettings, TraceView, trace_view}, specs.Settings.PartSettings.TraceSettings, specs.Tally.History, specs.declared.header.Mode.Mode}
-use Rattle.ptu_definitions.{specs.declared.records.Summary.Summary, specs.Headers.header_answer, specs.Words.words_of, specs.Streams.{StreamSettings, unrefused_after, streamed}, specs.Kept.{Marked, floor_of}, specs.Settled.not_marked}
+use Rattle.ptu_definitions.{specs.declared.records.Summary.Summary, specs.Words.words_of, specs.Streams.{StreamSettings, unrefused_after, record_refusal, streamed}, specs.Kept.{Marked, floor_of}, specs.Settled.not_marked}
 use Rattle.plan_text.{specs.Plan.{PlanView, parts_of}, specs.Fits.fits}
 use Rattle.gate_plan.{specs.Shifting.{Sorting, sorting}, specs.Histories.{history, settled_history, reading_by, with_groups}}
 use Rattle.long_trace.{specs.Texts.{open_text, whole_text}, specs.declared.trace.LongTrace.LongTrace, specs.LongTrace.{Holds, GivenMore, set_of}, proofs.Steps.GivenMore-nil}
-use Rattle.command_work.{specs.Outcomes.{Outcome, refused, written, MayChange}, specs.Behaviours.{Work, AreRead, IsHeaded}}
+use Rattle.command_work.{specs.Outcomes.{Outcome, written}, specs.Behaviours.{Work, AreRead, IsHeaded}, specs.Tellings.{Telling, if_suited, headed_work, headed_so_far}}
 use Rattle.bench_io.{specs.Sinks.{AppendsShort, PassesOn}, proofs.Bytes.PassesOn-held}
 
 -- the first trace of some tables
@@ -53,37 +53,28 @@ traced set by how bytes (Err fault) = record { text = words_traced set by how (w
 abbrev pub records_traced : Option TraceView → Sorting → StreamSettings → List ℕ → Outcome
 records_traced set by how bytes = traced set by how bytes (streamed how bytes)
 
--- by whether the plan's parts suit the file
-abbrev pub traced_if_fits : PlanView → Header → List ℕ → Result (Unit {0}) Fault → Outcome
-traced_if_fits plan header bytes (Ok done) = records_traced (trace_of plan) (sorting plan) (reading_by plan header) bytes
-traced_if_fits plan header bytes (Err fault) = refused fault
+-- the lines of a trace of these settings, as they are read
+abbrev pub traces_with : Option TraceView → Sorting → StreamSettings → Telling
+traces_with set by how = record {
+  text = λ bytes. words_traced set by how (words_of bytes);
+  ends = records_traced set by how;
+  refuses = λ bytes. record_refusal how (words_of bytes);
+}
 
-abbrev pub traced_behind : PlanView → Result (Header × List ℕ) Fault → Outcome
-traced_behind plan (Ok found) = traced_if_fits plan found.0 found.1 (fits (mode_of found.0.record_type) plan)
-traced_behind plan (Err fault) = refused fault
+abbrev pub traces : TraceView → Sorting → StreamSettings → Telling
+traces set = traces_with (Some set)
 
--- what printing the trace of a plan over a whole file ends with
-abbrev pub trace_outcome : PlanView → List ℕ → Outcome
-trace_outcome plan file = traced_behind plan (header_answer file)
+-- the same by a plan, where its parts suit the file
+abbrev pub traces_by : Option TraceView → PlanView → Header → Telling
+traces_by set plan = if_suited plan (λ header. traces_with set (sorting plan) (reading_by plan header))
 
 -- What has been printed of the bytes of a file, where the next read fails: nothing before the header is whole and suits the plan.
-abbrev pub open_if_fits : PlanView → Header → List ℕ → Result (Unit {0}) Fault → List ℕ
-open_if_fits plan header bytes (Ok done) = words_traced (trace_of plan) (sorting plan) (reading_by plan header) (words_of bytes)
-open_if_fits plan header bytes (Err fault) = []
-
-abbrev pub open_behind : PlanView → Result (Header × List ℕ) Fault → List ℕ
-open_behind plan (Ok found) = open_if_fits plan found.0 found.1 (fits (mode_of found.0.record_type) plan)
-open_behind plan (Err fault) = []
-
 abbrev pub trace_so_far : PlanView → List ℕ → List ℕ
-trace_so_far plan bytes = open_behind plan (header_answer bytes)
+trace_so_far plan = headed_so_far (traces_by (trace_of plan) plan)
 
+-- printing the trace of a plan over a whole file
 abbrev pub tracing : PlanView → Work
-tracing plan = record {
-  outcome = trace_outcome plan;
-  goes_on = λ bytes. MayChange (trace_outcome plan bytes).fault;
-  good = IsHeaded (λ header behind. (fits (mode_of header.record_type) plan ≡ Ok (tt {0})) × AreRead (reading_by plan header) behind);
-}
+tracing plan = headed_work (traces_by (trace_of plan) plan) (IsHeaded (λ header behind. (fits (mode_of header.record_type) plan ≡ Ok (tt {0})) × AreRead (reading_by plan header) behind))
 
 -- The lines of a trace on their way to a sink.
 

@@ -1,26 +1,14 @@
 -- What the trace of words writes that come behind others.
-use Rattle.std.{specs.Prelude.{ℕ, ◌≡◌, ◌⊎◌, ◌≤◌, List, ◌++◌, OnOk, true, false, None, Some, Result, Ok, Err}, specs.Io.KnownBytes.{Appends, Keeps}}
-use Rattle.tally_base.{specs.declared.fault.Fault.Fault, specs.declared.fault.Fault.TheVariants.WriteFault, specs.FaultCounts.Rose, specs.Faults.{is_outside, fault_in}, specs.Settings.{TraceView, trace_view}, specs.declared.header.Header.Header, specs.RecordTypes.mode_of}
-use Rattle.bench_io.{specs.Sinks.AppendsShort, specs.declared.sink.Sink.Ghosts}
-use Rattle.ptu_definitions.{specs.Words.words_of, specs.Streams.{StreamSettings, record_refusal, streamed}}
-use Rattle.plan_text.{specs.Plan.PlanView, specs.Fits.fits}
-use Rattle.gate_plan.{specs.Shifting.{Sorting, sorting}, specs.Histories.{history, reading_by}}
+use Rattle.std.{specs.Prelude.{ℕ, ◌≡◌, ◌⊎◌, ◌≤◌, List, ◌++◌, OnOk, true, false, None, Some, Result, Ok, Err}, specs.Io.KnownBytes.Keeps}
+use Rattle.tally_base.{specs.declared.fault.Fault.Fault, specs.declared.fault.Fault.TheVariants.WriteFault, specs.Faults.{is_outside, fault_in}, specs.Settings.trace_view}
+use Rattle.bench_io.specs.declared.sink.Sink.{Ghosts}
+use Rattle.streamed_text.specs.Texts.{WroteText, CutText}
+use Rattle.ptu_definitions.{specs.Words.words_of, specs.Streams.{StreamSettings, streamed}}
+use Rattle.gate_plan.{specs.Shifting.Sorting, specs.Histories.history}
 use Rattle.record_stream.{specs.declared.stream.RecordStream.RecordStream, specs.Standing.{how_of, given_by, greatest_of, refused_with, HasStreamed}}
 use Rattle.long_trace.{specs.declared.trace.LongTrace.LongTrace, specs.LongTrace.{Holds, set_of, taken_of, floor_of, is_going}, specs.Texts.open_text}
-use Rattle.command_work.specs.Tellings.{Telling, WritesPiece, WritesEnd, unless_declined}
-use Rattle.trace_work.specs.TraceOutcomes.{settled_before, words_traced, records_traced}
-
--- the trace of the settings
-abbrev pub traces : TraceView → Sorting → StreamSettings → Telling
-traces set by how = record {
-  text = λ bytes. words_traced (Some set) by how (words_of bytes);
-  ends = λ bytes. records_traced (Some set) by how bytes;
-  refuses = λ bytes. record_refusal how (words_of bytes);
-}
-
--- the same by a plan, where its parts suit the file
-abbrev pub traces_by : TraceView → PlanView → Header → Telling
-traces_by set plan header = unless_declined (fault_in (fits (mode_of header.record_type) plan)) (traces set (sorting plan) (reading_by plan header))
+use Rattle.command_work.specs.Tellings.{WritesPiece, WritesEnd}
+use Rattle.trace_work.specs.TraceOutcomes.{settled_before, words_traced, traces}
 
 -- The trace has written its first line and refused nothing, and is no further on than the stream.
 pub record IsBehindStream (stream : RecordStream) (trace : LongTrace) : Type 0 where
@@ -49,22 +37,23 @@ abbrev pub TracesPiece : {O : Type 0} → Ghosts O → Sorting → RecordStream 
 TracesPiece o by stream trace now piece old new result =
     refused_with stream ≡ None → (bytes : List ℕ) → HasStreamed stream bytes → TracesBytes by (how_of stream) trace bytes → TracedPiece o by stream trace now bytes piece old new result
 
+-- the text of these bytes, and that of the whole kept list before its end
+abbrev pub text_so_far : LongTrace → Sorting → StreamSettings → List ℕ → List ℕ
+text_so_far trace by how bytes = words_traced (Some (trace_view (set_of trace))) by how (words_of bytes)
+
+abbrev pub text_of_all : LongTrace → Sorting → StreamSettings → List ℕ → List ℕ
+text_of_all trace by how bytes = open_text (trace_view (set_of trace)) (history by how (words_of bytes))
+
 -- The trace was given what the stream kept back, and the lines of the bins that this closed were written. Then it stands for the whole kept list.
 pub record WroteLast {O : Type 0} (o : Ghosts O) (by : Sorting) (how : StreamSettings) (trace now : LongTrace) (old new : O) (bytes : List ℕ) : Type 0 where
   pub clear : fault_in (streamed how bytes) ≡ None
   pub stands : Holds now (history by how (words_of bytes))
-  pub more : List ℕ
-  pub adds : open_text (trace_view (set_of trace)) (history by how (words_of bytes)) ≡ words_traced (Some (trace_view (set_of trace))) by how (words_of bytes) ++ more
-  pub written : Appends (o.written old) (o.written new) more
-  pub kept : o.faults new ≡ o.faults old
+  pub wrote : WroteText (text_so_far trace by how bytes) (text_of_all trace by how bytes) (o.written old) (o.written new) (o.faults old) (o.faults new)
 
 -- The lines were cut short.
 pub record CutLast {O : Type 0} (o : Ghosts O) (by : Sorting) (how : StreamSettings) (trace : LongTrace) (old new : O) (bytes : List ℕ) : Type 0 where
   pub clear : fault_in (streamed how bytes) ≡ None
-  pub more : List ℕ
-  pub adds : open_text (trace_view (set_of trace)) (history by how (words_of bytes)) ≡ words_traced (Some (trace_view (set_of trace))) by how (words_of bytes) ++ more
-  pub cut : AppendsShort (o.written old) (o.written new) more
-  pub rose : Rose (o.faults old) (o.faults new)
+  pub cut : CutText (text_so_far trace by how bytes) (text_of_all trace by how bytes) (o.written old) (o.written new) (o.faults old) (o.faults new)
 
 -- what giving it what a stream keeps back wrote, by the answer
 abbrev pub WritesLast : {O : Type 0} → Ghosts O → Sorting → StreamSettings → LongTrace → LongTrace → O → O → List ℕ → Result (Unit {0}) Fault → Type 0

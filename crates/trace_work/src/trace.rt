@@ -7,7 +7,7 @@ ghost use Rattle.record_stream.{specs.Standing.{how_of, refused_with, HasStreame
 ghost use Rattle.gate_plan.specs.Groups.{sorting_of};
 ghost use Rattle.long_trace.specs.LongTrace.{set_of, taken_of, floor_of, is_going};
 ghost use Rattle.command_work.specs.Tellings.{WritesEnd};
-ghost use Rattle.trace_work.{specs.TraceOutcomes.trace_of, specs.TracePieces.{traces, IsBehindStream, TracesBytes, TracesPiece, EndsLines, EndsTrace, both_ended}};
+ghost use Rattle.trace_work.{specs.TraceOutcomes.trace_of, specs.TracePieces.{IsBehindStream, TracesBytes, TracesPiece, EndsLines, EndsTrace, both_ended}};
 
 use abs_time::{moved_floor, orders_markers};
 use arrayvec::ArrayVec;
@@ -243,7 +243,7 @@ pub(crate) struct TraceReader {
 impl Reader for TraceReader {
     ghost use Rattle.std.specs.Prelude.{◌+◌, ◌*◌, ◌-◌};
     ghost use Rattle.record_stream.specs.Standing.{bytes_in};
-    ghost use Rattle.trace_work.{specs.TracePieces.{traces, HasTraced}, specs.TraceLaws.{traces-law, traced-clear}};
+    ghost use Rattle.trace_work.{specs.TraceOutcomes.traces, specs.TracePieces.HasTraced, specs.TraceLaws.{traces-law, traced-clear}};
 
     ghost tells = { λ r. traces (trace_view (set_of r.trace)) (sorting_of r.gates) (how_of r.stream) };
 
@@ -282,7 +282,7 @@ pub(crate) struct TraceJob<'p> {
 
 impl<'p> Job for TraceJob<'p> {
     ghost use Rattle.command_work.{specs.Behaviours.AsItReads, specs.Works.WantsNone};
-    ghost use Rattle.trace_work.{specs.TraceOutcomes.{trace_so_far, tracing}, specs.TracePieces.traces_by, specs.TraceLaws.tracing-suits};
+    ghost use Rattle.trace_work.{specs.TraceOutcomes.{traces_by, trace_so_far, tracing}, specs.TraceLaws.tracing-suits};
 
     type Reader = TraceReader;
 
@@ -292,7 +292,7 @@ impl<'p> Job for TraceJob<'p> {
 
     ghost wanting = { λ job. WantsNone };
 
-    ghost tells = { λ job header. traces_by (trace_view job.set) (plan_view job.plan.now) header };
+    ghost tells = { λ job header. traces_by (Some (trace_view job.set)) (plan_view job.plan.now) header };
 
     ghost wants = { λ job header. ⊥ };
 

@@ -3,7 +3,7 @@ use Rattle.tally_base.{specs.declared.fault.Fault.Fault, specs.declared.slot.Slo
 use Rattle.bench_io.specs.Inputs.{File}
 use Rattle.ptu_cli.{specs.Runs.{Around, Runs}, specs.Behaviours.behaviour, proofs.Complete.some-files}
 use Rattle.command_words.specs.Commands.{Request}
-use Rattle.command_work.{specs.Endings.{outcome, Reaches, RunsOut}, specs.Outcomes.{status, IsIn}, specs.Behaviours.{Behaviour}}
+use Rattle.command_work.{specs.Endings.{outcome, HasPlan, Reaches, RunsOut}, specs.Outcomes.{status, IsIn}, specs.Behaviours.{Behaviour}}
 use Rattle.command_laws.{specs.Causes.{MayCallFor, MayEndWith}, specs.CommandCases.{CommandCases, cases}, proofs.CaseShapes.MeetsCases, proofs.Causes.{IsNoCommand, no-command, may-call}, proofs.Proved.told}
 use Rattle.command_laws.proofs.statuses_of_runs.Goals as goal
 
@@ -31,9 +31,9 @@ no-memory result few never = search (rules, arith, cases_eq)
 
 -- what a run says of its faults from outside, by the shape of its command
 record Outside (does : Behaviour) (run : Around) (result : ℕ) : Type 0 where
-  unopened : result ≡ 2 → (slot : Slot) × Reaches does run.after slot
-  unread : result ≡ 3 → (slot : Slot) × Reaches does run.after slot
-  memory : result ≡ 5 → RunsOut does run.after run.out_before run.out_after
+  unopened : result ≡ 2 → (slot : Slot) × Reaches does (HasPlan run.after) slot
+  unread : result ≡ 3 → (slot : Slot) × Reaches does (HasPlan run.after) slot
+  memory : result ≡ 5 → RunsOut does (HasPlan run.after) run.after run.out_before run.out_after
 
 outside-in : (does : Behaviour) (shape : CommandCases) (run : Around) (result : ℕ) → MeetsCases does shape
     → (IsNoCommand shape → ⊥) → Outside does run result → IsIn 2 5 result → MayEndWith shape result

@@ -2,30 +2,22 @@ use Rattle.std.{proofs.Common.{ℕ, List, refl, sym, ap, ◌∙◌, subst, inl},
 use Rattle.tally_base.specs.declared.slot.Slot.TheVariants.{Data}
 use Rattle.bench_io.{specs.Inputs.{File, IsOpened}, proofs.Bytes.{Appends-nil, Keeps-from_none}}
 use Rattle.plan_text.specs.ReadPlan.{plan_view}
-use Rattle.command_work.{specs.Endings.{Span, HasCauses}, proofs.PlanTold.{has-plan, has-later, none-lacking, names-later, takes-later, answers-unplanned, unplanned-causes, answers-lacking, lacking-causes, plan-answers, plan-causes, plan-files}, proofs.Told.few-told, proofs.Once.{Rose-kept, quiet-inside, out-inside, out-unwritten, once-none, once-behind, once-opened, once-unopened}}
+use Rattle.command_work.{specs.Endings.{span, HasCauses}, proofs.PlanTold.{has-plan, data-unasked, has-later, none-lacking, names-later, takes-later, answers-unplanned, unplanned-causes, answers-lacking, lacking-causes, plan-answers, plan-causes, plan-files}, proofs.Told.few-told, proofs.Once.{Rose-kept, quiet-inside, out-inside, out-unwritten, once-none, once-behind, once-opened, once-unopened}}
 use Rattle.command_work.proofs.work.by_plan.Goals as goal
 
 pub returns-in_err-plan : goal.returns-in_err-plan
 returns-in_err-plan g c =
     let before = g.I.Inputs.state c.args.inputs.now in
     let after = g.I.Inputs.state c.plan_of.new.inputs in
-    let it = c.args.work.now in
-    let does = g.W.PlanWork in
     let fault = c.in_err-plan.field-0.0 in
     let p = err_from_is_err_and c.from_residual.result c.from_residual.ensures.1 in
     rw (p.1, p.2) (record {
-      answer = answers-unplanned c.args.plan_name.now c.args.data_name.now (does.writing it) does.memory
-          (does.lacking it) (does.work it) after fault _ c.in_err-plan.ensures.answer;
-      causes = unplanned-causes c.args.plan_name.now c.args.data_name.now (does.writing it) does.memory (does.lacking it) (does.work it) before after _ _ fault c.plan_of.ensures.uses.keeps_other (c.requires.first Data) c.in_err-plan.ensures.reason;
-      asks = (c.plan_of.ensures.takes, λ asked. let same = c.plan_of.ensures.uses.keeps_other.asked in let first = c.requires.first Data in cc, g.met.I.Inputs.asked_first c.plan_of.new.inputs Data);
+      answer = answers-unplanned _ _ _ _ _ _ after fault _ c.in_err-plan.ensures.answer;
+      causes = unplanned-causes _ _ _ _ _ _ before after _ _ fault c.plan_of.ensures.uses.keeps_other (c.requires.first Data) c.in_err-plan.ensures.reason;
+      asks = (c.plan_of.ensures.takes, data-unasked before after (c.requires.first Data) c.plan_of.ensures.uses.keeps_other, g.met.I.Inputs.asked_first c.plan_of.new.inputs Data);
       once = record { inputs = c.in_err-plan.ensures.once; out = out-unwritten _ _ _ fault _ c.in_err-plan.ensures.reason };
-      files = plan-files c.args.plan_name.now c.args.data_name.now (does.writing it) does.memory
-          (does.lacking it) (does.work it) before after c.plan_of.ensures.names
-          (λ opened.
-          let asked = g.met.I.Inputs.asked_first c.plan_of.new.inputs Data opened in
-          let same = c.plan_of.ensures.uses.keeps_other.asked in
-          let first = c.requires.first Data in
-          cc)
+      files = plan-files c.args.plan_name.now c.args.data_name.now before after c.plan_of.ensures.names
+          (λ opened. data-unasked before after (c.requires.first Data) c.plan_of.ensures.uses.keeps_other (g.met.I.Inputs.asked_first c.plan_of.new.inputs Data opened))
           (g.met.I.Inputs.agrees c.plan_of.new.inputs);
     })
 
@@ -33,21 +25,13 @@ pub returns-in-Some : goal.returns-in-Some
 returns-in-Some g c =
     let before = g.I.Inputs.state c.args.inputs.now in
     let after = g.I.Inputs.state c.plan_of.new.inputs in
-    let it = c.args.work.now in
-    let does = g.W.PlanWork in
     record {
-      answer = answers-lacking c.args.plan_name.now c.args.data_name.now (does.writing it) does.memory (does.lacking it) (does.work it) after c.in_ok-plan.plan c.in-Some.fault _ c.in_ok-plan.ensures.answer (sym c.in-Some.ensures.answer);
-      causes = lacking-causes c.args.plan_name.now c.args.data_name.now (does.writing it) does.memory
-          (does.lacking it) (does.work it) _ c.in-Some.fault c.in-Some.ensures.inside;
-      asks = (c.plan_of.ensures.takes, λ asked. let same = c.plan_of.ensures.uses.keeps_other.asked in let first = c.requires.first Data in cc, g.met.I.Inputs.asked_first c.plan_of.new.inputs Data);
+      answer = answers-lacking _ _ _ _ _ _ after c.in_ok-plan.plan c.in-Some.fault _ c.in_ok-plan.ensures.answer (sym c.in-Some.ensures.answer);
+      causes = lacking-causes _ _ _ _ _ _ _ c.in-Some.fault c.in-Some.ensures.inside;
+      asks = (c.plan_of.ensures.takes, data-unasked before after (c.requires.first Data) c.plan_of.ensures.uses.keeps_other, g.met.I.Inputs.asked_first c.plan_of.new.inputs Data);
       once = record { inputs = once-none _ _ _ (quiet-inside c.in-Some.fault c.in-Some.ensures.inside) c.in_ok-plan.ensures.once; out = out-inside c.in-Some.fault _ _ c.in-Some.ensures.inside refl };
-      files = plan-files c.args.plan_name.now c.args.data_name.now (does.writing it) does.memory
-          (does.lacking it) (does.work it) before after c.plan_of.ensures.names
-          (λ opened.
-          let asked = g.met.I.Inputs.asked_first c.plan_of.new.inputs Data opened in
-          let same = c.plan_of.ensures.uses.keeps_other.asked in
-          let first = c.requires.first Data in
-          cc)
+      files = plan-files c.args.plan_name.now c.args.data_name.now before after c.plan_of.ensures.names
+          (λ opened. data-unasked before after (c.requires.first Data) c.plan_of.ensures.uses.keeps_other (g.met.I.Inputs.asked_first c.plan_of.new.inputs Data opened))
           (g.met.I.Inputs.agrees c.plan_of.new.inputs);
     }
 
@@ -66,24 +50,12 @@ returns-in-Err g c =
       causes = ((view, has), Rose-kept _ _ _ (c.in_ok-plan.ensures.once.openings Data) c.in-Err.ensures.cause.once, Keeps-from_none _ _ (Appends-nil _));
       asks = (
         takes-later planned after c.plan_of.ensures.takes c.open.ensures.keeps_other,
-        λ asked. (
-          view,
-          has,
-          λ opened.
-              let was = g.met.I.Inputs.asked_first c.plan_of.new.inputs Data (sym c.in-Err.ensures.unopened ∙ opened) in
-              let same = c.plan_of.ensures.uses.keeps_other.asked in
-              let first = c.requires.first Data in
-              cc,
-        ),
+        λ asked. (view, has, λ opened. data-unasked before planned (c.requires.first Data) c.plan_of.ensures.uses.keeps_other (g.met.I.Inputs.asked_first c.plan_of.new.inputs Data (sym c.in-Err.ensures.unopened ∙ opened))),
         g.met.I.Inputs.asked_first c.open.new.self Data,
       );
       once = record { inputs = once-unopened Data _ _ _ c.in_ok-plan.ensures.once c.open.ensures.keeps_other c.open.ensures.reads c.in-Err.ensures.cause.once; out = refl };
-      files = plan-files c.args.plan_name.now c.args.data_name.now (does.writing it) does.memory (does.lacking it) (does.work it) before after (names-later before planned after c.args.plan_name.now c.plan_of.ensures.names c.open.ensures.keeps_other)
-          (λ opened.
-          let was = g.met.I.Inputs.asked_first c.plan_of.new.inputs Data (sym c.in-Err.ensures.unopened ∙ opened) in
-          let same = c.plan_of.ensures.uses.keeps_other.asked in
-          let first = c.requires.first Data in
-          cc)
+      files = plan-files c.args.plan_name.now c.args.data_name.now before after (names-later before planned after c.args.plan_name.now c.plan_of.ensures.names c.open.ensures.keeps_other)
+          (λ opened. data-unasked before planned (c.requires.first Data) c.plan_of.ensures.uses.keeps_other (g.met.I.Inputs.asked_first c.plan_of.new.inputs Data (sym c.in-Err.ensures.unopened ∙ opened)))
           (g.met.I.Inputs.agrees c.open.new.self);
     }
 
@@ -101,19 +73,11 @@ returns-in-Ok g c =
     let has = has-later opened after (does.lacking it) view c.read.ensures.reads.keeps_other
     (has-later planned opened (does.lacking it) view c.open.ensures.keeps_other has_read) in
     let is_open = ap (λ f. f Data) c.read.ensures.reads.opens_none.opened ∙ c.in-Ok.ensures.opened in
-    let span : Span = record {
-      before = opened;
-      after = after;
-      old = g.O.Sink.written c.args.out.now;
-      new = g.O.Sink.written c.read.new.out;
-      faults_before = g.O.Sink.faults c.args.out.now;
-      faults_after = g.O.Sink.faults c.read.new.out;
-    } in
+    let read = span g.I.Inputs g.O.Sink c.open.new.self c.read.new.inputs c.args.out.now c.read.new.out in
     record {
-      answer = plan-answers c.args.plan_name.now c.args.data_name.now (does.writing it) does.memory (does.lacking it)
-          (does.work it) after view _ _ _ c.read.result has c.in-Ok.ensures.given is_open c.read.ensures.leaves.answer;
+      answer = plan-answers _ _ _ _ _ _ view after _ _ _ c.read.result has c.in-Ok.ensures.given is_open c.read.ensures.leaves.answer;
       causes = IfErr-weaker c.read.result _ _
-          (λ fault h. plan-causes c.args.plan_name.now c.args.data_name.now (does.writing it) does.memory (does.lacking it) (does.work it) view before span fault has c.in-Ok.ensures.given is_open
+          (λ fault h. plan-causes _ _ _ _ _ _ view before read fault has c.in-Ok.ensures.given is_open
           (once-opened Data before planned opened c.in_ok-plan.ensures.once c.open.ensures.keeps_other c.open.ensures.reads c.in-Ok.ensures.cause.kept) h)
           c.read.ensures.leaves.reason;
       asks = (
@@ -126,7 +90,7 @@ returns-in-Ok g c =
             c.open.ensures.keeps_other c.open.ensures.reads c.in-Ok.ensures.cause.kept) c.read.ensures.leaves.once.inputs;
         out = c.read.ensures.leaves.once.out;
       };
-      files = plan-files c.args.plan_name.now c.args.data_name.now (does.writing it) does.memory (does.lacking it) (does.work it) before after
+      files = plan-files c.args.plan_name.now c.args.data_name.now before after
           (names-later before opened after c.args.plan_name.now
           (names-later before planned opened c.args.plan_name.now c.plan_of.ensures.names c.open.ensures.keeps_other) c.read.ensures.reads.keeps_other)
           (λ was. subst (λ (told : Option (List ℕ)). IsOpened (before.contents c.args.data_name.now) told) (sym (ap (λ f. f Data) c.read.ensures.reads.opens_none.told))

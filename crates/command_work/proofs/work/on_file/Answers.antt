@@ -1,7 +1,7 @@
 use Rattle.std.{proofs.Common.{ℕ, List, None, refl, sym, ap, ◌∙◌, subst, inl}, specs.declared.option.Option.Option, proofs.lemmas.Result.IfErr-weaker}
 use Rattle.tally_base.specs.declared.slot.Slot.TheVariants.{Plan, Data}
 use Rattle.bench_io.{specs.Inputs.IsOpened, proofs.Bytes.{Appends-nil, Keeps-from_none}}
-use Rattle.command_work.{specs.Endings.{Span, HasCauses}, proofs.Told.{told-is-its, file-answers, file-causes, few-told}, proofs.Once.{quiet-none, once-refl, once-behind, once-opened, once-unopened}}
+use Rattle.command_work.{specs.Endings.{span, HasCauses}, proofs.Told.{told-is-its, file-answers, file-causes, few-told}, proofs.Once.{quiet-none, once-refl, once-behind, once-opened, once-unopened}}
 use Rattle.command_work.proofs.work.on_file.Goals as goal
 
 pub returns-in-Err : goal.returns-in-Err
@@ -31,17 +31,10 @@ returns-in-Ok g c =
     let writing = g.W.FileWork.writing in
     let is_open = ap (λ f. f Data) c.read.ensures.reads.opens_none.opened ∙ c.in-Ok.ensures.opened in
     let work = g.W.FileWork.work in
-    let span : Span = record {
-      before = opened;
-      after = after;
-      old = g.O.Sink.written c.args.out.now;
-      new = g.O.Sink.written c.read.new.out;
-      faults_before = g.O.Sink.faults c.args.out.now;
-      faults_after = g.O.Sink.faults c.read.new.out;
-    } in
+    let read = span g.I.Inputs g.O.Sink c.open.new.self c.read.new.inputs c.args.out.now c.read.new.out in
     record {
       answer = file-answers c.args.file.now writing work after _ _ _ _ c.in-Ok.ensures.given is_open c.read.ensures.leaves.answer;
-      causes = IfErr-weaker c.read.result _ _ (λ fault h. file-causes c.args.file.now writing work before span fault c.in-Ok.ensures.given is_open
+      causes = IfErr-weaker c.read.result _ _ (λ fault h. file-causes c.args.file.now writing work before read fault c.in-Ok.ensures.given is_open
           (once-opened Data before before opened (once-refl before None quiet-none) c.open.ensures.keeps_other c.open.ensures.reads c.in-Ok.ensures.cause.kept) h) c.read.ensures.leaves.reason;
       asks = (
         ap (λ f. f Plan) c.read.ensures.reads.opens_none.asked ∙ c.open.ensures.keeps_other.asked ∙ c.requires.first Plan,

@@ -17,7 +17,7 @@ unfolding HasCauses
 returns-in_err-plan-clause-causes g c = λ state.
     let p = err_from_is_err_and c.from_residual.result c.from_residual.ensures.1 in
     let wanted = plan-wanted c.in_err-plan.field-0.0 c.in_err-plan.ensures.answer in
-    rw (p.1, p.2, wanted) (Keeps-from_none _ _ (Appends-nil _))
+    rw (p.1, p.2, wanted) (refl, Keeps-from_none _ _ (Appends-nil _))
 
 pub returns-in_err-plan-clause-once : goal.returns-in_err-plan-clause-once
 returns-in_err-plan-clause-once g c =

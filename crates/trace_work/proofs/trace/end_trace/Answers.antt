@@ -1,12 +1,13 @@
-use Rattle.std.{proofs.lemmas.Result.err_from_is_err_and, proofs.Common.{◌≡◌, ◌∙◌, ℕ, List, [], ◌++◌, None, Some, Ok, Err, sym, ap, inl, inr, append_assoc, append-nil, Result, OnOk, OnErr, IfErr, arith, rules}, specs.declared.option.Option.Option, specs.Io.KnownBytes.{Appends, Keeps}}
+use Rattle.std.{proofs.lemmas.Result.err_from_is_err_and, proofs.Common.{◌≡◌, ◌∙◌, ℕ, List, [], None, Some, Ok, Err, sym, ap, inl, inr, append-nil, Result, OnOk, OnErr, IfErr, arith, rules}, specs.declared.option.Option.Option, specs.Io.KnownBytes.{Appends, Keeps}}
 use Rattle.gate_plan.{specs.Groups.sorting_of, specs.Shifting.Sorting, specs.Histories.history}
 use Rattle.record_stream.specs.Standing.{how_of}
 use Rattle.tally_base.{specs.declared.fault.Fault.Fault, specs.declared.fault.Fault.TheVariants.WriteFault, specs.Faults.fault_in, specs.FaultCounts.Rose, specs.Settings.{TraceView, trace_view}, specs.Tally.History}
-use Rattle.bench_io.{specs.declared.sink.Sink.Ghosts, proofs.Bytes.{Appends-trans, AppendsShort-behind, AppendsShort-more}}
+use Rattle.bench_io.specs.declared.sink.Sink.{Ghosts}
+use Rattle.streamed_text.proofs.Texts.{WroteText-trans, CutText-behind, CutText-more}
 use Rattle.ptu_definitions.{specs.Words.words_of, specs.Streams.{StreamSettings, streamed}}
 use Rattle.long_trace.{specs.declared.trace.LongTrace.LongTrace, specs.LongTrace.set_of, specs.Texts.{open_text, whole_text}, specs.Written.{AppendsRest, CutsRest}, proofs.Rising.whole-front}
 use Rattle.command_work.{specs.Outcomes.{Outcome, written}, specs.Tellings.WritesEnd}
-use Rattle.trace_work.{specs.TraceOutcomes.{words_traced, records_traced}, specs.TracePieces.{traces, WroteLast, WritesLast}}
+use Rattle.trace_work.{specs.TraceOutcomes.{words_traced, records_traced, traces}, specs.TracePieces.{WroteLast, WritesLast}}
 use Rattle.trace_work.proofs.trace.end_trace.Goals as goal
 
 -- the end of a trace
@@ -52,16 +53,7 @@ module _ {O : Type 0} (o : Ghosts O) (by : Sorting) (how : StreamSettings) (trac
       )
   last-refused old new fault (inr h) =
       let front = whole-front set all in
-      inr (
-        h.0,
-        record {
-          more = h.1.more ++ front.0;
-          adds = ap (λ (end : Outcome). end.text) (ends-whole h.1.clear) ∙ front.1
-              ∙ ap (λ l. l ++ front.0) h.1.adds ∙ append_assoc (text (words_of bytes)) h.1.more front.0;
-          cut = AppendsShort-more (o.written old) (o.written new) h.1.more front.0 h.1.cut;
-          rose = h.1.rose;
-        },
-      )
+      inr (h.0, CutText-more _ _ _ front.0 _ _ _ _ (ap (λ (end : Outcome). end.text) (ends-whole h.1.clear) ∙ front.1) h.1.cut)
 
   -- They were written, and then the rest.
   last-ended : (old mid new : O) (r : Result (Unit {0}) Fault) → set_of now ≡ set_of trace → WroteLast o by how trace now old mid bytes
@@ -73,24 +65,14 @@ module _ {O : Type 0} (o : Ghosts O) (by : Sorting) (how : StreamSettings) (trac
       let rest = rw same at all_of in
       let is = ends-whole h.clear in (
         ap (λ (end : Outcome). end.fault) is,
-        record {
-          more = h.more ++ rest.rest;
-          adds = ap (λ (end : Outcome). end.text) is ∙ rest.whole ∙ ap (λ l. l ++ rest.rest) h.adds ∙ append_assoc (text (words_of bytes)) h.more rest.rest;
-          written = Appends-trans (o.written old) (o.written mid) (o.written new) h.more rest.rest h.written rest.appended;
-          kept = kept ∙ h.kept;
-        },
+        WroteText-trans _ _ _ _ _ _ _ _ _ h.wrote (record { more = rest.rest; adds = ap (λ (end : Outcome). end.text) is ∙ rest.whole; written = rest.appended; kept = kept }),
       )
   last-ended old mid new (Err fault) same h all_of cut write rose kept =
       let rest = rw same at cut in
       inr (
         write,
-        record {
-          more = h.more ++ rest.rest;
-          adds = ap (λ (end : Outcome). end.text) (ends-whole h.clear) ∙ rest.whole
-              ∙ ap (λ l. l ++ rest.rest) h.adds ∙ append_assoc (text (words_of bytes)) h.more rest.rest;
-          cut = AppendsShort-behind (o.written old) (o.written mid) (o.written new) h.more rest.rest h.written rest.cut;
-          rose = rw h.kept at rose;
-        },
+        CutText-behind _ _ _ _ _ _ _ _ _ h.wrote
+            (record { more = rest.rest; adds = ap (λ (end : Outcome). end.text) (ends-whole h.clear) ∙ rest.whole; cut = rest.cut; rose = rose }),
       )
 
 pub returns-in_err-last_lines : goal.returns-in_err-last_lines

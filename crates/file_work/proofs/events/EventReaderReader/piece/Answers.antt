@@ -1,5 +1,5 @@
 use Rattle.std.proofs.Common.{ap, sym}
-use Rattle.file_work.specs.EventLines.{lists}
+use Rattle.file_work.specs.FileOutcomes.{lists}
 use Rattle.file_work.proofs.events.EventReaderReader.piece.Goals as goal
 
 pub returns-clause-same : goal.returns-clause-same

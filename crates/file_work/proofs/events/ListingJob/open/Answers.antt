@@ -1,7 +1,7 @@
 use Rattle.std.proofs.Common.{[], refl, ap}
 use Rattle.bench_io.proofs.Bytes.{Appends-nil}
 use Rattle.command_work.proofs.RestEnds.{refused-none, opens-wrote}
-use Rattle.file_work.{specs.FileOutcomes.listing, specs.EventLines.lists, proofs.Ends.lines_of-none}
+use Rattle.file_work.{specs.FileOutcomes.{listing, lists}, proofs.Ends.lines_of-none}
 use Rattle.file_work.proofs.events.ListingJob.open.Goals as goal
 
 pub returns-clause-opens : goal.returns-clause-opens

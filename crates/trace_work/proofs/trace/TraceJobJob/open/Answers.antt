@@ -6,7 +6,7 @@ use Rattle.record_stream.specs.Standing.{how_of}
 use Rattle.long_trace.{specs.LongTrace.set_of, specs.Texts.{first_line, open_text}}
 use Rattle.command_work.proofs.RestEnds.{refused-none, opens-misfit, opens-wrote, opens-cut}
 use Rattle.ptu_definitions.{specs.Words.words_of, specs.Streams.StreamSettings}
-use Rattle.trace_work.{specs.TracePieces.{traces, traces_by}, specs.TraceOutcomes.{settled_before, words_traced}}
+use Rattle.trace_work.specs.TraceOutcomes.{settled_before, words_traced, traces, traces_by}
 use Rattle.trace_work.proofs.trace.TraceJobJob.open.Goals as goal
 
 -- the trace of no bytes
@@ -19,7 +19,7 @@ text-none : (set : TraceView) (by : Sorting) (how : StreamSettings) → words_tr
 text-none set by how = ap (open_text set) (settled-none by how) ∙ append-nil (first_line set)
 
 -- a reader of a plan that suits is told of as the plan is
-traces-same : (set set' : TraceView) (plan : PlanView) (header : Header) (by : Sorting) (how : StreamSettings) → fits (mode_of header.record_type) plan ≡ Ok tt → set' ≡ set → by ≡ sorting plan → how ≡ reading_by plan header → traces set' by how ≡ traces_by set plan header
+traces-same : (set set' : TraceView) (plan : PlanView) (header : Header) (by : Sorting) (how : StreamSettings) → fits (mode_of header.record_type) plan ≡ Ok tt → set' ≡ set → by ≡ sorting plan → how ≡ reading_by plan header → traces set' by how ≡ traces_by (Some set) plan header
 traces-same set set' plan header by how suits same_set same_sorting same_how = search (rules, arith)
 
 pub returns-in_err-fits-clause-opens : goal.returns-in_err-fits-clause-opens
