@@ -18,15 +18,12 @@ pub trait Inputs {
         requires meant { (state self.old).meant slot name.now ≡ true }
         requires first { (state self.old).asked slot ≡ false }
 
-        ensures file { OnOk result
-            (IsOpened ((state self.old).contents name.now) ((state self.new).told slot)) }
+        ensures file { OnOk result (IsOpened ((state self.old).contents name.now) ((state self.new).told slot)) }
         ensures given { OnOk result ((state self.new).given slot ≡ no_bytes) }
         ensures opened { OnOk result ((state self.new).opened slot ≡ true) }
-        ensures unopened { OnErr result
-            ((state self.new).opened slot ≡ (state self.old).opened slot) }
+        ensures unopened { OnErr result ((state self.new).opened slot ≡ (state self.old).opened slot) }
         ensures asked { (state self.new).asked slot ≡ true }
-        ensures cause { FailsOnce
-            ((state self.old).open_faults slot) ((state self.new).open_faults slot) result }
+        ensures cause { FailsOnce ((state self.old).open_faults slot) ((state self.new).open_faults slot) result }
         ensures reads { (state self.new).read_faults slot ≡ (state self.old).read_faults slot }
         ensures keeps { Keeps (state self.old) (state self.new) }
         ensures keeps_other { KeepsOther slot (state self.old) (state self.new) };
@@ -37,17 +34,14 @@ pub trait Inputs {
         requires { (state self.old).opened slot ≡ true }
 
         ensures bound { ReadsAtMost result into.new }
-        ensures gives { ReadGives
-            ((state self.old).given slot) ((state self.new).given slot) result into.new }
-        ensures cause { FailsOnce
-            ((state self.old).read_faults slot) ((state self.new).read_faults slot) result }
+        ensures gives { ReadGives ((state self.old).given slot) ((state self.new).given slot) result into.new }
+        ensures cause { FailsOnce ((state self.old).read_faults slot) ((state self.new).read_faults slot) result }
         ensures keeps { Keeps (state self.old) (state self.new) }
         ensures keeps_other { KeepsOther slot (state self.old) (state self.new) }
         ensures opens_none { OpensNone (state self.old) (state self.new) };
 
     /// What was opened was asked for.
-    ghost asked_first: { (inputs : Self) (slot : Slot) →
-        (state inputs).opened slot ≡ true → (state inputs).asked slot ≡ true };
+    ghost asked_first: { (inputs : Self) (slot : Slot) → (state inputs).opened slot ≡ true → (state inputs).asked slot ≡ true };
 
     /// The file that is told of a slot is one of which the reads gave what they gave.
     ghost agrees: { (inputs : Self) (slot : Slot) (file : List ℕ) →

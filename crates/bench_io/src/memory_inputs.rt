@@ -61,19 +61,13 @@ impl Inputs for MemoryInputs {
         requires meant { (input_state self.old).meant slot name.now ≡ true }
         requires first { (input_state self.old).asked slot ≡ false }
 
-        ensures file { OnOk result
-            (IsOpened ((input_state self.old).contents name.now)
-            ((input_state self.new).told slot)) }
+        ensures file { OnOk result (IsOpened ((input_state self.old).contents name.now) ((input_state self.new).told slot)) }
         ensures given { OnOk result ((input_state self.new).given slot ≡ no_bytes) }
         ensures opened { OnOk result ((input_state self.new).opened slot ≡ true) }
-        ensures unopened { OnErr result
-            ((input_state self.new).opened slot ≡ (input_state self.old).opened slot) }
+        ensures unopened { OnErr result ((input_state self.new).opened slot ≡ (input_state self.old).opened slot) }
         ensures asked { (input_state self.new).asked slot ≡ true }
-        ensures cause { FailsOnce
-            ((input_state self.old).open_faults slot)
-            ((input_state self.new).open_faults slot) result }
-        ensures reads { (input_state self.new).read_faults slot
-            ≡ (input_state self.old).read_faults slot }
+        ensures cause { FailsOnce ((input_state self.old).open_faults slot) ((input_state self.new).open_faults slot) result }
+        ensures reads { (input_state self.new).read_faults slot ≡ (input_state self.old).read_faults slot }
         ensures keeps { Keeps (input_state self.old) (input_state self.new) }
         ensures keeps_other { KeepsOther slot (input_state self.old) (input_state self.new) }
 
@@ -95,12 +89,8 @@ impl Inputs for MemoryInputs {
         requires { (input_state self.old).opened slot ≡ true }
 
         ensures bound { ReadsAtMost result into.new }
-        ensures gives { ReadGives
-            ((input_state self.old).given slot) ((input_state self.new).given slot)
-            result into.new }
-        ensures cause { FailsOnce
-            ((input_state self.old).read_faults slot)
-            ((input_state self.new).read_faults slot) result }
+        ensures gives { ReadGives ((input_state self.old).given slot) ((input_state self.new).given slot) result into.new }
+        ensures cause { FailsOnce ((input_state self.old).read_faults slot) ((input_state self.new).read_faults slot) result }
         ensures keeps { Keeps (input_state self.old) (input_state self.new) }
         ensures keeps_other { KeepsOther slot (input_state self.old) (input_state self.new) }
         ensures opens_none { OpensNone (input_state self.old) (input_state self.new) }

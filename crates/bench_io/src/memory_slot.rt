@@ -101,14 +101,12 @@ impl MemorySlot {
         name: &str,
         fails: bool,
     ) -> Result<(), Failed>
-        ensures file { OnOk result
-            (IsOpened (Some (file_named files.now name.now)) (told_in files.now self.new.reading)) }
+        ensures file { OnOk result (IsOpened (Some (file_named files.now name.now)) (told_in files.now self.new.reading)) }
         ensures given { OnOk result (given_in files.now self.new.reading ≡ no_bytes) }
         ensures opened { OnOk result (was_opened self.new.reading ≡ true) }
         ensures unopened { OnErr result (was_opened self.new.reading ≡ false) }
         ensures asked { was_asked self.new.reading ≡ true }
-        ensures succeeds { IsOk result ↔
-            ((fails ≡ false) × IsSome (file_named files.now name.now)) }
+        ensures succeeds { IsOk result ↔ ((fails ≡ false) × IsSome (file_named files.now name.now)) }
         ensures cause { FailsOnce self.old.open_faults self.new.open_faults result }
         ensures read_faults { self.new.read_faults ≡ self.old.read_faults }
     {
@@ -137,8 +135,7 @@ impl MemorySlot {
         requires { was_opened self.old.reading ≡ true }
         ensures bound { ReadsAtMost result into.new }
         ensures told { told_in files.now self.new.reading ≡ told_in files.now self.old.reading }
-        ensures gives { ReadGives (given_in files.now self.old.reading)
-            (given_in files.now self.new.reading) result into.new }
+        ensures gives { ReadGives (given_in files.now self.old.reading) (given_in files.now self.new.reading) result into.new }
         ensures opened { was_opened self.new.reading ≡ was_opened self.old.reading }
         ensures asked { was_asked self.new.reading ≡ was_asked self.old.reading }
         ensures succeeds { IsOk result ↔ (fails ≡ false) }

@@ -26,10 +26,8 @@ pub(crate) fn count_block(
     requires sorted { IsSorted block.now }
     requires sized { length cells.old ≡ set.now.bins }
     requires edge { kept.old.low ≡ set.now.origin + kept.old.index * set.now.width }
-    requires room { sum cells.old + outside.old.before + outside.old.beyond
-        + length (gathered block.now) ≤ record_limit }
-    ensures counts { CountsMore (trace_view set.now) cells.old cells.new outside.old outside.new
-        (events_in block.now) }
+    requires room { sum cells.old + outside.old.before + outside.old.beyond + length (gathered block.now) ≤ record_limit }
+    ensures counts { CountsMore (trace_view set.now) cells.old cells.new outside.old outside.new (events_in block.now) }
     ensures few { sum cells.new + outside.new.before + outside.new.beyond
         ≤ sum cells.old + outside.old.before + outside.old.beyond
         + length (gathered block.now) }

@@ -35,8 +35,7 @@ impl Trace {
     /// A trace of no events, with all the memory that it ever takes, or `AllocError` where it is wanting.
     pub fn open(alloc: Global, set: TraceSet) -> Result<Trace, AllocError>
         ensures set { IfOk result (λ t. set_of t ≡ set) }
-        ensures settings { IfOk result (λ t.
-            ⟦<Trace as Tally>⟧.settings t ≡ TraceSettings (trace_view set)) }
+        ensures settings { IfOk result (λ t. ⟦<Trace as Tally>⟧.settings t ≡ TraceSettings (trace_view set)) }
         ensures empty { IfOk result (λ t. Holds t []) }
         ensures opened { IfOk result (λ t. ⟦<Trace as Tally>⟧.closed t ≡ false) }
     {
@@ -68,24 +67,21 @@ impl Trace {
     /// was given so far.
     pub fn cell(&self, at: u32) -> u64
         requires { at < (set_of self.now).bins }
-        ensures { (h : History) → Holds self.now h
-            → result ≡ in_trace_bin (trace_view (set_of self.now)) at h }
+        ensures { (h : History) → Holds self.now h → result ≡ in_trace_bin (trace_view (set_of self.now)) at h }
     {
         self.cells[at as usize]
     }
 
     /// How many photons of the group came before the origin.
     pub fn before(&self) -> u64
-        ensures { (h : History) → Holds self.now h
-            → result ≡ count_before (trace_view (set_of self.now)) h }
+        ensures { (h : History) → Holds self.now h → result ≡ count_before (trace_view (set_of self.now)) h }
     {
         self.outside.before
     }
 
     /// How many photons of the group came at or past the end of the last bin.
     pub fn beyond(&self) -> u64
-        ensures { (h : History) → Holds self.now h
-            → result ≡ count_beyond (trace_view (set_of self.now)) h }
+        ensures { (h : History) → Holds self.now h → result ≡ count_beyond (trace_view (set_of self.now)) h }
     {
         self.outside.beyond
     }

@@ -4,154 +4,78 @@ use arrayvec::ArrayVec;
 use std::test::Fail;
 use tally_base::{Fault, Mode, PartKind, RecordType, fault_line};
 
-/// The status of a fault, the fault and its line.
-const LINES: [(u8, Fault, &str); 18] = [
-    (5, Fault::OutOfMemory, "ptu: out of memory\n"),
-    (
-        8,
-        Fault::PlanRule {
-            rule: 22,
-            index: 65535,
-        },
-        "ptu: plan breaks rule 22 at 65535\n",
-    ),
-    (
-        9,
-        Fault::PlanMode {
-            kind: PartKind::Gate,
-            index: 64,
-            mode: Mode::T2,
-        },
-        "ptu: gate 64 does not suit T2\n",
-    ),
-    (
-        9,
-        Fault::PlanMode {
-            kind: PartKind::Shift,
-            index: 65,
-            mode: Mode::T2,
-        },
-        "ptu: shift 65 does not suit T2\n",
-    ),
-    (
-        9,
-        Fault::PlanMode {
-            kind: PartKind::StartStop,
-            index: 2,
-            mode: Mode::T3,
-        },
-        "ptu: startstop 2 does not suit T3\n",
-    ),
-    (
-        9,
-        Fault::PlanMode {
-            kind: PartKind::Coincidence,
-            index: 16,
-            mode: Mode::T3,
-        },
-        "ptu: coincidence 16 does not suit T3\n",
-    ),
-    (
-        9,
-        Fault::PlanMode {
-            kind: PartKind::Image,
-            index: 8,
-            mode: Mode::T2,
-        },
-        "ptu: image 8 does not suit T2\n",
-    ),
-    (
-        9,
-        Fault::PlanMode {
-            kind: PartKind::Cube,
-            index: 2,
-            mode: Mode::T2,
-        },
-        "ptu: cube 2 does not suit T2\n",
-    ),
-    (
-        12,
-        Fault::TagType {
-            tag: 3,
-            code: 0x2001_00AF,
-        },
-        "ptu: tag 3 has type 200100AF\n",
-    ),
-    (
-        12,
-        Fault::TagType {
-            tag: 4_294_967_295,
-            code: 0,
-        },
-        "ptu: tag 4294967295 has type 00000000\n",
-    ),
-    (
-        13,
-        Fault::TagLength {
-            tag: 2,
-            length: i64::MIN,
-        },
-        "ptu: tag 2 has length -9223372036854775808\n",
-    ),
-    (
-        15,
-        Fault::UnknownRecordType { value: -2 },
-        "ptu: record type FFFFFFFFFFFFFFFE\n",
-    ),
-    (
-        18,
-        Fault::ReservedRecord {
-            place: 4,
-            word: 0xA000_0009,
-        },
-        "ptu: record 4 is reserved: A0000009\n",
-    ),
-    (
-        19,
-        Fault::BackwardTime {
-            place: 7,
-            time: 5,
-            before: 6,
-        },
-        "ptu: record 7 goes back from 6 to 5\n",
-    ),
-    (
-        19,
-        Fault::BackwardTime {
-            place: u64::MAX,
-            time: 18_446_744_073_709_551_613,
-            before: 18_446_744_073_709_551_614,
-        },
-        "ptu: record 18446744073709551615 goes back from 18446744073709551614 to 18446744073709551613\n",
-    ),
-    (
-        20,
-        Fault::RecordLimit {
-            limit: 1_099_511_627_776,
-        },
-        "ptu: more than 1099511627776 records\n",
-    ),
-    (
-        21,
-        Fault::TimeLimit { place: 9 },
-        "ptu: record 9 passes the greatest time\n",
-    ),
-    (
-        24,
-        Fault::PickTime { place: 2 },
-        "ptu: record 2 is too late to write\n",
-    ),
-];
+/// A fault has this status and this line.
+fn tells(rt: &HostRuntime, status: u8, fault: Fault, line: &str) -> Result<(), Fail> {
+    let mut into = ArrayVec::new();
+    fault_line(&fault, &mut into);
+    let wanted = format!(in rt.alloc(); "ptu: {line}\n")?;
+    if into.as_slice() == wanted.as_bytes() && fault.status() == status {
+        return Ok(());
+    }
+    Err(Fail::new(line))
+}
 
 #[test]
-fn lines_of_faults(_rt: HostRuntime) -> Result<(), Fail> {
-    for (status, fault, line) in LINES {
-        let mut into = ArrayVec::new();
-        fault_line(&fault, &mut into);
-        holds(into.as_slice() == line.as_bytes(), 1)?;
-        holds(fault.status() == status, 2)?;
+fn lines_of_faults_of_plans(rt: HostRuntime) -> Result<(), Fail> {
+    use Mode::*;
+    use PartKind::*;
+    tells(&rt, 5, Fault::OutOfMemory, "out of memory")?;
+    let (rule, index) = (22, 65535);
+    let broken = Fault::PlanRule { rule, index };
+    tells(&rt, 8, broken, "plan breaks rule 22 at 65535")?;
+    for (kind, index, mode, line) in [
+        (Gate, 64, T2, "gate 64 does not suit T2"),
+        (Shift, 65, T2, "shift 65 does not suit T2"),
+        (StartStop, 2, T3, "startstop 2 does not suit T3"),
+        (Coincidence, 16, T3, "coincidence 16 does not suit T3"),
+        (Image, 8, T2, "image 8 does not suit T2"),
+        (Cube, 2, T2, "cube 2 does not suit T2"),
+    ] {
+        tells(&rt, 9, Fault::PlanMode { kind, index, mode }, line)?;
     }
     Ok(())
+}
+
+#[test]
+fn lines_of_faults_of_headers(rt: HostRuntime) -> Result<(), Fail> {
+    for (tag, code, line) in [
+        (3, 0x2001_00AF, "tag 3 has type 200100AF"),
+        (u32::MAX, 0, "tag 4294967295 has type 00000000"),
+    ] {
+        tells(&rt, 12, Fault::TagType { tag, code }, line)?;
+    }
+    let (tag, length) = (2, i64::MIN);
+    let negative = Fault::TagLength { tag, length };
+    tells(&rt, 13, negative, "tag 2 has length -9223372036854775808")?;
+    let unknown = Fault::UnknownRecordType { value: -2 };
+    tells(&rt, 15, unknown, "record type FFFFFFFFFFFFFFFE")
+}
+
+/// A record that goes back.
+fn backward(place: u64, time: u64, before: u64) -> Fault {
+    Fault::BackwardTime {
+        place,
+        time,
+        before,
+    }
+}
+
+#[test]
+fn lines_of_faults_of_records(rt: HostRuntime) -> Result<(), Fail> {
+    let (place, word) = (4, 0xA000_0009);
+    let reserved = Fault::ReservedRecord { place, word };
+    tells(&rt, 18, reserved, "record 4 is reserved: A0000009")?;
+    tells(&rt, 19, backward(7, 5, 6), "record 7 goes back from 6 to 5")?;
+    let last = backward(u64::MAX, u64::MAX - 2, u64::MAX - 1);
+    let line =
+        "record 18446744073709551615 goes back from 18446744073709551614 to 18446744073709551613";
+    tells(&rt, 19, last, line)?;
+    let limit = Fault::RecordLimit { limit: 1 << 40 };
+    tells(&rt, 20, limit, "more than 1099511627776 records")?;
+    let great = Fault::TimeLimit { place: 9 };
+    tells(&rt, 21, great, "record 9 passes the greatest time")?;
+    let late = Fault::PickTime { place: 2 };
+    tells(&rt, 24, late, "record 2 is too late to write")
 }
 
 #[test]

@@ -19,48 +19,35 @@ fn fields(top: u8, dtime: u16, time: u32) -> Fields {
     Fields { top, dtime, time }
 }
 
-const FIRST: Raw = Raw::Photon {
-    input: 1,
-    time: 4098,
-    dtime: 0,
-};
+fn photon(input: u8, time: u32, dtime: u16) -> Raw {
+    Raw::Photon { input, time, dtime }
+}
 
-const SECOND: Raw = Raw::Photon {
-    input: 1,
-    time: 3,
-    dtime: 7,
-};
-
-const OLD_WRAP: Raw = Raw::Wrap { amount: 33_552_000 };
-
-const FIVE_WRAPS: Raw = Raw::Wrap {
-    amount: 167_772_160,
-};
-
-const OLD_T3_WRAP: Raw = Raw::Wrap { amount: 1024 };
-
-const THIRD: Raw = Raw::Photon {
-    input: 0,
-    time: 6,
-    dtime: 100,
-};
+fn wrap(amount: u64) -> Raw {
+    Raw::Wrap { amount }
+}
 
 #[test]
 fn layouts(_rt: HostRuntime) -> Result<(), Fail> {
-    holds(decode(RecordType::PicoHarpT3, 0x1007_0003) == SECOND, 1)?;
+    let found = decode(RecordType::PicoHarpT3, 0x1007_0003);
+    holds(found == photon(1, 3, 7), 1)?;
     holds(
-        takes::<PicoT2>(Mode::T2, 0x1000_1002, fields(1, 0, 4098), FIRST)
-            && takes::<PicoT3>(Mode::T3, 0x1007_0003, fields(1, 7, 3), SECOND),
+        takes::<PicoT2>(
+            Mode::T2,
+            0x1000_1002,
+            fields(1, 0, 4098),
+            photon(1, 4098, 0),
+        ) && takes::<PicoT3>(Mode::T3, 0x1007_0003, fields(1, 7, 3), photon(1, 3, 7)),
         2,
     )?;
     holds(
-        takes::<HydraT2<true>>(Mode::T2, 0xFE00_0005, fields(127, 0, 5), OLD_WRAP)
-            && takes::<HydraT2<false>>(Mode::T2, 0xFE00_0005, fields(127, 0, 5), FIVE_WRAPS),
+        takes::<HydraT2<true>>(Mode::T2, 0xFE00_0005, fields(127, 0, 5), wrap(33_552_000))
+            && takes::<HydraT2<false>>(Mode::T2, 0xFE00_0005, fields(127, 0, 5), wrap(167_772_160)),
         3,
     )?;
     holds(
-        takes::<HydraT3<true>>(Mode::T3, 0xFE00_0005, fields(127, 0, 5), OLD_T3_WRAP)
-            && takes::<HydraT3<false>>(Mode::T3, 0x0001_9006, fields(0, 100, 6), THIRD),
+        takes::<HydraT3<true>>(Mode::T3, 0xFE00_0005, fields(127, 0, 5), wrap(1024))
+            && takes::<HydraT3<false>>(Mode::T3, 0x0001_9006, fields(0, 100, 6), photon(0, 6, 100)),
         4,
     )?;
     Ok(())
@@ -76,38 +63,22 @@ fn counted(record_type: RecordType, bytes: &[u8], size: usize) -> Result<KindCou
     counter.finish()
 }
 
+const PICO_T2: [u32; 5] = [0, 0x5000_0000, 0xF000_0000, 0xF000_0001, 0];
+
+const PICO_T3: [u32; 5] = [0, 0xE000_0000, 0xF010_0000, 0xF011_0000, 0];
+
+const HYDRA_T2: [u32; 5] = [0, 0x8000_0000, 0x8200_0000, 0xA000_0000, 0xFE00_0000];
+
+const HYDRA_T3: [u32; 5] = [0, 0x8000_0000, 0x8200_0000, 0x9E00_0000, 0xFE00_0000];
+
 /// A record type, five words, and how many photons, markers, wraps and reserved records they are.
 const PIECES: [(RecordType, [u32; 5], [u64; 4]); 6] = [
-    (
-        RecordType::PicoHarpT2,
-        [0, 0x5000_0000, 0xF000_0000, 0xF000_0001, 0],
-        [2, 1, 1, 1],
-    ),
-    (
-        RecordType::PicoHarpT3,
-        [0, 0xE000_0000, 0xF010_0000, 0xF011_0000, 0],
-        [2, 1, 1, 1],
-    ),
-    (
-        RecordType::HydraHarpT2,
-        [0, 0x8000_0000, 0x8200_0000, 0xA000_0000, 0xFE00_0000],
-        [2, 1, 1, 1],
-    ),
-    (
-        RecordType::MultiHarpT2,
-        [0, 0x8000_0000, 0x8200_0000, 0xA000_0000, 0xFE00_0000],
-        [2, 1, 1, 1],
-    ),
-    (
-        RecordType::HydraHarpT3,
-        [0, 0x8000_0000, 0x8200_0000, 0x9E00_0000, 0xFE00_0000],
-        [1, 2, 1, 1],
-    ),
-    (
-        RecordType::MultiHarpT3,
-        [0, 0x8000_0000, 0x8200_0000, 0x9E00_0000, 0xFE00_0000],
-        [1, 2, 1, 1],
-    ),
+    (RecordType::PicoHarpT2, PICO_T2, [2, 1, 1, 1]),
+    (RecordType::PicoHarpT3, PICO_T3, [2, 1, 1, 1]),
+    (RecordType::HydraHarpT2, HYDRA_T2, [2, 1, 1, 1]),
+    (RecordType::MultiHarpT2, HYDRA_T2, [2, 1, 1, 1]),
+    (RecordType::HydraHarpT3, HYDRA_T3, [1, 2, 1, 1]),
+    (RecordType::MultiHarpT3, HYDRA_T3, [1, 2, 1, 1]),
 ];
 
 /// The bytes of five words.
@@ -131,10 +102,8 @@ fn pieces(_rt: HostRuntime) -> Result<(), Fail> {
             reserved,
         };
         for size in [1usize, 3, 7, 20] {
-            holds(
-                counted(record_type, bytes.as_slice(), size) == Ok(counts),
-                size,
-            )?;
+            let found = counted(record_type, bytes.as_slice(), size);
+            holds(found == Ok(counts), size)?;
         }
         let _ = bytes.pop();
         let cut = Err(Fault::TruncatedRecord { bytes: 3 });

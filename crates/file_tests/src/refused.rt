@@ -127,10 +127,8 @@ fn a_refusal_is_repeated(_rt: HostRuntime) -> Result<(), Fail> {
         time: 20,
         before: 21,
     };
-    holds(
-        answers(ordered, 9, &[21, 0, 0, 0, 20, 0, 0, 0]) == ([Some(late); 3], [[1, 0]; 3]),
-        1,
-    )?;
+    let found = answers(ordered, 9, &[21, 0, 0, 0, 20, 0, 0, 0]);
+    holds(found == ([Some(late); 3], [[1, 0]; 3]), 1)?;
     let known = Policy {
         reserved: OnReserved::Stop,
         ..LENIENT
@@ -139,19 +137,13 @@ fn a_refusal_is_repeated(_rt: HostRuntime) -> Result<(), Fail> {
         place: 2,
         word: 0xFC00_0000,
     };
-    holds(
-        answers(known, 9, &[21, 0, 0, 0, 0, 0, 0, 0xFC]) == ([Some(reserved); 3], [[1, 0]; 3]),
-        2,
-    )?;
+    let found = answers(known, 9, &[21, 0, 0, 0, 0, 0, 0, 0xFC]);
+    holds(found == ([Some(reserved); 3], [[1, 0]; 3]), 2)?;
     let four = [21, 0, 0, 0, 22, 0, 0, 0, 23, 0, 0, 0, 24, 0, 0, 0];
     let limit = Fault::RecordLimit { limit: 3 };
-    holds(
-        answers(LENIENT, 9, &four) == ([Some(limit); 3], [[3, 0]; 3]),
-        3,
-    )?;
-    holds(
-        answers(LENIENT, 2, &four[..12]) == ([Some(Fault::WriteFault); 3], [[2, 1]; 3]),
-        4,
-    )?;
+    let found = answers(LENIENT, 9, &four);
+    holds(found == ([Some(limit); 3], [[3, 0]; 3]), 3)?;
+    let found = answers(LENIENT, 2, &four[..12]);
+    holds(found == ([Some(Fault::WriteFault); 3], [[2, 1]; 3]), 4)?;
     Ok(())
 }

@@ -65,23 +65,15 @@ const BACKWARDS: [u8; 12] = [9, 0, 0, 0, 8, 0, 0, 0, 7, 0, 0, 0];
 #[test]
 fn an_overtaken_event_is_put_in_its_place(_rt: HostRuntime) -> Result<(), Fail> {
     let t3 = RecordType::HydraHarp2T3;
-    holds(
-        settled(t3, ONE, 9, &BACKWARDS) == (None, [2, 1], Ok(three(1, 8)), 3),
-        1,
-    )?;
-    holds(
-        settled(t3, TWO, 9, &BACKWARDS) == (None, [1, 2], Ok(three(0, 7)), 3),
-        2,
-    )?;
-    holds(
-        settled(t3, TWO, 2, &BACKWARDS) == (None, [1, 2], Err(Fault::WriteFault), 2),
-        3,
-    )?;
+    let found = settled(t3, ONE, 9, &BACKWARDS);
+    holds(found == (None, [2, 1], Ok(three(1, 8)), 3), 1)?;
+    let found = settled(t3, TWO, 9, &BACKWARDS);
+    holds(found == (None, [1, 2], Ok(three(0, 7)), 3), 2)?;
+    let found = settled(t3, TWO, 2, &BACKWARDS);
+    holds(found == (None, [1, 2], Err(Fault::WriteFault), 2), 3)?;
     let cut = Fault::TruncatedRecord { bytes: 1 };
-    holds(
-        settled(t3, TWO, 9, &BACKWARDS[..9]) == (None, [0, 2], Err(cut), 0),
-        4,
-    )?;
+    let found = settled(t3, TWO, 9, &BACKWARDS[..9]);
+    holds(found == (None, [0, 2], Err(cut), 0), 4)?;
     Ok(())
 }
 
@@ -96,11 +88,8 @@ fn an_event_that_too_many_overtook_is_refused(_rt: HostRuntime) -> Result<(), Fa
         time: 7,
         before: 9,
     };
-    holds(
-        settled(RecordType::HydraHarp2T3, strict, 9, &BACKWARDS)
-            == (Some(late), [1, 1], Err(late), 1),
-        1,
-    )?;
+    let found = settled(RecordType::HydraHarp2T3, strict, 9, &BACKWARDS);
+    holds(found == (Some(late), [1, 1], Err(late), 1), 1)?;
     Ok(())
 }
 
@@ -117,10 +106,8 @@ fn markers_of_t2_are_counted_and_not_given(_rt: HostRuntime) -> Result<(), Fail>
         first: Some(7),
         last: Some(7),
     };
-    holds(
-        settled(RecordType::HydraHarp2T2, ONE, 9, &words) == (None, [0, 1], Ok(summary), 1),
-        1,
-    )?;
+    let found = settled(RecordType::HydraHarp2T2, ONE, 9, &words);
+    holds(found == (None, [0, 1], Ok(summary), 1), 1)?;
     Ok(())
 }
 
@@ -198,14 +185,10 @@ fn digest_behind(last: u64) -> u64 {
 fn blocks_are_settled_in_order(_rt: HostRuntime) -> Result<(), Fail> {
     let digest = digest_behind(64);
     for size in [520, 300, 100, 5] {
-        holds(
-            digested(T3, 4, &photons(65), size) == (126, Ok(0), digest),
-            1,
-        )?;
-        holds(
-            digested(T3, 64, &photons(65), size) == (66, Ok(0), digest),
-            2,
-        )?;
+        let found = digested(T3, 4, &photons(65), size);
+        holds(found == (126, Ok(0), digest), 1)?;
+        let found = digested(T3, 64, &photons(65), size);
+        holds(found == (66, Ok(0), digest), 2)?;
     }
     Ok(())
 }
@@ -213,18 +196,12 @@ fn blocks_are_settled_in_order(_rt: HostRuntime) -> Result<(), Fail> {
 #[test]
 fn an_event_is_put_into_the_block_before(_rt: HostRuntime) -> Result<(), Fail> {
     for size in [520, 300, 100, 5] {
-        holds(
-            digested(T3, 4, &photons(61), size) == (126, Ok(0), digest_behind(61)),
-            1,
-        )?;
-        holds(
-            digested(T3, 64, &photons(61), size) == (66, Ok(0), digest_behind(61)),
-            2,
-        )?;
-        holds(
-            digested(T3, 2, &photons(61), size) == (128, Ok(1), digest_behind(62)),
-            3,
-        )?;
+        let found = digested(T3, 4, &photons(61), size);
+        holds(found == (126, Ok(0), digest_behind(61)), 1)?;
+        let found = digested(T3, 64, &photons(61), size);
+        holds(found == (66, Ok(0), digest_behind(61)), 2)?;
+        let found = digested(T3, 2, &photons(61), size);
+        holds(found == (128, Ok(1), digest_behind(62)), 3)?;
     }
     Ok(())
 }

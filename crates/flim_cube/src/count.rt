@@ -38,8 +38,7 @@ impl Pixels for Bins {
 
     ghost total = { λ counts. sum (counts_of counts.cells) + (counts.outside + counts.over) };
 
-    ghost over = { λ bins counts. Counted (cube_view bins.set) (counts_of counts.cells)
-        counts.outside counts.over };
+    ghost over = { λ bins counts. Counted (cube_view bins.set) (counts_of counts.cells) counts.outside counts.over };
 
     #[inline(always)]
     fn image(&self) -> &ImageSet {

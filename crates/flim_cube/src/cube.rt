@@ -28,8 +28,7 @@ pub struct FlimCube {
     taken: u64,
     floor: u64,
     closed: bool,
-    ghost sized: { length (counts_of counts.cells)
-        ≡ bins.set.image.width * bins.set.image.height * bins.set.dbins },
+    ghost sized: { length (counts_of counts.cells) ≡ bins.set.image.width * bins.set.image.height * bins.set.dbins },
     ghost small: { sum (counts_of counts.cells) + (counts.outside + counts.over) ≤ taken },
     ghost of_set: { image_of lines ≡ image_view bins.set.image },
     ghost few_markers: { markers_given lines ≤ taken },
@@ -43,8 +42,7 @@ impl FlimCube {
     /// this an eighth is in use at first: one byte for each count.
     pub fn open(alloc: Global, set: CubeSet) -> Result<FlimCube, AllocError>
         ensures set { IfOk result (λ t. set_of t ≡ set) }
-        ensures settings { IfOk result (λ t.
-            ⟦<FlimCube as Tally>⟧.settings t ≡ CubeSettings (cube_view set)) }
+        ensures settings { IfOk result (λ t. ⟦<FlimCube as Tally>⟧.settings t ≡ CubeSettings (cube_view set)) }
         ensures empty { IfOk result (λ t. Holds t []) }
         ensures opened { IfOk result (λ t. ⟦<FlimCube as Tally>⟧.closed t ≡ false) }
         ensures narrow { IfOk result (λ t. ⟦<FlimCube as Tally>⟧.held t
@@ -78,24 +76,21 @@ impl FlimCube {
         requires column { x < (set_of self.now).image.width }
         requires row { y < (set_of self.now).image.height }
         requires bin { b < (set_of self.now).dbins }
-        ensures { (h : History) → Holds self.now h
-            → result ≡ in_cell (cube_view (set_of self.now)) x y b h }
+        ensures { (h : History) → Holds self.now h → result ≡ in_cell (cube_view (set_of self.now)) x y b h }
     {
         self.counts.cells.get(cell_of(&self.bins.set, x, y, b))
     }
 
     /// How many photons of the group came outside the image.
     pub fn outside(&self) -> u64
-        ensures { (h : History) → Holds self.now h
-            → result ≡ count_outside (image_view (set_of self.now).image) h }
+        ensures { (h : History) → Holds self.now h → result ≡ count_outside (image_view (set_of self.now).image) h }
     {
         self.counts.outside
     }
 
     /// How many photons of the group came in the image with a dtime at or past the end of the last bin.
     pub fn over(&self) -> u64
-        ensures { (h : History) → Holds self.now h
-            → result ≡ count_over (cube_view (set_of self.now)) h }
+        ensures { (h : History) → Holds self.now h → result ≡ count_over (cube_view (set_of self.now)) h }
     {
         self.counts.over
     }

@@ -6,6 +6,5 @@ ghost use Rattle.flim_cube.specs.CubeCounts.{count_over, in_whole_cube};
 
 /// A photon in a pixel of the image is in one of the bins of that pixel in the cube, or past the last.
 pub fn a_cube_parts_the_image()
-    ensures { (set : CubeView) (h : History)
-        → in_whole_cube set h + count_over set h ≡ in_all_cells set.image h }
+    ensures { (set : CubeView) (h : History) → in_whole_cube set h + count_over set h ≡ in_all_cells set.image h }
 {}

@@ -28,6 +28,7 @@ pub(crate) struct Cells {
 
 /// The byte at a place.
 #[inline(always)]
+#[tactic(auto, unfolding(crate::specs::Bytes::byte_in))]
 fn byte(bytes: &[[u8; 8]], place: usize) -> u8
     requires inside { place < 8 * length bytes.now }
     ensures { result ≡ byte_in bytes.now place }
@@ -37,11 +38,11 @@ fn byte(bytes: &[[u8; 8]], place: usize) -> u8
 
 /// Puts a byte at a place.
 #[inline(always)]
+#[tactic(auto, using(crate::proofs::Bytes::put_own, crate::proofs::Bytes::put_other))]
 fn put_byte(bytes: &mut [[u8; 8]], place: usize, byte: u8)
     requires inside { place < 8 * length bytes.old }
     ensures own { byte_in bytes.new place ≡ byte }
-    ensures others { (other : ℕ) → other ≢ place
-        → byte_in bytes.new other ≡ byte_in bytes.old other }
+    ensures others { (other : ℕ) → other ≢ place → byte_in bytes.new other ≡ byte_in bytes.old other }
 {
     bytes[place / 8][place % 8] = byte;
 }
@@ -53,10 +54,8 @@ fn put_bytes(bytes: &mut [[u8; 8]], size: usize, wide: usize, at: usize, parts: 
     requires there { wide * size ≤ 8 * length bytes.old }
     requires inside { at < size }
     ensures own { (i : ℕ) → i < wide → byte_in bytes.new (i * size + at) ≡ slice_index parts i }
-    ensures others { (place : ℕ) → place % size ≢ at
-        → byte_in bytes.new place ≡ byte_in bytes.old place }
-    ensures behind { (place : ℕ) → wide * size ≤ place
-        → byte_in bytes.new place ≡ byte_in bytes.old place }
+    ensures others { (place : ℕ) → place % size ≢ at → byte_in bytes.new place ≡ byte_in bytes.old place }
+    ensures behind { (place : ℕ) → wide * size ≤ place → byte_in bytes.new place ≡ byte_in bytes.old place }
 {
     for i in 0..wide {
         put_byte(bytes, i * size + at, parts[i]);
@@ -150,8 +149,7 @@ impl Cells {
     pub(crate) fn add(&mut self, at: usize, more: u64)
         requires inside { at < length (counts_of self.old) }
         requires fits { slice_index (counts_of self.old) at + more < 2 ^ 64 }
-        ensures { counts_of self.new
-            ≡ slice_set (counts_of self.old) at (slice_index (counts_of self.old) at + more) }
+        ensures { counts_of self.new ≡ slice_set (counts_of self.old) at (slice_index (counts_of self.old) at + more) }
     {
         let low = u64::from(byte(&self.bytes, at)) + more;
         if low < 256 {
@@ -167,8 +165,7 @@ impl Cells {
     fn raise(&mut self, at: usize, more: u64)
         requires inside { at < length (counts_of self.old) }
         requires fits { slice_index (counts_of self.old) at + more < 2 ^ 64 }
-        ensures { counts_of self.new
-            ≡ slice_set (counts_of self.old) at (slice_index (counts_of self.old) at + more) }
+        ensures { counts_of self.new ≡ slice_set (counts_of self.old) at (slice_index (counts_of self.old) at + more) }
     {
         let parts = (self.whole(at) + more).to_le_bytes();
         self.widen(width_of(parts));

@@ -2,13 +2,10 @@
 use Rattle.std.{proofs.Common.{◌≡◌, ℕ, List, [], ◌∷◌, ◌++◌, Bool, refl, sym, ap, ◌∙◌, map, if◌then◌else◌, ◌-◌, ◌==◌, arith, rules, ◌+◌, ◌<◌, zero, suc, length, get_or, set, ◌⊎◌, ◌≢◌, ◌≤◌}, proofs.lemmas.List.{map-append, get_or-set_same}, proofs.lemmas.List.Elements.filter-append, proofs.Math.Seq.take-nil, proofs.lemmas.Grind.common_steps}
 use Rattle.tally_base.{specs.declared.event.Event.Event, specs.declared.header.Mode.Mode, specs.Settings.GroupView, specs.Columns.rows, specs.declared.event.EventKind.EventKind, specs.Events.is_photon_kind, specs.Tally.{moves_floor, floor_after, InOrder}}
 use Rattle.ptu_definitions.{specs.Kept.{Marked, kept, marked}, specs.Settled.{not_marked, delivered, delivered_last, in_time, not_overtaken, ordered}, specs.Times.events, specs.Streams.{StreamSettings, last_in}, proofs.DeliveredLaws.{delivered-settled, delivered-kept}}
-use Rattle.gate_plan.{specs.Shifting.{Sorting, shifted, shifted_kind}, specs.Taking.{groups_in, groups_by}, specs.Histories.{with_groups, history, settled_history, grouped}}
+use Rattle.gate_plan.{specs.Shifting.{Sorting, shifted, shifted_kind}, specs.Taking.groups_by, specs.Histories.{with_groups, history, settled_history, grouped}}
 
 pub with_groups-more : (by : Sorting) (es more : List Event) → with_groups by (es ++ more) ≡ with_groups by es ++ with_groups by more
 with_groups-more by es more = search (rules, arith, map-append)
-
-pub with_groups-push : (by : Sorting) (es : List Event) (e : Event) → with_groups by (es ++ e ∷ []) ≡ with_groups by es ++ (shifted by e, groups_in by e) ∷ []
-with_groups-push by es e = with_groups-more by es (e ∷ [])
 
 kept-none : (none_settled : Bool) (k : ℕ) (mode : Mode) → (if none_settled then kept mode [] else in_time k (ordered mode [])) ≡ []
 unfolding kept marked in_time not_overtaken
@@ -29,8 +26,7 @@ history-ends by how words =
     let k = how.policy.settle in
     let es = events (map how.meaning words) in
     let last = delivered_last k how.mode es in
-    ap (with_groups by) (sym (delivered-kept k how.mode es))
-    ∙ with_groups-append by (delivered k how.mode es) last
+    ap (with_groups by) (sym (delivered-kept k how.mode es)) ∙ with_groups-append by (delivered k how.mode es) last
     ∙ ap (λ l. with_groups by l ++ with_groups by (not_marked last)) (delivered-settled k how.mode es)
 
 -- Rows that are sorted.

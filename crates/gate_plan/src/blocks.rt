@@ -43,8 +43,7 @@ fn shift_each(gates: &Gates, block: &mut Block<TABLE_BLOCK>)
 /// The shifted dtime of an event in a block.
 #[inline(always)]
 fn dtime_behind(gates: &Gates, code: u16, dtime: u16) -> u16
-    ensures { (e : Event) → e.kind ≡ kind_of code dtime
-        → kind_of code result ≡ (shifted (sorting_of gates.now) e).kind }
+    ensures { (e : Event) → e.kind ≡ kind_of code dtime → kind_of code result ≡ (shifted (sorting_of gates.now) e).kind }
 {
     if code < 256 {
         gates.shifted_dtime(code as u8, dtime)
@@ -58,8 +57,7 @@ fn dtime_behind(gates: &Gates, code: u16, dtime: u16) -> u16
 fn sort(gates: &Gates, block: &mut Block<TABLE_BLOCK>)
     requires { sorted block.old ≡ 0 }
     ensures same { gathered block.new ≡ gathered block.old }
-    ensures sorted { events_in block.new
-        ≡ grouped (sorting_of gates.now).groups (gathered block.old) }
+    ensures sorted { events_in block.new ≡ grouped (sorting_of gates.now).groups (gathered block.old) }
     ensures ready { IsSorted block.new }
 {
     match gates.only_gate() {
@@ -76,8 +74,7 @@ fn sort_by_input(gates: &Gates, block: &mut Block<TABLE_BLOCK>)
     requires unsorted { sorted block.old ≡ 0 }
     requires none { (input dtime : ℕ) → gated_bits (sorting_of gates.now).groups input dtime ≡ 0 }
     ensures same { gathered block.new ≡ gathered block.old }
-    ensures sorted { events_in block.new
-        ≡ grouped (sorting_of gates.now).groups (gathered block.old) }
+    ensures sorted { events_in block.new ≡ grouped (sorting_of gates.now).groups (gathered block.old) }
     ensures ready { IsSorted block.new }
 {
     block.sort_by(gates.by_input());
@@ -89,8 +86,7 @@ fn sort_by_input(gates: &Gates, block: &mut Block<TABLE_BLOCK>)
 fn sort_each(gates: &Gates, block: &mut Block<TABLE_BLOCK>)
     requires { sorted block.old ≡ 0 }
     ensures same { gathered block.new ≡ gathered block.old }
-    ensures sorted { events_in block.new
-        ≡ grouped (sorting_of gates.now).groups (gathered block.old) }
+    ensures sorted { events_in block.new ≡ grouped (sorting_of gates.now).groups (gathered block.old) }
     ensures ready { IsSorted block.new }
 {
     let mut groups = [0; TABLE_BLOCK];
@@ -102,10 +98,10 @@ fn sort_each(gates: &Gates, block: &mut Block<TABLE_BLOCK>)
 
 /// The groups of an event in a block.
 #[inline(always)]
+#[tactic(auto, using(crate::proofs::Parts::of_photon, crate::proofs::Parts::of_marker))]
 fn groups_at(gates: &Gates, code: u16, dtime: u16) -> u64
     ensures marker { 256 ≤ code → result ≡ 0 }
-    ensures value { (e : Event) → e.kind ≡ kind_of code dtime
-        → result ≡ groups_by (sorting_of gates.now).groups e }
+    ensures value { (e : Event) → e.kind ≡ kind_of code dtime → result ≡ groups_by (sorting_of gates.now).groups e }
 {
     if code < 256 {
         gates.of_photon(code as u8, dtime)

@@ -32,8 +32,7 @@ pub struct Gates {
     ghost few: { length groups.items ≤ 64 },
     ghost shifts_are: { (input : ℕ) → input < 256
         → slice_index_or shift_by_input input None ≡ shift_of (map shift_view shifts.items) input },
-    ghost plain_is: { (input : ℕ) → input < 256
-        → slice_index plain input ≡ plain_bits (map group_view groups.items) input },
+    ghost plain_is: { (input : ℕ) → input < 256 → slice_index plain input ≡ plain_bits (map group_view groups.items) input },
     ghost markers: { slice_index plain 256 ≡ 0 },
     ghost gated_is: { (input dtime : ℕ) → gated_sum gated.items input dtime
         ≡ gated_bits (map group_view groups.items) input dtime },
@@ -103,9 +102,9 @@ impl Gates {
 
     /// The groups that a photon is in, by its shifted dtime. One gate takes no loop.
     #[inline(always)]
+    #[tactic(auto, using(crate::proofs::Parts::parted_fits, crate::proofs::Parts::gated_fits, crate::proofs::Parts::few_groups))]
     pub fn of_photon(&self, input: u8, dtime: u16) -> u64
-        ensures { result ≡ plain_bits (sorting_of self.now).groups input
-            + gated_bits (sorting_of self.now).groups input dtime }
+        ensures { result ≡ plain_bits (sorting_of self.now).groups input + gated_bits (sorting_of self.now).groups input dtime }
     {
         match &self.only {
             Some(only) => only.of_photon(input, dtime),
@@ -122,9 +121,9 @@ impl Gates {
     }
 
     /// Whether a group has a gate.
+    #[tactic(auto, using(crate::proofs::Parts::some_gates))]
     pub fn has_gates(&self) -> bool
-        ensures none { result ≡ false → (input dtime : ℕ)
-            → gated_bits (sorting_of self.now).groups input dtime ≡ 0 }
+        ensures none { result ≡ false → (input dtime : ℕ) → gated_bits (sorting_of self.now).groups input dtime ≡ 0 }
         ensures some { result ≡ nat_lt 0 (length (all_gates (sorting_of self.now).groups)) }
     {
         !self.gated.is_empty()

@@ -7,8 +7,7 @@ use tally_base::ShiftSet;
 
 /// For each input its shift, if it has one.
 pub(crate) fn shift_table(shifts: &[ShiftSet]) -> [Option<u16>; 256]
-    ensures { (input : ℕ) → input < 256
-        → slice_index_or result input None ≡ shift_of (map shift_view shifts.now) input }
+    ensures { (input : ℕ) → input < 256 → slice_index_or result input None ≡ shift_of (map shift_view shifts.now) input }
 {
     let mut table = [None; 256];
     for input in 0..256u16 {

@@ -10,10 +10,10 @@ use arrayvec::ArrayVec;
 use tally_base::Group;
 
 /// For each input the number of those of its groups that have no gate, and behind them 0, for markers.
+#[tactic(auto, using(crate::proofs::Parts::filled_more))]
 pub(crate) fn plain_table(groups: &[Group]) -> [u64; 257]
     requires few { length groups.now ≤ 64 }
-    ensures inputs { (input : ℕ) → input < 256
-        → slice_index result input ≡ plain_bits (map group_view groups.now) input }
+    ensures inputs { (input : ℕ) → input < 256 → slice_index result input ≡ plain_bits (map group_view groups.now) input }
     ensures markers { slice_index result 256 ≡ 0 }
 {
     let mut table = [0; 257];
@@ -48,8 +48,7 @@ fn is_plain(group: &Group, input: u8) -> bool
 /// The groups that have gates.
 pub(crate) fn gated_of(groups: &[Group]) -> ArrayVec<Gated, 64>
     requires few { length groups.now ≤ 64 }
-    ensures bits { (input dtime : ℕ) → gated_sum result.items input dtime
-        ≡ gated_bits (map group_view groups.now) input dtime }
+    ensures bits { (input dtime : ℕ) → gated_sum result.items input dtime ≡ gated_bits (map group_view groups.now) input dtime }
     ensures gates { gates_in result.items ≡ all_gates (map group_view groups.now) }
 {
     let mut gated: ArrayVec<Gated, 64> = ArrayVec::new();
@@ -96,9 +95,9 @@ pub(crate) fn only_gate(gated: &[Gated], plain: &[u64; 257]) -> Option<OnlyGate>
 
 /// For each input the number of its groups where the dtime isn't in a gate of this group, and where it is, and these
 /// are the groups that have none. Behind them 0, for markers.
+#[tactic(auto, using(crate::proofs::Parts::filled_more))]
 fn sides_table(group: &Gated, plain: &[u64; 257]) -> [[u64; 2]; 257]
-    ensures inputs { (input : ℕ) → input < 256
-        → slice_index_or result input [] ≡ on_sides plain.now group.now input }
+    ensures inputs { (input : ℕ) → input < 256 → slice_index_or result input [] ≡ on_sides plain.now group.now input }
     ensures markers { slice_index_or result 256 [] ≡ 0 ∷ 0 ∷ [] }
 {
     let mut table = [[0; 2]; 257];

@@ -106,8 +106,7 @@ grows-cut n m tag rest b size known positive cut =
     ap (λ k. take k (rest ++ b)) counts ∙ take-append-add rest b (body_size tag - length rest) in
     let before : items_text (seen_from (suc n) (tag ++ rest)) ≡ item_text (item_of tag rest) =
     ap items_text (seen_from-good n tag rest size known positive) ∙ ap (λ l. item_text (item_of tag l) ++ items_text (seen_behind n tag rest)) part
-    ∙ ap (λ l. item_text (item_of tag rest) ++ items_text l) none
-    ∙ append-nil (item_text (item_of tag rest)) in
+    ∙ ap (λ l. item_text (item_of tag rest) ++ items_text l) none ∙ append-nil (item_text (item_of tag rest)) in
     let after : items_text (seen_from (suc m) (tag ++ (rest ++ b))) ≡ item_text (item_of tag (rest ++ extra)) ++ items_text (seen_behind m tag (rest ++ b)) =
     ap items_text (seen_from-good m tag (rest ++ b) size known positive)
     ∙ ap (λ l. item_text (item_of tag l) ++ items_text (seen_behind m tag (rest ++ b))) longer in
@@ -118,8 +117,7 @@ Hypothesis n m = (a b : List ℕ) → length a ≤ n → length (a ++ b) ≤ m �
 
 -- a tag whose body is whole
 grows-whole : (n m : ℕ) (tag rest b : List ℕ) → Hypothesis n m → length tag ≡ 48
-    → is_known (code_in tag) ≡ true → is_negative tag ≡ false → body_size tag ≤ length rest
-    → length (tag ++ rest) ≤ suc n → length (tag ++ (rest ++ b)) ≤ suc m
+    → is_known (code_in tag) ≡ true → is_negative tag ≡ false → body_size tag ≤ length rest → length (tag ++ rest) ≤ suc n → length (tag ++ (rest ++ b)) ≤ suc m
     → Grown (items_text (seen_from (suc n) (tag ++ rest))) (items_text (seen_from (suc m) (tag ++ (rest ++ b))))
 grows-whole n m tag rest b before size known positive whole fits fits_more =
     let body = take (body_size tag) rest in

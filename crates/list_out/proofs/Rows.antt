@@ -82,99 +82,66 @@ pub one-before : (f : ℕ → Event) (n : ℕ) (e : Event) (behind now all : Lis
     → now ≡ event_text e false ++ behind → lines (rows f n) ++ behind ≡ all → lines (rows f (n - 1)) ++ now ≡ all
 one-before f n e behind now all some is written whole = search (rules, arith, lines, append_assoc, rows-last, lines-push)
 
-pub known_lines :
+-- headers, and what is printed of them
+abbrev headers : List (List ℕ × List ℕ)
+headers =
     -- the header of a file with two tags
-    (header_text short_header ≡ start_text ++ type_text ++ end_text)
+    (short_header, start_text ++ type_text ++ end_text)
     -- The second tag is cut, and it prints as nothing.
-    × (header_text (take 100 short_header) ≡ start_text ++ type_text)
+    ∷ (take 100 short_header, start_text ++ type_text)
     -- The first tag is cut.
-    × (header_text (take 63 short_header) ≡ start_text)
+    ∷ (take 63 short_header, start_text)
     -- The preamble is cut.
-    × (header_text (take 15 short_header) ≡ [])
+    ∷ (take 15 short_header, [])
     -- no file of the format
-    × (header_text (codes "PQTTTS" ++ replicate 10 0) ≡ [])
+    ∷ (codes "PQTTTS" ++ replicate 10 0, [])
     -- The last two bytes of the magic are printed as they are.
-    × (header_text ((codes "PQTTTR" ++ 1 ∷ 255 ∷ []) ++ replicate 8 171) ≡ codes "magic 50515454545201FF\nversion ABABABABABABABAB\n")
+    ∷ ((codes "PQTTTR" ++ 1 ∷ 255 ∷ []) ++ replicate 8 171, codes "magic 50515454545201FF\nversion ABABABABABABABAB\n")
     -- Behind the end of the header nothing is printed.
-    × (header_text (short_header ++ type_tag) ≡ start_text ++ type_text ++ end_text)
+    ∷ (short_header ++ type_tag, start_text ++ type_text ++ end_text)
     -- A space and a backslash in a name are printed as digits.
-    × (header_text (start_bytes ++ tag (codes "A B\\") 2 0x11000008 0xFF ++ type_tag ++ end_tag)
-    ≡ start_text ++ codes "tag A\\x20B\\x5C 2 tyBitSet64 00000000000000FF\n" ++ type_text ++ end_text)
+    ∷ (start_bytes ++ tag (codes "A B\\") 2 0x11000008 0xFF ++ type_tag ++ end_tag, start_text ++ codes "tag A\\x20B\\x5C 2 tyBitSet64 00000000000000FF\n" ++ type_text ++ end_text)
     -- A name ends before its first NUL, and an empty one prints as nothing.
-    × (header_text (start_bytes ++ alone (codes "!~" ++ 127 ∷ 31 ∷ 255 ∷ 0 ∷ codes "B") 0xFFFF0008 0 ++ alone [] 0xFFFF0008 0)
-    ≡ start_text ++ codes "tag !~\\x7F\\x1F\\xFF -1 tyEmpty8 -\ntag  -1 tyEmpty8 -\n")
+    ∷ (start_bytes ++ alone (codes "!~" ++ 127 ∷ 31 ∷ 255 ∷ 0 ∷ codes "B") 0xFFFF0008 0 ++ alone [] 0xFFFF0008 0, start_text ++ codes "tag !~\\x7F\\x1F\\xFF -1 tyEmpty8 -\ntag  -1 tyEmpty8 -\n")
     -- a name of 32 bytes with no NUL
-    × (header_text (start_bytes ++ alone (replicate 32 65) 0xFFFF0008 0) ≡ start_text ++ codes "tag AAAAAAAAAAAAAAAAAAAAAAAAAAAAAAAA -1 tyEmpty8 -\n")
+    ∷ (start_bytes ++ alone (replicate 32 65) 0xFFFF0008 0, start_text ++ codes "tag AAAAAAAAAAAAAAAAAAAAAAAAAAAAAAAA -1 tyEmpty8 -\n")
     -- A body is cut, and its line has no newline.
-    × (header_text (start_bytes ++ alone (codes "B") 0xFFFFFFFF 3 ++ 1 ∷ 2 ∷ []) ≡ start_text ++ codes "tag B -1 tyBinaryBlob 3 0102")
+    ∷ (start_bytes ++ alone (codes "B") 0xFFFFFFFF 3 ++ 1 ∷ 2 ∷ [], start_text ++ codes "tag B -1 tyBinaryBlob 3 0102")
     -- The body is whole.
-    × (header_text (start_bytes ++ alone (codes "B") 0xFFFFFFFF 3 ++ 1 ∷ 2 ∷ 255 ∷ []) ≡ start_text ++ codes "tag B -1 tyBinaryBlob 3 0102FF\n")
+    ∷ (start_bytes ++ alone (codes "B") 0xFFFFFFFF 3 ++ 1 ∷ 2 ∷ 255 ∷ [], start_text ++ codes "tag B -1 tyBinaryBlob 3 0102FF\n")
     -- A body as text ends before its first NUL.
-    × (header_text (start_bytes ++ (alone (codes "S") 0x4001FFFF 5 ++ codes "a " ++ 0 ∷ codes "bc") ++ end_tag)
-    ≡ start_text ++ codes "tag S -1 tyAnsiString 5 a \n" ++ end_text)
+    ∷ (start_bytes ++ (alone (codes "S") 0x4001FFFF 5 ++ codes "a " ++ 0 ∷ codes "bc") ++ end_tag, start_text ++ codes "tag S -1 tyAnsiString 5 a \n" ++ end_text)
     -- The newline comes after the last byte of the body, printed or not.
-    × (header_text (start_bytes ++ alone (codes "S") 0x4001FFFF 5 ++ codes "a" ++ 0 ∷ codes "bc") ≡ start_text ++ codes "tag S -1 tyAnsiString 5 a")
-    × (header_text (start_bytes ++ alone (codes "S") 0x4001FFFF 6 ++ codes " \\~" ++ 127 ∷ 31 ∷ 255 ∷ [])
-    ≡ start_text ++ codes "tag S -1 tyAnsiString 6  \\x5C~\\x7F\\x1F\\xFF\n")
+    ∷ (start_bytes ++ alone (codes "S") 0x4001FFFF 5 ++ codes "a" ++ 0 ∷ codes "bc", start_text ++ codes "tag S -1 tyAnsiString 5 a")
+    ∷ (start_bytes ++ alone (codes "S") 0x4001FFFF 6 ++ codes " \\~" ++ 127 ∷ 31 ∷ 255 ∷ [], start_text ++ codes "tag S -1 tyAnsiString 6  \\x5C~\\x7F\\x1F\\xFF\n")
     -- A body of length 0 prints as nothing after the space.
-    × (header_text (start_bytes ++ alone (codes "S") 0x4001FFFF 0 ++ end_tag) ≡ start_text ++ codes "tag S -1 tyAnsiString 0 \n" ++ end_text)
+    ∷ (start_bytes ++ alone (codes "S") 0x4001FFFF 0 ++ end_tag, start_text ++ codes "tag S -1 tyAnsiString 0 \n" ++ end_text)
     -- A wide string is printed as bytes.
-    × (header_text (start_bytes ++ (alone (codes "W") 0x4002FFFF 4 ++ 65 ∷ 0 ∷ 0 ∷ 0 ∷ []) ++ end_tag)
-    ≡ start_text ++ codes "tag W -1 tyWideString 4 41000000\n" ++ end_text)
+    ∷ (start_bytes ++ (alone (codes "W") 0x4002FFFF 4 ++ 65 ∷ 0 ∷ 0 ∷ 0 ∷ []) ++ end_tag, start_text ++ codes "tag W -1 tyWideString 4 41000000\n" ++ end_text)
     -- The bytes of a body are in the order of the file.
-    × (header_text (start_bytes ++ (alone (codes "F") 0x2001FFFF 8 ++ number 8 0x3FF0000000000000) ++ end_tag)
-    ≡ start_text ++ codes "tag F -1 tyFloat8Array 8 000000000000F03F\n" ++ end_text)
+    ∷ (start_bytes ++ (alone (codes "F") 0x2001FFFF 8 ++ number 8 0x3FF0000000000000) ++ end_tag, start_text ++ codes "tag F -1 tyFloat8Array 8 000000000000F03F\n" ++ end_text)
     -- A truth value is true where a bit of it is set.
-    × (header_text (start_bytes ++ tag (codes "T") 0 8 0 ++ tag (codes "T") 1 8 2 ++ tag (codes "T") 0x7FFFFFFF 8 0x8000000000000000)
-    ≡ start_text ++ codes "tag T 0 tyBool8 false\ntag T 1 tyBool8 true\ntag T 2147483647 tyBool8 true\n")
+    ∷ (start_bytes ++ tag (codes "T") 0 8 0 ++ tag (codes "T") 1 8 2 ++ tag (codes "T") 0x7FFFFFFF 8 0x8000000000000000, start_text ++ codes "tag T 0 tyBool8 false\ntag T 1 tyBool8 true\ntag T 2147483647 tyBool8 true\n")
     -- An index and a number have a sign.
-    × (header_text (start_bytes ++ tag (codes "N") 0x80000000 0x10000008 0x8000000000000000 ++ tag (codes "N") 0xFFFFFFFE 0x10000008 0)
-    ≡ start_text ++ codes "tag N -2147483648 tyInt8 -9223372036854775808\ntag N -2 tyInt8 0\n")
-    × (header_text (start_bytes ++ alone (codes "C") 0x12000008 0xABC ++ alone (codes "D") 0x20000008 0x3E6AD7F29ABCAF48 ++ alone (codes "E") 0x21000008 1)
-    ≡ start_text ++ codes "tag C -1 tyColor8 0000000000000ABC\ntag D -1 tyFloat8 3E6AD7F29ABCAF48\ntag E -1 tyTDateTime 0000000000000001\n")
+    ∷ (start_bytes ++ tag (codes "N") 0x80000000 0x10000008 0x8000000000000000 ++ tag (codes "N") 0xFFFFFFFE 0x10000008 0, start_text ++ codes "tag N -2147483648 tyInt8 -9223372036854775808\ntag N -2 tyInt8 0\n")
+    ∷ (start_bytes ++ alone (codes "C") 0x12000008 0xABC ++ alone (codes "D") 0x20000008 0x3E6AD7F29ABCAF48 ++ alone (codes "E") 0x21000008 1, start_text ++ codes "tag C -1 tyColor8 0000000000000ABC\ntag D -1 tyFloat8 3E6AD7F29ABCAF48\ntag E -1 tyTDateTime 0000000000000001\n")
     -- A tag that is refused prints as nothing, and what is behind it neither.
-    × (header_text (start_bytes ++ type_tag ++ alone (codes "X") 0x30000008 0 ++ end_tag) ≡ start_text ++ type_text)
-    × (header_text (start_bytes ++ type_tag ++ alone (codes "X") 0x4001FFFF 0xFFFFFFFFFFFFFFFF) ≡ start_text ++ type_text)
+    ∷ (start_bytes ++ type_tag ++ alone (codes "X") 0x30000008 0 ++ end_tag, start_text ++ type_text)
+    ∷ (start_bytes ++ type_tag ++ alone (codes "X") 0x4001FFFF 0xFFFFFFFFFFFFFFFF, start_text ++ type_text)
     -- The end of a header may have a body.
-    × (header_text (start_bytes ++ (alone (codes "Header_End") 0x4001FFFF 2 ++ codes "ok") ++ 1 ∷ 0 ∷ 0 ∷ 0 ∷ [])
-    ≡ start_text ++ codes "tag Header_End -1 tyAnsiString 2 ok\n")
-    -- The lines of the events of a block, from the last one on.
-    -- The lines of events at known events.
-    × (event_text (record { place = 3; kind = Photon 0 0; time = 4101 }) false ≡ codes "3 photon 0 4101 0\n")
+    ∷ (start_bytes ++ (alone (codes "Header_End") 0x4001FFFF 2 ++ codes "ok") ++ 1 ∷ 0 ∷ 0 ∷ 0 ∷ [], start_text ++ codes "tag Header_End -1 tyAnsiString 2 ok\n")
+    ∷ []
+
+pub known_headers : map (λ (row : List ℕ × List ℕ). header_text row.0) headers ≡ map (λ (row : List ℕ × List ℕ). row.1) headers
+unfolding header_text shown_text preamble_text seen seen_from seen_preamble item_text head_text
+    body_text kind_with name_in index_in code_in value_in has_body is_known hexadecimal digits
+known_headers = refl
+
+pub known_lines :
+    (event_text (record { place = 3; kind = Photon 0 0; time = 4101 }) false ≡ codes "3 photon 0 4101 0\n")
     × (event_text (record { place = 1; kind = Marker 15; time = 4111 }) false ≡ codes "1 marker 15 4111\n")
     × (event_text (record { place = 3; kind = Photon 64 32767; time = 7 }) true ≡ codes "3 photon 64 7 32767 late\n")
     -- one line behind the other
-    × (events_text ((record { place = 1; kind = Photon 0 0; time = 9 }, false) ∷ (record { place = 2; kind = Marker 1; time = 7 }, true) ∷ []) ≡
-    codes "1 photon 0 9 0\n2 marker 1 7 late\n")
-unfolding header_text shown_text preamble_text seen seen_from seen_preamble item_text head_text
-    body_text kind_with name_in index_in code_in value_in has_body is_known hexadecimal digits event_text
-known_lines = (
-  refl,
-  refl,
-  refl,
-  refl,
-  refl,
-  refl,
-  refl,
-  refl,
-  refl,
-  refl,
-  refl,
-  refl,
-  refl,
-  refl,
-  refl,
-  refl,
-  refl,
-  refl,
-  refl,
-  refl,
-  refl,
-  refl,
-  refl,
-  refl,
-  refl,
-  refl,
-  refl,
-  refl,
-)
+    × (events_text ((record { place = 1; kind = Photon 0 0; time = 9 }, false) ∷ (record { place = 2; kind = Marker 1; time = 7 }, true) ∷ []) ≡ codes "1 photon 0 9 0\n2 marker 1 7 late\n")
+unfolding digits event_text
+known_lines = (refl, refl, refl, refl)

@@ -42,8 +42,7 @@ impl BodyText {
 
     /// What the next byte of the body adds to its text: at most 4 bytes.
     pub fn put(&mut self, byte: u8) -> ArrayVec<u8, 4>
-        ensures taken { (kind : TagKind) (body : List ℕ) → HasPut self.old kind body
-            → HasPut self.new kind (body ++ byte ∷ []) }
+        ensures taken { (kind : TagKind) (body : List ℕ) → HasPut self.old kind body → HasPut self.new kind (body ++ byte ∷ []) }
         ensures text { (kind : TagKind) (body : List ℕ) → HasPut self.old kind body
             → body_text kind (body ++ byte ∷ []) ≡ body_text kind body ++ result.items }
     {

@@ -97,8 +97,7 @@ pub fn format_event<'l>(event: &Event, late: bool, line: &'l mut [u8; LINE_SIZE]
 fn write_lines(text: &mut [u8; LINES_SIZE], block: &Block<TABLE_BLOCK>, from: usize) -> usize
     requires { from ≤ count block.now }
     ensures inside { result ≤ LINES_SIZE }
-    ensures written { drop result text.new
-        ≡ events_text (map (λ e. (e, false)) (take LINES (drop from (gathered block.now)))) }
+    ensures written { drop result text.new ≡ events_text (map (λ e. (e, false)) (take LINES (drop from (gathered block.now)))) }
 {
     let mut at = block.len().min(from + LINES);
     let mut start = LINES_SIZE;
@@ -117,8 +116,7 @@ pub fn format_block<'l>(
     text: &'l mut [u8; LINES_SIZE],
 ) -> &'l [u8]
     requires { from ≤ count block.now }
-    ensures { result.now
-        ≡ events_text (map (λ e. (e, false)) (take LINES (drop from (gathered block.now)))) }
+    ensures { result.now ≡ events_text (map (λ e. (e, false)) (take LINES (drop from (gathered block.now)))) }
 {
     let start = write_lines(text, block, from);
     &text[start..]

@@ -11,8 +11,7 @@ use tally_base::{put_hexadecimal, put_text};
 pub fn put_line<const N: usize>(into: &mut ArrayVec<u8, N>, word: &[u8], value: &[u8])
     requires { array_vec_len into.old + length word.now + length value.now + 2 ≤ N }
     ensures items { into.new.items ≡ into.old.items ++ line word.now value.now }
-    ensures len { array_vec_len into.new
-        ≡ array_vec_len into.old + length word.now + length value.now + 2 }
+    ensures len { array_vec_len into.new ≡ array_vec_len into.old + length word.now + length value.now + 2 }
 {
     put_text(into, word);
     put_text(into, b" ");

@@ -48,11 +48,9 @@ CountsOn-in set state x lines more is le at = by_group (of_group set x) refl
         rw (none, e) (CountsOn-none set state x lines (binned-not set x group))
 
 pub CountsOn-next : (set : TraceView) (state : BinState) (x : Event × ℕ) (lines lines' : List ℕ) (next : ℕ) (frequencies : List ℕ) (many : ℕ)
-    → is_binned set x ≡ true → bin_at set x.0.time ≡ next → state.bin < next
-    → ((c : ℕ) → c < frequency_limit
+    → is_binned set x ≡ true → bin_at set x.0.time ≡ next → state.bin < next → ((c : ℕ) → c < frequency_limit
     → slice_index frequencies c ≡ slice_index state.frequencies c + (if state.count == c then 1 else 0) + (if 0 == c then next - state.bin - 1 else 0))
-    → many ≡ state.many + (if nat_le frequency_limit state.count then 1 else 0)
-    → lines' ≡ lines ++ bin_line state.bin state.count
+    → many ≡ state.many + (if nat_le frequency_limit state.count then 1 else 0) → lines' ≡ lines ++ bin_line state.bin state.count
     → CountsOn set state (record { bin = next; count = 1; frequencies = frequencies; many = many }) (x ∷ []) lines lines'
 CountsOn-next set state x lines lines' next frequencies many e at later raised raised_many put = record {
   text = bin_line state.bin state.count;
@@ -69,9 +67,7 @@ CountsOn-trans set a b c m n lines lines' lines'' p q = record {
   put = q.put ∙ ap (λ l. l ++ q.text) p.put ∙ append_assoc lines p.text q.text;
   counted = λ h is. rw (← append_assoc h m n) (q.counted (h ++ m) (p.counted h is));
   closed = λ h is.
-      ap (closed_lines set) (sym (append_assoc h m n))
-      ∙ q.closed (h ++ m) (p.counted h is)
-      ∙ ap (λ l. l ++ q.text) (p.closed h is)
+      ap (closed_lines set) (sym (append_assoc h m n)) ∙ q.closed (h ++ m) (p.counted h is) ∙ ap (λ l. l ++ q.text) (p.closed h is)
       ∙ append_assoc (closed_lines set h) p.text q.text;
 }
 

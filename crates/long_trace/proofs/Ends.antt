@@ -28,8 +28,7 @@ module _ (set : TraceView) (state : BinState) (h : History) (is : CountsBins set
 
   lines-some : 0 < state.count → bin_lines set (span set h) h ≡ closed_lines set h ++ bin_line state.bin state.count
   lines-some some =
-      ap (λ n. bin_lines set n h) (span-some some)
-      ∙ lines-more (λ b. bin_line b (in_trace_bin set b h)) state.bin (state.bin + 1) refl
+      ap (λ n. bin_lines set n h) (span-some some) ∙ lines-more (λ b. bin_line b (in_trace_bin set b h)) state.bin (state.bin + 1) refl
       ∙ ap (λ n. bin_lines set state.bin h ++ bin_line state.bin n) (sym is.counted)
       ∙ ap (λ l. l ++ bin_line state.bin state.count) (sym (closed-is set state h is))
 

@@ -18,9 +18,7 @@ flat-of-map f (x ∷ xs) = ap (λ l. f x ++ l) (flat-of-map f xs)
 
 pub lines-more : {A : Type 0} (f : ℕ → List A) (n m : ℕ) → m ≡ n + 1 → flat_map f (range_with_len 0 m) ≡ flat_map f (range_with_len 0 n) ++ f n
 lines-more f n m e =
-    flat-of-map f (range_with_len 0 m)
-    ∙ ap (λ l. flat_map (λ k. k) l) (first-more f n m e)
-    ∙ sym (flat_map_more (λ k. k) [] (map f (range_with_len 0 n)) (f n))
+    flat-of-map f (range_with_len 0 m) ∙ ap (λ l. flat_map (λ k. k) l) (first-more f n m e) ∙ sym (flat_map_more (λ k. k) [] (map f (range_with_len 0 n)) (f n))
     ∙ ap (λ l. l ++ f n) (sym (flat-of-map f (range_with_len 0 n)))
 
 pub lines-same : {A : Type 0} (f g : ℕ → List A) (n : ℕ) → ((b : ℕ) → b < n → f b ≡ g b) → flat_map f (range_with_len 0 n) ≡ flat_map g (range_with_len 0 n)
@@ -60,7 +58,5 @@ pub lines-skip : {A : Type 0} (f : ℕ → List A) (at k m : ℕ) → ((b : ℕ)
     → flat_map f (range_with_len 0 m) ≡ flat_map f (range_with_len 0 at) ++ f at
 lines-skip f at zero m none e = lines-more f at m (omega (arith, e))
 lines-skip f at (suc k) m none e =
-    lines-more f (k + at + 1) m (omega (arith, e))
-    ∙ ap (λ l. flat_map f (range_with_len 0 (k + at + 1)) ++ l) (none (k + at + 1) (omega arith))
-    ∙ append-nil (flat_map f (range_with_len 0 (k + at + 1)))
-    ∙ lines-skip f at k (k + at + 1) none refl
+    lines-more f (k + at + 1) m (omega (arith, e)) ∙ ap (λ l. flat_map f (range_with_len 0 (k + at + 1)) ++ l) (none (k + at + 1) (omega arith))
+    ∙ append-nil (flat_map f (range_with_len 0 (k + at + 1))) ∙ lines-skip f at k (k + at + 1) none refl

@@ -48,9 +48,7 @@ one-binned set h x e below =
       within = omega (arith, now);
       tail = front.0;
       keeps =
-          ap (λ n. bin_lines set n (h ++ x ∷ [])) less
-          ∙ front.1
-          ∙ ap (λ l. l ++ front.0)
+          ap (λ n. bin_lines set n (h ++ x ∷ [])) less ∙ front.1 ∙ ap (λ l. l ++ front.0)
           (still set (span set h - 1) h (h ++ x ∷ []) (λ b lt. bin-other set b h x e (λ (q : bin_at set x.0.time ≡ b). omega (arith, lt, below, q))));
     }
 
@@ -62,8 +60,7 @@ one-unbinned set h x time e below =
       within = omega (arith, now, below);
       tail = [];
       keeps =
-          ap (λ n. bin_lines set (n - 1) (h ++ x ∷ [])) now
-          ∙ still set (span set h - 1) h (h ++ x ∷ []) (λ b lt. bin-none set b h x e)
+          ap (λ n. bin_lines set (n - 1) (h ++ x ∷ [])) now ∙ still set (span set h - 1) h (h ++ x ∷ []) (λ b lt. bin-none set b h x e)
           ∙ sym (append-nil (closed_lines set h));
     }
 
@@ -110,7 +107,6 @@ whole-front set h =
     let end = summary_text (counts set (span set h) h) (count_before set h) in
     let front = lines-front (λ b. bin_line b (in_trace_bin set b h)) (span set h - 1) (span set h - (span set h - 1)) (span set h) (omega arith) in (
       front.0 ++ end,
-      ap (λ l. first_line set ++ l ++ end) front.1
-          ∙ ap (λ l. l ++ end) (sym (append_assoc (first_line set) (closed_lines set h) front.0))
+      ap (λ l. first_line set ++ l ++ end) front.1 ∙ ap (λ l. l ++ end) (sym (append_assoc (first_line set) (closed_lines set h) front.0))
           ∙ append_assoc (first_line set ++ closed_lines set h) front.0 end,
     )

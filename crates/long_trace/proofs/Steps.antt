@@ -26,8 +26,7 @@ parted p g l t = search (rules, arith)
 pub bin-push : (set : TraceView) (b : ℕ) (h : History) (x : Event × ℕ) (is : Bool) → is_binned set x ≡ is
     → in_trace_bin set b (h ++ x ∷ []) ≡ in_trace_bin set b h + cond (is && (bin_at set x.0.time == b)) 1 0
 bin-push set b h x is e =
-    times-push set (λ time. nat_le set.origin time && ((time - set.origin) / set.width == b)) h x
-    ∙ ap (λ t. in_trace_bin set b h + cond t 1 0)
+    times-push set (λ time. nat_le set.origin time && ((time - set.origin) / set.width == b)) h x ∙ ap (λ t. in_trace_bin set b h + cond t 1 0)
     (parted (is_photon x.0) (is_in x.1 set.group) (nat_le set.origin x.0.time) (bin_at set x.0.time == b) ∙ ap (λ t. t && (bin_at set x.0.time == b)) e)
 
 pub bin-none : (set : TraceView) (b : ℕ) (h : History) (x : Event × ℕ) → is_binned set x ≡ false → in_trace_bin set b (h ++ x ∷ []) ≡ in_trace_bin set b h
@@ -85,10 +84,8 @@ none-follows set state h x e is =
 pub none-closes : (set : TraceView) (state : BinState) (h : History) (x : Event × ℕ) → is_binned set x ≡ false
     → CountsBins set state h → closed_lines set (h ++ x ∷ []) ≡ closed_lines set h ++ []
 none-closes set state h x e is =
-    closed-is set state (h ++ x ∷ []) (none-follows set state h x e is)
-    ∙ lines-still set state.bin h (h ++ x ∷ []) (λ b lt. bin-none set b h x e)
-    ∙ sym (closed-is set state h is)
-    ∙ sym (append-nil (closed_lines set h))
+    closed-is set state (h ++ x ∷ []) (none-follows set state h x e is) ∙ lines-still set state.bin h (h ++ x ∷ []) (λ b lt. bin-none set b h x e)
+    ∙ sym (closed-is set state h is) ∙ sym (append-nil (closed_lines set h))
 
 later_last : (count bin : ℕ) → max (if count == 0 then 0 else bin + 1) (bin + 1) ≡ (if count + 1 == 0 then 0 else bin + 1)
 later_last count bin = grind (arith, nat_tests)
@@ -114,8 +111,7 @@ pub same-closes : (set : TraceView) (state : BinState) (h : History) (x : Event 
 same-closes set state h x e at is =
     closed-is set (record state { count = state.count + 1 }) (h ++ x ∷ []) (same-follows set state h x e at is)
     ∙ lines-still set state.bin h (h ++ x ∷ []) (λ b lt. bin-other set b h x e (λ (q : bin_at set x.0.time ≡ b). omega (arith, lt, q, at)))
-    ∙ sym (closed-is set state h is)
-    ∙ sym (append-nil (closed_lines set h))
+    ∙ sym (closed-is set state h is) ∙ sym (append-nil (closed_lines set h))
 
 new_last : (count bin next : ℕ) → bin < next → max (if count == 0 then 0 else bin + 1) (next + 1) ≡ (if 1 == 0 then 0 else next + 1)
 new_last count bin next lt = grind (arith, nat_tests, lt)
@@ -137,8 +133,7 @@ module _ (set : TraceView) (state : BinState) (h : History) (x : Event × ℕ) (
       ∙ ap (λ n. count_by p (counts set state.bin h) + cond (p n) 1 0 + cond (p 0) (next - state.bin - 1) 0) (sym is.counted)
 
   -- a photon in a later bin
-  pub next-follows : (frequencies : List ℕ) (many : ℕ)
-      → ((c : ℕ) → c < frequency_limit
+  pub next-follows : (frequencies : List ℕ) (many : ℕ) → ((c : ℕ) → c < frequency_limit
       → slice_index frequencies c ≡ slice_index state.frequencies c + (if state.count == c then 1 else 0) + (if 0 == c then next - state.bin - 1 else 0))
       → many ≡ state.many + (if nat_le frequency_limit state.count then 1 else 0)
       → CountsBins set (record { bin = next; count = 1; frequencies = frequencies; many = many }) (h ++ x ∷ [])
@@ -157,9 +152,7 @@ module _ (set : TraceView) (state : BinState) (h : History) (x : Event × ℕ) (
   pub next-closes : (new : BinState) → new.bin ≡ next → CountsBins set new (h ++ x ∷ [])
       → closed_lines set (h ++ x ∷ []) ≡ closed_lines set h ++ bin_line state.bin state.count
   next-closes new is_next now =
-      closed-is set new (h ++ x ∷ []) now
-      ∙ ap (λ n. bin_lines set n (h ++ x ∷ [])) is_next
-      ∙ lines-still set next h (h ++ x ∷ []) still-below
+      closed-is set new (h ++ x ∷ []) now ∙ ap (λ n. bin_lines set n (h ++ x ∷ [])) is_next ∙ lines-still set next h (h ++ x ∷ []) still-below
       ∙ lines-skip (λ b. bin_line b (in_trace_bin set b h)) state.bin (next - state.bin - 1) next no_line skipped
       ∙ ap (λ n. bin_lines set state.bin h ++ bin_line state.bin n) (sym is.counted)
       ∙ ap (λ l. l ++ bin_line state.bin state.count) (sym (closed-is set state h is))
@@ -177,10 +170,8 @@ GivenMore-trans a b c m n lines lines' p q = record {
   same_begun = q.same_begun ∙ p.same_begun;
   follows = λ h is. rw (← append_assoc h m n) (q.follows (h ++ m) (p.follows h is));
   closed = λ h is.
-      ap (open_text (trace_view (set_of a))) (sym (append_assoc h m n))
-      ∙ rw p.same_set at (q.closed (h ++ m) (p.follows h is))
-      ∙ ap (λ l. l ++ lines') (p.closed h is)
-      ∙ append_assoc (open_text (trace_view (set_of a)) h) lines lines';
+      ap (open_text (trace_view (set_of a))) (sym (append_assoc h m n)) ∙ rw p.same_set at (q.closed (h ++ m) (p.follows h is))
+      ∙ ap (λ l. l ++ lines') (p.closed h is) ∙ append_assoc (open_text (trace_view (set_of a)) h) lines lines';
 }
 
 -- Its numbers were counted on, and those beside them.
@@ -200,8 +191,7 @@ GivenMore-counts old new more lines lines' same going begun on none before taken
         floor = floor h is.floor;
       };
       closed = λ h is.
-          ap (λ l. first_line set ++ l) (on.closed h is.bins)
-          ∙ sym (append_assoc (first_line set) (closed_lines set h) on.text)
+          ap (λ l. first_line set ++ l) (on.closed h is.bins) ∙ sym (append_assoc (first_line set) (closed_lines set h) on.text)
           ∙ ap (λ l. open_text set h ++ l) (sym text);
     }
 

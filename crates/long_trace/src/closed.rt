@@ -30,15 +30,12 @@ impl Closed {
 
     /// A bin more has this count.
     pub fn raise(&mut self, count: u64)
-        requires own { count < frequency_limit
-            → slice_index self.old.frequencies count + 1 < 2 ^ 64 }
+        requires own { count < frequency_limit → slice_index self.old.frequencies count + 1 < 2 ^ 64 }
         requires many { frequency_limit ≤ count → self.old.many + 1 < 2 ^ 64 }
         ensures frequencies { (c : ℕ) → c < frequency_limit → slice_index self.new.frequencies c
             ≡ slice_index self.old.frequencies c + (if count == c then 1 else 0) }
-        ensures many { self.new.many
-            ≡ self.old.many + (if nat_le frequency_limit count then 1 else 0) }
-        ensures sum { sum self.new.frequencies + self.new.many
-            ≡ sum self.old.frequencies + self.old.many + 1 }
+        ensures many { self.new.many ≡ self.old.many + (if nat_le frequency_limit count then 1 else 0) }
+        ensures sum { sum self.new.frequencies + self.new.many ≡ sum self.old.frequencies + self.old.many + 1 }
     {
         if count < FREQUENCIES as u64 {
             self.frequencies[count as usize] += 1;
@@ -53,10 +50,8 @@ impl Closed {
         ensures frequencies { (c : ℕ) → c < frequency_limit → slice_index self.new.frequencies c
             ≡ slice_index self.old.frequencies c + (if count == c then 1 else 0)
             + (if 0 == c then empty else 0) }
-        ensures many { self.new.many
-            ≡ self.old.many + (if nat_le frequency_limit count then 1 else 0) }
-        ensures sum { sum self.new.frequencies + self.new.many
-            ≡ sum self.old.frequencies + self.old.many + 1 + empty }
+        ensures many { self.new.many ≡ self.old.many + (if nat_le frequency_limit count then 1 else 0) }
+        ensures sum { sum self.new.frequencies + self.new.many ≡ sum self.old.frequencies + self.old.many + 1 + empty }
     {
         self.raise(count);
         self.frequencies[0] += empty;

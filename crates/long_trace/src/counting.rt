@@ -55,8 +55,7 @@ pub(crate) fn count_at<const N: usize>(
     requires can { CanCount set.now before.old newest.old time more }
     requires room { array_vec_len lines.old + LINE_SIZE ≤ N }
     ensures step { IsInStep set.now newest.new closed.new }
-    ensures counted { Counted set.now before.old before.new newest.old newest.new closed.old
-        closed.new time more }
+    ensures counted { Counted set.now before.old before.new newest.old newest.new closed.old closed.new time more }
     ensures len { array_vec_len lines.new ≤ array_vec_len lines.old + LINE_SIZE }
     ensures counts { CountsAt (trace_view set.now) (state_of newest.old closed.old)
         (state_of newest.new closed.new) time (λ met. more ≡ (if met then 1 else 0))
@@ -115,8 +114,7 @@ pub(crate) fn count_block(
 
 /// How often each count came in the closed bins and the newest, if it isn't empty.
 pub(crate) fn closed_with(newest: &OpenBin, closed: Closed) -> Closed
-    requires filled { newest.now.count + sum closed.frequencies + closed.many
-        < 2 ^ 64 + slice_index closed.frequencies 0 }
+    requires filled { newest.now.count + sum closed.frequencies + closed.many < 2 ^ 64 + slice_index closed.frequencies 0 }
     ensures frequencies { (c : ℕ) → c < frequency_limit → slice_index result.frequencies c
         ≡ slice_index closed.frequencies c
         + (if nat_lt 0 newest.now.count && (newest.now.count == c) then 1 else 0) }

@@ -13,8 +13,7 @@ use tally_base::{Failed, put_decimal, put_text};
 
 /// The line of the last bin, unless it is empty, and that of what came before the origin.
 fn last_lines(newest: &OpenBin, before: u64) -> ArrayVec<u8, 96>
-    ensures { result.items ≡ bin_line newest.now.bin.index newest.now.count
-        ++ before_line before }
+    ensures { result.items ≡ bin_line newest.now.bin.index newest.now.count ++ before_line before }
 {
     let mut lines = ArrayVec::new();
     put_bin(&mut lines, newest.bin.index, newest.count);

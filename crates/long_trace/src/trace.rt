@@ -37,8 +37,7 @@ pub struct LongTrace {
     ghost all: { sum closed.frequencies + closed.many ≡ newest.bin.index },
     ghost few: { before + newest.count ≤ taken },
     // A closed bin that isn't empty took an event.
-    ghost filled: { newest.count + newest.bin.index
-        ≤ taken + slice_index closed.frequencies 0 },
+    ghost filled: { newest.count + newest.bin.index ≤ taken + slice_index closed.frequencies 0 },
 }
 
 impl LongTrace {
@@ -74,8 +73,7 @@ impl LongTrace {
     /// isn't all of it was written.
     pub fn start<O: Sink>(&mut self, out: &mut O) -> Result<(), Fault>
         requires first { was_begun self.old ≡ false }
-        ensures text { OnOk result (Appends (O.written out.old) (O.written out.new)
-            (first_line (trace_view (set_of self.old)))) }
+        ensures text { OnOk result (Appends (O.written out.old) (O.written out.new) (first_line (trace_view (set_of self.old)))) }
         ensures short { OnErr result (AppendsShort (O.written out.old) (O.written out.new)
             (first_line (trace_view (set_of self.old)))) }
         ensures fault { IfErr result (λ fault. fault ≡ Fault.WriteFault) }
@@ -99,8 +97,7 @@ impl LongTrace {
         requires in_order { IsTrue (is_photon e.now) → floor_of self.old ≤ e.now.time }
         ensures given { GivenMore self.old self.new ((e.now, groups) ∷ []) result.items }
         ensures one_more { taken_of self.new ≡ taken_of self.old + 1 }
-        ensures moved { floor_of self.new
-            ≡ (if is_photon e.now then e.now.time else floor_of self.old) }
+        ensures moved { floor_of self.new ≡ (if is_photon e.now then e.now.time else floor_of self.old) }
         ensures held { held self.new ≤ 1032 }
     {
         let mut line = ArrayVec::new();
@@ -128,8 +125,7 @@ impl LongTrace {
         requires in_order { InOrder false (floor_of self.old) (gathered block.now) }
         ensures given { GivenMore self.old self.new (events_in block.now) lines.new.items }
         ensures more { taken_of self.new ≡ taken_of self.old + length (gathered block.now) }
-        ensures moved { floor_of self.new
-            ≡ floor_after false (floor_of self.old) (gathered block.now) }
+        ensures moved { floor_of self.new ≡ floor_after false (floor_of self.old) (gathered block.now) }
         ensures held { held self.new ≤ 1032 }
     {
         self.taken += block.len() as u64;
@@ -162,13 +158,11 @@ impl LongTrace {
         ensures fault { IfErr result (λ fault. fault ≡ Fault.WriteFault) }
         ensures cause { FailsOnce (O.faults out.old) (O.faults out.new) result }
         ensures set { set_of self.new ≡ set_of self.old }
-        ensures follows { (h : History) → Holds self.old h
-            → Holds self.new (h ++ (e.now, groups) ∷ []) }
+        ensures follows { (h : History) → Holds self.old h → Holds self.new (h ++ (e.now, groups) ∷ []) }
         ensures going { is_going self.new ≡ is_ok result }
         ensures begun { was_begun self.new ≡ was_begun self.old }
         ensures one_more { taken_of self.new ≡ taken_of self.old + 1 }
-        ensures moved { floor_of self.new
-            ≡ (if is_photon e.now then e.now.time else floor_of self.old) }
+        ensures moved { floor_of self.new ≡ (if is_photon e.now then e.now.time else floor_of self.old) }
         ensures held { held self.new ≤ 1032 }
     {
         let line = self.take(e, groups);

@@ -102,8 +102,7 @@ impl Lines {
     /// Takes a marker: its bits and its time. Fewer than 2^40 markers came before it.
     pub fn marker(&mut self, bits: u8, time: u64)
         requires { markers_given self.old < record_limit }
-        ensures follows { (ms : List Mark) → Saw self.old ms
-            → Saw self.new (ms ++ mark bits time ∷ []) }
+        ensures follows { (ms : List Mark) → Saw self.old ms → Saw self.new (ms ++ mark bits time ∷ []) }
         ensures one_more { markers_given self.new ≡ markers_given self.old + 1 }
         ensures begun { line_start self.new ≤ max (line_start self.old) time }
         ensures same_image { image_of self.new ≡ image_of self.old }
@@ -126,10 +125,8 @@ impl Lines {
     #[inline(always)]
     pub fn place(&self, time: u64) -> Option<(u32, u32)>
         requires in_order { line_start self.now ≤ time }
-        ensures place { (ms : List Mark) → Saw self.now ms
-            → result ≡ place_of (image_of self.now) time ms }
-        ensures inside { IfSome result (λ place. (place.0 < (image_of self.now).width)
-            × (place.1 < (image_of self.now).height)) }
+        ensures place { (ms : List Mark) → Saw self.now ms → result ≡ place_of (image_of self.now) time ms }
+        ensures inside { IfSome result (λ place. (place.0 < (image_of self.now).width) × (place.1 < (image_of self.now).height)) }
     {
         self.strip().place(time)
     }

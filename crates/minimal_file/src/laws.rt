@@ -9,9 +9,7 @@ ghost use Rattle.minimal_file.specs.ShortFiles.{bytes_in, short_fields, minimal_
 pub fn a_short_file_is_read()
     ensures header { (mode : Mode) (words : List ℕ)
         → header_answer (minimal_file mode words) ≡ Ok (short_fields mode, bytes_in words) }
-    ensures words { (words : List ℕ) → All (λ word. word < 2 ^ 32) words
-        → words_of (bytes_in words) ≡ words }
+    ensures words { (words : List ℕ) → All (λ word. word < 2 ^ 32) words → words_of (bytes_in words) ≡ words }
     ensures rest { (words : List ℕ) → rest_of (bytes_in words) ≡ [] }
-    ensures size { (mode : Mode) (words : List ℕ)
-        → length (minimal_file mode words) ≡ 112 + 4 * length words }
+    ensures size { (mode : Mode) (words : List ℕ) → length (minimal_file mode words) ≡ 112 + 4 * length words }
 {}

@@ -82,8 +82,7 @@ module _ (s t : Stand) (l : Marked) (h : Took s t l) (of_mode : mode_of t.picker
   chosen-more : (front : List Event) → chosen_of s (l ++ on_time front) ≡ chosen_of s l ++ filter t.chooses front
   chosen-more front =
       ap (filter s.chooses) (not_marked-append l (on_time front) ∙ ap (λ m. not_marked l ++ m) (not_marked-false front))
-      ∙ filter-append s.chooses (not_marked l) front
-      ∙ ap (λ p. chosen_of s l ++ filter p front) (sym h.same_choice)
+      ∙ filter-append s.chooses (not_marked l) front ∙ ap (λ p. chosen_of s l ++ filter p front) (sym h.same_choice)
 
   words-more : (behind ps : List Event) → each_after (photon_words s.mode) behind (chosen_of s l ++ ps) ≡ each_after
       (photon_words s.mode) behind (chosen_of s l) ++ each_after (photon_words s.mode) (behind ++ chosen_of s l) ps
@@ -109,8 +108,7 @@ module _ (s t : Stand) (l : Marked) (h : Took s t l) (of_mode : mode_of t.picker
 
   -- The photons that are chosen of a block were given.
   pub Took-block : (q : Pen) (taken floor : ℕ) → Gave (pen t.picker t.written t.held t.sink) q (filter t.chooses es)
-      → InOrder (orders_markers t.mode) t.floor es
-      → taken ≡ t.taken + length es → floor ≡ floor_after (orders_markers t.mode) t.floor es
+      → InOrder (orders_markers t.mode) t.floor es → taken ≡ t.taken + length es → floor ≡ floor_after (orders_markers t.mode) t.floor es
       → Took s (record t { taken = taken; floor = floor; sink = q.faults; picker = q.picker; written = q.written; held = q.held }) (l ++ on_time es)
   Took-block q taken floor gave order counted moved = record {
     same_choice = h.same_choice;

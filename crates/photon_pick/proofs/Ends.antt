@@ -14,8 +14,7 @@ pub kept-are : (chooses : Event → Bool) (how : StreamSettings) (words : List �
 kept-are chooses how words clear =
     let k = how.policy.settle in
     let es = events (map how.meaning words) in
-    ap (filter chooses) (sym (delivered-kept k how.mode es))
-    ∙ chosen-more chooses (delivered k how.mode es) (delivered_last k how.mode es)
+    ap (filter chooses) (sym (delivered-kept k how.mode es)) ∙ chosen-more chooses (delivered k how.mode es) (delivered_last k how.mode es)
     ∙ ap (λ l. filter chooses (not_marked l) ++ filter chooses (not_marked (last_in how words))) (sym (given-all how words clear))
 
 streamed-whole : (how : StreamSettings) (bytes : List ℕ) → record_refusal how (words_of bytes) ≡ None

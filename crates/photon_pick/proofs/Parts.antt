@@ -115,10 +115,8 @@ module _ (s t : Stand) (chooses : Event → Bool) (mode : Mode) (same_choice : s
     refused-are : total ≡ (before ++ r.front) ++ r.e ∷ filter chooses (not_marked back)
     refused-are =
         let front : filter chooses (not_marked first_ones) ≡ r.front ++ r.e ∷ [] = sym (chosen-is first_ones) ∙ r.photons in
-        are
-        ∙ ap (λ l. before ++ l) (chosen-more chooses first_ones back ∙ ap (λ l. l ++ filter chooses (not_marked back)) front
-        ∙ append_assoc r.front (r.e ∷ []) (filter chooses (not_marked back)))
-        ∙ sym (append_assoc before r.front (r.e ∷ filter chooses (not_marked back)))
+        are ∙ ap (λ l. before ++ l) (chosen-more chooses first_ones back ∙ ap (λ l. l ++ filter chooses (not_marked back)) front
+        ∙ append_assoc r.front (r.e ∷ []) (filter chooses (not_marked back))) ∙ sym (append_assoc before r.front (r.e ∷ filter chooses (not_marked back)))
 
     refused-clear : too_late mode (before ++ r.front) ≡ []
     refused-clear = too_late-both mode before r.front clear (move-late s.mode mode r.front same_mode r.in_time)

@@ -115,8 +115,7 @@ module _ (chooses : Event → Bool) (how : StreamSettings) where
       ap (photons_by chooses how (words_of (bytes ++ more))) streams ∙ words in (
         ap (bytes_of how.mode) all,
         ap (λ r. late_or (first (too_late how.mode (photons_of chooses how (bytes ++ more)))) (fault_in r)) streams
-            ∙ ap (λ ps. late_or (first (too_late how.mode ps)) (Some fault)) all
-            ∙ ap (λ o. late_or o (Some fault)) none,
+            ∙ ap (λ ps. late_or (first (too_late how.mode ps)) (Some fault)) all ∙ ap (λ o. late_or o (Some fault)) none,
       )
 
   -- A refusal over some bytes is the end of all that begin with them.

@@ -26,8 +26,7 @@ pub(crate) fn give_photons<O: Sink>(
         (pen_on O.Sink picker.old out.old block.old) (pen_on O.Sink picker.new out.new block.new)
         (events_at events.now places.now many)) }
     ensures same_mode { mode_of picker.new ≡ mode_of picker.old }
-    ensures last { last_by picker.new
-        ≤ floor_after true (last_by picker.old) (events_at events.now places.now many) }
+    ensures last { last_by picker.new ≤ floor_after true (last_by picker.old) (events_at events.now places.now many) }
 {
     for k in 0..many {
         picker.put(&events.event(places[k] as usize), block, out)?;

@@ -17,6 +17,5 @@ pub fn kept_photons_can_be_written()
 
 /// The photons that are written are those before the first that is too late.
 pub fn those_before_a_late_one_are_written()
-    ensures { (mode : Mode) (photons : List Event)
-        → AreBeforeLate mode (writable mode photons) photons }
+    ensures { (mode : Mode) (photons : List Event) → AreBeforeLate mode (writable mode photons) photons }
 {}

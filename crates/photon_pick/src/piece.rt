@@ -27,16 +27,14 @@ fn feed_picks<'g, 'p, 'o, O: Sink>(
     piece: &[u8],
     picks: &mut Picks<'g, 'p, 'o, O>,
 ) -> Result<(), Fault>
-    requires begins { Begins stream.old picks.old.mode picks.old.taken picks.old.floor
-        picks.old.block }
+    requires begins { Begins stream.old picks.old.mode picks.old.taken picks.old.floor picks.old.block }
     requires unrefused { picks.old.fault ≡ None }
     requires going { refused_with stream.old ≡ None }
     ensures fed { TakesOn stream.old stream.new piece.now }
     ensures writes { PicksPiece O.Sink
         (is_of_group picks.old.gates.now picks.old.group) stream.old piece.now
         picks.old.picker.now picks.new.picker.now picks.old.out.now picks.new.out.now result }
-    ensures goes_on { OnOk result
-        (GoesOn stream.old stream.new picks.new.picker.now piece.now) }
+    ensures goes_on { OnOk result (GoesOn stream.old stream.new picks.new.picker.now piece.now) }
     ensures same_mode { mode_of picks.new.picker.now ≡ mode_of picks.old.picker.now }
     ensures same { (picks.new.out.ghost_name ≡ picks.old.out.ghost_name)
         × (picks.new.picker.ghost_name ≡ picks.old.picker.ghost_name) }

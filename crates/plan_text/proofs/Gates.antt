@@ -2,7 +2,7 @@
 use Rattle.std.proofs.Common.{◌≡◌, refl, ap, sym, ◌∙◌, ℕ, ◌+◌, ◌<◌, ◌≤◌, List, [], ◌∷◌, ◌++◌, map, drop, length, get_or, Option, Some, option_map, arith, rules}
 use Rattle.toml.{specs.Data.{Data, as_array}, specs.declared.value.Value.Value, specs.View.view}
 use Rattle.tally_base.specs.Gates.{AreGates}
-use Rattle.plan_text.{specs.Groups.{range_among, ranges_from}, proofs.Numbers.first_of}
+use Rattle.plan_text.{specs.Groups.{range_among, ranges_from}, proofs.Numbers.{first_of, both_put}}
 
 -- Ranges that rise from low on, and end at last.
 abbrev pub RiseTo : ℕ → ℕ → List (ℕ × ℕ) → Type 0
@@ -17,14 +17,6 @@ rise_further last low (first ∷ ranges) range rise from some most = (rise.0, ri
 pub are_gates : (last low : ℕ) (ranges : List (ℕ × ℕ)) → RiseTo last low ranges → AreGates low ranges
 are_gates last low [] rise = tt
 are_gates last low (range ∷ ranges) rise = (rise.0, rise.1, rise.2, are_gates last range.1 ranges rise.3)
-
-put_last : (front : List (ℕ × ℕ)) (range : ℕ × ℕ) (more : List (ℕ × ℕ)) → front ++ range ∷ more ≡ (front ++ range ∷ []) ++ more
-put_last [] range more = refl
-put_last (first ∷ front) range more = ap (λ l. first ∷ l) (put_last front range more)
-
-both_put : (front : List (ℕ × ℕ)) (range : ℕ × ℕ) (more : Option (List (ℕ × ℕ)))
-    → option_map (λ l. front ++ l) (option_map (λ l. range ∷ l) more) ≡ option_map (λ l. (front ++ range ∷ []) ++ l) more
-both_put front range more = search (rules, arith, put_last)
 
 ranges_step : (front : List (ℕ × ℕ)) (low : ℕ) (range : ℕ × ℕ) (d : Data) (ds : List Data) → range_among low (as_array d) ≡ Some range
     → option_map (λ l. front ++ l) (ranges_from low (d ∷ ds)) ≡ option_map (λ l. (front ++ range ∷ []) ++ l) (ranges_from range.1 ds)

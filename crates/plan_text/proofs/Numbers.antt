@@ -1,5 +1,5 @@
 -- Numbers of groups that rise, one at a time.
-use Rattle.std.{proofs.Common.{◌≡◌, refl, ap, sym, ◌∙◌, ℕ, ◌+◌, ◌<◌, ◌≤◌, List, [], ◌∷◌, ◌++◌, map, drop, length, get_or, Option, Some, option_map, arith, rules, ◌^◌}, proofs.Math.Pow.pow_mono, proofs.lemmas.Grind.pow_more, proofs.lemmas.List.drop_more}
+use Rattle.std.{proofs.Common.{◌≡◌, refl, ap, sym, ◌∙◌, ℕ, ◌+◌, ◌<◌, ◌≤◌, List, [], ◌∷◌, ◌++◌, map, drop, length, get_or, Option, Some, option_map, arith, rules, ◌^◌, None, append_assoc}, proofs.Math.Pow.pow_mono, proofs.lemmas.Grind.pow_more, proofs.lemmas.List.drop_more}
 use Rattle.toml.{specs.Data.Data, specs.declared.value.Value.Value, specs.View.view}
 use Rattle.tally_base.specs.Gates.{AreGroups}
 use Rattle.toml_rules.specs.Values.{integer_in}
@@ -44,13 +44,10 @@ pub are_groups : (last low : ℕ) (ns : List ℕ) → NumbersTo last low ns → 
 are_groups last low [] rise = tt
 are_groups last low (n ∷ ns) rise = (rise.0, rise.1, are_groups last n ns rise.2)
 
-put_last : (front : List ℕ) (n : ℕ) (more : List ℕ) → front ++ n ∷ more ≡ (front ++ n ∷ []) ++ more
-put_last [] n more = refl
-put_last (first ∷ front) n more = ap (λ l. first ∷ l) (put_last front n more)
-
-both_put : (front : List ℕ) (n : ℕ) (more : Option (List ℕ))
-    → option_map (λ l. front ++ l) (option_map (λ l. n ∷ l) more) ≡ option_map (λ l. (front ++ n ∷ []) ++ l) more
-both_put front n more = search (rules, arith, put_last)
+pub both_put : {X : Type 0} (front : List X) (x : X) (more : Option (List X))
+    → option_map (λ l. front ++ l) (option_map (λ l. x ∷ l) more) ≡ option_map (λ l. (front ++ x ∷ []) ++ l) more
+both_put front x None = refl
+both_put front x (Some more) = ap (λ l. Some l) (sym (append_assoc front (x ∷ []) more))
 
 numbers_step : (front : List ℕ) (most low n : ℕ) (d : Data) (ds : List Data) → integer_in low most d ≡ Some n
     → option_map (λ l. front ++ l) (numbers_from most low (d ∷ ds)) ≡ option_map (λ l. (front ++ n ∷ []) ++ l) (numbers_from most (n + 1) ds)

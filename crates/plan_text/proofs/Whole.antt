@@ -1,5 +1,5 @@
 -- Where each rule holds, each table of a list is in the plan.
-use Rattle.std.{proofs.Common.{arith, rules}, proofs.Common.{◌≡◌, ap, refl, ℕ, ◌+◌, Bool, true, List, [], ◌∷◌, ◌++◌, map, filter_map, ◌∙◌, Option, Some, is_some, inl, inr}, proofs.lemmas.Bool.{cases_Bool, false≢true}, proofs.lemmas.List.map-append, specs.List.{AllByRecursion, cons_option, flat_map}}
+use Rattle.std.{proofs.Common.{arith, rules}, proofs.Common.{◌≡◌, ap, refl, ℕ, ◌+◌, Bool, true, List, [], ◌∷◌, ◌++◌, map, filter_map, ◌∙◌, Option, Some, is_some, inl, inr}, proofs.lemmas.Bool.{cases_Bool, false≢true}, proofs.lemmas.List.{map-append, map-id}, specs.List.{AllByRecursion, cons_option, flat_map}}
 use Rattle.toml.specs.Data.{Data}
 use Rattle.toml_rules.{specs.Rules.{Rule, BreaksAt, IsBroken, AllHold, or_next, all_kept}, proofs.Least.all_kept_after}
 use Rattle.plan_text.{specs.Plan.{plan_rules, lists_kept, plan, IsWhole}, specs.Document.document_rules, specs.Kind.{Kind, tables, last_rule, kind_rules, list_of_kind, TableList}, specs.Kinds.{kinds, first_lists, second_lists, table_lists}, specs.Groups.{group_rules, groups, group, group_of, inputs, gates}, specs.Shifts.{shift_rules, all_shifts}}
@@ -56,15 +56,11 @@ groups_in d all =
     all_kept_in (group d) (groups d) (both_hold (λ g. is_some (inputs g)) (λ g. is_some (gates d g))
     (λ g. is_some (group d g)) (groups d) (λ g a b. group_read (inputs g) (gates d g) a b) sets ranges)
 
-same_list : {X : Type 0} (xs : List X) → map (λ x. x) xs ≡ xs
-same_list [] = refl
-same_list (x ∷ xs) = ap (λ more. x ∷ more) (same_list xs)
-
 shifts_in : (d : Data) → AllHold (shift_rules d) → map (λ y. Some y) (filter_map (λ set. set) (all_shifts d)) ≡ all_shifts d
 unfolding shift_rules
 shifts_in d all =
     all_kept_in (λ set. set) (all_shifts d) (each_holds (λ set. is_some set) 1 (all_shifts d) (λ at b. all 25 at (inr (inr (inl (refl, b))))))
-    ∙ same_list (all_shifts d)
+    ∙ map-id (all_shifts d)
 
 -- where the rules on a kind hold, each of its tables gives settings
 kind_whole : (kind : Kind) (d : Data) → AllHold (kind_rules kind d)

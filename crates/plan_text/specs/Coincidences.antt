@@ -5,17 +5,10 @@ use Rattle.tally_base.{specs.Settings.PartSettings, specs.Settings.PartSettings.
 use Rattle.toml_rules.{specs.Rules.each, specs.Values.{list_at, has_keys, number_in}}
 use Rattle.plan_text.{specs.Groups.group_number, specs.Kind.Kind}
 
--- the tables of coincidences
-abbrev pub coincidences : Data → List Data
-coincidences = list_at (codes "coincidence")
-
 -- the settings of these numbers, where each keeps its rule
 abbrev pub coincidence_of : Option ℕ → Option ℕ → Option ℕ → Option ℕ → Option PartSettings
 coincidence_of (Some first) (Some second) (Some reach) (Some width) = Some (CoincidenceSettings (record { first = first; second = second; reach = reach; width = width }))
-coincidence_of (Some first) (Some second) (Some reach) None = None
-coincidence_of (Some first) (Some second) None width = None
-coincidence_of (Some first) None reach width = None
-coincidence_of None second reach width = None
+coincidence_of _ _ _ _ = None
 
 -- the settings that a table of the document gives
 unfoldable pub coincidence : Data → Data → Option PartSettings
@@ -30,7 +23,7 @@ abbrev pub coincidence_kind : Kind
 coincidence_kind = record {
   key = codes "coincidence";
   most = 16;
-  before = λ d. each 17 has_coincidence_keys (coincidences d) ∷ [];
+  before = λ d. each 17 has_coincidence_keys (list_at (codes "coincidence") d) ∷ [];
   last = 18;
   read = coincidence;
   greatest = CoincidenceSettings (record { first = 1; second = 1; reach = 2 ^ 20; width = 1 });

@@ -5,10 +5,6 @@ use Rattle.tally_base.{specs.Settings.PartSettings, specs.Settings.PartSettings.
 use Rattle.toml_rules.{specs.Rules.each, specs.Values.{list_at, has_keys, number_in}}
 use Rattle.plan_text.{specs.Groups.group_number, specs.Kind.Kind}
 
--- the tables of correlations
-abbrev pub correlations : Data → List Data
-correlations = list_at (codes "correlation")
-
 -- a number that is even
 abbrev pub if_even : ℕ → Option ℕ
 if_even n = if n % 2 == 0 then Some n else None
@@ -20,10 +16,7 @@ lags set = option_and_then if_even (number_in 2 128 (get (codes "lags") set))
 -- the settings of these numbers, where each keeps its rule
 abbrev pub correlation_of : Option ℕ → Option ℕ → Option ℕ → Option ℕ → Option PartSettings
 correlation_of (Some first) (Some second) (Some lags) (Some levels) = Some (CorrelationSettings (record { first = first; second = second; lags = lags; levels = levels }))
-correlation_of (Some first) (Some second) (Some lags) None = None
-correlation_of (Some first) (Some second) None levels = None
-correlation_of (Some first) None lags levels = None
-correlation_of None second lags levels = None
+correlation_of _ _ _ _ = None
 
 -- the settings that a table of the document gives
 unfoldable pub correlation : Data → Data → Option PartSettings
@@ -38,7 +31,7 @@ abbrev pub correlation_kind : Kind
 correlation_kind = record {
   key = codes "correlation";
   most = 16;
-  before = λ d. each 21 has_correlation_keys (correlations d) ∷ [];
+  before = λ d. each 21 has_correlation_keys (list_at (codes "correlation") d) ∷ [];
   last = 22;
   read = correlation;
   greatest = CorrelationSettings (record { first = 1; second = 1; lags = 128; levels = 40 });

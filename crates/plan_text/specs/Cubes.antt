@@ -5,15 +5,10 @@ use Rattle.tally_base.{specs.Settings.{PartSettings, ImageView}, specs.Settings.
 use Rattle.toml_rules.{specs.Rules.each, specs.Values.{list_at, has_keys, number_in}}
 use Rattle.plan_text.{specs.Images.image_values, specs.Kind.Kind}
 
--- the tables of cubes
-abbrev pub cubes : Data → List Data
-cubes = list_at (codes "cube")
-
 -- the width of a bin and the number of bins of a pixel, where each keeps its rule
 abbrev pub bins_of : Option ℕ → Option ℕ → Option (ℕ × ℕ)
 bins_of (Some dwidth) (Some dbins) = Some (dwidth, dbins)
-bins_of (Some dwidth) None = None
-bins_of None dbins = None
+bins_of _ _ = None
 
 -- the bins of a cube
 unfoldable pub bins : Data → Option (ℕ × ℕ)
@@ -30,8 +25,7 @@ has_few_bins image dbins = nat_le (image.width * image.height * dbins) (2 ^ 26)
 -- the settings of these values, where each keeps its rule
 abbrev pub cube_of : Option ImageView → Option (ℕ × ℕ) → Option PartSettings
 cube_of (Some image) (Some bins) = if has_few_bins image bins.1 then Some (CubeSettings (record { image = image; dwidth = bins.0; dbins = bins.1 })) else None
-cube_of (Some image) None = None
-cube_of None bins = None
+cube_of _ _ = None
 
 -- the settings that a table of the document gives
 unfoldable pub cube : Data → Data → Option PartSettings
@@ -46,7 +40,7 @@ abbrev pub cube_kind : Kind
 cube_kind = record {
   key = codes "cube";
   most = 2;
-  before = λ d. each 27 has_cube_keys (cubes d) ∷ each 28 (has_cube_values d) (cubes d) ∷ [];
+  before = λ d. each 27 has_cube_keys (list_at (codes "cube") d) ∷ each 28 (has_cube_values d) (list_at (codes "cube") d) ∷ [];
   last = 29;
   read = cube;
   greatest = CubeSettings (record { image = record { group = 1; width = 2048; height = 2048; dwell = 1; line = 1; frame = None; stop = None; serpentine = false }; dwidth = 1; dbins = 16 });

@@ -5,10 +5,6 @@ use Rattle.tally_base.{specs.Settings.PartSettings, specs.Settings.PartSettings.
 use Rattle.toml_rules.{specs.Rules.each, specs.Values.{list_of, list_at, has_keys, integer_in, number_in}}
 use Rattle.plan_text.{specs.Groups.groups, specs.Kind.Kind}
 
--- the tables of folds
-abbrev pub folds : Data → List Data
-folds = list_at (codes "fold")
-
 -- integers from low to the greatest, each greater than the one before
 abbrev pub numbers_from : ℕ → ℕ → List Data → Option (List ℕ)
 numbers_from most low [] = Some []
@@ -30,8 +26,7 @@ numbers d set = numbers_in (length (groups d)) (option_and_then as_array (get (c
 -- the settings of these groups and this window, where both keep their rule
 abbrev pub fold_of : Option (List ℕ) → Option ℕ → Option PartSettings
 fold_of (Some groups) (Some window) = Some (FoldSettings (record { groups = groups; window = window }))
-fold_of (Some groups) None = None
-fold_of None window = None
+fold_of _ _ = None
 
 -- the settings that a table of the document gives
 unfoldable pub fold_settings : Data → Data → Option PartSettings
@@ -46,7 +41,7 @@ abbrev pub fold_kind : Kind
 fold_kind = record {
   key = codes "fold";
   most = 8;
-  before = λ d. each 30 has_fold_keys (folds d) ∷ [];
+  before = λ d. each 30 has_fold_keys (list_at (codes "fold") d) ∷ [];
   last = 31;
   read = fold_settings;
   greatest = FoldSettings (record { groups = 1 ∷ 2 ∷ 3 ∷ 4 ∷ 5 ∷ 6 ∷ []; window = 2 ^ 20 });

@@ -34,15 +34,12 @@ inputs group = inputs_in (option_and_then as_array (get (codes "inputs") group))
 -- a range of dtimes that is not empty
 abbrev pub range_of : Option ℕ → Option ℕ → Option (ℕ × ℕ)
 range_of (Some lo) (Some hi) = if nat_le (lo + 1) hi then Some (lo, hi) else None
-range_of (Some lo) None = None
-range_of None hi = None
+range_of _ _ = None
 
 -- such a range from two integers to 32,768, the first from low on
 abbrev pub range_in : ℕ → List Data → Option (ℕ × ℕ)
-range_in low [] = None
-range_in low (lo ∷ []) = None
 range_in low (lo ∷ hi ∷ []) = range_of (integer_in low 32768 lo) (integer_in 0 32768 hi)
-range_in low (lo ∷ hi ∷ more ∷ rest) = None
+range_in low _ = None
 
 -- the same of what may be an array
 abbrev pub range_among : ℕ → Option Items → Option (ℕ × ℕ)
@@ -82,8 +79,7 @@ gates d group = if is_second d then many_gates (get (codes "gates") group) else 
 -- the group of its inputs and its gates, where both keep their rules
 abbrev pub group_of : Option ℕ → Option (List (ℕ × ℕ)) → Option GroupView
 group_of (Some set) (Some ranges) = Some (record { inputs = set; gates = ranges })
-group_of (Some set) None = None
-group_of None ranges = None
+group_of _ _ = None
 
 -- the group that a table of the document gives
 unfoldable pub group : Data → Data → Option GroupView

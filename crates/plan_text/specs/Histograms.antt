@@ -5,16 +5,10 @@ use Rattle.tally_base.{specs.Settings.PartSettings, specs.Settings.PartSettings.
 use Rattle.toml_rules.{specs.Rules.each, specs.Values.{list_at, has_keys, number_in}}
 use Rattle.plan_text.{specs.Groups.group_number, specs.Kind.Kind}
 
--- the tables of histograms
-abbrev pub histograms : Data → List Data
-histograms = list_at (codes "histogram")
-
 -- the settings of these numbers, where each keeps its rule
 abbrev pub hist_of : Option ℕ → Option ℕ → Option ℕ → Option PartSettings
 hist_of (Some group) (Some width) (Some bins) = Some (HistSettings (record { group = group; width = width; bins = bins }))
-hist_of (Some group) (Some width) None = None
-hist_of (Some group) None bins = None
-hist_of None width bins = None
+hist_of _ _ _ = None
 
 -- the settings that a table of the document gives
 unfoldable pub histogram : Data → Data → Option PartSettings
@@ -29,7 +23,7 @@ abbrev pub histogram_kind : Kind
 histogram_kind = record {
   key = codes "histogram";
   most = 32;
-  before = λ d. each 11 has_histogram_keys (histograms d) ∷ [];
+  before = λ d. each 11 has_histogram_keys (list_at (codes "histogram") d) ∷ [];
   last = 12;
   read = histogram;
   greatest = HistSettings (record { group = 1; width = 1; bins = 32768 });

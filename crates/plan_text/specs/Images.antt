@@ -21,9 +21,7 @@ bit key image = bit_in (get key image)
 -- the width, the height and the dwell, where each keeps its rule
 abbrev pub raster_of : Option ℕ → Option ℕ → Option ℕ → Option (ℕ × (ℕ × ℕ))
 raster_of (Some width) (Some height) (Some dwell) = Some (width, (height, dwell))
-raster_of (Some width) (Some height) None = None
-raster_of (Some width) None dwell = None
-raster_of None height dwell = None
+raster_of _ _ _ = None
 
 -- the width, the height and the dwell of an image
 unfoldable pub raster : Data → Option (ℕ × (ℕ × ℕ))
@@ -32,9 +30,7 @@ raster image = raster_of (number_in 1 2048 (get (codes "width") image)) (number_
 -- the marker bits of a line, a frame and a stop, where each keeps its rule
 abbrev pub bits_of : Option ℕ → Option (Option ℕ) → Option (Option ℕ) → Option (ℕ × (Option ℕ × Option ℕ))
 bits_of (Some line) (Some frame) (Some stop) = Some (line, (frame, stop))
-bits_of (Some line) (Some frame) None = None
-bits_of (Some line) None stop = None
-bits_of None frame stop = None
+bits_of _ _ _ = None
 
 -- the marker bits of an image
 unfoldable pub bits : Data → Option (ℕ × (Option ℕ × Option ℕ))
@@ -47,10 +43,7 @@ serpentine image = truth_or false (get (codes "serpentine") image)
 -- the settings of these values, where each keeps its rule
 abbrev pub image_of : Option ℕ → Option (ℕ × (ℕ × ℕ)) → Option (ℕ × (Option ℕ × Option ℕ)) → Option Bool → Option ImageView
 image_of (Some group) (Some raster) (Some bits) (Some serpentine) = Some (record { group = group; width = raster.0; height = raster.1.0; dwell = raster.1.1; line = bits.0; frame = bits.1.0; stop = bits.1.1; serpentine = serpentine })
-image_of (Some group) (Some raster) (Some bits) None = None
-image_of (Some group) (Some raster) None serpentine = None
-image_of (Some group) None bits serpentine = None
-image_of None raster bits serpentine = None
+image_of _ _ _ _ = None
 
 -- the values of an image that a table of the document gives
 unfoldable pub image_values : Data → Data → Option ImageView

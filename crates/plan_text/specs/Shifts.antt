@@ -29,8 +29,7 @@ period_or_one d = unwrap_or (period d) 1
 -- the settings of these numbers, where each keeps its rule
 abbrev pub shift_of : Option ℕ → Option ℕ → Option ShiftView
 shift_of (Some input) (Some shift) = Some (record { input = input; shift = shift })
-shift_of (Some input) None = None
-shift_of None shift = None
+shift_of _ _ = None
 
 -- the settings that a table gives, of an input from low on
 unfoldable pub shift : ℕ → ℕ → Data → Option ShiftView

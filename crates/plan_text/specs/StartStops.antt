@@ -5,17 +5,10 @@ use Rattle.tally_base.{specs.Settings.PartSettings, specs.Settings.PartSettings.
 use Rattle.toml_rules.{specs.Rules.each, specs.Values.{list_at, has_keys, number_in}}
 use Rattle.plan_text.{specs.Groups.group_number, specs.Kind.Kind}
 
--- the tables of start-stops
-abbrev pub startstops : Data → List Data
-startstops = list_at (codes "startstop")
-
 -- the settings of these numbers, where each keeps its rule
 abbrev pub startstop_of : Option ℕ → Option ℕ → Option ℕ → Option ℕ → Option PartSettings
 startstop_of (Some start) (Some stop) (Some width) (Some bins) = Some (StartStopSettings (record { start = start; stop = stop; width = width; bins = bins }))
-startstop_of (Some start) (Some stop) (Some width) None = None
-startstop_of (Some start) (Some stop) None bins = None
-startstop_of (Some start) None width bins = None
-startstop_of None stop width bins = None
+startstop_of _ _ _ _ = None
 
 -- the settings that a table of the document gives
 unfoldable pub startstop : Data → Data → Option PartSettings
@@ -30,7 +23,7 @@ abbrev pub startstop_kind : Kind
 startstop_kind = record {
   key = codes "startstop";
   most = 16;
-  before = λ d. each 15 has_startstop_keys (startstops d) ∷ [];
+  before = λ d. each 15 has_startstop_keys (list_at (codes "startstop") d) ∷ [];
   last = 16;
   read = startstop;
   greatest = StartStopSettings (record { start = 1; stop = 1; width = 1; bins = 32768 });

@@ -5,17 +5,10 @@ use Rattle.tally_base.{specs.Settings.PartSettings, specs.Settings.PartSettings.
 use Rattle.toml_rules.{specs.Rules.each, specs.Values.{list_at, has_keys, number_in, number_or}}
 use Rattle.plan_text.{specs.Groups.group_number, specs.Kind.Kind}
 
--- the tables of traces
-abbrev pub traces : Data → List Data
-traces = list_at (codes "trace")
-
 -- the settings of these numbers, where each keeps its rule
 abbrev pub trace_of : Option ℕ → Option ℕ → Option ℕ → Option ℕ → Option PartSettings
 trace_of (Some group) (Some begin) (Some width) (Some bins) = Some (TraceSettings (record { group = group; origin = begin; width = width; bins = bins }))
-trace_of (Some group) (Some begin) (Some width) None = None
-trace_of (Some group) (Some begin) None bins = None
-trace_of (Some group) None width bins = None
-trace_of None begin width bins = None
+trace_of _ _ _ _ = None
 
 -- the time at which a trace begins
 unfoldable pub origin : Data → Option ℕ
@@ -34,7 +27,7 @@ abbrev pub trace_kind : Kind
 trace_kind = record {
   key = codes "trace";
   most = 32;
-  before = λ d. each 13 has_trace_keys (traces d) ∷ [];
+  before = λ d. each 13 has_trace_keys (list_at (codes "trace") d) ∷ [];
   last = 14;
   read = trace;
   greatest = TraceSettings (record { group = 1; origin = 0; width = 1; bins = 2 ^ 20 });

@@ -2,13 +2,13 @@
 ghost use Rattle.std.specs.Prelude.{◌≡◌, ◌≤◌, length, option_map};
 ghost use Rattle.toml.specs.View.{view};
 ghost use Rattle.tally_base.{specs.Settings.coincidence_view, specs.Settings.PartSettings.CoincidenceSettings};
-ghost use Rattle.plan_text.{specs.Coincidences.{coincidence, has_coincidence_keys, coincidence_kind}, specs.Groups.groups};
+ghost use Rattle.plan_text.{specs.Coincidences.{coincidence, coincidence_kind}, specs.Groups.groups};
 
 use crate::groups::group_number;
-use crate::kind::PlanKind;
+use crate::kind::{PlanKind, each_has_keys};
 use tally_base::{CoincidenceSet, Fault, Mode, PartKind};
 use toml::Value;
-use toml_rules::{ListRule, each, has_keys, list_at, number_in};
+use toml_rules::{list_at, number_in};
 
 /// The coincidences that a table asks for.
 #[tactic(auto, unfolding(crate::specs::Coincidences::coincidence))]
@@ -16,36 +16,16 @@ fn coincidence(document: &Value, table: &Value) -> Option<CoincidenceSet>
     requires few { length (groups (view document.now)) ≤ 64 }
     ensures { option_map (λ set. CoincidenceSettings (coincidence_view set)) result ≡ coincidence (view document.now) (view table.now) }
 {
-    let Some(first) = group_number(document, table, "first") else {
-        return None;
-    };
-    let Some(second) = group_number(document, table, "second") else {
-        return None;
-    };
-    let Some(reach) = number_in(table, "reach", 1, 1 << 20) else {
-        return None;
-    };
-    let Some(width) = number_in(table, "width", 1, 1 << 21) else {
-        return None;
-    };
+    let first = group_number(document, table, "first")?;
+    let second = group_number(document, table, "second")?;
+    let reach = number_in(table, "reach", 1, 1 << 20)?;
+    let width = number_in(table, "width", 1, 1 << 21)?;
     Some(CoincidenceSet {
         first: first as u8,
         second: second as u8,
         reach: reach as u32,
         width: width as u32,
     })
-}
-
-/// A coincidence has exactly the keys `first`, `second`, `reach` and `width`.
-struct CoincidenceKeys;
-
-impl ListRule for CoincidenceKeys {
-    ghost asks = { λ d. has_coincidence_keys };
-
-    #[tactic(auto, unfolding(crate::specs::Coincidences::has_coincidence_keys))]
-    fn is_met(_document: &Value, item: &Value) -> bool {
-        has_keys(item, &["first", "second", "reach", "width"], &[])
-    }
 }
 
 impl PlanKind for CoincidenceSet {
@@ -57,8 +37,11 @@ impl PlanKind for CoincidenceSet {
         list_at(document, "coincidence")
     }
 
+    /// A coincidence has exactly the keys `first`, `second`, `reach` and `width`.
+    #[tactic(auto, unfolding(crate::specs::Coincidences::has_coincidence_keys))]
     fn keeps_before(document: &Value) -> Result<(), Fault> {
-        each::<CoincidenceKeys>(17, document, "coincidence")
+        let tables = list_at(document, "coincidence");
+        each_has_keys(17, tables, &["first", "second", "reach", "width"], &[])
     }
 
     fn last_rule() -> u8 {

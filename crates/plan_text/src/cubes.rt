@@ -2,13 +2,13 @@
 ghost use Rattle.std.specs.Prelude.{◌≡◌, ◌<◌, ◌≤◌, length, option_map, IfSome};
 ghost use Rattle.toml.specs.View.{view};
 ghost use Rattle.tally_base.{specs.Settings.cube_view, specs.Settings.PartSettings.CubeSettings};
-ghost use Rattle.plan_text.{specs.Groups.groups, specs.Cubes.{bins, has_cube_values, cube, has_cube_keys, cube_kind}};
+ghost use Rattle.plan_text.{specs.Groups.groups, specs.Cubes.{bins, has_cube_values, cube, cube_kind}};
 
 use crate::images::{has_image_values, image};
-use crate::kind::PlanKind;
+use crate::kind::{PlanKind, each_has_keys};
 use tally_base::{CubeSet, Fault, Mode, PartKind};
 use toml::Value;
-use toml_rules::{ListRule, each, has_keys, list_at, number_in};
+use toml_rules::{ListRule, each, list_at, number_in};
 
 /// The most bins that all pixels of a cube have together.
 const MOST_BINS: u64 = 1 << 26;
@@ -20,12 +20,8 @@ fn bins(table: &Value) -> Option<(u32, u32)>
     ensures width { IfSome result (λ bins. (0 < bins.0) × (bins.0 ≤ 32768)) }
     ensures count { IfSome result (λ bins. (0 < bins.1) × (bins.1 ≤ 32768)) }
 {
-    let Some(dwidth) = number_in(table, "dwidth", 1, 32768) else {
-        return None;
-    };
-    let Some(dbins) = number_in(table, "dbins", 1, 32768) else {
-        return None;
-    };
+    let dwidth = number_in(table, "dwidth", 1, 32768)?;
+    let dbins = number_in(table, "dbins", 1, 32768)?;
     Some((dwidth as u32, dbins as u32))
 }
 
@@ -35,12 +31,8 @@ fn cube(document: &Value, table: &Value) -> Option<CubeSet>
     requires few { length (groups (view document.now)) ≤ 64 }
     ensures { option_map (λ set. CubeSettings (cube_view set)) result ≡ cube (view document.now) (view table.now) }
 {
-    let Some(image) = image(document, table) else {
-        return None;
-    };
-    let Some((dwidth, dbins)) = bins(table) else {
-        return None;
-    };
+    let image = image(document, table)?;
+    let (dwidth, dbins) = bins(table)?;
     if u64::from(image.width) * u64::from(image.height) * u64::from(dbins) <= MOST_BINS {
         Some(CubeSet {
             image,
@@ -49,25 +41,6 @@ fn cube(document: &Value, table: &Value) -> Option<CubeSet>
         })
     } else {
         None
-    }
-}
-
-/// All that an image must say and how its pixels are binned stand there, and nothing else but what an image
-/// may say.
-struct CubeKeys;
-
-impl ListRule for CubeKeys {
-    ghost asks = { λ d. has_cube_keys };
-
-    #[tactic(auto, unfolding(crate::specs::Cubes::has_cube_keys))]
-    fn is_met(_document: &Value, item: &Value) -> bool {
-        has_keys(
-            item,
-            &[
-                "group", "width", "height", "dwell", "line", "dwidth", "dbins",
-            ],
-            &["frame", "stop", "serpentine"],
-        )
     }
 }
 
@@ -92,8 +65,19 @@ impl PlanKind for CubeSet {
         list_at(document, "cube")
     }
 
+    /// All that an image must say and how its pixels are binned stand there, and nothing else but what an image
+    /// may say.
+    #[tactic(auto, unfolding(crate::specs::Cubes::has_cube_keys))]
     fn keeps_before(document: &Value) -> Result<(), Fault> {
-        each::<CubeKeys>(27, document, "cube")?;
+        let tables = list_at(document, "cube");
+        each_has_keys(
+            27,
+            tables,
+            &[
+                "group", "width", "height", "dwell", "line", "dwidth", "dbins",
+            ],
+            &["frame", "stop", "serpentine"],
+        )?;
         each::<CubeValues>(28, document, "cube")
     }
 

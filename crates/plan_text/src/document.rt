@@ -34,13 +34,10 @@ pub(crate) fn records(document: &Value) -> Option<u64>
     ensures range { IfSome result (λ n. (1 ≤ n) × (n ≤ record_limit)) }
 {
     match document.get("limits") {
-        Some(limits) => {
-            if has_keys(limits, &[], &["records"]) {
-                number_or(limits, "records", RECORD_LIMIT, 1, RECORD_LIMIT)
-            } else {
-                None
-            }
+        Some(limits) if has_keys(limits, &[], &["records"]) => {
+            number_or(limits, "records", RECORD_LIMIT, 1, RECORD_LIMIT)
         }
+        Some(_) => None,
         None => Some(RECORD_LIMIT),
     }
 }

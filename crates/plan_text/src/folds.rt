@@ -2,13 +2,13 @@
 ghost use Rattle.std.specs.Prelude.{◌≡◌, ◌<◌, ◌≤◌, length, map, option_map, IfSome};
 ghost use Rattle.toml.specs.View.{view};
 ghost use Rattle.tally_base.{specs.Gates.AreGroups, specs.Settings.fold_view, specs.Settings.PartSettings.FoldSettings};
-ghost use Rattle.plan_text.{specs.Groups.groups, specs.Folds.{numbers_from, numbers_among, numbers, fold_settings, has_fold_keys, fold_kind}};
+ghost use Rattle.plan_text.{specs.Groups.groups, specs.Folds.{numbers_from, numbers_among, numbers, fold_settings, fold_kind}};
 
-use crate::kind::PlanKind;
+use crate::kind::{PlanKind, each_has_keys};
 use arrayvec::ArrayVec;
 use tally_base::{Fault, FoldSet, Mode, PartKind};
 use toml::Value;
-use toml_rules::{ListRule, each, has_keys, integer_in, list_at, number_in};
+use toml_rules::{integer_in, list_at, number_in};
 
 /// Integers from 1 to the greatest, each greater than the one before.
 fn numbers_from(most: u64, items: &[Value]) -> Option<ArrayVec<u8, 6>>
@@ -22,13 +22,9 @@ fn numbers_from(most: u64, items: &[Value]) -> Option<ArrayVec<u8, 6>>
     let mut numbers: ArrayVec<u8, 6> = ArrayVec::new();
     let mut low: u64 = 1;
     'items: for item in items {
-        match integer_in(item, low, most) {
-            Some(number) => {
-                low = number + 1;
-                numbers.push(number as u8);
-            }
-            None => return None,
-        }
+        let number = integer_in(item, low, most)?;
+        low = number + 1;
+        numbers.push(number as u8);
     }
     Some(numbers)
 }
@@ -65,13 +61,8 @@ fn numbers(document: &Value, table: &Value) -> Option<ArrayVec<u8, 6>>
     ensures count { IfSome result
         (λ numbers. (0 < length numbers.items) × (length numbers.items ≤ 6)) }
 {
-    match table.get("groups") {
-        Some(value) => match value.as_array() {
-            Some(items) => numbers_among(group_count(document), items.as_slice()),
-            None => None,
-        },
-        None => None,
-    }
+    let items = table.get("groups")?.as_array()?;
+    numbers_among(group_count(document), items.as_slice())
 }
 
 /// The fold that a table asks for.
@@ -81,28 +72,12 @@ fn fold_settings(document: &Value, table: &Value) -> Option<FoldSet>
     ensures { option_map (λ set. FoldSettings (fold_view set)) result
         ≡ fold_settings (view document.now) (view table.now) }
 {
-    let Some(groups) = numbers(document, table) else {
-        return None;
-    };
-    let Some(window) = number_in(table, "window", 1, 1 << 20) else {
-        return None;
-    };
+    let groups = numbers(document, table)?;
+    let window = number_in(table, "window", 1, 1 << 20)?;
     Some(FoldSet {
         groups,
         window: window as u32,
     })
-}
-
-/// All that a fold must say stands there, and nothing else.
-struct FoldKeys;
-
-impl ListRule for FoldKeys {
-    ghost asks = { λ d. has_fold_keys };
-
-    #[tactic(auto, unfolding(crate::specs::Folds::has_fold_keys))]
-    fn is_met(_document: &Value, item: &Value) -> bool {
-        has_keys(item, &["groups", "window"], &[])
-    }
 }
 
 impl PlanKind for FoldSet {
@@ -114,8 +89,11 @@ impl PlanKind for FoldSet {
         list_at(document, "fold")
     }
 
+    /// All that a fold must say stands there, and nothing else.
+    #[tactic(auto, unfolding(crate::specs::Folds::has_fold_keys))]
     fn keeps_before(document: &Value) -> Result<(), Fault> {
-        each::<FoldKeys>(30, document, "fold")
+        let tables = list_at(document, "fold");
+        each_has_keys(30, tables, &["groups", "window"], &[])
     }
 
     fn last_rule() -> u8 {

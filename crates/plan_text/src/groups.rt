@@ -28,13 +28,9 @@ fn inputs_from(items: &[Value]) -> Option<u128>
     let mut inputs: u128 = 0;
     let mut low: u64 = 0;
     'items: for item in items {
-        match integer_in(item, low, 64) {
-            Some(input) => {
-                inputs += bit(input);
-                low = input + 1;
-            }
-            None => return None,
-        }
+        let input = integer_in(item, low, 64)?;
+        inputs += bit(input);
+        low = input + 1;
     }
     Some(inputs)
 }
@@ -56,13 +52,7 @@ fn inputs(group: &Value) -> Option<u128>
     ensures set { result ≡ inputs (view group.now) }
     ensures range { IfSome result (λ set. (0 < set) × (set < 2 ^ 65)) }
 {
-    match group.get("inputs") {
-        Some(value) => match value.as_array() {
-            Some(items) => inputs_among(items.as_slice()),
-            None => None,
-        },
-        None => None,
-    }
+    inputs_among(group.get("inputs")?.as_array()?.as_slice())
 }
 
 /// A range of dtimes from two integers with low <= lo < hi <= 32768.
@@ -71,16 +61,15 @@ fn range_in(low: u16, items: &[Value]) -> Option<(u16, u16)>
     ensures some { IfSome result (λ range. (low ≤ range.0) × (range.0 < range.1) × (range.1 ≤ 32768)) }
 {
     match items {
-        [lo, hi] => match (integer_in(lo, low as u64, 32768), integer_in(hi, 0, 32768)) {
-            (Some(lo), Some(hi)) => {
-                if lo < hi {
-                    Some((lo as u16, hi as u16))
-                } else {
-                    None
-                }
+        [lo, hi] => {
+            let lo = integer_in(lo, low as u64, 32768)?;
+            let hi = integer_in(hi, 0, 32768)?;
+            if lo < hi {
+                Some((lo as u16, hi as u16))
+            } else {
+                None
             }
-            _ => None,
-        },
+        }
         _ => None,
     }
 }
@@ -91,10 +80,7 @@ fn range_among(low: u16, value: &Value) -> Option<(u16, u16)>
     ensures range { result ≡ range_among low (as_array (view value.now)) }
     ensures some { IfSome result (λ range. (low ≤ range.0) × (range.0 < range.1) × (range.1 ≤ 32768)) }
 {
-    match value.as_array() {
-        Some(items) => range_in(low, items.as_slice()),
-        None => None,
-    }
+    range_in(low, value.as_array()?.as_slice())
 }
 
 /// At most 8 such ranges, each from the end of the one before on.
@@ -106,13 +92,9 @@ fn ranges_from(items: &[Value]) -> Option<ArrayVec<(u16, u16), 8>>
     let mut ranges: ArrayVec<(u16, u16), 8> = ArrayVec::new();
     let mut low: u16 = 0;
     'items: for item in items {
-        match range_among(low, item) {
-            Some(range) => {
-                low = range.1;
-                ranges.push(range);
-            }
-            None => return None,
-        }
+        let range = range_among(low, item)?;
+        low = range.1;
+        ranges.push(range);
     }
     Some(ranges)
 }
@@ -135,10 +117,7 @@ fn many_gates(group: &Value) -> Option<ArrayVec<(u16, u16), 8>>
     ensures rise { IfSome result (λ ranges. AreGates 0 ranges.items) }
 {
     match group.get("gates") {
-        Some(value) => match value.as_array() {
-            Some(items) => ranges_in(items.as_slice()),
-            None => None,
-        },
+        Some(value) => ranges_in(value.as_array()?.as_slice()),
         None => Some(ArrayVec::new()),
     }
 }
@@ -150,13 +129,10 @@ fn one_gate(group: &Value) -> Option<ArrayVec<(u16, u16), 8>>
 {
     let mut ranges: ArrayVec<(u16, u16), 8> = ArrayVec::new();
     match group.get("gate") {
-        Some(value) => match range_among(0, value) {
-            Some(range) => {
-                ranges.push(range);
-                Some(ranges)
-            }
-            None => None,
-        },
+        Some(value) => {
+            ranges.push(range_among(0, value)?);
+            Some(ranges)
+        }
         None => Some(ranges),
     }
 }
@@ -179,13 +155,9 @@ fn gates(document: &Value, group: &Value) -> Option<ArrayVec<(u16, u16), 8>>
 pub(crate) fn group(document: &Value, table: &Value) -> Option<Group>
     ensures { option_map group_view result ≡ group (view document.now) (view table.now) }
 {
-    match inputs(table) {
-        Some(inputs) => match gates(document, table) {
-            Some(gates) => Some(Group { inputs, gates }),
-            None => None,
-        },
-        None => None,
-    }
+    let inputs = inputs(table)?;
+    let gates = gates(document, table)?;
+    Some(Group { inputs, gates })
 }
 
 /// A group has the key `inputs`, and no other key but `gate` in version 1 and `gates` in version 2.

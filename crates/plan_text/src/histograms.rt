@@ -2,13 +2,13 @@
 ghost use Rattle.std.specs.Prelude.{◌≡◌, ◌≤◌, length, option_map};
 ghost use Rattle.toml.specs.View.{view};
 ghost use Rattle.tally_base.{specs.Settings.hist_view, specs.Settings.PartSettings.HistSettings};
-ghost use Rattle.plan_text.{specs.Groups.groups, specs.Histograms.{has_histogram_keys, histogram_kind, histogram}};
+ghost use Rattle.plan_text.{specs.Groups.groups, specs.Histograms.{histogram_kind, histogram}};
 
 use crate::groups::group_number;
-use crate::kind::PlanKind;
+use crate::kind::{PlanKind, each_has_keys};
 use tally_base::{Fault, HistSet, Mode, PartKind};
 use toml::Value;
-use toml_rules::{ListRule, each, has_keys, list_at, number_in};
+use toml_rules::{list_at, number_in};
 
 /// The histogram that a table gives.
 #[tactic(auto, unfolding(crate::specs::Histograms::histogram))]
@@ -16,32 +16,14 @@ fn histogram(document: &Value, table: &Value) -> Option<HistSet>
     requires few { length (groups (view document.now)) ≤ 64 }
     ensures { option_map (λ set. HistSettings (hist_view set)) result ≡ histogram (view document.now) (view table.now) }
 {
-    match group_number(document, table, "group") {
-        Some(group) => match number_in(table, "width", 1, 32768) {
-            Some(width) => match number_in(table, "bins", 1, 32768) {
-                Some(bins) => Some(HistSet {
-                    group: group as u8,
-                    width: width as u32,
-                    bins: bins as u32,
-                }),
-                None => None,
-            },
-            None => None,
-        },
-        None => None,
-    }
-}
-
-/// A histogram has exactly the keys `group`, `width` and `bins`.
-struct HistogramKeys;
-
-impl ListRule for HistogramKeys {
-    ghost asks = { λ d. has_histogram_keys };
-
-    #[tactic(auto, unfolding(crate::specs::Histograms::has_histogram_keys))]
-    fn is_met(_document: &Value, item: &Value) -> bool {
-        has_keys(item, &["group", "width", "bins"], &[])
-    }
+    let group = group_number(document, table, "group")?;
+    let width = number_in(table, "width", 1, 32768)?;
+    let bins = number_in(table, "bins", 1, 32768)?;
+    Some(HistSet {
+        group: group as u8,
+        width: width as u32,
+        bins: bins as u32,
+    })
 }
 
 impl PlanKind for HistSet {
@@ -53,8 +35,11 @@ impl PlanKind for HistSet {
         list_at(document, "histogram")
     }
 
+    /// A histogram has exactly the keys `group`, `width` and `bins`.
+    #[tactic(auto, unfolding(crate::specs::Histograms::has_histogram_keys))]
     fn keeps_before(document: &Value) -> Result<(), Fault> {
-        each::<HistogramKeys>(11, document, "histogram")
+        let tables = list_at(document, "histogram");
+        each_has_keys(11, tables, &["group", "width", "bins"], &[])
     }
 
     fn last_rule() -> u8 {

@@ -1,15 +1,15 @@
 // The images of a plan.
-ghost use Rattle.std.specs.Prelude.{◌≡◌, ◌<◌, ◌≤◌, length, option_map, is_some, IfSome};
+ghost use Rattle.std.specs.Prelude.{◌≡◌, ◌<◌, ◌≤◌, map, length, option_map, is_some, IfSome};
 ghost use Rattle.toml.specs.View.{view};
 ghost use Rattle.tally_base.{specs.Settings.image_view, specs.Settings.PartSettings.ImageSettings, specs.Limits.wrap_limit};
-ghost use Rattle.plan_text.{specs.Groups.groups, specs.Images.{bit, raster, bits, serpentine, image_values, has_image_keys, image_kind}};
+ghost use Rattle.plan_text.{specs.Groups.groups, specs.Images.{other_image_keys, bit, raster, bits, serpentine, image_values, image_kind}};
 
 use crate::groups::group_number;
-use crate::kind::PlanKind;
+use crate::kind::{PlanKind, each_has_keys};
 use crate::version::is_second;
 use tally_base::{Fault, ImageSet, Mode, PartKind, WRAP_LIMIT};
 use toml::Value;
-use toml_rules::{ListRule, each, has_keys, integer_in, list_at, number_in, truth_or};
+use toml_rules::{integer_in, list_at, number_in, truth_or};
 
 /// The number of the marker bit at a key, if there is one.
 #[tactic(auto, unfolding(crate::specs::Images::bit))]
@@ -18,10 +18,7 @@ fn bit(table: &Value, key: &str) -> Option<Option<u8>>
     ensures range { IfSome result (λ bit. IfSome bit (λ n. (0 < n) × (n ≤ 4))) }
 {
     match table.get(key) {
-        Some(value) => match integer_in(value, 1, 4) {
-            Some(number) => Some(Some(number as u8)),
-            None => None,
-        },
+        Some(value) => Some(Some(integer_in(value, 1, 4)? as u8)),
         None => Some(None),
     }
 }
@@ -34,15 +31,9 @@ fn raster(table: &Value) -> Option<(u32, (u32, u64))>
     ensures height { IfSome result (λ raster. (0 < raster.1.0) × (raster.1.0 ≤ 2048)) }
     ensures dwell { IfSome result (λ raster. (0 < raster.1.1) × (raster.1.1 ≤ wrap_limit)) }
 {
-    let Some(width) = number_in(table, "width", 1, 2048) else {
-        return None;
-    };
-    let Some(height) = number_in(table, "height", 1, 2048) else {
-        return None;
-    };
-    let Some(dwell) = number_in(table, "dwell", 1, WRAP_LIMIT) else {
-        return None;
-    };
+    let width = number_in(table, "width", 1, 2048)?;
+    let height = number_in(table, "height", 1, 2048)?;
+    let dwell = number_in(table, "dwell", 1, WRAP_LIMIT)?;
     Some((width as u32, (height as u32, dwell)))
 }
 
@@ -54,15 +45,9 @@ fn bits(table: &Value) -> Option<(u8, (Option<u8>, Option<u8>))>
     ensures frame { IfSome result (λ bits. IfSome bits.1.0 (λ n. (0 < n) × (n ≤ 4))) }
     ensures stop { IfSome result (λ bits. IfSome bits.1.1 (λ n. (0 < n) × (n ≤ 4))) }
 {
-    let Some(line) = number_in(table, "line", 1, 4) else {
-        return None;
-    };
-    let Some(frame) = bit(table, "frame") else {
-        return None;
-    };
-    let Some(stop) = bit(table, "stop") else {
-        return None;
-    };
+    let line = number_in(table, "line", 1, 4)?;
+    let frame = bit(table, "frame")?;
+    let stop = bit(table, "stop")?;
     Some((line as u8, (frame, stop)))
 }
 
@@ -91,18 +76,10 @@ pub(crate) fn image(document: &Value, table: &Value) -> Option<ImageSet>
     requires few { length (groups (view document.now)) ≤ 64 }
     ensures { option_map image_view result ≡ image_values (view document.now) (view table.now) }
 {
-    let Some(group) = group_number(document, table, "group") else {
-        return None;
-    };
-    let Some((width, (height, dwell))) = raster(table) else {
-        return None;
-    };
-    let Some((line, (frame, stop))) = bits(table) else {
-        return None;
-    };
-    let Some(serpentine) = serpentine(table) else {
-        return None;
-    };
+    let group = group_number(document, table, "group")?;
+    let (width, (height, dwell)) = raster(table)?;
+    let (line, (frame, stop)) = bits(table)?;
+    let serpentine = serpentine(table)?;
     Some(ImageSet {
         group: group as u8,
         width,
@@ -115,28 +92,14 @@ pub(crate) fn image(document: &Value, table: &Value) -> Option<ImageSet>
     })
 }
 
-/// An image has the keys `group`, `width`, `height`, `dwell` and `line`, and no other key but `frame`,
-/// `stop` and, in version 2, `serpentine`.
-struct ImageKeys;
-
-impl ListRule for ImageKeys {
-    ghost asks = { has_image_keys };
-
-    #[tactic(auto, unfolding(crate::specs::Images::has_image_keys))]
-    fn is_met(document: &Value, item: &Value) -> bool {
-        if is_second(document) {
-            has_keys(
-                item,
-                &["group", "width", "height", "dwell", "line"],
-                &["frame", "stop", "serpentine"],
-            )
-        } else {
-            has_keys(
-                item,
-                &["group", "width", "height", "dwell", "line"],
-                &["frame", "stop"],
-            )
-        }
+/// The keys that an image may have or not.
+fn other_keys(second: bool) -> &'static [&'static str]
+    ensures { map (λ key. key.now) result.now ≡ other_image_keys second }
+{
+    if second {
+        &["frame", "stop", "serpentine"]
+    } else {
+        &["frame", "stop"]
     }
 }
 
@@ -149,8 +112,13 @@ impl PlanKind for ImageSet {
         list_at(document, "image")
     }
 
+    /// An image has the keys `group`, `width`, `height`, `dwell` and `line`, and no other key but `frame`,
+    /// `stop` and, in version 2, `serpentine`.
+    #[tactic(auto, unfolding(crate::specs::Images::has_image_keys))]
     fn keeps_before(document: &Value) -> Result<(), Fault> {
-        each::<ImageKeys>(19, document, "image")
+        let tables = list_at(document, "image");
+        let needed = &["group", "width", "height", "dwell", "line"];
+        each_has_keys(19, tables, needed, other_keys(is_second(document)))
     }
 
     fn last_rule() -> u8 {

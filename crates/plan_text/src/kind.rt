@@ -2,13 +2,13 @@
 ghost use Rattle.std.specs.Prelude.{◌≡◌, ◌+◌, ◌≤◌, Option, map, filter_map, length, is_some, option_map, OnOk, IfOk, IfErr, Ok, Err};
 ghost use Rattle.toml.specs.View.{view};
 ghost use Rattle.tally_base.specs.Settings.{PartSettings};
-ghost use Rattle.toml_rules.specs.Rules.{all_kept, kept, each};
+ghost use Rattle.toml_rules.{specs.Rules.{all_kept, kept, each}, specs.Values.has_keys};
 ghost use Rattle.plan_text.{specs.Fits.{misfit, parts_fit}, specs.Groups.groups, specs.Kind.{Kind, tables, kind_rules}};
 
 use arrayvec::ArrayVec;
 use tally_base::{Fault, Mode, PartKind};
 use toml::Value;
-use toml_rules::held;
+use toml_rules::{has_keys, held};
 
 /// The settings of one kind of tables.
 pub(crate) trait PlanKind: Default + Drop {
@@ -39,6 +39,25 @@ pub(crate) trait PlanKind: Default + Drop {
     /// The name of the kind, where it doesn't suit a mode.
     fn misfit(mode: Mode) -> Option<PartKind>
         ensures { (set : Self) → misfit mode (settings set) ≡ result };
+}
+
+/// Each of the tables has each of the needed keys, and of others only these. Refused with the rule and the number of
+/// the first, from 1, that has not.
+pub(crate) fn each_has_keys(
+    rule: u8,
+    items: &[Value],
+    needed: &[&str],
+    other: &[&str],
+) -> Result<(), Fault>
+    requires few { length (map view items.now) ≤ 255 }
+    ensures { result ≡ kept (each rule (has_keys (map (λ k. k.now) needed.now) (map (λ k. k.now) other.now)) (map view items.now)) }
+{
+    let mut index: u16 = 1;
+    'items: for item in items {
+        held(rule, index, has_keys(item, needed, other))?;
+        index += 1;
+    }
+    Ok(())
 }
 
 /// Each of the tables gives settings. Refused with the rule and the number of the first, from 1, that gives none.

@@ -118,22 +118,11 @@ fn policy_of(document: &Value) -> Policy
     ensures few { result.settle ≤ 64 }
     ensures range { (0 < result.records) × (result.records ≤ record_limit) }
 {
-    let order = order_of(order(document));
-    let reserved = reserved_of(reserved(document));
-    let settle = settle_or_none(document) as u32;
-    match records(document) {
-        Some(records) => Policy {
-            order,
-            reserved,
-            records,
-            settle,
-        },
-        None => Policy {
-            order,
-            reserved,
-            records: RECORD_LIMIT,
-            settle,
-        },
+    Policy {
+        order: order_of(order(document)),
+        reserved: reserved_of(reserved(document)),
+        records: records(document).unwrap_or(RECORD_LIMIT),
+        settle: settle_or_none(document) as u32,
     }
 }
 

@@ -21,8 +21,5 @@ pub(crate) fn settle_or_none(document: &Value) -> u64
     ensures number { result ≡ settle_or_none (view document.now) }
     ensures range { result ≤ 64 }
 {
-    match settle(document) {
-        Some(settle) => settle,
-        None => 0,
-    }
+    settle(document).unwrap_or(0)
 }

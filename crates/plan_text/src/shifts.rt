@@ -3,13 +3,14 @@ ghost use Rattle.std.specs.Prelude.{◌≡◌, ◌<◌, ◌≤◌, map, filter_m
 ghost use Rattle.toml.specs.View.{view};
 ghost use Rattle.tally_base.specs.Settings.{shift_view};
 ghost use Rattle.toml_rules.specs.Rules.{all_kept, kept, each};
-ghost use Rattle.plan_text.specs.Shifts.{shifts, period, period_or_one, shift, input_behind, shifts_from, all_shifts, has_shift_keys, shift_rules};
+ghost use Rattle.plan_text.specs.Shifts.{shifts, period, period_or_one, shift, input_behind, shifts_from, all_shifts, shift_rules};
 
+use crate::kind::each_has_keys;
 use crate::settle::settle;
 use arrayvec::ArrayVec;
 use tally_base::{Fault, ShiftSet};
 use toml::Value;
-use toml_rules::{ListRule, each, has_keys, held, integer_in, list_at, number_in};
+use toml_rules::{held, integer_in, list_at, number_in};
 
 /// The period of the dtimes in ticks. It may be left out where there is no shift, and is 1 then.
 #[tactic(auto, unfolding(crate::specs::Shifts::period))]
@@ -35,10 +36,7 @@ pub(crate) fn period_or_one(document: &Value) -> u64
     ensures number { result ≡ period_or_one (view document.now) }
     ensures range { (1 ≤ result) × (result ≤ 32768) }
 {
-    match period(document) {
-        Some(period) => period,
-        None => 1,
-    }
+    period(document).unwrap_or(1)
 }
 
 /// The shift that a table gives, of an input from `low` on.
@@ -47,12 +45,8 @@ fn shift(period: u64, low: u64, table: &Value) -> Option<ShiftSet>
     requires { (1 ≤ period) × (period ≤ 32768) }
     ensures { option_map shift_view result ≡ shift period low (view table.now) }
 {
-    let Some(input) = number_in(table, "input", low, 64) else {
-        return None;
-    };
-    let Some(shift) = number_in(table, "shift", 0, period - 1) else {
-        return None;
-    };
+    let input = number_in(table, "input", low, 64)?;
+    let shift = number_in(table, "shift", 0, period - 1)?;
     Some(ShiftSet {
         input: input as u8,
         shift: shift as u16,
@@ -66,18 +60,6 @@ fn input_behind(set: Option<ShiftSet>) -> u64
     match set {
         Some(set) => set.input as u64 + 1,
         None => 0,
-    }
-}
-
-/// A shift has exactly the keys `input` and `shift`.
-struct ShiftKeys;
-
-impl ListRule for ShiftKeys {
-    ghost asks = { λ d. has_shift_keys };
-
-    #[tactic(auto, unfolding(crate::specs::Shifts::has_shift_keys))]
-    fn is_met(_document: &Value, item: &Value) -> bool {
-        has_keys(item, &["input", "shift"], &[])
     }
 }
 
@@ -100,13 +82,13 @@ fn each_is_read(rule: u8, period: u64, items: &[Value]) -> Result<(), Fault>
 }
 
 /// Goes through the rules on the period, the shifts and settling, 23 to 26.
-#[tactic(auto, unfolding(crate::specs::Shifts::shift_rules, crate::specs::Shifts::all_shifts))]
+#[tactic(auto, unfolding(crate::specs::Shifts::shift_rules, crate::specs::Shifts::all_shifts, crate::specs::Shifts::has_shift_keys))]
 pub(crate) fn keeps_shift_rules(document: &Value) -> Result<(), Fault>
     requires few { length (shifts (view document.now)) ≤ 65 }
     ensures { result ≡ all_kept (shift_rules (view document.now)) }
 {
     held(23, 0, period(document).is_some())?;
-    each::<ShiftKeys>(24, document, "shift")?;
+    each_has_keys(24, list_at(document, "shift"), &["input", "shift"], &[])?;
     each_is_read(25, period_or_one(document), list_at(document, "shift"))?;
     held(26, 0, settle(document).is_some())
 }

@@ -2,13 +2,13 @@
 ghost use Rattle.std.specs.Prelude.{◌≡◌, ◌≤◌, length, option_map};
 ghost use Rattle.toml.specs.View.{view};
 ghost use Rattle.tally_base.{specs.Settings.startstop_view, specs.Settings.PartSettings.StartStopSettings};
-ghost use Rattle.plan_text.{specs.Groups.groups, specs.StartStops.{startstop, has_startstop_keys, startstop_kind}};
+ghost use Rattle.plan_text.{specs.Groups.groups, specs.StartStops.{startstop, startstop_kind}};
 
 use crate::groups::group_number;
-use crate::kind::PlanKind;
+use crate::kind::{PlanKind, each_has_keys};
 use tally_base::{Fault, Mode, PartKind, StartStopSet, WRAP_LIMIT};
 use toml::Value;
-use toml_rules::{ListRule, each, has_keys, list_at, number_in};
+use toml_rules::{list_at, number_in};
 
 /// The start-stop that a table gives.
 #[tactic(auto, unfolding(crate::specs::StartStops::startstop))]
@@ -16,36 +16,16 @@ fn startstop(document: &Value, table: &Value) -> Option<StartStopSet>
     requires few { length (groups (view document.now)) ≤ 64 }
     ensures { option_map (λ set. StartStopSettings (startstop_view set)) result ≡ startstop (view document.now) (view table.now) }
 {
-    let Some(start) = group_number(document, table, "start") else {
-        return None;
-    };
-    let Some(stop) = group_number(document, table, "stop") else {
-        return None;
-    };
-    let Some(width) = number_in(table, "width", 1, WRAP_LIMIT) else {
-        return None;
-    };
-    let Some(bins) = number_in(table, "bins", 1, 32768) else {
-        return None;
-    };
+    let start = group_number(document, table, "start")?;
+    let stop = group_number(document, table, "stop")?;
+    let width = number_in(table, "width", 1, WRAP_LIMIT)?;
+    let bins = number_in(table, "bins", 1, 32768)?;
     Some(StartStopSet {
         start: start as u8,
         stop: stop as u8,
         width,
         bins: bins as u32,
     })
-}
-
-/// A start-stop has exactly the keys `start`, `stop`, `width` and `bins`.
-struct StartStopKeys;
-
-impl ListRule for StartStopKeys {
-    ghost asks = { λ d. has_startstop_keys };
-
-    #[tactic(auto, unfolding(crate::specs::StartStops::has_startstop_keys))]
-    fn is_met(_document: &Value, item: &Value) -> bool {
-        has_keys(item, &["start", "stop", "width", "bins"], &[])
-    }
 }
 
 impl PlanKind for StartStopSet {
@@ -57,8 +37,11 @@ impl PlanKind for StartStopSet {
         list_at(document, "startstop")
     }
 
+    /// A start-stop has exactly the keys `start`, `stop`, `width` and `bins`.
+    #[tactic(auto, unfolding(crate::specs::StartStops::has_startstop_keys))]
     fn keeps_before(document: &Value) -> Result<(), Fault> {
-        each::<StartStopKeys>(15, document, "startstop")
+        let tables = list_at(document, "startstop");
+        each_has_keys(15, tables, &["start", "stop", "width", "bins"], &[])
     }
 
     fn last_rule() -> u8 {

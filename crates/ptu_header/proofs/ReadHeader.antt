@@ -18,8 +18,7 @@ body-open left last tags found version bytes h some = search (rules, arith, endi
 
 -- Where a reader goes on, its bytes are a file that is cut.
 pub reads-open : (phase : Phase) (carried : List ℕ) (taken tags : ℕ) (found : Found) (version bytes : List ℕ)
-    → goes_on phase ≡ true → Reads phase carried taken tags found version bytes
-    → (ending bytes ≡ Open) × (taken ≡ length bytes)
+    → goes_on phase ≡ true → Reads phase carried taken tags found version bytes → (ending bytes ≡ Open) × (taken ≡ length bytes)
 reads-open Phases.Preamble carried taken tags found version bytes on h = (preamble-open carried bytes h.0, h.1)
 reads-open Phases.Tag carried taken tags found version bytes on h = (tag-open carried tags found version bytes h.0 h.1, h.2)
 reads-open (Phases.Body left last) carried taken tags found version bytes on h = (body-open left last tags found version bytes h.0 h.1, h.2)
@@ -27,8 +26,7 @@ reads-open Phases.End carried taken tags found version bytes on h = cc
 reads-open (Phases.Refused fault) carried taken tags found version bytes on h = cc
 
 pub reads-answer : (phase : Phase) (carried : List ℕ) (taken tags : ℕ) (found : Found) (version bytes : List ℕ)
-    → (goes_on phase && nat_lt taken (2 ^ 24)) ≡ true
-    → Reads phase carried taken tags found version bytes → header_answer bytes ≡ Err (TruncatedHeader taken)
+    → (goes_on phase && nat_lt taken (2 ^ 24)) ≡ true → Reads phase carried taken tags found version bytes → header_answer bytes ≡ Err (TruncatedHeader taken)
 reads-answer phase carried taken tags found version bytes on h =
     let parts = and_parts (goes_on phase) (nat_lt taken (2 ^ 24)) on in
     let cut = reads-open phase carried taken tags found version bytes parts.0 h in
@@ -71,8 +69,7 @@ pub preamble-more : (carried bytes p : List ℕ) → InPreamble carried bytes �
 preamble-more carried bytes p h short magic = record { bytes_are = ap (λ l. l ++ p) h.bytes_are; short = short; magic = magic }
 
 pub preamble-whole : (tags : ℕ) (found : Found) (version bytes : List ℕ) → length bytes ≡ 16
-    → take 6 bytes ≡ codes "PQTTTR" → tags ≡ 0 → found ≡ found_in [] → version ≡ version_in bytes
-    → IsPreamble bytes × InTag [] tags found version bytes
+    → take 6 bytes ≡ codes "PQTTTR" → tags ≡ 0 → found ≡ found_in [] → version ≡ version_in bytes → IsPreamble bytes × InTag [] tags found version bytes
 preamble-whole tags found version bytes size magic t f v = search (rules, arith, append-nil)
 
 -- a tag
@@ -103,14 +100,12 @@ tag-whole tag tags found version bytes h size known positive = record {
 
 -- a body
 pub body-more : (left fewer : ℕ) (last : Bool) (tags : ℕ) (found : Found) (version bytes p : List ℕ)
-    → InBody left last tags found version bytes → length p + fewer ≡ left
-    → InBody fewer last tags found version (bytes ++ p)
+    → InBody left last tags found version bytes → length p + fewer ≡ left → InBody fewer last tags found version (bytes ++ p)
 body-more left fewer last tags found version bytes p h e = search (rules, arith, append_assoc, length-append)
 
 -- behind a tag or a piece of its body
 pub after-reads : (left : ℕ) (last : Bool) (taken tags : ℕ) (found : Found) (version bytes : List ℕ)
-    → InBody left last tags found version bytes → taken ≡ length bytes
-    → Reads (phase_after left last) [] taken tags found version bytes
+    → InBody left last tags found version bytes → taken ≡ length bytes → Reads (phase_after left last) [] taken tags found version bytes
 after-reads zero true taken tags found version bytes h size =
     let item : Item = record { tag = h.tag; body = h.part } in
     let is : IsItem item = record { size = h.size; known = h.known; positive = h.positive; whole = omega (arith, h.left_is) } in
@@ -160,8 +155,7 @@ reads-of a b carried taken tags found version bytes e h = subst (λ p. Reads p c
 
 -- a refusal
 pub has_refused : (reader : HeaderReader) (fault : Fault) (bytes : List ℕ) → reader.phase ≡ Phases.Refused fault
-    → reader.taken ≤ length bytes → Shows header_answer (take reader.taken bytes) (Err fault)
-    → HasRead reader bytes
+    → reader.taken ≤ length bytes → Shows header_answer (take reader.taken bytes) (Err fault) → HasRead reader bytes
 has_refused reader fault bytes e fits h = rw e (fits, h)
 
 pub steps-refused : (step : HeaderStep) (reader : HeaderReader) (fault : Fault) (bytes piece : List ℕ) (used : ℕ)

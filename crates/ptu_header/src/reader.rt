@@ -57,6 +57,7 @@ impl HeaderReader {
     ghost use Rattle.ptu_header.specs.ReadHeader.{HasRead, Steps, StepsWhole, InTag, IsEnd, IsInside, Takes, TookTag, IsDue, Repeats, bytes_taken, is_open};
 
     /// A reader that has taken no byte.
+    #[tactic(auto, unfolding(ptu_definitions::specs::Fields::found_in))]
     pub fn new() -> HeaderReader
         ensures start { HasRead result [] }
         ensures is_open { is_open result ≡ true }
@@ -79,13 +80,10 @@ impl HeaderReader {
 
     /// Takes bytes of the piece, up to the next step. A piece may be empty.
     pub fn feed(&mut self, piece: &[u8]) -> HeaderStep
-        ensures step { (bytes : List ℕ) → HasRead self.old bytes
-            → Steps bytes piece.now self.new result }
-        ensures room { Takes (bytes_taken self.old) (bytes_taken self.new)
-            (length piece.now) result }
+        ensures step { (bytes : List ℕ) → HasRead self.old bytes → Steps bytes piece.now self.new result }
+        ensures room { Takes (bytes_taken self.old) (bytes_taken self.new) (length piece.now) result }
         ensures limit { bytes_taken self.new ≤ 2 ^ 24 }
-        ensures due { (bytes : List ℕ) → HasRead self.old bytes
-            → IsDue (header_answer bytes) result }
+        ensures due { (bytes : List ℕ) → HasRead self.old bytes → IsDue (header_answer bytes) result }
         ensures ended { IsEnd self.new result }
         ensures inside { IsInside result }
         ensures repeated { Repeats self.old self.new result }
@@ -101,10 +99,8 @@ impl HeaderReader {
 
     fn preamble(&mut self, piece: &[u8]) -> HeaderStep
         requires { self.old.phase ≡ Phase.Preamble }
-        ensures step { (bytes : List ℕ) → HasRead self.old bytes
-            → Steps bytes piece.now self.new result }
-        ensures room { Takes (bytes_taken self.old) (bytes_taken self.new)
-            (length piece.now) result }
+        ensures step { (bytes : List ℕ) → HasRead self.old bytes → Steps bytes piece.now self.new result }
+        ensures room { Takes (bytes_taken self.old) (bytes_taken self.new) (length piece.now) result }
         ensures ended { IsEnd self.new result }
         ensures inside { IsInside result }
     {
@@ -131,10 +127,8 @@ impl HeaderReader {
 
     fn tag(&mut self, piece: &[u8]) -> HeaderStep
         requires { self.old.phase ≡ Phase.Tag }
-        ensures step { (bytes : List ℕ) → HasRead self.old bytes
-            → Steps bytes piece.now self.new result }
-        ensures room { Takes (bytes_taken self.old) (bytes_taken self.new)
-            (length piece.now) result }
+        ensures step { (bytes : List ℕ) → HasRead self.old bytes → Steps bytes piece.now self.new result }
+        ensures room { Takes (bytes_taken self.old) (bytes_taken self.new) (length piece.now) result }
         ensures ended { IsEnd self.new result }
         ensures inside { IsInside result }
     {
@@ -210,10 +204,8 @@ impl HeaderReader {
 
     fn body(&mut self, piece: &[u8], left: u64, last: bool) -> HeaderStep
         requires { self.old.phase ≡ Phase.Body left last }
-        ensures step { (bytes : List ℕ) → HasRead self.old bytes
-            → Steps bytes piece.now self.new result }
-        ensures room { Takes (bytes_taken self.old) (bytes_taken self.new)
-            (length piece.now) result }
+        ensures step { (bytes : List ℕ) → HasRead self.old bytes → Steps bytes piece.now self.new result }
+        ensures room { Takes (bytes_taken self.old) (bytes_taken self.new) (length piece.now) result }
         ensures ended { IsEnd self.new result }
         ensures inside { IsInside result }
     {
@@ -234,15 +226,12 @@ impl HeaderReader {
 
     fn end(&mut self) -> HeaderStep
         requires { self.old.phase ≡ Phase.End }
-        ensures step { (bytes piece : List ℕ) → HasRead self.old bytes
-            → Steps bytes piece self.new result }
-        ensures room { (size : ℕ)
-            → Takes (bytes_taken self.old) (bytes_taken self.new) size result }
+        ensures step { (bytes piece : List ℕ) → HasRead self.old bytes → Steps bytes piece self.new result }
+        ensures room { (size : ℕ) → Takes (bytes_taken self.old) (bytes_taken self.new) size result }
         ensures ended { IsEnd self.new result }
         ensures inside { IsInside result }
         ensures repeated { Repeats self.old self.new result }
-        ensures due { (bytes : List ℕ) → HasRead self.old bytes
-            → IsDue (header_answer bytes) result }
+        ensures due { (bytes : List ℕ) → HasRead self.old bytes → IsDue (header_answer bytes) result }
         ensures taken { self.new.taken ≡ self.old.taken }
     {
         match header(self.version, &self.found) {
@@ -285,8 +274,7 @@ fn head_of(bytes: &[u8]) -> TagHead
 
 // How many bytes follow a tag. A length below 0 is 2^63 or more here.
 fn body_len(head: &TagHead, kind: TagKind) -> u64
-    ensures { (tag : List ℕ) → IsHead tag head.now → code_of kind ≡ code_in tag
-        → result ≡ body_size tag }
+    ensures { (tag : List ℕ) → IsHead tag head.now → code_of kind ≡ code_in tag → result ≡ body_size tag }
 {
     if kind.has_body() { head.value } else { 0 }
 }

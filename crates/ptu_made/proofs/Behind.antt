@@ -67,11 +67,9 @@ read_behind filled k count into new fits few =
     let size : length (take filled into) ≡ filled = length-take filled into ∙ omega arith in
     sym (take-take (filled + count) (filled + length new) (put_mid filled k into new) (omega arith))
     ∙ ap (take (filled + count)) (take-put_mid filled k into new (filled + length new) refl fits)
-    ∙ ap (λ n. take (n + count) (take filled into ++ new)) (sym size)
-    ∙ take-append-add (take filled into) new count
+    ∙ ap (λ n. take (n + count) (take filled into ++ new)) (sym size) ∙ take-append-add (take filled into) new count
 
 -- what was given and what is left, after one more part
 pub given_behind : (filled count k : ℕ) (into new old before left : List ℕ) → filled ≤ length into
-    → count ≤ length new → old ≡ take filled into ++ before → before ≡ take count new ++ left
-    → old ≡ take (filled + count) (put_mid filled k into new) ++ left
+    → count ≤ length new → old ≡ take filled into ++ before → before ≡ take count new ++ left → old ≡ take (filled + count) (put_mid filled k into new) ++ left
 given_behind filled count k into new old before left fits few was step = search (rules, arith, append_assoc, read_behind)

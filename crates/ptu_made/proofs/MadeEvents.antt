@@ -198,6 +198,5 @@ refusal-none policy before word drops few small made is =
     no-cause _ _ _ _ _ _ _ _ full (first-false (is_reserved raw) _ (not_reserved raw is.means)) (and-false (is_wrap raw) _ passing) drops
 
 pub unrefused : (policy : Policy) (words : List ℕ) → stops_late policy.order ≡ false
-    → length words ≤ policy.records → length words ≤ 20000000 → AllByRecursion IsMade words
-    → record_refusal (reading HydraHarp2T2 policy) words ≡ None
+    → length words ≤ policy.records → length words ≤ 20000000 → AllByRecursion IsMade words → record_refusal (reading HydraHarp2T2 policy) words ≡ None
 unrefused policy words drops few small made = search (rules, arith, none-refused, length-take, refusal-none, take-made, all_means)

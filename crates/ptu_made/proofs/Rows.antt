@@ -14,8 +14,7 @@ pub rows :
     -- a new unit begins
     × (photon_words 0x3FFFFD5 0x4000135 1 ≡ 0xFE000001 ∷ 0x02000135 ∷ [])
     × (photon_words 0x3FFFF00 0x3FFFFD5 1 ≡ 0x03FFFFD5 ∷ [])
-    × (made_file 0 1
-    ≡ codes "PQTTTR" ++ 0 ∷ 0 ∷ (codes "1.0.00" ++ 0 ∷ 0 ∷ (codes "TTResultFormat_TTTRRecType"
+    × (made_file 0 1 ≡ codes "PQTTTR" ++ 0 ∷ 0 ∷ (codes "1.0.00" ++ 0 ∷ 0 ∷ (codes "TTResultFormat_TTTRRecType"
     ++ 0 ∷ 0 ∷ 0 ∷ 0 ∷ 0 ∷ 0 ∷ 255 ∷ 255 ∷ 255 ∷ 255 ∷ 8 ∷ 0 ∷ 0 ∷ 16 ∷ 4 ∷ 2 ∷ 1 ∷ 1 ∷ 0 ∷ 0 ∷ 0 ∷ 0 ∷ (codes "Header_End"
     ++ replicate 22 0 ++ (255 ∷ 255 ∷ 255 ∷ 255 ∷ 8 ∷ 0 ∷ 255 ∷ 255 ∷ 0 ∷ 0 ∷ 0 ∷ 0 ∷ 0 ∷ 0 ∷ 0 ∷ 0 ∷ 0xBF ∷ 1 ∷ 0 ∷ 0 ∷ [])))))
     × (made_photons 1 2 ≡ record { kind = Photon 2 0; time = 470 } ∷ record { kind = Photon 2 0; time = 815 } ∷ [])

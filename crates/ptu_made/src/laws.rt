@@ -17,13 +17,10 @@ pub fn the_file_is_whole()
     ensures header { (seed count : ℕ)
         → header_answer (made_file seed count)
         ≡ Ok (made_header, bytes_in (made_words seed count)) }
-    ensures words { (seed count : ℕ)
-        → words_of (bytes_in (made_words seed count)) ≡ made_words seed count }
+    ensures words { (seed count : ℕ) → words_of (bytes_in (made_words seed count)) ≡ made_words seed count }
     ensures rest { (seed count : ℕ) → rest_of (bytes_in (made_words seed count)) ≡ [] }
-    ensures size { (seed count : ℕ)
-        → length (made_file seed count) ≡ 112 + 4 * length (made_words seed count) }
-    ensures few { (seed count : ℕ) → (count ≤ length (made_words seed count))
-        × (length (made_words seed count) ≤ 2 * count) }
+    ensures size { (seed count : ℕ) → length (made_file seed count) ≡ 112 + 4 * length (made_words seed count) }
+    ensures few { (seed count : ℕ) → (count ≤ length (made_words seed count)) × (length (made_words seed count) ≤ 2 * count) }
 {}
 
 /// Each word is a photon of input 1 or 2 or one wrap. The events are the photons that the seed gives:
@@ -35,8 +32,7 @@ pub fn the_words_are_photons()
     ensures events { (seed count : ℕ)
         → map timed (events (map (meaning_of RecordType.HydraHarp2T2) (made_words seed count)))
         ≡ made_photons seed count }
-    ensures wraps { (seed count : ℕ)
-        → base (map (meaning_of RecordType.HydraHarp2T2) (made_words seed count)) ≤ 512 * count }
+    ensures wraps { (seed count : ℕ) → base (map (meaning_of RecordType.HydraHarp2T2) (made_words seed count)) ≤ 512 * count }
 {}
 
 /// A slot that was not opened has nothing left to read, whatever was read of the other.

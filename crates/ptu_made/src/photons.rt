@@ -34,6 +34,7 @@ fn state_behind(state: u64) -> u64
 impl Photons {
     ghost use Rattle.ptu_made.specs.Unread.{words_left};
 
+    #[tactic(auto, unfolding(crate::specs::Generator::made_words))]
     pub(crate) fn new(seed: u64, count: u64) -> Photons
         requires { count ≤ photon_limit }
         ensures { words_left result ≡ made_words seed count }

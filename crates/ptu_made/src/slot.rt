@@ -33,8 +33,7 @@ impl Begun {
     fn read(&mut self, into: &mut [u8]) -> usize
         ensures count { result ≡ min (length (bytes_left self.old.unread)) (length into.new) }
         ensures told { told_in (Some self.new) ≡ told_in (Some self.old) }
-        ensures gives { GivesCount (given_in (Some self.old))
-            (given_in (Some self.new)) result into.new }
+        ensures gives { GivesCount (given_in (Some self.old)) (given_in (Some self.new)) result into.new }
     {
         let count = self.unread.read(into);
         self.given.note(&into[..count]);

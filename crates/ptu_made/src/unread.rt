@@ -22,6 +22,7 @@ pub(crate) struct Unread {
 impl Unread {
     ghost use Rattle.ptu_made.specs.Unread.{held_in, bytes_left};
 
+    #[tactic(auto, unfolding(crate::specs::Records::made_file, minimal_file::specs::ShortFiles::minimal_file, minimal_file::specs::ShortFiles::short_header))]
     pub(crate) fn new(seed: u64, count: u64) -> Unread
         requires { count ≤ photon_limit }
         ensures { bytes_left result ≡ made_file seed count }

@@ -53,10 +53,8 @@ impl Picker {
     /// Writes the header of the file, 112 bytes, which come before all photons.
     pub fn start<O: Sink>(&mut self, out: &mut O) -> Result<(), Fault>
         requires first { was_begun self.old ≡ false }
-        ensures all { OnOk result (Appends (O.written out.old) (O.written out.new)
-            (short_header (mode_of self.old))) }
-        ensures short { OnErr result (AppendsShort (O.written out.old) (O.written out.new)
-            (short_header (mode_of self.old))) }
+        ensures all { OnOk result (Appends (O.written out.old) (O.written out.new) (short_header (mode_of self.old))) }
+        ensures short { OnErr result (AppendsShort (O.written out.old) (O.written out.new) (short_header (mode_of self.old))) }
         ensures fault { IfErr result (λ fault. fault ≡ WriteFault) }
         ensures cause { FailsOnce (O.faults out.old) (O.faults out.new) result }
         ensures starts { Starts self.old self.new result }
@@ -76,10 +74,8 @@ impl Picker {
         requires next { IsNext self.now e.now }
         ensures puts { OnWordsOf self.now e.now (λ words. PutsOrCuts (O.written out.old)
             (O.written out.new) block.old block.new words result) }
-        ensures late { (result ≡ Err (PickTime e.now.place))
-            ↔ (is_too_late (mode_of self.now) e.now.time ≡ true) }
-        ensures untouched { result ≡ Err (PickTime e.now.place)
-            → (out.new ≡ out.old) × (block.new ≡ block.old) }
+        ensures late { (result ≡ Err (PickTime e.now.place)) ↔ (is_too_late (mode_of self.now) e.now.time ≡ true) }
+        ensures untouched { result ≡ Err (PickTime e.now.place) → (out.new ≡ out.old) × (block.new ≡ block.old) }
         ensures cause { PickCause e.now.place (O.faults out.old) (O.faults out.new) result }
     {
         if is_too_late(self.mode, e.time) {
@@ -112,10 +108,8 @@ impl Picker {
         ensures picks { OnOk result (Picks self.old self.new e.now) }
         ensures puts { OnWordsOf self.old e.now (λ words. PutsOrCuts (O.written out.old)
             (O.written out.new) block.old block.new words result) }
-        ensures late { (result ≡ Err (PickTime e.now.place))
-            ↔ (is_too_late (mode_of self.old) e.now.time ≡ true) }
-        ensures untouched { result ≡ Err (PickTime e.now.place)
-            → (out.new ≡ out.old) × (block.new ≡ block.old) }
+        ensures late { (result ≡ Err (PickTime e.now.place)) ↔ (is_too_late (mode_of self.old) e.now.time ≡ true) }
+        ensures untouched { result ≡ Err (PickTime e.now.place) → (out.new ≡ out.old) × (block.new ≡ block.old) }
         ensures cause { PickCause e.now.place (O.faults out.old) (O.faults out.new) result }
         ensures closes { OnErr result (Closes self.old self.new) }
     {
@@ -135,10 +129,8 @@ impl Picker {
     pub fn photon<O: Sink>(&mut self, e: &Event, out: &mut O) -> Result<(), Fault>
         requires next { IsNext self.old e.now }
         ensures picks { OnOk result (Picks self.old self.new e.now) }
-        ensures writes { OnWordsOf self.old e.now (λ words. WritesOrCuts (O.written out.old)
-            (O.written out.new) words result) }
-        ensures late { (result ≡ Err (PickTime e.now.place))
-            ↔ (is_too_late (mode_of self.old) e.now.time ≡ true) }
+        ensures writes { OnWordsOf self.old e.now (λ words. WritesOrCuts (O.written out.old) (O.written out.new) words result) }
+        ensures late { (result ≡ Err (PickTime e.now.place)) ↔ (is_too_late (mode_of self.old) e.now.time ≡ true) }
         ensures untouched { result ≡ Err (PickTime e.now.place) → out.new ≡ out.old }
         ensures cause { PickCause e.now.place (O.faults out.old) (O.faults out.new) result }
         ensures closes { OnErr result (Closes self.old self.new) }

@@ -69,10 +69,8 @@ fn photon_word(mode: Mode, input: u8, dtime: u16, time: u64) -> u32
 
 #[inline(always)]
 fn put_word<O: Sink>(word: u32, block: &mut OutBuffer, out: &mut O) -> Result<(), Failed>
-    ensures all { OnOk result (PutsWords (O.written out.old) (O.written out.new)
-        block.old block.new (word ∷ [])) }
-    ensures cut { OnErr result (CutsWords (O.written out.old) (O.written out.new)
-        block.old block.new (word ∷ [])) }
+    ensures all { OnOk result (PutsWords (O.written out.old) (O.written out.new) block.old block.new (word ∷ [])) }
+    ensures cut { OnErr result (CutsWords (O.written out.old) (O.written out.new) block.old block.new (word ∷ [])) }
     ensures cause { FailsOnce (O.faults out.old) (O.faults out.new) result }
 {
     block.put(out, &word.to_le_bytes())
@@ -85,10 +83,8 @@ fn put_copies<O: Sink>(
     block: &mut OutBuffer,
     out: &mut O,
 ) -> Result<(), Failed>
-    ensures all { OnOk result (PutsWords (O.written out.old) (O.written out.new)
-        block.old block.new (replicate count word)) }
-    ensures cut { OnErr result (CutsWords (O.written out.old) (O.written out.new)
-        block.old block.new (replicate count word)) }
+    ensures all { OnOk result (PutsWords (O.written out.old) (O.written out.new) block.old block.new (replicate count word)) }
+    ensures cut { OnErr result (CutsWords (O.written out.old) (O.written out.new) block.old block.new (replicate count word)) }
     ensures cause { FailsOnce (O.faults out.old) (O.faults out.new) result }
 {
     for copy in 0..count {
@@ -106,10 +102,8 @@ fn put_wraps<O: Sink>(
 ) -> Result<(), Failed>
     requires some { 0 < most }
     requires small { most < 33554432 }
-    ensures all { OnOk result (PutsWords (O.written out.old) (O.written out.new)
-        block.old block.new (wraps most units)) }
-    ensures cut { OnErr result (CutsWords (O.written out.old) (O.written out.new)
-        block.old block.new (wraps most units)) }
+    ensures all { OnOk result (PutsWords (O.written out.old) (O.written out.new) block.old block.new (wraps most units)) }
+    ensures cut { OnErr result (CutsWords (O.written out.old) (O.written out.new) block.old block.new (wraps most units)) }
     ensures cause { FailsOnce (O.faults out.old) (O.faults out.new) result }
 {
     put_copies(units / most, WRAP + most as u32, block, out)?;

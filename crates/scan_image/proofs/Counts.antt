@@ -34,16 +34,14 @@ met-marker set test h x bits kind =
     ∙ left (count_met set test h) (is_in x.1 set.group) (dtime_passes (test (place_of set x.0.time (markers h))) x.0.kind) passes
 
 pub marker_step : (over : HowMany → Type 0) (set : ImageView) (lines lines' : Lines) (h : History) (x : Event × ℕ) (bits : ℕ) → x.0.kind ≡ Marker bits
-    → ((ms : List Mark) → Saw lines ms → Saw lines' (ms ++ mark bits x.0.time ∷ []))
-    → IsBehind over set lines h → IsBehind over set lines' (h ++ x ∷ [])
+    → ((ms : List Mark) → Saw lines ms → Saw lines' (ms ++ mark bits x.0.time ∷ [])) → IsBehind over set lines h → IsBehind over set lines' (h ++ x ∷ [])
 marker_step over set lines lines' h x bits kind saw is = record {
   counted = subst over (fun_ext (λ test. sym (met-marker set test h x bits kind))) is.counted;
   saw = subst (λ ms. Saw lines' ms) (sym (markers-marker h x bits kind)) (saw (markers h) is.saw);
 }
 
 pub photon_step : (before after : HowMany → Type 0) (set : ImageView) (lines : Lines) (place : Option (ℕ × ℕ)) (h : History) (x : Event × ℕ) (input dtime more : ℕ) → x.0.kind ≡ Photon input dtime → more ≡ cond (is_in x.1 set.group) 1 0
-    → ((ms : List Mark) → Saw lines ms → place_of set x.0.time ms ≡ place)
-    → ((many : HowMany) → before many → after (with_photon many place dtime more))
+    → ((ms : List Mark) → Saw lines ms → place_of set x.0.time ms ≡ place) → ((many : HowMany) → before many → after (with_photon many place dtime more))
     → IsBehind before set lines h → IsBehind after set lines (h ++ x ∷ [])
 photon_step before after set lines place h x input dtime more kind of_group found adds is = record {
   counted = subst after (fun_ext (λ test. sym (met-photon set test h x place input dtime more kind of_group (found (markers h) is.saw))))

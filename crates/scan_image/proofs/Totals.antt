@@ -45,8 +45,7 @@ met-count set place n inside =
     (λ x. both (eqb place.0 x) (eqb place.1 y) n) (range_with_len 0 set.width)
     ∙ in_range place.0 0 set.width (cond (eqb place.1 y) n 0) (omega arith) (omega (arith, inside.0)) in
     sum_same (λ y. sum_by (λ x. cond (is_at x y (Some place)) n 0) (range_with_len 0 set.width))
-    (λ y. cond (eqb place.1 y) n 0) row (range_with_len 0 set.height)
-    ∙ in_range place.1 0 set.height n (omega arith) (omega (arith, inside.1))
+    (λ y. cond (eqb place.1 y) n 0) row (range_with_len 0 set.height) ∙ in_range place.1 0 set.height n (omega arith) (omega (arith, inside.1))
 
 pub cells-more : (set : ImageView) (h later : History) (more : ℕ → ℕ → ℕ)
     → ((x y : ℕ) → in_cell set x y later ≡ in_cell set x y h + more x y) → in_all_cells set later ≡ in_all_cells set h + over_pixels set more

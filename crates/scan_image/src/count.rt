@@ -18,10 +18,8 @@ pub fn count_block<P: Pixels>(
     block: &Block<TABLE_BLOCK>,
 )
     requires sorted { IsSorted block.now }
-    requires room { HasRoom (P.fits pixels.now counts.old) (P.total counts.old)
-        (length (gathered block.now)) }
-    requires lines { LinesHaveRoom (image_view (P.image pixels.now)) lines.old
-        (length (gathered block.now)) }
+    requires room { HasRoom (P.fits pixels.now counts.old) (P.total counts.old) (length (gathered block.now)) }
+    requires lines { LinesHaveRoom (image_view (P.image pixels.now)) lines.old (length (gathered block.now)) }
     requires in_order { InOrder true (line_start lines.old) (gathered block.now) }
     ensures follows { CountsMore (P.over pixels.now counts.old) (P.over pixels.now counts.new)
         (image_view (P.image pixels.now)) lines.old lines.new (events_in block.now) }
@@ -52,8 +50,7 @@ fn count_run<P: Pixels>(
     from: usize,
 ) -> usize
     requires places { ComesFrom block.now from (line_start lines.now) }
-    requires room { P.fits pixels.now counts.old
-        × (P.total counts.old + count block.now ≤ record_limit + from) }
+    requires room { P.fits pixels.now counts.old × (P.total counts.old + count block.now ≤ record_limit + from) }
     requires of_set { image_of lines.now ≡ image_view (P.image pixels.now) }
     ensures follows { CountsOn (P.over pixels.now counts.old) (P.over pixels.now counts.new)
         (image_view (P.image pixels.now)) lines.now block.now from result }
@@ -79,8 +76,7 @@ fn count_on<P: Pixels>(
     from: usize,
 ) -> usize
     requires places { ComesFrom block.now from (start_of strip.now) }
-    requires room { P.fits pixels.now counts.old
-        × (P.total counts.old + count block.now ≤ record_limit + from) }
+    requires room { P.fits pixels.now counts.old × (P.total counts.old + count block.now ≤ record_limit + from) }
     requires of_set { IsOfSize (P.image pixels.now) strip.now }
     ensures follows { CountsOnStrip (P.over pixels.now counts.old) (P.over pixels.now counts.new)
         (image_view (P.image pixels.now)) strip.now block.now from result }

@@ -38,8 +38,7 @@ impl Image {
     /// An image of no events, with all the memory that it ever takes, or `AllocError` where it is wanting.
     pub fn open(alloc: Global, set: ImageSet) -> Result<Image, AllocError>
         ensures set { IfOk result (λ t. set_of t ≡ set) }
-        ensures settings { IfOk result (λ t.
-            ⟦<Image as Tally>⟧.settings t ≡ ImageSettings (image_view set)) }
+        ensures settings { IfOk result (λ t. ⟦<Image as Tally>⟧.settings t ≡ ImageSettings (image_view set)) }
         ensures empty { IfOk result (λ t. Holds t []) }
         ensures opened { IfOk result (λ t. ⟦<Image as Tally>⟧.closed t ≡ false) }
     {
@@ -68,16 +67,14 @@ impl Image {
     pub fn cell(&self, x: u32, y: u32) -> u64
         requires column { x < (set_of self.now).width }
         requires row { y < (set_of self.now).height }
-        ensures { (h : History) → Holds self.now h
-            → result ≡ in_cell (image_view (set_of self.now)) x y h }
+        ensures { (h : History) → Holds self.now h → result ≡ in_cell (image_view (set_of self.now)) x y h }
     {
         self.counts.cells[cell_of(&self.set, x, y)]
     }
 
     /// How many photons of the group came outside the image.
     pub fn outside(&self) -> u64
-        ensures { (h : History) → Holds self.now h
-            → result ≡ count_outside (image_view (set_of self.now)) h }
+        ensures { (h : History) → Holds self.now h → result ≡ count_outside (image_view (set_of self.now)) h }
     {
         self.counts.outside
     }

@@ -4,7 +4,7 @@ ghost use Rattle.tally_base.{specs.Settings.ImageView, specs.Tally.{History, pho
 ghost use Rattle.scan_image.specs.ImageCounts.{count_outside, in_all_cells};
 
 /// Each photon of the group counts once, in a cell or outside the image.
+#[tactic(auto, using(crate::proofs::Totals::total))]
 pub fn each_photon_counts_once()
-    ensures { (set : ImageView) (h : History)
-        → in_all_cells set h + count_outside set h ≡ photons_of_group set.group h }
+    ensures { (set : ImageView) (h : History) → in_all_cells set h + count_outside set h ≡ photons_of_group set.group h }
 {}

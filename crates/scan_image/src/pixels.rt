@@ -29,8 +29,7 @@ pub trait Pixels: Copy {
     /// Adds so much to the count that a place and a dtime belong to: 1 for a photon of the group, and else 0.
     fn add(&self, counts: &mut Self::Counts, place: Option<(u32, u32)>, dtime: u16, more: u64)
         requires fit { fits self.now counts.old }
-        requires inside { IfSome place (λ place.
-            (place.0 < (image self.now).width) × (place.1 < (image self.now).height)) }
+        requires inside { IfSome place (λ place. (place.0 < (image self.now).width) × (place.1 < (image self.now).height)) }
         requires room { total counts.old + more < 2 ^ 64 }
         ensures follows { (many : HowMany) → over self.now counts.old many
             → over self.now counts.new (with_photon many place dtime more) }

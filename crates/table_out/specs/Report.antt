@@ -10,17 +10,10 @@ use Rattle.bench_io.specs.Sinks.{AppendsShort, PassesOn}
 -- what stands before the tables
 unfoldable pub head_text : Header → Summary → List ℕ
 head_text header summary =
-    line (codes "type") (name_of header.record_type)
-    ++ line (codes "announced") (announced header.count)
-    ++ line (codes "global") (bits_text header.global)
-    ++ line (codes "resolution") (bits_text header.resolution)
-    ++ line (codes "records") (decimal summary.records)
-    ++ line (codes "photons") (decimal summary.photons)
-    ++ line (codes "markers") (decimal summary.markers)
-    ++ line (codes "wraps") (decimal summary.wraps)
-    ++ line (codes "reserved") (decimal summary.reserved)
-    ++ line (codes "late") (decimal summary.late)
-    ++ line (codes "first") (time_text summary.first)
+    line (codes "type") (name_of header.record_type) ++ line (codes "announced") (announced header.count) ++ line (codes "global") (bits_text header.global)
+    ++ line (codes "resolution") (bits_text header.resolution) ++ line (codes "records") (decimal summary.records)
+    ++ line (codes "photons") (decimal summary.photons) ++ line (codes "markers") (decimal summary.markers) ++ line (codes "wraps") (decimal summary.wraps)
+    ++ line (codes "reserved") (decimal summary.reserved) ++ line (codes "late") (decimal summary.late) ++ line (codes "first") (time_text summary.first)
     ++ line (codes "last") (time_text summary.last)
 
 -- how a table of these settings is printed

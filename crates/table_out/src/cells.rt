@@ -35,13 +35,11 @@ pub(crate) trait Prints: Tally {
         requires closed { Self.closed self.now ≡ true }
         requires row { row < (printed (Self.settings self.now)).rows }
         requires column { column < (printed (Self.settings self.now)).columns row }
-        ensures { (h : History) → Self.holds self.now h
-            → result.now ≡ (printed (Self.settings self.now)).cell row column h };
+        ensures { (h : History) → Self.holds self.now h → result.now ≡ (printed (Self.settings self.now)).cell row column h };
 
     /// The lines behind the cells.
     fn rest_lines(&self) -> ArrayVec<u8, 64>
-        ensures { (h : History) → Self.holds self.now h
-            → result.items ≡ (printed (Self.settings self.now)).rest h };
+        ensures { (h : History) → Self.holds self.now h → result.items ≡ (printed (Self.settings self.now)).rest h };
 }
 
 /// Formats the line of a cell with a number in a buffer. A cell that is 0 has none.

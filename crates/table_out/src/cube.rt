@@ -33,13 +33,12 @@ fn triple_line<'l>(
     &line[start..]
 }
 
+#[tactic(auto, unfolding(crate::specs::Cube::cube_printed))]
 impl Prints for FlimCube {
-    #[tactic(auto, unfolding(crate::specs::Cube::cube_printed))]
     fn word(&self) -> &'static str {
         "cube"
     }
 
-    #[tactic(auto, unfolding(crate::specs::Cube::cube_printed))]
     fn settings_text(&self) -> ArrayVec<u8, 160> {
         let set = self.set();
         let mut text = ArrayVec::new();
@@ -56,17 +55,14 @@ impl Prints for FlimCube {
         text
     }
 
-    #[tactic(auto, unfolding(crate::specs::Cube::cube_printed))]
     fn row_count(&self) -> u32 {
         self.set().image.height
     }
 
-    #[tactic(auto, unfolding(crate::specs::Cube::cube_printed))]
     fn column_count(&self, _row: u32) -> u32 {
         self.set().image.width * self.set().dbins
     }
 
-    #[tactic(auto, unfolding(crate::specs::Cube::cube_printed))]
     fn line_of<'l>(&self, row: u32, column: u32, line: &'l mut [u8; LINE_SIZE]) -> &'l [u8] {
         let bins = self.set().dbins;
         let x = column / bins;
@@ -74,7 +70,6 @@ impl Prints for FlimCube {
         triple_line(x, row, bin, self.cell(x, row, bin), line)
     }
 
-    #[tactic(auto, unfolding(crate::specs::Cube::cube_printed))]
     fn rest_lines(&self) -> ArrayVec<u8, 64> {
         let mut lines = ArrayVec::new();
         put_count(&mut lines, b"outside", self.outside());

@@ -7,13 +7,12 @@ use fold_count::Fold;
 use list_out::LINE_SIZE;
 use tally_base::{put_decimal, put_text};
 
+#[tactic(auto, unfolding(crate::specs::Fold::fold_printed))]
 impl Prints for Fold {
-    #[tactic(auto, unfolding(crate::specs::Fold::fold_printed))]
     fn word(&self) -> &'static str {
         "fold"
     }
 
-    #[tactic(auto, unfolding(crate::specs::Fold::fold_printed))]
     fn settings_text(&self) -> ArrayVec<u8, 160> {
         let mut text = ArrayVec::new();
         put_text(&mut text, b" window ");
@@ -23,22 +22,18 @@ impl Prints for Fold {
         text
     }
 
-    #[tactic(auto, unfolding(crate::specs::Fold::fold_printed))]
     fn row_count(&self) -> u32 {
         1
     }
 
-    #[tactic(auto, unfolding(crate::specs::Fold::fold_printed))]
     fn column_count(&self, _row: u32) -> u32 {
         self.sets()
     }
 
-    #[tactic(auto, unfolding(crate::specs::Fold::fold_printed))]
     fn line_of<'l>(&self, _row: u32, column: u32, line: &'l mut [u8; LINE_SIZE]) -> &'l [u8] {
         cell_line(column, u128::from(self.cell(column)), line)
     }
 
-    #[tactic(auto, unfolding(crate::specs::Fold::fold_printed))]
     fn rest_lines(&self) -> ArrayVec<u8, 64> {
         ArrayVec::new()
     }

@@ -7,13 +7,12 @@ use list_out::LINE_SIZE;
 use tally_base::{put_decimal, put_text};
 use tcspc_hist::Hist;
 
+#[tactic(auto, unfolding(crate::specs::Histogram::histogram_printed))]
 impl Prints for Hist {
-    #[tactic(auto, unfolding(crate::specs::Histogram::histogram_printed))]
     fn word(&self) -> &'static str {
         "histogram"
     }
 
-    #[tactic(auto, unfolding(crate::specs::Histogram::histogram_printed))]
     fn settings_text(&self) -> ArrayVec<u8, 160> {
         let set = self.set();
         let mut text = ArrayVec::new();
@@ -24,22 +23,18 @@ impl Prints for Hist {
         text
     }
 
-    #[tactic(auto, unfolding(crate::specs::Histogram::histogram_printed))]
     fn row_count(&self) -> u32 {
         1
     }
 
-    #[tactic(auto, unfolding(crate::specs::Histogram::histogram_printed))]
     fn column_count(&self, _row: u32) -> u32 {
         self.set().bins
     }
 
-    #[tactic(auto, unfolding(crate::specs::Histogram::histogram_printed))]
     fn line_of<'l>(&self, _row: u32, column: u32, line: &'l mut [u8; LINE_SIZE]) -> &'l [u8] {
         cell_line(column, u128::from(self.cell(column)), line)
     }
 
-    #[tactic(auto, unfolding(crate::specs::Histogram::histogram_printed))]
     fn rest_lines(&self) -> ArrayVec<u8, 64> {
         over_line(self.over())
     }

@@ -7,13 +7,12 @@ use list_out::{LINE_SIZE, put_count};
 use scan_image::Image;
 use tally_base::{put_decimal, put_text};
 
+#[tactic(auto, unfolding(crate::specs::Image::image_printed))]
 impl Prints for Image {
-    #[tactic(auto, unfolding(crate::specs::Image::image_printed))]
     fn word(&self) -> &'static str {
         "image"
     }
 
-    #[tactic(auto, unfolding(crate::specs::Image::image_printed))]
     fn settings_text(&self) -> ArrayVec<u8, 160> {
         let set = self.set();
         let mut text = ArrayVec::new();
@@ -26,22 +25,18 @@ impl Prints for Image {
         text
     }
 
-    #[tactic(auto, unfolding(crate::specs::Image::image_printed))]
     fn row_count(&self) -> u32 {
         self.set().height
     }
 
-    #[tactic(auto, unfolding(crate::specs::Image::image_printed))]
     fn column_count(&self, _row: u32) -> u32 {
         self.set().width
     }
 
-    #[tactic(auto, unfolding(crate::specs::Image::image_printed))]
     fn line_of<'l>(&self, row: u32, column: u32, line: &'l mut [u8; LINE_SIZE]) -> &'l [u8] {
         pair_line(column, row, u128::from(self.cell(column, row)), line)
     }
 
-    #[tactic(auto, unfolding(crate::specs::Image::image_printed))]
     fn rest_lines(&self) -> ArrayVec<u8, 64> {
         let mut lines = ArrayVec::new();
         put_count(&mut lines, b"outside", self.outside());

@@ -7,13 +7,12 @@ use coincidence::Coincidence;
 use list_out::LINE_SIZE;
 use tally_base::{put_decimal, put_text};
 
+#[tactic(auto, unfolding(crate::specs::Coincidence::coincidence_printed))]
 impl Prints for Coincidence {
-    #[tactic(auto, unfolding(crate::specs::Coincidence::coincidence_printed))]
     fn word(&self) -> &'static str {
         "coincidence"
     }
 
-    #[tactic(auto, unfolding(crate::specs::Coincidence::coincidence_printed))]
     fn settings_text(&self) -> ArrayVec<u8, 160> {
         let set = self.set();
         let mut text = ArrayVec::new();
@@ -24,22 +23,18 @@ impl Prints for Coincidence {
         text
     }
 
-    #[tactic(auto, unfolding(crate::specs::Coincidence::coincidence_printed))]
     fn row_count(&self) -> u32 {
         1
     }
 
-    #[tactic(auto, unfolding(crate::specs::Coincidence::coincidence_printed))]
     fn column_count(&self, _row: u32) -> u32 {
         self.cells()
     }
 
-    #[tactic(auto, unfolding(crate::specs::Coincidence::coincidence_printed))]
     fn line_of<'l>(&self, _row: u32, column: u32, line: &'l mut [u8; LINE_SIZE]) -> &'l [u8] {
         cell_line(column, self.cell(column), line)
     }
 
-    #[tactic(auto, unfolding(crate::specs::Coincidence::coincidence_printed))]
     fn rest_lines(&self) -> ArrayVec<u8, 64> {
         ArrayVec::new()
     }

@@ -20,16 +20,14 @@ fn word(part: &Part) -> &'static str
 
 /// Whether two tables are of one kind.
 fn same_kind(part: &Part, other: &Part) -> bool
-    ensures { result ≡ same_kind (⟦<Part as Tally>⟧.settings part.now)
-        (⟦<Part as Tally>⟧.settings other.now) }
+    ensures { result ≡ same_kind (⟦<Part as Tally>⟧.settings part.now) (⟦<Part as Tally>⟧.settings other.now) }
 {
     word(part) == word(other)
 }
 
 /// The place of a table among those of its kind, from 1. `before` has all tables before it.
 fn number_of(before: &[Part], part: &Part) -> u64
-    ensures { result ≡ count_by (same_kind (⟦<Part as Tally>⟧.settings part.now))
-        (settings_in before.now) + 1 }
+    ensures { result ≡ count_by (same_kind (⟦<Part as Tally>⟧.settings part.now)) (settings_in before.now) + 1 }
 {
     let mut number = 1;
     for other in before {
@@ -64,8 +62,7 @@ fn put_parts<O: Sink>(parts: &[Part], block: &mut OutBuffer, out: &mut O) -> Res
     requires closed { AllClosed parts.now }
     ensures all { OnOk result (PutsText (EachHolds parts.now) parts_text
         (O.written out.old) (O.written out.new) block.old block.new) }
-    ensures short { OnErr result (CutsText (EachHolds parts.now) parts_text
-        (O.written out.old) (O.written out.new) block.old) }
+    ensures short { OnErr result (CutsText (EachHolds parts.now) parts_text (O.written out.old) (O.written out.new) block.old) }
     ensures cause { FailsOnce (O.faults out.old) (O.faults out.new) result }
 {
     for (place, part) in parts.iter().enumerate() {

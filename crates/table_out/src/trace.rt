@@ -7,13 +7,12 @@ use count_trace::Trace;
 use list_out::{LINE_SIZE, put_count};
 use tally_base::{put_decimal, put_text};
 
+#[tactic(auto, unfolding(crate::specs::Trace::trace_printed))]
 impl Prints for Trace {
-    #[tactic(auto, unfolding(crate::specs::Trace::trace_printed))]
     fn word(&self) -> &'static str {
         "trace"
     }
 
-    #[tactic(auto, unfolding(crate::specs::Trace::trace_printed))]
     fn settings_text(&self) -> ArrayVec<u8, 160> {
         let set = self.set();
         let mut text = ArrayVec::new();
@@ -26,22 +25,18 @@ impl Prints for Trace {
         text
     }
 
-    #[tactic(auto, unfolding(crate::specs::Trace::trace_printed))]
     fn row_count(&self) -> u32 {
         1
     }
 
-    #[tactic(auto, unfolding(crate::specs::Trace::trace_printed))]
     fn column_count(&self, _row: u32) -> u32 {
         self.set().bins
     }
 
-    #[tactic(auto, unfolding(crate::specs::Trace::trace_printed))]
     fn line_of<'l>(&self, _row: u32, column: u32, line: &'l mut [u8; LINE_SIZE]) -> &'l [u8] {
         cell_line(column, u128::from(self.cell(column)), line)
     }
 
-    #[tactic(auto, unfolding(crate::specs::Trace::trace_printed))]
     fn rest_lines(&self) -> ArrayVec<u8, 64> {
         let mut lines = ArrayVec::new();
         put_count(&mut lines, b"before", self.before());

@@ -31,8 +31,7 @@ impl Hist {
     /// A histogram of no events, with all the memory that it ever takes, or `AllocError` where it is wanting.
     pub fn open(alloc: Global, set: HistSet) -> Result<Hist, AllocError>
         ensures set { IfOk result (λ t. set_of t ≡ set) }
-        ensures settings { IfOk result (λ t.
-            ⟦<Hist as Tally>⟧.settings t ≡ HistSettings (hist_view set)) }
+        ensures settings { IfOk result (λ t. ⟦<Hist as Tally>⟧.settings t ≡ HistSettings (hist_view set)) }
         ensures empty { IfOk result (λ t. Holds t []) }
         ensures opened { IfOk result (λ t. ⟦<Hist as Tally>⟧.closed t ≡ false) }
     {
@@ -57,16 +56,14 @@ impl Hist {
     /// was given so far.
     pub fn cell(&self, at: u32) -> u64
         requires { at < (set_of self.now).bins }
-        ensures { (h : History) → Holds self.now h
-            → result ≡ in_bin (hist_view (set_of self.now)) at h }
+        ensures { (h : History) → Holds self.now h → result ≡ in_bin (hist_view (set_of self.now)) at h }
     {
         self.cells[at as usize]
     }
 
     /// How many photons of the group came at or past the end of the last bin.
     pub fn over(&self) -> u64
-        ensures { (h : History) → Holds self.now h
-            → result ≡ count_over (hist_view (set_of self.now)) h }
+        ensures { (h : History) → Holds self.now h → result ≡ count_over (hist_view (set_of self.now)) h }
     {
         self.over
     }

@@ -8,8 +8,7 @@ single (y ∷ xs) x long is = let rest : xs ≡ [] = nil_from_length xs (omega (
 
 -- the number on one of two sides of a gate
 on_side : (has inside : Bool) (plain bit : ℕ) → plain + (0 + one_if (has && (inside || false)) * bit) < 2 ^ 64
-    → slice_index (plain ∷ min (plain + one_if has * bit) (2 ^ 64 - 1) ∷ []) (if inside then 1 else 0)
-    ≡ plain + (0 + one_if (has && (inside || false)) * bit)
+    → slice_index (plain ∷ min (plain + one_if has * bit) (2 ^ 64 - 1) ∷ []) (if inside then 1 else 0) ≡ plain + (0 + one_if (has && (inside || false)) * bit)
 on_side true true plain bit fits = omega (arith, fits)
 on_side true false plain bit fits = omega arith
 on_side false true plain bit fits = omega (arith, fits)

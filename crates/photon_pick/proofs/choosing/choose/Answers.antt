@@ -29,8 +29,7 @@ chosen-more : (p : Event → Bool) (b : Block 1024) (places : List ℕ) (n at : 
 chosen-more p b places n at true inside are is =
     let here : event_at b (slice_index (set places n at) n) ≡ event_at b at = ap (event_at b) (get_or-set_same places n at 0 inside) in
     let kept : filter p (event_at b at ∷ []) ≡ event_at b at ∷ [] = rw is refl in
-    more_rows (λ k. event_at b (slice_index (set places n at) k)) n
-    ∙ ap (λ e. events_at b (set places n at) n ++ e ∷ []) here
+    more_rows (λ k. event_at b (slice_index (set places n at) k)) n ∙ ap (λ e. events_at b (set places n at) n ++ e ∷ []) here
     ∙ ap (λ l. l ++ event_at b at ∷ []) (before b places n at ∙ are)
     ∙ sym (ap (filter p) (more_rows (event_at b) at) ∙ one-more p (rows (event_at b) at) (event_at b at) ∙ ap (λ l. filter p (rows (event_at b) at) ++ l) kept)
 chosen-more p b places n at false inside are is = search (rules, arith, before, more_rows, one-more, append-nil)

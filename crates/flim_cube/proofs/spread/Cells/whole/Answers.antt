@@ -17,8 +17,6 @@ returns-then-self-eq2 c =
     let s = c.args.self.now in
     let at = c.args.at in
     let inside : at < s.size = omega (arith, c.requires.inside, length_counts s.bytes.items s.size) in
-    c.from.ensures ∙ c.from_le_bytes.ensures
-    ∙ ap (λ low. from_le_bytes w16 (low ∷ c.part-then-self-eq2.result ∷ [])) c.part.ensures
+    c.from.ensures ∙ c.from_le_bytes.ensures ∙ ap (λ low. from_le_bytes w16 (low ∷ c.part-then-self-eq2.result ∷ [])) c.part.ensures
     ∙ ap (λ high. from_le_bytes w16 (byte_in s.bytes.items (0 * s.size + at) ∷ high ∷ [])) c.part-then-self-eq2.ensures
-    ∙ sym (count_two s.bytes.items s.size at (λ place le. s.zeros place (rw c.if-self-eq2.true le)))
-    ∙ sym (get_counts s.bytes.items s.size at inside)
+    ∙ sym (count_two s.bytes.items s.size at (λ place le. s.zeros place (rw c.if-self-eq2.true le))) ∙ sym (get_counts s.bytes.items s.size at inside)

@@ -15,5 +15,4 @@ returns-clause-bytes c =
     let rest = slice_range self.held (self.next + count) self.end in
     let front : take count (part ++ drop count c.args.into.now) ≡ given = take_at part (drop count c.args.into.now) count size ∙ same in
     ap (λ l. l ++ bytes_in (words_left self.photons)) (held-split self.next self.end count self.held fits)
-    ∙ append_assoc given rest (bytes_in (words_left self.photons))
-    ∙ ap (λ l. l ++ (rest ++ bytes_in (words_left self.photons))) (sym front)
+    ∙ append_assoc given rest (bytes_in (words_left self.photons)) ∙ ap (λ l. l ++ (rest ++ bytes_in (words_left self.photons))) (sym front)
