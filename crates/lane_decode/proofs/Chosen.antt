@@ -1,8 +1,8 @@
 -- Places that stay, eight at a time.
-use Rattle.std.{proofs.Common.{rules}, proofs.Common.{◌≡◌, ◌+◌, ◌<◌, ◌≤◌, ◌++◌, [], ◌∷◌, ℕ, zero, suc, List, Bool, true, false, length, map, take, get_or, replicate, cond, refl, sym, ap, subst, ◌∙◌, arith, ltb}, specs.Prelude.{count_ones}, specs.Prelude.{◌&&◌, nat_le}, specs.List.{filter, range_with_len}, proofs.lemmas.List.FromFn.{get_or-map-range_with_len, length-range_with_len}, proofs.lemmas.List.Elements.{filter-append}, proofs.lemmas.Simd.{get_or-replicate}, proofs.lemmas.Bool.{leb-true, ltb-true}, proofs.lemmas.List.{map-append, length-map, length-append, get_or-map, get_or-take}, proofs.lemmas.List.Sums.{length-filter, count_by-le-length}}
+use Rattle.std.{proofs.Common.{rules}, proofs.Common.{◌≡◌, ◌+◌, ◌<◌, ◌≤◌, ◌++◌, [], ◌∷◌, ℕ, zero, suc, List, Bool, true, false, length, map, take, get_or, replicate, cond, refl, sym, ap, subst, ◌∙◌, arith, ltb}, specs.Prelude.{count_ones}, specs.Prelude.{◌&&◌, nat_le}, specs.List.{filter, range_with_len}, proofs.lemmas.List.FromFn.{get_or-map-range_with_len, length-range_with_len}, proofs.lemmas.List.Elements.{filter-append}, proofs.lemmas.Simd.{get_or-replicate}, proofs.lemmas.Bool.{leb-true, ltb-true}, proofs.lemmas.List.{get_or-map, get_or-take}, proofs.lemmas.List.Sums.{length-filter, count_by-le-length}}
 use lib.Count.{ones}
 use lib.Lanes.{Each1, all_below}
-use Rattle.lane_decode.specs.InCompacted.{has_bit, bits_in, lanes_by}
+use Rattle.lane_decode.specs.InCompacted.{has_bit, bits_in}
 
 -- what holds of each number below 256
 pub each : {X : Type 0} (f : ℕ → X) (x d : X) → map f (range_with_len 0 256) ≡ replicate 256 x → (m : ℕ) → m < 256 → f m ≡ x
@@ -73,43 +73,8 @@ stay-more f a bits same =
     ∙ ap (λ l. filter f (range_with_len 0 a) ++ l)
     (ap (λ k. filter f (range_with_len k 8)) from ∙ filter-shift f (has_bit bits) a 0 8 (λ j le lt. sym (same j (omega (arith, lt)))))
 
-lanes-at : (h : ℕ → ℕ) (eight ks : List ℕ) (a : ℕ) → ((j : ℕ) → j < 8 → get_or eight j 0 ≡ h (a + j)) → Each1 (λ j. j < 8) ks
-    → map (λ i. get_or eight i 0) ks ≡ map h (map (λ i. a + i) ks)
-lanes-at h eight [] a is lt = refl
-lanes-at h eight (k ∷ ks) a is lt = rw (is k lt.0) (ap (λ l. h (a + k) ∷ l) (lanes-at h eight ks a is lt.1))
-
--- a column with eight more numbers, each by its place
-pub column-more : (f : ℕ → Bool) (h : ℕ → ℕ) (old new eight : List ℕ) (a bits len : ℕ) → bits < 256 → ((i : ℕ) → i < 8 → has_bit bits i ≡ f (a + i))
-    → ((j : ℕ) → j < 8 → get_or eight j 0 ≡ h (a + j))
-    → take len old ≡ map h (filter f (range_with_len 0 a))
-    → take (len + length (bits_in bits)) new ≡ take len old ++ lanes_by eight bits
-    → take (len + length (bits_in bits)) new ≡ map h (filter f (range_with_len 0 (a + 8)))
-column-more f h old new eight a bits len few same lanes is put =
-    put ∙ ap (λ l. l ++ lanes_by eight bits) is
-    ∙ ap (λ l. map h (filter f (range_with_len 0 a)) ++ l) (lanes-at h eight (bits_in bits) a lanes (below-bits bits few))
-    ∙ sym (map-append h (filter f (range_with_len 0 a)) (map (λ i. a + i) (bits_in bits)))
-    ∙ ap (map h) (sym (stay-more f a bits same))
-
 pub few-staying : (f : ℕ → Bool) (n : ℕ) → length (filter f (range_with_len 0 n)) ≤ n
 few-staying f n = omega (arith, length-filter f (range_with_len 0 n), count_by-le-length f (range_with_len 0 n), length-range_with_len 0 n)
-
-pub length-more : (f : ℕ → Bool) (a bits len : ℕ) → bits < 256 → ((i : ℕ) → i < 8 → has_bit bits i ≡ f (a + i))
-    → len ≡ length (filter f (range_with_len 0 a)) → len + count_ones bits ≡ length (filter f (range_with_len 0 (a + 8)))
-length-more f a bits len few same is =
-    let all = ap length (stay-more f a bits same) ∙ length-append (filter f (range_with_len 0 a)) (map (λ i. a + i) (bits_in bits)) in
-    omega (arith, is, all, ones-bits bits few, length-map (bits_in bits) (λ i. a + i))
-
--- a column of the places themselves
-pub map-same : (f : ℕ → Bool) (g : ℕ → ℕ) (a n : ℕ) → ((j : ℕ) → a ≤ j → j < a + n → g j ≡ j)
-    → map g (filter f (range_with_len a n)) ≡ filter f (range_with_len a n)
-map-same f g a zero is = refl
-map-same f g a (suc n) is = by_case (f a) (map-same f g (a + 1) n (λ j le lt. is j (omega (arith, le)) (omega (arith, lt))))
-  where
-    by_case : (x : Bool) → map g (filter f (range_with_len (a + 1) n)) ≡ filter f (range_with_len (a + 1) n)
-        → map g (cond x (a ∷ filter f (range_with_len (a + 1) n)) (filter f (range_with_len (a + 1) n))) ≡ cond x
-        (a ∷ filter f (range_with_len (a + 1) n)) (filter f (range_with_len (a + 1) n))
-    by_case true rest = rw (is a (omega arith) (omega arith)) (ap (λ l. a ∷ l) rest)
-    by_case false rest = rest
 
 -- one place more
 pub place-more : (f : ℕ → Bool) (n : ℕ) → filter f (range_with_len 0 (n + 1)) ≡ filter f (range_with_len 0 n) ++ cond (f n) (n ∷ []) []

@@ -1,11 +1,11 @@
 -- What is gathered of a whole block.
-use Rattle.std.{proofs.Common.{rules, ◌≡◌, ◌+◌, ◌*◌, ◌-◌, ◌^◌, ◌%◌, ◌<◌, ◌≤◌, ◌++◌, [], ◌∷◌, ℕ, zero, suc, Bool, true, false, List, Option, Some, None, length, map, take, get_or, cond, nat_lt, unwrap_or, count_by, IfSome, refl, sym, ap, subst, ◌∙◌, append-nil, length-append, arith, slice_index, ⊎_elim, inl, inr, ◌⊎◌}, specs.List.{range_with_len}, specs.Option.option_or, specs.Prelude.{if◌then◌else◌}, specs.Int.{from_le_bytes, w32}, proofs.lemmas.Grind.common_steps, proofs.lemmas.Bool.{cases_Bool, ltb-true}, proofs.lemmas.Bool.Decides.nat_tests, proofs.lemmas.List.{map-append, length-map, take_all, get_or-take}}
+use Rattle.std.{proofs.Common.{rules, ◌≡◌, ◌+◌, ◌*◌, ◌-◌, ◌^◌, ◌<◌, ◌≤◌, ◌++◌, [], ◌∷◌, ℕ, zero, suc, Bool, true, false, List, Option, Some, None, length, map, take, get_or, cond, nat_lt, unwrap_or, count_by, IfSome, refl, sym, ap, subst, ◌∙◌, append-nil, length-append, arith, slice_index, ⊎_elim, inl, inr, ◌⊎◌}, specs.Option.option_or, specs.Prelude.{if◌then◌else◌}, specs.Int.{from_le_bytes, w32}, proofs.lemmas.Grind.common_steps, proofs.lemmas.Bool.{cases_Bool, ltb-true}, proofs.lemmas.Bool.Decides.nat_tests, proofs.lemmas.List.{map-append, length-map, take_all}}
 use Rattle.ptu_definitions.{specs.declared.records.Raw.Raw, specs.declared.records.KindCounts.KindCounts, specs.Kinds.{is_photon, is_marker, counts_of}, specs.Times.amount, specs.Words.numbers}
 use Rattle.tally_base.{specs.declared.event.Event.Event, specs.declared.header.Mode.Mode, specs.declared.header.Mode.TheVariants.{T2, T3}, specs.Limits.wrap_limit, specs.Tally.{moves_floor, floor_after}, proofs.Floors.floor-push}
 use Rattle.abs_time.{specs.declared.clock.Clock.Clock, specs.Placing.{placed_by, base_of}, specs.Floors.orders_markers}
 use Rattle.record_layout.{specs.declared.row.Row.Row, specs.Rowed.raw_of, proofs.KindLemmas.count-more}
-use Rattle.lane_decode.{specs.declared.columns.Columns.Columns, specs.InColumns.{HasRows, row_at, wraps_at, sum_to, time_in, before, Rises}, specs.declared.compacted.Compacted.Compacted, specs.InCompacted.{stays, staying, HasStayed, place_at, time_at}, proofs.Chosen.{place-more, few-staying as few-stay, place-below, map-places, at-stayed}, proofs.Added.sum-more}
-use Rattle.record_stream.{specs.OneMore.{first_with, last_with, or_time, time_if}, specs.Whole.{event_in, events_below, close_event, last_below, last_time, InReach}, specs.Rows.{ordered_below, gathered_below, event_below, greatest_with_row}, specs.Walking.{how_of, greatest_of, clock_in, Gathers, LetsPass}, specs.declared.walk.Walk.Walk, proofs.Gathering.{gathers-none, small, gathers-row, count_by-meanings}, proofs.Summaries.last_with-push}
+use Rattle.lane_decode.{specs.declared.columns.Columns.Columns, specs.InColumns.{HasRows, row_at, wraps_at, sum_to, time_in, before, Rises}, specs.InCompacted.{stays, staying, event_in}, proofs.Chosen.{place-more, few-staying as few-stay}, proofs.Added.sum-more}
+use Rattle.record_stream.{specs.OneMore.{first_with, last_with, or_time, time_if}, specs.Whole.{events_below, last_below, last_time}, specs.Rows.{ordered_below, gathered_below, event_below, greatest_with_row}, specs.Walking.{how_of, greatest_of, clock_in, Gathers, LetsPass}, specs.declared.walk.Walk.Walk, proofs.Gathering.{gathers-none, small, gathers-row, count_by-meanings}, proofs.Summaries.last_with-push}
 
 -- the codes below which events in order are, and events are
 below-few : (only : Bool) (mode : Mode) → (ordered_below mode ≤ gathered_below only mode) × (gathered_below only mode ≤ 512)
@@ -201,42 +201,6 @@ module _ (meaning : ℕ → Raw) (unit : ℕ) (columns : Columns) (words : List 
 pub few-staying : (below : ℕ) (columns : Columns) (n : ℕ) → length (staying below columns n) ≤ n
 unfolding staying
 few-staying below columns n = few-stay (stays below columns) n
-
--- The events of records that were put close together.
-module _ (clock : Clock) (unit : ℕ) (columns : Columns) (reach : InReach clock unit columns) (below : ℕ) (close : Compacted) (len : ℕ) (has : HasStayed below columns 64 close len) where
-  at : ℕ → ℕ
-  at j = get_or (staying below columns 64) j 0
-
-  in-columns : (j : ℕ) → j < len → at j < 64
-  unfolding staying at
-  in-columns j lt = omega (arith, place-below (stays below columns) 0 64 j (omega (arith, lt, has.count)))
-
-  mark-same : (j : ℕ) → j < len → slice_index close.marks j ≡ slice_index columns.marks (at j)
-  unfolding at
-  mark-same j lt = at-stayed (λ i. slice_index columns.marks i) close.marks (staying below columns 64) len j has.marks lt (omega (arith, lt, has.count))
-
-  time-same : (j : ℕ) → j < len → time_at (base_of clock) unit close j % 2 ^ 64 ≡ time_in (base_of clock) unit columns (at j)
-  unfolding at
-  time-same j lt =
-      let few : j < length (staying below columns 64) = omega (arith, lt, has.count) in
-      let sums = at-stayed (λ i. sum_to (wraps_at columns) (i + 1)) close.sums (staying below columns 64) len j has.sums lt few in
-      rw (sums, at-stayed (λ i. slice_index columns.times i) close.times (staying below columns 64) len j has.times lt few)
-      (omega (arith, reach.times (get_or (staying below columns 64) j 0) (in-columns j lt)))
-
-  place-same : (j : ℕ) → j < len → (placed_by clock + 1 + place_at close j) % 2 ^ 64 ≡ placed_by clock + at j + 1
-  unfolding at
-  place-same j lt =
-      let is : place_at close j ≡ get_or (staying below columns 64) j 0 = sym (get_or-take len close.places j 0 lt) ∙ ap (λ l. get_or l j 0) has.places in
-      ap (λ k. (placed_by clock + 1 + k) % 2 ^ 64) is ∙ omega (arith, in-columns j lt, reach.places)
-
-  event-same : (j : ℕ) → j < len → close_event (placed_by clock + 1) (base_of clock) unit close j ≡ event_in (placed_by clock) (base_of clock) unit columns (at j)
-  event-same j lt = rw (place-same j lt, mark-same j lt, time-same j lt) refl
-
-  pub close-events : map (close_event (placed_by clock + 1) (base_of clock) unit close) (range_with_len 0 len) ≡ events_below below clock unit columns
-  unfolding at
-  close-events =
-      let f = close_event (placed_by clock + 1) (base_of clock) unit close in
-      rw has.count (map-places f (event_in (placed_by clock) (base_of clock) unit columns) (staying below columns 64) 0 (λ j lt. ap f (omega arith) ∙ event-same j (omega (arith, lt, has.count))))
 
 -- Sums of wraps, and the first and the last of some records.
 

@@ -1,23 +1,15 @@
 -- A block of words whose records are in columns.
-use Rattle.std.{specs.Prelude.{ℕ, zero, suc, ◌≡◌, ◌<◌, ◌≤◌, ◌+◌, ◌%◌, ◌^◌, Bool, List, length, map, nat_lt, None, Some, if◌then◌else◌}, specs.declared.option.Option.Option, specs.Option.unwrap_or}
-use Rattle.tally_base.{specs.declared.event.Event.Event, specs.Codes.{code_in, dtime_in}, specs.Columns.event_by, specs.Limits.record_limit}
+use Rattle.std.{specs.Prelude.{ℕ, zero, suc, ◌≡◌, ◌<◌, ◌≤◌, ◌+◌, ◌^◌, Bool, List, length, map, nat_lt, None, Some, if◌then◌else◌}, specs.declared.option.Option.Option, specs.Option.unwrap_or}
+use Rattle.tally_base.{specs.declared.event.Event.Event, specs.Limits.record_limit}
 use Rattle.ptu_definitions.{specs.Kinds.counts_of, specs.Words.numbers}
 use Rattle.record_layout.specs.Sums.{IsSplit}
 use Rattle.abs_time.{specs.declared.clock.Clock.Clock, specs.Placing.{base_of, mode_of, placed_by}}
 use Rattle.record_stream.{specs.declared.ahead.Ahead.Ahead, specs.declared.walk.Walk.Walk, specs.Rows.{ordered_below, gathered_below}, specs.Walking.{how_of, greatest_of, records_of, clock_in, Gathers}}
-use Rattle.lane_decode.{specs.declared.columns.Columns.Columns, specs.InColumns.{row_at, wraps_at, time_in}, specs.declared.compacted.Compacted.Compacted, specs.InCompacted.{staying, mark_at, place_at, time_at}}
-
--- the event of a record, where so many were placed before the first one, whose time counts from this base
-abbrev pub event_in : ℕ → ℕ → ℕ → Columns → ℕ → Event
-event_in placed base unit columns i = event_by (placed + i + 1) (row_at columns i).code (row_at columns i).dtime (time_in base unit columns i)
+use Rattle.lane_decode.{specs.declared.columns.Columns.Columns, specs.InColumns.{row_at, wraps_at, time_in}, specs.InCompacted.{staying, event_in}}
 
 -- the events of the records whose codes are below this one
 abbrev pub events_below : ℕ → Clock → ℕ → Columns → List Event
 events_below below clock unit columns = map (event_in (placed_by clock) (base_of clock) unit columns) (staying below columns 64)
-
--- the event of a record that was put close to others
-abbrev pub close_event : ℕ → ℕ → ℕ → Compacted → ℕ → Event
-close_event first base unit close i = event_by ((first + place_at close i) % 2 ^ 64) (code_in (mark_at close i)) (dtime_in (mark_at close i)) (time_at base unit close i % 2 ^ 64)
 
 -- the last of the first so many times whose code is below this one
 unfoldable pub last_below : ℕ → (ℕ → ℕ) → (ℕ → ℕ) → ℕ → Option ℕ

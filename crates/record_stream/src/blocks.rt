@@ -10,19 +10,17 @@ use crate::columns_taker::TakesColumns;
 use crate::count::Sums;
 use crate::walk::Walk;
 use abs_time::Clock;
-use lane_decode::{Columns, Compacted};
+use lane_decode::Columns;
 use ptu_definitions::KindCounts;
 use record_layout::RecordLayout;
 use tally_base::{BLOCK_SIZE, Block, Fault, TABLE_BLOCK};
 
-/// Puts the events of 64 records whose codes are below `below` behind those of a block, several records at once. It
-/// stands in its callers, where the compiler knows that the rows that stay and the block don't overlap.
+/// Puts the events of 64 records whose codes are below `below` behind those of a block, several records at once.
 #[inline(always)]
 pub(crate) fn put_events<R: RecordLayout>(
     clock: &Clock,
     columns: &Columns,
     below: u16,
-    close: &mut Compacted,
     block: &mut Block<TABLE_BLOCK>,
 )
     requires reach { InReach clock.now R.UNIT columns.now }
@@ -31,15 +29,7 @@ pub(crate) fn put_events<R: RecordLayout>(
         ≡ gathered block.old ++ events_below below clock.now R.UNIT columns.now }
     ensures unsorted { sorted block.new ≡ sorted block.old }
 {
-    let start = block.len();
-    let base = clock.base();
-    let first = clock.placed() + 1;
-    let (len, _) = close.fill(columns, below);
-    for i in 0..BLOCK_SIZE {
-        let place = first.wrapping_add(close.place(i));
-        block.write(start + i, place, close.mark(i), close.time::<R>(base, i));
-    }
-    block.keep(start + len);
+    columns.put_events::<R>(below, clock.placed(), clock.base(), block);
 }
 
 /// Counts the records of words, of which these are the kinds, and notes the times of the first and the last of their

@@ -9,7 +9,7 @@ use crate::blocks::put_events;
 use crate::columns_taker::TakesColumns;
 use crate::taker::EventTaker;
 use abs_time::Clock;
-use lane_decode::{Columns, Compacted};
+use lane_decode::Columns;
 use record_layout::RecordLayout;
 use tally_base::{BLOCK_SIZE, Block, Event, Failed, TABLE_BLOCK};
 
@@ -63,8 +63,6 @@ pub struct InBlocks<'t, S: EventTaker> {
     pub taker: &'t mut S,
     // The events that it is given next, with room for those of 64 words more.
     pub block: Block<TABLE_BLOCK>,
-    // Room for the records of 64 words that stay.
-    pub close: Compacted,
     ghost waits: { Waits S.EventTaker taker.now block } by { Prim.hlevel (props, in_order-prop, kind_fits-prop) },
     ghost room: { length (gathered block) + 64 ≤ 1024 },
 }
@@ -127,7 +125,7 @@ impl<'t, S: EventTaker> TakesColumns for InBlocks<'t, S> {
         columns: &Columns,
         _ahead: &Ahead,
     ) -> Result<(), Failed> {
-        put_events::<R>(clock, columns, 512, &mut self.close, &mut self.block);
+        put_events::<R>(clock, columns, 512, &mut self.block);
         make_room(self.taker, &mut self.block, BLOCK_SIZE)
     }
 }

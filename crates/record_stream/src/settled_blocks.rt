@@ -15,7 +15,7 @@ use crate::settled::settle_words;
 use crate::taker::EventTaker;
 use crate::walk::Walk;
 use arrayvec::ArrayVec;
-use lane_decode::{Columns, Compacted};
+use lane_decode::Columns;
 use ptu_definitions::KindCounts;
 use record_layout::RecordLayout;
 use settle::Settle;
@@ -26,8 +26,6 @@ use tally_base::{BLOCK_SIZE, Block, Event, Fault, TABLE_BLOCK};
 struct Room {
     /// Their records.
     columns: Columns,
-    /// Those of them that are events in order.
-    close: Compacted,
     /// Their events in order.
     block: Block<TABLE_BLOCK>,
     /// Those that are let go with them.
@@ -40,7 +38,6 @@ impl Room {
     fn new() -> Room {
         Room {
             columns: Columns::new(),
-            close: Compacted::new(),
             block: Block::new(),
             out: Block::new(),
             stay: ArrayVec::new(),
@@ -95,13 +92,7 @@ fn settle_block<R: RecordLayout, S: EventTaker>(
     let clock = walk.clock;
     let below = ordered_below(clock.mode());
     room.block.clear();
-    put_events::<R>(
-        &clock,
-        &room.columns,
-        below,
-        &mut room.close,
-        &mut room.block,
-    );
+    put_events::<R>(&clock, &room.columns, below, &mut room.block);
     let_go(walk, &room.block, settle, &mut room.out, &mut room.stay);
     add_given(&mut walk.sums, &ahead.counts, &room.out);
     let placed = clock.placed() + ahead.counts.records;

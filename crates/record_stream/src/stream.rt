@@ -15,7 +15,6 @@ use crate::taker::EventTaker;
 use crate::unwritten::Unwritten;
 use crate::walk::Walk;
 use abs_time::Clock;
-use lane_decode::Compacted;
 use ptu_definitions::Summary;
 use record_layout::{BegunWord, RecordLayout, in_layout};
 use settle::Settle;
@@ -215,7 +214,6 @@ impl RecordStream {
         let mut blocks = InBlocks {
             taker,
             block: Block::new(),
-            close: Compacted::new(),
         };
         self.whole(piece, &mut blocks)
     }

@@ -1,4 +1,4 @@
-// Events that nobody is given.
+// Events that are counted, and given to nobody.
 ghost use Rattle.std.specs.Prelude.{◌≡◌};
 
 use crate::ahead::Ahead;
@@ -9,8 +9,7 @@ use lane_decode::Columns;
 use record_layout::RecordLayout;
 use tally_base::{Block, Event, Failed, Mode, TABLE_BLOCK};
 
-/// Takes events of which only the number and the greatest time matter, so that those of a block of words are never
-/// written.
+/// Keeps no events: counts them and notes the latest time in order.
 #[derive(Drop)]
 pub struct Unwritten {
     pub mode: Mode,

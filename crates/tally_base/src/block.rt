@@ -3,8 +3,9 @@ ghost use Rattle.std.specs.Prelude.{◌≡◌, ◌≤◌, ◌≢◌, ◌+◌, �
 ghost use Rattle.tally_base.{specs.Codes.{code_of, dtime_of, kind_of, joined, code_in, dtime_in, IsByte, InNoGroup}};
 
 use crate::event::{Event, EventKind, is_in};
+use std::simd::prelude::*;
 
-/// The most events of a block that a stream gives at once.
+/// How many words a stream decodes at once.
 pub const BLOCK_SIZE: usize = 64;
 
 /// The most events of a block that tables count at once.
@@ -28,7 +29,7 @@ pub struct Block<const N: usize> {
 }
 
 impl<const N: usize> Block<N> {
-    ghost use Rattle.tally_base.{specs.Events.{is_photon, is_in}, specs.Gates.side_of, specs.Columns.{events_in, IsSorted, count, sorted, event_at, groups_at, code_at, dtime_at, time_at, item, gathered, event_by, written}, specs.Tally.floor_after};
+    ghost use Rattle.tally_base.{specs.Events.{is_photon, is_in}, specs.Gates.side_of, specs.Columns.{events_in, IsSorted, count, sorted, event_at, groups_at, code_at, dtime_at, time_at, item, gathered, event_by, written, row, rows}, specs.Tally.floor_after};
 
     /// No events.
     pub fn new() -> Block<N>
@@ -140,32 +141,20 @@ impl<const N: usize> Block<N> {
         floor
     }
 
-    /// Writes an event to a place, from 0, at or behind the end. Those behind the end are no events of the
-    /// block before `keep` takes them in.
+    /// Puts the first so many of eight events behind the others. What is written behind them is no event of the block.
     #[inline(always)]
-    pub fn write(&mut self, at: usize, place: u64, mark: u32, time: u64)
-        requires behind { count self.old ≤ at }
-        requires room { at < N }
-        ensures same { written self.new at ≡ written self.old at }
-        ensures more { written self.new (at + 1)
-            ≡ written self.old at ++ event_by place (code_in mark) (dtime_in mark) time ∷ [] }
-        ensures count { count self.new ≡ count self.old }
+    pub fn put_eight(&mut self, places: u64x8, marks: u32x8, times: u64x8, front: usize)
+        requires lanes { (length places ≡ 8) × (length marks ≡ 8) × (length times ≡ 8) }
+        requires front { front ≤ 8 }
+        requires room { count self.old + 8 ≤ N }
+        ensures more { gathered self.new ≡ gathered self.old ++ rows (row places times marks) front }
         ensures unsorted { sorted self.new ≡ sorted self.old }
     {
-        self.places[at] = place;
-        self.times[at] = time;
-        self.marks[at] = mark;
-    }
-
-    /// Takes in what was written up to this place.
-    #[inline(always)]
-    pub fn keep(&mut self, len: usize)
-        requires behind { count self.old ≤ len }
-        requires room { len ≤ N }
-        ensures kept { gathered self.new ≡ written self.old len }
-        ensures unsorted { sorted self.new ≡ sorted self.old }
-    {
-        self.len = len;
+        let start = self.len();
+        copy_front(&mut self.places, start, &places.to_array(), 8);
+        copy_front(&mut self.times, start, &times.to_array(), 8);
+        copy_front(&mut self.marks, start, &marks.to_array(), 8);
+        self.len = start + front;
     }
 
     /// Puts an event behind the others. There are fewer than `N`. Its groups are to be put.

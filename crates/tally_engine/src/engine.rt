@@ -100,7 +100,7 @@ impl Engine {
         self.count(piece, steps)
     }
 
-    /// Takes a piece where there is no table, so that no event is written.
+    /// Takes a piece of a plan without tables: its records are checked and counted, and no table gets their events.
     fn pass(&mut self, piece: &[u8]) -> Result<(), Fault>
         requires going { refused_by self.old ≡ None }
         requires none { length (parts_in self.old) ≡ 0 }

@@ -1,5 +1,5 @@
 use Rattle.lane_decode.proofs.Prefix.{sums-are, long-sums}
-use Rattle.lane_decode.proofs.compacted.sums_up_to.Goals as goal
+use Rattle.lane_decode.proofs.events.sums_up_to.Goals as goal
 
 pub returns-clause-lanes : goal.returns-clause-lanes
 returns-clause-lanes c = long-sums c.args.eight c.requires.lanes

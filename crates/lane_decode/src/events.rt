@@ -1,12 +1,12 @@
-// Records put close together.
-ghost use Rattle.std.{specs.Prelude.{◌≡◌, ◌+◌, ◌%◌, ◌^◌, ◌<◌, ◌≤◌, ◌++◌, ℕ, length, take, nat_lt, slice_index}, specs.Simd.Lanes.chunk};
-ghost use Rattle.tally_base.specs.Codes.{code_in};
-ghost use Rattle.lane_decode.{specs.InCompacted.{has_bit, bits_in, lanes_in, lanes_by}, specs.InColumns.{wraps_at, sum_to}};
+// The events of records, put close together into a block.
+ghost use Rattle.std.{specs.Prelude.{◌≡◌, ◌+◌, ◌*◌, ◌%◌, ◌^◌, ◌<◌, ◌≤◌, ◌++◌, ℕ, length, map, nat_lt, slice_index}, specs.Simd.Lanes.chunk};
+ghost use Rattle.tally_base.specs.{Codes.code_in, Columns.{count, sorted, gathered}};
+ghost use Rattle.lane_decode.{specs.InCompacted.{has_bit, bits_in}, specs.InColumns.{wraps_at, sum_to, time_in}};
 
 use crate::columns::Columns;
 use record_layout::RecordLayout;
 use std::simd::prelude::*;
-use tally_base::code_in;
+use tally_base::{BLOCK_SIZE, Block, TABLE_BLOCK};
 
 /// The places of the bits that are set in a number of eight bits, in order, and 0 behind them.
 #[rattlefmt::skip]
@@ -77,113 +77,79 @@ static LANES: [[u32; 8]; 256] = [
     [2, 3, 4, 5, 6, 7, 0, 0], [0, 2, 3, 4, 5, 6, 7, 0], [1, 2, 3, 4, 5, 6, 7, 0], [0, 1, 2, 3, 4, 5, 6, 7],
 ];
 
-/// Puts the lanes whose bits are set close together behind the first `len` of a column.
+/// Those of eight lanes whose bits are set, close together.
 #[inline(always)]
-fn put_close(column: &mut [u32; 64], len: usize, eight: u32x8, bits: usize)
-    requires room { len + 8 ≤ 64 }
+fn close(eight: u32x8, bits: usize) -> u32x8
     requires bits { bits < 256 }
     requires lanes { length eight ≡ 8 }
-    ensures { take (len + length (bits_in bits)) column.new
-        ≡ take len column.old ++ lanes_by eight bits }
+    ensures lanes { length result ≡ 8 }
+    ensures close { (j : ℕ) → j < length (bits_in bits)
+        → slice_index result j ≡ slice_index eight (slice_index (bits_in bits) j) }
 {
-    let close = eight.swizzle_dyn(u32x8::from_array(LANES[bits]));
-    close.copy_to_slice(&mut column[len..]);
+    eight.swizzle_dyn(u32x8::from_array(LANES[bits]))
 }
 
-/// The places of records.
-#[rattlefmt::skip]
-static PLACES: [u32; 64] = [
-    0, 1, 2, 3, 4, 5, 6, 7, 8, 9, 10, 11, 12, 13, 14, 15,
-    16, 17, 18, 19, 20, 21, 22, 23, 24, 25, 26, 27, 28, 29, 30, 31,
-    32, 33, 34, 35, 36, 37, 38, 39, 40, 41, 42, 43, 44, 45, 46, 47,
-    48, 49, 50, 51, 52, 53, 54, 55, 56, 57, 58, 59, 60, 61, 62, 63,
-];
-
-/// Those of 64 records that stay, put close together.
-#[derive(Clone, Copy)]
-pub struct Compacted {
-    // As in the columns, and the place of each there.
-    marks: [u32; 64],
-    times: [u32; 64],
-    sums: [u32; 64],
-    places: [u32; 64],
+/// The places of those lanes, counted from this one.
+#[inline(always)]
+fn places_from(first: u64, bits: usize) -> u64x8
+    requires bits { bits < 256 }
+    ensures lanes { length result ≡ 8 }
+    ensures places { (j : ℕ) → j < length (bits_in bits)
+        → slice_index result j ≡ (first + slice_index (bits_in bits) j) % 2 ^ 64 }
+{
+    u64x8::splat(first) + u32x8::from_array(LANES[bits]).cast::<u64>()
 }
 
-impl Compacted {
-    ghost use Rattle.lane_decode.specs.InCompacted.{HasStayed, code_at, mark_at, place_at, time_at};
+/// The times of eight records, modulo 2^64, where each of so many wraps adds the unit of a layout to a base.
+#[inline(always)]
+fn times_from<R: RecordLayout>(base: u64, wraps: u32x8, times: u32x8) -> u64x8
+    requires lanes { (length wraps ≡ 8) × (length times ≡ 8) }
+    ensures lanes { length result ≡ 8 }
+    ensures times { (j : ℕ) → j < 8 → slice_index result j
+        ≡ (base + R.UNIT * slice_index wraps j + slice_index times j) % 2 ^ 64 }
+{
+    let from = u64x8::splat(R::UNIT) * wraps.cast::<u64>() + times.cast::<u64>();
+    u64x8::splat(base) + from
+}
 
-    /// Room for records.
-    pub fn new() -> Compacted {
-        Compacted {
-            marks: [0; 64],
-            times: [0; 64],
-            sums: [0; 64],
-            places: [0; 64],
-        }
-    }
+impl Columns {
+    ghost use Rattle.lane_decode.specs.InCompacted.{staying, event_in};
 
-    /// Puts those records whose codes are below `below`. Answers how many they are, and how many wraps the 64 records
-    /// stand for.
+    /// Puts the events of those of 64 records whose codes are below `below` behind those of a block, where so many
+    /// records are placed before them, and wraps add to a base.
     #[inline(always)]
-    pub fn fill(&mut self, columns: &Columns, below: u16) -> (usize, u32)
-        requires few { (i : ℕ) → i < 64 → wraps_at columns.now i ≤ 2 ^ 25 }
-        ensures stayed { HasStayed below columns.now 64 self.new result.0 }
-        ensures wraps { result.1 ≡ sum_to (wraps_at columns.now) 64 }
+    pub fn put_events<R: RecordLayout>(
+        &self,
+        below: u16,
+        placed: u64,
+        base: u64,
+        block: &mut Block<TABLE_BLOCK>,
+    )
+        requires few { (i : ℕ) → i < 64 → wraps_at self.now i ≤ 2 ^ 25 }
+        requires times { (i : ℕ) → i < 64 → time_in base R.UNIT self.now i < 2 ^ 64 }
+        requires places { placed + 64 < 2 ^ 64 }
+        requires room { count block.old + BLOCK_SIZE ≤ TABLE_BLOCK }
+        ensures more { gathered block.new ≡ gathered block.old
+            ++ map (event_in placed base R.UNIT self.now) (staying below self.now 64) }
+        ensures unsorted { sorted block.new ≡ sorted block.old }
     {
         // No branch tests what a record is.
-        let mut len = 0usize;
-        let mut before = u32x8::splat(0);
+        let mut sums = u32x8::splat(0);
         for k in 0..8usize {
             let at = 8 * k;
-            let marks = eight_at(&columns.marks, at);
+            let marks = eight_at(&self.marks, at);
+            let ticks = eight_at(&self.times, at);
             let bits = bits_below(marks, below);
-            let sums = sums_up_to(eight_at(&columns.wraps, at));
-            put_close(&mut self.marks, len, marks, bits);
-            put_close(&mut self.times, len, eight_at(&columns.times, at), bits);
-            put_close(&mut self.sums, len, before + sums, bits);
-            put_close(&mut self.places, len, eight_at(&PLACES, at), bits);
-            len += bits.count_ones() as usize;
-            before = before + sums.swizzle([7, 7, 7, 7, 7, 7, 7, 7]);
+            let before = sums.swizzle([7, 7, 7, 7, 7, 7, 7, 7]);
+            let more = sums_up_to(eight_at(&self.wraps, at));
+            sums = before + more;
+            let close_marks = close(marks, bits);
+            let close_sums = close(sums, bits);
+            let close_ticks = close(ticks, bits);
+            let times = times_from::<R>(base, close_sums, close_ticks);
+            let places = places_from(placed + 1 + at as u64, bits);
+            block.put_eight(places, close_marks, times, bits.count_ones() as usize);
         }
-        (len, before[0])
-    }
-
-    /// The code of the record at a place, 0 to 63.
-    #[inline(always)]
-    pub fn code(&self, at: usize) -> u16
-        requires { at < 64 }
-        ensures { result ≡ code_at self.now at }
-    {
-        code_in(self.marks[at])
-    }
-
-    /// Its code and its dtime as one number.
-    #[inline(always)]
-    pub fn mark(&self, at: usize) -> u32
-        requires { at < 64 }
-        ensures { result ≡ mark_at self.now at }
-    {
-        self.marks[at]
-    }
-
-    /// Its place in the columns.
-    #[inline(always)]
-    pub fn place(&self, at: usize) -> u64
-        requires { at < 64 }
-        ensures { result ≡ place_at self.now at }
-    {
-        u64::from(self.places[at])
-    }
-
-    /// Its time, modulo 2^64, where a wrap adds the unit of a layout to a base.
-    #[inline(always)]
-    pub fn time<R: RecordLayout>(&self, base: u64, at: usize) -> u64
-        requires { at < 64 }
-        ensures { result ≡ time_at base R.UNIT self.now at % 2 ^ 64 }
-    {
-        let wraps = R::UNIT.wrapping_mul(u64::from(self.sums[at]));
-        base.wrapping_add(wraps)
-            .wrapping_add(u64::from(self.times[at]))
     }
 }
 

@@ -3,7 +3,7 @@ use lib.Lanes.{zip2, mask_l}
 use lib.Bits.{bit_and}
 use Rattle.tally_base.specs.Codes.{code_in}
 use Rattle.lane_decode.specs.InCompacted.{has_bit}
-use Rattle.lane_decode.proofs.compacted.bits_below.Goals as goal
+use Rattle.lane_decode.proofs.events.bits_below.Goals as goal
 
 abbrev codes : List ℕ → List ℕ
 codes marks = zip2 bit_and marks (replicate 8 65535)
