@@ -1,5 +1,5 @@
 -- How many bins are near to the one before them, and how many share it some levels up.
-use Rattle.std.{proofs.Common.{◌≡◌, ◌≢◌, ℕ, zero, suc, ◌+◌, ◌-◌, ◌*◌, ◌/◌, ◌^◌, ◌<◌, ◌≤◌, true, false, cond, eqb, ltb, List, [], ◌∷◌, ◌++◌, length, map, take, drop, get_or, refl, ap, add-one, zero-add, arith, rules}, specs.List.AllByRecursion, proofs.lemmas.Bool.Decides.nat_tests, proofs.lemmas.Nat.{pow_pos}, proofs.Math.Seq.take-nil, proofs.Math.Nat.{div_self, div-mul-le_self, mul-le-mul_right}, proofs.lemmas.Grind.common_steps, proofs.lemmas.List.{take-take, drop-drop, length-map}}
+use Rattle.std.{proofs.Common.{◌≡◌, ◌≢◌, ℕ, zero, suc, ◌+◌, ◌-◌, ◌*◌, ◌/◌, ◌^◌, ◌<◌, ◌≤◌, true, false, cond, eqb, ltb, List, [], ◌∷◌, length, map, take, drop, get_or, refl, ap, add-one, zero-add, arith, rules}, proofs.lemmas.Bool.Decides.nat_tests, proofs.lemmas.Nat.{pow_pos}, proofs.Math.Seq.take-nil, proofs.Math.Nat.{div_self, div-mul-le_self, mul-le-mul_right}, proofs.lemmas.Grind.common_steps, proofs.lemmas.List.{take-take, drop-drop, length-map}}
 use Rattle.lag_ring.specs.declared.ring.Entry.{Entry}
 use Rattle.tau_cascade.{specs.Bins.{raised, both_of, merged, merged_all, near, IsSpaced, AreAlike}, proofs.Passes.{shares, spaced-rising}, proofs.Near.end_one, proofs.Follows.come_merged}
 
@@ -29,8 +29,7 @@ near_take d (suc zero) (e ∷ f ∷ es) = omega arith
 near_take d (suc (suc n)) (e ∷ f ∷ es) = omega (arith, near_take d (suc n) (f ∷ es))
 
 pub near_behind : (d : ℕ) (e : Entry) (es : List Entry) → near d (e ∷ es) ≤ near d es + 1
-near_behind d e [] = omega arith
-near_behind d e (f ∷ es) = grind (arith, common_steps)
+near_behind d e es = search (rules, arith)
 
 near_shift : (d k count : ℕ) (es : List Entry) → k ≤ 1 → near d (take (k + count) es) ≤ near d (take count (drop k es)) + 1
 near_shift d zero count es few = rw zero-add (omega arith)
@@ -86,8 +85,7 @@ merged_once e (f ∷ fs) = (elim (eqb e.index f.index) as (λ b. eqb e.index f.i
 ]) refl
 
 pub merged_twice : (es : List Entry) → merged_all (merged_all es) ≡ merged_all es
-merged_twice [] = refl
-merged_twice (e ∷ es) = merged_once e es
+merged_twice es = search (rules, arith, merged_once)
 
 -- What merging does to the bins that a level closes.
 
@@ -108,8 +106,5 @@ module _ (d levels : ℕ) (es : List Entry) (reach : 0 < d / 2 ^ levels) where
   pub few_share : (most : ℕ) → near d es ≤ most → most ≤ length es / 2 → length (map (raised levels) es) ≤ 2 * length (merged_all (map (raised levels) es))
   few_share most are few = omega (arith, share_near d levels es reaches, are, few, length-map es (raised levels))
 
-pub alike_same : (es : List Entry) → AreAlike es es
-alike_same es = record { come = λ set level came xs come. come; merged = refl; sorted = λ rs sorted rising. sorted }
-
 pub alike_merged : (es fs : List Entry) → fs ≡ merged_all es → AreAlike es fs
-alike_merged es fs is = rw is (record { come = λ set level came xs come. come_merged set level es came xs come; merged = merged_twice es; sorted = λ rs sorted rising. spaced-rising (rs ++ merged_all es) rising })
+alike_merged es fs is = search (rules, arith, come_merged, merged_twice, spaced-rising)

@@ -1,9 +1,9 @@
 -- Bins that come to a level and stay where they are in their list, the open bin before them.
-use Rattle.std.{proofs.Common.{rules}, proofs.Common.{◌≡◌, ◌≢◌, ℕ, zero, suc, ◌+◌, ◌-◌, ◌*◌, ◌^◌, ◌<◌, ◌≤◌, Option, Some, List, [], ◌∷◌, ◌++◌, length, map, take, drop, set, get_or, refl, sym, ap, ◌∙◌, append_assoc, append-nil, length-append, arith}, specs.List.{sum_by, AllByRecursion, AllByRecursion-prop}, specs.Bool.{⊤}, proofs.Math.Seq.{take-nil, take-append-add, take-append_seam, drop-append_seam}, proofs.Math.Nat.{div-mul-le_self, mul-le-mul_right}, proofs.Props.props, proofs.Math.Logic.{∥∥₁_elim}, proofs.lemmas.Nat.shl-shr, proofs.lemmas.List.{take_more, take_more_set, map_push, drop-set-add, drop-drop, length-drop, length-map, length-take-le, take-append-drop, map-append, drop-map, take-map, take-take, drop-take}, proofs.lemmas.List.Sums.{sum_by-cons, sum_by-take-drop, count_by-le-length}}
+use Rattle.std.{proofs.Common.{rules}, proofs.Common.{◌≡◌, ◌≢◌, ℕ, zero, suc, ◌+◌, ◌-◌, ◌*◌, ◌^◌, ◌<◌, ◌≤◌, Option, Some, List, [], ◌∷◌, ◌++◌, length, map, take, drop, set, get_or, refl, sym, ap, subst, ◌∙◌, append_assoc, append-nil, length-append, arith}, specs.List.{sum_by, AllByRecursion, AllByRecursion-prop}, specs.Bool.{⊤}, proofs.Math.Seq.{take-nil, take-append-add, take-append_seam, drop-append_seam}, proofs.Math.Nat.{div-mul-le_self, mul-le-mul_right}, proofs.Props.props, proofs.Math.Logic.{∥∥₁_elim}, proofs.lemmas.Nat.shl-shr, proofs.lemmas.List.{take_more, take_more_set, map_push, drop-set-add, drop-drop, length-drop, length-map, length-take-le, take-append-drop, map-append, drop-map, take-map, take-take, drop-take}, proofs.lemmas.List.Sums.{sum_by-cons, sum_by-take-drop, count_by-le-length}}
 use native.Mathlib.Numerals.{unary_clauses}
 use Rattle.tally_base.{specs.Settings.CorrelationView, specs.Tally.History, specs.Limits.record_limit}
 use Rattle.lag_ring.{specs.declared.ring.Entry.Entry, specs.Ring.{Ring, IsRising}, proofs.Lists.{all_back, all_join, of_some}, proofs.Rising.all_weaker}
-use Rattle.tau_cascade.{specs.declared.level.Level.Level, specs.Correlation.{bin, in_first, in_second}, specs.Work.occupied, specs.Levels.{IsBin, OpenIs, RingIs, CellsAre, paired_of}, specs.Bins.{raised, onto, merged_all, FitCounts, stretch, IsSpaced, Come, Follow, CanShutAll, CanTake, Took, ComeAlike, near}, proofs.Paired.occupied_all, proofs.Few.near_put, proofs.Follows.{rest_at, merged_follow, come_weigh, come_merged, stretch_more}, proofs.Passes.{spaced_upto, far_place, spaced-rising, spaced_behind, spaced_take, spaced_drop, spaced_nearer}}
+use Rattle.tau_cascade.{specs.declared.level.Level.Level, specs.Correlation.{bin, in_first, in_second}, specs.Work.occupied, specs.Levels.{IsBin, OpenIs, RingIs, CellsAre, paired_of}, specs.Bins.{raised, onto, merged_all, FitCounts, stretch, IsSpaced, Come, Follow, CanShutAll, CanTake, Took, ComeAlike, near}, proofs.Paired.occupied_all, proofs.Few.near_put, proofs.Follows.{rest_at, merged_follow, come_weigh, come_merged, stretch_more}, proofs.Passes.{spaced_upto, far_place, spaced-rising, spaced_behind, spaced_take, spaced_nearer}}
 
 -- The entries of a list before others, so many levels down.
 
@@ -114,13 +114,20 @@ module _ {levels first count : ℕ} {l : Level} {was new : List Entry} {from : �
   pub all_here : map (raised levels) here ≡ all
   all_here = rw (← take-map, put.bins, onto_take l.open (map (raised levels) (drop first was)) (first + count - from) count (omega arith), take-map) refl
 
-  pub came_here : take (first + count - first) (drop first new) ≡ take count (drop first was)
-  came_here = (let size : first + count - first ≡ count = omega arith in rw (size, put.same) refl)
+  pub long : length here ≡ first + count - from
+  long = length-take-le (first + count - from) (drop from new) (omega (arith, length-drop from new, put.inside))
+
+  -- those that came are behind the open bin
+  pub came_here : drop (first - from) here ≡ take count (drop first was)
+  came_here =
+      let size : first - from + count ≡ first + count - from = omega (arith, put.place) in
+      let there : from + (first - from) ≡ first = omega (arith, put.place) in
+      subst (λ m. drop (first - from) (take m (drop from new)) ≡ take count (drop first was)) size (rw (drop-take, drop-drop, there, put.same) refl)
 
   -- what is cut off behind them
   module _ (n : ℕ) (few : n < length here) where
     pub upto : n ≤ first + count - from
-    upto = omega (arith, few, length-drop from new, length-take-le (first + count - from) (drop from new) (omega (arith, length-drop from new, put.inside)))
+    upto = omega (arith, few, long)
 
     pub is_cut : (last : Entry) → AllByRecursion (λ e. e.index < last.index) (map (raised levels) (take n here)) → AllByRecursion (λ e. e.index ≡ last.index) (map (raised levels) (drop n here))
         → last.a ≡ sum_by (λ e. e.a) (map (raised levels) (drop n here)) → last.b ≡ sum_by (λ e. e.b) (map (raised levels) (drop n here)) → IsCut all n last
@@ -141,7 +148,7 @@ module _ {levels first count : ℕ} {l : Level} {was new : List Entry} {from : �
 
     -- and near as those that came, but for one
     pub near_closed : (d most : ℕ) → near d (take count (drop first was)) ≤ most → near d (take n (drop from new)) ≤ most + 1
-    near_closed d most few' = (let one = onto_few l.open in omega (arith, near_put d from first count n new (omega (arith, put.place)) (omega (arith, put.place, one)) upto, ap (λ ys. near d (take count ys)) put.same, few'))
+    near_closed d most few' = search (rules, arith, onto_few, near_put, upto)
 
 -- The entries of a ring stand before closed bins, in the same list.
 module _ (levels from start n : ℕ) (rs list new : List Entry) (place : start + length rs ≡ from) (bins : map (raised levels) (drop start new) ≡ rs ++ map (raised levels) (drop from list)) where
@@ -228,10 +235,6 @@ module _ (set : CorrelationView) (level : ℕ) where
   before_last [] n last closed cut before = absurd (omega (arith, cut.few))
   before_last (e ∷ es) zero last closed cut before = rw cut.here.0 at before
   before_last (e ∷ es) (suc n) last closed cut before = search (rules, arith, all_weaker)
-
--- merged bins of photons that come fit in a count
-pub came_fit : (set : CorrelationView) (level : ℕ) (l : Level) (es : List Entry) (closed open' xs : History) → CanTake set level l es closed open' xs → FitCounts (merged_all es)
-came_fit set level l es closed open' xs can = come_fit set level (merged_all es) (closed ++ open') xs (omega (arith, can.few)) (come_merged set level es (closed ++ open') xs can.come)
 
 -- Photons come to a level in these bins.
 module _ {set : CorrelationView} {level : ℕ} {l : Level} {es : List Entry} {closed open' xs : History} (can : CanTake set level l es closed open' xs) where

@@ -1,6 +1,6 @@
 -- A level's additions are at most its lags times its occupied bins, and those at a lag at most its occupied bins.
 use Rattle.tally_base.{specs.declared.settings.CorrelationSet.CorrelationSet, specs.Settings.{CorrelationView, correlation_view}, specs.Tally.History}
-use Rattle.tau_cascade.{specs.declared.level.Level.Level, specs.declared.cascade.Cascade.Cascade, specs.Cascade.{Holds, set_of, spent_by, added_below}, specs.StandsFor.{StandsFor, WentThrough}, specs.Correlation.{bin, lag_count, photons_of, correlation}, specs.Work.{occupied, IsWithinLevelWork, lags_at, work_from, work, appears, distinct}, specs.Levels.{Chain, Complete, CellsAre, paired_of, spent}}
+use Rattle.tau_cascade.{specs.declared.level.Level.Level, specs.declared.cascade.Cascade.Cascade, specs.Cascade.{Holds, set_of, spent_by, added_below}, specs.StandsFor.{StandsFor, WentThrough}, specs.Correlation.{bin, lag_count, correlation}, specs.Work.{occupied, IsWithinLevelWork, lags_at, work_from, work, appears, distinct}, specs.Levels.{Chain, Complete, CellsAre, paired_of, spent}}
 use Rattle.std.{proofs.Common.{rules, ◌≡◌, ℕ, zero, suc, ◌+◌, ◌*◌, ◌%◌, ◌<◌, ◌≤◌, take, slice_get, Bool, true, false, List, [], ◌∷◌, ◌++◌, length, map, sym, ap, ◌∙◌, refl, append_assoc, append-nil, zero-add, add-zero, Some, arith, cond, ◌||◌, eqb}, proofs.Math.Nat.mul-le-mul_left, specs.Option.{option_map, option_map_or}, proofs.lemmas.Grind.common_steps, proofs.lemmas.List.{map-append, take_all, length-map}, proofs.lemmas.List.Sums.{sum_by-cons, sum_by-le, count_by-le-length}, specs.List.{AllByRecursion}, specs.Bool.{⊤}}
 use Rattle.lag_ring.proofs.Lists.{all_map}
 
@@ -68,7 +68,7 @@ open_within set level (l ∷ ls) all came later same chain =
 
 shut_within : (set : CorrelationView) (level : ℕ) (ls : List Level) (all : History) → Complete set level ls all → AreWithin set level ls all
 shut_within set level [] all is = tt
-shut_within set level (l ∷ ls) all is = (one_level set level l all all [] (sym (append-nil all)) is.0.cells, few_level level (paired_of l) all all [] (sym (append-nil all)) is.0.few, shut_within set (suc level) ls all is.1)
+shut_within set level (l ∷ ls) all is = search (rules, arith, one_level, append-nil, few_level, shut_within set (suc level) ls all is.1)
 
 all_within : (closed : Bool) (set : CorrelationView) (ls : List Level) (xs : History) → WentThrough closed set ls xs → AreWithin set 0 ls xs
 all_within false set ls xs is = open_within set 0 ls xs xs [] (sym (append-nil xs)) is
@@ -77,7 +77,7 @@ all_within true set ls xs is = shut_within set 0 ls xs is
 within_at : (set : CorrelationView) (level : ℕ) (ls : List Level) (all : History) → AreWithin set level ls all → (i : ℕ) (l : Level) → slice_get ls i ≡ Some l → IsWithinLevelWork set (level + i) l.cells all × (paired_of l ≤ 2 * occupied (level + i) all)
 within_at set level [] all are i l read = cc
 within_at set level (x ∷ ls) all are zero l read = let same : x ≡ l = cc in rw (add-zero, ← same) (are.0, are.1)
-within_at set level (x ∷ ls) all are (suc i) l read = let next : suc level + i ≡ level + suc i = omega arith in (rw next at (within_at set (suc level) ls all are.2 i l read))
+within_at set level (x ∷ ls) all are (suc i) l read = search (rules, arith, within_at set (suc level) ls all are.2 i l read)
 
 pub level_within : (closed : Bool) (set : CorrelationView) (ls : List Level) (xs : History)
     → WentThrough closed set ls xs → (i : ℕ) (l : Level) → slice_get ls i ≡ Some l → IsWithinLevelWork set i l.cells xs × (paired_of l ≤ 2 * occupied i xs)
@@ -92,9 +92,7 @@ spent_all set even level (l ∷ ls) all are =
 -- whatever events a correlation stands for, its additions are within their work
 pub spent_within : (closed : Bool) (set : CorrelationSet) (ls : List Level) (count time : ℕ) (h : History)
     → length ls ≡ set.levels → StandsFor closed set ls count time h → spent ls ≤ work (correlation_view set) h
-spent_within closed set ls count time h sized is =
-    let view : CorrelationView = correlation_view set in
-    rw (← sized) (spent_all view set.even_lags 0 ls (photons_of view h) (all_within closed view ls (photons_of view h) is.through))
+spent_within closed set ls count time h sized is = search (rules, arith, spent_all, all_within)
 
 -- one level more
 level_more : (ls : List Level) (n : ℕ) → n < length ls

@@ -1,7 +1,17 @@
 -- Pairs of bins with what stands in a window.
-use Rattle.std.{specs.Prelude.{ℕ, ◌≡◌, ◌+◌, ◌-◌, ◌*◌, ◌^◌, ◌<◌, ◌≤◌, min, List, [], ◌∷◌, slice_index, ◌++◌, take, drop}, specs.List.{AllByRecursion}}
+use Rattle.std.{specs.Prelude.{ℕ, ◌≡◌, ◌+◌, ◌-◌, ◌*◌, ◌^◌, ◌<◌, ◌≤◌, min, List, [], ◌∷◌, slice_index, sum_by, ◌++◌, length, map, take, drop}, specs.List.{AllByRecursion}}
 use Rattle.lag_ring.{specs.declared.ring.Entry.Entry, specs.declared.window.Side.TheVariants.First, specs.Cells.{Cells, added_at}, specs.Bytes.{weight_at, IsLight}}
-use Rattle.tau_cascade.{specs.Levels.weight_before, specs.declared.laid.Laying.Laying}
+use Rattle.tau_cascade.{specs.Levels.weight_before, specs.declared.laid.Laying.Laying, specs.declared.bins.{Bins.Bins, LagRange.LagRange}, specs.Bins.{raised, IsSpaced}}
+
+-- the bins of a list as they are meant
+abbrev pub bins_of : Bins → List Entry
+bins_of b = map (raised b.levels) b.list.now
+
+-- those from a place on do not fall behind those before them
+pub record AreBins (b : Bins) : Type 0 where
+  pub within : b.start ≤ length b.list.now
+  pub levels : b.levels < 64
+  pub sorted : IsSpaced 0 (bins_of b)
 
 -- so many cells from one on may have changed, and no others
 abbrev pub SameOutside : ℕ → ℕ → List ℕ → List ℕ → Type 0
@@ -26,12 +36,23 @@ abbrev pub paired_from : ℕ → ℕ → List Entry → ℕ
 paired_from start lag es = paired lag (take start es) (drop start es)
 
 -- cells, of which the first is that of the first lag above those skipped, have the pairs of the bins of a list from a place on more than they had
-abbrev pub ArePaired : ℕ → ℕ → ℕ → List ℕ → List ℕ → List Entry → Type 0
-ArePaired skipped lags start old new es = (p : ℕ) → p < lags - skipped → slice_index new p ≡ slice_index old p + paired_from start (p + skipped + 1) es
+abbrev pub ArePaired : LagRange → ℕ → List ℕ → List ℕ → List Entry → Type 0
+ArePaired range start old new es = (p : ℕ) → p < range.last - range.skipped → slice_index new p ≡ slice_index old p + paired_from start (p + range.skipped + 1) es
+
+-- and stay within a cell's bound
+abbrev pub FitPairs : LagRange → Bins → List ℕ → Type 0
+FitPairs range b old = (p : ℕ) → p < range.last - range.skipped → slice_index old p + paired_from b.start (p + range.skipped + 1) (bins_of b) ≤ 2 ^ 80
 
 -- no cell had more than so many additions more
 abbrev pub AddsAtMost : ℕ → Cells → Cells → Type 0
 AddsAtMost most old new = (p : ℕ) → added_at new p ≤ added_at old p + most
+
+-- so much is noted more, or at most so much
+abbrev pub Notes : List ℕ → List ℕ → ℕ → Type 0
+Notes old new n = sum_by (λ n. n) new ≡ sum_by (λ n. n) old + n
+
+abbrev pub NotesUpTo : List ℕ → List ℕ → ℕ → Type 0
+NotesUpTo old new n = sum_by (λ n. n) new ≤ sum_by (λ n. n) old + n
 
 -- Bins that are laid close together.
 
@@ -61,8 +82,8 @@ pub record IsLaid (window : List ℕ) (reach index : ℕ) (laying : Laying) (es 
   pub near : laying.last.place + index ≤ laying.last.index
 
 -- sums in so many lanes, of which the last is that of the first lag above those skipped, have the pairs of the bins of a list from a place on more than they had
-abbrev pub HavePaired : ℕ → ℕ → ℕ → List ℕ → List ℕ → ℕ → List Entry → Type 0
-HavePaired lanes skipped lags old new start es = (p : ℕ) → p < lags - skipped → slice_index new (lanes - 1 - p) ≡ slice_index old (lanes - 1 - p) + paired_from start (p + skipped + 1) es
+abbrev pub HavePaired : ℕ → LagRange → List ℕ → List ℕ → ℕ → List Entry → Type 0
+HavePaired lanes range old new start es = (p : ℕ) → p < range.last - range.skipped → slice_index new (lanes - 1 - p) ≡ slice_index old (lanes - 1 - p) + paired_from start (p + range.skipped + 1) es
 
 -- and no more than so many bins of fewer than 2048 photons have
 abbrev pub AreWithin : ℕ → ℕ → List ℕ → List ℕ → Type 0

@@ -1,7 +1,7 @@
 -- The weights of bins by index, where bins are dense.
-use Rattle.std.{specs.Prelude.{ℕ, ◌≡◌, ◌+◌, ◌-◌, ◌*◌, ◌%◌, ◌^◌, ◌<◌, ◌≤◌, if◌then◌else◌, ◌/◌, nat_lt, nat_le, min, List, [], ◌++◌, map, filter, sum_by, slice_index}, specs.List.{AllByRecursion, range_with_len}}
+use Rattle.std.{specs.Prelude.{ℕ, ◌≡◌, ◌+◌, ◌-◌, ◌*◌, ◌%◌, ◌^◌, ◌<◌, ◌≤◌, if◌then◌else◌, ◌/◌, nat_lt, nat_le, min, List, [], ◌++◌, length, map, filter, sum_by, slice_index}, specs.List.{AllByRecursion, range_with_len}}
 use Rattle.lag_ring.{specs.declared.ring.Entry.Entry, specs.declared.window.Side.{Side, TheVariants.{First, Second}}, specs.Bytes.{weight_of, weight_at}}
-use Rattle.tau_cascade.{specs.declared.grid.Grid.Grid, specs.declared.level.Coming.Coming, specs.Opens.closed_bins}
+use Rattle.tau_cascade.{specs.declared.grid.Grid.Grid, specs.declared.level.Coming.Coming, specs.Opens.closed_bins, specs.Bins.{merged_all, IsSpaced, FitCounts}}
 
 -- places, of which the first is that of an index, have the weights of bins on one side
 abbrev pub HaveWeights : Side → ℕ → List ℕ → List Entry → Type 0
@@ -34,6 +34,13 @@ pub record IsGrid (g : Grid) (es : List Entry) : Type 0 where
 pub record IsBeside (g : Grid) (coming : Coming) (bins : List Entry) : Type 0 where
   pub up : 0 < g.len → 0 < coming.levels
   pub grid : IsGrid g (closed_bins coming bins)
+
+-- bins that a level may close, and a grid that stands for them, or has none: at least one of eight of its places has photons
+pub record CanClose (g : Grid) (es : List Entry) : Type 0 where
+  pub grid : IsGrid g es
+  pub dense : g.len ≤ 8 * length (merged_all es)
+  pub sorted : IsSpaced 0 es
+  pub fit : FitCounts (merged_all es)
 
 -- bins have fewer photons of the first group than are too many
 abbrev pub FewFirsts : List Entry → Type 0

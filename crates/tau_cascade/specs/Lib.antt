@@ -5,6 +5,7 @@ pub mod Levels
 pub mod Dense
 pub mod Bins
 pub mod Grid
+pub mod Comes
 pub mod StandsFor
 pub mod Cascade
 pub mod Laws

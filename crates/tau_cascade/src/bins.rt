@@ -1,7 +1,7 @@
 // Bins that come to a level, and those that it closes.
 ghost use Rattle.std.{specs.Prelude.{◌≡◌, ◌+◌, ◌*◌, ◌^◌, ◌<◌, ◌≤◌, false, [], ◌++◌, length, map, take, drop, sum_by, if◌then◌else◌}, specs.List.AllByRecursion};
 ghost use Rattle.tally_base.{specs.Settings.correlation_view, specs.Columns.{events_in, IsSorted}};
-ghost use Rattle.tau_cascade.specs.Bins.{raised, onto, near, FitCounts, IsSpaced, merged_all, stretch, photon_bins};
+ghost use Rattle.tau_cascade.{specs.Bins.{raised, onto, near, FitCounts, IsSpaced, merged_all, stretch, photon_bins}, specs.declared.bins.TheConstants.MOST_LAGS};
 
 use lag_ring::{Entry, LagRing};
 use tally_base::{Block, CorrelationSet, TABLE_BLOCK};
@@ -9,13 +9,24 @@ use tally_base::{Block, CorrelationSet, TABLE_BLOCK};
 /// How many bins a list has room for: before those of a block those of a ring, and one for each level.
 pub(crate) const LIST: usize = LEVELS + MOST_LAGS + TABLE_BLOCK;
 
+/// Where the first bin that comes to a level stands in the list: before it each level puts at most one bin, and those of
+/// its ring before that.
+pub(crate) const FIRST_PLACE: usize = LEVELS + MOST_LAGS;
+
+/// A place of a list in which no bin is.
+pub(crate) const NO_BIN: Entry = Entry {
+    index: 0,
+    a: 0,
+    b: 0,
+};
+
 /// How many lags there are at most, and so bins in a ring.
 pub(crate) const MOST_LAGS: usize = 128;
 
 /// How many levels there are at most.
 pub(crate) const LEVELS: usize = 40;
 
-/// How many bins are looked at for the usual distance.
+/// How many bins, so many apart, are looked at for the usual distance.
 const SOME: usize = 64;
 
 /// The lags above some that are skipped, up to the last.
@@ -25,6 +36,20 @@ pub(crate) struct LagRange {
     pub(crate) skipped: u32,
     /// The last lag.
     pub(crate) last: u32,
+    ghost within: { (skipped ≤ last) × (last ≤ MOST_LAGS) },
+}
+
+/// Bins from a place of a list on, behind those before them.
+#[derive(Clone, Copy)]
+pub(crate) struct Bins<'a> {
+    /// The list.
+    pub(crate) list: &'a [Entry],
+    /// The place of the first that is paired.
+    pub(crate) start: usize,
+    /// Each is meant so many levels up from where it stands.
+    pub(crate) levels: u32,
+    /// A distance that no two of the list fall below, as they stand in it, or 0.
+    pub(crate) apart: u64,
 }
 
 /// What is known of how near bins are to one another.

@@ -1,43 +1,36 @@
 // What goes from level to level.
-ghost use Rattle.std.specs.Prelude.{◌≡◌, ◌+◌, ◌<◌, ◌≤◌, ◌∷◌, length, None};
+ghost use Rattle.std.specs.Prelude.{◌≡◌, ◌+◌, ◌<◌, ◌≤◌, ◌∷◌, length};
 ghost use Rattle.tally_base.{specs.Settings.correlation_view, specs.Tally.History};
-ghost use Rattle.tau_cascade.{specs.Levels.{CanEnd, Complete, LevelDone, spent}, specs.Bins.{CanCome, Carries}, specs.Dense.IsZero, specs.Opens.{IsComing, coming_bins, closed_bins}, specs.Grid.IsBeside};
+ghost use Rattle.tau_cascade.{specs.Levels.{CanEnd, Complete, LevelDone, spent}, specs.Bins.{CanCome, Carries}, specs.Opens.coming_bins, specs.Comes.HasCome};
 
-use crate::bins::{Gaps, LEVELS, LIST, MOST_LAGS};
-use crate::grid::Grid;
-use crate::laid::PLACES;
+use crate::bins::{FIRST_PLACE, Gaps, LEVELS, LIST, NO_BIN};
 use crate::level::{Closed, Coming, Level};
+use crate::scratch::Scratch;
 use lag_ring::Entry;
 use std::sync::ledger::Ledger;
 use tally_base::{CorrelationSet, Steps};
 
-/// Gives bins of a list to the first of these levels, and those that this closes to the next level, and so
-/// on. What is in `bins` and `spare` is lost.
+/// Gives bins of a list to the first of these levels, and those that this closes to the next level, and so on.
 pub(crate) fn carry_all<L: Ledger>(
     levels: &mut [Level],
     set: &CorrelationSet,
-    level: u32,
-    bins: &mut [Entry],
+    list: &mut [Entry],
     coming: Coming,
-    spare: &mut [Entry],
-    window: &mut [u16; PLACES],
-    grid: &mut Grid,
+    scratch: &mut Scratch,
     steps: &mut Steps<L>,
 )
-    requires sized { (length bins.old ≡ LIST) × (length spare.old ≡ LIST) × IsZero window.old }
-    requires comes { IsComing coming level bins.old × IsBeside grid.old coming bins.old }
-    requires stands { ∥ ((came : History) × (xs : History) × CanCome (correlation_view set.now) level
-        levels.old (coming_bins coming bins.old) came xs) ∥₁ }
-    requires depth { level + length levels.old ≤ LEVELS }
-    ensures follows { Carries (correlation_view set.now) level levels.old levels.new
-        (coming_bins coming bins.old) }
-    ensures zeros { IsZero window.new }
+    requires comes { HasCome list.old coming scratch.old }
+    requires stands { ∥ ((came : History) × (xs : History) × CanCome (correlation_view set.now) coming.level
+        levels.old (coming_bins coming list.old) came xs) ∥₁ }
+    requires depth { coming.level + length levels.old ≤ LEVELS }
+    ensures follows { Carries (correlation_view set.now) coming.level levels.old levels.new
+        (coming_bins coming list.old) }
     ensures steps { steps.new + spent levels.old ≡ steps.old + spent levels.new }
 {
     if coming.closed.count > 0 {
         if let Some((first, rest)) = levels.split_first_mut() {
-            let next = first.take(set, level, bins, coming, spare, window, grid, steps);
-            carry_all(rest, set, level + 1, bins, next, spare, window, grid, steps);
+            let next = first.take(set, list, coming, scratch, steps);
+            carry_all(rest, set, list, next, scratch, steps);
         }
     }
 }
@@ -56,38 +49,22 @@ fn end_first<L: Ledger>(
     ensures rest { (came : History) → CanEnd (correlation_view set.now) level (first.old ∷ rest.old) came → CanEnd (correlation_view set.now) (level + 1) rest.new came }
     ensures steps { steps.new + (first.old.cells.added + spent rest.old) ≡ steps.old + (first.new.cells.added + spent rest.new) }
 {
-    let none = Entry {
-        index: 0,
-        a: 0,
-        b: 0,
-    };
-    let mut bins = [none; LIST];
-    let mut spare = [none; LIST];
-    let mut window = [0; PLACES];
-    let mut grid = Grid::empty();
-    let ended = first.end(set, level, &mut bins, &mut spare, &mut window, &grid, steps);
+    let mut list = [NO_BIN; LIST];
+    let mut scratch = Scratch::empty();
+    let ended = first.end(set, level, &mut list, &mut scratch, steps);
     if let Some(last) = ended {
-        bins[LEVELS + MOST_LAGS] = last;
+        list[FIRST_PLACE] = last;
         let one = Coming {
+            level: level + 1,
             closed: Closed {
-                from: LEVELS + MOST_LAGS,
+                from: FIRST_PLACE,
                 count: 1,
             },
             levels: 1,
             apart: 0,
             gaps: Gaps::unknown(),
         };
-        carry_all(
-            rest,
-            set,
-            level + 1,
-            &mut bins,
-            one,
-            &mut spare,
-            &mut window,
-            &mut grid,
-            steps,
-        );
+        carry_all(rest, set, &mut list, one, &mut scratch, steps);
     }
 }
 

@@ -1,13 +1,12 @@
 // A correlation over its levels.
 ghost use Rattle.std.{specs.Prelude.{◌≡◌, ◌+◌, ◌*◌, ◌<◌, ◌≤◌, [], ◌++◌, false, length, vec_len, ◌-◌, true, IfOk, None, Some, slice_index}, specs.Option.{ForSome, option_map}};
 ghost use Rattle.tally_base.{specs.Settings.correlation_view, specs.Tally.History, specs.Limits.record_limit, specs.Columns.{events_in, IsSorted}, specs.Settings.PartSettings.CorrelationSettings};
-ghost use Rattle.tau_cascade.{specs.StandsFor.{StandsFor, HasTaken}, specs.Levels.spent, specs.Bins.CanGiveBlock};
+ghost use Rattle.tau_cascade.{specs.StandsFor.{StandsFor, HasTaken}, specs.Levels.spent, specs.Bins.CanGiveBlock, specs.declared.bins.TheConstants.LEVELS};
 
-use crate::bins::{Gaps, LEVELS, LIST, MOST_LAGS, gather, spacing};
+use crate::bins::{FIRST_PLACE, Gaps, LIST, NO_BIN, gather, spacing};
 use crate::carry::{carry_all, end_all};
-use crate::grid::Grid;
-use crate::laid::PLACES;
 use crate::level::{Closed, Coming, Level, skipped_lags};
+use crate::scratch::Scratch;
 use lag_ring::{Entry, PairCells};
 use std::alloc::{AllocError, Global};
 use std::sync::ledger::Ledger;
@@ -19,6 +18,8 @@ use tally_base::{Block, CorrelationSet, Steps, TABLE_BLOCK, Tally};
 /// A time, in ticks in T2 and sync periods in T3, lies in the bin `time >> level` of each level. The cell
 /// of a lag counts the pairs that are so many bins apart. The lags of level 0 are 1 to `lags`, those of
 /// each level above are `lags / 2 + 1` to `lags`.
+///
+/// The lists that it keeps: those of its levels. How many there are of these is a setting.
 #[derive(Drop)]
 pub struct Cascade {
     set: CorrelationSet,
@@ -72,9 +73,9 @@ impl Cascade {
         skipped_lags(&self.set, level) + 1
     }
 
-    /// The cells of a level, one for each of its lags from the least on. Beside them a level keeps at most
-    /// `lags` closed bins. The lists that it paired had together at most twice as many bins as have photons, where four
-    /// places of a grid count as a bin.
+    /// The cells of a level, one for each of its lags from the least on. Beside them a level keeps its open bin and at
+    /// most `lags` closed ones. The lists that it paired had together at most twice as many bins as have photons, where
+    /// four places of a grid count as a bin: what multiplies notes them, but for windows that it gives up.
     pub fn level(&self, level: u32) -> &PairCells
         requires { level < (set_of self.now).levels }
         ensures cells { cells_at self.now level ≡ Some result.now }
@@ -139,37 +140,20 @@ fn give_block<L: Ledger>(
         → HasTaken (correlation_view set.now) levels.new (h ++ events_in block.now) }
     ensures steps { steps.new + spent levels.old ≡ steps.old + spent levels.new }
 {
-    let none = Entry {
-        index: 0,
-        a: 0,
-        b: 0,
-    };
-    let mut bins = [none; LIST];
-    let mut spare = [none; LIST];
-    let mut window = [0; PLACES];
-    let mut grid = Grid::empty();
-    // Each level puts at most one bin before the list, and those of its ring before that.
-    let count = gather(set, block, &mut bins, LEVELS + MOST_LAGS);
+    let mut list = [NO_BIN; LIST];
+    let mut scratch = Scratch::empty();
+    let count = gather(set, block, &mut list, FIRST_PLACE);
     let all = Coming {
+        level: 0,
         closed: Closed {
-            from: LEVELS + MOST_LAGS,
+            from: FIRST_PLACE,
             count,
         },
         levels: 0,
-        apart: spacing(&bins[LEVELS + MOST_LAGS..LEVELS + MOST_LAGS + count]),
+        apart: spacing(&list[FIRST_PLACE..FIRST_PLACE + count]),
         gaps: Gaps::unknown(),
     };
-    carry_all(
-        levels,
-        set,
-        0,
-        &mut bins,
-        all,
-        &mut spare,
-        &mut window,
-        &mut grid,
-        steps,
-    );
+    carry_all(levels, set, &mut list, all, &mut scratch, steps);
 }
 
 impl Tally for Cascade {

@@ -2,11 +2,12 @@
 // level.
 ghost use Rattle.std.{specs.Prelude.{◌≡◌, ℕ, ◌+◌, ◌-◌, ◌*◌, ◌/◌, ◌%◌, ◌^◌, ◌<◌, ◌≤◌, ◌==◌, true, false, List, [], ◌++◌, length, map, take, drop, nat_le, slice_index, sum_by, if◌then◌else◌}, specs.List.{AllByRecursion, range_with_len}, specs.Option.ForSome};
 ghost use Rattle.lag_ring.{specs.declared.window.Side.TheVariants.{First, Second}, specs.Bytes.weight_at};
-ghost use Rattle.tau_cascade.{specs.Bins.{raised, onto, IsSpaced, merged_all}, specs.Dense.{ArePaired, IsZero}, specs.Grid.{HaveWeights, Stands, IsEmpty, photons, IsGrid, halved, product, dots, bins_from, filled, FewFirsts, counted}};
+ghost use Rattle.tau_cascade.{specs.Bins.{raised, onto, IsSpaced, merged_all}, specs.Dense.{bins_of, AreBins, Notes, ArePaired, IsZero}, specs.Grid.{HaveWeights, Stands, IsEmpty, photons, IsGrid, halved, product, dots, bins_from, filled, FewFirsts, counted}};
 
-use crate::bins::{LIST, LagRange, Last, MOST_LAGS};
+use crate::bins::{Bins, LIST, LagRange, Last, MOST_LAGS};
 use crate::laid::{PLACES, TOP, clear_window};
 use lag_ring::Entry;
+use noted::Noted;
 use std::simd::Simd;
 
 /// How many places a grid has.
@@ -105,7 +106,9 @@ fn halve_part(pairs: &[u16], to: &mut [u16])
     }
 }
 
-/// Makes one place of each two of the first `2 * half`, behind `off` empty ones. The window is zero before and after.
+/// Makes one place of each two of the first `2 * half`, behind `off` empty ones. The window is zero before and after. A
+/// function of its own, where the compiler knows that the two share nothing.
+#[inline(never)]
 fn halve_at(places: &mut [u16; SPAN], window: &mut [u16; PLACES], half: usize, off: usize)
     requires room { (2 * half ≤ SPAN) × (off + half ≤ SPAN) × IsZero window.old }
     requires light { (p : ℕ) → slice_index places.old p < 2 ^ 15 }
@@ -353,32 +356,29 @@ impl Grid {
         }
     }
 
-    /// Goes on from the bins that came to a level, on the level below, to those that are closed on this one: makes one place of
-    /// two, adds the open bin, and takes out those of the last bin. Where bins are in no grid, it takes them from the
-    /// list. They stay in it if they are dense.
+    /// Goes on from the bins that came to a level, on the level below, to those that are closed on this one: makes one
+    /// place of two, adds the open bin, which stands before them, and takes out those of the last bin. Where bins are in
+    /// no grid, it takes them from the list. They stay in it if they are dense.
     pub(crate) fn follow(
         &mut self,
         was: &Option<Entry>,
-        came: &[Entry],
-        bins: &[Entry],
-        levels: u32,
+        bins: Bins,
         last: &Last,
         window: &mut [u16; PLACES],
     )
-        requires stood { IsGrid self.old (map (raised (levels - 1)) came.now)
-            × (0 < self.old.len → 0 < levels) }
-        requires list { (levels < 64) × IsSpaced 0 (map (raised levels) bins.now)
-            × (map (raised levels) bins.now ≡ onto was.now (map (raised levels) came.now)) }
-        requires few { (last.now.closed < length bins.now) × (length bins.now ≤ LIST)
+        requires stood { IsGrid self.old (map (raised (bins.levels - 1)) (drop bins.start bins.list.now))
+            × (0 < self.old.len → 0 < bins.levels) }
+        requires bins { AreBins bins × (bins_of bins
+            ≡ onto was.now (map (raised bins.levels) (drop bins.start bins.list.now))) }
+        requires few { (last.now.closed < length bins.list.now) × (length bins.list.now ≤ LIST)
             × IsZero window.old }
         requires before { AllByRecursion (λ e. e.index < last.now.bin.index)
-            (map (raised levels) (take last.now.closed bins.now)) }
+            (map (raised bins.levels) (take last.now.closed bins.list.now)) }
         requires here { AllByRecursion (λ e. e.index ≡ last.now.bin.index)
-            (map (raised levels) (drop last.now.closed bins.now)) }
-        ensures grid { IsGrid self.new (map (raised levels) (take last.now.closed bins.now)) }
-        ensures dense { self.new.len
-            ≤ 8 * length (merged_all (map (raised levels) (take last.now.closed bins.now))) }
-        ensures zeros { IsZero window.new }
+            (map (raised bins.levels) (drop last.now.closed bins.list.now)) }
+        ensures grid { IsGrid self.new (map (raised bins.entry.levels) (take last.now.closed bins.entry.list.now)) }
+        ensures dense { (self.new.len ≤ 8 * length (merged_all
+            (map (raised bins.entry.levels) (take last.now.closed bins.entry.list.now)))) × IsZero window.new }
     {
         if self.len > 0 {
             self.raise(was, window);
@@ -387,7 +387,7 @@ impl Grid {
             self.cut(last.bin.index);
         }
         if self.len == 0 && last.closed > 0 {
-            self.lay(&bins[..last.closed], levels);
+            self.lay(&bins.list[..last.closed], bins.levels);
         }
         self.clear_sparse();
     }
@@ -424,7 +424,7 @@ impl Grid {
         range: LagRange,
         rows: usize,
     )
-        requires lags { (range.skipped ≤ range.last) × (range.last ≤ MOST_LAGS) × (LANES * rows ≤ SPAN) }
+        requires rows { LANES * rows ≤ SPAN }
         ensures sums { (p : ℕ) → p < range.last - range.skipped → slice_index sums.new p
             ≡ dots window.now (TOP - (p + range.skipped + 1)) self.now.seconds (LANES * rows) }
     {
@@ -444,32 +444,31 @@ impl Grid {
         }
     }
 
-    /// Sums the pairs of the bins of a list, so many levels up, from `start` on, which it has, with those before them, at
-    /// the lags of a range.
+    /// Puts the pairs of the bins that it has with those before them in their list, at the lags of a range, into sums, and
+    /// notes a quarter as many as it has places.
     pub(crate) fn sum(
         &self,
         sums: &mut [u128; MOST_LAGS],
+        paired: &mut Noted<usize>,
         window: &mut [u16; PLACES],
         range: LagRange,
-        list: &[Entry],
-        start: usize,
-        levels: u32,
+        bins: Bins,
     )
-        requires lags { (range.skipped ≤ range.last) × (range.last ≤ MOST_LAGS) }
-        requires list { (start ≤ length list.now) × (levels < 64)
-            × IsSpaced 0 (map (raised levels) list.now) }
-        requires grid { IsGrid self.now (drop start (map (raised levels) list.now))
-            × (0 < self.now.len) × FewFirsts (take start (map (raised levels) list.now)) }
+        requires bins { AreBins bins × IsGrid self.now (drop bins.start (bins_of bins))
+            × (0 < self.now.len) × FewFirsts (take bins.start (bins_of bins)) }
         requires zeros { IsZero window.old × ((p : ℕ) → slice_index sums.old p ≡ 0) }
-        ensures sums { ArePaired range.skipped range.last start sums.old sums.new (map (raised levels) list.now) }
+        ensures sums { ArePaired range bins.entry.start sums.old sums.new (bins_of bins.entry) }
+        ensures noted { Notes paired.old.items paired.new.items
+            (counted self.now (length bins.entry.list.now - bins.entry.start)) }
         ensures zeros { IsZero window.new }
     {
+        paired.note(&[self.counted(bins.list.len() - bins.start)]);
         window[TOP..TOP + self.len].copy_from_slice(&self.firsts[..self.len]);
         put_firsts(
             &mut window[..TOP + self.len],
             self.base,
-            &list[..start],
-            levels,
+            &bins.list[..bins.start],
+            bins.levels,
         );
         // Behind the last place there are zeros.
         let rows = (self.len + LANES - 1) / LANES;
@@ -477,7 +476,8 @@ impl Grid {
         clear_window(window, self.len as u64 - 1);
     }
 
-    /// How many bins are multiplied where a list has so many: those, or a quarter as many as a grid has places.
+    /// As how many the bins of a list count, which are so many: where they are in a grid, a quarter as many as that has
+    /// places.
     #[inline(always)]
     pub(crate) fn counted(&self, bins: usize) -> usize
         ensures { result ≡ counted self.now bins }

@@ -2,9 +2,9 @@
 // just out of reach, so that all have places in a short window.
 ghost use Rattle.std.{specs.Prelude.{◌≡◌, ℕ, ◌+◌, ◌-◌, ◌*◌, ◌/◌, ◌%◌, ◌^◌, ◌<◌, ◌≤◌, ◌==◌, true, length, map, min, slice_index, sum_by, take, drop, ◌++◌, if◌then◌else◌}, specs.List.AllByRecursion};
 ghost use Rattle.lag_ring.{specs.declared.window.Side.TheVariants.Second, specs.Bytes.{product_at, IsLight}};
-ghost use Rattle.tau_cascade.{specs.Dense.{laid, placed, IsLaid, IsZero, HavePaired, AreWithin, HaveRoom}, specs.Bins.{IsSpaced, raised}};
+ghost use Rattle.tau_cascade.{specs.Dense.{bins_of, AreBins, laid, placed, IsLaid, IsZero, HavePaired, AreWithin, HaveRoom}, specs.Bins.{IsSpaced, raised}};
 
-use crate::bins::{LagRange, MOST_LAGS};
+use crate::bins::{Bins, LagRange, MOST_LAGS};
 use lag_ring::Entry;
 use std::simd::Simd;
 
@@ -113,36 +113,32 @@ fn lay_before(
     laying
 }
 
-/// Lays bins, so many levels up, one behind the other, puts their weights in the first group into the window, and keeps
-/// the places of those from `start` on. Those before are no further behind the index `first` than the lags.
+/// Lays the bins of a list one behind the other, puts their weights in the first group into the window, and keeps the
+/// places of those from its start on. Those before are no further behind the index `first` than the lags.
 #[inline(always)]
 fn lay_all(
     window: &mut [u16; PLACES],
     places: &mut [u16; CLOSE_PART],
     first: u64,
-    list: &[Entry],
-    start: usize,
-    levels: u32,
+    bins: Bins,
     lags: u32,
 ) -> Laying
-    requires list { (start ≤ length list.now) × (length list.now ≤ start + CLOSE_PART)
-        × IsSpaced 0 (map (raised levels) list.now) }
-    requires near { AllByRecursion (λ e. first ≤ e.index) (map (raised levels) list.now)
-        × AllByRecursion (λ e. e.index ≤ first + lags) (take start (map (raised levels) list.now)) }
-    requires lags { (lags ≤ MOST_LAGS) × (levels < 64) }
+    requires bins { AreBins bins × (length bins.list.now ≤ bins.start + CLOSE_PART) × (lags ≤ MOST_LAGS) }
+    requires near { AllByRecursion (λ e. first ≤ e.index) (bins_of bins)
+        × AllByRecursion (λ e. e.index ≤ first + lags) (take bins.start (bins_of bins)) }
     requires zeros { IsZero window.old × ((i : ℕ) → slice_index places.old i ≡ 0) }
-    ensures all { IsLaid window.new (lags + 1) first result (map (raised levels) list.now) }
-    ensures places { laid (lags + 1) first 0 (map (raised levels) list.now)
-        ≡ laid (lags + 1) first 0 (take start (map (raised levels) list.now))
-        ++ placed (drop start list.now) places.new }
+    ensures all { IsLaid window.new (lags + 1) first result (bins_of bins.entry) }
+    ensures places { laid (lags + 1) first 0 (bins_of bins.entry)
+        ≡ laid (lags + 1) first 0 (take bins.entry.start (bins_of bins.entry))
+        ++ placed (drop bins.entry.start bins.entry.list.now) places.new }
     ensures near { ((i : ℕ) → slice_index places.new i ≤ result.last.place)
         × (result.last.place + TOP < PLACES) }
 {
     let reach = u64::from(lags) + 1;
-    let mut laying = lay_before(window, first, &list[..start], levels, lags);
-    for i in start..list.len() {
-        laying = lay_one(window, laying, &list[i], levels, reach);
-        places[i - start] = laying.last.place as u16;
+    let mut laying = lay_before(window, first, &bins.list[..bins.start], bins.levels, lags);
+    for i in bins.start..bins.list.len() {
+        laying = lay_one(window, laying, &bins.list[i], bins.levels, reach);
+        places[i - bins.start] = laying.last.place as u16;
     }
     laying
 }
@@ -261,38 +257,41 @@ fn sum_laid<const N: usize>(
     }
 }
 
-/// Adds the pairs of the bins of a list, so many levels up, from `start` on with those before them, at the lags of a range,
-/// to sums, and answers true. The last sum is that of the first lag. Where the first bin is further before those than the
-/// lags, or bins are too heavy, the answer is false.
+/// Adds the pairs of bins with those before them, at the lags of a range, to sums, and answers true. The last sum is that
+/// of the first lag. Where the first bin is further before those than the lags, or bins are too heavy, the answer is
+/// false.
 pub(crate) fn sum_part<const N: usize>(
     sums: &mut [u32; N],
     window: &mut [u16; PLACES],
     range: LagRange,
-    list: &[Entry],
-    start: usize,
-    levels: u32,
+    bins: Bins,
 ) -> bool
-    requires lags { (range.skipped ≤ range.last) × (range.last ≤ MOST_LAGS) × (range.last - range.skipped ≤ N)
-        × (N ≤ 64) }
-    requires list { (start < length list.now) × (length list.now - start ≤ CLOSE_PART)
-        × IsSpaced 0 (map (raised levels) list.now) × (levels < 64) }
-    requires room { IsZero window.old × HaveRoom N (length list.now - start) sums.old }
-    ensures sums { result ≡ true → HavePaired N range.skipped range.last sums.old sums.new
-        start (map (raised levels) list.now) }
-    ensures within { AreWithin N (length list.now - start) sums.old sums.new }
+    requires lags { (range.last - range.skipped ≤ N) × (N ≤ 64) }
+    requires bins { AreBins bins × (bins.start < length bins.list.now)
+        × (length bins.list.now - bins.start ≤ CLOSE_PART) }
+    requires room { IsZero window.old × HaveRoom N (length bins.list.now - bins.start) sums.old }
+    ensures sums { result ≡ true → HavePaired N range sums.old sums.new bins.entry.start (bins_of bins.entry) }
+    ensures within { AreWithin N (length bins.entry.list.now - bins.entry.start) sums.old sums.new }
     ensures zeros { IsZero window.new }
 {
-    let first = list[0].index >> levels;
-    let span = (list[start].index >> levels) - first;
+    let first = bins.list[0].index >> bins.levels;
+    let span = (bins.list[bins.start].index >> bins.levels) - first;
     if span > u64::from(range.last) {
         return false;
     }
     let mut places = [0; CLOSE_PART];
-    let laying = lay_all(window, &mut places, first, list, start, levels, range.last);
+    let laying = lay_all(window, &mut places, first, bins, range.last);
     let light = laying.heaviest < TOO_HEAVY;
     if light {
         let from = TOP - N - range.skipped as usize;
-        sum_laid(sums, window, &places, &list[start..], from, laying.heaviest);
+        sum_laid(
+            sums,
+            window,
+            &places,
+            &bins.list[bins.start..],
+            from,
+            laying.heaviest,
+        );
     }
     clear_window(window, laying.last.place);
     light

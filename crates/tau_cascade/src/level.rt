@@ -2,22 +2,22 @@
 ghost use Rattle.std.{specs.Prelude.{true, ◌≡◌, ◌+◌, ◌-◌, ◌*◌, ◌^◌, ◌<◌, ◌≤◌, filter, length, nat_le, take, drop, [], ◌++◌, IfOk, map}, specs.List.AllByRecursion};
 ghost use Rattle.lag_ring.specs.Ring.{IsRising, ring as ring_of};
 ghost use Rattle.tally_base.{specs.Settings.correlation_view, specs.Tally.History};
-ghost use Rattle.tau_cascade.{specs.Correlation.skipped_lags, specs.Bins.{raised, merged_at, merged_all, kept_of, FitCounts, IsSpaced, AreAlike, ComeAlike}, specs.Dense.IsZero, specs.Levels.{RingIs, CellsAre, paired_of}, specs.Grid.{IsEmpty, IsGrid, IsBeside, FewFirsts, counted, kept_and}, specs.Opens.{IsComing, coming_bins, closed_bins}};
+ghost use Rattle.tau_cascade.{specs.Correlation.skipped_lags, specs.Bins.{raised, merged_at, merged_all, kept_of, FitCounts, IsSpaced, AreAlike, ComeAlike}, specs.Dense.{bins_of, AreBins, IsZero}, specs.Grid.{IsEmpty, IsGrid, FewFirsts, CanClose, counted, kept_and}, specs.Opens.{IsComing, coming_bins, closed_bins}, specs.Comes.{HasCome, IsClosing}};
 
 use crate::bins::{
-    Gaps, LEVELS, LIST, LagRange, apart_all, copy_into, cut_last, first_kept, heaviest_of,
+    Bins, Gaps, LEVELS, LIST, LagRange, apart_all, copy_into, cut_last, first_kept, heaviest_of,
     known_gaps, lay_out, lower_open, lower_ring, merge,
 };
 use crate::grid::{Grid, SPAN, TOO_MANY};
-use crate::laid::PLACES;
 use crate::pairing::pair_all;
+use crate::scratch::Scratch;
 use lag_ring::{Entry, LagRing, PairCells, Side, total_weight};
 use noted::Noted;
 use std::alloc::{AllocError, Global};
 use std::sync::ledger::Ledger;
 use tally_base::{CorrelationSet, Steps};
 
-/// A level of a correlation.
+/// A level of a correlation. The lists that it keeps: those of `ring` and `cells`, beside the bin in `open`.
 #[derive(Drop)]
 pub struct Level {
     /// The bin of the last photon.
@@ -44,6 +44,8 @@ pub(crate) struct Closed {
 /// Bins that come to a level.
 #[derive(Clone, Copy)]
 pub(crate) struct Coming {
+    /// The level, or while they are being closed the one that closes them.
+    pub(crate) level: u32,
     /// Where they are in their list.
     pub(crate) closed: Closed,
     /// Each is meant so many levels up from where it stands in the list.
@@ -113,16 +115,12 @@ fn keep_dense(
 }
 
 /// Merges bins that a level closes, in their list, unless they are in a grid: where half may share one, or bins that
-/// wait there are not light. That a level `level` closes them is for the clauses alone.
-fn merge_many(list: &mut [Entry], level: u32, closing: Coming, grid: &Grid, light: bool) -> Coming
-    requires comes { IsComing closing (level + 1) list.old × (closing.levels ≤ level + 1)
-        × (0 < closing.closed.count) × (level < LEVELS) × (length list.old ≡ LIST) }
-    requires bins { IsSpaced 0 (coming_bins closing list.old)
-        × FitCounts (merged_all (coming_bins closing list.old))
-        × IsGrid grid.now (coming_bins closing list.old)
-        × (grid.now.len ≤ 8 * length (merged_all (coming_bins closing list.old))) }
-    ensures comes { IsComing result (level + 1) list.new × (result.levels ≤ level + 1)
-        × (0 < result.closed.count) × (result.closed.from ≡ closing.closed.from)
+/// wait there are not light: none of a ring, by `heaviest`, and the first of the list.
+fn merge_many(list: &mut [Entry], closing: Coming, grid: &Grid, heaviest: u64) -> Coming
+    requires comes { IsClosing closing list.old }
+    requires bins { CanClose grid.now (coming_bins closing list.old) }
+    ensures comes { IsComing result (closing.level + 1) list.new × (0 < result.closed.count) }
+    ensures same { (result.closed.from ≡ closing.closed.from) × (result.level ≡ closing.level)
         × (result.levels ≤ closing.levels) }
     ensures bins { AreAlike (coming_bins closing list.old) (coming_bins result list.new) }
     ensures grid { IsGrid grid.now (coming_bins result list.new) }
@@ -135,12 +133,18 @@ fn merge_many(list: &mut [Entry], level: u32, closing: Coming, grid: &Grid, ligh
         return closing;
     }
     // Once they were merged, they nearly always are again.
-    let gaps = known_gaps(&list[from..from + count], closing.gaps, levels == level);
+    let gaps = known_gaps(
+        &list[from..from + count],
+        closing.gaps,
+        levels == closing.level,
+    );
+    let light = (heaviest | list[from].a | list[from].b) < LIGHT;
     if light && gaps.usual >> levels > 0 && gaps.nearer <= count / 2 {
         return Coming { gaps, ..closing };
     }
     let count = merge(list, from, count, levels);
     Coming {
+        level: closing.level,
         closed: Closed { from, count },
         levels: 0,
         apart: 0,
@@ -149,7 +153,7 @@ fn merge_many(list: &mut [Entry], level: u32, closing: Coming, grid: &Grid, ligh
 }
 
 impl Level {
-    ghost use Rattle.tau_cascade.{specs.Levels.{LevelIs, CanFinish, Finished}, specs.Bins.{CanShutAll, CanTake, Takes, HoldsOfAll}};
+    ghost use Rattle.tau_cascade.{specs.Levels.{LevelIs, CanFinish, Finished}, specs.Bins.{CanShutAll, CanTake, Takes, Shuts}};
 
     /// A level to which nothing came, or `AllocError` where memory for it is wanting.
     pub(crate) fn open(alloc: Global, set: &CorrelationSet, level: u32) -> Result<Level, AllocError>
@@ -175,54 +179,33 @@ impl Level {
         total_weight(Side::First, front).saturating_add(more) < TOO_MANY
     }
 
-    /// Whether the bins that wait here are so light that those that come may stay unmerged.
-    #[inline(always)]
-    pub(crate) fn is_light(&self) -> bool {
-        let open = match self.open {
-            Some(open) => open.a | open.b,
-            None => 0,
-        };
-        (open | self.heaviest) < LIGHT
-    }
-
-    /// Pairs the bins of a list, so many levels up, from `start` on with the closed ones, which stand before them as far as
-    /// the ring has them, and with one another. Puts them among the closed ones, merged. No two of the list fall below
-    /// the distance `apart`, as they stand there, where it isn't 0. What is in `spare` is lost. A grid has those from
-    /// `start` on, or none.
+    /// Pairs bins with the closed ones, which stand before them as far as the ring has them, and with one another. Puts
+    /// them among the closed ones, merged. A grid has those bins, or none.
     fn shut<L: Ledger>(
         &mut self,
         set: &CorrelationSet,
         level: u32,
-        list: &[Entry],
-        start: usize,
-        levels: u32,
-        apart: u64,
-        spare: &mut [Entry],
-        window: &mut [u16; PLACES],
-        grid: &Grid,
+        bins: Bins,
+        scratch: &mut Scratch,
         steps: &mut Steps<L>,
     )
-        requires list { (levels < 64) × IsSpaced 0 (map (raised levels) list.now)
-            × (take start (map (raised levels) list.now) ≡ self.old.ring.entries)
-            × (0 < apart → IsSpaced apart list.now) }
-        requires room { (start < length list.now) × (length list.now ≤ length spare.old)
-            × IsZero window.old × (length spare.old ≡ LIST) }
-        requires grid { IsGrid grid.now (drop start (map (raised levels) list.now))
-            × (0 < grid.now.len → FewFirsts self.old.ring.entries) }
+        requires list { AreBins bins × (take bins.start (bins_of bins) ≡ self.old.ring.entries)
+            × (0 < bins.apart → IsSpaced bins.apart bins.list.now) }
+        requires room { (bins.start < length bins.list.now) × (length bins.list.now ≤ LIST)
+            × IsZero scratch.old.window }
+        requires grid { IsGrid scratch.old.grid (drop bins.start (bins_of bins))
+            × (0 < scratch.old.grid.len → FewFirsts self.old.ring.entries) }
         requires stands { ∥ ((closed : History) × (xs : History) × CanShutAll
             (correlation_view set.now) level self.old.ring self.old.cells
-            (merged_at start levels list.now) closed xs) ∥₁ }
-        requires few { counted grid.now (length list.now - start)
-            ≤ 2 * length (merged_at start levels list.now) }
-        ensures paired { paired_of self.new
-            ≤ paired_of self.old + 2 * length (merged_at start levels list.now) }
-        ensures ring { HoldsOfAll (correlation_view set.now) level self.old.ring self.old.cells
-            (merged_at start levels list.now) (RingIs (correlation_view set.now) level self.new.ring) }
-        ensures cells { HoldsOfAll (correlation_view set.now) level self.old.ring self.old.cells
-            (merged_at start levels list.now) (CellsAre (correlation_view set.now) level self.new.cells) }
-        ensures others { (self.new.open ≡ self.old.open) × IsZero window.new
+            (merged_at bins.start bins.levels bins.list.now) closed xs) ∥₁ }
+        requires few { counted scratch.old.grid (length bins.list.now - bins.start)
+            ≤ 2 * length (merged_at bins.start bins.levels bins.list.now) }
+        ensures shuts { Shuts (correlation_view set.now) level self.old self.new
+            (merged_at bins.entry.start bins.entry.levels bins.entry.list.now) }
+        ensures others { IsZero scratch.new.window × (scratch.new.grid ≡ scratch.old.grid)
             × (steps.new + self.old.cells.added ≡ steps.old + self.new.cells.added) }
     {
+        let Bins { list, levels, .. } = bins;
         let skipped = skipped_lags(set, level);
         let range = LagRange {
             skipped,
@@ -231,48 +214,38 @@ impl Level {
         pair_all(
             &mut self.cells,
             &mut self.paired,
-            window,
-            grid,
+            scratch,
             range,
-            list,
-            start,
-            levels,
-            apart,
+            bins,
             steps,
         );
         let last = list[list.len() - 1].index >> levels;
         let before = last.saturating_sub(u64::from(set.lags) - 1);
-        self.heaviest = match grid.place_from(before) {
-            Some(place) => keep_dense(&mut self.ring, grid, place, before, spare),
+        let spare = &mut scratch.spare;
+        self.heaviest = match scratch.grid.place_from(before) {
+            Some(place) => keep_dense(&mut self.ring, &scratch.grid, place, before, spare),
             None => keep(&mut self.ring, list, levels, before, spare),
         };
     }
 
     /// Takes bins, one after the other and none before what came. The open bin goes before them in the list, those of
     /// the last bin are cut off behind them, and it is open. Answers where those are that are closed. A grid of those that
-    /// came is then one of those that are closed, or has none. What is in `spare`, and before the bins, is lost.
+    /// came is then one of those that are closed, or has none.
     pub(crate) fn take<L: Ledger>(
         &mut self,
         set: &CorrelationSet,
-        level: u32,
         list: &mut [Entry],
         came: Coming,
-        spare: &mut [Entry],
-        window: &mut [u16; PLACES],
-        grid: &mut Grid,
+        scratch: &mut Scratch,
         steps: &mut Steps<L>,
     ) -> Coming
-        requires comes { IsComing came level list.old × (0 < came.closed.count) × (level < LEVELS)
-            × IsBeside grid.old came list.old }
-        requires room { (length list.old ≡ LIST) × (length spare.old ≡ LIST) × IsZero window.old }
+        requires comes { HasCome list.old came scratch.old × (0 < came.closed.count) × (came.level < LEVELS) }
         requires stands { ∥ ((shut : History) × (open' : History) × (xs : History)
-            × CanTake (correlation_view set.now) level self.old (coming_bins came list.old)
+            × CanTake (correlation_view set.now) came.level self.old (coming_bins came list.old)
             shut open' xs) ∥₁ }
-        ensures follows { Takes (correlation_view set.now) level self.old self.new
+        ensures follows { Takes (correlation_view set.now) came.level self.old self.new
             (coming_bins came list.old) (closed_bins result list.new) }
-        ensures comes { IsComing result (level + 1) list.new × (0 < result.levels)
-            × IsBeside grid.new result list.new }
-        ensures zeros { IsZero window.new }
+        ensures comes { HasCome list.new result scratch.new × (0 < result.levels) × (result.level ≡ came.level + 1) }
         ensures steps { steps.new + self.old.cells.added ≡ steps.old + self.new.cells.added }
     {
         let levels = came.levels;
@@ -284,17 +257,23 @@ impl Level {
         let apart = apart_all(&list[from..first + 1], came.apart, levels, set.lags);
         let last = cut_last(&list[from..end], levels);
         // Bins behind a heavy ring go into no grid, so that they may be merged.
-        let dense = grid.is_on() || level < DENSE_LEVELS;
+        let dense = scratch.grid.is_on() || came.level < DENSE_LEVELS;
         if dense && self.has_light_ring() {
-            let bins = &list[from..end];
-            grid.follow(&self.open, &list[first..end], bins, levels, &last, window);
+            let bins = Bins {
+                list: &list[from..end],
+                start: first - from,
+                levels,
+                apart,
+            };
+            let window = &mut scratch.window;
+            scratch.grid.follow(&self.open, bins, &last, window);
         } else {
-            grid.clear();
+            scratch.grid.clear();
         }
-        let light = self.is_light();
         self.open = Some(last.bin);
         let count = last.closed;
         let closing = Coming {
+            level: came.level,
             closed: Closed { from, count },
             levels,
             apart,
@@ -304,114 +283,87 @@ impl Level {
             },
         };
         if count > 0 {
-            return self.close(set, level, list, closing, light, spare, window, grid, steps);
+            return self.close(set, list, closing, scratch, steps);
         }
         Coming {
+            level: came.level + 1,
             levels: levels + 1,
             ..closing
         }
     }
 
-    /// Closes bins of a list, merged first where many share one, and answers where they are then. What is in `spare`, and
-    /// before the bins, is lost.
+    /// Closes bins of a list, merged first where many share one, and answers where they are then.
     fn close<L: Ledger>(
         &mut self,
         set: &CorrelationSet,
-        level: u32,
         list: &mut [Entry],
         closing: Coming,
-        light: bool,
-        spare: &mut [Entry],
-        window: &mut [u16; PLACES],
-        grid: &Grid,
+        scratch: &mut Scratch,
         steps: &mut Steps<L>,
     ) -> Coming
-        requires comes { IsComing closing (level + 1) list.old × (closing.levels ≤ level + 1)
-            × (0 < closing.closed.count) × (level < LEVELS) }
-        requires room { (length list.old ≡ LIST) × (length spare.old ≡ LIST) × IsZero window.old
+        requires comes { IsClosing closing list.old × CanClose scratch.old.grid (coming_bins closing list.old) }
+        requires room { IsZero scratch.old.window
             × (length self.old.ring.entries ≤ closing.closed.from)
             × AllByRecursion (λ e. e.index * 2 ^ closing.levels < 2 ^ 64) self.old.ring.entries }
-        requires grid { IsGrid grid.now (coming_bins closing list.old)
-            × (0 < grid.now.len → FewFirsts self.old.ring.entries)
-            × (grid.now.len ≤ 8 * length (merged_all (coming_bins closing list.old))) }
-        requires sorted { IsSpaced 0 (self.old.ring.entries ++ coming_bins closing list.old)
-            × FitCounts (merged_all (coming_bins closing list.old)) }
+        requires bins { IsSpaced 0 (self.old.ring.entries ++ coming_bins closing list.old)
+            × (0 < scratch.old.grid.len → FewFirsts self.old.ring.entries) }
         requires stands { ∥ ((shut : History) × (xs : History) × CanShutAll
-            (correlation_view set.now) level self.old.ring self.old.cells
+            (correlation_view set.now) closing.level self.old.ring self.old.cells
             (merged_all (coming_bins closing list.old)) shut xs) ∥₁ }
-        ensures paired { paired_of self.new
-            ≤ paired_of self.old + 2 * length (merged_all (coming_bins closing list.old)) }
-        ensures ring { HoldsOfAll (correlation_view set.now) level self.old.ring self.old.cells
-            (merged_all (coming_bins closing list.old))
-            (RingIs (correlation_view set.now) level self.new.ring) }
-        ensures cells { HoldsOfAll (correlation_view set.now) level self.old.ring self.old.cells
-            (merged_all (coming_bins closing list.old))
-            (CellsAre (correlation_view set.now) level self.new.cells) }
-        ensures others { (self.new.open ≡ self.old.open) × IsZero window.new
-            × (steps.new + self.old.cells.added ≡ steps.old + self.new.cells.added) }
-        ensures alike { ComeAlike (coming_bins closing list.old) (closed_bins result list.new) }
-        ensures comes { IsComing result (level + 1) list.new × (0 < result.levels)
-            × IsBeside grid.now result list.new }
+        ensures shuts { Shuts (correlation_view set.now) closing.level self.old self.new
+            (merged_all (coming_bins closing list.old)) }
+        ensures comes { HasCome list.new result scratch.new × (0 < result.levels)
+            × (result.level ≡ closing.level + 1)
+            × ComeAlike (coming_bins closing list.old) (closed_bins result list.new) }
+        ensures steps { steps.new + self.old.cells.added ≡ steps.old + self.new.cells.added }
     {
-        let shut = merge_many(list, level, closing, grid, light);
+        let shut = merge_many(list, closing, &scratch.grid, self.heaviest);
         let Closed { from, count } = shut.closed;
         let start = lower_ring(&self.ring, list, from, shut.levels);
         let apart = apart_all(&list[start..from + 1], shut.apart, shut.levels, set.lags);
-        self.shut(
-            set,
-            level,
-            &list[start..from + count],
-            from - start,
-            shut.levels,
+        let bins = Bins {
+            list: &list[start..from + count],
+            start: from - start,
+            levels: shut.levels,
             apart,
-            spare,
-            window,
-            grid,
-            steps,
-        );
+        };
+        self.shut(set, closing.level, bins, scratch, steps);
         Coming {
+            level: shut.level + 1,
             levels: shut.levels + 1,
             ..shut
         }
     }
 
-    /// Closes the open bin, and answers it. What is in `list` and `spare` is lost.
+    /// Closes the open bin, and answers it.
     pub(crate) fn end<L: Ledger>(
         &mut self,
         set: &CorrelationSet,
         level: u32,
         list: &mut [Entry],
-        spare: &mut [Entry],
-        window: &mut [u16; PLACES],
-        grid: &Grid,
+        scratch: &mut Scratch,
         steps: &mut Steps<L>,
     ) -> Option<Entry>
-        requires room { (length list.old ≡ LIST) × (length spare.old ≡ LIST) × IsZero window.old
-            × IsEmpty grid.now }
+        requires room { (length list.old ≡ LIST) × IsZero scratch.old.window × IsEmpty scratch.old.grid }
         requires stands { ∥ ((closed : History) × (open' : History)
             × CanFinish (correlation_view set.now) level self.old closed open') ∥₁ }
         ensures follows { (closed open' : History)
             → CanFinish (correlation_view set.now) level self.old closed open'
             → Finished (correlation_view set.now) level self.new result closed open' }
-        ensures zeros { IsZero window.new }
+        ensures room { IsZero scratch.new.window × IsEmpty scratch.new.grid }
         ensures steps { steps.new + self.old.cells.added ≡ steps.old + self.new.cells.added }
     {
         match self.open {
             Some(last) => {
                 let from = lay_out(&self.ring, list);
                 list[from] = last;
-                self.shut(
-                    set,
-                    level,
-                    &list[..from + 1],
-                    from,
-                    0,
-                    0,
-                    spare,
-                    window,
-                    grid,
-                    steps,
-                );
+                let bins = Bins {
+                    list: &list[..from + 1],
+                    start: from,
+                    levels: 0,
+                    apart: 0,
+                };
+                self.shut(set, level, bins, scratch, steps);
                 self.open = None;
                 Some(last)
             }

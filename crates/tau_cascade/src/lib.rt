@@ -9,5 +9,6 @@ mod grid;
 mod laid;
 mod level;
 mod pairing;
+mod scratch;
 
 pub use cascade::Cascade;

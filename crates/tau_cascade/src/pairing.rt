@@ -1,11 +1,11 @@
 // Pairs of bins with those before them.
-ghost use Rattle.std.{specs.Prelude.{◌≡◌, ◌≢◌, true, false, ℕ, ◌+◌, ◌-◌, ◌*◌, ◌^◌, ◌<◌, ◌≤◌, length, map, take, drop, slice_index, sum_by}, specs.List.{AllByRecursion}};
+ghost use Rattle.std.{specs.Prelude.{◌≡◌, ◌≢◌, true, false, ℕ, ◌+◌, ◌-◌, ◌*◌, ◌^◌, ◌<◌, ◌≤◌, length, map, take, drop, slice_index, if◌then◌else◌}, specs.List.{AllByRecursion}};
 ghost use Rattle.lag_ring.specs.Cells.{Spends};
-ghost use Rattle.tau_cascade.{specs.Levels.weight_before, specs.Dense.{paired_from, ArePaired, AddsAtMost, AddsOnce, SameOutside, IsZero, HavePaired, AreWithin, HaveRoom}, specs.Bins.{IsSpaced, raised}, specs.Grid.{IsGrid, FewFirsts, counted}};
+ghost use Rattle.tau_cascade.{specs.Levels.weight_before, specs.Dense.{bins_of, AreBins, FitPairs, Notes, NotesUpTo, ArePaired, AddsAtMost, AddsOnce, SameOutside, IsZero, HavePaired, AreWithin, HaveRoom}, specs.Bins.{IsSpaced, raised}, specs.Grid.{IsGrid, FewFirsts, counted}};
 
-use crate::bins::{LagRange, MOST_LAGS, first_kept};
-use crate::grid::Grid;
+use crate::bins::{Bins, LagRange, MOST_LAGS, first_kept};
 use crate::laid::{CLOSE_PART, PLACES, sum_part};
+use crate::scratch::Scratch;
 use lag_ring::{Entry, PairCells};
 use noted::Noted;
 use std::sync::ledger::Ledger;
@@ -85,21 +85,17 @@ fn sum_near<const N: usize>(
     sums: &mut [u32; N],
     window: &mut [u16; PLACES],
     range: LagRange,
-    list: &[Entry],
-    start: usize,
-    levels: u32,
+    bins: Bins,
 ) -> bool
-    requires lags { (range.skipped ≤ range.last) × (range.last ≤ MOST_LAGS) × (range.last - range.skipped ≤ N)
-        × (N ≤ 64) }
-    requires list { (start < length list.now) × (length list.now - start ≤ CLOSE_PART)
-        × IsSpaced 0 (map (raised levels) list.now) × (levels < 64) }
-    requires room { IsZero window.old × HaveRoom N (length list.now - start) sums.old }
-    ensures sums { result ≡ true → HavePaired N range.skipped range.last sums.old sums.new
-        start (map (raised levels) list.now) }
-    ensures within { AreWithin N (length list.now - start) sums.old sums.new }
+    requires lags { (range.last - range.skipped ≤ N) × (N ≤ 64) }
+    requires bins { AreBins bins × (bins.start < length bins.list.now)
+        × (length bins.list.now - bins.start ≤ CLOSE_PART) }
+    requires room { IsZero window.old × HaveRoom N (length bins.list.now - bins.start) sums.old }
+    ensures sums { result ≡ true → HavePaired N range sums.old sums.new bins.entry.start (bins_of bins.entry) }
+    ensures within { AreWithin N (length bins.entry.list.now - bins.entry.start) sums.old sums.new }
     ensures zeros { IsZero window.new }
 {
-    is_apart(list, levels, range.last) || sum_part(sums, window, range, list, start, levels)
+    is_apart(bins.list, bins.levels, range.last) || sum_part(sums, window, range, bins)
 }
 
 /// The same for a whole list, part by part.
@@ -107,25 +103,25 @@ fn sum_parts<const N: usize>(
     sums: &mut [u32; N],
     window: &mut [u16; PLACES],
     range: LagRange,
-    list: &[Entry],
-    start: usize,
-    levels: u32,
+    bins: Bins,
 ) -> bool
-    requires lags { (range.skipped ≤ range.last) × (range.last ≤ MOST_LAGS) × (range.last - range.skipped ≤ N)
-        × (N ≤ 64) }
-    requires list { (start ≤ length list.now) × (length list.now - start ≤ CLOSE_LIST)
-        × IsSpaced 0 (map (raised levels) list.now) × (levels < 64) }
+    requires lags { (range.last - range.skipped ≤ N) × (N ≤ 64) }
+    requires bins { AreBins bins × (length bins.list.now - bins.start ≤ CLOSE_LIST) }
     requires zeros { IsZero window.old × ((q : ℕ) → q < N → slice_index sums.old q ≡ 0) }
-    ensures sums { result ≡ true → HavePaired N range.skipped range.last sums.old sums.new
-        start (map (raised levels) list.now) }
+    ensures sums { result ≡ true → HavePaired N range sums.old sums.new bins.entry.start (bins_of bins.entry) }
     ensures zeros { IsZero window.new }
 {
-    let mut at = start;
-    'parts: while at < list.len() {
-        let end = list.len().min(at + CLOSE_PART);
-        let near = first_in_reach(list, at, list[at].index >> levels, levels, range.last);
-        let part = &list[near..end];
-        if !sum_near(sums, window, range, part, at - near, levels) {
+    let mut at = bins.start;
+    'parts: while at < bins.list.len() {
+        let end = bins.list.len().min(at + CLOSE_PART);
+        let index = bins.list[at].index >> bins.levels;
+        let near = first_in_reach(bins.list, at, index, bins.levels, range.last);
+        let part = Bins {
+            list: &bins.list[near..end],
+            start: at - near,
+            ..bins
+        };
+        if !sum_near(sums, window, range, part) {
             return false;
         }
         at = end;
@@ -133,53 +129,51 @@ fn sum_parts<const N: usize>(
     true
 }
 
-/// Pairs the bins of a list, so many levels up, from `start` on with those before them, over a window in which they are
-/// laid close together, and answers true. Where there are too many bins, or they are too heavy for it, nothing is
-/// paired, and the answer is false. The lags are summed `N` at once, in two parts where there are more.
+/// Pairs bins with those before them, over a window in which they are laid close together, notes how many they are, and
+/// answers true. Where there are too many bins, or they are too heavy for it, nothing is paired, and the answer is false.
+/// The lags are summed `N` at once, in two parts where there are more.
 fn pair_close<L: Ledger, const N: usize>(
     cells: &mut PairCells,
+    paired: &mut Noted<usize>,
     window: &mut [u16; PLACES],
     range: LagRange,
-    list: &[Entry],
-    start: usize,
-    levels: u32,
+    bins: Bins,
     steps: &mut Steps<L>,
 ) -> bool
-    requires lags { (range.skipped ≤ range.last) × (length cells.old.cells ≡ range.last - range.skipped)
-        × (range.last ≤ MOST_LAGS) × (range.last - range.skipped ≤ 2 * N) × (N ≤ 64) }
-    requires list { (start ≤ length list.now) × IsSpaced 0 (map (raised levels) list.now)
-        × (levels < 64) × IsZero window.old }
-    requires fits { (p : ℕ) → p < range.last - range.skipped → slice_index cells.old.cells p
-        + paired_from start (p + range.skipped + 1) (map (raised levels) list.now) ≤ 2 ^ 80 }
-    ensures cells { result ≡ true → ArePaired range.skipped range.last start
-        cells.old.cells cells.new.cells (map (raised levels) list.now) }
+    requires lags { (length cells.old.cells ≡ range.last - range.skipped)
+        × (range.last - range.skipped ≤ 2 * N) × (N ≤ 64) }
+    requires bins { AreBins bins × FitPairs range bins cells.old.cells × IsZero window.old }
+    ensures cells { result ≡ true
+        → ArePaired range bins.entry.start cells.old.cells cells.new.cells (bins_of bins.entry) }
     ensures none { result ≡ false → (cells.new ≡ cells.old) × (steps.new ≡ steps.old) }
+    ensures noted { Notes paired.old.items paired.new.items (if result then length bins.entry.list.now - bins.entry.start else 0) }
     ensures spends { Spends cells.old cells.new steps.old steps.new (range.last - range.skipped)
-        × AddsAtMost 1 cells.old cells.new }
-    ensures zeros { IsZero window.new }
+        × AddsAtMost 1 cells.old cells.new × IsZero window.new }
 {
-    if list.len() - start > CLOSE_LIST {
+    let count = bins.list.len() - bins.start;
+    if count > CLOSE_LIST {
         return false;
     }
     let middle = range.last.min(range.skipped + N as u32);
     let nearer = LagRange {
+        skipped: range.skipped,
         last: middle,
-        ..range
     };
     let mut near = [0; N];
-    if !sum_parts(&mut near, window, nearer, list, start, levels) {
+    if !sum_parts(&mut near, window, nearer, bins) {
         return false;
     }
     if middle == range.last {
         add_sums(cells, 0, range.last - range.skipped, &near, steps);
+        paired.note(&[count]);
         return true;
     }
     let further = LagRange {
         skipped: middle,
-        ..range
+        last: range.last,
     };
     let mut far = [0; N];
-    if !sum_parts(&mut far, window, further, list, start, levels) {
+    if !sum_parts(&mut far, window, further, bins) {
         return false;
     }
     add_sums(cells, 0, middle - range.skipped, &near, steps);
@@ -190,40 +184,38 @@ fn pair_close<L: Ledger, const N: usize>(
         &far,
         steps,
     );
+    paired.note(&[count]);
     true
 }
 
 /// The same, by the number of lags. Where the bins are in a grid, nothing is paired, and the answer is false.
 fn pair_lanes<L: Ledger>(
     cells: &mut PairCells,
-    window: &mut [u16; PLACES],
-    grid: &Grid,
+    paired: &mut Noted<usize>,
+    scratch: &mut Scratch,
     range: LagRange,
-    list: &[Entry],
-    start: usize,
-    levels: u32,
+    bins: Bins,
     steps: &mut Steps<L>,
 ) -> bool
-    requires lags { (range.skipped ≤ range.last) × (length cells.old.cells ≡ range.last - range.skipped)
-        × (range.last ≤ MOST_LAGS) }
-    requires list { (start ≤ length list.now) × IsSpaced 0 (map (raised levels) list.now)
-        × (levels < 64) × IsZero window.old }
-    requires fits { (p : ℕ) → p < range.last - range.skipped → slice_index cells.old.cells p
-        + paired_from start (p + range.skipped + 1) (map (raised levels) list.now) ≤ 2 ^ 80 }
-    ensures cells { result ≡ true → ArePaired range.skipped range.last start
-        cells.old.cells cells.new.cells (map (raised levels) list.now) }
+    requires lags { length cells.old.cells ≡ range.last - range.skipped }
+    requires bins { AreBins bins × FitPairs range bins cells.old.cells × IsZero scratch.old.window }
+    ensures cells { result ≡ true
+        → ArePaired range bins.entry.start cells.old.cells cells.new.cells (bins_of bins.entry) }
     ensures none { result ≡ false → (cells.new ≡ cells.old) × (steps.new ≡ steps.old) }
+    ensures noted { Notes paired.old.items paired.new.items
+        (if result then counted scratch.old.grid (length bins.entry.list.now - bins.entry.start) else 0) }
     ensures spends { Spends cells.old cells.new steps.old steps.new (range.last - range.skipped)
         × AddsAtMost 1 cells.old cells.new }
-    ensures zeros { IsZero window.new }
+    ensures scratch { IsZero scratch.new.window × (scratch.new.grid ≡ scratch.old.grid) }
 {
-    if grid.is_on() {
+    if scratch.grid.is_on() {
         return false;
     }
+    let window = &mut scratch.window;
     match range.last - range.skipped {
-        0..=8 => pair_close::<L, 8>(cells, window, range, list, start, levels, steps),
-        9..=16 => pair_close::<L, 16>(cells, window, range, list, start, levels, steps),
-        _ => pair_close::<L, 64>(cells, window, range, list, start, levels, steps),
+        0..=8 => pair_close::<L, 8>(cells, paired, window, range, bins, steps),
+        9..=16 => pair_close::<L, 16>(cells, paired, window, range, bins, steps),
+        _ => pair_close::<L, 64>(cells, paired, window, range, bins, steps),
     }
 }
 
@@ -253,27 +245,18 @@ fn sum_one(
     }
 }
 
-/// Adds the pairs of the bins of a list, so many levels up, from `start` on with those before them to sums as those of
-/// `sum_one`.
-fn sum_each(
-    sums: &mut [u128; MOST_LAGS],
-    range: LagRange,
-    list: &[Entry],
-    start: usize,
-    levels: u32,
-)
-    requires lags { range.last ≤ range.skipped + MOST_LAGS }
-    requires list { (start ≤ length list.now) × (levels < 64)
-        × IsSpaced 0 (map (raised levels) list.now) }
-    requires fits { (p : ℕ) → p < range.last - range.skipped → slice_index sums.old p
-        + paired_from start (p + range.skipped + 1) (map (raised levels) list.now) < 2 ^ 128 }
-    ensures { ArePaired range.skipped range.last start sums.old sums.new (map (raised levels) list.now) }
+/// Adds the pairs of bins with those before them to sums as those of `sum_one`, and notes how many they are.
+fn sum_each(sums: &mut [u128; MOST_LAGS], paired: &mut Noted<usize>, range: LagRange, bins: Bins)
+    requires bins { AreBins bins × FitPairs range bins sums.old }
+    ensures sums { ArePaired range bins.entry.start sums.old sums.new (bins_of bins.entry) }
+    ensures noted { Notes paired.old.items paired.new.items (length bins.entry.list.now - bins.entry.start) }
 {
-    for at in start..list.len() {
-        let bin = list[at];
-        let index = bin.index >> levels;
-        let near = first_in_reach(list, at, index, levels, range.last);
-        sum_one(sums, range, &list[near..at], levels, index, bin.b);
+    paired.note(&[bins.list.len() - bins.start]);
+    for at in bins.start..bins.list.len() {
+        let bin = bins.list[at];
+        let index = bin.index >> bins.levels;
+        let near = first_in_reach(bins.list, at, index, bins.levels, range.last);
+        sum_one(sums, range, &bins.list[near..at], bins.levels, index, bin.b);
     }
 }
 
@@ -292,49 +275,41 @@ fn add_each<L: Ledger>(cells: &mut PairCells, count: u32, sums: &[u128], steps: 
     }
 }
 
-/// Pairs the bins of a list, so many levels up, from `start` on with those before them, at the lags of a range: over a
-/// grid, if they are in one, over a window in which they are laid close together, or else bin by bin. No two fall below
-/// the distance `apart`, as they stand in the list, where it isn't 0. Where that is out of reach, there are no pairs.
-/// Notes how many bins that list has, or a quarter as many as the grid has places.
+/// Pairs bins with those before them, at the lags of a range: over a grid, if they are in one, over a window in which
+/// they are laid close together, or else bin by bin. Where they are out of reach of one another, there are no pairs.
+/// What pairs them notes how many they are, or a quarter as many as the grid has places.
 pub(crate) fn pair_all<L: Ledger>(
     cells: &mut PairCells,
     paired: &mut Noted<usize>,
-    window: &mut [u16; PLACES],
-    grid: &Grid,
+    scratch: &mut Scratch,
     range: LagRange,
-    list: &[Entry],
-    start: usize,
-    levels: u32,
-    apart: u64,
+    bins: Bins,
     steps: &mut Steps<L>,
 )
-    requires lags { (range.skipped ≤ range.last) × (length cells.old.cells ≡ range.last - range.skipped)
-        × (range.last ≤ MOST_LAGS) }
-    requires list { (start ≤ length list.now) × IsSpaced 0 (map (raised levels) list.now)
-        × (levels < 64) × IsZero window.old }
-    requires apart { 0 < apart → IsSpaced apart list.now }
-    requires grid { IsGrid grid.now (drop start (map (raised levels) list.now))
-        × (0 < grid.now.len → FewFirsts (take start (map (raised levels) list.now))) }
-    requires fits { (p : ℕ) → p < range.last - range.skipped → slice_index cells.old.cells p
-        + paired_from start (p + range.skipped + 1) (map (raised levels) list.now) ≤ 2 ^ 80 }
-    ensures cells { ArePaired range.skipped range.last start cells.old.cells cells.new.cells
-        (map (raised levels) list.now) }
-    ensures noted { sum_by (λ n. n) paired.new.items
-        ≡ sum_by (λ n. n) paired.old.items + counted grid.now (length list.now - start) }
+    requires lags { length cells.old.cells ≡ range.last - range.skipped }
+    requires bins { AreBins bins × FitPairs range bins cells.old.cells × IsZero scratch.old.window
+        × (0 < bins.apart → IsSpaced bins.apart bins.list.now) }
+    requires grid { IsGrid scratch.old.grid (drop bins.start (bins_of bins))
+        × (0 < scratch.old.grid.len → FewFirsts (take bins.start (bins_of bins))) }
+    ensures cells { ArePaired range bins.entry.start cells.old.cells cells.new.cells (bins_of bins.entry) }
+    ensures noted { NotesUpTo paired.old.items paired.new.items
+        (counted scratch.old.grid (length bins.entry.list.now - bins.entry.start)) }
     ensures spends { Spends cells.old cells.new steps.old steps.new (range.last - range.skipped)
-        × AddsAtMost 1 cells.old cells.new × IsZero window.new }
+        × AddsAtMost 1 cells.old cells.new }
+    ensures scratch { IsZero scratch.new.window × (scratch.new.grid ≡ scratch.old.grid) }
 {
-    paired.note(&[grid.counted(list.len() - start)]);
+    let Bins { apart, levels, .. } = bins;
     if apart >> levels > u64::from(range.last)
-        || pair_lanes(cells, window, grid, range, list, start, levels, steps)
+        || pair_lanes(cells, paired, scratch, range, bins, steps)
     {
         return;
     }
     let mut sums = [0; MOST_LAGS];
-    if grid.is_on() {
-        grid.sum(&mut sums, window, range, list, start, levels);
+    if scratch.grid.is_on() {
+        let window = &mut scratch.window;
+        scratch.grid.sum(&mut sums, paired, window, range, bins);
     } else {
-        sum_each(&mut sums, range, list, start, levels);
+        sum_each(&mut sums, paired, range, bins);
     }
     add_each(cells, range.last - range.skipped, &sums, steps);
 }

@@ -1,5 +1,5 @@
 use Rattle.std.{proofs.Common.{rules, arith}, proofs.lemmas.List.{take_all}}
-use Rattle.tau_cascade.proofs.{Few.{near_next, near_none, near_at}, Passes.{spaced_one}}
+use Rattle.tau_cascade.proofs.{Few.{near_next, near_at}}
 use Rattle.tau_cascade.proofs.bins.count_near.Goals as goal
 
 pub loop-at-init : goal.loop-at-init

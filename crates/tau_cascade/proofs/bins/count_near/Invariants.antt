@@ -1,4 +1,4 @@
-use Rattle.std.proofs.Common.{◌≡◌, ◌≤◌, ◌<◌, take}
+use Rattle.std.proofs.Common.{◌≡◌, ◌<◌, take}
 use Rattle.tau_cascade.specs.Bins.{near}
 use Rattle.tau_cascade.proofs.bins.count_near.Given as goal
 

@@ -23,15 +23,15 @@ module _ (set : CorrelationView) (level : ℕ) (l l' : Level) (ls : List Level) 
 pub take-next-requires-clause-stands : goal.take-next-requires-clause-stands
 take-next-requires-clause-stands g t c = ∥∥₁_map c.requires.stands (λ w.
     let can = (rw c.in-Some.ensures.cases.0 at w.2) in
-    (can.chain.0, can.chain.1, w.1, can_take (correlation_view c.args.set.now) c.args.level _ _ (coming_bins c.args.coming c.args.bins.now) w.0 w.1 can))
+    (can.chain.0, can.chain.1, w.1, can_take (correlation_view c.args.set.now) c.args.coming.level _ _ (coming_bins c.args.coming c.args.list.now) w.0 w.1 can))
 
 pub carry_all-requires : goal.carry_all-requires
 carry_all-requires g t c κs within =
-    let stands = ∥∥₁_map c.requires.stands (λ w. gone_on _ _ _ _ _ (coming_bins c.args.coming c.args.bins.now) c.take-next.new.list c.take-next.result
+    let stands = ∥∥₁_map c.requires.stands (λ w. gone_on _ _ _ _ _ (coming_bins c.args.coming c.args.list.now) c.take-next.new.list c.take-next.result
     c.take-next.ensures.comes.1 c.take-next.ensures.follows w.0 w.1 (rw c.in-Some.ensures.cases.0 at w.2)) in
-    search (rules, arith)
+    rw c.take-next.ensures.comes.2 (search (rules, arith))
 
 pub returns-in-Some-clause-follows : goal.returns-in-Some-clause-follows
 returns-in-Some-clause-follows g t c = λ came xs given.
-    carried _ _ _ _ _ (coming_bins c.args.coming c.args.bins.now) c.take-next.new.list c.take-next.result
-    c.take-next.ensures.comes.1 c.take-next.ensures.follows came xs (rw c.in-Some.ensures.cases.0 at given) _ c.carry_all.ensures.follows
+    carried _ _ _ _ _ (coming_bins c.args.coming c.args.list.now) c.take-next.new.list c.take-next.result
+    c.take-next.ensures.comes.1 c.take-next.ensures.follows came xs (rw c.in-Some.ensures.cases.0 at given) _ (rw c.take-next.ensures.comes.2 at c.carry_all.ensures.follows)

@@ -1,7 +1,7 @@
 use Rattle.std.{proofs.Common.{add-one, ℕ, ◌+◌, ◌<◌, List, [], ◌∷◌, length, refl, sym, ap, append-nil, arith, rules, length-append, slice_set}, proofs.lemmas.List.drop-set, proofs.Math.Logic.∥∥₁_map, specs.List.AllByRecursion}
 use Rattle.tally_base.{specs.Settings.{correlation_view, CorrelationView}, specs.Tally.History}
 use Rattle.lag_ring.specs.declared.ring.Entry.{Entry}
-use Rattle.tau_cascade.{specs.declared.level.Level.Level, specs.Correlation.bin, specs.Levels.{IsBin, CanEnd, CanFinish}, specs.Bins.{stretch, CanCome}, proofs.{Follows.{follow_comes, goes_up}, Close.zeros_at}}
+use Rattle.tau_cascade.{specs.declared.level.Level.Level, specs.Correlation.bin, specs.Levels.{IsBin, CanEnd, CanFinish}, specs.Bins.{stretch, CanCome}, proofs.{Follows.{follow_comes, goes_up}}}
 use Rattle.tau_cascade.proofs.carry.end_first.Goals as goal
 
 -- the open bins in the end, from level to level
@@ -19,7 +19,7 @@ module _ (set : CorrelationView) (level : ℕ) (l : Level) (ls : List Level) (ca
 
 pub end-ended-requires : goal.end-ended-requires
 end-ended-requires g c = record {
-  room = (search (rules, arith), search (rules, arith), λ p inside. zeros_at 8640 p, c.empty-grid.ensures);
+  room = (search (rules, arith), c.empty-scratch.ensures.0, c.empty-scratch.ensures.1);
   stands = ∥∥₁_map c.requires.stands (λ w. (w.1.chain.0, w.1.chain.1, can_finish (correlation_view c.args.set.now) c.args.level _ _ w.0 w.1));
 }
 

@@ -1,10 +1,7 @@
 use Rattle.std.{proofs.Common.{arith, rules}, proofs.Math.Logic.{∥∥₁_map}}
 use Rattle.tally_base.{specs.Settings.correlation_view, specs.Columns.events_in}
-use Rattle.tau_cascade.{specs.Correlation.photons_of, proofs.{Blocks.{block_comes, photons-append}, Close.zeros_at}}
+use Rattle.tau_cascade.{specs.Correlation.photons_of, proofs.Blocks.{block_comes, photons-append}}
 use Rattle.tau_cascade.proofs.cascade.give_block.Goals as goal
-
-pub carry_all-requires-clause-sized : goal.carry_all-requires-clause-sized
-carry_all-requires-clause-sized g c = (search (rules, arith), search (rules, arith), λ p inside. zeros_at 8640 p)
 
 pub carry_all-requires-clause-stands : goal.carry_all-requires-clause-stands
 carry_all-requires-clause-stands g c =

@@ -13,7 +13,7 @@ pub loop-i-init : goal.loop-i-init
 loop-i-init c =
     let are = c.lay_before-laying.ensures in
     let most : ℕ = c.args.first + c.args.lags in
-    let close = are.upto most (omega arith) (rw (← take-map (raised c.args.levels) c.args.start c.args.list.now) c.requires.near.1) in
+    let close = are.upto most (omega arith) (rw (← take-map (raised c.args.bins.levels) c.args.bins.start c.args.bins.list.now) c.requires.near.1) in
     search (rules, arith, take-map, drop_of_length-le, length-take, append-nil)
 
 pub lay_one-laying-requires : goal.lay_one-laying-requires
@@ -21,29 +21,29 @@ lay_one-laying-requires c =
     let i : ℕ = c.loop-i.i in
     let inside = c.loop-i-test.true in
     let reach : ℕ = c.from-reach.result + 1 in
-    let count : ℕ = i - c.args.start in
+    let count : ℕ = i - c.args.bins.start in
     let all : reach * (count + 1) ≤ 129 * 64 =
-    mul-le-mul {n₂ = 129} {m₂ = 64} (omega (arith, c.requires.lags.0, c.from-reach.ensures)) (omega (arith, inside, c.requires.list.1)) in
+    mul-le-mul {n₂ = 129} {m₂ = 64} (omega (arith, c.requires.bins.2, c.from-reach.ensures)) (omega (arith, inside, c.requires.bins.1)) in
     search (rules, arith, behind_last)
 
 pub loop-i-preserved : goal.loop-i-preserved
 loop-i-preserved c =
-    let levels : ℕ = c.args.levels in
-    let list = c.args.list.now in
-    let start : ℕ = c.args.start in
+    let levels : ℕ = c.args.bins.levels in
+    let list = c.args.bins.list.now in
+    let start : ℕ = c.args.bins.start in
     let i : ℕ = c.loop-i.i in
     let inside : i < length list = c.loop-i-test.true in
     let inv = c.loop-i.invariant in
     let one = c.lay_one-laying.ensures in
     let reach : ℕ = c.from-reach.result + 1 in
     let place : ℕ = c.lay_one-laying.result.last.place in
-    let up = behind_last levels list i inside inv.are c.requires.list.2 c.requires.near.0 in
+    let up = behind_last levels list i inside inv.are c.requires.bins.0.sorted c.requires.near.0 in
     let back : List Entry = drop start (take i list) in
     let long : length (take i list) ≡ i = length-take-le i list (omega (arith, inside)) in
     let count : length back ≡ i - start = omega (arith, long, length-drop start (take i list)) in
     let more : drop start (take (i + 1) list) ≡ back ++ get_or list i no_bin ∷ [] =
     rw (take_more list i no_bin inside) (drop-append-le start (take i list) _ (omega (arith, long))) in
-    let written = placed_more back (get_or list i no_bin) c.loop-i.places place (omega (arith, count, inv.long, inside, c.requires.list.1)) in
+    let written = placed_more back (get_or list i no_bin) c.loop-i.places place (omega (arith, count, inv.long, inside, c.requires.bins.1)) in
     let laid_here = push _ _ _ _ _ _ _ _ inv.are up one.last one.heaviest one.weights one.light in
     let ring : reach * (i - start + 1) ≡ reach * (i - start) + reach = grind arith in
     let next : i + 1 - start ≡ i - start + 1 = omega arith in

@@ -4,10 +4,10 @@ use Rattle.tau_cascade.proofs.laid.lay_all.Given as goal
 
 abbrev pub invariant-loop-i : goal.invariant-loop-i
 invariant-loop-i l = record {
-  are : IsLaid l.window l.reach l.first l.laying (take l.i (map (raised l.levels) l.list));
-  at_places : laid l.reach l.first 0 (take l.i (map (raised l.levels) l.list))
-      ≡ laid l.reach l.first 0 (take l.start (map (raised l.levels) l.list)) ++ placed (drop l.start (take l.i l.list)) l.places;
+  are : IsLaid l.window l.reach l.first l.laying (take l.i (map (raised l.bins.levels) l.bins.list.now));
+  at_places : laid l.reach l.first 0 (take l.i (map (raised l.bins.levels) l.bins.list.now))
+      ≡ laid l.reach l.first 0 (take l.bins.start (map (raised l.bins.levels) l.bins.list.now)) ++ placed (drop l.bins.start (take l.i l.bins.list.now)) l.places;
   near : (k : ℕ) → get_or l.places k 0 ≤ l.laying.last.place;
-  place : l.laying.last.place ≤ l.lags + l.reach * (l.i - l.start);
+  place : l.laying.last.place ≤ l.lags + l.reach * (l.i - l.bins.start);
   long : length l.places ≡ 64;
 }

@@ -15,11 +15,11 @@ lay_all-laying-requires-clause-zeros g c = (c.requires.room.0, λ i. zeros_at 64
 pub sum_laid-requires : goal.sum_laid-requires
 sum_laid-requires g c =
     let e = c.lay_all-laying.ensures in
-    let list = c.args.list.now in
-    let start : ℕ = c.args.start in
+    let list = c.args.bins.list.now in
+    let start : ℕ = c.args.bins.start in
     let heaviest : ℕ = c.lay_all-laying.result.heaviest in
-    let light = light-raised c.args.levels heaviest list e.all.heaviest in (
-      omega (arith, c.requires.lags),
+    let light = light-raised c.args.bins.levels heaviest list e.all.heaviest in (
+      omega (arith, c.requires.lags, c.args.range.within),
       (
         (
           omega (arith, c.if-light.true),
@@ -27,7 +27,7 @@ sum_laid-requires g c =
               (all_back (λ f. (f.a ≤ heaviest) × (f.b ≤ heaviest)) (take start list) (drop start list) (rw (take-append-drop start list) light)),
           e.all.light,
         ),
-        ((search (rules, arith), search (rules, arith), search (rules, arith)), λ i. omega (arith, e.near.0 i, e.near.1, c.requires.lags)),
+        ((search (rules, arith), search (rules, arith), search (rules, arith)), λ i. omega (arith, e.near.0 i, e.near.1, c.requires.lags, c.args.range.within)),
       ),
     )
 
@@ -35,17 +35,17 @@ pub returns-clause-sums : goal.returns-clause-sums
 returns-clause-sums g c = λ is p inside. elim c.if-light.branch [
   | then-light w ↦
       let e = c.lay_all-laying.ensures in
-      let list = c.args.list.now in
-      let start : ℕ = c.args.start in
+      let list = c.args.bins.list.now in
+      let start : ℕ = c.args.bins.start in
       let places = c.lay_all-laying.new.places in
       let most : ℕ = c.lay_all-laying.result.last.place in
       let k : ℕ = p + c.args.range.skipped + 1 in
       let n : ℕ = g.row.N in
-      let from : 192 - n - c.args.range.skipped + (n - 1 - p) ≡ 192 - k = omega (arith, inside, c.requires.lags) in
-      let pairs = laid-paired (c.args.range.last + 1) _ start (map (raised c.args.levels) list) (placed (drop start list) places) c.requires.list.2 e.places
+      let from : 192 - n - c.args.range.skipped + (n - 1 - p) ≡ 192 - k = omega (arith, inside, c.requires.lags, c.args.range.within) in
+      let pairs = laid-paired (c.args.range.last + 1) _ start (map (raised c.args.bins.levels) list) (placed (drop start list) places) c.requires.bins.0.sorted e.places
       c.lay_all-laying.new.window most c.lay_all-laying.array_long e.near.1 (placed_upto (drop start list) places most e.near.0)
-      (e.all.weights (omega (arith, w.if-light.true))) k (omega arith) (omega (arith, inside)) (omega (arith, inside, c.requires.lags)) in
-      let sums = (rw (take_rest list start, from) at (w.sum_laid.ensures.sums (n - 1 - p) (omega (arith, inside, c.requires.lags)))) in
+      (e.all.weights (omega (arith, w.if-light.true))) k (omega arith) (omega (arith, inside)) (omega (arith, inside, c.requires.lags, c.args.range.within)) in
+      let sums = (rw (take_rest list start, from) at (w.sum_laid.ensures.sums (n - 1 - p) (omega (arith, inside, c.requires.lags, c.args.range.within)))) in
       rw w.sums-is (sums ∙ ap (λ v. get_or c.args.sums.now (n - 1 - p) 0 + v) pairs)
   | else-light w ↦ absurd (grind (arith, nat_tests, is, w.if-light.false))
 ]

@@ -8,14 +8,14 @@ loop-at-init c = search (rules, arith, none_paired, length-map)
 pub sum_one-requires-clause-fits : goal.sum_one-requires-clause-fits
 sum_one-requires-clause-fits c = λ p inside.
     let a = c.args in
-    let list = a.list.now in
+    let list = a.bins.list.now in
     let near = c.first_in_reach-near in
     let at = c.loop-at.at in
     let k = p + a.range.skipped + 1 in
-    let next = paired_between a.levels list near.result at (length list) no_bin near.ensures.place c.loop-at-test.true (omega arith) c.requires.list.2
-    k a.range.last a.start (omega (arith, inside)) c.loop-at.auto.at near.ensures.far in
-    let first = paired_first a.levels list near.result at (length list) no_bin near.ensures.place c.loop-at-test.true (omega arith) k in
-    grind (arith, length-map, take_all, c.requires.fits p inside, c.loop-at.invariant p inside)
+    let next = paired_between a.bins.levels list near.result at (length list) no_bin near.ensures.place c.loop-at-test.true (omega arith) c.requires.bins.0.sorted
+    k a.range.last a.bins.start (omega (arith, inside)) c.loop-at.auto.at near.ensures.far in
+    let first = paired_first a.bins.levels list near.result at (length list) no_bin near.ensures.place c.loop-at-test.true (omega arith) k in
+    grind (arith, length-map, take_all, c.requires.bins.1 p inside, c.loop-at.invariant p inside)
 
 pub loop-at-preserved : goal.loop-at-preserved
 loop-at-preserved c = λ p inside.
@@ -23,8 +23,8 @@ loop-at-preserved c = λ p inside.
     let near = c.first_in_reach-near in
     let at = c.loop-at.at in
     let k = p + a.range.skipped + 1 in
-    let upto : at + 1 ≤ length a.list.now = omega (arith, c.loop-at-test.true) in
-    let next = paired_between a.levels a.list.now near.result at (at + 1) no_bin near.ensures.place (omega arith) upto c.requires.list.2
-    k a.range.last a.start (omega (arith, inside)) c.loop-at.auto.at near.ensures.far in
-    let first = paired_first a.levels a.list.now near.result at (at + 1) no_bin near.ensures.place (omega arith) upto k in
+    let upto : at + 1 ≤ length a.bins.list.now = omega (arith, c.loop-at-test.true) in
+    let next = paired_between a.bins.levels a.bins.list.now near.result at (at + 1) no_bin near.ensures.place (omega arith) upto c.requires.bins.0.sorted
+    k a.range.last a.bins.start (omega (arith, inside)) c.loop-at.auto.at near.ensures.far in
+    let first = paired_first a.bins.levels a.bins.list.now near.result at (at + 1) no_bin near.ensures.place (omega arith) upto k in
     grind (arith, drop_all, part_long, c.loop-at.invariant p inside, c.sum_one.ensures p inside)

@@ -11,13 +11,13 @@ sum_near-requires g c = search (rules, arith, part_long, no_bin, part_sorted)
 pub parts-preserved : goal.parts-preserved
 parts-preserved g c =
     let a = c.args in
-    let list = a.list.now in
+    let list = a.bins.list.now in
     let near = c.first_in_reach-near in
     let at = c.parts.at in
     let end = c.min-end.result in
     let more : at < end = omega (arith, c.min-end.ensures, c.parts-test.true) in
     let upto : end ≤ length list = omega (arith, c.min-end.ensures) in
-    let long = part_long a.levels list near.result at end no_bin near.ensures.place more upto in
+    let long = part_long a.bins.levels list near.result at end no_bin near.ensures.place more upto in
     let inv = c.parts.invariant in
     let e = c.sum_near.ensures in
     record {
@@ -26,7 +26,7 @@ parts-preserved g c =
       zeros = e.zeros;
       few = λ q inside. omega (arith, e.within q inside, inv.few q inside, long, near.ensures.place, more, inv.behind);
       sums = λ p inside.
-          let next = paired_between a.levels list near.result at end no_bin near.ensures.place more upto c.requires.list.2
-          (p + a.range.skipped + 1) a.range.last a.start (omega (arith, inside)) inv.behind near.ensures.far in
+          let next = paired_between a.bins.levels list near.result at end no_bin near.ensures.place more upto c.requires.bins.0.sorted
+          (p + a.range.skipped + 1) a.range.last a.bins.start (omega (arith, inside)) inv.behind near.ensures.far in
           omega (arith, next, e.sums c.if-not-sum_near.false p inside, inv.sums p inside);
     }

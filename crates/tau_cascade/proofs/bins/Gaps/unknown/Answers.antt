@@ -1,4 +1,4 @@
-use Rattle.std.proofs.Common.{rules, arith}
+use Rattle.std.proofs.Common.{arith}
 use Rattle.tau_cascade.proofs.Few.{near_zero}
 use Rattle.tau_cascade.proofs.bins.Gaps.unknown.Goals as goal
 

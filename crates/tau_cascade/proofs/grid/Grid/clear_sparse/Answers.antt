@@ -1,5 +1,5 @@
-use Rattle.std.proofs.Common.{rules, arith}
-use Rattle.tau_cascade.proofs.{Places.sound, Onward.off_grid, Gridded.filled_few}
+use Rattle.std.proofs.Common.{rules}
+use Rattle.tau_cascade.proofs.{Places.sound}
 use Rattle.tau_cascade.proofs.grid.Grid.clear_sparse.Goals as goal
 
 pub is_dense-requires : goal.is_dense-requires

@@ -1,4 +1,4 @@
-use Rattle.std.{proofs.Common.{refl, ◌≡◌, ℕ, ◌+◌, ◌*◌, ◌-◌, ◌≤◌, List, length, take, drop, rules, arith}, specs.List.{sum_by, range_with_len}, proofs.lemmas.List.{length-take-le, length-drop}}
+use Rattle.std.{proofs.Common.{◌≡◌, ℕ, ◌+◌, ◌*◌, ◌-◌, ◌≤◌, List, length, take, drop, rules, arith}, specs.List.{sum_by, range_with_len}, proofs.lemmas.List.{length-take-le, length-drop}}
 use Rattle.lag_ring.proofs.Sums.{part-at}
 use Rattle.tau_cascade.{specs.Grid.filled, proofs.{Dots.{range_parts, range_agree}, Gridded.filled_few}}
 use Rattle.tau_cascade.proofs.grid.Grid.is_dense.Goals as goal

@@ -20,7 +20,7 @@ dot_light-requires-clause-light c =
     let from : ℕ = 192 - (c.loop-p.p + c.args.range.skipped + 1) in
     let len : ℕ = 16 * c.args.rows in
     let near = part_few c.args.window.now from (from + len - from) (192 - c.args.range.last) (192 + len - (192 - c.args.range.last)) c.most_of.result
-    (omega (arith, c.loop-p-test.true)) (omega (arith, c.loop-p-test.true, c.requires.lags)) c.most_of.ensures in
+    (omega (arith, c.loop-p-test.true)) (omega (arith, c.loop-p-test.true, c.args.range.within)) c.most_of.ensures in
     ∣ (_, c.if-light.true, λ i. mul-le-mul (omega (arith, near i, c.from.ensures)) (omega (arith, c.most_of-2.ensures i, c.from-2.ensures))) ∣₁
 
 pub loop-p-preserved : goal.loop-p-preserved

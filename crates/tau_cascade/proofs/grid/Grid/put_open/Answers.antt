@@ -6,11 +6,7 @@ pub overflow_sub-self : goal.overflow_sub-self
 overflow_sub-self c = omega (arith, sound _ (search rules) (search rules) c.requires.stands.0)
 
 pub put-requires : goal.put-requires
-put-requires c =
-    let is = sound _ (search rules) (search rules) c.requires.stands.0 in
-    record { inside = omega (arith, is); fits = omega (arith, is.4 c.saturating_sub-at.result) }
+put-requires c = search (rules, arith, sound)
 
 pub put-requires-then-more-self : goal.put-requires-then-more-self
-put-requires-then-more-self c =
-    let is = sound _ (search rules) (search rules) c.requires.stands.0 in
-    record { inside = omega (arith, is); fits = omega (arith, is.5 c.saturating_sub-at.result) }
+put-requires-then-more-self c = search (rules, arith, sound)

@@ -79,20 +79,20 @@ module _ (g : Grid) (es : List Entry) (stands : Stands g es) (window part : List
 
 pub put_firsts-requires-clause-fit : goal.put_firsts-requires-clause-fit
 put_firsts-requires-clause-fit c =
-    room c.args.self.now _ (c.requires.grid.0.on c.requires.grid.1) c.args.window.now _ (c.told-window, search (rules, arith))
-    c.copy_from_slice.ensures.after c.requires.zeros.0 (map (raised c.args.levels) (take c.args.start c.args.list.now))
-    (rw (← take-map) c.requires.grid.2)
+    room c.args.self.now _ (c.requires.bins.1.on c.requires.bins.2) c.args.window.now _ (c.told-window, search (rules, arith))
+    c.copy_from_slice.ensures.after c.requires.zeros.0 (map (raised c.args.bins.levels) (take c.args.bins.start c.args.bins.list.now))
+    (rw (← take-map) c.requires.bins.3)
 
 pub clear_window-requires-clause-behind : goal.clear_window-requires-clause-behind
 clear_window-requires-clause-behind c = λ p from upto.
-    clear c.args.self.now _ (c.requires.grid.0.on c.requires.grid.1) c.args.window.now _ (c.told-window, search (rules, arith))
-    c.copy_from_slice.ensures.after c.requires.zeros.0 _ _ (split c.args.levels c.args.start c.args.list.now) _ c.put_firsts.ensures.same
-    c.put_firsts.ensures.have p (omega (arith, from, c.requires.grid.1)) upto
+    clear c.args.self.now _ (c.requires.bins.1.on c.requires.bins.2) c.args.window.now _ (c.told-window, search (rules, arith))
+    c.copy_from_slice.ensures.after c.requires.zeros.0 _ _ (split c.args.bins.levels c.args.bins.start c.args.bins.list.now) _ c.put_firsts.ensures.same
+    c.put_firsts.ensures.have p (omega (arith, from, c.requires.bins.2)) upto
 
 pub returns-clause-sums : goal.returns-clause-sums
 returns-clause-sums c = λ p inside.
-    let on = c.requires.grid.0.on c.requires.grid.1 in
+    let on = c.requires.bins.1.on c.requires.bins.2 in
     let found = pairs c.args.self.now _ on c.args.window.now _ (c.told-window, search (rules, arith)) c.copy_from_slice.ensures.after c.requires.zeros.0
-    _ _ (split c.args.levels c.args.start c.args.list.now) _ c.put_firsts.ensures.same c.put_firsts.ensures.have ((c.args.self.now.len + 16 - 1) / 16)
-    (p + c.args.range.skipped + 1) (omega arith) (omega (arith, on.few)) (omega arith) (omega (arith, inside, c.requires.lags)) c.requires.list.2 in
-    rw (take-map (raised c.args.levels) c.args.start c.args.list.now) (omega (arith, c.put_dots.ensures.sums p inside ∙ found, c.requires.zeros.1 p))
+    _ _ (split c.args.bins.levels c.args.bins.start c.args.bins.list.now) _ c.put_firsts.ensures.same c.put_firsts.ensures.have ((c.args.self.now.len + 16 - 1) / 16)
+    (p + c.args.range.skipped + 1) (omega arith) (omega (arith, on.few)) (omega arith) (omega (arith, inside, c.args.range.within)) c.requires.bins.0.sorted in
+    rw (take-map (raised c.args.bins.levels) c.args.bins.start c.args.bins.list.now) (omega (arith, c.put_dots.ensures.sums p inside ∙ found, c.requires.zeros.1 p))

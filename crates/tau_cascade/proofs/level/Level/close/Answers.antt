@@ -1,15 +1,12 @@
-use Rattle.std.{proofs.Common.{rules, ◌≡◌, ◌∙◌, ◌+◌, ◌-◌, ◌*◌, ◌^◌, ◌<◌, length, map, take, drop, ap, refl, arith}, proofs.Props.props, proofs.Math.Logic.{∥∥₁_map, ∥∥₁_elim}, proofs.Math.Nat.mul-le-mul_left, proofs.Math.Pow.pow_mono, proofs.lemmas.List.{length-drop, length-map}}
+use Rattle.std.{proofs.Common.{rules, ◌≡◌, ◌∙◌, ◌+◌, ◌-◌, ◌*◌, ◌^◌, ◌<◌, length, map, take, drop, ap, refl, arith}, proofs.Math.Logic.{∥∥₁_elim}, proofs.Math.Nat.mul-le-mul_left, proofs.Math.Pow.pow_mono, proofs.lemmas.List.{length-drop, length-map}}
 use Rattle.lag_ring.proofs.Rising.{all_weaker}
-use Rattle.tau_cascade.{specs.Bins.{raised, stretch, merged_all}, specs.Opens.coming_bins, proofs.{Paired.all_rising, Passes.spaced_back, Spread.{ring_here, ring_parts, seam, spaced-prop}}, proofs.level.Level.close.Goals.{After-lower_ring-start}, proofs.level.Level.close.Given.{Over}}
+use Rattle.tau_cascade.{specs.Bins.{raised, merged_all}, specs.Opens.coming_bins, proofs.{Paired.all_rising, Spread.{ring_here, ring_parts, seam, spaced-prop}}, proofs.level.Level.close.Goals.{After-lower_ring-start}, proofs.level.Level.close.Given.{Over}}
 use Rattle.tau_cascade.proofs.level.Level.close.Goals as goal
-
-pub merge_many-shut-requires-clause-bins : goal.merge_many-shut-requires-clause-bins
-merge_many-shut-requires-clause-bins g c = (spaced_back 0 c.args.self.now.ring.entries _ c.requires.sorted.0, c.requires.sorted.1, c.requires.grid.0, c.requires.grid.2)
 
 pub lower_ring-start-requires-clause-fits : goal.lower_ring-start-requires-clause-fits
 lower_ring-start-requires-clause-fits g c =
     all_weaker (λ e. e.index * 2 ^ c.args.closing.levels < 2 ^ 64) (λ e. e.index * 2 ^ c.merge_many-shut.result.levels < 2 ^ 64)
-    (λ e fits. omega (arith, fits, mul-le-mul_left e.index (pow_mono {i = c.merge_many-shut.result.levels} {j = c.args.closing.levels} (omega (arith, c.merge_many-shut.ensures.comes))))) c.args.self.now.ring.entries c.requires.room.4
+    (λ e fits. omega (arith, fits, mul-le-mul_left e.index (pow_mono {i = c.merge_many-shut.result.levels} {j = c.args.closing.levels} (omega (arith, c.merge_many-shut.ensures.same))))) c.args.self.now.ring.entries c.requires.room.2
 
 -- the bins of the list that is paired
 abbrev bins : (g : Over) (c : After-lower_ring-start g) → drop (c.merge_many-shut.result.closed.from - c.lower_ring-start.result) (map (raised c.merge_many-shut.result.levels)
@@ -29,8 +26,11 @@ shut-requires-clause-list g c =
     c.args.self.now.ring.entries c.merge_many-shut.new.list c.lower_ring-start.new.list c.lower_ring-start.ensures.place c.lower_ring-start.ensures.bins in
     let parts = ring_parts c.merge_many-shut.result.levels c.merge_many-shut.result.closed.from c.lower_ring-start.result c.merge_many-shut.result.closed.count
     c.args.self.now.ring.entries c.merge_many-shut.new.list c.lower_ring-start.new.list c.lower_ring-start.ensures.place c.lower_ring-start.ensures.bins in (
-      omega (arith, c.merge_many-shut.ensures.comes, c.requires.comes),
-      rw here (∥∥₁_elim c.requires.stands (spaced-prop _) (λ w. c.merge_many-shut.ensures.bins.sorted c.args.self.now.ring.entries c.requires.sorted.0 (all_rising _ _ _ refl _ _ _ _ _ w.2))),
+      record {
+        within = search (rules, arith);
+        levels = omega (arith, c.merge_many-shut.ensures.same, c.requires.comes.0);
+        sorted = rw here (∥∥₁_elim c.requires.stands (spaced-prop _) (λ w. c.merge_many-shut.ensures.bins.sorted c.args.self.now.ring.entries c.requires.bins.0 (all_rising _ _ _ refl _ _ _ _ _ w.2)));
+      },
       parts.0,
       λ far.
           let apart = c.apart_all-apart.ensures far in
@@ -40,7 +40,7 @@ shut-requires-clause-list g c =
     )
 
 pub shut-requires-clause-grid : goal.shut-requires-clause-grid
-shut-requires-clause-grid g c = (rw (bins g (goal.at.shut-requires-clause-grid g c).After-lower_ring-start) c.merge_many-shut.ensures.grid, c.requires.grid.1)
+shut-requires-clause-grid g c = (rw (bins g (goal.at.shut-requires-clause-grid g c).After-lower_ring-start) c.merge_many-shut.ensures.grid, c.requires.bins.1)
 
 pub shut-requires-clause-stands : goal.shut-requires-clause-stands
 shut-requires-clause-stands g c = rw (merged g (goal.at.shut-requires-clause-stands g c).After-lower_ring-start) c.requires.stands
@@ -53,11 +53,26 @@ shut-requires-clause-few g c =
     omega (arith, ap length (bins g at'), length-drop (c.merge_many-shut.result.closed.from - c.lower_ring-start.result) (map (raised c.merge_many-shut.result.levels) slice), length-map slice (raised c.merge_many-shut.result.levels)) in
     rw (merged g at', size) c.merge_many-shut.ensures.few
 
-pub returns-clause-paired : goal.returns-clause-paired
-returns-clause-paired g c = rw (← merged g (goal.at.returns-clause-paired g c).After-lower_ring-start) c.shut.ensures.paired
+pub returns-clause-shuts : goal.returns-clause-shuts
+returns-clause-shuts g c = rw (← merged g (goal.at.returns-clause-shuts g c).After-lower_ring-start) c.shut.ensures.shuts
 
-pub returns-clause-ring : goal.returns-clause-ring
-returns-clause-ring g c = rw (← merged g (goal.at.returns-clause-ring g c).After-lower_ring-start) c.shut.ensures.ring
-
-pub returns-clause-cells : goal.returns-clause-cells
-returns-clause-cells g c = rw (← merged g (goal.at.returns-clause-cells g c).After-lower_ring-start) c.shut.ensures.cells
+pub returns-clause-comes : goal.returns-clause-comes
+returns-clause-comes g c =
+    let shut = c.merge_many-shut.ensures in
+    let behind = c.lower_ring-start.ensures.behind in
+    let up : c.merge_many-shut.result.levels + 1 - 1 ≡ c.merge_many-shut.result.levels = omega arith in (
+      record {
+        bins = record {
+          places = omega (arith, shut.comes.0.places, shut.same.1);
+          up = omega (arith, shut.same, c.requires.comes.0);
+          spaced = rw behind shut.comes.0.spaced;
+          nearer = rw behind shut.comes.0.nearer;
+        };
+        grid = record { up = λ some. omega arith; grid = rw (c.shut.ensures.others.1, up, behind) shut.grid };
+        long = search (rules, arith);
+        zeros = c.shut.ensures.others.0;
+      },
+      omega arith,
+      omega (arith, shut.same.1),
+      rw (up, behind) shut.bins.come,
+    )

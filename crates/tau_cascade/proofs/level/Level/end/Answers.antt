@@ -20,9 +20,12 @@ shut-requires g c =
     let long : length (take (c.lay_out-from.result + 1) (slice_set c.lay_out-from.new.list c.lay_out-from.result c.in-Some.last)) ≡ c.lay_out-from.result + 1 = search (rules, arith, length-take-le, length-set) in
     record {
       list = (
-        omega arith,
-        rw (put g at') (∥∥₁_elim c.requires.stands (spaced-prop _) (λ w.
-            spaced_join _ c.in-Some.last [] w.2.was.ring.rising (w.2.was.ring.keeps.bounded _ (finish_open _ _ _ _ c.in-Some.is _ _ w.2).1) (tt, tt))),
+        record {
+          within = omega (arith, long);
+          levels = omega arith;
+          sorted = rw (put g at') (∥∥₁_elim c.requires.stands (spaced-prop _) (λ w.
+              spaced_join _ c.in-Some.last [] w.2.was.ring.rising (w.2.was.ring.keeps.bounded _ (finish_open _ _ _ _ c.in-Some.is _ _ w.2).1) (tt, tt)));
+        },
         rw (put g at', c.lay_out-from.ensures.count) (take-append_seam c.args.self.now.ring.entries (c.in-Some.last ∷ [])),
         λ none. absurd (omega arith),
       );
@@ -37,4 +40,4 @@ returns-in-Some-clause-follows g c = λ closed open' can.
     let one = alone g (goal.at.returns-in-Some-clause-follows g c).After-lay_out-from in
     let may = finish_shut _ _ _ _ c.in-Some.is closed open' can in
     let was = finish_open _ _ _ _ c.in-Some.is closed open' can in
-    (record { none = refl; ring = c.shut.ensures.ring closed open' (rw one may); cells = c.shut.ensures.cells closed open' (rw one may); few = omega (arith, (rw one at c.shut.ensures.paired), can.was.few, occupied_all (correlation_view c.args.set.now) c.args.level (c.in-Some.last ∷ []) closed open' may.bins) }, was.0, was.1)
+    (record { none = refl; ring = c.shut.ensures.shuts.ring closed open' (rw one may); cells = c.shut.ensures.shuts.cells closed open' (rw one may); few = omega (arith, (rw one at c.shut.ensures.shuts.paired), can.was.few, occupied_all (correlation_view c.args.set.now) c.args.level (c.in-Some.last ∷ []) closed open' may.bins) }, was.0, was.1)

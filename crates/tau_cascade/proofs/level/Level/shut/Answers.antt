@@ -1,21 +1,27 @@
-use Rattle.std.{proofs.Common.{◌+◌, arith, rules}, proofs.Props.props, proofs.Math.Logic.∥∥₁_elim, proofs.lemmas.Grind.common_steps}
+use Rattle.std.{proofs.Common.{◌+◌, refl, arith, rules}, proofs.Props.props, proofs.Math.Logic.∥∥₁_elim, proofs.lemmas.Grind.common_steps}
 use Rattle.tally_base.specs.Settings.{correlation_view}
 use Rattle.tau_cascade.{proofs.Paired.all_fit, proofs.Near.{Standing, paired_merged, cells_near, keeps_near, dense_near, keeps_stand, dense_stands}, proofs.level.Level.shut.Given.{Over}, proofs.level.Level.shut.Goals.{in-Some, in-None, After-saturating_sub-before}}
 use Rattle.tau_cascade.proofs.level.Level.shut.Goals as goal
 
-standing : (g : Over) (c : After-saturating_sub-before g) → Standing (correlation_view c.args.set.now) c.args.level c.skipped_lags-skipped.result c.args.self.now.ring c.args.levels c.args.start c.args.list.now c.saturating_sub-before.result
+standing : (g : Over) (c : After-saturating_sub-before g) → Standing (correlation_view c.args.set.now) c.args.level c.skipped_lags-skipped.result c.args.self.now.ring c.args.bins.levels c.args.bins.start c.args.bins.list.now c.saturating_sub-before.result
 standing g c = search (rules, arith)
 
-pub pair_all-requires-clause-fits : goal.pair_all-requires-clause-fits
-pair_all-requires-clause-fits g c = λ p inside.
-    rw (c.requires.list.2, ← paired_merged (p + c.skipped_lags-skipped.result + 1) (omega arith) c.args.self.now.ring.entries) (∥∥₁_elim c.requires.stands (hlevel props) (λ w.
-    all_fit _ _ _ c.skipped_lags-skipped.ensures.skipped _ _ _ _ _ w.2 p inside))
+pub pair_all-requires-clause-bins : goal.pair_all-requires-clause-bins
+pair_all-requires-clause-bins g c = (
+  c.requires.list.0,
+  λ p inside.
+      rw (c.requires.list.1, ← paired_merged (p + c.skipped_lags-skipped.result + 1) (omega arith) c.args.self.now.ring.entries) (∥∥₁_elim c.requires.stands (hlevel props) (λ w.
+      all_fit _ _ _ c.skipped_lags-skipped.ensures.skipped _ _ _ _ _ w.2 p inside)),
+  c.requires.room.2,
+  c.requires.list.2,
+)
 
 pub keep_dense-self-requires : goal.keep_dense-self-requires
 keep_dense-self-requires g c =
     let at = c.place_from.ensures c.in-Some.place c.in-Some.is in
     let here = standing g (goal.at.keep_dense-self-requires g c).After-saturating_sub-before in
-    let kept = dense_stands here _ c.requires.stands c.args.grid.now c.in-Some.place (c.requires.grid.0.on at.0) at.1 in
+    let grid = (rw (← c.pair_all.ensures.scratch.1) at c.requires.grid.0) in
+    let kept = dense_stands here _ c.requires.stands c.pair_all.new.scratch.grid c.in-Some.place (grid.on at.0) at.1 in
     record { grid = search (rules, arith); spare = search (rules, arith, at.2, kept.2); rising = kept.0; room = kept.1 }
 
 pub keep-self-requires : goal.keep-self-requires
@@ -23,18 +29,24 @@ keep-self-requires g c =
     let kept = keeps_stand (standing g (goal.at.keep-self-requires g c).After-saturating_sub-before) _ c.requires.stands in
     record { list = search (rules, arith); some = grind (arith, common_steps); spare = search (rules, arith); fits = kept.0; rising = kept.1; room = kept.2 }
 
-pub returns-clause-ring : goal.returns-clause-ring
-returns-clause-ring g c = λ closed xs can.
-    let here = standing g (goal.at.returns-clause-ring g c).After-saturating_sub-before in
+pub returns-clause-shuts : goal.returns-clause-shuts
+returns-clause-shuts g c =
+    let here = standing g (goal.at.returns-clause-shuts g c).After-saturating_sub-before in
+    let spent = c.pair_all.ensures.spends in
+    let grid = (rw (← c.pair_all.ensures.scratch.1) at c.requires.grid.0) in
     elim c.match-place_from.branch [
       | in-Some w ↦
           let at = c.place_from.ensures w.in-Some.place w.in-Some.is in
-          rw (w.self-is, w.keep_dense-self.ensures) (dense_near here _ closed xs can c.args.grid.now w.in-Some.place (c.requires.grid.0.on at.0) at.1)
-      | in-None w ↦ rw (w.self-is, w.keep-self.ensures) (keeps_near here _ closed xs can).1
+          rw w.self-is (record {
+            paired = omega (arith, c.pair_all.ensures.noted, c.requires.few);
+            ring = λ closed xs can. rw w.keep_dense-self.ensures (dense_near here _ closed xs can c.pair_all.new.scratch.grid w.in-Some.place (grid.on at.0) at.1);
+            cells = λ closed xs can. cells_near here _ closed xs can c.pair_all.new.cells c.pair_all.ensures.cells spent.0.same spent.0.added spent.1;
+            opened = refl;
+          })
+      | in-None w ↦ rw w.self-is (record {
+        paired = omega (arith, c.pair_all.ensures.noted, c.requires.few);
+        ring = λ closed xs can. rw w.keep-self.ensures (keeps_near here _ closed xs can).1;
+        cells = λ closed xs can. cells_near here _ closed xs can c.pair_all.new.cells c.pair_all.ensures.cells spent.0.same spent.0.added spent.1;
+        opened = refl;
+      })
     ]
-
-pub returns-clause-cells : goal.returns-clause-cells
-returns-clause-cells g c = λ closed xs can.
-    let spent = c.pair_all.ensures.spends in
-    let all = cells_near (standing g (goal.at.returns-clause-cells g c).After-saturating_sub-before) _ closed xs can c.pair_all.new.cells c.pair_all.ensures.cells spent.0.same spent.0.added spent.1 in
-    elim c.match-place_from.branch [ in-Some w ↦ rw w.self-is all | in-None w ↦ rw w.self-is all ]

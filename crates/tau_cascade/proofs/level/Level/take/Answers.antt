@@ -1,11 +1,11 @@
 use Rattle.std.{proofs.Common.{rules}, proofs.Common.{List, ◌≡◌, ◌+◌, ◌-◌, ◌*◌, ◌^◌, ◌<◌, ◌≤◌, [], length, map, take, drop, refl, sym, ap, ◌∙◌, arith}, proofs.Props.props, proofs.Math.Logic.{∥∥₁_map, ∥∥₁_elim}, proofs.lemmas.List.length-take}
 use Rattle.lag_ring.{specs.declared.ring.Entry.Entry, proofs.Lists.{all_front, all_back}}
-use Rattle.tau_cascade.{proofs.Close.no_bin, specs.Bins.{raised, onto, merged_all}, specs.Grid.{IsGrid, FewFirsts}, specs.Dense.IsZero, proofs.Onward.{grid_some, off_grid, is_grid}, proofs.Few.near_few, proofs.Spread.{IsPut, same_behind, onto_few, spaced-prop, stretch_fit, all_here, came_here, is_cut, front_all, front_here, apart_closed, near_closed, upto, here_sorted, front_sorted, front_fit, weights_fit, few_closed, parts, may_close, none_closed, take_took}, proofs.level.Level.take.Goals.{After-lower_open-from, Joined-dense, then-dense+then-has_light_ring, else-dense}, proofs.level.Level.take.Given.{Over}}
+use Rattle.tau_cascade.{proofs.Close.no_bin, specs.Bins.{raised, onto, merged_all}, specs.Grid.{IsGrid, FewFirsts}, specs.Dense.IsZero, proofs.Onward.{grid_some, off_grid, is_grid}, proofs.Few.near_few, proofs.Passes.spaced_back, proofs.Spread.{IsPut, long, same_behind, onto_few, spaced-prop, stretch_fit, all_here, came_here, is_cut, front_all, front_here, apart_closed, near_closed, upto, here_sorted, front_sorted, front_fit, weights_fit, few_closed, parts, may_close, none_closed, take_took}, proofs.level.Level.take.Goals.{After-lower_open-from, Joined-dense, then-dense+then-has_light_ring, else-dense}, proofs.level.Level.take.Given.{Over}}
 use Rattle.tau_cascade.proofs.level.Level.take.Goals as goal
 
 pub lower_open-from-requires-clause-fits : goal.lower_open-from-requires-clause-fits
 lower_open-from-requires-clause-fits g c = all_back (λ e. e.index * 2 ^ c.args.came.levels < 2 ^ 64) c.args.self.now.ring.entries (onto c.args.self.now.open [])
-    (stretch_fit _ _ _ _ _ _ c.args.list.now no_bin c.requires.comes.1 (omega (arith, c.requires.comes.0.places)) (omega arith) c.requires.stands)
+    (stretch_fit _ _ _ _ _ _ c.args.list.now no_bin c.requires.comes.1 (omega (arith, c.requires.comes.0.bins.places)) (omega arith) c.requires.stands)
 
 -- what stands in the list then
 is_put : (g : Over) (c : After-lower_open-from g) → IsPut c.args.came.levels c.args.came.closed.from c.args.came.closed.count c.args.self.now c.args.list.now c.lower_open-from.new.list c.lower_open-from.result
@@ -20,16 +20,22 @@ cut_last-last-requires g c =
       counts = rw (all_here put) (∥∥₁_elim c.requires.stands (hlevel props) (λ w. weights_fit w.3));
     }
 
-pub follow-requires-clause-list : goal.follow-requires-clause-list
-follow-requires-clause-list g c =
-    let put = is_put g (goal.at.follow-requires-clause-list g c).After-lower_open-from in (
-      omega (arith, c.requires.comes.0.up),
-      rw (all_here put) (∥∥₁_elim c.requires.stands (spaced-prop _) (λ w. here_sorted w.3)),
+pub follow-requires-clause-stood : goal.follow-requires-clause-stood
+follow-requires-clause-stood g c = search (rules, arith, came_here, is_put)
+
+pub follow-requires-clause-bins : goal.follow-requires-clause-bins
+follow-requires-clause-bins g c =
+    let put = is_put g (goal.at.follow-requires-clause-bins g c).After-lower_open-from in (
+      record {
+        within = omega (arith, long put, put.some, put.place);
+        levels = omega (arith, c.requires.comes.0.bins.up);
+        sorted = rw (all_here put) (∥∥₁_elim c.requires.stands (spaced-prop _) (λ w. here_sorted w.3));
+      },
       all_here put ∙ ap (λ es. onto c.args.self.now.open (map (raised c.args.came.levels) es)) (sym (came_here put)),
     )
 
 pub clear-requires : goal.clear-requires
-clear-requires g c = grid_some _ _ _ refl c.requires.comes.3.grid
+clear-requires g c = grid_some _ _ _ refl c.requires.comes.0.grid.grid
 
 -- the bins that are closed, as they stand in the list
 abbrev closing : (g : Over) (c : Joined-dense g) → List Entry
@@ -37,53 +43,57 @@ closing g c = map (raised c.args.came.levels) (take c.cut_last-last.result.close
     (take (c.args.came.closed.from + c.args.came.closed.count - c.lower_open-from.result) (drop c.lower_open-from.result c.lower_open-from.new.list)))
 
 -- the grid stands for those, or has none
-grid_here : (g : Over) (c : Joined-dense g) → IsGrid c.if-dense.grid (closing g c) × (0 < c.if-dense.grid.len → FewFirsts c.args.self.now.ring.entries)
-    × (c.if-dense.grid.len ≤ 8 * length (merged_all (closing g c)))
+grid_here : (g : Over) (c : Joined-dense g) → IsGrid c.if-dense.scratch.grid (closing g c) × (0 < c.if-dense.scratch.grid.len → FewFirsts c.args.self.now.ring.entries)
+    × (c.if-dense.scratch.grid.len ≤ 8 * length (merged_all (closing g c))) × IsZero c.if-dense.scratch.window
 grid_here g c = elim c.if-dense.branch [
-  | then-dense+then-has_light_ring w ↦ rw w.grid-is (w.follow.ensures.grid, λ some. w.has_light_ring.ensures w.if-has_light_ring.true, w.follow.ensures.dense)
-  | else-dense w ↦ rw w.grid-is (off_grid _ [] _ (omega arith) (is_grid _ [] w.clear.ensures.0), λ some. absurd (omega (arith, w.clear.ensures.1)), omega (arith, w.clear.ensures.1))
+  | then-dense+then-has_light_ring w ↦ rw w.scratch-is (w.follow.ensures.grid, λ some. w.has_light_ring.ensures w.if-has_light_ring.true, w.follow.ensures.dense.0, w.follow.ensures.dense.1)
+  | else-dense w ↦ rw w.scratch-is (off_grid _ [] _ (omega arith) (is_grid _ [] w.clear.ensures.0), λ some. absurd (omega (arith, w.clear.ensures.1)), omega (arith, w.clear.ensures.1), c.requires.comes.0.zeros)
 ]
 
 pub close-requires-clause-comes : goal.close-requires-clause-comes
 close-requires-clause-comes g c =
-    let put = is_put g (goal.at.close-requires-clause-comes g c).After-lower_open-from in
+    let at' = goal.at.close-requires-clause-comes g c in
+    let put = is_put g at'.After-lower_open-from in
     let few = c.cut_last-last.ensures.few in
+    let is = is_cut put _ few _ c.cut_last-last.ensures.before c.cut_last-last.ensures.here c.cut_last-last.ensures.weights.0 c.cut_last-last.ensures.weights.1 in
+    let are = grid_here g at'.Joined-dense in
     let closed = take c.cut_last-last.result.closed (drop c.lower_open-from.result c.lower_open-from.new.list) in (
       record {
-        places = omega (arith, c.requires.comes.0.places, put.place, onto_few c.args.self.now.open, upto put _ few);
-        up = omega (arith, c.requires.comes.0.up);
-        spaced = λ far. let apart = c.apart_all-apart.ensures far in apart_closed put _ few _ _ apart.0 (c.requires.comes.0.spaced (omega arith)) apart.1;
-        nearer = omega (arith, near_closed put _ few c.args.came.gaps.usual c.args.came.gaps.nearer c.requires.comes.0.nearer, near_few c.args.came.gaps.usual closed, length-take c.cut_last-last.result.closed (drop c.lower_open-from.result c.lower_open-from.new.list), c.saturating_add.ensures);
+        bins = record {
+          places = omega (arith, c.requires.comes.0.bins.places, put.place, onto_few c.args.self.now.open, upto put _ few);
+          up = omega (arith, c.requires.comes.0.bins.up);
+          spaced = λ far. let apart = c.apart_all-apart.ensures far in apart_closed put _ few _ _ apart.0 (c.requires.comes.0.bins.spaced (omega arith)) apart.1;
+          nearer = omega (arith, near_closed put _ few c.args.came.gaps.usual c.args.came.gaps.nearer c.requires.comes.0.bins.nearer, near_few c.args.came.gaps.usual closed, length-take c.cut_last-last.result.closed (drop c.lower_open-from.result c.lower_open-from.new.list), c.saturating_add.ensures);
+        };
+        up = omega (arith, c.requires.comes.0.bins.up);
+        some = omega arith;
+        level = c.requires.comes.2;
+        long = search (rules, arith);
       },
-      omega (arith, c.requires.comes.0.up),
-      omega arith,
-      c.requires.comes.2,
+      rw (front_here put _ few) (record {
+        grid = rw (← front_all put _ few) are.0;
+        dense = rw (← front_all put _ few) are.2;
+        sorted = spaced_back 0 c.args.self.now.ring.entries _ (∥∥₁_elim c.requires.stands (spaced-prop _) (λ w. front_sorted w.3 is));
+        fit = ∥∥₁_elim c.requires.stands (hlevel props) (λ w. front_fit w.3 is);
+      }),
     )
 
 pub close-requires-clause-room : goal.close-requires-clause-room
 close-requires-clause-room g c =
     let few : length c.args.self.now.ring.entries ≤ c.args.set.now.lags = ∥∥₁_elim c.requires.stands (hlevel props) (λ w. omega (arith, w.3.was.ring.keeps.within, w.3.was.ring.reach)) in (
-      search (rules, arith),
-      search (rules, arith),
-      search (rules, arith),
-      omega (arith, few, c.requires.comes.0.places, c.args.set.now.some_lags, onto_few c.args.self.now.open, c.lower_open-from.ensures.place),
+      (grid_here g (goal.at.close-requires-clause-room g c).Joined-dense).3,
+      omega (arith, few, c.requires.comes.0.bins.places, c.args.set.now.some_lags, onto_few c.args.self.now.open, c.lower_open-from.ensures.place),
       all_front (λ e. e.index * 2 ^ c.args.came.levels < 2 ^ 64) c.args.self.now.ring.entries (onto c.args.self.now.open [])
-          (stretch_fit _ _ _ _ _ _ c.args.list.now no_bin c.requires.comes.1 (omega (arith, c.requires.comes.0.places)) (omega arith) c.requires.stands),
+          (stretch_fit _ _ _ _ _ _ c.args.list.now no_bin c.requires.comes.1 (omega (arith, c.requires.comes.0.bins.places)) (omega arith) c.requires.stands),
     )
 
-pub close-requires-clause-grid : goal.close-requires-clause-grid
-close-requires-clause-grid g c =
-    let at' = goal.at.close-requires-clause-grid g c in
+pub close-requires-clause-bins : goal.close-requires-clause-bins
+close-requires-clause-bins g c =
+    let at' = goal.at.close-requires-clause-bins g c in
     let put = is_put g at'.After-lower_open-from in
     let few = c.cut_last-last.ensures.few in
-    rw (front_here put _ few, ← front_all put _ few) (grid_here g at'.Joined-dense)
-
-pub close-requires-clause-sorted : goal.close-requires-clause-sorted
-close-requires-clause-sorted g c =
-    let put = is_put g (goal.at.close-requires-clause-sorted g c).After-lower_open-from in
-    let few = c.cut_last-last.ensures.few in
     let is = is_cut put _ few _ c.cut_last-last.ensures.before c.cut_last-last.ensures.here c.cut_last-last.ensures.weights.0 c.cut_last-last.ensures.weights.1 in
-    rw (front_here put _ few) (∥∥₁_elim c.requires.stands (spaced-prop _) (λ w. front_sorted w.3 is), ∥∥₁_elim c.requires.stands (hlevel props) (λ w. front_fit w.3 is))
+    rw (front_here put _ few) (∥∥₁_elim c.requires.stands (spaced-prop _) (λ w. front_sorted w.3 is), (grid_here g at'.Joined-dense).1)
 
 pub close-requires-clause-stands : goal.close-requires-clause-stands
 close-requires-clause-stands g c =
@@ -98,12 +108,12 @@ returns-then-count-gt0-clause-follows g c = λ closed open' xs can.
     let few = c.cut_last-last.ensures.few in
     let is = is_cut put _ few _ c.cut_last-last.ensures.before c.cut_last-last.ensures.here c.cut_last-last.ensures.weights.0 c.cut_last-last.ensures.weights.1 in
     let whole = parts can is in
-    let may = may_close can is in (
+    let may = may_close can is in
+    let shuts = (rw (front_here put _ few) at c.close.ensures.shuts) in (
       whole.0,
       whole.1,
-      take_took can is _ c.close.ensures.others.0
-          (c.close.ensures.ring closed whole.0 (rw (front_here put _ few) may), c.close.ensures.cells closed whole.0 (rw (front_here put _ few) may), few_closed can is _ (rw (front_here put _ few) at c.close.ensures.paired))
-          _ (rw (front_here put _ few) at c.close.ensures.alike),
+      take_took can is _ shuts.opened (shuts.ring closed whole.0 may, shuts.cells closed whole.0 may, few_closed can is _ shuts.paired)
+          _ (rw (front_here put _ few) at c.close.ensures.comes.3),
     )
 
 pub returns-clause-follows : goal.returns-clause-follows
@@ -123,16 +133,19 @@ returns-clause-comes g c =
     let put = is_put g (goal.at.returns-clause-comes g c).After-lower_open-from in
     let few = c.cut_last-last.ensures.few in
     let closed = take c.cut_last-last.result.closed (drop c.lower_open-from.result c.lower_open-from.new.list) in
-    let up : c.args.came.levels + 1 - 1 ≡ c.args.came.levels = omega arith in (
+    let up : c.args.came.levels + 1 - 1 ≡ c.args.came.levels = omega arith in
+    let are = grid_here g (goal.at.returns-clause-comes g c).Joined-dense in (
       record {
-        places = omega (arith, c.requires.comes.0.places, put.place, onto_few c.args.self.now.open, upto put _ few);
-        up = omega (arith, c.requires.comes.0.up);
-        spaced = λ far. let apart = c.apart_all-apart.ensures far in apart_closed put _ few _ _ apart.0 (c.requires.comes.0.spaced (omega arith)) apart.1;
-        nearer = omega (arith, near_closed put _ few c.args.came.gaps.usual c.args.came.gaps.nearer c.requires.comes.0.nearer, near_few c.args.came.gaps.usual closed, length-take c.cut_last-last.result.closed (drop c.lower_open-from.result c.lower_open-from.new.list), c.saturating_add.ensures);
+        bins = record {
+          places = omega (arith, c.requires.comes.0.bins.places, put.place, onto_few c.args.self.now.open, upto put _ few);
+          up = omega (arith, c.requires.comes.0.bins.up);
+          spaced = λ far. let apart = c.apart_all-apart.ensures far in apart_closed put _ few _ _ apart.0 (c.requires.comes.0.bins.spaced (omega arith)) apart.1;
+          nearer = omega (arith, near_closed put _ few c.args.came.gaps.usual c.args.came.gaps.nearer c.requires.comes.0.bins.nearer, near_few c.args.came.gaps.usual closed, length-take c.cut_last-last.result.closed (drop c.lower_open-from.result c.lower_open-from.new.list), c.saturating_add.ensures);
+        };
+        grid = record { up = λ some. omega arith; grid = rw (up, front_here put _ few, ← front_all put _ few) are.0 };
+        long = search (rules, arith);
+        zeros = are.3;
       },
       omega arith,
-      record {
-        up = λ some. omega arith;
-        grid = rw (up, front_here put _ few, ← front_all put _ few) (grid_here g (goal.at.returns-clause-comes g c).Joined-dense).0;
-      },
+      omega arith,
     )
