@@ -1,8 +1,8 @@
 -- What a bin brings when it is closed.
 use Rattle.std.{proofs.Common.{◌≡◌, ℕ, ◌+◌, ◌-◌, ◌*◌, ◌/◌, ◌^◌, ◌<◌, ◌≤◌, Bool, true, false, ◌&&◌, leb, eqb, cond, List, [], ◌∷◌, ◌++◌, length, get_or, ap, refl, ◌∙◌, arith, length-append, rules}, specs.List.{sum_by, filter, AllByRecursion}, proofs.Math.Nat.{mul-le-mul, mul-le-mul_right}, proofs.lemmas.Grind.common_steps}
 use Rattle.tally_base.{specs.Settings.{CoincidenceView, coincidence_cells}, specs.Tally.History, specs.Limits.record_limit}
-use Rattle.lag_ring.{specs.declared.ring.Entry.Entry, specs.Cells.Cells, specs.Ring.{Ring, ring, IsRising, weight_where, IsInReach}, proofs.Kept.{room_after, kept_after, kept_more, kept_left}, proofs.Lists.{all_back, all_filter, of_some}, proofs.Rising.all_weaker, proofs.Sums.{sum_by-same, sum_by-times, sum_by-zero}}
-use Rattle.coincidence.{specs.declared.pairing.Bin.Bin, specs.declared.pairing.Direction.Direction, specs.declared.pairing.Direction.TheVariants.{Forward, Backward}, specs.Pairs.{in_first, in_second, is_in_cell, is_coincidence, coincidences}, specs.Pairing.{pairs_of_all, pairs_with, bin_pairs, RingIs, CellsAre, CanKeep, CanShut}, specs.Closing.Reaches, proofs.Hits.{pairs_in, hits-append, pairs_in-one, pairs_in-le}, proofs.Mirror.pairs_apart-in, proofs.Visits.pairs_far}
+use Rattle.lag_ring.{specs.declared.ring.Entry.Entry, specs.Cells.Cells, specs.Ring.{Ring, ring, IsRising, weight_where, IsInReach}, proofs.Kept.{room_after, kept_after, kept_left}, proofs.Lists.{all_filter}, proofs.Rising.all_weaker, proofs.Sums.{sum_by-same, sum_by-times, sum_by-zero}}
+use Rattle.coincidence.{specs.declared.pairing.Bin.Bin, specs.declared.pairing.Direction.Direction, specs.declared.pairing.Direction.TheVariants.{Forward, Backward}, specs.Pairs.{in_first, in_second, is_in_cell, is_coincidence, coincidences}, specs.Pairing.{pairs_of_all, pairs_with, bin_pairs, BinIs, RingIs, CellsAre, CanKeep, CanShut}, specs.Closing.Reaches, proofs.Hits.{pairs_in, hits-append, pairs_in-one, pairs_in-le}, proofs.Mirror.pairs_apart-in, proofs.Visits.pairs_far}
 
 scaled : (test : Entry → Bool) (f : Entry → ℕ) (w : ℕ) (es : List Entry) → sum_by (λ e. cond (test e) (f e * w) 0) es ≡ sum_by (λ e. cond (test e) (f e) 0) es * w
 scaled test f w es = sum_by-same _ (λ e. cond (test e) (f e) 0 * w) es (λ e. search (rules, arith)) ∙ sum_by-times (λ e. cond (test e) (f e) 0) w es
@@ -22,6 +22,10 @@ filter_none p (x ∷ xs) all = rw all.0 (filter_none p xs all.1)
 more_work : (r few more n : ℕ) → 0 < more → n ≤ (2 * r + 1) * few + (2 * r + 1) → n ≤ (2 * r + 1) * (few + more)
 more_work r few more n some is = omega (arith, mul-le-mul_right (2 * r + 1) some)
 
+-- no more photons are in both groups than make pairs with themselves
+pub bin_both : (set : CoincidenceView) (bin : Bin) (xs : History) → BinIs set bin xs → bin.both ≤ bin.weights.a * bin.weights.b
+bin_both set bin xs is = grind (arith, common_steps, pairs_in-one (in_first set) (in_second set) xs)
+
 module _ (set : CoincidenceView) (r : Ring) (bin : Bin) (closed xs : History) (can : CanKeep set r bin closed xs) where
   window : (test : ℕ → Bool) → ((i : ℕ) → test i ≡ true → bin.weights.index ≤ i + set.reach) → IsInReach (λ x. x.0.time) r.reach test closed
   window test near = search (rules, arith, all_weaker)
@@ -30,7 +34,7 @@ module _ (set : CoincidenceView) (r : Ring) (bin : Bin) (closed xs : History) (c
   inside = grind (arith, common_steps, pairs_in-one (in_first set) (in_second set) xs)
 
   pub both_fit : bin.both ≤ bin.weights.a * bin.weights.b
-  both_fit = grind (arith, common_steps, pairs_in-one (in_first set) (in_second set) xs)
+  both_fit = bin_both set bin xs can.is
 
   -- what each cell counts more
   pub grown : (c : ℕ) → coincidences set c (closed ++ xs) ≡ coincidences set c closed + bin_pairs set c bin r.entries
@@ -44,20 +48,8 @@ module _ (set : CoincidenceView) (r : Ring) (bin : Bin) (closed xs : History) (c
   pub before : AllByRecursion (λ e. e.index < bin.weights.index) r.entries
   before = can.were.keeps.bounded bin.weights.index can.after
 
-  pub reaches_on : Reaches bin.weights.index (closed ++ xs)
-  reaches_on m some all =
-      of_some (λ x. x.0.time) bin.weights.index (λ k. k < m) xs can.is.weighs.some can.is.weighs.here (all_back (λ x. x.0.time < m) closed xs all)
-
   pub entries_within : length r.entries ≤ set.reach
   entries_within = omega (arith, can.were.keeps.within, can.were.reach)
-
-  -- the ring keeps the bin too, where it has room for it at once
-  pub ring_more : length r.entries < set.reach → RingIs set (ring (r.entries ++ bin.weights ∷ []) r.reach) (closed ++ xs)
-  ring_more room =
-      record { reach = can.were.reach; keeps = kept_more (in_first set) (in_second set) (λ x. x.0.time) r bin.weights closed some can.were.keeps can.after xs can.is.weighs (omega (arith, room, can.were.reach)) }
-    where
-      some : 0 < r.reach
-      some = omega (arith, room, can.were.reach)
 
   -- a ring that let go what is further back than the reach has room for the bin, and keeps it
   module _ (some : 0 < set.reach) (left : Ring)

@@ -1,8 +1,8 @@
 -- Bins that are closed one after another, or together.
-use Rattle.std.{proofs.Common.{◌≡◌, ◌∙◌, ℕ, ◌+◌, ◌<◌, List, [], ◌∷◌, ◌++◌, length, get_or, drop, sym, ap, arith, add-one, drop-cons, append_assoc, length-append, Bool, append-nil, Option, rules, ◌-◌, ◌*◌, ◌^◌, ◌≤◌, leb, cond, refl}, specs.List.{sum_by, range_with_len, filter, AllByRecursion}, proofs.lemmas.Grind.common_steps, proofs.Math.Nat.mul-le-mul_right, proofs.lemmas.List.Sums.{sum_by-cons, sum_by_push}}
+use Rattle.std.{proofs.Common.{◌≡◌, ◌∙◌, ℕ, ◌+◌, ◌<◌, List, [], ◌∷◌, ◌++◌, length, get_or, drop, sym, ap, arith, add-one, drop-cons, append_assoc, length-append, Bool, append-nil, Option, rules, ◌-◌, ◌*◌, ◌^◌, ◌≤◌, leb, cond, refl, true, Some, slice_get}, specs.List.{sum_by, range_with_len, filter, AllByRecursion}, proofs.lemmas.List.Elements.filter-append, proofs.lemmas.Grind.common_steps, proofs.Math.Nat.mul-le-mul_right, proofs.lemmas.List.Sums.{sum_by-cons, sum_by_push}}
 use Rattle.tally_base.{specs.Settings.{CoincidenceView, coincidence_cells}, specs.Tally.History, specs.declared.block.Block.Block, specs.Columns.{gathered, events_in}, proofs.BlockRows.length-rows, specs.Limits.record_limit}
-use Rattle.lag_ring.{specs.declared.ring.Entry.Entry, specs.Cells.Cells, specs.Ring.{Ring, ring, IsRising}, proofs.Lists.{all_front, all_back, all_filter, of_some}, proofs.Rising.rising_push, proofs.Sums.{sum_by-same, sum_by-filter}}
-use Rattle.coincidence.{specs.declared.pairing.Bin.Bin, specs.declared.pairing.Direction.TheVariants.{Forward, Backward}, specs.Pairing.{bin_pairs, RingIs, CellsAre, CanKeep, CanShut, OpenIs, pairs_of, pairs_of_all}, specs.Closing.{weights_in, all_pairs, lag_pairs, BinsAre, CanKeepAll, CanShutAll, Gathered}, proofs.LagPairs.{lags_in_turn, in_turn}, specs.declared.pairing.Pairing.Pairing, specs.Pairs.{photons_of_groups, coincidences}, specs.StandsFor.CanTake, proofs.Blockwise.few_photons, specs.declared.pairing.Direction.Direction, proofs.Mirror.pairs_apart-in, proofs.Hits.pairs_in-le, proofs.Shut.{grown, before_left, ring_shut}, proofs.Visits.pairs_far}
+use Rattle.lag_ring.{specs.declared.ring.Entry.Entry, specs.Cells.Cells, specs.Ring.{Ring, ring, IsRising}, proofs.Lists.{all_front, all_back, all_filter, of_some}, proofs.Rising.{rising_push, all_weaker, all_at, upto_end, upto_join}, proofs.Sums.{sum_by-same, sum_by-filter}}
+use Rattle.coincidence.{specs.declared.pairing.Bin.Bin, specs.declared.pairing.Direction.TheVariants.{Forward, Backward}, specs.Pairing.{bin_pairs, RingIs, CellsAre, CanKeep, CanShut, OpenIs, pairs_of, pairs_of_all}, specs.Closing.{weights_in, all_pairs, lag_pairs, BinsAre, CanKeepAll, CanShutAll, Gathered, Reaches}, proofs.LagPairs.{lags_in_turn, in_turn, rising_join}, specs.declared.pairing.Pairing.Pairing, specs.Pairs.{photons_of_groups, coincidences}, specs.StandsFor.CanTake, proofs.Blockwise.few_photons, specs.declared.pairing.Direction.Direction, proofs.Mirror.pairs_apart-in, proofs.Hits.pairs_in-le, proofs.Shut.{grown, bin_both, before_left, ring_left, ring_shut}, proofs.Visits.pairs_far}
 
 -- Bins that are closed together bring what they bring one by one.
 
@@ -12,6 +12,10 @@ rising_filter p (e ∷ es) rising = search (rules, arith, all_filter, rising_fil
 
 more_for_all : (r few more n was now : ℕ) → 0 < n → n ≤ more → was ≤ (2 * r + 1) * few → now ≤ was + (2 * r + n) → now ≤ (2 * r + 1) * (few + more)
 more_for_all r few more n was now any upto were is = search (rules, arith, mul-le-mul_right)
+
+filter_twice : (p q : Entry → Bool) (es : List Entry) → ((e : Entry) → p e ≡ true → q e ≡ true) → filter p (filter q es) ≡ filter p es
+filter_twice p q [] inner = refl
+filter_twice p q (e ∷ es) inner = search (rules, arith, inner, filter_twice p q es inner)
 
 module _ (set : CoincidenceView) where
   -- the entries of both lists pair alike with what comes from an index on
@@ -70,6 +74,55 @@ module _ (set : CoincidenceView) where
   pub bins_above : (r : Ring) (bins : List Bin) (closed xs : History) → RingIs set r closed → BinsAre set bins closed xs
       → AllByRecursion (λ l. AllByRecursion (λ e. e.index < l.index) r.entries) (weights_in bins)
   bins_above r bins closed xs were are = bins_all (λ m. AllByRecursion (λ e. e.index < m) r.entries) bins closed xs were.keeps.bounded are
+
+  pub bins_both : (bins : List Bin) (closed xs : History) → BinsAre set bins closed xs → AllByRecursion (λ bin. bin.both ≤ bin.weights.a * bin.weights.b) bins
+  bins_both [] closed xs are = tt
+  bins_both (bin ∷ bins) closed xs are = (bin_both set bin are.0 are.3, bins_both bins (closed ++ are.0) are.1 are.5)
+
+  bins_below : (m : ℕ) (bins : List Bin) (closed xs : History) → AllByRecursion (λ x. x.0.time < m) xs → BinsAre set bins closed xs → AllByRecursion (λ e. e.index < m) (weights_in bins)
+  bins_below m [] closed xs all are = tt
+  bins_below m (bin ∷ bins) closed xs all are =
+      let both = rw are.2 at all in (
+        of_some (λ x. x.0.time) bin.weights.index (λ k. k < m) are.0 are.3.weighs.some are.3.weighs.here (all_front (λ x. x.0.time < m) are.0 are.1 both),
+        bins_below m bins (closed ++ are.0) are.1 (all_back (λ x. x.0.time < m) are.0 are.1 both) are.5,
+      )
+
+  -- bins are kept where they are put behind the others at once, and then those go that are further back than the reach
+  bins_kept : (bins : List Bin) (r : Ring) (closed xs : History) (n : ℕ) → 0 < set.reach → IsRising r.entries → RingIs set r closed
+      → BinsAre set bins closed xs → AllByRecursion (λ e. e.index ≤ n) (weights_in bins) → Reaches n (closed ++ xs)
+      → RingIs set (ring (filter (λ f. leb (n - (set.reach - 1)) f.index) (r.entries ++ weights_in bins)) r.reach) (closed ++ xs)
+  bins_kept [] r closed xs n some rising were are upto reaches =
+      rw (are, append-nil closed, append-nil r.entries) (ring_left set r closed n some (rw (are, append-nil closed) at reaches) were)
+  bins_kept (bin ∷ bins) r closed xs n some rising were are upto reaches =
+      let can : CanKeep set r bin closed are.0 = record { is = are.3; after = are.4; were = were } in
+      let here : Entry → Bool = λ f. leb (bin.weights.index - (set.reach - 1)) f.index in
+      let stays : Entry → Bool = λ f. leb (n - (set.reach - 1)) f.index in
+      let left : Ring = ring (filter here r.entries) r.reach in
+      let up : IsRising left.entries = rising_filter here r.entries rising in
+      let rest = bins_kept bins (ring (left.entries ++ bin.weights ∷ []) r.reach) (closed ++ are.0) are.1 n some
+      (rising_push left.entries bin.weights up (before_left set r bin closed are.0 can some left refl up)) (ring_shut set r bin closed are.0 can some left refl up) are.5
+      upto.1 (rw (are.2, ← append_assoc closed are.0 are.1) at reaches) in
+      let twice : filter stays (filter here r.entries) ≡ filter stays r.entries = filter_twice stays here r.entries (λ e. search (rules, arith)) in
+      let same : filter stays ((left.entries ++ bin.weights ∷ []) ++ weights_in bins) ≡ filter stays (r.entries ++ bin.weights ∷ weights_in bins) =
+      rw (append_assoc left.entries (bin.weights ∷ []) (weights_in bins), filter-append stays left.entries (bin.weights ∷ weights_in bins), filter-append stays r.entries (bin.weights ∷ weights_in bins), twice) refl in
+      rw (are.2, ← append_assoc closed are.0 are.1, ← same) rest
+
+  module _ (r : Ring) (bins : List Bin) (closed xs : History) (can : CanKeepAll set r bins closed xs)
+      (rising : IsRising r.entries) (later : List Entry) (is : later ≡ weights_in bins) where
+    pub joined_rising : IsRising (r.entries ++ later)
+    joined_rising = rising_join r.entries later rising (rw is (bins_rising bins closed xs can.are)) (rw is (bins_above r bins closed xs can.were can.are))
+
+    module _ (some : 0 < set.reach) (last : Entry) (end : slice_get later (length later - 1) ≡ Some last) where
+      -- none is further ahead of what is still in reach of the last than the reach
+      pub all_near : AllByRecursion (λ e. e.index < last.index - (set.reach - 1) + r.reach) (r.entries ++ later)
+      all_near = all_weaker (λ (e : Entry). e.index ≤ last.index) (λ (e : Entry). e.index < last.index - (set.reach - 1) + r.reach)
+          (λ e upto. omega (arith, upto, some, can.were.reach)) (r.entries ++ later) (upto_join r.entries later last joined_rising end)
+
+      pub all_kept : RingIs set (ring (filter (λ e. leb (last.index - (set.reach - 1)) e.index) (r.entries ++ later)) r.reach) (closed ++ xs)
+      all_kept =
+          let at : slice_get (weights_in bins) (length (weights_in bins) - 1) ≡ Some last = rw is at end in
+          rw is (bins_kept bins r closed xs last.index some rising can.were can.are (upto_end (weights_in bins) last (bins_rising bins closed xs can.are) at)
+          (λ m any all. all_at (λ (e : Entry). e.index < m) (weights_in bins) (length (weights_in bins) - 1) last at (bins_below m bins closed xs (all_back (λ x. x.0.time < m) closed xs all) can.are)))
 
   -- all pairs are those of each direction and those inside the bins
   pub all_parts : (c : ℕ) (es : List Entry) (bins : List Bin) → all_pairs set c es bins ≡ in_turn Forward set c es

@@ -46,6 +46,10 @@ photons_of_groups set h = filter (λ x. in_first set x || in_second set x) h
 abbrev pub before_last : History → History
 before_last xs = filter (λ x. nat_lt 0 (count_by (λ y. nat_lt x.0.time y.0.time) xs)) xs
 
+-- how many pairs of those the cell counts
+abbrev pub coincidences_before : CoincidenceView → ℕ → History → ℕ
+coincidences_before set c h = coincidences set c (before_last (photons_of_groups set h))
+
 -- how many additions a table of these events may make: for each photon two for each tick before it in reach, and one for its own
 abbrev pub work : CoincidenceView → History → ℕ
 work set h = (2 * set.reach + 1) * length (photons_of_groups set h)

@@ -1,12 +1,12 @@
 // Bins that are closed together.
-ghost use Rattle.std.{specs.Prelude.{◌≡◌, ℕ, ◌+◌, ◌-◌, ◌^◌, ◌<◌, ◌≤◌, ◌++◌, [], IsTrue, length, slice_index, sum_by}, specs.List.{AllByRecursion}};
+ghost use Rattle.std.{specs.Prelude.{◌≡◌, ℕ, ◌+◌, ◌-◌, ◌*◌, ◌^◌, ◌<◌, ◌≤◌, ◌++◌, [], IsTrue, length, slice_index, sum_by}, specs.List.{AllByRecursion}};
 ghost use Rattle.tally_base.{specs.Settings.{coincidence_view, coincidence_cells}, specs.Tally.History};
 ghost use Rattle.lag_ring.{specs.Ring.IsRising, specs.Bytes.{weight_of, IsLight}, specs.Cells.Spends};
 ghost use Rattle.arrayvec.specs.ArrayVec.{array_vec_len};
 ghost use Rattle.coincidence.{specs.Pairing.{RingIs, bin_pairs, CanKeep, Pays, HasRoom, CountsMore}, specs.Closing.{weights_in, CanKeepAll, MayShutAll, ShutsAll, FitsWindow, Reaches}};
 
 use crate::lags::{Places, TOP, are_near, pair_lags};
-use crate::pairing::{Bin, Pairing, keep, least_kept, pair_inside, shut};
+use crate::pairing::{Bin, Pairing, least_kept, pair_inside, shut};
 use arrayvec::ArrayVec;
 use lag_ring::{Entry, LagRing, MOST_SPOTS, PairCells, Side, total_weight, weight_bound};
 use std::sync::ledger::Ledger;
@@ -53,8 +53,7 @@ fn are_few(side: Side, entries: &[Entry]) -> bool
 /// Whether later entries and a ring have their places in one window, and few photons: no entry more than so many.
 fn fits_window(set: &CoincidenceSet, ring: &LagRing, low: u64, later: &[Entry], most: u64) -> bool
     requires most { (0 < most) × IsLight most (ring.now.entries ++ later.now) }
-    ensures { IsTrue result
-        → FitsWindow (coincidence_view set.now) most low ring.now.entries later.now }
+    ensures { IsTrue result → FitsWindow (coincidence_view set.now) most low ring.now.entries later.now }
 {
     most < 256
         && set.reach <= TOP
@@ -65,64 +64,26 @@ fn fits_window(set: &CoincidenceSet, ring: &LagRing, low: u64, later: &[Entry], 
         && are_few(Side::Second, later)
 }
 
-/// Puts a bin into the ring behind the others, where there is a place, and else in place of those that no later
-/// photon reaches.
-#[inline(always)]
-fn put_behind(ring: &mut LagRing, set: &CoincidenceSet, bin: &Bin)
-    requires stands { ∥ ((closed : History) × (xs : History)
-        × CanKeep (coincidence_view set.now) ring.old bin.now closed xs) ∥₁ }
-    ensures ring { (closed xs : History)
-        → CanKeep (coincidence_view set.now) ring.old bin.now closed xs
-        → RingIs (coincidence_view set.now) ring.new (closed ++ xs) }
-{
-    if ring.len() < set.reach {
-        let weights = bin.weights;
-        ring.push(weights.index, weights.a, weights.b);
-    } else {
-        keep(ring, set, bin);
-    }
-}
-
-/// Removes the bins from the ring that no photon after the one at a tick reaches.
-#[inline(always)]
-fn forget(ring: &mut LagRing, set: &CoincidenceSet, index: u64)
-    ensures { (closed : History) → Reaches index closed → RingIs (coincidence_view set.now) ring.old closed
-        → RingIs (coincidence_view set.now) ring.new closed }
-{
-    ring.retire(least_kept(set, index));
-}
-
-/// Pairs the photons of each bin with one another, and puts the bins into the ring. Those that no later photon reaches
-/// are removed at the end, all at once, or before that where a bin has no place.
-fn keep_all<L: Ledger>(
-    ring: &mut LagRing,
+/// Pairs the photons of each bin with one another.
+fn pair_insides<L: Ledger>(
     cells: &mut PairCells,
     set: &CoincidenceSet,
     bins: &[Bin],
     steps: &mut Steps<L>,
 )
-    requires stands { ∥ ((closed : History) × (xs : History)
-        × CanKeepAll (coincidence_view set.now) ring.old bins.now closed xs) ∥₁ }
     requires sized { length cells.old.cells ≡ coincidence_cells (coincidence_view set.now) }
-    requires fits { HasRoom (coincidence_view set.now) cells.old
-        (λ c. sum_by (λ bin. bin_pairs (coincidence_view set.now) c bin []) bins.now) }
-    ensures ring { (closed xs : History)
-        → CanKeepAll (coincidence_view set.now) ring.old bins.now closed xs
-        → RingIs (coincidence_view set.now) ring.new (closed ++ xs) }
+    requires both { AllByRecursion (λ bin. bin.both ≤ bin.weights.a * bin.weights.b) bins.now }
+    requires fits { HasRoom (coincidence_view set.now) cells.old (λ c. sum_by (λ bin. bin_pairs (coincidence_view set.now) c bin []) bins.now) }
     ensures cells { CountsMore (coincidence_view set.now) cells.old cells.new
         (λ c. sum_by (λ bin. bin_pairs (coincidence_view set.now) c bin []) bins.now) }
     ensures spends { Spends cells.old cells.new steps.old steps.new (length bins.now) }
 {
-    let mut last = 0;
     for bin in bins {
         pair_inside(cells, set, bin, steps);
-        put_behind(ring, set, bin);
-        last = bin.weights.index;
     }
-    forget(ring, set, last);
 }
 
-/// Pairs bins over windows, and puts them among the closed ones.
+/// Pairs bins over windows, and puts them among the closed ones. Those that no later photon reaches leave the ring.
 fn shut_together<L: Ledger>(
     pairing: &mut Pairing,
     places: Places,
@@ -140,7 +101,9 @@ fn shut_together<L: Ledger>(
 {
     let Pairing { ring, cells, .. } = pairing;
     pair_lags(cells, ring, places, later, steps);
-    keep_all(ring, cells, &places.set, bins, steps);
+    pair_insides(cells, &places.set, bins, steps);
+    let last = later[later.len() - 1].index;
+    ring.renew(later, least_kept(&places.set, last));
 }
 
 /// Pairs bins one by one, and puts them among the closed ones.

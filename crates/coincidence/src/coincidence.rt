@@ -30,13 +30,12 @@ pub struct Coincidence {
 }
 
 impl Coincidence {
-    ghost use Rattle.coincidence.{specs.Coincidence.{Holds, set_of, settings, cells_in, spent_by}, specs.Pairs.{coincidences, before_last, photons_of_groups, work}};
+    ghost use Rattle.coincidence.{specs.Coincidence.{Holds, set_of, settings, cells_in, spent_by}, specs.Pairs.{coincidences, coincidences_before, work}};
 
     /// A table of no events, with all the memory that it ever takes, or `AllocError` where it is wanting.
     pub fn open(alloc: Global, set: CoincidenceSet) -> Result<Coincidence, AllocError>
         ensures set { IfOk result (λ t. set_of t ≡ set) }
-        ensures settings { IfOk result (λ t.
-            ⟦<Coincidence as Tally>⟧.settings t ≡ CoincidenceSettings (coincidence_view set)) }
+        ensures settings { IfOk result (λ t. ⟦<Coincidence as Tally>⟧.settings t ≡ CoincidenceSettings (coincidence_view set)) }
         ensures empty { IfOk result (λ t. Holds t []) }
         ensures opened { IfOk result (λ t. ⟦<Coincidence as Tally>⟧.closed t ≡ false) }
         ensures unspent { IfOk result (λ t. spent_by t ≡ 0) }
@@ -74,11 +73,9 @@ impl Coincidence {
             → (h : History) → Holds self.now h
             → result ≡ coincidences (coincidence_view (set_of self.now)) at h }
         ensures before { ⟦<Coincidence as Tally>⟧.closed self.now ≡ false
-            → (h : History) → Holds self.now h → result ≡ coincidences (coincidence_view (set_of self.now)) at
-            (before_last (photons_of_groups (coincidence_view (set_of self.now)) h)) }
+            → (h : History) → Holds self.now h → result ≡ coincidences_before (coincidence_view (set_of self.now)) at h }
         ensures place { slice_index (cells_in self.now).cells at ≡ result }
-        ensures work { (h : History) → Holds self.now h
-            → spent_by self.now ≤ work (coincidence_view (set_of self.now)) h }
+        ensures work { (h : History) → Holds self.now h → spent_by self.now ≤ work (coincidence_view (set_of self.now)) h }
     {
         self.pairing.cells.get(at)
     }

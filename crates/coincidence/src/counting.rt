@@ -20,8 +20,7 @@ pub(crate) fn count_block(
     requires sized { length cells.old ≡ set.now.bins }
     requires room { sum cells.old + over + length (gathered block.now) ≤ record_limit }
     requires in_order { InOrder false (since_in start.old) (gathered block.now) }
-    ensures follows { CountsMore (startstop_view set.now) set.now.bins cells.old cells.new over result
-        start.old start.new (events_in block.now) }
+    ensures follows { CountsMore (startstop_view set.now) set.now.bins cells.old cells.new over result start.old start.new (events_in block.now) }
     ensures few { sum cells.new + result ≤ sum cells.old + over + length (gathered block.now) }
     ensures begun { since_in start.new ≤ floor_after false (since_in start.old) (gathered block.now) }
 {
@@ -59,8 +58,7 @@ fn bin_of(time: u64, width: u64, by: &Divisor) -> u64
 pub(crate) fn put(cells: &mut [u64], bin: u64, more: u64) -> u64
     requires some { 0 < length cells.old }
     requires room { sum cells.old + more < 2 ^ 64 }
-    ensures cells { (b : ℕ) → b < length cells.old → slice_index cells.new b
-        ≡ slice_index cells.old b + (if bin == b then more else 0) }
+    ensures cells { (b : ℕ) → b < length cells.old → slice_index cells.new b ≡ slice_index cells.old b + (if bin == b then more else 0) }
     ensures rest { result ≡ (if nat_le (length cells.old) bin then more else 0) }
     ensures sum { sum cells.new + result ≡ sum cells.old + more }
 {

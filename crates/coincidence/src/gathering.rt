@@ -65,8 +65,7 @@ pub(crate) fn gather_block(
     requires empty { (bins.old.items ≡ []) × (array_vec_len bins.old ≡ 0) }
     requires stands { ∥ ((ring : Ring) × (cells : Cells) × (h : History) × CanTake
         (coincidence_view set.now) (pairing_of waiting ring cells) (gathered block.now) h) ∥₁ }
-    ensures follows { Gathers (coincidence_view set.now) waiting result bins.new.items
-        (gathered block.now) (events_in block.now) }
+    ensures follows { Gathers (coincidence_view set.now) waiting result bins.new.items (gathered block.now) (events_in block.now) }
     ensures few { array_vec_len bins.new ≤ TABLE_BLOCK }
 {
     // Copies, so that no field is read again for each photon.

@@ -37,10 +37,8 @@ fn add_row<L: Ledger>(
 )
     requires sized { length cells.old.cells ≡ coincidence_cells (coincidence_view set) }
     requires inside { from + length row.now ≤ 2 * set.reach + 1 }
-    requires fits { HasRoom (coincidence_view set) cells.old
-        (λ c. row_sum (coincidence_view set) c from row.now) }
-    ensures cells { CountsMore (coincidence_view set) cells.old cells.new
-        (λ c. row_sum (coincidence_view set) c from row.now) }
+    requires fits { HasRoom (coincidence_view set) cells.old (λ c. row_sum (coincidence_view set) c from row.now) }
+    ensures cells { CountsMore (coincidence_view set) cells.old cells.new (λ c. row_sum (coincidence_view set) c from row.now) }
     ensures spends { Spends cells.old cells.new steps.old steps.new (length row.now) }
 {
     if set.width == 1 {
@@ -65,10 +63,8 @@ fn add_sums<L: Ledger>(
 )
     requires sized { length cells.old.cells ≡ coincidence_cells (coincidence_view set) }
     requires inside { least ≤ set.reach }
-    requires fits { HasRoom (coincidence_view set) cells.old
-        (λ c. strip_sum direction (coincidence_view set) c least sums.old) }
-    ensures cells { CountsMore (coincidence_view set) cells.old cells.new
-        (λ c. strip_sum direction (coincidence_view set) c least sums.old) }
+    requires fits { HasRoom (coincidence_view set) cells.old (λ c. strip_sum direction (coincidence_view set) c least sums.old) }
+    ensures cells { CountsMore (coincidence_view set) cells.old cells.new (λ c. strip_sum direction (coincidence_view set) c least sums.old) }
     ensures spends { Spends cells.old cells.new steps.old steps.new (min (set.reach - least) 256) }
 {
     let count = (set.reach - least).min(BYTE_LAGS as u32);
@@ -97,8 +93,7 @@ fn pair_window<L: Ledger>(
     requires sized { length cells.old.cells ≡ coincidence_cells (coincidence_view places.set) }
     requires reach { places.set.reach ≤ TOP }
     requires window { ServesSpots places.most TOP window.now spots.now }
-    requires fits { HasRoom (coincidence_view places.set) cells.old
-        (λ c. window_sum direction (coincidence_view places.set) c window.now spots.now) }
+    requires fits { HasRoom (coincidence_view places.set) cells.old (λ c. window_sum direction (coincidence_view places.set) c window.now spots.now) }
     ensures cells { CountsMore (coincidence_view places.set) cells.old cells.new
         (λ c. window_sum direction (coincidence_view places.set) c window.now spots.now) }
     ensures spends { Spends cells.old cells.new steps.old steps.new places.set.reach }
@@ -128,8 +123,7 @@ fn fill(window: &mut [u8], side: Side, ring: &LagRing, low: u64, later: &[Entry]
 
 /// Whether all entries have an index from `low` on, by fewer than so many ticks.
 pub(crate) fn are_near(low: u64, ticks: u32, later: &[Entry]) -> bool
-    ensures { IsTrue result
-        → AllByRecursion (λ e. (low ≤ e.index) × (e.index - low < ticks)) later.now }
+    ensures { IsTrue result → AllByRecursion (λ e. (low ≤ e.index) × (e.index - low < ticks)) later.now }
 {
     for entry in later {
         if entry.index < low || entry.index - low >= u64::from(ticks) {

@@ -73,8 +73,7 @@ pub(crate) fn pass_lone(
     requires inside { at < count block.now }
     requires sorted { IsSorted block.now }
     ensures upto { (at < result.1) × (result.1 ≤ count block.now) }
-    ensures follows { Passes (coincidence_view set) block.now waiting result.0 ring.old ring.new
-        (at + 1) result.1 }
+    ensures follows { Passes (coincidence_view set) block.now waiting result.0 ring.old ring.new (at + 1) result.1 }
 {
     if let Some(bin) = waiting {
         if bin.weights.index == block.time(at) && is_alone(set, ring, &bin) {

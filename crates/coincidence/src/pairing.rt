@@ -183,8 +183,7 @@ fn pair_earlier<L: Ledger>(
 )
     requires sized { length cells.old.cells ≡ coincidence_cells (coincidence_view set) }
     requires after { earlier.now.index < later.index }
-    requires fits { HasRoom (coincidence_view set) cells.old
-        (λ c. pairs_of direction (coincidence_view set) c later.index later.count earlier.now) }
+    requires fits { HasRoom (coincidence_view set) cells.old (λ c. pairs_of direction (coincidence_view set) c later.index later.count earlier.now) }
     ensures cells { CountsMore (coincidence_view set) cells.old cells.new
         (λ c. pairs_of direction (coincidence_view set) c later.index later.count earlier.now) }
     ensures spends { Spends cells.old cells.new steps.old steps.new 1 }
@@ -232,10 +231,8 @@ fn pair_entries<L: Ledger>(
 )
     requires sized { length cells.old.cells ≡ coincidence_cells (coincidence_view set.now) }
     requires after { AllByRecursion (λ e. e.index < later.now.index) entries.now }
-    requires fits { HasRoom (coincidence_view set.now) cells.old
-        (λ c. pairs_with (coincidence_view set.now) c later.now entries.now) }
-    ensures cells { CountsMore (coincidence_view set.now) cells.old cells.new
-        (λ c. pairs_with (coincidence_view set.now) c later.now entries.now) }
+    requires fits { HasRoom (coincidence_view set.now) cells.old (λ c. pairs_with (coincidence_view set.now) c later.now entries.now) }
+    ensures cells { CountsMore (coincidence_view set.now) cells.old cells.new (λ c. pairs_with (coincidence_view set.now) c later.now entries.now) }
     ensures spends { Spends cells.old cells.new steps.old steps.new (2 * length entries.now) }
 {
     // A copy, so that no field is read again for each entry.
@@ -255,10 +252,8 @@ pub(crate) fn pair_inside<L: Ledger>(
 )
     requires sized { length cells.old.cells ≡ coincidence_cells (coincidence_view set.now) }
     requires both { bin.now.both ≤ bin.now.weights.a * bin.now.weights.b }
-    requires fits { HasRoom (coincidence_view set.now) cells.old
-        (λ c. bin_pairs (coincidence_view set.now) c bin.now []) }
-    ensures cells { CountsMore (coincidence_view set.now) cells.old cells.new
-        (λ c. bin_pairs (coincidence_view set.now) c bin.now []) }
+    requires fits { HasRoom (coincidence_view set.now) cells.old (λ c. bin_pairs (coincidence_view set.now) c bin.now []) }
+    ensures cells { CountsMore (coincidence_view set.now) cells.old cells.new (λ c. bin_pairs (coincidence_view set.now) c bin.now []) }
     ensures spends { Spends cells.old cells.new steps.old steps.new 1 }
 {
     let pairs = u128::from(bin.weights.a) * u128::from(bin.weights.b) - u128::from(bin.both);
@@ -278,12 +273,9 @@ fn pair<L: Ledger>(
     requires sized { length cells.old.cells ≡ coincidence_cells (coincidence_view set.now) }
     requires after { AllByRecursion (λ e. e.index < bin.now.weights.index) ring.now.entries }
     requires both { bin.now.both ≤ bin.now.weights.a * bin.now.weights.b }
-    requires fits { HasRoom (coincidence_view set.now) cells.old
-        (λ c. bin_pairs (coincidence_view set.now) c bin.now ring.now.entries) }
-    ensures cells { CountsMore (coincidence_view set.now) cells.old cells.new
-        (λ c. bin_pairs (coincidence_view set.now) c bin.now ring.now.entries) }
-    ensures spends { Spends cells.old cells.new steps.old steps.new
-        (2 * length ring.now.entries + 1) }
+    requires fits { HasRoom (coincidence_view set.now) cells.old (λ c. bin_pairs (coincidence_view set.now) c bin.now ring.now.entries) }
+    ensures cells { CountsMore (coincidence_view set.now) cells.old cells.new (λ c. bin_pairs (coincidence_view set.now) c bin.now ring.now.entries) }
+    ensures spends { Spends cells.old cells.new steps.old steps.new (2 * length ring.now.entries + 1) }
 {
     let (front, back) = ring.slices();
     pair_entries(cells, set, &bin.weights, front, steps);
@@ -293,9 +285,8 @@ fn pair<L: Ledger>(
 
 /// Puts a bin into the ring, in place of those that no later photon reaches.
 #[inline(always)]
-pub(crate) fn keep(ring: &mut LagRing, set: &CoincidenceSet, bin: &Bin)
-    requires stands { ∥ ((closed : History) × (xs : History)
-        × CanKeep (coincidence_view set.now) ring.old bin.now closed xs) ∥₁ }
+fn keep(ring: &mut LagRing, set: &CoincidenceSet, bin: &Bin)
+    requires stands { ∥ ((closed : History) × (xs : History) × CanKeep (coincidence_view set.now) ring.old bin.now closed xs) ∥₁ }
     ensures ring { (closed xs : History)
         → CanKeep (coincidence_view set.now) ring.old bin.now closed xs
         → RingIs (coincidence_view set.now) ring.new (closed ++ xs) }
@@ -309,8 +300,7 @@ pub(crate) fn keep(ring: &mut LagRing, set: &CoincidenceSet, bin: &Bin)
 /// reaches.
 #[inline(always)]
 fn begin<L: Ledger>(pairing: &mut Pairing, set: &CoincidenceSet, bin: &Bin, steps: &mut Steps<L>)
-    requires far { AllByRecursion (λ e. e.index + set.now.reach < bin.now.weights.index)
-        pairing.old.ring.entries }
+    requires far { AllByRecursion (λ e. e.index + set.now.reach < bin.now.weights.index) pairing.old.ring.entries }
     requires stands { MayShut (coincidence_view set.now) pairing.old bin.now }
     ensures shuts { Shuts (coincidence_view set.now) pairing.old pairing.new bin.now }
     ensures steps { Pays pairing.old pairing.new steps.old steps.new }
@@ -402,8 +392,7 @@ impl Pairing {
     /// Closes the open bin, and opens none.
     pub fn end<L: Ledger>(&mut self, set: &CoincidenceSet, steps: &mut Steps<L>)
         requires stands { ∥ ((came : History) × CanEnd (coincidence_view set.now) self.old came) ∥₁ }
-        ensures follows { (came : History) → CanEnd (coincidence_view set.now) self.old came
-            → PairingDone (coincidence_view set.now) self.new came }
+        ensures follows { (came : History) → CanEnd (coincidence_view set.now) self.old came → PairingDone (coincidence_view set.now) self.new came }
         ensures steps { steps.new + self.old.cells.added ≡ steps.old + self.new.cells.added }
     {
         if let Some(open) = self.open {

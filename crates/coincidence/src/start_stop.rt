@@ -38,8 +38,7 @@ impl StartStop {
     /// A table of no events, with all the memory that it ever takes.
     pub fn open(alloc: Global, set: StartStopSet) -> Result<StartStop, AllocError>
         ensures set { IfOk result (λ t. set_of t ≡ set) }
-        ensures settings { IfOk result (λ t.
-            ⟦<StartStop as Tally>⟧.settings t ≡ StartStopSettings (startstop_view set)) }
+        ensures settings { IfOk result (λ t. ⟦<StartStop as Tally>⟧.settings t ≡ StartStopSettings (startstop_view set)) }
         ensures empty { IfOk result (λ t. Holds t []) }
         ensures opened { IfOk result (λ t. ⟦<StartStop as Tally>⟧.closed t ≡ false) }
     {
@@ -64,16 +63,14 @@ impl StartStop {
     /// How many intervals came in bin `at`, of the events that it was given so far.
     pub fn cell(&self, at: u32) -> u64
         requires { at < (set_of self.now).bins }
-        ensures { (h : History) → Holds self.now h
-            → result ≡ in_interval (startstop_view (set_of self.now)) at h }
+        ensures { (h : History) → Holds self.now h → result ≡ in_interval (startstop_view (set_of self.now)) at h }
     {
         self.cells[at as usize]
     }
 
     /// How many intervals came past the last bin.
     pub fn over(&self) -> u64
-        ensures { (h : History) → Holds self.now h
-            → result ≡ count_over (startstop_view (set_of self.now)) h }
+        ensures { (h : History) → Holds self.now h → result ≡ count_over (startstop_view (set_of self.now)) h }
     {
         self.over
     }

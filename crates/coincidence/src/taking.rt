@@ -20,10 +20,8 @@ pub(crate) fn take_block<L: Ledger>(
     steps: &mut Steps<L>,
 )
     requires sorted { IsSorted block.now }
-    requires stands { ∥ ((h : History)
-        × CanTake (coincidence_view set.now) pairing.old (gathered block.now) h) ∥₁ }
-    ensures follows { TakesOn (coincidence_view set.now) pairing.old pairing.new
-        (gathered block.now) (events_in block.now) }
+    requires stands { ∥ ((h : History) × CanTake (coincidence_view set.now) pairing.old (gathered block.now) h) ∥₁ }
+    ensures follows { TakesOn (coincidence_view set.now) pairing.old pairing.new (gathered block.now) (events_in block.now) }
     ensures steps { steps.new + pairing.old.cells.added ≡ steps.old + pairing.new.cells.added }
 {
     if pairing.ring.len() >= MANY {
@@ -44,10 +42,8 @@ fn take_each<L: Ledger>(
     steps: &mut Steps<L>,
 )
     requires sorted { IsSorted block.now }
-    requires stands { ∥ ((h : History)
-        × CanTake (coincidence_view set.now) pairing.old (gathered block.now) h) ∥₁ }
-    ensures follows { TakesOn (coincidence_view set.now) pairing.old pairing.new
-        (gathered block.now) (events_in block.now) }
+    requires stands { ∥ ((h : History) × CanTake (coincidence_view set.now) pairing.old (gathered block.now) h) ∥₁ }
+    ensures follows { TakesOn (coincidence_view set.now) pairing.old pairing.new (gathered block.now) (events_in block.now) }
     ensures steps { steps.new + pairing.old.cells.added ≡ steps.old + pairing.new.cells.added }
 {
     // Copies, so that no field is read again for each photon.

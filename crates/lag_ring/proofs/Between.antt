@@ -1,6 +1,6 @@
 -- How many entries have an index in a range.
-use Rattle.std.{proofs.Common.{rules}, proofs.Common.{◌≡◌, ℕ, ◌+◌, ◌-◌, ◌<◌, ◌≤◌, Bool, true, ◌&&◌, ltb, leb, List, [], ◌∷◌, length, cond, sym, ap, ◌∙◌, arith, ◌++◌, map}, specs.List.{count_by, AllByRecursion, range_with_len}, proofs.lemmas.Grind.common_steps, proofs.lemmas.List.Sums.{sum_by-cons, length-filter}, proofs.lemmas.List.{append_assoc, length-append}, proofs.lemmas.List.FromFn.{map-range_with_len_more, length-map-range_with_len}}
-use Rattle.lag_ring.{specs.declared.ring.Entry.Entry, specs.Ring.IsRising, proofs.Rising.filter_passed, proofs.Lists.all_both, proofs.Sums.sum_by-agree, specs.Cells.{places_from}}
+use Rattle.std.{proofs.Common.{rules}, proofs.Common.{◌≡◌, ℕ, zero, suc, ◌+◌, ◌-◌, ◌<◌, ◌≤◌, Bool, true, false, ◌&&◌, ltb, leb, nat_le, List, [], ◌∷◌, length, drop, filter, cond, refl, sym, ap, ◌∙◌, arith, ◌++◌, map}, specs.List.{count_by, AllByRecursion, range_with_len}, proofs.Math.ListN.drop_of_length-le, proofs.lemmas.Grind.common_steps, proofs.lemmas.List.Sums.{sum_by-cons, length-filter}, proofs.lemmas.List.{append_assoc, length-append}, proofs.lemmas.List.FromFn.{map-range_with_len_more, length-map-range_with_len}}
+use Rattle.lag_ring.{specs.declared.ring.Entry.Entry, specs.Ring.IsRising, proofs.Rising.{filter_passed, all_weaker}, proofs.Lists.all_both, proofs.Sums.sum_by-agree, specs.Cells.{places_from}}
 
 abbrev pub between : ℕ → ℕ → Entry → Bool
 between low high e = leb low e.index && ltb e.index high
@@ -28,6 +28,24 @@ few_kept es low index rising from below =
     let all : count_by (between low index) es ≡ length es =
     sym (length-filter (between low index) es) ∙ ap length (filter_passed (between low index) es each) in
     omega (arith, count-between es low index rising)
+
+cut_by : (before n k : ℕ) (e : Entry) (es : List Entry) → suc (length es) - n ≡ k → IsRising (e ∷ es) → AllByRecursion (λ f. f.index < before + n) (e ∷ es)
+    → filter (λ f. nat_le before f.index) (drop (length es - n) es) ≡ filter (λ f. nat_le before f.index) es
+    → filter (λ f. nat_le before f.index) (drop k (e ∷ es)) ≡ filter (λ f. nat_le before f.index) (e ∷ es)
+cut_by before n zero e es is rising near rest = refl
+cut_by before n (suc k) e es is rising near rest =
+    let above : AllByRecursion (λ f. leb (e.index + 1) f.index ≡ true) es = all_weaker (λ f. e.index < f.index) (λ f. leb (e.index + 1) f.index ≡ true) (λ f lt. search (rules, arith)) es rising.0 in
+    let few = few_kept es (e.index + 1) (before + n) rising.1 above near.1 in
+    let lower : e.index < before = omega (arith, few, is, near.0) in
+    let out : nat_le before e.index ≡ false = search (rules, arith) in
+    let skip : length es - n ≡ k = omega (arith, is) in
+    rw out (rw skip at rest)
+
+-- entries that are further from the end than so many are below an index where none reaches so many above it
+pub cut_front : (before n : ℕ) (es : List Entry) → IsRising es → AllByRecursion (λ e. e.index < before + n) es
+    → filter (λ e. nat_le before e.index) (drop (length es - n) es) ≡ filter (λ e. nat_le before e.index) es
+cut_front before n [] rising near = ap (filter (λ e. nat_le before e.index)) (drop_of_length-le {A = Entry} [] {i = length {A = Entry} [] - n} (omega arith))
+cut_front before n (e ∷ es) rising near = cut_by before n (suc (length es) - n) e es refl rising near (cut_front before n es rising.1 near.1)
 
 -- Places that were noted one after the other.
 

@@ -71,19 +71,6 @@ module _ {X : Type 0} (first second : X → Bool) (at : X
         (rw kept (all_filter (λ f. f.index < n) (λ f. leb (e.index - (r.reach - 1)) f.index) r.entries (was.bounded n front))) here;
   }
 
-  -- What it keeps where it has room for the bin e at once.
-  pub kept_more : (xs : List X) → Weighs first second at e xs → length r.entries + 1 ≤ r.reach → Keeps first second at (ring (r.entries ++ e ∷ []) r.reach) (old ++ xs)
-  kept_more xs weighs room = record {
-    within = grind (arith, common_steps);
-    firsts = λ test window. weights_more first at (λ f. f.a) r.reach r.entries old xs e was.firsts weighs.here weighs.a test window;
-    seconds = λ test window. weights_more second at (λ f. f.b) r.reach r.entries old xs e was.seconds weighs.here weighs.b test window;
-    bounded = λ n below.
-        let front = all_front (λ x. at x < n) old xs below in
-        let back = all_back (λ x. at x < n) old xs below in
-        let here : e.index < n = of_some at e.index (λ m. m < n) xs weighs.some weighs.here back in
-        all_push (λ f. f.index < n) r.entries e (was.bounded n front) here;
-  }
-
 -- What the ring keeps once what is further back from n than the reach is gone, where one that came is no less than n.
 pub kept_left : {X : Type 0} (first second : X → Bool) (at : X → ℕ) (r : Ring) (old : List X) (n : ℕ) → 0 < r.reach
     → ((m : ℕ) → 0 < m → AllByRecursion (λ x. at x < m) old → n < m) → Keeps first second at r old

@@ -73,14 +73,23 @@ impl Buffered {
         }
     }
 
+    /// Appends entries, and removes those with an index below `before`, and no others.
+    #[inline(always)]
+    pub(crate) fn renew(&mut self, entries: &[Entry], before: u64)
+        requires rising { IsRising (self.old.entries ++ entries.now) }
+        requires near { AllByRecursion (λ e. e.index < before + self.old.reach) (self.old.entries ++ entries.now) }
+        ensures kept { self.new ≡ ring (filter (λ e. nat_le before e.index) (self.old.entries ++ entries.now)) self.old.reach }
+    {
+        self.kept.extend_from_slice(entries);
+        self.retire(before);
+    }
+
     /// Appends an entry. Its index is above all that are kept, and a place is free.
     #[inline(always)]
     pub(crate) fn push(&mut self, index: u64, a: u64, b: u64)
         requires above { AllByRecursion (λ e. e.index < index) self.old.entries }
         requires room { 0 < spare self.old }
-        ensures pushed { self.new ≡ ring
-            (self.old.entries ++ record { index = index; a = a; b = b } ∷ [])
-            self.old.reach }
+        ensures pushed { self.new ≡ ring (self.old.entries ++ record { index = index; a = a; b = b } ∷ []) self.old.reach }
     {
         self.kept.push_back(Entry { index, a, b });
     }

@@ -33,8 +33,7 @@ pub fn weight_bound(entries: &[Entry]) -> u64
 fn put_byte(window: &mut [u8], at: usize, weight: u64)
     requires inside { at < length window.old }
     requires fits { slice_index window.old at + weight < 2 ^ 8 }
-    ensures weights { (p : ℕ) → p < length window.old
-        → slice_index window.new p ≡ slice_index window.old p + (if at == p then weight else 0) }
+    ensures weights { (p : ℕ) → p < length window.old → slice_index window.new p ≡ slice_index window.old p + (if at == p then weight else 0) }
     ensures same { length window.new ≡ length window.old }
 {
     window[at] += weight as u8;
@@ -71,8 +70,7 @@ fn put_once(spots: &mut [u16; MOST_SPOTS], count: usize, spot: u16)
 #[inline(always)]
 fn put_times(spots: &mut [u16; MOST_SPOTS], count: usize, spot: u16, times: u64)
     requires room { count + times ≤ MOST_SPOTS }
-    ensures sums { (f : ℕ → ℕ) → sum_by f (take (count + times) spots.new)
-        ≡ sum_by f (take count spots.old) + f spot * times }
+    ensures sums { (f : ℕ → ℕ) → sum_by f (take (count + times) spots.new) ≡ sum_by f (take count spots.old) + f spot * times }
     ensures within { (n : ℕ) → spot ≤ n → AllByRecursion (λ s. s ≤ n) (take count spots.old)
         → AllByRecursion (λ s. s ≤ n) (take (count + times) spots.new) }
 {
@@ -87,10 +85,8 @@ fn put_times(spots: &mut [u16; MOST_SPOTS], count: usize, spot: u16, times: u64)
 fn put_spot(spots: &mut [u16; MOST_SPOTS], count: usize, spot: u16, times: u64) -> usize
     requires room { count + times ≤ MOST_SPOTS }
     ensures len { result ≡ count + times }
-    ensures sums { (f : ℕ → ℕ) → sum_by f (take result spots.new)
-        ≡ sum_by f (take count spots.old) + f spot * times }
-    ensures within { (n : ℕ) → spot ≤ n → AllByRecursion (λ s. s ≤ n) (take count spots.old)
-        → AllByRecursion (λ s. s ≤ n) (take result spots.new) }
+    ensures sums { (f : ℕ → ℕ) → sum_by f (take result spots.new) ≡ sum_by f (take count spots.old) + f spot * times }
+    ensures within { (n : ℕ) → spot ≤ n → AllByRecursion (λ s. s ≤ n) (take count spots.old) → AllByRecursion (λ s. s ≤ n) (take result spots.new) }
 {
     if times > 1 {
         put_times(spots, count, spot, times);
@@ -104,11 +100,9 @@ fn put_spot(spots: &mut [u16; MOST_SPOTS], count: usize, spot: u16, times: u64) 
 pub fn spots_of(side: Side, low: u64, entries: &[Entry]) -> ArrayVec<u16, MOST_SPOTS>
     requires near { AllByRecursion (λ e. (low ≤ e.index) × (e.index - low < SPAN)) entries.now }
     requires few { sum_by (weight_of side) entries.now ≤ MOST_SPOTS }
-    ensures sums { (f : ℕ → ℕ) → sum_by f result.items
-        ≡ sum_by (λ e. f (e.index - low) * weight_of side e) entries.now }
+    ensures sums { (f : ℕ → ℕ) → sum_by f result.items ≡ sum_by (λ e. f (e.index - low) * weight_of side e) entries.now }
     ensures few { array_vec_len result ≤ MOST_SPOTS }
-    ensures within { (n : ℕ) → AllByRecursion (λ e. e.index - low ≤ n) entries.now
-        → AllByRecursion (λ s. s ≤ n) result.items }
+    ensures within { (n : ℕ) → AllByRecursion (λ e. e.index - low ≤ n) entries.now → AllByRecursion (λ s. s ≤ n) result.items }
 {
     let mut spots = [0; MOST_SPOTS];
     let mut count = 0;
@@ -125,10 +119,8 @@ pub fn spots_of(side: Side, low: u64, entries: &[Entry]) -> ArrayVec<u16, MOST_S
 #[inline(always)]
 fn add_bytes<const N: usize>(sums: &mut [u8; N], part: &[u8])
     requires all { length part.now ≡ N }
-    requires fits { (q : ℕ) → q < N
-        → slice_index sums.old q + slice_index part.now q < 2 ^ 8 }
-    ensures sums { (q : ℕ) → q < N
-        → slice_index sums.new q ≡ slice_index sums.old q + slice_index part.now q }
+    requires fits { (q : ℕ) → q < N → slice_index sums.old q + slice_index part.now q < 2 ^ 8 }
+    ensures sums { (q : ℕ) → q < N → slice_index sums.new q ≡ slice_index sums.old q + slice_index part.now q }
 {
     for q in 0..N {
         sums[q] += part[q];
@@ -139,11 +131,9 @@ fn add_bytes<const N: usize>(sums: &mut [u8; N], part: &[u8])
 #[inline(always)]
 fn byte_sums<const N: usize>(window: &[u8], from: usize, spots: &[u16]) -> [u8; N]
     requires lags { N ≤ BYTE_LAGS }
-    requires fits { (q : ℕ) → q < N
-        → sum_by (behind window.now (from + q)) spots.now < 2 ^ 8 }
+    requires fits { (q : ℕ) → q < N → sum_by (behind window.now (from + q)) spots.now < 2 ^ 8 }
     requires inside { AllByRecursion (λ s. s + from + N ≤ length window.now) spots.now }
-    ensures sums { (q : ℕ) → q < N
-        → slice_index result q ≡ sum_by (behind window.now (from + q)) spots.now }
+    ensures sums { (q : ℕ) → q < N → slice_index result q ≡ sum_by (behind window.now (from + q)) spots.now }
 {
     let mut sums = [0; N];
     for spot in spots {
@@ -156,10 +146,8 @@ fn byte_sums<const N: usize>(window: &[u8], from: usize, spots: &[u16]) -> [u8; 
 /// Adds each of some bytes to a sum.
 #[inline(always)]
 fn add_wide<const N: usize>(sums: &mut [u32; N], bytes: &[u8; N])
-    requires fits { (q : ℕ) → q < N
-        → slice_index sums.old q + slice_index bytes.now q < 2 ^ 32 }
-    ensures sums { (q : ℕ) → q < N
-        → slice_index sums.new q ≡ slice_index sums.old q + slice_index bytes.now q }
+    requires fits { (q : ℕ) → q < N → slice_index sums.old q + slice_index bytes.now q < 2 ^ 32 }
+    ensures sums { (q : ℕ) → q < N → slice_index sums.new q ≡ slice_index sums.old q + slice_index bytes.now q }
 {
     for q in 0..N {
         sums[q] += u32::from(bytes[q]);
@@ -179,8 +167,7 @@ pub fn byte_lag_sums<const N: usize>(
     requires light { (p : ℕ) → p < length window.now → slice_index window.now p ≤ most }
     requires few { length spots.now ≤ 2 ^ 16 }
     requires inside { AllByRecursion (λ s. s + from + N ≤ length window.now) spots.now }
-    ensures sums { (q : ℕ) → q < N
-        → slice_index result q ≡ sum_by (behind window.now (from + q)) spots.now }
+    ensures sums { (q : ℕ) → q < N → slice_index result q ≡ sum_by (behind window.now (from + q)) spots.now }
 {
     let mut sums = [0; N];
     // So many spots are summed in bytes that none passes 255.

@@ -59,10 +59,8 @@ fn add_lows<L: Ledger>(
     steps: &mut Steps<L>,
 ) -> u64
     requires inside { from + length row.now ≤ length cells.old }
-    ensures lows { (c : ℕ) → c < length cells.old
-        → slice_index cells.new c ≡ without_carry (slice_index cells.old c) (row_at from row.now c) }
-    ensures sums { result < ROOM → (c : ℕ) → c < length cells.old
-        → slice_index cells.new c ≡ slice_index cells.old c + row_at from row.now c }
+    ensures lows { (c : ℕ) → c < length cells.old → slice_index cells.new c ≡ without_carry (slice_index cells.old c) (row_at from row.now c) }
+    ensures sums { result < ROOM → (c : ℕ) → c < length cells.old → slice_index cells.new c ≡ slice_index cells.old c + row_at from row.now c }
     ensures places { additions.new.items ≡ additions.old.items ++ places_from from (length row.now) }
     ensures steps { steps.new ≡ steps.old + length row.now }
 {
@@ -100,10 +98,8 @@ fn add_each<L: Ledger>(
     steps: &mut Steps<L>,
 )
     requires inside { from + length row.now ≤ length cells.old }
-    requires sums { (q : ℕ) → q < length row.now
-        → slice_index cells.old (from + q) + slice_index row.now q ≤ 2 ^ 80 }
-    ensures cells { (c : ℕ) → c < length cells.old
-        → slice_index cells.new c ≡ slice_index cells.old c + row_at from row.now c }
+    requires sums { (q : ℕ) → q < length row.now → slice_index cells.old (from + q) + slice_index row.now q ≤ 2 ^ 80 }
+    ensures cells { (c : ℕ) → c < length cells.old → slice_index cells.new c ≡ slice_index cells.old c + row_at from row.now c }
     ensures places { additions.new.items ≡ additions.old.items ++ places_from from (length row.now) }
     ensures steps { steps.new ≡ steps.old + length row.now }
 {
@@ -146,10 +142,8 @@ impl PairCells {
     #[tactic(auto, using(crate::proofs::Between::places_length))]
     pub fn add_row<L: Ledger>(&mut self, from: u32, row: &[u32], steps: &mut Steps<L>)
         requires inside { from + length row.now ≤ length self.old.cells }
-        requires sums { (q : ℕ) → q < length row.now
-            → slice_index self.old.cells (from + q) + slice_index row.now q ≤ 2 ^ 80 }
-        ensures cells { (c : ℕ) → c < length self.old.cells
-            → slice_index self.new.cells c ≡ slice_index self.old.cells c + row_at from row.now c }
+        requires sums { (q : ℕ) → q < length row.now → slice_index self.old.cells (from + q) + slice_index row.now q ≤ 2 ^ 80 }
+        ensures cells { (c : ℕ) → c < length self.old.cells → slice_index self.new.cells c ≡ slice_index self.old.cells c + row_at from row.now c }
         ensures same { length self.new.cells ≡ length self.old.cells }
         ensures added { self.new.added ≡ self.old.added + length row.now }
         ensures places { self.new.places ≡ self.old.places ++ places_from from (length row.now) }

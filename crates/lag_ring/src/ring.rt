@@ -116,14 +116,26 @@ impl LagRing {
     pub fn push(&mut self, index: u64, a: u64, b: u64)
         requires above { AllByRecursion (λ e. e.index < index) self.old.entries }
         requires room { 0 < spare self.old }
-        ensures pushed { self.new ≡ ring
-            (self.old.entries ++ record { index = index; a = a; b = b } ∷ [])
-            self.old.reach }
+        ensures pushed { self.new ≡ ring (self.old.entries ++ record { index = index; a = a; b = b } ∷ []) self.old.reach }
     {
         lay_out(&mut self.kept, &self.last, self.alone);
         self.alone = false;
         self.kept.push(index, a, b);
         self.last = Entry { index, a, b };
+    }
+
+    /// Appends entries, and removes those with an index below `before`, and no others.
+    #[inline(always)]
+    pub fn renew(&mut self, entries: &[Entry], before: u64)
+        requires some { 0 < length entries.now }
+        requires rising { IsRising (self.old.entries ++ entries.now) }
+        requires near { AllByRecursion (λ e. e.index < before + self.old.reach) (self.old.entries ++ entries.now) }
+        ensures kept { self.new ≡ ring (filter (λ e. nat_le before e.index) (self.old.entries ++ entries.now)) self.old.reach }
+    {
+        lay_out(&mut self.kept, &self.last, self.alone);
+        self.alone = false;
+        self.kept.renew(entries, before);
+        self.last = entries[entries.len() - 1];
     }
 
     /// An index that no entry is above. A greater one than need be would cost time alone.

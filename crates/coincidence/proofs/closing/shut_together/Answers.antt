@@ -1,7 +1,13 @@
-use Rattle.std.{proofs.Common.{◌∙◌, arith}, proofs.Props.props, proofs.Math.Logic.{∥∥₁_map, ∥∥₁_elim}}
-use Rattle.lag_ring.proofs.Sums.{light-at}
-use Rattle.coincidence.{proofs.Together.{all_fit, all_cells, bins_rising, bins_above, shut_parts}, proofs.LagPairs.rising_join}
+use Rattle.std.{proofs.Common.{◌≡◌, ◌∙◌, ◌*◌, ◌+◌, ◌-◌, ◌<◌, ◌≤◌, List, length, get_or, slice_get, Some, arith, rules}, specs.List.{AllByRecursion-prop}, proofs.Props.props, proofs.Math.Logic.{∥∥₁_elim}, proofs.lemmas.Option.slice_get-get_or, proofs.lemmas.List.length-map}
+use Rattle.lag_ring.{specs.declared.ring.Entry.Entry, proofs.{Rising.rising-prop, Sums.{light-at}}}
+use Rattle.coincidence.{specs.declared.pairing.Bin.Bin, specs.Closing.weights_in, proofs.Together.{all_fit, all_cells, all_kept, all_near, bins_both, joined_rising, shut_parts}}
 use Rattle.coincidence.proofs.closing.shut_together.Goals as goal
+
+abbrev last_of : List Entry → Entry
+last_of es = get_or es (length es - 1) (record { index = 0; a = 0; b = 0 })
+
+at_end : (bins : List Bin) (later : List Entry) → later ≡ weights_in bins → 0 < length bins → slice_get later (length later - 1) ≡ Some (last_of later)
+at_end bins later is some = slice_get-get_or later (length later - 1) _ (rw is (search (rules, arith, length-map)))
 
 pub pair_lags-requires-clause-sized : goal.pair_lags-requires-clause-sized
 pair_lags-requires-clause-sized g c = ∥∥₁_elim c.requires.stands (hlevel props) (λ w. w.2.had.count)
@@ -10,27 +16,36 @@ pub pair_lags-requires-clause-photons : goal.pair_lags-requires-clause-photons
 pair_lags-requires-clause-photons g c = (
   c.requires.window.1,
   λ side top p. ∥∥₁_elim c.requires.stands (hlevel props) (λ w.
-      let rising = rising_join c.args.pairing.now.ring.entries c.args.later.now c.requires.window.0 (rw c.requires.entries (bins_rising _ _ _ _ w.2.keep.are)) (rw c.requires.entries (bins_above _ _ _ _ _ w.2.keep.were w.2.keep.are)) in
-      light-at side top c.args.places.low p c.args.places.most _ rising c.requires.window.1.light),
+      light-at side top c.args.places.low p c.args.places.most _ (joined_rising _ _ _ _ _ w.2.keep c.requires.window.0 _ c.requires.entries) c.requires.window.1.light),
 )
 
 pub pair_lags-requires-clause-fits : goal.pair_lags-requires-clause-fits
 pair_lags-requires-clause-fits g c = λ at inside. ∥∥₁_elim c.requires.stands (hlevel props)
     (λ w. omega (arith, all_fit _ _ _ _ _ _ w.2 c.args.places.set.some_reach.0 c.requires.window.0 at inside, shut_parts _ _ _ _ _ _ w.2 c.args.later.now c.requires.entries at))
 
-pub keep_all-requires-clause-stands : goal.keep_all-requires-clause-stands
-keep_all-requires-clause-stands g c = ∥∥₁_map c.requires.stands (λ w. (w.0, w.1, w.2.keep))
+pub pair_insides-requires-clause-sized : goal.pair_insides-requires-clause-sized
+pair_insides-requires-clause-sized g c = ∥∥₁_elim c.requires.stands (hlevel props) (λ w. c.pair_lags.ensures.spends.same ∙ w.2.had.count)
 
-pub keep_all-requires-clause-sized : goal.keep_all-requires-clause-sized
-keep_all-requires-clause-sized g c = ∥∥₁_elim c.requires.stands (hlevel props) (λ w. c.pair_lags.ensures.spends.same ∙ w.2.had.count)
+pub pair_insides-requires-clause-both : goal.pair_insides-requires-clause-both
+pair_insides-requires-clause-both g c = ∥∥₁_elim c.requires.stands (AllByRecursion-prop (λ (bin : Bin). bin.both ≤ bin.weights.a * bin.weights.b) (λ bin. hlevel props) _)
+    (λ w. bins_both _ _ _ _ w.2.keep.are)
 
-pub keep_all-requires-clause-fits : goal.keep_all-requires-clause-fits
-keep_all-requires-clause-fits g c = λ at inside. ∥∥₁_elim c.requires.stands (hlevel props) (λ w. omega (arith, all_fit _ _ _ _ _ _ w.2 c.args.places.set.some_reach.0 c.requires.window.0 at inside, shut_parts _ _ _ _ _ _ w.2 c.args.later.now c.requires.entries at, c.pair_lags.ensures.cells at inside))
+pub pair_insides-requires-clause-fits : goal.pair_insides-requires-clause-fits
+pair_insides-requires-clause-fits g c = λ at inside. ∥∥₁_elim c.requires.stands (hlevel props) (λ w. omega (arith, all_fit _ _ _ _ _ _ w.2 c.args.places.set.some_reach.0 c.requires.window.0 at inside, shut_parts _ _ _ _ _ _ w.2 c.args.later.now c.requires.entries at, c.pair_lags.ensures.cells at inside))
+
+pub renew-requires-clause-rising : goal.renew-requires-clause-rising
+renew-requires-clause-rising g c = ∥∥₁_elim c.requires.stands (rising-prop _) (λ w. joined_rising _ _ _ _ _ w.2.keep c.requires.window.0 _ c.requires.entries)
+
+pub renew-requires-clause-near : goal.renew-requires-clause-near
+renew-requires-clause-near g c = rw c.least_kept.ensures
+    (∥∥₁_elim c.requires.stands (AllByRecursion-prop (λ (e : Entry). e.index < (last_of c.args.later.now).index - (c.args.places.set.reach - 1) + c.args.pairing.now.ring.reach) (λ e. hlevel props) _)
+    (λ w. all_near _ _ _ _ _ w.2.keep c.requires.window.0 _ c.requires.entries c.args.places.set.some_reach.0 _ (at_end _ _ c.requires.entries c.requires.some.0)))
 
 pub returns-clause-shuts : goal.returns-clause-shuts
 returns-clause-shuts g c = record {
-  ring = λ closed xs can. c.keep_all.ensures.ring closed xs can.keep;
+  ring = λ closed xs can. rw (c.renew.ensures.kept, c.least_kept.ensures)
+      (all_kept _ _ _ closed xs can.keep c.requires.window.0 c.args.later.now c.requires.entries c.args.places.set.some_reach.0 _ (at_end _ _ c.requires.entries c.requires.some.0));
   cells = λ closed xs can. all_cells _ _ _ _ _ _ can c.args.places.set.some_reach.0 c.requires.window.0 _ c.requires.some.0
-      (λ at inside. omega (arith, shut_parts _ _ _ _ _ _ can c.args.later.now c.requires.entries at, c.pair_lags.ensures.cells at inside, c.keep_all.ensures.cells at inside))
-      (c.keep_all.ensures.spends.same ∙ c.pair_lags.ensures.spends.same) (omega (arith, c.pair_lags.ensures.spends.added, c.keep_all.ensures.spends.added));
+      (λ at inside. omega (arith, shut_parts _ _ _ _ _ _ can c.args.later.now c.requires.entries at, c.pair_lags.ensures.cells at inside, c.pair_insides.ensures.cells at inside))
+      (c.pair_insides.ensures.spends.same ∙ c.pair_lags.ensures.spends.same) (omega (arith, c.pair_lags.ensures.spends.added, c.pair_insides.ensures.spends.added));
 }
