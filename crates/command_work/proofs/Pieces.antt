@@ -1,19 +1,14 @@
 -- A piece that is fed in two parts, and what the bytes taken call for.
-use Rattle.std.{proofs.Common.{slice_range, ◌≡◌, ◌+◌, ◌≤◌, ℕ, List, [], ◌++◌, Ok, length, arith, take, drop, refl, sym, ap, ◌∙◌, append_assoc, append-nil, take-append-drop, ◌<◌, rules, true, false, Err, Result, IfOk, IfErr, Some, inl, inr, ⊎_elim}, proofs.Math.Seq.take-add, proofs.lemmas.List.{length-drop, length-take-le, length-take}, specs.declared.option.Option.Option, proofs.lemmas.Result.IfErr-weaker}
-use Rattle.tally_base.{specs.declared.header.Header.Header, specs.declared.fault.Fault.Fault, specs.Faults.{is_outside, fault_in}, specs.declared.fault.Fault.TheVariants.WriteFault, proofs.Reasons.HasReason-follows}
+use Rattle.std.{proofs.Common.{slice_range, ◌≡◌, ◌+◌, ◌≤◌, ℕ, List, [], ◌++◌, Ok, length, arith, take, drop, refl, sym, ap, ◌∙◌, append_assoc, append-nil, take-append-drop, ◌<◌, rules, true, false, Err, Result, IfOk, IfErr, Some, inl, inr, ⊎_elim}, proofs.Math.Seq.take-add, proofs.lemmas.List.{length-drop, length-take-le, length-take}, specs.declared.option.Option.Option}
+use Rattle.tally_base.{specs.declared.header.Header.Header, specs.declared.fault.Fault.Fault, specs.Faults.{is_outside}, specs.declared.fault.Fault.TheVariants.WriteFault}
 use Rattle.ptu_definitions.{specs.Endings.ending, specs.Headers.header_answer}
-use Rattle.command_work.{specs.Outcomes.{IsCut, SaysNoEnd}, specs.Behaviours.piece_limit, specs.Works.TakesFew, specs.Pieces.StopsSoon, specs.Endings.Span, specs.Tellings.{Telling, IsText, Opens}, specs.Rests.{EndsText, CutsText, ReadsText, ReadsRest}, proofs.Once.{counts-behind, quiet-memory, once-refl, Rose-kept}, proofs.RestEnds.{end_with, writes-reason, writes-once, writes-quiet}}
-use Rattle.ptu_header.{specs.declared.reader.HeaderReader.HeaderReader, specs.ReadHeader.HasRead}
-use Rattle.bench_io.{specs.Given.{Given, Consumes}, specs.Inputs.InputState, proofs.States.Consumes-nil, proofs.Bytes.{Appends-trans, AppendsShort-behind}}
+use Rattle.command_work.{specs.Outcomes.{IsCut, SaysNoEnd}, specs.Behaviours.piece_limit, specs.Works.TakesFew, specs.Pieces.StopsSoon, specs.Endings.Span, specs.Tellings.{Telling, IsText, Opens}, specs.Rests.{ReadsRest}, proofs.Once.{quiet-memory, once-refl}, proofs.RestEnds.{end_with, writes-reason, writes-once, writes-quiet}}
+use Rattle.bench_io.{specs.Given.{Given, Consumes, GivesCount}, specs.Inputs.InputState, proofs.States.{Consumes-nil, Consumes-trans}}
 use Rattle.streamed_text.{specs.Texts.{WroteText, CutText, WritesText}, proofs.Texts.{WroteText-trans, CutText-behind, CutText-more}}
 
-together : (bytes piece : List ℕ) (used more : ℕ) → (bytes ++ take used piece) ++ take more (drop used piece) ≡ bytes ++ take (used + more) piece
-together bytes piece used more = append_assoc bytes (take used piece) (take more (drop used piece)) ∙ ap (λ l. bytes ++ l) (sym (take-add used more piece))
-
--- a reader that was given a first part of a piece, and then a part of what is left of it
-pub HasRead-further : (reader : HeaderReader) (bytes piece part : List ℕ) (used more : ℕ) → part ≡ drop used piece
-    → HasRead reader ((bytes ++ take used piece) ++ take more part) → HasRead reader (bytes ++ take (used + more) piece)
-HasRead-further reader bytes piece part used more e h = search (rules, arith, together)
+-- a first part, and a part of what is left
+pub two-parts : (bytes piece part : List ℕ) (used more : ℕ) → part ≡ drop used piece → (bytes ++ take used piece) ++ take more part ≡ bytes ++ take (used + more) piece
+two-parts bytes piece part used more e = search (rules, arith, append_assoc, take-add)
 
 -- a first part and all that is left
 pub whole-piece : (bytes piece part : List ℕ) (used : ℕ) → part ≡ drop used piece → (bytes ++ take used piece) ++ part ≡ bytes ++ piece
@@ -47,8 +42,8 @@ ShowsHeader taken header behind = (more : List ℕ) → header_answer (taken ++ 
 pub few-none : (goes_on : List ℕ → Type 0) (front : List ℕ) (before after : Given) → Consumes before after front → goes_on front → TakesFew goes_on before after
 few-none goes_on front before after took goes = search (rules, arith, append-nil)
 
-pub few-piece : (goes_on : List ℕ → Type 0) (front : List ℕ) (len : ℕ) (into : List ℕ) (before after : Given) → Consumes before after (front ++ take len into) → goes_on front → length into ≤ piece_limit → TakesFew goes_on before after
-few-piece goes_on front len into before after took goes size = search (rules, arith, length-take)
+pub few-piece : (goes_on : List ℕ → Type 0) (front : List ℕ) (len : ℕ) (into : List ℕ) (before mid after : Given) → Consumes before mid front → GivesCount mid after len into → goes_on front → length into ≤ piece_limit → TakesFew goes_on before after
+few-piece goes_on front len into before mid after took gives goes size = record { front = front; last = take len into; consumes = Consumes-trans before mid after front (take len into) took gives.0; goes = goes; few = let e = length-take len into in omega (arith, e, size) }
 
 pub few-map : (p q : List ℕ → Type 0) (before after : Given) → ((l : List ℕ) → p l → q l) → TakesFew p before after → TakesFew q before after
 few-map p q before after f h = record { front = h.front; last = h.last; consumes = h.consumes; goes = f h.front h.goes; few = h.few }
@@ -67,9 +62,9 @@ pub stops-unread : {A : Type 0} (goes_on : List ℕ → Type 0) (front : List �
 stops-unread goes_on front before after fault took goes on = search (rules, arith, few-none)
 
 -- a piece was read behind bytes that go on so, and it ended the work
-pub stops-piece : {A : Type 0} (goes_on : List ℕ → Type 0) (front : List ℕ) (len : ℕ) (into : List ℕ) (before after : Given) (r : Result A Fault) → Consumes before after (front ++ take len into) → goes_on front → length into ≤ piece_limit
+pub stops-piece : {A : Type 0} (goes_on : List ℕ → Type 0) (front : List ℕ) (len : ℕ) (into : List ℕ) (before mid after : Given) (r : Result A Fault) → Consumes before mid front → GivesCount mid after len into → goes_on front → length into ≤ piece_limit
     → IfErr r (λ fault. is_outside fault ≡ false) → IfOk r (λ value. SaysNoEnd before after) → StopsSoon goes_on before after r
-stops-piece goes_on front len into before after r took goes size inside on = search (rules, arith, none-unread, few-piece)
+stops-piece goes_on front len into before mid after r took gives goes size inside on = record { unread = none-unread _ r inside; done = on; few = few-piece goes_on front len into before mid after took gives goes size }
 
 -- What stands in front of the rest, and the rest.
 

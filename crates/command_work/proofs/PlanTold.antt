@@ -5,6 +5,9 @@ use Rattle.bench_io.{specs.Given.{Given, no_bytes, IsOf, Consumes, IsAtEnd}, spe
 use Rattle.plan_text.{specs.declared.plan.Plan.Plan, specs.Plan.PlanView, specs.ReadPlan.{plan_view, text_limit, plan_answer, plan_seen, IsCalledFor}, specs.Fits.IsMisfit, proofs.Called.plan_answer_long, proofs.Misfits.names_part}
 use Rattle.command_work.{specs.Outcomes.{Outcome, refused, InputsOnce}, specs.Pieces.{IsRead, AnswersPlan, PlanReason, OnlyUses}, specs.Behaviours.{Work, Writing, under, Memory, Behaviour, ByPlan}, specs.Works.{AnswersWork, WorkReason}, specs.Endings.{FileOf, IsPlan, HasPlan, OpensAs, ToldIsIts, TakesPlan, EndsWith, Answers, Cuts, WantsBehind, Span, HasCauses, on_file, outcome, HasWholePlan, WantsForPlan}, proofs.Once.{Rose-kept, IsQuiet, quiet-none, quiet-memory, quiet-inside}, proofs.Told.{all-taken, none-ended, told-is-its, ends-told, stops-told, cuts-told, file-splits}}
 
+pub KeepsOther-trans : (slot : Slot) (a b c : InputState) → KeepsOther slot a b → KeepsOther slot b c → KeepsOther slot a c
+KeepsOther-trans slot a b c p q = search (rules, arith)
+
 -- a plan that was read is that of each file that may be the one read
 pub has-plan : (after : InputState) (lacks : PlanView → Option Fault) (plan : Plan)
     → AnswersPlan after (Ok plan) → lacks (plan_view plan) ≡ None → HasPlan after lacks (plan_view plan)
@@ -62,18 +65,16 @@ module _ (plan_name name : List ℕ) (writing : Writing (PlanView → List ℕ �
   unplanned-causes before after old faults fault other first reason = search (rules, arith)
 
   -- a plan that lacks something ends the run
-  outcome-lacking : (plan_file data_file : File) (view : PlanView) (fault : Fault)
-      → IsPlan plan_file view → lacks view ≡ Some fault → outcome does plan_file data_file ≡ refused fault
+  outcome-lacking : (plan_file data_file : File) (plan : Plan) (fault : Fault)
+      → IsRead plan_file (Ok plan) → lacks (plan_view plan) ≡ Some fault → outcome does plan_file data_file ≡ refused fault
   unfolding outcome
-  outcome-lacking plan_file data_file view fault is lacking = search (rules, arith)
+  outcome-lacking plan_file data_file plan fault read lacking = search (rules, arith)
 
   pub answers-lacking : (after : InputState) (plan : Plan) (fault : Fault) (old : Option (List ℕ))
       → AnswersPlan after (Ok plan) → lacks (plan_view plan) ≡ Some fault → Answers does after (Err fault) old old
   answers-lacking after plan fault old (inl outside) lacking = absurd outside
   answers-lacking after plan fault old (inr read) lacking = inr (λ plan_file data_file may.
-      let is = read plan_file may.0 in
-      let is_plan : IsPlan plan_file (plan_view plan) = record { text = is.text; present = is.present; answer = is.answer } in
-      subst (λ (end : Outcome). EndsWith end (Some fault) old old) (sym (outcome-lacking plan_file data_file (plan_view plan) fault is_plan lacking)) (record { same = refl; text = Appends-nil old }))
+      subst (λ (end : Outcome). EndsWith end (Some fault) old old) (sym (outcome-lacking plan_file data_file plan fault (read plan_file may.0) lacking)) (record { same = refl; text = Appends-nil old }))
 
   -- and has no cause outside
   pub lacking-causes : (span : Span) (fault : Fault) → is_outside fault ≡ false → HasCauses does span fault

@@ -1,16 +1,36 @@
 -- How printing the header of a file ends.
-use Rattle.std.{proofs.Common.{◌≡◌, ℕ, List, [], ◌++◌, None, Some, refl, sym, ap, Ok, Err, ◌<◌, ◌==◌, Bool, length, map, arith, ◌∙◌, inl, inr, length-append, Result, if◌then◌else◌, rules, ◌≤◌, ◌↔◌, OnOk, OnErr, IfErr, IsErr, ◌∷◌}, specs.declared.option.Option.Option, specs.Io.KnownBytes.Appends, proofs.lemmas.Bool.cases_lt}
+use Rattle.std.{proofs.Common.{◌≡◌, ℕ, List, [], ◌++◌, None, Some, refl, sym, ap, Ok, Err, ◌<◌, ◌==◌, Bool, length, map, arith, ◌∙◌, inl, inr, length-append, append_assoc, Result, if◌then◌else◌, rules, ◌≤◌, ◌↔◌, OnOk, OnErr, IfErr, IsErr, ◌∷◌}, specs.declared.option.Option.Option, specs.Io.KnownBytes.Appends, proofs.lemmas.Bool.cases_lt}
 use Rattle.tally_base.{specs.declared.fault.Fault.Fault, specs.declared.header.Header.Header, specs.Faults.fault_in, specs.declared.header.Mode.Mode, specs.declared.fault.Fault.TheVariants.{RecordLimit, WriteFault}, specs.declared.header.RecordType.RecordType, specs.FaultCounts.FailsOnce}
-use Rattle.bench_io.{specs.Sinks.AppendsShort, proofs.Bytes.{Appends-trans, Appends-same, AppendsShort-behind, AppendsShort-more, AppendsShort-same}}
+use Rattle.bench_io.{specs.Sinks.{AppendsShort, PassesOn}, proofs.Bytes.{Appends-trans, Appends-same, AppendsShort-behind, AppendsShort-more, AppendsShort-same, AppendsShort-passed, PassesOn-trans}}
 use Rattle.ptu_definitions.{specs.Headers.{header_answer, Shows, seen}, specs.declared.records.Summary.Summary, specs.Words.{words_of, counted, record_limit}, specs.Kept.{Marked, marked}, specs.Prefixes.each, specs.Settled.{ordered, settles, delivered}, specs.Times.events, specs.Streams.{StreamSettings, given, last_in, streamed}, proofs.DeliveredLaws.delivered_last-0, specs.declared.records.KindCounts.KindCounts, specs.TagList.Item}
 use Rattle.list_out.{specs.HeaderText.header_text, proofs.Final.{header_text-grows, header_text-refused, header_text-done}, specs.Lines.{events_text, lines_of}}
-use Rattle.file_work.{specs.FileOutcomes.{header_outcome, counts_text, counted_end, counts, lists}, specs.BodyPieces.{AppendsHeader, CutsHeader}, specs.CountPieces.CountsBytes, specs.CountLaws.counts-clear}
+use Rattle.file_work.{specs.FileOutcomes.{header_outcome, counts_text, counted_end, counts, lists}, specs.BodyPieces.{PutsMore, CutsMore, AppendsHeader, CutsHeader}, specs.CountPieces.CountsBytes, specs.CountLaws.counts-clear}
 use Rattle.command_work.specs.Tellings.{WritesEnd, WritesPiece}
 use Rattle.record_stream.{specs.declared.taker.EventTaker.Ghosts, specs.Ending.Ended}
 use Rattle.streamed_text.proofs.Texts.{WroteText-none}
 use Rattle.record_layout.{specs.declared.counter.Counter.Counter, specs.Counting.HasCounted}
 
-outcome-at : (file text : List ℕ) (fault : Option Fault) → header_text file ≡ text
+-- ## A text that grows on
+
+-- more of it is put
+pub PutsMore-next : (shown grown further text : List ℕ) (a b c : Option (List ℕ)) (held now later : List ℕ) → PutsMore shown grown a b held now → further ≡ grown ++ text → PassesOn b c (now ++ text) later → PutsMore shown further a c held later
+PutsMore-next shown grown further text a b c held now later h more put = record {
+  added = h.added ++ text;
+  text = more ∙ ap (λ l. l ++ text) h.text ∙ append_assoc shown h.added text;
+  put = rw (← append_assoc held h.added text) (PassesOn-trans a b c (held ++ h.added) now text later h.put put);
+}
+
+-- more of it is cut, and the rest is missing
+pub CutsMore-next : (shown grown further whole text rest : List ℕ) (a b c : Option (List ℕ)) (held now : List ℕ) → PutsMore shown grown a b held now → further ≡ grown ++ text → whole ≡ further ++ rest → AppendsShort b c (now ++ text) → CutsMore shown whole a c held
+CutsMore-next shown grown further whole text rest a b c held now h more all cut = record {
+  added = (h.added ++ text) ++ rest;
+  text = all ∙ ap (λ l. l ++ rest) (more ∙ ap (λ l. l ++ text) h.text ∙ append_assoc shown h.added text) ∙ append_assoc shown (h.added ++ text) rest;
+  cut = AppendsShort-same a c _ _ (append_assoc held (h.added ++ text) rest)
+      (AppendsShort-more a c (held ++ (h.added ++ text)) rest
+      (AppendsShort-same a c _ _ (append_assoc held h.added text) (AppendsShort-passed a b c (held ++ h.added) now text h.put cut)));
+}
+
+pub outcome-at : (file text : List ℕ) (fault : Option Fault) → header_text file ≡ text
     → fault_in (header_answer file) ≡ fault → header_outcome file ≡ record { text = text; fault = fault }
 outcome-at file text fault t f = rw (t, f) refl
 
@@ -34,11 +54,6 @@ outcome-done bytes more behind header h =
 pub outcome-refused : (bytes more : List ℕ) (fault : Fault) → Shows header_answer bytes (Err fault)
     → header_outcome (bytes ++ more) ≡ record { text = header_text bytes; fault = Some fault }
 outcome-refused bytes more fault h = outcome-at (bytes ++ more) (header_text bytes) (Some fault) (header_text-refused bytes more fault h) (ap fault_in (h more))
-
--- a header that the file ends in
-pub outcome-ended : (bytes : List ℕ) (fault : Fault) → header_answer bytes ≡ Err fault
-    → header_outcome bytes ≡ record { text = header_text bytes; fault = Some fault }
-outcome-ended bytes fault h = outcome-at bytes (header_text bytes) (Some fault) refl (ap fault_in h)
 
 -- The end of a stream that keeps nothing back.
 

@@ -1,44 +1,46 @@
 -- One line more, and the lines of a piece.
-use Rattle.std.{proofs.Common.{◌≡◌, ◌+◌, ◌≤◌, ℕ, List, [], ◌∷◌, ◌++◌, Bool, Ok, Err, Some, refl, sym, ap, subst, ◌∙◌, inl, inr, ⊎_elim, append_assoc, append-nil, arith, length-append, ◌&&◌, not, IsTrue, if◌then◌else◌}, specs.declared.option.Option.Option, specs.declared.result.Result.Result, specs.Io.KnownBytes.Appends}
-use Rattle.tally_base.{specs.declared.event.Event.Event, specs.declared.header.Mode.Mode, specs.declared.fault.Fault.Fault, specs.declared.fault.Fault.TheVariants.WriteFault, specs.Events.is_ordered, specs.FaultCounts.Rose}
+use Rattle.std.{proofs.Common.{◌≡◌, ◌+◌, ◌≤◌, ℕ, List, [], ◌∷◌, ◌++◌, Bool, Ok, Err, Some, refl, sym, ap, subst, ◌∙◌, inl, inr, ⊎_elim, append_assoc, arith, length, max, length-append, ◌&&◌, not, IsTrue, if◌then◌else◌}, specs.declared.option.Option.Option, specs.declared.result.Result.Result, specs.Io.KnownBytes.Appends}
+use Rattle.tally_base.{specs.declared.event.Event.Event, specs.declared.header.Mode.Mode, specs.declared.fault.Fault.Fault, specs.declared.fault.Fault.TheVariants.WriteFault, specs.Events.is_ordered, specs.FaultCounts.Rose, specs.Tally.{floor_after, InOrder}}
 use Rattle.bench_io.{specs.Sinks.{AppendsShort, PassesOn}, proofs.Bytes.{PassesOn-trans, Appends-flushed, AppendsShort-passed, AppendsShort-flushed, AppendsShort-more, AppendsShort-kept, Keeps-from_none}}
-use Rattle.ptu_definitions.{specs.Kept.Marked, specs.Streams.{StreamSettings, record_refusal, given}}
+use Rattle.ptu_definitions.{specs.Kept.{Marked, floor_of}, specs.Streams.{StreamSettings, record_refusal, given}}
 use Rattle.streamed_text.specs.Texts.{WroteText, WritesText}
-use Rattle.list_out.specs.Lines.{event_text, events_text, lines_of}
-use Rattle.record_stream.{specs.declared.taker.EventTaker.Ghosts, specs.Feeding.{GaveOn, BrokeOn, Fed}}
-use Rattle.abs_time.proofs.Floors.{moved_floor-push}
+use Rattle.list_out.specs.Lines.{events_text, lines_of}
+use Rattle.record_stream.{specs.declared.taker.EventTaker.Ghosts, specs.Feeding.{GaveOn, BrokeOn, Fed}, specs.Blocks.on_time, proofs.Gathering.floor_of-block}
+use Rattle.abs_time.{specs.Floors.orders_markers, proofs.Floors.moved_floor-push}
 use Rattle.command_work.proofs.RestEnds.{AppendsShort-none}
 use Rattle.file_work.{specs.EventLines.{Listed, ListedShort}, specs.EventLaws.events_text-append}
 
-line_more : (held : List ℕ) (l : Marked) (e : Event) (late : Bool) → (held ++ events_text l) ++ event_text e late ≡ held ++ events_text (l ++ (e, late) ∷ [])
-line_more held l e late = append_assoc held (events_text l) (event_text e late)
-    ∙ ap (λ t. held ++ t) (ap (λ t. events_text l ++ t) (sym (append-nil (event_text e late))) ∙ sym (events_text-append l ((e, late) ∷ [])))
+-- the lines of more events
+pub lines_more : (held : List ℕ) (l more : Marked) (lines : List ℕ) → lines ≡ events_text more → (held ++ events_text l) ++ lines ≡ held ++ events_text (l ++ more)
+lines_more held l more lines is =
+    ap (λ t. (held ++ events_text l) ++ t) is ∙ append_assoc held (events_text l) (events_text more) ∙ ap (λ t. held ++ t) (sym (events_text-append l more))
 
-pub Listed-more : (name name' : ℕ) (mode mode' : Mode) (taken taken' floor floor' faults faults' faults'' : ℕ)
-    (a b c : Option (List ℕ)) (held held' held'' : List ℕ) (l : Marked) (e : Event) (late : Bool) (line : List ℕ) (now : ℕ)
-    → Listed name name' mode mode' taken taken' floor floor' faults faults' a b held held' l → line ≡ event_text e late → PassesOn b c (held' ++ line) held''
-    → (IsTrue (is_ordered mode' e && not late) → floor' ≤ e.time) → now ≡ (if is_ordered mode' e && not late then e.time else floor')
-    → faults'' ≡ faults' → Listed name name' mode mode' taken (taken' + 1) floor now faults faults'' a c held held'' (l ++ (e, late) ∷ [])
-Listed-more name name' mode mode' taken taken' floor floor' faults faults' faults'' a b c held held' held'' l e late line now h is p in_order moves kept =
-    record {
-      same_sink = h.same_sink;
-      same_mode = h.same_mode;
-      counted = omega (arith, h.counted, length-append l ((e, late) ∷ []));
-      kept = kept ∙ h.kept;
-      moved = moves ∙ rw h.same_mode (moved_floor-push mode floor floor' l e late h.moved (rw h.same_mode at in_order));
-      text = subst (λ t. PassesOn a c t held'') (ap (λ t. (held ++ events_text l) ++ t) is ∙ line_more held l e late)
-          (PassesOn-trans a b c (held ++ events_text l) held' line held'' h.text p);
-    }
-
-pub ListedShort-more : (name name' : ℕ) (mode mode' : Mode) (taken taken' floor floor' faults faults' : ℕ)
-    (a b c : Option (List ℕ)) (held held' held'' : List ℕ) (l : Marked) (e : Event) (late : Bool) (line : List ℕ)
-    → Listed name name' mode mode' taken taken' floor floor' faults faults' a b held held' l → line ≡ event_text e late
-    → AppendsShort b c (held' ++ line) → held'' ≡ [] → ListedShort a c held held'' (l ++ (e, late) ∷ [])
-ListedShort-more name name' mode mode' taken taken' floor floor' faults faults' a b c held held' held'' l e late line h is p none = record {
-  text = subst (λ t. AppendsShort a c t) (ap (λ t. (held ++ events_text l) ++ t) is ∙ line_more held l e late)
-      (AppendsShort-passed a b c (held ++ events_text l) held' line h.text p);
-  empty = none;
+pub Listed-more : {name name' name'' : ℕ} {mode mode' mode'' : Mode} {taken taken' next floor floor' now faults faults' last : ℕ} {a b c : Option (List ℕ)} {held held' held'' : List ℕ} (l more : Marked) (lines : List ℕ)
+    → Listed name name' mode mode' taken taken' floor floor' faults faults' a b held held' l → name'' ≡ name' → mode'' ≡ mode' → lines ≡ events_text more → PassesOn b c (held' ++ lines) held'' → last ≡ faults' → next ≡ taken' + length more
+    → (mode' ≡ mode → floor' ≡ max floor (floor_of mode l) → now ≡ max floor (floor_of mode (l ++ more))) → Listed name name'' mode mode'' taken next floor now faults last a c held held'' (l ++ more)
+Listed-more {a = a} {b = b} {c = c} {held = held} {held' = held'} {held'' = held''} l more lines h sink same is p still counted moves = record {
+  same_sink = sink ∙ h.same_sink;
+  same_mode = same ∙ h.same_mode;
+  counted = omega (arith, counted, h.counted, length-append l more);
+  kept = still ∙ h.kept;
+  moved = moves h.same_mode h.moved;
+  text = subst (λ t. PassesOn a c t held'') (lines_more held l more lines is) (PassesOn-trans a b c (held ++ events_text l) held' lines held'' h.text p);
 }
+
+pub ListedShort-more : {name name' : ℕ} {mode mode' : Mode} {taken taken' floor floor' faults faults' : ℕ} {a b c : Option (List ℕ)} {held held' held'' : List ℕ} (l more : Marked) (lines : List ℕ)
+    → Listed name name' mode mode' taken taken' floor floor' faults faults' a b held held' l → lines ≡ events_text more → AppendsShort b c (held' ++ lines) → held'' ≡ [] → ListedShort a c held held'' (l ++ more)
+ListedShort-more {a = a} {b = b} {c = c} {held = held} {held' = held'} l more lines h is p none =
+    record { text = subst (λ t. AppendsShort a c t) (lines_more held l more lines is) (AppendsShort-passed a b c (held ++ events_text l) held' lines h.text p); empty = none }
+
+-- the last time, behind one event and behind a block of them
+pub floor-event : (mode mode' : Mode) (floor floor' now : ℕ) (l : Marked) (e : Event) (late : Bool) → (IsTrue (is_ordered mode' e && not late) → floor' ≤ e.time) → now ≡ (if is_ordered mode' e && not late then e.time else floor')
+    → mode' ≡ mode → floor' ≡ max floor (floor_of mode l) → now ≡ max floor (floor_of mode (l ++ (e, late) ∷ []))
+floor-event mode mode' floor floor' now l e late in_order moves same moved =
+    moves ∙ rw same (moved_floor-push mode floor floor' l e late moved (rw same at in_order))
+
+pub floor-block : (mode mode' : Mode) (floor floor' now : ℕ) (l : Marked) (es : List Event) → InOrder (orders_markers mode') floor' es → now ≡ floor_after (orders_markers mode') floor' es
+    → mode' ≡ mode → floor' ≡ max floor (floor_of mode l) → now ≡ max floor (floor_of mode (l ++ on_time es))
+floor-block mode mode' floor floor' now l es in_order moves same moved = moves ∙ floor_of-block mode' l es floor floor' (rw same moved) in_order ∙ rw same refl
 
 lines-add : (how : StreamSettings) (words now : List ℕ) (more : Marked)
     → given how now ≡ given how words ++ more → lines_of how now ≡ lines_of how words ++ events_text more

@@ -1,7 +1,7 @@
 -- Bins in which the groups of those behind them were met too, and what is kept of them stays sound.
-use Rattle.std.{proofs.Common.{◌≡◌, ◌∙◌, ℕ, zero, suc, ◌-◌, ◌^◌, ◌<◌, Bool, List, [], ◌∷◌, ◌++◌, filter, length, refl, sym, ap, arith, slice_get, Some, bit_or, slice_set, rules, ◌≤◌, leb}, specs.Int.Bits.or_zero_r, specs.List.AllByRecursion, proofs.lemmas.List.Sums.sum_by-cons, proofs.lemmas.Nat.{or_lt, pow_pos}}
+use Rattle.std.{proofs.Common.{◌≡◌, ◌∙◌, ℕ, zero, suc, true, cond, ◌+◌, ◌-◌, ◌^◌, ◌<◌, Bool, List, [], ◌∷◌, ◌++◌, filter, length, refl, sym, ap, arith, slice_get, Some, bit_or, slice_set, rules, ◌≤◌, leb}, specs.Int.Bits.or_zero_r, specs.List.AllByRecursion, proofs.lemmas.List.Folds.fold-map, proofs.lemmas.Nat.{or_lt, pow_pos}}
 use Rattle.tally_base.{specs.Settings.FoldView, specs.Limits.time_limit}
-use Rattle.lag_ring.{specs.declared.ring.Entry.Entry, specs.Ring.{Ring, ring, ring as ring_of}, proofs.Rising.{all_push, all_weaker, all_at}, proofs.Lists.{all_map, all_filter, all_both, all_passed}}
+use Rattle.lag_ring.{specs.declared.ring.Entry.Entry, specs.Ring.{Ring, ring as ring_of}, proofs.Rising.{all_push, all_weaker, all_at}, proofs.Lists.{all_back, all_map, all_filter, all_both, all_passed}}
 use Rattle.fold_count.{specs.Folded.{joined, photons_in, photons_where, IsNested, IsSound, as_met}, proofs.Numbers.{or_assoc, or_again, or_within, or_both}}
 
 -- ## Bins with more groups
@@ -13,12 +13,10 @@ join_same : (groups : ℕ) (e : Entry) → bit_or e.b groups ≡ e.b → join gr
 join_same groups e is = ap (λ (b : ℕ). record { index = e.index; a = e.a; b = b }) is
 
 pub where_joined : (test : ℕ → Bool) (groups : ℕ) (bins : List Entry) → photons_where test (joined groups bins) ≡ photons_where test bins
-where_joined test groups [] = refl
-where_joined test groups (e ∷ bins) = search (rules, arith, sum_by-cons, join, where_joined test groups bins)
+where_joined test groups bins = fold-map (λ n (e : Entry). n + cond (test e.index) e.a 0) (join groups) 0 bins
 
 pub photons_joined : (groups : ℕ) (bins : List Entry) → photons_in (joined groups bins) ≡ photons_in bins
-photons_joined groups [] = refl
-photons_joined groups (e ∷ bins) = search (rules, arith, sum_by-cons, join, photons_joined groups bins)
+photons_joined groups bins = where_joined (λ t. true) groups bins
 
 -- no groups more
 pub joined_none : (bins : List Entry) → joined 0 bins ≡ bins
@@ -27,13 +25,8 @@ joined_none (e ∷ bins) =
     let here : join 0 e ≡ e = join_same 0 e (or_zero_r e.b) in
     search (rules, arith, joined_none bins)
 
-pub below_joined : (groups index : ℕ) (bins : List Entry) → AllByRecursion (λ e. e.index < index) bins
-    → AllByRecursion (λ e. e.index < index) (joined groups bins)
-below_joined groups index bins above = all_map (λ e. e.index < index) (join groups) bins above
-
 pub last_of : {X : Type 0} (P : X → Type 0) (xs : List X) (y : X) → AllByRecursion P (xs ++ y ∷ []) → P y
-last_of P [] y all = all.0
-last_of P (x ∷ xs) y all = last_of P xs y all.1
+last_of P xs y all = (all_back P xs (y ∷ []) all).0
 
 pub sets_joined : (n : ℕ) (bins : List Entry) (bin : Entry) → AllByRecursion (λ e. e.b < 2 ^ n) (bins ++ bin ∷ [])
     → AllByRecursion (λ e. e.b < 2 ^ n) (joined bin.b bins ++ bin ∷ [])
@@ -41,12 +34,12 @@ sets_joined n [] bin sets = sets
 sets_joined n (e ∷ bins) bin sets = (or_lt n e.b bin.b sets.0 (last_of (λ e. e.b < 2 ^ n) bins bin sets.1), sets_joined n bins bin sets.1)
 
 -- what each bin met, once one photon more came to the open one
-pub met_joined : (f g : ℕ → ℕ) (was more now tick : ℕ) → now ≡ bit_or was more → ((t : ℕ) → t < tick → bit_or (f t) more ≡ g t)
+pub met_joined : (f g : ℕ → ℕ) (was more tick : ℕ) → ((t : ℕ) → t < tick → bit_or (f t) more ≡ g t)
     → (bins : List Entry) → AllByRecursion (λ e. e.index < tick) bins
-    → AllByRecursion (λ e. e.b ≡ f e.index) (joined was bins) → AllByRecursion (λ e. e.b ≡ g e.index) (joined now bins)
-met_joined f g was more now tick is step [] above met = tt
-met_joined f g was more now tick is step (e ∷ bins) above met =
-    (ap (bit_or e.b) is ∙ sym (or_assoc e.b was more) ∙ ap (λ n. bit_or n more) met.0 ∙ step e.index above.0, met_joined f g was more now tick is step bins above.1 met.1)
+    → AllByRecursion (λ e. e.b ≡ f e.index) (joined was bins) → AllByRecursion (λ e. e.b ≡ g e.index) (joined (bit_or was more) bins)
+met_joined f g was more tick step [] above met = tt
+met_joined f g was more tick step (e ∷ bins) above met =
+    (sym (or_assoc e.b was more) ∙ ap (λ n. bit_or n more) met.0 ∙ step e.index above.0, met_joined f g was more tick step bins above.1 met.1)
 
 -- ## Nested bins
 
@@ -110,37 +103,28 @@ pub partly_stop : (at groups : ℕ) (bins : List Entry) (e : Entry) → 0 < at �
     → slice_get (partly at groups bins) (at - 1) ≡ Some e → bit_or e.b groups ≡ e.b → partly at groups bins ≡ joined groups bins
 partly_stop at groups bins e some nested here is = search (rules, arith, partly_all)
 
-pub ring_is : (r : Ring) (es : List Entry) (n : ℕ) → r.entries ≡ es → r.reach ≡ n → r ≡ ring es n
+pub ring_is : (r : Ring) (es : List Entry) (n : ℕ) → r.entries ≡ es → r.reach ≡ n → r ≡ ring_of es n
 ring_is r es n entries reach = λ i. record { entries = entries i; reach = reach i }
-
--- the ticks of the bins that wait
-pub upto_open : (ring : Ring) (bin : Entry) → AllByRecursion (λ e. e.index < bin.index) ring.entries
-    → AllByRecursion (λ e. e.index ≤ bin.index) (as_met ring bin)
-upto_open ring bin above =
-    all_push (λ e. e.index ≤ bin.index) (joined bin.b ring.entries) bin
-    (all_weaker (λ e. e.index < bin.index) (λ e. e.index ≤ bin.index) (λ e lt. omega (arith, lt))
-    (joined bin.b ring.entries) (below_joined bin.b bin.index ring.entries above)) (omega arith)
 
 -- those that are kept from a tick on are before one that is not behind it only where the open one is
 pub kept_below : (ring : Ring) (bin : Entry) (before tick : ℕ) → AllByRecursion (λ e. e.index < bin.index) ring.entries → (before ≤ bin.index → bin.index < tick) → AllByRecursion (λ e. e.index < tick) (filter (λ e. leb before e.index) (as_met ring bin))
-kept_below ring bin before tick above lt = search (rules, arith, all_both, all_passed, all_filter, upto_open)
+kept_below ring bin before tick above lt =
+    let upto = all_push (λ e. e.index ≤ bin.index) (joined bin.b ring.entries) bin (all_map (λ e. e.index ≤ bin.index) (join bin.b) ring.entries (all_weaker (λ e. e.index < bin.index) (λ e. e.index ≤ bin.index) (λ e lt. omega (arith, lt)) ring.entries above)) (omega arith) in
+    search (rules, arith, all_both, all_passed, all_filter)
 
 -- a bin without photons opens, or nothing waits any more
-pub sound_later : (set : FoldView) (cells cells' : List ℕ) (ring ring' : Ring) (bin : Entry) (before tick : ℕ) → IsSound set cells ring bin
-    → length cells' ≡ length cells → ring' ≡ ring_of (filter (λ e. leb before e.index) (as_met ring bin)) ring.reach → length ring'.entries ≤ ring'.reach
-    → (before ≤ bin.index → bin.index < tick) → tick ≤ time_limit → IsSound set cells' ring' (record { index = tick; a = 0; b = 0 })
-sound_later set cells cells' ring ring' bin before tick is same kept within lt in_time =
+pub sound_later : (set : FoldView) (cells cells' : List ℕ) (ring : Ring) (bin : Entry) (before tick : ℕ) → IsSound set cells ring bin
+    → length cells' ≡ length cells → length (filter (λ e. leb before e.index) (as_met ring bin)) ≤ ring.reach → (before ≤ bin.index → bin.index < tick) → tick ≤ time_limit
+    → IsSound set cells' (ring_of (filter (λ e. leb before e.index) (as_met ring bin)) ring.reach) (record { index = tick; a = 0; b = 0 })
+sound_later set cells cells' ring bin before tick is same within lt in_time =
     let late : Entry → Bool = λ e. leb before e.index in
     let met : List Entry = as_met ring bin in
-    let opened : Entry = record { index = tick; a = 0; b = 0 } in
-    let entries : ring'.entries ≡ filter late met = ap (λ (r : Ring). r.entries) kept in
-    let reach : ring'.reach ≡ ring.reach = ap (λ (r : Ring). r.reach) kept in
     record {
       sized = same ∙ is.sized;
-      reach = reach ∙ is.reach;
+      reach = is.reach;
       within = within;
-      above = rw entries (kept_below ring bin before tick is.above lt);
+      above = kept_below ring bin before tick is.above lt;
       in_time = in_time;
-      sets = rw entries (all_push (λ e. e.b < 2 ^ length set.groups) (filter late met) opened (all_filter (λ e. e.b < 2 ^ length set.groups) late met (sets_joined (length set.groups) ring.entries bin is.sets)) (pow_pos (length set.groups)));
-      nested = rw entries (nested_filter late met (nested_met ring.entries bin is.nested));
+      sets = all_push (λ e. e.b < 2 ^ length set.groups) (filter late met) (record { index = tick; a = 0; b = 0 }) (all_filter (λ e. e.b < 2 ^ length set.groups) late met (sets_joined (length set.groups) ring.entries bin is.sets)) (pow_pos (length set.groups));
+      nested = nested_filter late met (nested_met ring.entries bin is.nested);
     }

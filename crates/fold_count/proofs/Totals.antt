@@ -1,7 +1,29 @@
 -- The cells of a fold add up, and the first of them is 0.
-use Rattle.std.{proofs.Common.{rules}, proofs.Common.{◌≡◌, ◌∙◌, ℕ, ◌+◌, ◌*◌, ◌^◌, ◌<◌, Bool, true, false, ◌&&◌, ◌||◌, cond, eqb, leb, List, [], ◌∷◌, ◌++◌, length, refl, arith, append_assoc}, specs.List.{list_any, count_by, AllByRecursion}, proofs.lemmas.List.Folds.list_any-append}
+use Rattle.std.{proofs.Common.{rules}, proofs.Common.{◌≡◌, ◌∙◌, ℕ, ◌+◌, ◌*◌, ◌^◌, ◌<◌, Bool, true, false, ◌&&◌, ◌||◌, cond, eqb, leb, List, [], ◌∷◌, ◌++◌, length, refl, sym, ap, get_or, arith, append_assoc}, specs.List.{list_any, count_by, AllByRecursion}, proofs.lemmas.List.Folds.{list_any-append, list_any_at}, proofs.lemmas.Map.Views.any-filter_same}
 use Rattle.tally_base.{proofs.Sums.{sum_none, count_none, parts}, specs.declared.event.Event.Event, specs.Events.{is_photon, is_in}, specs.Settings.FoldView, specs.Tally.History}
-use Rattle.fold_count.{specs.FoldCounts.{is_of_any, is_seen, number_of, seen_set, in_set, in_all_sets}, proofs.Numbers.{number_below, count_agree}}
+use Rattle.lag_ring.proofs.Sums.{sum_by-agree, sum_by-filter, sum_by-same}
+use Rattle.fold_count.{specs.FoldCounts.{is_of, is_of_any, is_seen, number_of, seen_set, in_set, in_all_sets}, specs.Folded.photons, proofs.Numbers.{number_below, number_agree, any_in}}
+
+-- a photon of a group is one of at least one of them
+of_any : (groups : List ℕ) (x : Event × ℕ) (k : ℕ) → k < length groups → is_of (get_or groups k 0) x ≡ true → is_of_any groups x ≡ true
+of_any groups x k inside is = search (rules, arith, list_any_at)
+
+pub first_true : (a b : Bool) → (a && b) ≡ true → a ≡ true
+first_true a b is = search (rules, arith)
+
+both : (a b c : Bool) → b ≡ c → ◌≡◌ {A = ℕ} (cond a (cond b 1 0) 0) (cond (a && c) 1 0)
+both a b c is = search (rules, arith)
+
+-- Other events than the photons of the groups don't count.
+pub in_photons : (set : FoldView) (s : ℕ) (h : History) → count_by (λ x. eqb (seen_set set (photons set h) x.0.time) s) (photons set h) ≡ in_set set s h
+in_photons set s h =
+    let seen : (t : ℕ) → seen_set set (photons set h) t ≡ seen_set set h t = λ t.
+    number_agree (λ group. list_any (is_seen set.window t group) (photons set h)) (λ group. list_any (is_seen set.window t group) h) set.groups
+    (λ k inside. any-filter_same (is_seen set.window t (get_or set.groups k 0)) (is_of_any set.groups) true
+    (λ x is. of_any set.groups x k inside (first_true (is_of (get_or set.groups k 0) x) (leb t x.0.time && leb x.0.time (t + set.window)) is)) h) in
+    sum_by-filter (is_of_any set.groups) (λ x. cond (eqb (seen_set set (photons set h) x.0.time) s) 1 0) h
+    ∙ sum_by-same (λ x. cond (is_of_any set.groups x) (cond (eqb (seen_set set (photons set h) x.0.time) s) 1 0) 0) (λ x. cond (is_of_any set.groups x && eqb (seen_set set h x.0.time) s) 1 0) h
+    (λ x. both (is_of_any set.groups x) (eqb (seen_set set (photons set h) x.0.time) s) (eqb (seen_set set h x.0.time) s) (ap (λ n. eqb n s) (seen x.0.time)))
 
 not_behind : (b : Bool) (a n : ℕ) → a < n → (b && leb n a) ≡ false
 not_behind b a n few = search (rules, arith)
@@ -25,16 +47,12 @@ members front (x ∷ h) = (
   rw append_assoc at (members (front ++ x ∷ []) h),
 )
 
-positive : (b : Bool) (n : ℕ) → 0 < n → 0 < cond b 1 0 + 2 * n
-positive b n some = search (rules, arith)
-
-digit_case : (p q : ℕ → Bool) (g n : ℕ) (any : Bool) (b : Bool) → ((g : ℕ) → q g ≡ true → p g ≡ true)
-    → q g ≡ b → (b || any) ≡ true → (any ≡ true → 0 < n) → 0 < cond (p g) 1 0 + 2 * n
-digit_case p q g n any b follows here is rest = search (rules, arith, positive)
+any_follows : (p q : ℕ → Bool) → ((g : ℕ) → q g ≡ true → p g ≡ true) → (groups : List ℕ) → list_any q groups ≡ true → list_any p groups ≡ true
+any_follows p q follows [] is = is
+any_follows p q follows (g ∷ groups) is = search (rules, arith, follows, any_follows p q follows groups)
 
 some_digit : (p q : ℕ → Bool) → ((g : ℕ) → q g ≡ true → p g ≡ true) → (groups : List ℕ) → list_any q groups ≡ true → 0 < number_of p groups
-some_digit p q follows [] is = cc
-some_digit p q follows (g ∷ groups) is = digit_case p q g (number_of p groups) (list_any q groups) (q g) follows refl is (some_digit p q follows groups)
+some_digit p q follows groups is = let some = sym (any_in p groups) ∙ any_follows p q follows groups is in search (rules, arith)
 
 own_window : (window : ℕ) (x : Event × ℕ) (g : ℕ) → is_photon x.0 ≡ true → is_in x.1 g ≡ true → is_seen window x.0.time g x ≡ true
 own_window window x g photon is = search (rules, arith)
@@ -46,5 +64,5 @@ not_zero set h x member true is = search (rules, arith, some_digit, own_window)
 
 pub none_empty : (set : FoldView) (h : History) → in_set set 0 h ≡ 0
 none_empty set h =
-    count_agree (λ x. (p : Event × ℕ → Bool) → p x ≡ true → list_any p h ≡ true) (λ x. is_of_any set.groups x && eqb (seen_set set h x.0.time) 0) (λ x. false) h (members [] h) (λ x member. not_zero set h x member (is_of_any set.groups x) refl)
+    sum_by-agree (λ x. (p : Event × ℕ → Bool) → p x ≡ true → list_any p h ≡ true) (λ x. cond (is_of_any set.groups x && eqb (seen_set set h x.0.time) 0) 1 0) (λ x. 0) h (members [] h) (λ x member. ap (λ b. cond b 1 0) (not_zero set h x member (is_of_any set.groups x) refl))
     ∙ sum_none h

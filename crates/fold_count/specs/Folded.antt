@@ -1,8 +1,8 @@
 -- What the numbers that a fold keeps stand for.
-use Rattle.std.{specs.Prelude.{◌≡◌, ℕ, ◌+◌, ◌-◌, ◌^◌, ◌<◌, ◌≤◌, ⊤, Bool, true, false, IsTrue, ◌&&◌, ◌==◌, nat_le, nat_lt, List, [], ◌∷◌, ◌++◌, length, map, slice_index, count_by, sum_by, bit_or, if◌then◌else◌}, specs.Coded.Unit-prop, specs.List.{list_any, AllByRecursion}, proofs.Props.props}
+use Rattle.std.{specs.Prelude.{◌≡◌, ℕ, ◌+◌, ◌-◌, ◌^◌, ◌<◌, ◌≤◌, ⊤, Bool, true, false, IsTrue, ◌&&◌, ◌==◌, nat_le, nat_lt, List, [], ◌∷◌, ◌++◌, length, map, slice_index, count_by, filter, sum_by, bit_or, if◌then◌else◌}, specs.Coded.Unit-prop, specs.List.{list_any, AllByRecursion}, proofs.Props.props}
 use Rattle.tally_base.{specs.declared.event.Event.Event, specs.Events.{is_photon, is_in}, specs.Settings.FoldView, specs.Tally.{History, InOrder}, specs.Limits.time_limit, specs.declared.block.Block.Block, specs.Columns.{gathered, IsSorted}}
 use Rattle.lag_ring.{specs.declared.ring.Entry.Entry, specs.Ring.{Ring, weight_where}}
-use Rattle.fold_count.specs.FoldCounts.{is_of, is_of_any, number_of, seen_set, in_set}
+use Rattle.fold_count.specs.FoldCounts.{is_of, is_of_any, number_of, seen_set}
 
 -- the bins that wait to be counted, the open one last
 abbrev pub waiting : Ring → Entry → List Entry
@@ -67,28 +67,28 @@ pub record IsSound (set : FoldView) (cells : List ℕ) (ring : Ring) (bin : Entr
 pub IsSound-prop : (set : FoldView) (cells : List ℕ) (ring : Ring) (bin : Entry) → IsProp (IsSound set cells ring bin)
 IsSound-prop set cells ring bin = hlevel (props, IsNested-prop)
 
--- photons before this tick are counted where the bin is open
-abbrev pub front_of : FoldView → Entry → ℕ
-front_of set bin = bin.index - set.window
+-- the photons of at least one of the groups
+abbrev pub photons : FoldView → History → History
+photons set h = filter (is_of_any set.groups) h
 
--- Photons before the front are in the cells, and those behind it in the bins that wait, each of which has the groups met from its tick on.
-pub record Parted (set : FoldView) (cells : List ℕ) (bins : List Entry) (tick front : ℕ) (h : History) : Type 0 where
-  pub counted : (s : ℕ) → s < 2 ^ length set.groups → slice_index cells s ≡ count_by (λ x. is_of_any set.groups x && (nat_lt x.0.time front && (seen_set set h x.0.time == s))) h
-  pub kept : (test : ℕ → Bool) → photons_where test bins ≡ count_by (λ x. is_of_any set.groups x && (nat_le front x.0.time && test x.0.time)) h
+-- Photons before the window that ends at the open bin's tick are in the cells, and the others in the bins that wait, each of which has the groups met from its tick on.
+pub record Parted (set : FoldView) (cells : List ℕ) (bins : List Entry) (tick : ℕ) (h : History) : Type 0 where
+  pub counted : (s : ℕ) → s < 2 ^ length set.groups → slice_index cells s ≡ count_by (λ x. nat_lt x.0.time (tick - set.window) && (seen_set set h x.0.time == s)) h
+  pub kept : (test : ℕ → Bool) → photons_where test bins ≡ count_by (λ x. nat_le (tick - set.window) x.0.time && test x.0.time) h
   pub met : AllByRecursion (λ e. e.b ≡ met_from set.groups h e.index) bins
-  pub upto : AllByRecursion (λ x. is_of_any set.groups x ≡ true → x.0.time ≤ tick) h
+  pub upto : AllByRecursion (λ x. x.0.time ≤ tick) h
 
 -- an open fold with these numbers was given these events
 abbrev pub Stands : FoldView → List ℕ → Ring → Entry → History → Type 0
-Stands set cells ring bin h = Parted set cells (as_met ring bin) bin.index (front_of set bin) h
+Stands set cells ring bin h = Parted set cells (as_met ring bin) bin.index (photons set h)
 
--- each cell is its count
+-- each cell is the count of these photons
 abbrev pub AreCounts : FoldView → List ℕ → History → Type 0
-AreCounts set cells h = (s : ℕ) → s < 2 ^ length set.groups → slice_index cells s ≡ in_set set s h
+AreCounts set cells h = (s : ℕ) → s < 2 ^ length set.groups → slice_index cells s ≡ count_by (λ x. seen_set set h x.0.time == s) h
 
--- a fold that is open or closed was given these events
+-- a fold that is open or closed was given events with these photons
 abbrev pub Counts : Bool → FoldView → List ℕ → Ring → Entry → History → Type 0
-Counts false set cells ring bin h = Stands set cells ring bin h
+Counts false set cells ring bin h = Parted set cells (as_met ring bin) bin.index h
 Counts true set cells ring bin h = AreCounts set cells h
 
 -- Where cells and bins stand for any events, others stand for these and a photon at a time in which this set of the groups was met.

@@ -1,7 +1,7 @@
 // The events that a fold is given.
 ghost use Rattle.std.specs.Prelude.{◌≡◌, ◌+◌, ◌<◌, ◌≤◌, ◌++◌, ◌∷◌, [], ℕ, false, ◌^◌, IsTrue, length, sum, if◌then◌else◌};
 ghost use Rattle.tally_base.{specs.Events.is_photon, specs.Settings.fold_view, specs.Tally.{History, floor_after, InOrder}, specs.Limits.{record_limit, time_limit}, specs.Columns.{gathered, events_in, IsSorted}};
-ghost use Rattle.fold_count.specs.Folded.{IsSound, IsInTime, Stands, PutsPhoton, CanPut, ComesAfter, AreCounts, waiting, photons_in};
+ghost use Rattle.fold_count.specs.Folded.{IsSound, IsInTime, Stands, PutsPhoton, CanPut, ComesAfter, AreCounts, photons, waiting, photons_in};
 
 use crate::groups::set_in;
 use crate::waiting::settle;
@@ -131,7 +131,7 @@ pub(crate) fn count_all(cells: &mut [u64], ring: &mut LagRing, bin: Entry, set: 
         ≡ sum cells.old + photons_in (waiting ring.old bin) }
     ensures time { result.index ≡ bin.index }
     ensures follows { (h : History) → Stands (fold_view set.now) cells.old ring.old bin h
-        → AreCounts (fold_view set.now) cells.new h }
+        → AreCounts (fold_view set.now) cells.new (photons (fold_view set.now) h) }
 {
     settle(cells, ring, &bin, bin.index + 1);
     Entry {

@@ -1,8 +1,8 @@
 -- What one event more does to the numbers that are kept, and to the lines.
 use Rattle.std.{proofs.Common.{◌≡◌, ◌∙◌, ℕ, ◌+◌, ◌-◌, ◌/◌, ◌*◌, ◌<◌, ◌≤◌, Bool, true, false, ◌&&◌, List, [], ◌∷◌, ◌++◌, max, refl, sym, ap, arith, append-nil, append_assoc, IsTrue, nat_lt, nat_le, ◌==◌, slice_index, if◌then◌else◌, rules}, proofs.lemmas.Nat.{div-mul-add, le-div}}
 use Rattle.tally_base.{specs.declared.event.Event.Event, specs.Events.{is_photon, is_in}, specs.Settings.TraceView, specs.Tally.History}
-use Rattle.count_trace.specs.TraceCounts.{count_before}
-use Rattle.long_trace.{specs.Texts.{frequency_limit, is_binned, bin_at, bin_line, closed_lines}, specs.Bins.{BinState, CountsOn}, proofs.Steps.{of_group, times-group, none-follows, none-closes, same-follows, same-closes, next-follows, next-closes}}
+use Rattle.count_trace.specs.TraceCounts.{in_trace_bin, count_before}
+use Rattle.long_trace.{specs.Texts.{frequency_limit, is_binned, bin_at, bin_line, bin_lines, closed_lines}, specs.Bins.{BinState, CountsBins, CountsOn}, proofs.Steps.{of_group, times-group, none-follows, same-follows, bin-none, bin-other, closed-is, lines-still, next-follows, next-closes}}
 
 binned : (p g l : Bool) → (p && (g && l)) ≡ ((p && g) && l)
 binned p g l = search (rules, arith)
@@ -16,23 +16,26 @@ binned-early set x early = search (rules, arith, binned, of_group)
 pub binned-is : (set : TraceView) (x : Event × ℕ) → of_group set x ≡ true → set.origin ≤ x.0.time → is_binned set x ≡ true
 binned-is set x is le = search (rules, arith, binned)
 
-pub CountsOn-none : (set : TraceView) (state : BinState) (x : Event × ℕ) (lines : List ℕ)
-    → is_binned set x ≡ false → CountsOn set state state (x ∷ []) lines lines
-CountsOn-none set state x lines e = record {
+-- an event that closes no bin
+CountsOn-still : (set : TraceView) (state new : BinState) (x : Event × ℕ) (lines : List ℕ) → new.bin ≡ state.bin
+    → ((h : History) → CountsBins set state h → CountsBins set new (h ++ x ∷ []))
+    → ((h : History) (b : ℕ) → b < state.bin → in_trace_bin set b (h ++ x ∷ []) ≡ in_trace_bin set b h) → CountsOn set state new (x ∷ []) lines lines
+CountsOn-still set state new x lines same follows still = record {
   text = [];
   put = sym (append-nil lines);
-  counted = λ h is. none-follows set state h x e is;
-  closed = λ h is. none-closes set state h x e is;
+  counted = follows;
+  closed = λ h is. closed-is set new (h ++ x ∷ []) (follows h is) ∙ ap (λ n. bin_lines set n (h ++ x ∷ [])) same
+      ∙ lines-still set state.bin h (h ++ x ∷ []) (still h) ∙ sym (closed-is set state h is) ∙ sym (append-nil (closed_lines set h));
 }
 
-pub CountsOn-same : (set : TraceView) (state : BinState) (x : Event × ℕ) (lines : List ℕ) → is_binned set x ≡ true
+pub CountsOn-none : (set : TraceView) (state : BinState) (x : Event × ℕ) (lines : List ℕ)
+    → is_binned set x ≡ false → CountsOn set state state (x ∷ []) lines lines
+CountsOn-none set state x lines e = CountsOn-still set state state x lines refl (λ h is. none-follows set state h x e is) (λ h b lt. bin-none set b h x e)
+
+CountsOn-same : (set : TraceView) (state : BinState) (x : Event × ℕ) (lines : List ℕ) → is_binned set x ≡ true
     → bin_at set x.0.time ≡ state.bin → CountsOn set state (record state { count = state.count + 1 }) (x ∷ []) lines lines
-CountsOn-same set state x lines e at = record {
-  text = [];
-  put = sym (append-nil lines);
-  counted = λ h is. same-follows set state h x e at is;
-  closed = λ h is. same-closes set state h x e at is;
-}
+CountsOn-same set state x lines e at = CountsOn-still set state _ x lines refl (λ h is. same-follows set state h x e at is)
+    (λ h b lt. bin-other set b h x e (λ (q : bin_at set x.0.time ≡ b). omega (arith, lt, q, at)))
 
 -- a photon of the newest bin, or none of the group
 pub CountsOn-in : (set : TraceView) (state : BinState) (x : Event × ℕ) (lines : List ℕ) (more : ℕ) → more ≡ (if of_group set x then 1 else 0) → set.origin ≤ x.0.time → bin_at set x.0.time ≡ state.bin → CountsOn set state (record state { count = state.count + more }) (x ∷ []) lines lines

@@ -1,5 +1,5 @@
 -- What is behind the lines of the bins that are closed.
-use Rattle.std.{proofs.Common.{◌≡◌, ◌∙◌, ℕ, ◌+◌, ◌-◌, ◌<◌, Bool, true, false, ◌&&◌, cond, List, ◌++◌, refl, sym, ap, subst, arith, append-nil, append_assoc, nat_lt, ◌==◌, count_by, if◌then◌else◌, rules}, proofs.lemmas.Bool.cases_eq, proofs.lemmas.Bool.Decides.nat_tests, specs.declared.option.Option.Option}
+use Rattle.std.{proofs.Common.{◌≡◌, ◌∙◌, ℕ, ◌+◌, ◌-◌, ◌<◌, Bool, true, false, ◌&&◌, cond, List, [], ◌++◌, refl, sym, ap, subst, arith, append-nil, append_assoc, nat_lt, ◌==◌, count_by, if◌then◌else◌, rules}, proofs.lemmas.Bool.cases_eq, proofs.lemmas.Bool.Decides.nat_tests, specs.declared.option.Option.Option}
 use Rattle.bench_io.{specs.Sinks.{AppendsShort, PassesOn}, proofs.Bytes.{PassesOn-trans, AppendsShort-passed, AppendsShort-more, AppendsShort-same}}
 use Rattle.tally_base.{specs.Settings.TraceView, specs.Tally.History}
 use Rattle.count_trace.specs.TraceCounts.{in_trace_bin, count_before}
@@ -86,9 +86,28 @@ pub all-put : (all : List ℕ) (n : ℕ) (a b : Option (List ℕ)) (held now : L
 unfolding frequencies_text
 all-put all n a b held now is put = rw is at put
 
--- the lines at the end, in their order
-pub end-same : (last before frequencies many : List ℕ) → ((last ++ before) ++ frequencies) ++ many ≡ last ++ ((before ++ frequencies) ++ many)
+end-same : (last before frequencies many : List ℕ) → ((last ++ before) ++ frequencies) ++ many ≡ last ++ ((before ++ frequencies) ++ many)
 end-same last before frequencies many = ap (λ l. l ++ many) (append_assoc last before frequencies) ∙ append_assoc last (before ++ frequencies) many
 
 pub end-front : (last before frequencies many : List ℕ) → (last ++ before) ++ (frequencies ++ many) ≡ last ++ ((before ++ frequencies) ++ many)
 end-front last before frequencies many = append_assoc last before (frequencies ++ many) ∙ ap (λ l. last ++ l) (sym (append_assoc before frequencies many))
+
+-- The lines at the end, in their order: those of the last bin and before the origin, those of the frequencies, and the last.
+module _ (a b c : Option (List ℕ)) (held first last before frequencies mid now : List ℕ) (none : held ≡ []) (is : first ≡ last ++ before)
+    (put : PassesOn a b (held ++ first) mid) where
+  first-put : PassesOn a b (last ++ before) mid
+  first-put = rw (none, is) at put
+
+  pub first-cut : (rest : List ℕ) → AppendsShort b c (mid ++ frequencies) → AppendsShort a c (last ++ ((before ++ frequencies) ++ rest))
+  first-cut rest cut = AppendsShort-same a c _ _ (end-same last before frequencies rest)
+      (AppendsShort-more a c _ rest (AppendsShort-passed a b c (last ++ before) mid frequencies first-put cut))
+
+  module _ (d : Option (List ℕ)) (many line : List ℕ) (all : PassesOn b c (mid ++ frequencies) now) (line_is : line ≡ many) where
+    two-put : PassesOn a c ((last ++ before) ++ frequencies) now
+    two-put = PassesOn-trans a b c (last ++ before) mid frequencies now first-put all
+
+    pub two-cut : AppendsShort c d (now ++ line) → AppendsShort a d (last ++ ((before ++ frequencies) ++ many))
+    two-cut cut = AppendsShort-same a d _ _ (end-same last before frequencies many) (AppendsShort-passed a c d _ now many two-put (rw line_is at cut))
+
+    pub end-put : (then' : List ℕ) → PassesOn c d (now ++ line) then' → PassesOn a d (last ++ ((before ++ frequencies) ++ many)) then'
+    end-put then' more = subst (λ t. PassesOn a d t then') (end-same last before frequencies many) (PassesOn-trans a c d _ now many then' two-put (rw line_is at more))

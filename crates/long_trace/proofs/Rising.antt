@@ -1,8 +1,8 @@
 -- The lines of bins that are closed stay, where the times of photons don't fall.
-use Rattle.std.{proofs.Common.{◌≡◌, ◌∙◌, ℕ, ◌+◌, ◌-◌, ◌<◌, ◌≤◌, Bool, true, false, ◌&&◌, List, [], ◌∷◌, ◌++◌, max, refl, sym, ap, arith, append-nil, append_assoc, IsTrue, nat_le, if◌then◌else◌, rules}, proofs.lemmas.Nat.le-div, proofs.Math.Nat.div-mul-le_self}
+use Rattle.std.{proofs.Common.{◌≡◌, ◌∙◌, ℕ, ◌+◌, ◌-◌, ◌<◌, ◌≤◌, Bool, true, false, ◌&&◌, List, [], ◌∷◌, ◌++◌, max, refl, sym, ap, arith, append-nil, append_assoc, IsTrue, nat_le, if◌then◌else◌, rules}, proofs.lemmas.Nat.le-div, proofs.Math.Nat.div-mul-le_self, proofs.lemmas.Grind.common_steps}
 use Rattle.tally_base.{specs.declared.event.Event.Event, specs.Events.{is_photon, is_in}, specs.Settings.TraceView, specs.Tally.History}
 use Rattle.count_trace.specs.TraceCounts.{in_trace_bin, count_before}
-use Rattle.long_trace.{specs.Texts.{is_binned, bin_at, span, bin_line, bin_lines, closed_lines, counts, summary_text, first_line, open_text, whole_text}, proofs.Firsts.{lines-front, lines-same}, proofs.Steps.{bin-none, bin-other, span-push}}
+use Rattle.long_trace.{specs.Texts.{is_binned, bin_at, span, bin_line, bin_lines, closed_lines, counts, summary_text, first_line, open_text, whole_text}, proofs.Firsts.{lines-front}, proofs.Steps.{bin-none, bin-other, lines-still, span-push}}
 
 -- the time of the last photon, or this one
 abbrev pub last_time : ℕ → History → ℕ
@@ -21,9 +21,6 @@ rises-parts floor (x ∷ a) b up = let rest = rises-parts (if is_photon x.0 then
 -- A later time is in no earlier bin.
 pub bin-later : (set : TraceView) (a b : ℕ) → 0 < set.width → a ≤ b → bin_at set a ≤ bin_at set b
 bin-later set a b some le = search (rules, arith, div-mul-le_self, le-div)
-
-still : (set : TraceView) (n : ℕ) (h h' : History) → ((b : ℕ) → b < n → in_trace_bin set b h' ≡ in_trace_bin set b h) → bin_lines set n h' ≡ bin_lines set n h
-still set n h h' same = lines-same (λ b. bin_line b (in_trace_bin set b h')) (λ b. bin_line b (in_trace_bin set b h)) n (λ b lt. ap (bin_line b) (same b lt))
 
 -- The last bin is no later than that of a time, and the lines that were closed stay in front.
 pub record Goes (set : TraceView) (h h' : History) (time : ℕ) : Type 0 where
@@ -49,7 +46,7 @@ one-binned set h x e below =
       tail = front.0;
       keeps =
           ap (λ n. bin_lines set n (h ++ x ∷ [])) less ∙ front.1 ∙ ap (λ l. l ++ front.0)
-          (still set (span set h - 1) h (h ++ x ∷ []) (λ b lt. bin-other set b h x e (λ (q : bin_at set x.0.time ≡ b). omega (arith, lt, below, q))));
+          (lines-still set (span set h - 1) h (h ++ x ∷ []) (λ b lt. bin-other set b h x e (λ (q : bin_at set x.0.time ≡ b). omega (arith, lt, below, q))));
     }
 
 one-unbinned : (set : TraceView) (h : History) (x : Event × ℕ) (time : ℕ)
@@ -59,9 +56,7 @@ one-unbinned set h x time e below =
     record {
       within = omega (arith, now, below);
       tail = [];
-      keeps =
-          ap (λ n. bin_lines set (n - 1) (h ++ x ∷ [])) now ∙ still set (span set h - 1) h (h ++ x ∷ []) (λ b lt. bin-none set b h x e)
-          ∙ sym (append-nil (closed_lines set h));
+      keeps = grind (arith, common_steps, lines-still, bin-none, append-nil);
     }
 
 floor-up : (set : TraceView) (p : Bool) (floor time : ℕ) → 0 < set.width → (IsTrue p → floor ≤ time) → bin_at set floor ≤ bin_at set (if p then time else floor)

@@ -2,7 +2,7 @@
 use Rattle.std.{proofs.Common.{◌≡◌, ◌∙◌, ℕ, ◌+◌, ◌-◌, ◌/◌, ◌<◌, Bool, true, false, ◌&&◌, cond, List, [], ◌∷◌, ◌++◌, max, sym, ap, arith, append-nil, nat_le, ◌==◌, slice_index, count_by, if◌then◌else◌, rules, ◌≤◌, length, append_assoc, length-append, IsTrue, nat_lt}, proofs.lemmas.Bool.Decides.nat_tests, proofs.lemmas.List.Sums.{sum_by_push, fold_push}}
 use Rattle.tally_base.{specs.declared.event.Event.Event, specs.Events.{is_photon, is_in}, specs.Settings.{TraceView, trace_view}, specs.Tally.{History, greatest_time}, proofs.Floors.greatest-push}
 use Rattle.count_trace.{specs.TraceCounts.{count_times, in_trace_bin, count_before}, proofs.Blocks.count-append}
-use Rattle.long_trace.{specs.Texts.{frequency_limit, is_binned, bin_at, span, bin_line, bin_lines, closed_lines, counts, frequency, above, first_line, open_text}, specs.Bins.{BinState, CountsBins, CountsOn}, proofs.Firsts.{first-same, lines-same, count-skip, lines-skip}, specs.declared.trace.LongTrace.LongTrace, specs.LongTrace.{GivenMore, set_of, is_going, was_begun}, specs.States.state_of}
+use Rattle.long_trace.{specs.Texts.{frequency_limit, is_binned, bin_at, span, bin_line, bin_lines, closed_lines, counts, frequency, above, open_text}, specs.Bins.{BinState, CountsBins, CountsOn}, proofs.Firsts.{first-same, lines-same, count-skip, lines-skip}, specs.declared.trace.LongTrace.LongTrace, specs.LongTrace.{GivenMore, set_of, is_going, was_begun}, specs.States.state_of}
 
 -- it is a photon of the group
 abbrev pub of_group : TraceView → Event × ℕ → Bool
@@ -59,7 +59,7 @@ pub closed-is : (set : TraceView) (state : BinState) (h : History) → CountsBin
 closed-is set state h is = ap (λ n. bin_lines set n h) (ap (λ n. n - 1) is.last ∙ last_less state.count state.bin is.none_yet)
 
 -- lines and counts of bins in which no photon came
-lines-still : (set : TraceView) (n : ℕ) (h h' : History)
+pub lines-still : (set : TraceView) (n : ℕ) (h h' : History)
     → ((b : ℕ) → b < n → in_trace_bin set b h' ≡ in_trace_bin set b h) → bin_lines set n h' ≡ bin_lines set n h
 lines-still set n h h' same =
     lines-same (λ b. bin_line b (in_trace_bin set b h')) (λ b. bin_line b (in_trace_bin set b h)) n (λ b lt. ap (bin_line b) (same b lt))
@@ -81,12 +81,6 @@ none-follows set state h x e is =
       others = is.others ∙ ap above (sym same);
     }
 
-pub none-closes : (set : TraceView) (state : BinState) (h : History) (x : Event × ℕ) → is_binned set x ≡ false
-    → CountsBins set state h → closed_lines set (h ++ x ∷ []) ≡ closed_lines set h ++ []
-none-closes set state h x e is =
-    closed-is set state (h ++ x ∷ []) (none-follows set state h x e is) ∙ lines-still set state.bin h (h ++ x ∷ []) (λ b lt. bin-none set b h x e)
-    ∙ sym (closed-is set state h is) ∙ sym (append-nil (closed_lines set h))
-
 later_last : (count bin : ℕ) → max (if count == 0 then 0 else bin + 1) (bin + 1) ≡ (if count + 1 == 0 then 0 else bin + 1)
 later_last count bin = grind (arith, nat_tests)
 
@@ -105,13 +99,6 @@ same-follows set state h x e at is =
       each = λ c lt. is.each c lt ∙ ap (λ l. frequency l c) (sym same);
       others = is.others ∙ ap above (sym same);
     }
-
-pub same-closes : (set : TraceView) (state : BinState) (h : History) (x : Event × ℕ) → is_binned set x ≡ true
-    → bin_at set x.0.time ≡ state.bin → CountsBins set state h → closed_lines set (h ++ x ∷ []) ≡ closed_lines set h ++ []
-same-closes set state h x e at is =
-    closed-is set (record state { count = state.count + 1 }) (h ++ x ∷ []) (same-follows set state h x e at is)
-    ∙ lines-still set state.bin h (h ++ x ∷ []) (λ b lt. bin-other set b h x e (λ (q : bin_at set x.0.time ≡ b). omega (arith, lt, q, at)))
-    ∙ sym (closed-is set state h is) ∙ sym (append-nil (closed_lines set h))
 
 new_last : (count bin next : ℕ) → bin < next → max (if count == 0 then 0 else bin + 1) (next + 1) ≡ (if 1 == 0 then 0 else next + 1)
 new_last count bin next lt = grind (arith, nat_tests, lt)
@@ -190,9 +177,7 @@ GivenMore-counts old new more lines lines' same going begun on none before taken
         taken = omega (arith, taken, is.taken, length-append h more);
         floor = floor h is.floor;
       };
-      closed = λ h is.
-          ap (λ l. first_line set ++ l) (on.closed h is.bins) ∙ sym (append_assoc (first_line set) (closed_lines set h) on.text)
-          ∙ ap (λ l. open_text set h ++ l) (sym text);
+      closed = λ h is. search (rules, arith, append_assoc);
     }
 
 later : (b : Bool) (floor time : ℕ) → (IsTrue b → floor ≤ time) → (if b then time else floor) ≡ (if b then max floor time else floor)

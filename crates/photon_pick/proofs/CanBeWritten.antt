@@ -1,10 +1,10 @@
 -- The photons of a group of a file can be written, up to the first that is too late.
-use Rattle.std.{proofs.Common.{◌≡◌, ◌∙◌, ℕ, ◌+◌, List, [], ◌∷◌, ◌++◌, Bool, true, false, cond, length, take, drop, map, refl, sym, ap, subst, Result, ◌==◌, arith, rules}, specs.List.{All, AllByRecursion, filter}, proofs.lemmas.Bool.eqb-true, proofs.lemmas.List.take-append-drop, proofs.lemmas.List.Elements.{All-nil, All-head, All-tail, All-append, All-filter, All-from_recursion, filter-append}, proofs.lemmas.List.Sorted.All-permutation}
+use Rattle.std.{proofs.Common.{◌≡◌, ◌∙◌, ℕ, ◌+◌, List, [], ◌∷◌, ◌++◌, Bool, true, false, cond, if◌then◌else◌, length, take, drop, map, refl, sym, ap, subst, Result, Ok, Err, ◌==◌, arith, rules}, specs.List.{All, AllByRecursion, filter}, specs.List.Sorted.IsNonDecreasingBy, proofs.Math.Seq.take-append_seam, proofs.lemmas.Bool.eqb-true, proofs.lemmas.List.take-append-drop, proofs.lemmas.List.Elements.{All-nil, All-head, All-tail, All-append, All-filter, All-same, All-take, All-from_recursion, filter-append, filter_passes}, proofs.lemmas.List.Sorted.{All-permutation, IsNonDecreasingBy-take}}
 use Rattle.tally_base.{specs.declared.event.Event.Event, specs.declared.event.EventKind.TheVariants.Marker as MarkerEvent, specs.declared.event.Policy.Policy, specs.declared.fault.Fault.Fault, specs.declared.header.Mode.Mode, specs.declared.header.RecordType.RecordType, specs.Events.{is_photon, is_ordered}, specs.RecordTypes.mode_of}
-use Rattle.ptu_definitions.{specs.declared.records.Raw.Raw, specs.declared.records.Summary.Summary, specs.Layouts.{Fits, KindFits, meaning_of}, specs.Kept.kept, specs.Prefixes.each_after, specs.Settled.{is_overtaken, unless_overtaken, not_overtaken, in_time, ordered, kept_by, Rises}, specs.Streams.{StreamSettings, reading, given, streamed}, specs.Times.{event_of, event_after, events}, specs.Words.words_of, proofs.DeliveredLaws.{in_time-kept, delivered-settled}, proofs.WordsLemmas.meaning-fits, proofs.SettledLaws.{in_time-permutation, Rises-put_all}, proofs.SettledLemmas.{Rises-lower, IsNonDecreasingBy-Rises}}
+use Rattle.ptu_definitions.{specs.declared.records.Raw.Raw, specs.declared.records.Summary.Summary, specs.Layouts.{Fits, KindFits, meaning_of}, specs.Kept.kept, specs.Prefixes.each_after, specs.Settled.{is_overtaken, unless_overtaken, not_overtaken, in_time, ordered, kept_by, Rises}, specs.Streams.{StreamSettings, reading, given, streamed}, specs.Times.{event_of, event_after, events}, specs.Words.words_of, proofs.DeliveredLaws.{in_time-kept, delivered-settled}, proofs.WordsLemmas.meaning-fits, proofs.SettledLaws.{in_time-permutation, in_time-rises}, proofs.SettledLemmas.{Rises-lower, IsNonDecreasingBy-Rises}}
 use Rattle.gate_plan.specs.Shifting.{Sorting}
 use Rattle.record_write.specs.Picked.{is_too_late, IsPhotonOf, CanBePicked}
-use Rattle.photon_pick.{specs.Chosen.is_chosen, specs.Late.{too_late, writable}, specs.Texts.photons_in, specs.Ends.{photons_kept, photons_by, photons_of}, proofs.Parts.writable-all, proofs.Ends.first-of}
+use Rattle.photon_pick.{specs.Chosen.is_chosen, specs.Late.{too_late, writable, AreBeforeLate}, specs.Texts.photons_in, specs.Ends.{photons_kept, photons_by, photons_of}, proofs.Parts.writable-all, proofs.Ends.chosen-photon}
 
 -- ## Events fit the mode of their records
 
@@ -46,52 +46,40 @@ in_time-all P k es all = All-permutation P (not_overtaken k es) (in_time k es) (
 
 -- what is known of photons whether one is too late or not
 record CanFollow (mode : Mode) (ps : List Event) : Type 0 where
-  fits : AllByRecursion (IsPhotonOf mode) ps
-  rising : Rises 0 ps
-
--- the front of such photons
-front-all : (P : Event → Type 0) (ps qs : List Event) → AllByRecursion P (ps ++ qs) → AllByRecursion P ps
-front-all P [] qs all = tt
-front-all P (p ∷ ps) qs all = (all.0, front-all P ps qs all.1)
-
-front-rises : (t : ℕ) (ps qs : List Event) → Rises t (ps ++ qs) → Rises t ps
-front-rises t [] qs up = tt
-front-rises t (p ∷ ps) qs up = (up.0, front-rises p.time ps qs up.1)
+  fits : All (IsPhotonOf mode) ps
+  rising : IsNonDecreasingBy (λ (e : Event). e.time) ps
 
 front-follows : (mode : Mode) (ps qs : List Event) → CanFollow mode (ps ++ qs) → CanFollow mode ps
-front-follows mode ps qs can = record { fits = front-all (IsPhotonOf mode) ps qs can.fits; rising = front-rises 0 ps qs can.rising }
+front-follows mode ps qs can = record {
+  fits = All-same (IsPhotonOf mode) _ _ (sym (take-append_seam ps qs)) (All-take (IsPhotonOf mode) (length ps) (ps ++ qs) can.fits);
+  rising = subst (IsNonDecreasingBy (λ (e : Event). e.time)) (take-append_seam ps qs) (IsNonDecreasingBy-take (λ (e : Event). e.time) (length ps) (ps ++ qs) can.rising);
+}
 
--- those before the first that is too late
-writable-fits : (P : Event → Type 0) (mode : Mode) (ps : List Event) → AllByRecursion P ps → AllByRecursion P (writable mode ps)
-writable-fits P mode [] all = tt
-writable-fits P mode (p ∷ ps) all = search (rules, arith, mode, writable-fits P mode ps all.1)
+-- The photons that are writable are those before the first that is too late.
+here : (mode : Mode) (e : Event) (es front : List Event) (late : Bool) → is_too_late mode e.time ≡ late
+    → AreBeforeLate mode front es → AreBeforeLate mode (if late then [] else e ∷ front) (e ∷ es)
+here mode e es front true is rest = record { behind = e ∷ es; parts = refl; in_time = refl; next = λ first more at. let same : first ≡ e = cc in rw same is }
+here mode e es front false is rest = record { behind = rest.behind; parts = ap (λ l. e ∷ l) rest.parts; in_time = rw is rest.in_time; next = rest.next }
 
-writable-rises : (t : ℕ) (mode : Mode) (ps : List Event) → Rises t ps → Rises t (writable mode ps)
-writable-rises t mode [] up = tt
-writable-rises t mode (p ∷ ps) up = search (rules, arith, mode, writable-rises p.time mode ps up.1)
+pub before-late : (mode : Mode) (photons : List Event) → AreBeforeLate mode (writable mode photons) photons
+before-late mode [] = record { behind = []; parts = refl; in_time = refl; next = λ first more at. cc }
+before-late mode (e ∷ es) = here mode e es (writable mode es) (is_too_late mode e.time) refl (before-late mode es)
 
 writable-soon : (mode : Mode) (ps : List Event) → AllByRecursion (λ e. is_too_late mode e.time ≡ false) (writable mode ps)
 writable-soon mode [] = tt
 writable-soon mode (p ∷ ps) = search (rules, arith, mode, writable-soon mode ps)
 
 writable-can : (mode : Mode) (ps : List Event) → CanFollow mode ps → CanBePicked mode (writable mode ps)
-writable-can mode ps can = record {
-  fits = All-from_recursion (IsPhotonOf mode) (writable mode ps) (writable-fits (IsPhotonOf mode) mode ps can.fits);
-  in_order = IsNonDecreasingBy-Rises 0 (writable mode ps) (writable-rises 0 mode ps can.rising);
-  in_time = All-from_recursion (λ e. is_too_late mode e.time ≡ false) (writable mode ps) (writable-soon mode ps);
-}
+writable-can mode ps can =
+    let front = before-late mode ps in
+    let all = front-follows mode (writable mode ps) front.behind (subst (CanFollow mode) front.parts can) in
+    record { fits = all.fits; in_order = all.rising; in_time = All-from_recursion (λ e. is_too_late mode e.time ≡ false) (writable mode ps) (writable-soon mode ps) }
 
 -- ## The photons that are chosen of a kept list
 
 module _ (mode : Mode) (chooses : Event → Bool) (photons : (e : Event) → chooses e ≡ true → is_photon e ≡ true) where
-  chosen-fit : (es : List Event) → FitAll mode es → AllByRecursion (IsPhotonOf mode) (filter chooses es)
-  chosen-fit [] all = tt
-  chosen-fit (e ∷ es) all = by (chooses e) refl (chosen-fit es (All-tail (λ (x : Event). KindFits mode x.kind) e es all))
-    where
-      by : (b : Bool) → chooses e ≡ b → AllByRecursion (IsPhotonOf mode) (filter chooses es)
-          → AllByRecursion (IsPhotonOf mode) (cond b (e ∷ filter chooses es) (filter chooses es))
-      by true is rest = (record { photon = photons e is; fits = All-head (λ (x : Event). KindFits mode x.kind) e es all }, rest)
-      by false is rest = rest
+  chosen-fit : (es : List Event) → FitAll mode es → All (IsPhotonOf mode) (filter chooses es)
+  chosen-fit es all = λ k d lt. record { photon = photons _ (filter_passes chooses es k d lt); fits = All-filter chooses (λ (e : Event). KindFits mode e.kind) es all k d lt }
 
   chosen-rise : (t : ℕ) (es : List Event) → Rises t es → Rises t (filter chooses es)
   chosen-rise t [] up = tt
@@ -117,11 +105,10 @@ module _ (mode : Mode) (chooses : Event → Bool) (photons : (e : Event) → cho
       by false is = refl
 
   in_time-follow : (k : ℕ) (es : List Event) → FitAll mode es → CanFollow mode (filter chooses (in_time k (ordered mode es)))
-  unfolding in_time
   in_time-follow k es fit = record {
     fits = chosen-fit (in_time k (ordered mode es)) (in_time-all (λ (e : Event). KindFits mode e.kind) k
         (ordered mode es) (All-filter (λ e. is_ordered mode e) (λ (e : Event). KindFits mode e.kind) es fit));
-    rising = chosen-rise 0 (in_time k (ordered mode es)) (Rises-put_all [] (not_overtaken k (ordered mode es)) tt);
+    rising = IsNonDecreasingBy-Rises 0 _ (chosen-rise 0 (in_time k (ordered mode es)) (in_time-rises k (ordered mode es)));
   }
 
   kept-follow : (k : ℕ) (es : List Event) → FitAll mode es → CanFollow mode (filter chooses (kept_by k mode es))
@@ -145,24 +132,22 @@ module _ (record_type : RecordType) (policy : Policy) (sorting : Sorting) (group
   abbrev chooses : Event → Bool
   chooses = is_chosen sorting group
 
-  chosen-photon : (e : Event) → chooses e ≡ true → is_photon e ≡ true
-  chosen-photon e is = first-of (is_photon e) _ is
-
   fit : (words : List ℕ) → FitAll mode (events (map how.meaning words))
   fit words = events-fit mode (meaning_of record_type) (meaning-fits record_type) words
 
   photons_kept-follow : (words : List ℕ) → CanFollow mode (photons_kept chooses how words)
-  photons_kept-follow words = kept-follow mode chooses chosen-photon policy.settle (events (map how.meaning words)) (fit words)
+  photons_kept-follow words = kept-follow mode chooses (chosen-photon sorting group) policy.settle (events (map how.meaning words)) (fit words)
 
   photons_in-follow : (words : List ℕ) → CanFollow mode (photons_in chooses how words)
   unfolding given
   photons_in-follow words = search (rules, arith, how, mode, delivered-settled, taken-follow, chooses, chosen-photon, photons_kept-follow)
 
   photons_by-follow : (words : List ℕ) (answer : Result Summary Fault) → CanFollow mode (photons_by chooses how words answer)
-  photons_by-follow words answer = search (rules, arith, photons_kept-follow, photons_in-follow)
+  photons_by-follow words (Ok summary) = photons_kept-follow words
+  photons_by-follow words (Err fault) = photons_in-follow words
 
   pub kept-can : (words : List ℕ) → too_late mode (photons_kept chooses how words) ≡ [] → CanBePicked mode (photons_kept chooses how words)
-  kept-can words none = search (rules, arith, mode, writable-all, chooses, how, writable-can, photons_kept-follow)
+  kept-can words none = subst (CanBePicked mode) (writable-all mode (photons_kept chooses how words) none) (writable-can mode (photons_kept chooses how words) (photons_kept-follow words))
 
   pub written-can : (bytes : List ℕ) → CanBePicked mode (writable mode (photons_of chooses how bytes))
   written-can bytes = writable-can mode (photons_of chooses how bytes) (photons_by-follow (words_of bytes) (streamed how bytes))

@@ -1,5 +1,5 @@
 -- What the end of a stream writes of the photons of a group.
-use Rattle.std.{proofs.Common.{◌≡◌, ◌∙◌, ℕ, List, [], ◌++◌, Bool, None, Some, Ok, Err, map, refl, sym, ap, inl, inr, ⊎_elim, append-nil, Result, arith, rules, true, ◌&&◌}, specs.List.filter, specs.declared.option.Option.Option, specs.Io.KnownBytes.Appends}
+use Rattle.std.{proofs.Common.{◌≡◌, ◌∙◌, ℕ, List, [], ◌++◌, Bool, None, Some, Ok, Err, map, refl, sym, ap, inl, inr, ⊎_elim, append-nil, Result, arith, rules, true}, specs.List.filter, specs.declared.option.Option.Option, specs.Io.KnownBytes.Appends}
 use Rattle.tally_base.{specs.declared.event.Event.Event, specs.declared.fault.Fault.Fault, specs.declared.fault.Fault.TheVariants.WriteFault, specs.FaultCounts.Rose, specs.declared.header.Mode.Mode, specs.Events.{is_photon, is_ordered}}
 use Rattle.bench_io.specs.Sinks.{AppendsShort}
 use Rattle.ptu_definitions.{specs.declared.records.Summary.Summary, specs.Kept.Marked, specs.Settled.{not_marked, delivered, delivered_last}, specs.Streams.{StreamSettings, record_refusal, last_in, streamed, summary, given}, specs.Times.events, specs.Words.{words_of, rest_of}, proofs.DeliveredLaws.{delivered-kept, delivered-none}, proofs.Firsts.given-all}
@@ -36,22 +36,19 @@ module _ {T : Type 0} (g : Ghosts T) (a b : T) (at : T → Stand) (chooses : Eve
   abbrev total : List Event
   total = photons_kept chooses how (words_of bytes)
 
-  abbrev text : List ℕ
-  text = text_in chooses how (words_of bytes)
-
   -- what was given
   gave : (sum : Summary) (h : GaveRest g how a b bytes sum) → Took s t (last_in how (words_of bytes))
   gave sum h = gets (last_in how (words_of bytes)) (h.follows a [] none)
 
   gave-wrote : (sum : Summary) (h : GaveRest g how a b bytes sum) → Appends t.written c t.held
-      → faults ≡ t.sink → WroteText text (end_text chooses how bytes) s.written c s.sink faults
+      → faults ≡ t.sink → WroteText (text_in chooses how (words_of bytes)) (end_text chooses how bytes) s.written c s.sink faults
   gave-wrote sum h flushed still = search (rules, arith, took-wrote, s, t, before, total, gave, kept-are)
 
   gave-clear : (sum : Summary) (h : GaveRest g how a b bytes sum) → end_fault chooses how bytes ≡ None
   gave-clear sum h = rw (h.streams, took-clear s t chooses how.mode same_choice same_mode empty before total has.in_time has.picked (last_in how (words_of bytes)) (gave sum h) (kept-are chooses how (words_of bytes) clear)) refl
 
   gave-cut : (sum : Summary) (h : GaveRest g how a b bytes sum) → AppendsShort t.written c t.held
-      → Rose t.sink faults → CutText text (end_text chooses how bytes) s.written c s.sink faults
+      → Rose t.sink faults → CutText (text_in chooses how (words_of bytes)) (end_text chooses how bytes) s.written c s.sink faults
   gave-cut sum h short rose = search (rules, arith, took-cut, s, t, before, total, gave, kept-are)
 
   -- a photon of the group was refused
@@ -65,8 +62,8 @@ module _ {T : Type 0} (g : Ghosts T) (a b : T) (at : T → Stand) (chooses : Eve
   left-over : (fault : Fault) → streamed how bytes ≡ Err fault → end_fault chooses how bytes ≡ Some fault
   left-over fault is = rw (is, has.in_time) refl
 
-  left-text : (fault : Fault) → streamed how bytes ≡ Err fault → end_text chooses how bytes ≡ text ++ []
-  left-text fault is = ap (λ r. bytes_of how.mode (photons_by chooses how (words_of bytes) r)) is ∙ sym (append-nil text)
+  left-text : (fault : Fault) → streamed how bytes ≡ Err fault → end_text chooses how bytes ≡ text_in chooses how (words_of bytes) ++ []
+  left-text fault is = ap (λ r. bytes_of how.mode (photons_by chooses how (words_of bytes) r)) is ∙ sym (append-nil (text_in chooses how (words_of bytes)))
 
   -- What the end wrote, where the block was flushed.
   pub ends-on : (r : Result Summary Fault) → s.fault ≡ None → Appends t.written c t.held → faults ≡ t.sink
@@ -121,11 +118,8 @@ clear-from_ok how bytes sum is = search (rules, arith)
 
 -- Which events are wanted.
 
-pub first-of : (a b : Bool) → (a && b) ≡ true → a ≡ true
-first-of a b is = search (rules, arith)
-
 pub ordered-photon : (mode : Mode) (e : Event) → is_photon e ≡ true → is_ordered mode e ≡ true
 ordered-photon mode e is = search (rules, arith)
 
 pub chosen-photon : (by : Sorting) (group : ℕ) (e : Event) → is_chosen by group e ≡ true → is_photon e ≡ true
-chosen-photon by group e is = first-of (is_photon e) _ is
+chosen-photon by group e is = search (rules, arith)

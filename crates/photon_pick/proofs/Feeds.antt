@@ -19,12 +19,6 @@ module _ {T : Type 0} (g : Ghosts T) (a b : T) (at : T → Stand) (chooses : Eve
   abbrev t : Stand
   t = at b
 
-  abbrev text : List ℕ → List ℕ
-  text = text_in chooses how
-
-  abbrev refuses : List ℕ → Option Fault
-  refuses = refusal_in chooses how
-
   abbrev before : List Event
   before = photons_in chooses how words
 
@@ -38,10 +32,10 @@ module _ {T : Type 0} (g : Ghosts T) (a b : T) (at : T → Stand) (chooses : Eve
   gave-are : (h : GaveOn g how a b words now) → total ≡ before ++ filter chooses (not_marked h.more)
   gave-are h = photons-more chooses how words now h.more h.adds
 
-  gave-wrote : (h : GaveOn g how a b words now) → Appends t.written c t.held → faults ≡ t.sink → WroteText (text words) (text now) s.written c s.sink faults
+  gave-wrote : (h : GaveOn g how a b words now) → Appends t.written c t.held → faults ≡ t.sink → WroteText (text_in chooses how words) (text_in chooses how now) s.written c s.sink faults
   gave-wrote h flushed still = search (rules, arith, took-wrote, s, t, before, total, gave, gave-are)
 
-  gave-clear : (h : GaveOn g how a b words now) (answer : Option Fault) → record_refusal how now ≡ answer → refuses now ≡ answer
+  gave-clear : (h : GaveOn g how a b words now) (answer : Option Fault) → record_refusal how now ≡ answer → refusal_in chooses how now ≡ answer
   gave-clear h answer is = rw (took-clear s t chooses how.mode same_choice same_mode empty before total has.in_time has.picked h.more (gave h) (gave-are h)) is
 
   gave-stands : GaveOn g how a b words now → HasPickedIn chooses how t.picker now
@@ -50,7 +44,7 @@ module _ {T : Type 0} (g : Ghosts T) (a b : T) (at : T → Stand) (chooses : Eve
     in_time = took-clear s t chooses how.mode same_choice same_mode empty before total has.in_time has.picked h.more (gave h) (gave-are h);
   }
 
-  gave-cut : (h : GaveOn g how a b words now) → AppendsShort t.written c t.held → Rose t.sink faults → CutText (text words) (text now) s.written c s.sink faults
+  gave-cut : (h : GaveOn g how a b words now) → AppendsShort t.written c t.held → Rose t.sink faults → CutText (text_in chooses how words) (text_in chooses how now) s.written c s.sink faults
   gave-cut h short rose = search (rules, arith, took-cut, s, t, before, total, gave, gave-are)
 
   -- a photon of the group was refused
@@ -62,7 +56,7 @@ module _ {T : Type 0} (g : Ghosts T) (a b : T) (at : T → Stand) (chooses : Eve
 
   -- What a piece wrote, where the block was flushed.
   pub feeds-on : (r : Result (Unit {0}) Fault) → s.fault ≡ None → Appends t.written c t.held → faults ≡ t.sink → Fed g how a b words now r
-      → WritesText (text words) (text now) (refuses now) s.written c s.sink faults
+      → WritesText (text_in chooses how words) (text_in chooses how now) (refusal_in chooses how now) s.written c s.sink faults
       (answer_by t.fault r) × OnOk (answer_by t.fault r) (HasPickedIn chooses how t.picker now)
   feeds-on (Ok done) free flushed still fed = search (rules, arith, gave, gave-clear, gave-wrote, gave-stands)
   feeds-on (Err fault) free flushed still fed =
@@ -78,7 +72,7 @@ module _ {T : Type 0} (g : Ghosts T) (a b : T) (at : T → Stand) (chooses : Eve
       fed
 
   -- What it wrote where the flush failed.
-  pub feeds-cut : (r : Result (Unit {0}) Fault) → AppendsShort t.written c t.held → Rose t.sink faults → Fed g how a b words now r → WritesText {X = Unit {0}} (text words) (text now) (refuses now) s.written c s.sink faults (Err WriteFault)
+  pub feeds-cut : (r : Result (Unit {0}) Fault) → AppendsShort t.written c t.held → Rose t.sink faults → Fed g how a b words now r → WritesText {X = Unit {0}} (text_in chooses how words) (text_in chooses how now) (refusal_in chooses how now) s.written c s.sink faults (Err WriteFault)
   feeds-cut (Ok done) short rose fed = inr (refl, gave-cut fed.1 short rose)
   feeds-cut (Err fault) short rose fed =
       ⊎_elim

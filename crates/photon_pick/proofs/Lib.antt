@@ -1,5 +1,6 @@
 pub mod Rows
-pub mod BlockTakes
+pub mod Gives
+pub mod Takes
 pub mod Parts
 pub mod Feeds
 pub mod Ends

@@ -34,9 +34,6 @@ writable-late : (mode : Mode) (ps back : List Event) (e : Event) → too_late mo
 writable-late mode ps back e p late = writable-clear mode ps (e ∷ back) p ∙ rw late (append-nil ps)
 
 -- the same in an equal mode
-move-late : (m n : Mode) (ps : List Event) → m ≡ n → too_late m ps ≡ [] → too_late n ps ≡ []
-move-late m n ps same h = subst (λ x. too_late x ps ≡ []) same h
-
 move-time : (m n : Mode) (time : ℕ) (b : Bool) → m ≡ n → is_too_late m time ≡ b → is_too_late n time ≡ b
 move-time m n time b same h = subst (λ x. is_too_late x time ≡ b) same h
 
@@ -119,7 +116,7 @@ module _ (s t : Stand) (chooses : Event → Bool) (mode : Mode) (same_choice : s
         ∙ append_assoc r.front (r.e ∷ []) (filter chooses (not_marked back))) ∙ sym (append_assoc before r.front (r.e ∷ filter chooses (not_marked back)))
 
     refused-clear : too_late mode (before ++ r.front) ≡ []
-    refused-clear = too_late-both mode before r.front clear (move-late s.mode mode r.front same_mode r.in_time)
+    refused-clear = too_late-both mode before r.front clear (subst (λ m. too_late m r.front ≡ []) same_mode r.in_time)
 
     -- it was too late
     module _ (late : RefusedLate s t r.front r.e) where

@@ -1,5 +1,5 @@
 -- Words that are put into a block one after another.
-use Rattle.std.{proofs.Common.{◌≡◌, ◌≢◌, ◌+◌, ◌-◌, ◌/◌, ◌%◌, ◌<◌, ℕ, false, List, [], ◌∷◌, ◌++◌, replicate, refl, sym, ap, subst, ◌∙◌, append_assoc, append-nil, arith, ◌==◌, rules}, specs.declared.option.Option.Option, proofs.lemmas.List.{replicate_more, replicate-append-replicate}, proofs.lemmas.Bool.ne_eqb}
+use Rattle.std.{proofs.Common.{◌≡◌, ◌≢◌, ◌+◌, ◌-◌, ◌/◌, ◌%◌, ◌<◌, ℕ, false, List, [], ◌∷◌, ◌++◌, replicate, refl, sym, ap, subst, ◌∙◌, append_assoc, append-nil, arith, ◌==◌}, specs.declared.option.Option.Option, proofs.lemmas.List.{replicate_more, replicate-append-replicate}, proofs.lemmas.Bool.ne_eqb}
 use Rattle.tally_base.{specs.declared.event.Event.Event, specs.declared.event.EventKind.TheVariants.Photon, specs.declared.header.Mode.Mode}
 use Rattle.bench_io.{specs.Sinks.{AppendsShort, PassesOn}, proofs.Bytes.{PassesOn-held, PassesOn-trans, AppendsShort-passed, AppendsShort-more, AppendsShort-same, AppendsShort-flushed}}
 use Rattle.ptu_definitions.proofs.PrefixLemmas.{last_after-push}
@@ -40,66 +40,22 @@ pub cuts-copy : (a b c : Option (List ℕ)) (held mid now : List ℕ) (n count w
     → PutsWords a b held mid (replicate n word) → CutsWords b c mid now (word ∷ []) → CutsWords a c held now (replicate count word)
 cuts-copy a b c held mid now n count word few p q =
     let whole : (n + 1) + (count - (n + 1)) ≡ count = omega arith in
-    let parts : replicate (n + 1) word ++ replicate (count - (n + 1)) word ≡ replicate count word =
-    replicate-append-replicate (n + 1) (count - (n + 1)) word ∙ ap (λ k. replicate k word) whole in
-    let first = cuts-behind a b c held mid now (replicate n word) (word ∷ []) p q in
-    let more = subst (λ words. CutsWords a c held now words) (replicate_more n word) first in
-    subst (λ words. CutsWords a c held now words) parts (cuts-front a c held now (replicate (n + 1) word) (replicate (count - (n + 1)) word) more)
+    subst (CutsWords a c held now) (replicate-append-replicate (n + 1) (count - (n + 1)) word ∙ ap (λ k. replicate k word) whole)
+    (cuts-front a c held now _ _ (subst (CutsWords a c held now) (replicate_more n word) (cuts-behind a b c held mid now _ (word ∷ []) p q)))
 
 -- The wraps of so many units.
-even-wraps : (most units word : ℕ) → word ≡ wrap_word most → units % most ≡ 0 → replicate (units / most) word ≡ wraps most units
+pub even-wraps : (most units word : ℕ) → word ≡ wrap_word most → units % most ≡ 0 → replicate (units / most) word ≡ wraps most units
 even-wraps most units word is none = rw (is, none) (sym (append-nil (replicate (units / most) (wrap_word most))))
 
-odd-wraps : (most units first last : ℕ) → first ≡ wrap_word most → last ≡ wrap_word (units % most)
+pub odd-wraps : (most units first last : ℕ) → first ≡ wrap_word most → last ≡ wrap_word (units % most)
     → units % most ≢ 0 → replicate (units / most) first ++ last ∷ [] ≡ wraps most units
 odd-wraps most units first last is is_last some = let left : (units % most == 0) ≡ false = ne_eqb (units % most) 0 some in rw (is, is_last, left) refl
 
-some-wraps : (most units word : ℕ) → word ≡ wrap_word most → (back : List ℕ) × (replicate (units / most) word ++ back ≡ wraps most units)
-some-wraps most units word is = rw is (_, refl)
-
-pub puts-even : (a b : Option (List ℕ)) (held now : List ℕ) (most units word : ℕ) → word ≡ wrap_word most
-    → units % most ≡ 0 → PutsWords a b held now (replicate (units / most) word) → PutsWords a b held now (wraps most units)
-puts-even a b held now most units word is none p = subst (λ words. PutsWords a b held now words) (even-wraps most units word is none) p
-
-pub puts-odd : (a b c : Option (List ℕ)) (held mid now : List ℕ) (most units first last : ℕ) → first ≡ wrap_word most → last ≡ wrap_word (units % most) → units % most ≢ 0 → PutsWords a b held mid (replicate (units / most) first) → PutsWords b c mid now (last ∷ []) → PutsWords a c held now (wraps most units)
-puts-odd a b c held mid now most units first last is is_last some p q =
-    subst (λ words. PutsWords a c held now words) (odd-wraps most units first last is is_last some)
-    (puts-more a b c held mid now (replicate (units / most) first) (last ∷ []) p q)
-
-pub cuts-odd : (a b c : Option (List ℕ)) (held mid now : List ℕ) (most units first last : ℕ) → first ≡ wrap_word most → last ≡ wrap_word (units % most) → units % most ≢ 0 → PutsWords a b held mid (replicate (units / most) first) → CutsWords b c mid now (last ∷ []) → CutsWords a c held now (wraps most units)
-cuts-odd a b c held mid now most units first last is is_last some p q =
-    subst (λ words. CutsWords a c held now words) (odd-wraps most units first last is is_last some)
-    (cuts-behind a b c held mid now (replicate (units / most) first) (last ∷ []) p q)
-
-pub cuts-wraps : (a b : Option (List ℕ)) (held now : List ℕ) (most units word : ℕ) → word ≡ wrap_word most
-    → CutsWords a b held now (replicate (units / most) word) → CutsWords a b held now (wraps most units)
-cuts-wraps a b held now most units word is q =
-    let parts = some-wraps most units word is in
-    subst (λ words. CutsWords a b held now words) parts.1 (cuts-front a b held now (replicate (units / most) word) parts.0 q)
-
 -- A photon.
-photon-parts : (mode : Mode) (before input dtime time most units word : ℕ) → most ≡ unit_of mode - 1
+pub photon-parts : (mode : Mode) (before input dtime time most units word : ℕ) → most ≡ unit_of mode - 1
     → units ≡ time / unit_of mode - before / unit_of mode → word ≡ photon_word mode input dtime time
     → wraps most units ++ word ∷ [] ≡ words_behind mode before (Photon input dtime) time
 photon-parts mode before input dtime time most units word m u w = rw (m, u, w) refl
-
-pub puts-photon : (a b c : Option (List ℕ)) (held mid now : List ℕ) (mode : Mode) (before input dtime time most units word : ℕ) → most ≡ unit_of mode - 1 → units ≡ time / unit_of mode - before / unit_of mode → word ≡ photon_word mode input dtime time
-    → PutsWords a b held mid (wraps most units) → PutsWords b c mid now (word ∷ [])
-    → PutsWords a c held now (words_behind mode before (Photon input dtime) time)
-puts-photon a b c held mid now mode before input dtime time most units word m u w p q = search (rules, arith, photon-parts, puts-more)
-
-pub cuts-photon : (a b c : Option (List ℕ)) (held mid now : List ℕ) (mode : Mode) (before input dtime time most units word : ℕ) → most ≡ unit_of mode - 1 → units ≡ time / unit_of mode - before / unit_of mode → word ≡ photon_word mode input dtime time
-    → PutsWords a b held mid (wraps most units) → CutsWords b c mid now (word ∷ [])
-    → CutsWords a c held now (words_behind mode before (Photon input dtime) time)
-cuts-photon a b c held mid now mode before input dtime time most units word m u w p q =
-    subst (λ words. CutsWords a c held now words) (photon-parts mode before input dtime time most units word m u w)
-    (cuts-behind a b c held mid now (wraps most units) (word ∷ []) p q)
-
-pub cuts-units : (a b : Option (List ℕ)) (held now : List ℕ) (mode : Mode) (before input dtime time most units : ℕ)
-    → most ≡ unit_of mode - 1 → units ≡ time / unit_of mode - before / unit_of mode
-    → CutsWords a b held now (wraps most units) → CutsWords a b held now (words_behind mode before (Photon input dtime) time)
-cuts-units a b held now mode before input dtime time most units m u q =
-    subst (λ words. CutsWords a b held now words) (photon-parts mode before input dtime time most units (photon_word mode input dtime time) m u refl) (cuts-front a b held now (wraps most units) (photon_word mode input dtime time ∷ []) q)
 
 -- What a block passes on that held nothing before.
 pub short-flushed : (a b c : Option (List ℕ)) (held now words : List ℕ) → held ≡ []

@@ -1,7 +1,7 @@
 -- Photons are read back from their words.
-use Rattle.std.{proofs.Common.{◌≡◌, ◌∙◌, ◌+◌, ◌*◌, ◌/◌, ◌%◌, ◌^◌, ◌<◌, ◌≤◌, ℕ, Bool, true, false, None, List, [], ◌∷◌, ◌++◌, length, map, refl, ap, arith, nat_lt, nat_le, ◌&&◌, not, if◌then◌else◌, subst, append_assoc, append-nil, rules}, specs.declared.option.Option.Option, specs.List.{AllByRecursion, filter}, proofs.lemmas.List.{length-map, length_push, map_push, map-append}, proofs.lemmas.List.Sums.sum_by-append, proofs.lemmas.List.Elements.recursion_from_All, proofs.lemmas.Bool.Decides.nat_tests}
+use Rattle.std.{proofs.Common.{◌≡◌, ◌∙◌, ◌+◌, ◌*◌, ◌/◌, ◌%◌, ◌^◌, ◌<◌, ◌≤◌, ℕ, Bool, false, None, List, [], ◌∷◌, ◌++◌, length, map, refl, ap, arith, nat_lt, nat_le, ◌&&◌, if◌then◌else◌, subst, append_assoc, append-nil, rules}, specs.declared.option.Option.Option, specs.List.{AllByRecursion}, proofs.lemmas.List.{length-map, length_push, map_push, map-append}, proofs.lemmas.List.Sums.sum_by-append, proofs.lemmas.List.Elements.recursion_from_All, proofs.lemmas.Bool.Decides.nat_tests}
 use Rattle.tally_base.{specs.declared.event.Event.Event, specs.declared.event.EventKind.TheVariants.Photon as PhotonEvent, specs.declared.event.Policy.Policy, specs.declared.fault.Fault.Fault, specs.declared.header.Mode.Mode, specs.Events.{is_ordered}, specs.Limits.wrap_limit}
-use Rattle.ptu_definitions.{specs.declared.records.Raw.TheVariants.Photon, specs.Kept.{mark, marked, kept, is_late, greatest, ordered_time}, specs.Prefixes.{each_after, listed}, specs.Settled.{Rises, delivered}, specs.Streams.{StreamSettings, late_refusal, refusal, refusals, record_refusal, given}, specs.Times.{amount, base, event_after, events}, proofs.DeliveredLaws.is_late_by-0, proofs.Firsts.given-all, proofs.SettledLemmas.Rises-IsNonDecreasingBy, proofs.StreamLemmas.{later, greatest-push}}
+use Rattle.ptu_definitions.{specs.declared.records.Raw.TheVariants.Photon, specs.Kept.{mark, marked, kept, is_late, greatest, ordered_time}, specs.Prefixes.{each_after, listed}, specs.Settled.{Rises, delivered, not_marked}, specs.Streams.{StreamSettings, late_refusal, refusal, refusals, record_refusal, given}, specs.Times.{amount, base, event_after, events}, proofs.DeliveredLaws.{is_late_by-0, not_marked-false}, proofs.Firsts.given-all, proofs.SettledLemmas.Rises-IsNonDecreasingBy, proofs.StreamLemmas.{later, greatest-push}}
 use Rattle.minimal_file.{specs.ShortFiles.{Timed, timed}, proofs.ShortHeaders.IsWord}
 use Rattle.record_write.{specs.Picked.{unit_of, wrap_word, photon_word, picked_words, picked_events, is_too_late, meaning_in, IsPhotonOf, IsPhotonOrWrap, CanBePicked, StaysWithin}, proofs.Meanings.{wrap-meaning, photon-meaning, wrap-small, photon-small}, proofs.Walks.{Walks, IsAt, records_of, walk, at-wrap, at-photon}}
 
@@ -106,8 +106,7 @@ not-late mode before e low =
     rw (later mode before e.time, none) (and-false (is_ordered mode e))
   where
     and-false : (b : Bool) → (b && false) ≡ false
-    and-false true = refl
-    and-false false = refl
+    and-false b = search (rules, arith)
 
 none-late : (mode : Mode) (k : ℕ) (before : List Event) (e : Event) → k ≡ 0 → greatest mode before ≤ e.time → late_refusal k mode before (e ∷ []) ≡ None
 none-late mode k before e first low = rw (first, is_late_by-0 mode before e, not-late mode before e low) refl
@@ -135,33 +134,14 @@ rises-timed : (low : ℕ) (es photons : List Event) → map timed es ≡ map tim
 rises-timed low [] photons same up = tt
 rises-timed low (e ∷ es) [] same up = cc
 rises-timed low (e ∷ es) (p ∷ photons) same up =
-    let time : e.time ≡ p.time = ap (λ (t : Timed). t.time) (same_heads same) in
-    (omega (arith, up.0, time), rw time (rises-timed p.time es photons (same_tails same) up.1))
-  where
-    same_heads : {A : Type 0} {x y : A} {xs ys : List A} → x ∷ xs ≡ y ∷ ys → x ≡ y
-    same_heads p = cc
-
-    same_tails : {A : Type 0} {x y : A} {xs ys : List A} → x ∷ xs ≡ y ∷ ys → xs ≡ ys
-    same_tails p = cc
+    let first : timed e ≡ timed p = cc in
+    let rest : map timed es ≡ map timed photons = cc in
+    let time : e.time ≡ p.time = ap (λ (t : Timed). t.time) first in
+    (omega (arith, up.0, time), rw time (rises-timed p.time es photons rest up.1))
 
 ordered-le : (mode : Mode) (e : Event) → ordered_time mode e ≤ e.time
 ordered-le mode e = search (rules, arith)
 
-kept-rising : (mode : Mode) (low : ℕ) (before es : List Event) → greatest mode before ≤ low
-    → Rises low es → map (λ x. x.0) (filter (λ x. not x.1) (each_after (mark mode) before es)) ≡ es
-kept-rising mode low before [] below up = refl
-kept-rising mode low before (e ∷ es) below up =
-    let late : is_late mode before e ≡ false = not-late mode before e (omega (arith, below, up.0)) in
-    let next : greatest mode (before ++ e ∷ []) ≤ e.time = omega (arith, greatest-push mode before e, ordered-le mode e, below, up.0) in
-    rw late (ap (λ l. e ∷ l) (kept-rising mode e.time (before ++ e ∷ []) es next up.1))
-
-pub kept-events : (mode : Mode) (photons : List Event) → CanBePicked mode photons → kept mode (picked_events mode photons) ≡ picked_events mode photons
-unfolding kept marked
-kept-events mode photons can =
-    kept-rising mode 0 [] (picked_events mode photons) (omega arith)
-    (rises-timed 0 (picked_events mode photons) photons (events-photons mode photons can) (rising mode photons can))
-
--- A stream of the words gives these events.
 marked-rising : (mode : Mode) (low : ℕ) (before es : List Event) → greatest mode before ≤ low
     → Rises low es → each_after (mark mode) before es ≡ map (λ e. (e, false)) es
 marked-rising mode low before [] below up = refl
@@ -170,11 +150,21 @@ marked-rising mode low before (e ∷ es) below up =
     let next : greatest mode (before ++ e ∷ []) ≤ e.time = omega (arith, greatest-push mode before e, ordered-le mode e, below, up.0) in
     rw (late, marked-rising mode e.time (before ++ e ∷ []) es next up.1) refl
 
+picked-marked : (mode : Mode) (photons : List Event) → CanBePicked mode photons
+    → each_after (mark mode) [] (picked_events mode photons) ≡ map (λ e. (e, false)) (picked_events mode photons)
+picked-marked mode photons can =
+    marked-rising mode 0 [] (picked_events mode photons) (omega arith)
+    (rises-timed 0 (picked_events mode photons) photons (events-photons mode photons can) (rising mode photons can))
+
+pub kept-events : (mode : Mode) (photons : List Event) → CanBePicked mode photons → kept mode (picked_events mode photons) ≡ picked_events mode photons
+unfolding kept marked
+kept-events mode photons can = ap not_marked (picked-marked mode photons can) ∙ not_marked-false (picked_events mode photons)
+
+-- A stream of the words gives these events.
 pub given-events : (mode : Mode) (policy : Policy) (photons : List Event) → CanBePicked mode photons
     → policy.settle ≡ 0 → length (picked_words mode photons) ≤ policy.records
     → given (how_in mode policy) (picked_words mode photons) ≡ map (λ e. (e, false)) (picked_events mode photons)
 unfolding delivered marked
 given-events mode policy photons can first room =
     given-all (how_in mode policy) (picked_words mode photons) (unrefused mode policy photons can first room)
-    ∙ rw first (marked-rising mode 0 [] (picked_events mode photons) (omega arith)
-    (rises-timed 0 (picked_events mode photons) photons (events-photons mode photons can) (rising mode photons can)))
+    ∙ rw first (picked-marked mode photons can)

@@ -8,37 +8,38 @@ use Rattle.command_work.proofs.data.read_header.Goals as goal
 pub returns-then-len-eq0-clause-reason : goal.returns-then-len-eq0-clause-reason
 returns-then-len-eq0-clause-reason g c = HasReason-inside _ _ _ _ c.finish.result c.finish.ensures.inside
 
-pub returns-in-Refused-clause-reason : goal.returns-in-Refused-clause-reason
-returns-in-Refused-clause-reason g c = HasReason-inside _ _ _ _ c.in-Refused.fault c.in-Refused.ensures.inside
-
-pub returns-in-Done-clause-answer : goal.returns-in-Done-clause-answer
-returns-in-Done-clause-answer g c =
-    let so_far = c.pieces.invariant.taken in
-    let piece = take c.in-Ok.len c.read.new.into in
-    let step = c.in-Done.ensures.ends so_far.0 so_far.2 in (
-      so_far.0 ++ piece,
-      Consumes-trans _ _ _ so_far.0 piece so_far.1 c.in-Ok.ensures.gives.0,
-      λ more. step.1 more ∙ ap (λ l. Ok (c.in-Done.header, l ++ more)) (sym (between_is c.read.new.into c.in-Done.used c.in-Ok.len)),
-    )
-
 -- a header that ended before this piece would not be cut
-pub returns-in-Done-clause-part : goal.returns-in-Done-clause-part
-returns-in-Done-clause-part g c =
+pub returns-in-Done : goal.returns-in-Done
+returns-in-Done g c =
     let so_far = c.pieces.invariant.taken in
     let piece = take c.in-Ok.len c.read.new.into in
+    let took = Consumes-trans _ _ _ so_far.0 piece so_far.1 c.in-Ok.ensures.gives.0 in
     let step = c.in-Done.ensures.ends so_far.0 so_far.2 in
-    let bound = c.in-Ok.ensures.bound in
-    let size = length-take c.in-Ok.len c.read.new.into in
-    record { ended = some_used so_far.0 piece c.in-Done.used c.in-Done.header so_far.3 step.2; order = omega (arith, step.0, size); within = omega (arith, bound) }
+    record {
+      reads = Prim.search rules;
+      reason = tt;
+      once = once-read Data _ _ _ _ quiet-none c.pieces.invariant.once c.read.ensures.keeps_other c.read.ensures.opens_none c.in-Ok.ensures.cause.kept;
+      part = record { ended = some_used so_far.0 piece c.in-Done.used c.in-Done.header so_far.3 step.2; order = omega (arith, step.0, length-take c.in-Ok.len c.read.new.into); within = omega (arith, c.in-Ok.ensures.bound) };
+      answer = (so_far.0 ++ piece, took, λ more. step.1 more ∙ ap (λ l. Ok (c.in-Done.header, l ++ more)) (sym (between_is c.read.new.into c.in-Done.used c.in-Ok.len)));
+      stops = stops-piece IsCut so_far.0 c.in-Ok.len c.read.new.into _ _ _ _ so_far.1 c.in-Ok.ensures.gives so_far.3 (omega (arith, c.requires.small, c.pieces.auto.buffer, c.read.auto.into)) tt
+          (reads-on _ _ _ _ _ c.pieces.invariant.unended c.in-Ok.ensures.gives c.if-len-eq0.false);
+    }
 
-pub returns-in-Refused-clause-answer : goal.returns-in-Refused-clause-answer
-returns-in-Refused-clause-answer g c =
+pub returns-in-Refused : goal.returns-in-Refused
+returns-in-Refused g c =
     let so_far = c.pieces.invariant.taken in
-    let piece = take c.in-Ok.len c.read.new.into in (
-      so_far.0 ++ piece,
-      Consumes-trans _ _ _ so_far.0 piece so_far.1 c.in-Ok.ensures.gives.0,
-      inr (Says-shown header_answer (so_far.0 ++ piece) _ (Err c.in-Refused.fault) (c.in-Refused.ensures.ends so_far.0 so_far.2)),
-    )
+    let piece = take c.in-Ok.len c.read.new.into in
+    let took = Consumes-trans _ _ _ so_far.0 piece so_far.1 c.in-Ok.ensures.gives.0 in
+    let fault = c.in-Refused.fault in
+    let inside = c.in-Refused.ensures.inside in
+    record {
+      reads = Prim.search rules;
+      reason = HasReason-inside _ _ _ _ fault inside;
+      once = once-read Data _ _ _ _ (quiet-inside fault inside) c.pieces.invariant.once c.read.ensures.keeps_other c.read.ensures.opens_none c.in-Ok.ensures.cause.kept;
+      part = tt;
+      answer = (so_far.0 ++ piece, took, inr (Says-shown header_answer (so_far.0 ++ piece) _ (Err fault) (c.in-Refused.ensures.ends so_far.0 so_far.2)));
+      stops = stops-piece IsCut so_far.0 c.in-Ok.len c.read.new.into _ _ _ _ so_far.1 c.in-Ok.ensures.gives so_far.3 (omega (arith, c.requires.small, c.pieces.auto.buffer, c.read.auto.into)) inside tt;
+    }
 
 pub returns-then-len-eq0-clause-answer : goal.returns-then-len-eq0-clause-answer
 returns-then-len-eq0-clause-answer g c = search (rules, arith, append-nil)
@@ -54,39 +55,14 @@ returns-in_default-clause-stops g c =
 
 pub returns-then-len-eq0-clause-stops : goal.returns-then-len-eq0-clause-stops
 returns-then-len-eq0-clause-stops g c =
-    let so_far = c.pieces.invariant.taken in
-    stops-piece IsCut so_far.0 c.in-Ok.len c.read.new.into _ _ _
-    (Consumes-trans _ _ _ so_far.0 (take c.in-Ok.len c.read.new.into) so_far.1 c.in-Ok.ensures.gives.0) so_far.3
+    stops-piece IsCut _ c.in-Ok.len c.read.new.into _ _ _ _ c.pieces.invariant.taken.1 c.in-Ok.ensures.gives c.pieces.invariant.taken.3
     (omega (arith, c.requires.small, c.pieces.auto.buffer, c.read.auto.into)) c.finish.ensures.inside tt
-
-pub returns-in-Done-clause-stops : goal.returns-in-Done-clause-stops
-returns-in-Done-clause-stops g c =
-    let so_far = c.pieces.invariant.taken in
-    stops-piece IsCut so_far.0 c.in-Ok.len c.read.new.into _ _ _
-    (Consumes-trans _ _ _ so_far.0 (take c.in-Ok.len c.read.new.into) so_far.1 c.in-Ok.ensures.gives.0) so_far.3
-    (omega (arith, c.requires.small, c.pieces.auto.buffer, c.read.auto.into)) tt
-    (reads-on _ _ _ _ _ c.pieces.invariant.unended c.in-Ok.ensures.gives c.if-len-eq0.false)
-
-pub returns-in-Refused-clause-stops : goal.returns-in-Refused-clause-stops
-returns-in-Refused-clause-stops g c =
-    let so_far = c.pieces.invariant.taken in
-    stops-piece IsCut so_far.0 c.in-Ok.len c.read.new.into _ _ _
-    (Consumes-trans _ _ _ so_far.0 (take c.in-Ok.len c.read.new.into) so_far.1 c.in-Ok.ensures.gives.0) so_far.3
-    (omega (arith, c.requires.small, c.pieces.auto.buffer, c.read.auto.into)) c.in-Refused.ensures.inside tt
 
 pub returns-in_default-clause-once : goal.returns-in_default-clause-once
 returns-in_default-clause-once g c = search (rules, arith, once-unread)
 
 pub returns-then-len-eq0-clause-once : goal.returns-then-len-eq0-clause-once
 returns-then-len-eq0-clause-once g c = search (rules, arith, once-read, quiet-inside)
-
-pub returns-in-Done-clause-once : goal.returns-in-Done-clause-once
-returns-in-Done-clause-once g c =
-    once-read Data _ _ _ _ quiet-none c.pieces.invariant.once c.read.ensures.keeps_other c.read.ensures.opens_none c.in-Ok.ensures.cause.kept
-
-pub returns-in-Refused-clause-once : goal.returns-in-Refused-clause-once
-returns-in-Refused-clause-once g c = once-read Data _ _ _ _ (quiet-inside c.in-Refused.fault c.in-Refused.ensures.inside)
-    c.pieces.invariant.once c.read.ensures.keeps_other c.read.ensures.opens_none c.in-Ok.ensures.cause.kept
 
 pub returns-in_default-clause-reason : goal.returns-in_default-clause-reason
 returns-in_default-clause-reason g c = (refl, Rose-kept _ _ _ (c.pieces.invariant.once.reads Data) c.in_default.ensures.cause.once)

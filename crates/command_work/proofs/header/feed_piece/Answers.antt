@@ -1,6 +1,7 @@
-use Rattle.std.proofs.Common.{[], ◌++◌, take, drop, ap, sym, ◌∙◌, append-nil, arith, rules}
+use Rattle.std.proofs.Common.{subst, [], ◌++◌, take, drop, ap, sym, ◌∙◌, append-nil, arith, rules}
 use Rattle.ptu_definitions.specs.Headers.{header_answer}
-use Rattle.command_work.proofs.Pieces.{HasRead-further, whole-piece-more}
+use Rattle.ptu_header.specs.ReadHeader.{HasRead}
+use Rattle.command_work.proofs.Pieces.{two-parts, whole-piece-more}
 use Rattle.command_work.proofs.header.feed_piece.Goals as goal
 
 pub steps-smaller-in-Preamble : goal.steps-smaller-in-Preamble
@@ -13,7 +14,7 @@ steps-preserved-in-Preamble c =
     record {
       fits = omega (arith, s.0.0, c.split_at.ensures.back_len, c.steps.invariant.fits);
       started = (c.steps.invariant.started.0 ++ take c.in-Preamble.more c.split_at.result.1.now, s.1);
-      read = λ bytes h. HasRead-further c.feed.new.self bytes piece c.split_at.result.1.now c.steps.used c.in-Preamble.more c.split_at.ensures.back (c.in-Preamble.ensures.step (bytes ++ take c.steps.used piece) (c.steps.invariant.read bytes h)).1;
+      read = λ bytes h. subst (HasRead c.feed.new.self) (two-parts bytes piece c.split_at.result.1.now c.steps.used c.in-Preamble.more c.split_at.ensures.back) (c.in-Preamble.ensures.step (bytes ++ take c.steps.used piece) (c.steps.invariant.read bytes h)).1;
       taken = omega (arith, c.in-Preamble.ensures.room.1, c.steps.invariant.taken);
     }
 
@@ -27,7 +28,7 @@ steps-preserved-in-Tag c =
     record {
       fits = omega (arith, s.0.0, c.split_at.ensures.back_len, c.steps.invariant.fits);
       started = (c.steps.invariant.started.0 ++ take c.in-Tag.more c.split_at.result.1.now, s.1);
-      read = λ bytes h. HasRead-further c.feed.new.self bytes piece c.split_at.result.1.now c.steps.used c.in-Tag.more c.split_at.ensures.back (c.in-Tag.ensures.step (bytes ++ take c.steps.used piece) (c.steps.invariant.read bytes h)).1;
+      read = λ bytes h. subst (HasRead c.feed.new.self) (two-parts bytes piece c.split_at.result.1.now c.steps.used c.in-Tag.more c.split_at.ensures.back) (c.in-Tag.ensures.step (bytes ++ take c.steps.used piece) (c.steps.invariant.read bytes h)).1;
       taken = omega (arith, c.in-Tag.ensures.room.1, c.steps.invariant.taken);
     }
 
@@ -41,7 +42,7 @@ steps-preserved c =
     record {
       fits = omega (arith, s.0.0, c.split_at.ensures.back_len, c.steps.invariant.fits);
       started = (c.steps.invariant.started.0 ++ take c.in-Body.more c.split_at.result.1.now, s.1);
-      read = λ bytes h. HasRead-further c.feed.new.self bytes piece c.split_at.result.1.now c.steps.used c.in-Body.more c.split_at.ensures.back (c.in-Body.ensures.step (bytes ++ take c.steps.used piece) (c.steps.invariant.read bytes h)).1;
+      read = λ bytes h. subst (HasRead c.feed.new.self) (two-parts bytes piece c.split_at.result.1.now c.steps.used c.in-Body.more c.split_at.ensures.back) (c.in-Body.ensures.step (bytes ++ take c.steps.used piece) (c.steps.invariant.read bytes h)).1;
       taken = omega (arith, c.in-Body.ensures.room.1, c.steps.invariant.taken);
     }
 

@@ -59,13 +59,7 @@ returns-in_err-piece-clause-rest g c = λ bytes h.
     (rw inv.same at (c.in_err-piece.ensures.writes (bytes ++ inv.so_far.0) at.0)))
 
 pub piece-requires : goal.piece-requires
-piece-requires g c =
-    let so_far = c.pieces.invariant.so_far in
-    let first = c.requires.stands in
-    (first.0 ++ so_far.0, (so_far.1 first.0 first.1).0)
+piece-requires g c = (c.requires.stands.0 ++ c.pieces.invariant.so_far.0, (c.pieces.invariant.so_far.1 c.requires.stands.0 c.requires.stands.1).0)
 
 pub end-requires : goal.end-requires
-end-requires g c =
-    let so_far = c.pieces.invariant.so_far in
-    let first = c.requires.stands in
-    (first.0 ++ so_far.0, (so_far.1 first.0 first.1).0)
+end-requires g c = (c.requires.stands.0 ++ c.pieces.invariant.so_far.0, (c.pieces.invariant.so_far.1 c.requires.stands.0 c.requires.stands.1).0)

@@ -25,10 +25,7 @@ pub returns-clause-reason : goal.returns-clause-reason
 returns-clause-reason g c = search (rules, arith, ended_short, plan-reasons)
 
 pub returns-in-Err-clause-takes : goal.returns-in-Err-clause-takes
-returns-in-Err-clause-takes g c = λ opened.
-    let asked = g.met.I.Inputs.asked_first c.args.inputs.now PlanSlot (sym c.in-Err.ensures.unopened ∙ opened) in
-    let first = c.requires.unasked.first in
-    cc
+returns-in-Err-clause-takes g c = λ opened. cc (g.met.I.Inputs.asked_first c.args.inputs.now PlanSlot (sym c.in-Err.ensures.unopened ∙ opened), c.requires.unasked.first)
 
 pub returns-in_err-len-clause-takes : goal.returns-in_err-len-clause-takes
 returns-in_err-len-clause-takes g c = search (rules, arith, all-taken)
@@ -50,10 +47,7 @@ pub returns-clause-once : goal.returns-clause-once
 returns-clause-once g c = once-none _ _ _ (plan-quiet c.read_plan.result c.read_plan.ensures.inside) (once-behind _ _ _ None (once-opened PlanSlot _ _ _ (once-refl _ None quiet-none) c.in-Ok.ensures.keeps_other c.open.ensures.reads c.in-Ok.ensures.cause.kept) c.in_ok-len.ensures.once)
 
 pub returns-in-Err-clause-names : goal.returns-in-Err-clause-names
-returns-in-Err-clause-names g c = λ opened.
-    let asked = g.met.I.Inputs.asked_first c.args.inputs.now PlanSlot (sym c.in-Err.ensures.unopened ∙ opened) in
-    let first = c.requires.unasked.first in
-    cc
+returns-in-Err-clause-names g c = λ opened. cc (g.met.I.Inputs.asked_first c.args.inputs.now PlanSlot (sym c.in-Err.ensures.unopened ∙ opened), c.requires.unasked.first)
 
 pub returns-in_err-len-clause-names : goal.returns-in_err-len-clause-names
 returns-in_err-len-clause-names g c = search (rules, arith)

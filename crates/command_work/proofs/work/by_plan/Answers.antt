@@ -2,7 +2,7 @@ use Rattle.std.{proofs.Common.{ℕ, List, refl, sym, ap, ◌∙◌, subst, inl},
 use Rattle.tally_base.specs.declared.slot.Slot.TheVariants.{Data}
 use Rattle.bench_io.{specs.Inputs.{File, IsOpened}, proofs.Bytes.{Appends-nil, Keeps-from_none}}
 use Rattle.plan_text.specs.ReadPlan.{plan_view}
-use Rattle.command_work.{specs.Endings.{span, HasCauses}, proofs.PlanTold.{has-plan, data-unasked, has-later, none-lacking, names-later, takes-later, answers-unplanned, unplanned-causes, answers-lacking, lacking-causes, plan-answers, plan-causes, plan-files}, proofs.Told.few-told, proofs.Once.{Rose-kept, quiet-inside, out-inside, out-unwritten, once-none, once-behind, once-opened, once-unopened}}
+use Rattle.command_work.{specs.Endings.{span, HasCauses}, proofs.PlanTold.{KeepsOther-trans, has-plan, data-unasked, has-later, none-lacking, names-later, takes-later, answers-unplanned, unplanned-causes, answers-lacking, lacking-causes, plan-answers, plan-causes, plan-files}, proofs.Told.few-told, proofs.Once.{Rose-kept, quiet-inside, out-inside, out-unwritten, once-none, once-behind, once-opened, once-unopened}}
 use Rattle.command_work.proofs.work.by_plan.Goals as goal
 
 pub returns-in_err-plan : goal.returns-in_err-plan
@@ -68,31 +68,21 @@ returns-in-Ok g c =
     let it = c.args.work.now in
     let does = g.W.PlanWork in
     let view = plan_view c.in_ok-plan.plan in
-    let has_read = has-plan planned (does.lacking it) c.in_ok-plan.plan c.in_ok-plan.ensures.answer
-    (none-lacking _ c.lacks.result c.lacks.ensures.answer c.in_default.not-Some) in
-    let has = has-later opened after (does.lacking it) view c.read.ensures.reads.keeps_other
-    (has-later planned opened (does.lacking it) view c.open.ensures.keeps_other has_read) in
+    let kept = KeepsOther-trans Data planned opened after c.open.ensures.keeps_other c.read.ensures.reads.keeps_other in
+    let has = has-later planned after (does.lacking it) view kept (has-plan planned (does.lacking it) c.in_ok-plan.plan c.in_ok-plan.ensures.answer (none-lacking _ c.lacks.result c.lacks.ensures.answer c.in_default.not-Some)) in
+    let once = once-opened Data before planned opened c.in_ok-plan.ensures.once c.open.ensures.keeps_other c.open.ensures.reads c.in-Ok.ensures.cause.kept in
     let is_open = ap (λ f. f Data) c.read.ensures.reads.opens_none.opened ∙ c.in-Ok.ensures.opened in
     let read = span g.I.Inputs g.O.Sink c.open.new.self c.read.new.inputs c.args.out.now c.read.new.out in
     record {
       answer = plan-answers _ _ _ _ _ _ view after _ _ _ c.read.result has c.in-Ok.ensures.given is_open c.read.ensures.leaves.answer;
-      causes = IfErr-weaker c.read.result _ _
-          (λ fault h. plan-causes _ _ _ _ _ _ view before read fault has c.in-Ok.ensures.given is_open
-          (once-opened Data before planned opened c.in_ok-plan.ensures.once c.open.ensures.keeps_other c.open.ensures.reads c.in-Ok.ensures.cause.kept) h)
-          c.read.ensures.leaves.reason;
+      causes = IfErr-weaker c.read.result _ _ (λ fault h. plan-causes _ _ _ _ _ _ view before read fault has c.in-Ok.ensures.given is_open once h) c.read.ensures.leaves.reason;
       asks = (
-        takes-later opened after (takes-later planned opened c.plan_of.ensures.takes c.open.ensures.keeps_other) c.read.ensures.reads.keeps_other,
+        takes-later planned after c.plan_of.ensures.takes kept,
         λ asked. (view, has, λ was. few-told (does.work it view) after _ c.in-Ok.ensures.given c.read.ensures.leaves.few),
         g.met.I.Inputs.asked_first c.read.new.inputs Data,
       );
-      once = record {
-        inputs = once-behind before opened _ _ (once-opened Data before planned opened c.in_ok-plan.ensures.once
-            c.open.ensures.keeps_other c.open.ensures.reads c.in-Ok.ensures.cause.kept) c.read.ensures.leaves.once.inputs;
-        out = c.read.ensures.leaves.once.out;
-      };
-      files = plan-files c.args.plan_name.now c.args.data_name.now before after
-          (names-later before opened after c.args.plan_name.now
-          (names-later before planned opened c.args.plan_name.now c.plan_of.ensures.names c.open.ensures.keeps_other) c.read.ensures.reads.keeps_other)
+      once = record { inputs = once-behind before opened _ _ once c.read.ensures.leaves.once.inputs; out = c.read.ensures.leaves.once.out };
+      files = plan-files c.args.plan_name.now c.args.data_name.now before after (names-later before planned after c.args.plan_name.now c.plan_of.ensures.names kept)
           (λ was. subst (λ (told : Option (List ℕ)). IsOpened (before.contents c.args.data_name.now) told) (sym (ap (λ f. f Data) c.read.ensures.reads.opens_none.told))
           (subst (λ (contents : Option File). IsOpened contents (opened.told Data)) (ap (λ f. f c.args.data_name.now) c.plan_of.ensures.uses.keeps.contents) c.in-Ok.ensures.file))
           (g.met.I.Inputs.agrees c.read.new.inputs);

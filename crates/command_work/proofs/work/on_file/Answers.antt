@@ -11,16 +11,10 @@ returns-in-Err g c = record {
   causes = (tt, c.in-Err.ensures.cause.once, Keeps-from_none _ _ (Appends-nil _));
   asks = (
     c.open.ensures.keeps_other.asked ∙ c.requires.first Plan,
-    λ opened.
-        let asked = g.met.I.Inputs.asked_first c.args.inputs.now Data (sym c.in-Err.ensures.unopened ∙ opened) in
-        let first = c.requires.first Data in
-        cc,
+    λ opened. cc (g.met.I.Inputs.asked_first c.args.inputs.now Data (sym c.in-Err.ensures.unopened ∙ opened), c.requires.first Data),
   );
   once = record { inputs = once-unopened Data _ _ _ (once-refl _ None quiet-none) c.open.ensures.keeps_other c.open.ensures.reads c.in-Err.ensures.cause.once; out = refl };
-  files = λ file told opened.
-      let asked = g.met.I.Inputs.asked_first c.args.inputs.now Data (sym c.in-Err.ensures.unopened ∙ opened) in
-      let first = c.requires.first Data in
-      cc;
+  files = λ file told opened. cc (g.met.I.Inputs.asked_first c.args.inputs.now Data (sym c.in-Err.ensures.unopened ∙ opened), c.requires.first Data);
 }
 
 pub returns-in-Ok : goal.returns-in-Ok
@@ -32,18 +26,15 @@ returns-in-Ok g c =
     let is_open = ap (λ f. f Data) c.read.ensures.reads.opens_none.opened ∙ c.in-Ok.ensures.opened in
     let work = g.W.FileWork.work in
     let read = span g.I.Inputs g.O.Sink c.open.new.self c.read.new.inputs c.args.out.now c.read.new.out in
+    let once = once-opened Data before before opened (once-refl before None quiet-none) c.open.ensures.keeps_other c.open.ensures.reads c.in-Ok.ensures.cause.kept in
     record {
       answer = file-answers c.args.file.now writing work after _ _ _ _ c.in-Ok.ensures.given is_open c.read.ensures.leaves.answer;
-      causes = IfErr-weaker c.read.result _ _ (λ fault h. file-causes c.args.file.now writing work before read fault c.in-Ok.ensures.given is_open
-          (once-opened Data before before opened (once-refl before None quiet-none) c.open.ensures.keeps_other c.open.ensures.reads c.in-Ok.ensures.cause.kept) h) c.read.ensures.leaves.reason;
+      causes = IfErr-weaker c.read.result _ _ (λ fault h. file-causes c.args.file.now writing work before read fault c.in-Ok.ensures.given is_open once h) c.read.ensures.leaves.reason;
       asks = (
         ap (λ f. f Plan) c.read.ensures.reads.opens_none.asked ∙ c.open.ensures.keeps_other.asked ∙ c.requires.first Plan,
         λ was. few-told work after _ c.in-Ok.ensures.given c.read.ensures.leaves.few,
       );
-      once = record {
-        inputs = once-behind before opened after _ (once-opened Data before before opened (once-refl before None quiet-none) c.open.ensures.keeps_other c.open.ensures.reads c.in-Ok.ensures.cause.kept) c.read.ensures.leaves.once.inputs;
-        out = c.read.ensures.leaves.once.out;
-      };
+      once = record { inputs = once-behind before opened after _ once c.read.ensures.leaves.once.inputs; out = c.read.ensures.leaves.once.out };
       files = λ file. told-is-its (before.contents c.args.file.now) after Data file
           (λ o. subst (λ (told : Option (List ℕ)). IsOpened (before.contents c.args.file.now) told)
           (sym (ap (λ f. f Data) c.read.ensures.reads.opens_none.told)) c.in-Ok.ensures.file)

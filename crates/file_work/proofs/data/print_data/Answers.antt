@@ -2,8 +2,8 @@ use Rattle.std.proofs.Common.{◌≡◌, length, rules, ◌++◌, [], take, refl
 use Rattle.bench_io.{proofs.Bytes.{Appends-nil, Appends-same}, proofs.States.{Consumes-nil, Consumes-kept, Consumes-trans, OnlyReads-refl, OnlyReads-trans}}
 use Rattle.list_out.{specs.HeaderText.header_text, proofs.StepTexts.header_text-nil}
 use Rattle.command_work.{proofs.Pieces.{IsCut-nil, few-none, few-piece}, specs.Outcomes.IsCut, proofs.Told.{Says-at_end, Says-shown, reads-on, fails-on}, proofs.Once.{quiet-none, quiet-write, quiet-inside, out-inside, once-refl, once-read, once-unread, Rose-kept}}
-use Rattle.file_work.{proofs.Ends.{text-appended, text-cut, outcome-done, outcome-refused, outcome-ended}, specs.FileOutcomes.header_outcome}
-use Rattle.tally_base.specs.declared.slot.Slot.TheVariants.{Data}
+use Rattle.file_work.{proofs.Ends.{text-appended, text-cut, outcome-done, outcome-refused, outcome-at}, specs.FileOutcomes.header_outcome}
+use Rattle.tally_base.{specs.declared.slot.Slot.TheVariants.Data, specs.Faults.fault_in}
 use Rattle.file_work.proofs.data.print_data.Goals as goal
 
 pub pieces-init : goal.pieces-init
@@ -65,7 +65,7 @@ returns-then-len-eq0-clause-answer g c =
       text = header_text so_far.0;
       written = so_far.3;
       says = Says-at_end header_outcome (so_far.0 ++ piece) _ _ (c.in-Ok.ensures.gives.1.1 (inr (c.if-len-eq0.true, omega (arith, size))))
-          (ap header_outcome all ∙ outcome-ended so_far.0 c.finish.result (c.finish.ensures.answer so_far.0 so_far.2));
+          (ap header_outcome all ∙ outcome-at so_far.0 _ _ refl (ap fault_in (c.finish.ensures.answer so_far.0 so_far.2)));
     })
 
 pub returns-in-Ok-Done-clause-answer : goal.returns-in-Ok-Done-clause-answer
@@ -100,24 +100,16 @@ returns-in_default-clause-few g c =
     few-none IsCut so_far.0 _ _ (Consumes-kept _ _ _ so_far.0 so_far.1 c.in_default.ensures.gives) so_far.4
 
 pub returns-then-len-eq0-clause-few : goal.returns-then-len-eq0-clause-few
-returns-then-len-eq0-clause-few g c =
-    let so_far = c.pieces.invariant.taken in
-    few-piece IsCut so_far.0 c.in-Ok.len c.read.new.into _ _ (Consumes-trans _ _ _ so_far.0 (take c.in-Ok.len c.read.new.into) so_far.1 c.in-Ok.ensures.gives.0) so_far.4 (let size : length c.read.new.into ≡ 8192 = Prim.search rules in omega (arith, size))
+returns-then-len-eq0-clause-few g c = few-piece IsCut _ c.in-Ok.len c.read.new.into _ _ _ c.pieces.invariant.taken.1 c.in-Ok.ensures.gives c.pieces.invariant.taken.4 (let size : length c.read.new.into ≡ 8192 = Prim.search rules in omega (arith, size))
 
 pub returns-in-Err-clause-few : goal.returns-in-Err-clause-few
-returns-in-Err-clause-few g c =
-    let so_far = c.pieces.invariant.taken in
-    few-piece IsCut so_far.0 c.in-Ok.len c.read.new.into _ _ (Consumes-trans _ _ _ so_far.0 (take c.in-Ok.len c.read.new.into) so_far.1 c.in-Ok.ensures.gives.0) so_far.4 (let size : length c.read.new.into ≡ 8192 = Prim.search rules in omega (arith, size))
+returns-in-Err-clause-few g c = few-piece IsCut _ c.in-Ok.len c.read.new.into _ _ _ c.pieces.invariant.taken.1 c.in-Ok.ensures.gives c.pieces.invariant.taken.4 (let size : length c.read.new.into ≡ 8192 = Prim.search rules in omega (arith, size))
 
 pub returns-in-Ok-Done-clause-few : goal.returns-in-Ok-Done-clause-few
-returns-in-Ok-Done-clause-few g c =
-    let so_far = c.pieces.invariant.taken in
-    few-piece IsCut so_far.0 c.in-Ok.len c.read.new.into _ _ (Consumes-trans _ _ _ so_far.0 (take c.in-Ok.len c.read.new.into) so_far.1 c.in-Ok.ensures.gives.0) so_far.4 (let size : length c.read.new.into ≡ 8192 = Prim.search rules in omega (arith, size))
+returns-in-Ok-Done-clause-few g c = few-piece IsCut _ c.in-Ok.len c.read.new.into _ _ _ c.pieces.invariant.taken.1 c.in-Ok.ensures.gives c.pieces.invariant.taken.4 (let size : length c.read.new.into ≡ 8192 = Prim.search rules in omega (arith, size))
 
 pub returns-in-Ok-Refused-clause-few : goal.returns-in-Ok-Refused-clause-few
-returns-in-Ok-Refused-clause-few g c =
-    let so_far = c.pieces.invariant.taken in
-    few-piece IsCut so_far.0 c.in-Ok.len c.read.new.into _ _ (Consumes-trans _ _ _ so_far.0 (take c.in-Ok.len c.read.new.into) so_far.1 c.in-Ok.ensures.gives.0) so_far.4 (let size : length c.read.new.into ≡ 8192 = Prim.search rules in omega (arith, size))
+returns-in-Ok-Refused-clause-few g c = few-piece IsCut _ c.in-Ok.len c.read.new.into _ _ _ c.pieces.invariant.taken.1 c.in-Ok.ensures.gives c.pieces.invariant.taken.4 (let size : length c.read.new.into ≡ 8192 = Prim.search rules in omega (arith, size))
 
 pub returns-in_default-clause-once : goal.returns-in_default-clause-once
 returns-in_default-clause-once g c = search (rules, arith, once-unread)

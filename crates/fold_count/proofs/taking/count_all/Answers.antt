@@ -1,6 +1,6 @@
 use Rattle.std.proofs.Common.{◌+◌, ◌≤◌, length, arith}
 use Rattle.tally_base.specs.Settings.{fold_view}
-use Rattle.fold_count.{specs.Folded.{as_met, front_of}, proofs.Nested.{sets_joined, sound_later}, proofs.Settled.counts_all}
+use Rattle.fold_count.{specs.Folded.{as_met, photons}, proofs.Nested.{sets_joined, sound_later}, proofs.Settled.counts_all}
 use Rattle.fold_count.proofs.taking.count_all.Goals as goal
 
 pub settle-requires-clause-held : goal.settle-requires-clause-held
@@ -11,13 +11,9 @@ settle-requires-clause-held c =
 pub returns-clause-sound : goal.returns-clause-sound
 returns-clause-sound c =
     let bin = c.args.bin in
-    sound_later (fold_view c.args.set.now) c.args.cells.now c.settle.new.cells c.args.ring.now c.settle.new.ring bin (bin.index + 1) bin.index c.requires.sound c.settle.ensures.cells.same c.settle.ensures.kept c.settle.ensures.within (λ le. absurd (omega (arith, le))) c.requires.sound.in_time
+    rw c.settle.ensures.kept (sound_later (fold_view c.args.set.now) c.args.cells.now c.settle.new.cells c.args.ring.now bin (bin.index + 1) bin.index c.requires.sound c.settle.ensures.cells.same (rw c.settle.ensures.kept at c.settle.ensures.within) (λ le. absurd (omega (arith, le))) c.requires.sound.in_time)
 
 pub returns-clause-follows : goal.returns-clause-follows
 returns-clause-follows c = λ h is.
-    let set = fold_view c.args.set.now in
-    let bin = c.args.bin in
-    let near : bin.index ≤ front_of set bin + set.window = omega arith in
-    let later : front_of set bin ≤ bin.index + 1 = omega arith in
-    counts_all set c.args.cells.now (as_met c.args.ring.now bin) bin.index (front_of set bin) h is near (bin.index + 1) later c.settle.new.cells (omega arith)
+    counts_all (fold_view c.args.set.now) c.args.cells.now (as_met c.args.ring.now c.args.bin) c.args.bin.index (photons (fold_view c.args.set.now) h) is c.settle.new.cells
     (λ s inside. c.settle.ensures.cells.each s (rw c.requires.sound.sized inside))

@@ -1,7 +1,7 @@
-use Rattle.std.{proofs.Common.{◌∙◌, ◌+◌, sym, ap, refl, bit_or, arith, rules}, proofs.lemmas.Nat.{or_lt}}
-use Rattle.tally_base.specs.Settings.{fold_view}
+use Rattle.std.{proofs.lemmas.List.Elements.filter-append, proofs.Common.{◌≡◌, ◌++◌, ◌∷◌, [], ◌∙◌, ◌+◌, sym, ap, refl, bit_or, arith, rules}, proofs.lemmas.Nat.{or_lt}}
+use Rattle.tally_base.{specs.Settings.fold_view, specs.Events.is_photon}
 use Rattle.lag_ring.{specs.declared.ring.Entry.Entry, proofs.Lists.all_front, proofs.Rising.all_push}
-use Rattle.fold_count.{specs.Folded.front_of, proofs.Nested.last_of, proofs.Pushed.parted_photon}
+use Rattle.fold_count.{specs.FoldCounts.is_of_any, specs.Folded.photons, proofs.Totals.first_true, proofs.Nested.last_of, proofs.Pushed.parted_photon}
 use Rattle.fold_count.proofs.taking.put.Goals as goal
 
 pub returns-clause-sound : goal.returns-clause-sound
@@ -11,7 +11,7 @@ pub returns-clause-follows : goal.returns-clause-follows
 returns-clause-follows c = λ h x any time met is.
     let set = fold_view c.args.set.now in
     let here = c.open_at-here.result in
-    let put : Entry = record { index = here.index; a = here.a + 1; b = bit_or here.b c.args.met } in
-    parted_photon set c.open_at-here.new.cells c.open_at-here.new.ring.entries here put
-    (front_of set here) h x refl any (time ∙ sym c.open_at-here.ensures.time) refl refl
-    (ap (bit_or here.b) (sym met)) c.open_at-here.ensures.sound.above (c.open_at-here.ensures.follows h is)
+    let pushed : photons set (h ++ x ∷ []) ≡ photons set h ++ x ∷ [] = filter-append (is_of_any set.groups) h (x ∷ []) ∙ (rw any refl) in
+    rw pushed
+    (parted_photon set c.open_at-here.new.cells c.open_at-here.new.ring.entries here (photons set h) x (first_true (is_photon x.0) _ any) (time ∙ sym c.open_at-here.ensures.time)
+    c.open_at-here.ensures.sound.above (c.open_at-here.ensures.follows h is) c.args.met met)

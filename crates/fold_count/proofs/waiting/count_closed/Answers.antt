@@ -1,6 +1,6 @@
-use Rattle.std.proofs.Common.{◌<◌, ap, arith, length, nat_lt, rules}
-use Rattle.lag_ring.{proofs.Lists.{all_front, all_back}, proofs.Rising.{rising_front, rising_back}}
-use Rattle.fold_count.{specs.Folded.photons_in, proofs.Bins.{where_at_most, photons_append}}
+use Rattle.std.{proofs.Common.{◌<◌, ap, arith, length, nat_lt, rules}, proofs.lemmas.List.Sums.sum_by-append}
+use Rattle.lag_ring.{specs.declared.ring.Entry.Entry, proofs.Lists.{all_front, all_back}, proofs.Rising.{rising_front, rising_back}}
+use Rattle.fold_count.{specs.Folded.photons_in, proofs.Bins.{where_at_most}}
 use Rattle.fold_count.proofs.waiting.count_closed.Goals as goal
 
 pub count_front-requires-clause-inside : goal.count_front-requires-clause-inside
@@ -18,4 +18,4 @@ count_front-requires-2-clause-rising c = rising_back c.slices.result.0.now c.sli
 
 pub count_front-requires-2-clause-room : goal.count_front-requires-2-clause-room
 count_front-requires-2-clause-room c =
-    omega (arith, c.count_front.ensures.sum, where_at_most (λ tick. nat_lt tick c.args.before) c.slices.result.0.now, photons_append c.slices.result.0.now c.slices.result.1.now, ap photons_in c.slices.ensures.entries, c.requires.room)
+    omega (arith, c.count_front.ensures.sum, where_at_most (λ tick. nat_lt tick c.args.before) c.slices.result.0.now, sum_by-append (λ (e : Entry). e.a) c.slices.result.0.now c.slices.result.1.now, ap photons_in c.slices.ensures.entries, c.requires.room)

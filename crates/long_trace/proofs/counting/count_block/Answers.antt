@@ -1,5 +1,5 @@
-use Rattle.std.proofs.Common.{◌≡◌, ◌∙◌, ◌<◌, ◌≤◌, [], ◌∷◌, false, max, refl, sym, ap, rules, arith, nat_lt, if◌then◌else◌}
-use Rattle.tally_base.{specs.Events.{is_photon, is_in}, specs.Settings.trace_view, specs.Columns.{item, event_at, groups_at, code_at, time_at, rows}, specs.Tally.floor_after, proofs.Floors.{moves_row, order-at, floor-more}, proofs.BlockRows.{length-rows, more_rows}}
+use Rattle.std.proofs.Common.{◌≡◌, ◌∙◌, ◌<◌, ◌≤◌, [], ◌∷◌, false, max, refl, sym, rules, arith, nat_lt, if◌then◌else◌}
+use Rattle.tally_base.{specs.Events.{is_photon, is_in}, specs.Settings.trace_view, specs.Columns.{item, event_at, groups_at, code_at, time_at, rows}, proofs.Floors.{moves_row, order-at, floor-more}, proofs.BlockRows.{length-rows, more_rows}}
 use Rattle.count_trace.proofs.Blocks.{count-row, one_at, one_at_most}
 use Rattle.long_trace.{specs.States.CanCount, proofs.BinSteps.{some-photon, other-way, low-next, CountsOn-trans}}
 use Rattle.long_trace.proofs.counting.count_block.Goals as goal
@@ -13,16 +13,8 @@ count_at-requires c =
     let few : at < 1024 = search (rules, arith) in
     let most = one_at_most (trace_view c.args.set.now) b at in
     let next = order-at false c.args.floor (event_at b) b.len at inside c.requires.in_order in
-    let order : 0 < c.photons_in-more.result → c.loop-at.bin.bin.low ≤ max c.time.result c.args.set.now.origin = λ some.
-    let photon = moves_row false b at
-    ∙ some-photon (is_in (groups_at b at) c.args.set.now.group) (nat_lt (code_at b at) 256) c.photons_in-more.result c.photons_in-more.ensures some in
-    let later = next.1 photon in
-    omega (arith, inv.low, later, c.time.ensures) in
-    let can : CanCount c.args.set.now c.loop-at.early c.loop-at.bin c.time.result c.photons_in-more.result = record {
-      one = omega (arith, most, c.photons_in-more.ensures);
-      order = order;
-      few = omega (arith, most, c.photons_in-more.ensures, inv.few, c.requires.few, inside, length-rows (event_at b) b.len);
-    } in
+    let order : 0 < c.photons_in-more.result → c.loop-at.bin.bin.low ≤ max c.time.result c.args.set.now.origin = λ some. search (rules, arith, moves_row, some-photon) in
+    let can : CanCount c.args.set.now c.loop-at.early c.loop-at.bin c.time.result c.photons_in-more.result = search (rules, arith, length-rows) in
     (search rules, (inv.step, (can, omega (arith, inv.room, few))))
 
 pub loop-at-preserved : goal.loop-at-preserved
@@ -34,16 +26,11 @@ loop-at-preserved c =
     let inside : at < b.len = search (rules, arith) in
     let next = order-at false c.args.floor (event_at b) b.len at inside c.requires.in_order in
     let added = c.count_at.ensures.counted in
-    let floor = floor_after false c.args.floor (rows (event_at b) at) in
     let photon = moves_row false b at in
     let most = one_at_most set b at in
     record {
       step = c.count_at.ensures.step;
-      low =
-          let below = low-next (is_in (groups_at b at) set.group) (nat_lt (code_at b at) 256) c.photons_in-more.result
-          c.loop-at.bin.bin.low c.count_at.new.newest.bin.low floor (time_at b at) set.origin c.photons_in-more.ensures
-          (λ is. next.1 (photon ∙ is)) inv.low (λ some. rw c.time.ensures at (added.low some)) (λ none. ap (λ newest. newest.bin.low) (added.same none)) in
-          rw (floor-more false c.args.floor (event_at b) at, photon) below;
+      low = search (rules, arith, low-next, floor-more);
       few = omega (arith, inv.few, added.few, most, c.photons_in-more.ensures);
       filled = omega (arith, inv.filled, added.filled, most, c.photons_in-more.ensures);
       room = omega (arith, inv.room, c.count_at.ensures.len);

@@ -1,12 +1,9 @@
-use Rattle.std.{proofs.Common.{◌≡◌, ◌∙◌, ◌++◌, [], List, ℕ, ap, arith, rules}, specs.declared.option.Option.Option, proofs.lemmas.Result.{err_from_is_err_and, on_ok_weaker, on_err_weaker}}
-use Rattle.bench_io.{specs.Sinks.{AppendsShort, PassesOn}, proofs.Bytes.{PassesOn-trans, Appends-flushed, AppendsShort-flushed, AppendsShort-passed, AppendsShort-more, AppendsShort-same, Appends-same}}
-use Rattle.long_trace.{specs.Texts.{bin_line, frequencies_text, above, before_line, above_line}, proofs.Ends.{end-same, end-front}}
+use Rattle.std.{proofs.Common.{◌≡◌, ◌∙◌, ◌++◌, ℕ, [], List, ap, arith, rules}, specs.declared.option.Option.Option, proofs.lemmas.Result.{err_from_is_err_and, on_ok_weaker, on_err_weaker}}
+use Rattle.bench_io.{specs.Sinks.{AppendsShort}, proofs.Bytes.{Appends-flushed, AppendsShort-flushed}}
+use Rattle.long_trace.{specs.Texts.{bin_line, frequencies_text, above, before_line, above_line}, proofs.Ends.{first-cut, two-cut, end-put, end-front}}
 use Rattle.long_trace.proofs.ending.put_end.Goals as goal
 
 -- what was put is what was to be put
-put-as : (a b : Option (List ℕ)) (held first line now : List ℕ) → held ≡ [] → line ≡ first → PassesOn a b (held ++ line) now → PassesOn a b first now
-put-as a b held first line now none is put = rw (none, is) at put
-
 short-as : (a b : Option (List ℕ)) (held first line : List ℕ) → held ≡ [] → line ≡ first → AppendsShort a b (held ++ line) → AppendsShort a b first
 short-as a b held first line none is cut = rw (none, is) at cut
 
@@ -16,65 +13,32 @@ returns-in_err-put-clause-short g c = search (rules, arith, err_from_is_err_and,
 pub returns-in_err-put_frequencies-clause-short : goal.returns-in_err-put_frequencies-clause-short
 returns-in_err-put_frequencies-clause-short g c =
     let newest = c.args.newest.now in
-    let last = bin_line newest.bin.index newest.count in
-    let before = before_line c.args.before in
-    let put = put-as _ _ c.new-block.result (last ++ before) c.as_slice.result.now _ c.new-block.ensures
-    (c.as_slice.ensures.value ∙ c.last_lines.ensures) c.in_ok-put.ensures.all in
     let e = err_from_is_err_and c.from_residual-in_err-put_frequencies.result c.from_residual-in_err-put_frequencies.ensures.1 in
-    rw e.1 (λ all is many.
-    AppendsShort-same _ _ _ _ (end-same last before (frequencies_text all) (above_line (above all)))
-    (AppendsShort-more _ _ ((last ++ before) ++ frequencies_text all) (above_line (above all))
-    (AppendsShort-passed _ _ _ (last ++ before) c.put.new.self (frequencies_text all) put (c.in_err-put_frequencies.ensures.short all is))))
+    rw e.1 (λ all is many. first-cut _ _ _ c.new-block.result c.as_slice.result.now (bin_line newest.bin.index newest.count) (before_line c.args.before) (frequencies_text all) c.put.new.self [] c.new-block.ensures
+    (c.as_slice.ensures.value ∙ c.last_lines.ensures) c.in_ok-put.ensures.all (above_line (above all)) (c.in_err-put_frequencies.ensures.short all is))
 
 pub returns-in_err-put-2-clause-short : goal.returns-in_err-put-2-clause-short
 returns-in_err-put-2-clause-short g c =
     let newest = c.args.newest.now in
-    let last = bin_line newest.bin.index newest.count in
-    let before = before_line c.args.before in
-    let put = put-as _ _ c.new-block.result (last ++ before) c.as_slice.result.now _ c.new-block.ensures
-    (c.as_slice.ensures.value ∙ c.last_lines.ensures) c.in_ok-put.ensures.all in
     let e = err_from_is_err_and c.from_residual-in_err-put-2.result c.from_residual-in_err-put-2.ensures.1 in
-    rw e.1 (λ all is many.
-    let line : c.as_slice-2.result.now ≡ above_line (above all) = c.as_slice-2.ensures.value ∙ c.above_line.ensures ∙ ap above_line many in
-    AppendsShort-same _ _ _ _
-    (ap (λ l. ((last ++ before) ++ frequencies_text all) ++ l) line ∙ end-same last before (frequencies_text all) (above_line (above all)))
-    (AppendsShort-passed _ _ _ ((last ++ before) ++ frequencies_text all) c.put_frequencies.new.block c.as_slice-2.result.now
-    (PassesOn-trans _ _ _ (last ++ before) c.put.new.self (frequencies_text all) c.put_frequencies.new.block put (c.in_ok-put_frequencies.ensures.all all is))
-    c.in_err-put-2.ensures.short))
+    rw e.1 (λ all is many. two-cut _ _ _ c.new-block.result c.as_slice.result.now (bin_line newest.bin.index newest.count) (before_line c.args.before) (frequencies_text all) c.put.new.self c.put_frequencies.new.block c.new-block.ensures
+    (c.as_slice.ensures.value ∙ c.last_lines.ensures) c.in_ok-put.ensures.all _ (above_line (above all)) c.as_slice-2.result.now (c.in_ok-put_frequencies.ensures.all all is)
+    (c.as_slice-2.ensures.value ∙ c.above_line.ensures ∙ ap above_line many) c.in_err-put-2.ensures.short)
 
 pub returns-clause-all : goal.returns-clause-all
 returns-clause-all g c =
     let newest = c.args.newest.now in
-    let last = bin_line newest.bin.index newest.count in
-    let before = before_line c.args.before in
-    let put = put-as _ _ c.new-block.result (last ++ before) c.as_slice.result.now _ c.new-block.ensures
-    (c.as_slice.ensures.value ∙ c.last_lines.ensures) c.in_ok-put.ensures.all in
     on_ok_weaker c.flush.result
-    (λ flushed. λ all is many.
-    let line : c.as_slice-2.result.now ≡ above_line (above all) = c.as_slice-2.ensures.value ∙ c.above_line.ensures ∙ ap above_line many in
-    Appends-same _ _ _ _ (ap (λ l. ((last ++ before) ++ frequencies_text all) ++ l) line ∙ end-same last before (frequencies_text all) (above_line (above all)))
-    (Appends-flushed _ _ _ _ c.put-2.new.self
-    (PassesOn-trans _ _ _ ((last ++ before) ++ frequencies_text all) c.put_frequencies.new.block c.as_slice-2.result.now c.put-2.new.self
-    (PassesOn-trans _ _ _ (last ++ before) c.put.new.self (frequencies_text all) c.put_frequencies.new.block put (c.in_ok-put_frequencies.ensures.all all is))
-    c.in_ok-put-2.ensures.all)
-    flushed))
-    c.flush.ensures.all
+    (λ flushed. λ all is many. Appends-flushed _ _ _ _ c.put-2.new.self
+    (end-put _ _ _ c.new-block.result c.as_slice.result.now (bin_line newest.bin.index newest.count) (before_line c.args.before) (frequencies_text all) c.put.new.self c.put_frequencies.new.block c.new-block.ensures
+    (c.as_slice.ensures.value ∙ c.last_lines.ensures) c.in_ok-put.ensures.all _ (above_line (above all)) c.as_slice-2.result.now (c.in_ok-put_frequencies.ensures.all all is)
+    (c.as_slice-2.ensures.value ∙ c.above_line.ensures ∙ ap above_line many) c.put-2.new.self c.in_ok-put-2.ensures.all) flushed) c.flush.ensures.all
 
 pub returns-clause-short : goal.returns-clause-short
 returns-clause-short g c =
     let newest = c.args.newest.now in
-    let last = bin_line newest.bin.index newest.count in
-    let before = before_line c.args.before in
-    let put = put-as _ _ c.new-block.result (last ++ before) c.as_slice.result.now _ c.new-block.ensures
-    (c.as_slice.ensures.value ∙ c.last_lines.ensures) c.in_ok-put.ensures.all in
     on_err_weaker c.flush.result
-    (λ cut. λ all is many.
-    let line : c.as_slice-2.result.now ≡ above_line (above all) = c.as_slice-2.ensures.value ∙ c.above_line.ensures ∙ ap above_line many in
-    AppendsShort-same _ _ _ _
-    (ap (λ l. ((last ++ before) ++ frequencies_text all) ++ l) line ∙ end-same last before (frequencies_text all) (above_line (above all)))
-    (AppendsShort-flushed _ _ _ _ c.put-2.new.self
-    (PassesOn-trans _ _ _ ((last ++ before) ++ frequencies_text all) c.put_frequencies.new.block c.as_slice-2.result.now c.put-2.new.self
-    (PassesOn-trans _ _ _ (last ++ before) c.put.new.self (frequencies_text all) c.put_frequencies.new.block put (c.in_ok-put_frequencies.ensures.all all is))
-    c.in_ok-put-2.ensures.all)
-    cut))
-    c.flush.ensures.short
+    (λ cut. λ all is many. AppendsShort-flushed _ _ _ _ c.put-2.new.self
+    (end-put _ _ _ c.new-block.result c.as_slice.result.now (bin_line newest.bin.index newest.count) (before_line c.args.before) (frequencies_text all) c.put.new.self c.put_frequencies.new.block c.new-block.ensures
+    (c.as_slice.ensures.value ∙ c.last_lines.ensures) c.in_ok-put.ensures.all _ (above_line (above all)) c.as_slice-2.result.now (c.in_ok-put_frequencies.ensures.all all is)
+    (c.as_slice-2.ensures.value ∙ c.above_line.ensures ∙ ap above_line many) c.put-2.new.self c.in_ok-put-2.ensures.all) cut) c.flush.ensures.short

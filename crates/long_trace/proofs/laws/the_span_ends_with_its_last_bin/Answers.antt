@@ -1,4 +1,4 @@
-use Rattle.std.{proofs.Common.{◌≡◌, ◌∙◌, refl, ℕ, ◌-◌, ◌<◌, ◌≤◌, true, false, [], ◌∷◌, ◌++◌, arith, append-nil, append_assoc, inl, inr}, proofs.lemmas.Bool.{cases_Bool, cases_lt}}
+use Rattle.std.{proofs.Common.{◌≡◌, ◌∙◌, refl, ℕ, ◌-◌, ◌<◌, ◌≤◌, true, false, [], ◌∷◌, ◌++◌, arith, rules, append-nil, append_assoc, inl, inr}, proofs.lemmas.Bool.{cases_Bool, cases_lt}}
 use Rattle.tally_base.{specs.declared.event.Event.Event, specs.Settings.TraceView, specs.Tally.History}
 use Rattle.count_trace.specs.TraceCounts.{in_trace_bin}
 use Rattle.long_trace.{specs.Texts.{is_binned, bin_at, span}, proofs.Steps.{bin-push, bin-none, bin-here, bin-other, span-push}}
@@ -25,9 +25,7 @@ one-more set h x inside is =
         | inl before ↦
             let same : span set (h ++ x ∷ []) ≡ span set h = omega (arith, new, before) in
             rw same (omega (arith, bin-push set (span set h - 1) h x true inside, is.last (omega (arith, before))))
-        | inr past ↦
-            let same : span set (h ++ x ∷ []) - 1 ≡ bin_at set x.0.time = omega (arith, new, past) in
-            rw same (omega (arith, bin-here set (bin_at set x.0.time) h x inside refl))
+        | inr past ↦ search (rules, arith, bin-here)
       ];
       behind = λ bin past. bin-other set bin h x inside (λ at. omega (arith, new, past, at)) ∙ is.behind bin (omega (arith, new, past));
     }

@@ -1,4 +1,4 @@
-use Rattle.std.{proofs.Common.{◌≡◌, ◌+◌, ◌<◌, ◌≤◌, ℕ, Bool, true, false, length, sym, rules, arith, if◌then◌else◌, ◌∙◌, List, [], ◌∷◌, ◌++◌, ap, refl, get_or, set, append-nil, ◌⊎◌, inr, slice_index}, specs.List.filter, proofs.lemmas.Grind.common_steps, proofs.lemmas.List.get_or-set_same, proofs.lemmas.List.Elements.filter-append}
+use Rattle.std.{proofs.Common.{◌≡◌, ◌+◌, ◌<◌, ◌≤◌, ℕ, Bool, true, false, length, sym, rules, arith, if◌then◌else◌, ◌∙◌, List, [], ◌∷◌, ◌++◌, ap, refl, get_or, set, append-nil, slice_index}, specs.List.filter, proofs.lemmas.Grind.common_steps, proofs.lemmas.List.get_or-set_same, proofs.lemmas.List.Elements.filter-append}
 use Rattle.tally_base.{specs.Columns.{event_at, rows}, specs.Events.is_in, specs.declared.event.Event.Event, specs.declared.event.EventKind.EventKind, specs.declared.event.EventKind.TheVariants.{Photon, Marker}, specs.declared.block.Block.Block, proofs.BlockRows.{same-rows, more_rows}}
 use Rattle.gate_plan.{specs.Groups.sorting_of, specs.Shifting.Sorting, specs.Taking.groups_in, proofs.Parts.of_shifted_marker}
 use Rattle.photon_pick.{specs.Chosen.is_chosen, specs.Giving.events_at}
@@ -20,9 +20,6 @@ other xs n k v lt = grind (arith, common_steps)
 before : (b : Block 1024) (places : List ℕ) (n at : ℕ) → events_at b (set places n at) n ≡ events_at b places n
 before b places n at = search (rules, arith, same-rows, other)
 
-one-more : (p : Event → Bool) (xs : List Event) (e : Event) → filter p (xs ++ e ∷ []) ≡ filter p xs ++ filter p (e ∷ [])
-one-more p xs e = filter-append p xs (e ∷ [])
-
 chosen-more : (p : Event → Bool) (b : Block 1024) (places : List ℕ) (n at : ℕ) (test : Bool)
     → n < length places → events_at b places n ≡ filter p (rows (event_at b) at) → p (event_at b at) ≡ test
     → events_at b (set places n at) (n + (if test then 1 else 0)) ≡ filter p (rows (event_at b) (at + 1))
@@ -31,12 +28,8 @@ chosen-more p b places n at true inside are is =
     let kept : filter p (event_at b at ∷ []) ≡ event_at b at ∷ [] = rw is refl in
     more_rows (λ k. event_at b (slice_index (set places n at) k)) n ∙ ap (λ e. events_at b (set places n at) n ++ e ∷ []) here
     ∙ ap (λ l. l ++ event_at b at ∷ []) (before b places n at ∙ are)
-    ∙ sym (ap (filter p) (more_rows (event_at b) at) ∙ one-more p (rows (event_at b) at) (event_at b at) ∙ ap (λ l. filter p (rows (event_at b) at) ++ l) kept)
-chosen-more p b places n at false inside are is = search (rules, arith, before, more_rows, one-more, append-nil)
-
-last_or : (k n : ℕ) (test : Bool) → k < n + (if test then 1 else 0) → (k ≡ n) ⊎ (k < n)
-last_or k n true lt = grind (arith, lt)
-last_or k n false lt = inr (omega (arith, lt))
+    ∙ sym (ap (filter p) (more_rows (event_at b) at) ∙ filter-append p (rows (event_at b) at) (event_at b at ∷ []) ∙ ap (λ l. filter p (rows (event_at b) at) ++ l) kept)
+chosen-more p b places n at false inside are is = search (rules, arith, before, more_rows, filter-append, append-nil)
 
 inside-more : (places : List ℕ) (n at : ℕ) (test : Bool) → n < length places → ((k : ℕ) → k < n → slice_index places k < at)
     → (k : ℕ) → k < n + (if test then 1 else 0) → slice_index (set places n at) k < at + 1

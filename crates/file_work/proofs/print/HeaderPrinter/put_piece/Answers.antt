@@ -1,32 +1,27 @@
-use Rattle.std.{proofs.Common.{◌≡◌, ◌^◌, ◌≤◌, ◌++◌, List, ℕ, length, take, sym, ap, ◌∙◌, subst, append_assoc, arith, length-append, ◌+◌, [], Bool, drop, take-append-drop, rules}, proofs.lemmas.List.{length-take, take_all}, proofs.lemmas.Result.err_from_is_err_and, specs.declared.option.Option.Option, proofs.Math.Seq.take-add}
+use Rattle.std.{proofs.Common.{refl, ◌≡◌, ◌^◌, ◌≤◌, ◌++◌, List, ℕ, length, take, sym, ap, ◌∙◌, subst, append_assoc, arith, length-append, ◌+◌, [], Bool, drop, take-append-drop, rules}, proofs.lemmas.List.{length-take, take_all}, proofs.lemmas.Result.err_from_is_err_and, specs.declared.option.Option.Option}
 use Rattle.ptu_definitions.{specs.TagList.{code_in, Item}, specs.Headers.{header_answer, seen, seen_preamble}}
 use Rattle.list_out.{specs.HeaderText.{kind_with, body_text, head_text, bare_end, preamble_lines_of, header_text}, specs.declared.body.BodyText.BodyText, specs.Lines.HasPut, proofs.Final.{header_text-grows, header_text-refused, header_text-done}, proofs.StepTexts.{header_text-same, header_text-preamble, header_text-tag, header_text-body, kind_with-is}}
-use Rattle.command_work.{specs.Outcomes.IsCut, proofs.Pieces.whole-piece}
+use Rattle.command_work.{specs.Outcomes.IsCut, proofs.Pieces.{two-parts, whole-piece}}
 use Rattle.tally_base.{specs.declared.fault.Fault.Fault, specs.declared.header.Header.Header}
 use Rattle.bench_io.{specs.Sinks.{AppendsShort, PassesOn}, proofs.Bytes.{PassesOn-trans, AppendsShort-passed, AppendsShort-more, AppendsShort-same}}
 use Rattle.ptu_tag.{specs.declared.kind.TagKind.TagKind, specs.declared.head.TagHead.TagHead}
 use Rattle.ptu_header.{specs.declared.reader.HeaderReader.HeaderReader, specs.declared.step.HeaderStep.TheVariants.{More, Preamble, Tag, Body, Done, Refused}, specs.ReadHeader.{Steps, bytes_taken}}
-use Rattle.file_work.{specs.BodyPieces.{Prints, PutsHeader, CutsHeader, end_line}, specs.declared.print.HeaderPrinter.HeaderPrinter, proofs.Ends.{no_items, last_item}}
+use Rattle.file_work.{specs.BodyPieces.{Prints, PutsHeader, CutsHeader, end_line}, specs.declared.print.HeaderPrinter.HeaderPrinter, proofs.Ends.{no_items, last_item, PutsMore-next, CutsMore-next}}
 use Rattle.file_work.proofs.print.HeaderPrinter.put_piece.Goals as goal
 
 -- what each step of a header reader does for a printer
 abbrev printer : HeaderReader → BodyText → HeaderPrinter
 printer reader body = record { reader = reader; body = body }
 
--- a first part of a piece, and a part of what is left of it
-parts : (bytes piece left : List ℕ) (used more : ℕ) → left ≡ drop used piece → (bytes ++ take used piece) ++ take more left ≡ bytes ++ take (used + more) piece
-parts bytes piece left used more e = search (rules, arith, append_assoc, take-add)
+-- what a step makes of the part that it took, behind what was taken before
+abbrev TakesPart : HeaderPrinter → List ℕ → ℕ → Option (List ℕ) → Option (List ℕ) → List ℕ → List ℕ → List ℕ → Type 0
+TakesPart new left more b c now later front = (text : List ℕ) × (header_text (front ++ take more left) ≡ header_text front ++ text) × PassesOn b c (now ++ text) later × Prints new (front ++ take more left)
 
 -- more text is put
-PutsHeader-next : (bytes piece left text : List ℕ) (used more : ℕ) (a b c : Option (List ℕ)) (held now later : List ℕ)
-    → left ≡ drop used piece → PutsHeader bytes (take used piece) a b held now
-    → header_text ((bytes ++ take used piece) ++ take more left) ≡ header_text (bytes ++ take used piece) ++ text
-    → PassesOn b c (now ++ text) later → PutsHeader bytes (take (used + more) piece) a c held later
-PutsHeader-next bytes piece left text used more a b c held now later e h grown put = record {
-  added = h.added ++ text;
-  text = ap header_text (sym (parts bytes piece left used more e)) ∙ grown ∙ ap (λ l. l ++ text) h.text ∙ append_assoc (header_text bytes) h.added text;
-  put = rw (← append_assoc held h.added text) (PassesOn-trans a b c (held ++ h.added) now text later h.put put);
-}
+PutsHeader-next : (bytes piece left : List ℕ) (used more : ℕ) (new : HeaderPrinter) (a b c : Option (List ℕ)) (held now later : List ℕ) → left ≡ drop used piece
+    → PutsHeader bytes (take used piece) a b held now → TakesPart new left more b c now later (bytes ++ take used piece) → PutsHeader bytes (take (used + more) piece) a c held later
+PutsHeader-next bytes piece left used more new a b c held now later e h part =
+    PutsMore-next _ _ _ part.0 a b c held now later h (ap header_text (sym (two-parts bytes piece left used more e)) ∙ part.1) part.2
 
 -- more text is cut
 CutsHeader-next : (bytes piece left text : List ℕ) (used more : ℕ) (a b c : Option (List ℕ)) (held now : List ℕ)
@@ -34,19 +29,13 @@ CutsHeader-next : (bytes piece left text : List ℕ) (used more : ℕ) (a b c : 
     → header_text ((bytes ++ take used piece) ++ take more left) ≡ header_text (bytes ++ take used piece) ++ text
     → AppendsShort b c (now ++ text) → CutsHeader bytes piece a c held
 CutsHeader-next bytes piece left text used more a b c held now e h grown cut =
-    let front = bytes ++ take (used + more) piece in
-    let behind = header_text-grows front (drop (used + more) piece) in
-    let whole : front ++ drop (used + more) piece ≡ bytes ++ piece =
-    append_assoc bytes (take (used + more) piece) (drop (used + more) piece) ∙ ap (λ l. bytes ++ l) (take-append-drop (used + more) piece) in
-    let so_far : header_text front ≡ header_text bytes ++ (h.added ++ text) =
-    ap header_text (sym (parts bytes piece left used more e)) ∙ grown ∙ ap (λ l. l ++ text) h.text ∙ append_assoc (header_text bytes) h.added text in
-    record {
-      added = (h.added ++ text) ++ behind.0;
-      text = ap header_text (sym whole) ∙ behind.1 ∙ ap (λ l. l ++ behind.0) so_far ∙ append_assoc (header_text bytes) (h.added ++ text) behind.0;
-      cut = AppendsShort-same a c _ _ (append_assoc held (h.added ++ text) behind.0)
-          (AppendsShort-more a c (held ++ (h.added ++ text)) behind.0
-          (AppendsShort-same a c _ _ (append_assoc held h.added text) (AppendsShort-passed a b c (held ++ h.added) now text h.put cut)));
-    }
+    let rest = header_text-grows (bytes ++ take (used + more) piece) (drop (used + more) piece) in
+    CutsMore-next _ _ (header_text (bytes ++ take (used + more) piece)) _ text rest.0 a b c held now h (ap header_text (sym (two-parts bytes piece left used more e)) ∙ grown)
+    (ap header_text (sym (whole-piece bytes piece (drop (used + more) piece) (used + more) refl)) ∙ rest.1) cut
+
+-- the bytes that were taken are as many as the step says
+front-size : (front left : List ℕ) (more : ℕ) → more ≤ length left → length (front ++ take more left) ≡ length front + more
+front-size front left more h = omega (arith, h, length-append front (take more left), length-take more left)
 
 -- what is left of the piece adds nothing
 PutsHeader-end : (bytes piece left : List ℕ) (used : ℕ) (a b : Option (List ℕ)) (held now : List ℕ)
@@ -145,56 +134,44 @@ returns-in-More-clause-leaves g c = λ bytes h.
 
 pub returns-in-More-clause-text : goal.returns-in-More-clause-text
 returns-in-More-clause-text g c = λ bytes h.
-    let piece = c.args.piece.now in
     let left = c.split_at.result.1.now in
-    let front = bytes ++ take c.steps.used piece in
+    let front = bytes ++ take c.steps.used c.args.piece.now in
     let p = c.steps.invariant.prints bytes h in
-    let s = c.in-More.ensures.step front p.read in
-    PutsHeader-end bytes piece left c.steps.used _ _ _ _ c.split_at.ensures.back (c.steps.invariant.text bytes h)
-    (text-more front left c.feed.new.self s (omega (arith, p.taken, c.in-More.ensures.room, c.in-More.ensures.limit, length-append front left)))
+    PutsHeader-end bytes c.args.piece.now left c.steps.used _ _ _ _ c.split_at.ensures.back (c.steps.invariant.text bytes h)
+    (text-more front left c.feed.new.self (c.in-More.ensures.step front p.read) (omega (arith, p.taken, c.in-More.ensures.room, c.in-More.ensures.limit, length-append front left)))
 
 pub returns-in_err-put-in-Preamble-clause-short : goal.returns-in_err-put-in-Preamble-clause-short
 returns-in_err-put-in-Preamble-clause-short g c =
     let e = err_from_is_err_and c.from_residual.result c.from_residual.ensures.1 in
     rw e.1 (λ bytes h.
-    let piece = c.args.piece.now in
     let left = c.split_at.result.1.now in
     let more = c.in-Preamble.more in
-    let front = bytes ++ take c.steps.used piece in
+    let front = bytes ++ take c.steps.used c.args.piece.now in
     let p = c.steps.invariant.prints bytes h in
     let s = c.in-Preamble.ensures.step front p.read in
-    CutsHeader-next bytes piece left _ c.steps.used more _ _ _ c.args.block.now c.steps.block c.split_at.ensures.back (c.steps.invariant.text bytes h)
-    (text-preamble front left c.in-Preamble.magic c.in-Preamble.version more c.feed.new.self s (omega (arith, p.taken, s.0.0, c.in-Preamble.ensures.room.1, c.in-Preamble.ensures.limit, length-append front (take more left), length-take more left)))
+    CutsHeader-next bytes c.args.piece.now left _ c.steps.used more _ _ _ c.args.block.now c.steps.block c.split_at.ensures.back (c.steps.invariant.text bytes h)
+    (text-preamble front left c.in-Preamble.magic c.in-Preamble.version more c.feed.new.self s (omega (arith, p.taken, front-size front left more s.0.0, c.in-Preamble.ensures.room.1, c.in-Preamble.ensures.limit)))
     (rw (c.as_slice.ensures.value, c.preamble_lines.ensures) at c.in_err-put-in-Preamble.ensures.short))
 
 pub steps-preserved-in-Preamble : goal.steps-preserved-in-Preamble
 steps-preserved-in-Preamble g c =
-    let piece = c.args.piece.now in
     let left = c.split_at.result.1.now in
     let more = c.in-Preamble.more in
-    let reader = c.feed.new.self in
-    let body = c.steps.self.body in
-    let fits : (front : List ℕ) → Prints c.steps.self front → length (front ++ take more left) ≤ 2 ^ 24 = λ front p.
+    let new = printer c.feed.new.self c.steps.self.body in
+    let goes : (front : List ℕ) → Prints c.steps.self front → TakesPart new left more (g.O.Sink.written c.steps.out) (g.O.Sink.written c.put.new.sink) c.steps.block c.put.new.self front = λ front p.
     let s = c.in-Preamble.ensures.step front p.read in
-    omega (arith, p.taken, s.0.0, c.in-Preamble.ensures.room.1, c.in-Preamble.ensures.limit, length-append front (take more left), length-take more left) in
-    let next : (front : List ℕ) → Prints c.steps.self front → Prints (printer reader body) (front ++ take more left) = λ front p.
-    let s = c.in-Preamble.ensures.step front p.read in
-    Prints-preamble front left c.in-Preamble.magic c.in-Preamble.version more reader body s
-    (omega (arith, p.taken, s.0.0, c.in-Preamble.ensures.room.1, length-append front (take more left), length-take more left)) in
+    let size = front-size front left more s.0.0 in (
+      preamble_lines_of c.in-Preamble.magic c.in-Preamble.version,
+      text-preamble front left c.in-Preamble.magic c.in-Preamble.version more c.feed.new.self s (omega (arith, p.taken, size, c.in-Preamble.ensures.room.1, c.in-Preamble.ensures.limit)),
+      rw (c.as_slice.ensures.value, c.preamble_lines.ensures) at c.in_ok-put-in-Preamble.ensures.all,
+      Prints-preamble front left c.in-Preamble.magic c.in-Preamble.version more c.feed.new.self c.steps.self.body s (omega (arith, p.taken, size, c.in-Preamble.ensures.room.1)),
+    ) in
     let first = c.steps.invariant.started in
-    let step = c.in-Preamble.ensures.step first.0 first.1.read in
     record {
-      fits = omega (arith, step.0.0, c.split_at.ensures.back_len, c.steps.invariant.fits);
-      started = (first.0 ++ take more left, next first.0 first.1);
-      prints = λ bytes h. subst (Prints (printer reader body)) (parts bytes piece left c.steps.used more c.split_at.ensures.back)
-          (next (bytes ++ take c.steps.used piece) (c.steps.invariant.prints bytes h));
-      text = λ bytes h.
-          let front = bytes ++ take c.steps.used piece in
-          let p = c.steps.invariant.prints bytes h in
-          PutsHeader-next bytes piece left _ c.steps.used more _ _ _ c.args.block.now c.steps.block c.put.new.self c.split_at.ensures.back
-          (c.steps.invariant.text bytes h)
-          (text-preamble front left c.in-Preamble.magic c.in-Preamble.version more reader (c.in-Preamble.ensures.step front p.read) (fits front p))
-          (rw (c.as_slice.ensures.value, c.preamble_lines.ensures) at c.in_ok-put-in-Preamble.ensures.all);
+      fits = omega (arith, (c.in-Preamble.ensures.step first.0 first.1.read).0.0, c.split_at.ensures.back_len, c.steps.invariant.fits);
+      started = (first.0 ++ take more left, (goes first.0 first.1).3);
+      prints = λ bytes h. subst (Prints new) (two-parts bytes c.args.piece.now left c.steps.used more c.split_at.ensures.back) (goes _ (c.steps.invariant.prints bytes h)).3;
+      text = λ bytes h. PutsHeader-next bytes c.args.piece.now left c.steps.used more _ _ _ _ _ _ _ c.split_at.ensures.back (c.steps.invariant.text bytes h) (goes _ (c.steps.invariant.prints bytes h));
       taken = omega (arith, c.in-Preamble.ensures.room.1, c.steps.invariant.taken);
       kept = c.in_ok-put-in-Preamble.ensures.cause.kept ∙ c.steps.invariant.kept;
     }
@@ -203,162 +180,125 @@ pub returns-in_err-put-in-Tag-clause-short : goal.returns-in_err-put-in-Tag-clau
 returns-in_err-put-in-Tag-clause-short g c =
     let e = err_from_is_err_and c.from_residual-in_err-put-in-Tag.result c.from_residual-in_err-put-in-Tag.ensures.1 in
     rw e.1 (λ bytes h.
-    let piece = c.args.piece.now in
     let left = c.split_at.result.1.now in
     let more = c.in-Tag.more in
-    let front = bytes ++ take c.steps.used piece in
+    let front = bytes ++ take c.steps.used c.args.piece.now in
     let p = c.steps.invariant.prints bytes h in
     let s = c.in-Tag.ensures.step front p.read in
-    CutsHeader-next bytes piece left _ c.steps.used more _ _ _ c.args.block.now c.steps.block c.split_at.ensures.back (c.steps.invariant.text bytes h)
+    CutsHeader-next bytes c.args.piece.now left _ c.steps.used more _ _ _ c.args.block.now c.steps.block c.split_at.ensures.back (c.steps.invariant.text bytes h)
     (text-tag front left more c.feed.new.self c.in-Tag.tag c.in-Tag.kind s
-    (omega (arith, p.taken, s.0.0, c.in-Tag.ensures.room.1, c.in-Tag.ensures.limit, length-append front (take more left), length-take more left)))
+    (omega (arith, p.taken, front-size front left more s.0.0, c.in-Tag.ensures.room.1, c.in-Tag.ensures.limit)))
     (rw (c.as_slice-in-Tag.ensures.value, c.tag_line.ensures s.2.0 s.2.3 s.2.4) at c.in_err-put-in-Tag.ensures.short))
 
 pub steps-preserved-in-Tag : goal.steps-preserved-in-Tag
 steps-preserved-in-Tag g c =
-    let piece = c.args.piece.now in
     let left = c.split_at.result.1.now in
     let more = c.in-Tag.more in
-    let reader = c.feed.new.self in
-    let body = c.new-self.result in
-    let fits : (front : List ℕ) → Prints c.steps.self front → length (front ++ take more left) ≤ 2 ^ 24 = λ front p.
+    let new = printer c.feed.new.self c.new-self.result in
+    let goes : (front : List ℕ) → Prints c.steps.self front → TakesPart new left more (g.O.Sink.written c.steps.out) (g.O.Sink.written c.put-in-Tag.new.sink) c.steps.block c.put-in-Tag.new.self front = λ front p.
     let s = c.in-Tag.ensures.step front p.read in
-    omega (arith, p.taken, s.0.0, c.in-Tag.ensures.room.1, c.in-Tag.ensures.limit, length-append front (take more left), length-take more left) in
-    let next : (front : List ℕ) → Prints c.steps.self front → Prints (printer reader body) (front ++ take more left) = λ front p.
-    let s = c.in-Tag.ensures.step front p.read in
-    Prints-tag front left more reader c.in-Tag.tag c.in-Tag.kind body s
-    (omega (arith, p.taken, s.0.0, c.in-Tag.ensures.room.1, length-append front (take more left), length-take more left)) c.new-self.ensures in
+    let size = front-size front left more s.0.0 in (
+      head_text c.in-Tag.tag c.in-Tag.kind ++ bare_end s.2.0,
+      text-tag front left more c.feed.new.self c.in-Tag.tag c.in-Tag.kind s (omega (arith, p.taken, size, c.in-Tag.ensures.room.1, c.in-Tag.ensures.limit)),
+      rw (c.as_slice-in-Tag.ensures.value, c.tag_line.ensures s.2.0 s.2.3 s.2.4) at c.in_ok-put-in-Tag.ensures.all,
+      Prints-tag front left more c.feed.new.self c.in-Tag.tag c.in-Tag.kind c.new-self.result s (omega (arith, p.taken, size, c.in-Tag.ensures.room.1)) c.new-self.ensures,
+    ) in
     let first = c.steps.invariant.started in
-    let step = c.in-Tag.ensures.step first.0 first.1.read in
     record {
-      fits = omega (arith, step.0.0, c.split_at.ensures.back_len, c.steps.invariant.fits);
-      started = (first.0 ++ take more left, next first.0 first.1);
-      prints = λ bytes h. subst (Prints (printer reader body)) (parts bytes piece left c.steps.used more c.split_at.ensures.back)
-          (next (bytes ++ take c.steps.used piece) (c.steps.invariant.prints bytes h));
-      text = λ bytes h.
-          let front = bytes ++ take c.steps.used piece in
-          let p = c.steps.invariant.prints bytes h in
-          let s = c.in-Tag.ensures.step front p.read in
-          PutsHeader-next bytes piece left _ c.steps.used more _ _ _ c.args.block.now c.steps.block c.put-in-Tag.new.self c.split_at.ensures.back
-          (c.steps.invariant.text bytes h)
-          (text-tag front left more reader c.in-Tag.tag c.in-Tag.kind s (fits front p))
-          (rw (c.as_slice-in-Tag.ensures.value, c.tag_line.ensures s.2.0 s.2.3 s.2.4) at c.in_ok-put-in-Tag.ensures.all);
+      fits = omega (arith, (c.in-Tag.ensures.step first.0 first.1.read).0.0, c.split_at.ensures.back_len, c.steps.invariant.fits);
+      started = (first.0 ++ take more left, (goes first.0 first.1).3);
+      prints = λ bytes h. subst (Prints new) (two-parts bytes c.args.piece.now left c.steps.used more c.split_at.ensures.back) (goes _ (c.steps.invariant.prints bytes h)).3;
+      text = λ bytes h. PutsHeader-next bytes c.args.piece.now left c.steps.used more _ _ _ _ _ _ _ c.split_at.ensures.back (c.steps.invariant.text bytes h) (goes _ (c.steps.invariant.prints bytes h));
       taken = omega (arith, c.in-Tag.ensures.room.1, c.steps.invariant.taken);
       kept = c.in_ok-put-in-Tag.ensures.cause.kept ∙ c.steps.invariant.kept;
     }
 
 pub returns-in-Done-clause-leaves : goal.returns-in-Done-clause-leaves
 returns-in-Done-clause-leaves g c = λ bytes h.
-    let piece = c.args.piece.now in
     let left = c.split_at.result.1.now in
-    let front = bytes ++ take c.steps.used piece in
-    let p = c.steps.invariant.prints bytes h in
-    let s = c.in-Done.ensures.step front p.read in (
+    let front = bytes ++ take c.steps.used c.args.piece.now in
+    let s = c.in-Done.ensures.step front (c.steps.invariant.prints bytes h).read in (
       c.in-Done.header,
       left,
       λ more.
-          ap (λ l. header_answer (l ++ more)) (sym (whole-piece bytes piece left c.steps.used c.split_at.ensures.back))
+          ap (λ l. header_answer (l ++ more)) (sym (whole-piece bytes c.args.piece.now left c.steps.used c.split_at.ensures.back))
           ∙ ap header_answer (append_assoc front left more) ∙ s.2 (left ++ more),
     )
 
 pub returns-in-Done-clause-text : goal.returns-in-Done-clause-text
 returns-in-Done-clause-text g c = λ bytes h.
-    let piece = c.args.piece.now in
     let left = c.split_at.result.1.now in
-    let front = bytes ++ take c.steps.used piece in
-    let p = c.steps.invariant.prints bytes h in
-    PutsHeader-end bytes piece left c.steps.used _ _ _ _ c.split_at.ensures.back (c.steps.invariant.text bytes h)
-    (text-done front left c.in-Done.used c.in-Done.header c.feed.new.self (c.in-Done.ensures.step front p.read))
+    let front = bytes ++ take c.steps.used c.args.piece.now in
+    PutsHeader-end bytes c.args.piece.now left c.steps.used _ _ _ _ c.split_at.ensures.back (c.steps.invariant.text bytes h)
+    (text-done front left c.in-Done.used c.in-Done.header c.feed.new.self (c.in-Done.ensures.step front (c.steps.invariant.prints bytes h).read))
 
 pub returns-in-Refused-clause-leaves : goal.returns-in-Refused-clause-leaves
 returns-in-Refused-clause-leaves g c = λ bytes h more.
-    let piece = c.args.piece.now in
-    let left = c.split_at.result.1.now in
-    let front = bytes ++ take c.steps.used piece in
-    let p = c.steps.invariant.prints bytes h in
-    let s = c.in-Refused.ensures.step front p.read in
-    ap (λ l. header_answer (l ++ more)) (sym (whole-piece bytes piece left c.steps.used c.split_at.ensures.back)) ∙ s.1 more
+    ap (λ l. header_answer (l ++ more)) (sym (whole-piece bytes c.args.piece.now c.split_at.result.1.now c.steps.used c.split_at.ensures.back))
+    ∙ (c.in-Refused.ensures.step (bytes ++ take c.steps.used c.args.piece.now) (c.steps.invariant.prints bytes h).read).1 more
 
 pub returns-in-Refused-clause-text : goal.returns-in-Refused-clause-text
 returns-in-Refused-clause-text g c = λ bytes h.
-    let piece = c.args.piece.now in
     let left = c.split_at.result.1.now in
-    let front = bytes ++ take c.steps.used piece in
+    let front = bytes ++ take c.steps.used c.args.piece.now in
     let p = c.steps.invariant.prints bytes h in
-    let s = c.in-Refused.ensures.step front p.read in
-    PutsHeader-end bytes piece left c.steps.used _ _ _ _ c.split_at.ensures.back (c.steps.invariant.text bytes h)
-    (text-refused front left c.in-Refused.fault c.feed.new.self s (omega (arith, p.taken, c.in-Refused.ensures.room)) c.in-Refused.ensures.limit)
+    PutsHeader-end bytes c.args.piece.now left c.steps.used _ _ _ _ c.split_at.ensures.back (c.steps.invariant.text bytes h)
+    (text-refused front left c.in-Refused.fault c.feed.new.self (c.in-Refused.ensures.step front p.read) (omega (arith, p.taken, c.in-Refused.ensures.room)) c.in-Refused.ensures.limit)
 
 pub returns-in_err-put_body-in-Body-clause-short : goal.returns-in_err-put_body-in-Body-clause-short
 returns-in_err-put_body-in-Body-clause-short g c =
     let e = err_from_is_err_and c.from_residual-in_err-put_body-in-Body.result c.from_residual-in_err-put_body-in-Body.ensures.1 in
     rw e.1 (λ bytes h.
-    let piece = c.args.piece.now in
     let left = c.split_at.result.1.now in
     let more = c.in-Body.more in
-    let front = bytes ++ take c.steps.used piece in
+    let front = bytes ++ take c.steps.used c.args.piece.now in
     let p = c.steps.invariant.prints bytes h in
     let s = c.in-Body.ensures.step front p.read in
     let body = rw c.split_at-in-Body.ensures.front at
     (c.in_err-put_body-in-Body.ensures.short (kind_with (code_in s.2.tag)) s.2.part (p.body s.2.items s.2.tag s.2.part s.2.before_are)) in
-    CutsHeader-next bytes piece left (body.added ++ end_line c.in-Body.last) c.steps.used more _ _ _ c.args.block.now c.steps.block c.split_at.ensures.back
+    CutsHeader-next bytes c.args.piece.now left (body.added ++ end_line c.in-Body.last) c.steps.used more _ _ _ c.args.block.now c.steps.block c.split_at.ensures.back
     (c.steps.invariant.text bytes h)
-    (text-body front left body.added more c.in-Body.last c.feed.new.self s (omega
-    (arith, p.taken, s.0.0, c.in-Body.ensures.room.1, c.in-Body.ensures.limit, length-append front (take more left), length-take more left)) body.text)
+    (text-body front left body.added more c.in-Body.last c.feed.new.self s (omega (arith, p.taken, front-size front left more s.0.0, c.in-Body.ensures.room.1, c.in-Body.ensures.limit)) body.text)
     (AppendsShort-body _ _ c.steps.block body.added (end_line c.in-Body.last) body.cut))
 
 pub returns-in_err-put_end-in-Body-clause-short : goal.returns-in_err-put_end-in-Body-clause-short
 returns-in_err-put_end-in-Body-clause-short g c =
     let e = err_from_is_err_and c.from_residual-in_err-put_end-in-Body.result c.from_residual-in_err-put_end-in-Body.ensures.1 in
     rw e.1 (λ bytes h.
-    let piece = c.args.piece.now in
     let left = c.split_at.result.1.now in
     let more = c.in-Body.more in
-    let front = bytes ++ take c.steps.used piece in
+    let front = bytes ++ take c.steps.used c.args.piece.now in
     let p = c.steps.invariant.prints bytes h in
     let s = c.in-Body.ensures.step front p.read in
     let body = rw c.split_at-in-Body.ensures.front at
     (c.in_ok-put_body-in-Body.ensures.all (kind_with (code_in s.2.tag)) s.2.part (p.body s.2.items s.2.tag s.2.part s.2.before_are)) in
-    CutsHeader-next bytes piece left (body.added ++ end_line c.in-Body.last) c.steps.used more _ _ _ c.args.block.now c.steps.block c.split_at.ensures.back
+    CutsHeader-next bytes c.args.piece.now left (body.added ++ end_line c.in-Body.last) c.steps.used more _ _ _ c.args.block.now c.steps.block c.split_at.ensures.back
     (c.steps.invariant.text bytes h)
-    (text-body front left body.added more c.in-Body.last c.feed.new.self s (omega
-    (arith, p.taken, s.0.0, c.in-Body.ensures.room.1, c.in-Body.ensures.limit, length-append front (take more left), length-take more left)) body.text)
+    (text-body front left body.added more c.in-Body.last c.feed.new.self s (omega (arith, p.taken, front-size front left more s.0.0, c.in-Body.ensures.room.1, c.in-Body.ensures.limit)) body.text)
     (AppendsShort-end _ _ _ c.steps.block body.added (end_line c.in-Body.last) c.put_body.new.block body.put c.in_err-put_end-in-Body.ensures.short))
 
 pub steps-preserved : goal.steps-preserved
 steps-preserved g c =
-    let piece = c.args.piece.now in
     let left = c.split_at.result.1.now in
     let more = c.in-Body.more in
-    let reader = c.feed.new.self in
-    let printed = c.put_body.new.text in
-    let fits : (front : List ℕ) → Prints c.steps.self front → length (front ++ take more left) ≤ 2 ^ 24 = λ front p.
+    let new = printer c.feed.new.self c.put_body.new.text in
+    let goes : (front : List ℕ) → Prints c.steps.self front → TakesPart new left more (g.O.Sink.written c.steps.out) (g.O.Sink.written c.put_end.new.out) c.steps.block c.put_end.new.block front = λ front p.
     let s = c.in-Body.ensures.step front p.read in
-    omega (arith, p.taken, s.0.0, c.in-Body.ensures.room.1, c.in-Body.ensures.limit, length-append front (take more left), length-take more left) in
-    let next : (front : List ℕ) → Prints c.steps.self front → Prints (printer reader printed) (front ++ take more left) = λ front p.
-    let s = c.in-Body.ensures.step front p.read in
-    Prints-body front left more c.in-Body.last reader printed s
-    (omega (arith, p.taken, s.0.0, c.in-Body.ensures.room.1, length-append front (take more left), length-take more left))
-    (rw c.split_at-in-Body.ensures.front at
-    (c.in_ok-put_body-in-Body.ensures.taken (kind_with (code_in s.2.tag)) s.2.part (p.body s.2.items s.2.tag s.2.part s.2.before_are))) in
+    let size = front-size front left more s.0.0 in
+    let part = p.body s.2.items s.2.tag s.2.part s.2.before_are in
+    let body = rw c.split_at-in-Body.ensures.front at (c.in_ok-put_body-in-Body.ensures.all (kind_with (code_in s.2.tag)) s.2.part part) in (
+      body.added ++ end_line c.in-Body.last,
+      text-body front left body.added more c.in-Body.last c.feed.new.self s (omega (arith, p.taken, size, c.in-Body.ensures.room.1, c.in-Body.ensures.limit)) body.text,
+      PassesOn-body _ _ _ c.steps.block body.added (end_line c.in-Body.last) c.put_body.new.block c.put_end.new.block body.put c.in_ok-put_end-in-Body.ensures.all,
+      Prints-body front left more c.in-Body.last c.feed.new.self c.put_body.new.text s (omega (arith, p.taken, size, c.in-Body.ensures.room.1))
+          (rw c.split_at-in-Body.ensures.front at (c.in_ok-put_body-in-Body.ensures.taken (kind_with (code_in s.2.tag)) s.2.part part)),
+    ) in
     let first = c.steps.invariant.started in
-    let step = c.in-Body.ensures.step first.0 first.1.read in
     record {
-      fits = omega (arith, step.0.0, c.split_at.ensures.back_len, c.steps.invariant.fits);
-      started = (first.0 ++ take more left, next first.0 first.1);
-      prints = λ bytes h. subst (Prints (printer reader printed)) (parts bytes piece left c.steps.used more c.split_at.ensures.back)
-          (next (bytes ++ take c.steps.used piece) (c.steps.invariant.prints bytes h));
-      text = λ bytes h.
-          let front = bytes ++ take c.steps.used piece in
-          let p = c.steps.invariant.prints bytes h in
-          let s = c.in-Body.ensures.step front p.read in
-          let body = rw c.split_at-in-Body.ensures.front at
-          (c.in_ok-put_body-in-Body.ensures.all (kind_with (code_in s.2.tag)) s.2.part (p.body s.2.items s.2.tag s.2.part s.2.before_are)) in
-          PutsHeader-next bytes piece left (body.added ++ end_line c.in-Body.last) c.steps.used more _ _ _
-          c.args.block.now c.steps.block c.put_end.new.block c.split_at.ensures.back (c.steps.invariant.text bytes h)
-          (text-body front left body.added more c.in-Body.last reader s (fits front p) body.text)
-          (PassesOn-body _ _ _ c.steps.block body.added
-          (end_line c.in-Body.last) c.put_body.new.block c.put_end.new.block body.put c.in_ok-put_end-in-Body.ensures.all);
+      fits = omega (arith, (c.in-Body.ensures.step first.0 first.1.read).0.0, c.split_at.ensures.back_len, c.steps.invariant.fits);
+      started = (first.0 ++ take more left, (goes first.0 first.1).3);
+      prints = λ bytes h. subst (Prints new) (two-parts bytes c.args.piece.now left c.steps.used more c.split_at.ensures.back) (goes _ (c.steps.invariant.prints bytes h)).3;
+      text = λ bytes h. PutsHeader-next bytes c.args.piece.now left c.steps.used more _ _ _ _ _ _ _ c.split_at.ensures.back (c.steps.invariant.text bytes h) (goes _ (c.steps.invariant.prints bytes h));
       taken = omega (arith, c.in-Body.ensures.room.1, c.steps.invariant.taken);
       kept = c.in_ok-put_end-in-Body.ensures.cause.kept ∙ c.in_ok-put_body-in-Body.ensures.cause.kept ∙ c.steps.invariant.kept;
     }

@@ -1,10 +1,11 @@
-use Rattle.std.{proofs.Common.{◌≡◌, ◌∙◌, ◌+◌, true, All, filter, rules, length, ap, sym, subst, refl}, proofs.lemmas.List.Elements.{All-weaker, All-filter, filter_passes}}
+use Rattle.std.{proofs.Common.{◌≡◌, ◌∙◌, true, All, filter, rules, ap, sym, subst, refl, arith}, proofs.lemmas.List.Elements.{All-weaker, All-filter, filter_passes}}
 use Rattle.tally_base.{specs.Events.is_photon, specs.Columns.gathered}
-use Rattle.ptu_definitions.specs.Layouts.{KindFits}
+use Rattle.ptu_definitions.{specs.Layouts.KindFits, proofs.DeliveredLaws.not_marked-false}
 use Rattle.gate_plan.specs.Groups.{sorting_of}
 use Rattle.abs_time.specs.Floors.{orders_markers}
+use Rattle.record_stream.{specs.Blocks.on_time, proofs.Steps.length-on_time, proofs.Gathering.floor_of-block}
 use Rattle.record_write.specs.Picker.{mode_of, last_by}
-use Rattle.photon_pick.{specs.Chosen.is_chosen, specs.Giving.{pen, CanBeGiven, Gave, Stopped}, proofs.Ends.chosen-photon, proofs.BlockTakes.{order-chosen, last-chosen, up_to, Took-block, Refused-block}}
+use Rattle.photon_pick.{specs.Chosen.is_chosen, specs.Giving.{pen_on, CanBeGiven, Gave, Stopped}, proofs.Ends.chosen-photon, proofs.Takes.{order-chosen, last-chosen, up_to, Took-more, Refused-more}}
 use Rattle.photon_pick.proofs.taker.PicksEventTaker.take_block.Goals as goal
 
 pub give_photons-given-requires-clause-can : goal.give_photons-given-requires-clause-can
@@ -13,7 +14,6 @@ give_photons-given-requires-clause-can g c =
     let es = gathered c.args.block.now in
     let p = is_chosen (sorting_of t.gates.now) t.group in
     let mode = mode_of t.picker.now in
-    let low = last_by t.picker.now in
     let all : All (λ e. is_photon e ≡ true) (filter p es) =
     All-weaker (λ e. p e ≡ true) (λ e. is_photon e ≡ true) (λ e is. chosen-photon (sorting_of t.gates.now) t.group e is) _ (filter_passes p es) in
     let fits : All (λ e. KindFits mode e.kind) es = subst (λ m. All (λ e. KindFits m e.kind) es) (sym t.of_mode) c.requires.fit in
@@ -21,7 +21,7 @@ give_photons-given-requires-clause-can g c =
       going = t.going (search rules);
       are_photons = all;
       fit = All-filter p (λ e. KindFits mode e.kind) es fits;
-      in_order = (order-chosen p (chosen-photon (sorting_of t.gates.now) t.group) (orders_markers t.mode) low t.floor es t.before c.requires.in_order).0;
+      in_order = (order-chosen (sorting_of t.gates.now) t.group (orders_markers t.mode) (last_by t.picker.now) t.floor es t.before c.requires.in_order).0;
     })
 
 pub invariant_of-self-in_default-clause-of_mode : goal.invariant_of-self-in_default-clause-of_mode
@@ -30,10 +30,7 @@ invariant_of-self-in_default-clause-of_mode g c = c.give_photons-given.ensures.s
 pub invariant_of-self-in_default-clause-before : goal.invariant_of-self-in_default-clause-before
 invariant_of-self-in_default-clause-before g c =
     let t = c.args.self.now in
-    let p = is_chosen (sorting_of t.gates.now) t.group in
-    let low = last_by t.picker.now in
-    let es = gathered c.args.block.now in
-    last-chosen p (chosen-photon (sorting_of t.gates.now) t.group) (orders_markers t.mode) low t.floor es t.before c.requires.in_order _ _ c.choose-many.ensures.chosen _ c.give_photons-given.ensures.last (rw c.orders_markers.ensures at c.floor_after-self.ensures)
+    last-chosen (sorting_of t.gates.now) t.group (orders_markers t.mode) (last_by t.picker.now) t.floor (gathered c.args.block.now) t.before c.requires.in_order _ _ c.choose-many.ensures.chosen _ c.give_photons-given.ensures.last (rw c.orders_markers.ensures at c.floor_after-self.ensures)
 
 pub invariant_of-self-in-Err-clause-of_mode : goal.invariant_of-self-in-Err-clause-of_mode
 invariant_of-self-in-Err-clause-of_mode g c = c.give_photons-given.ensures.same_mode ∙ c.args.self.now.of_mode
@@ -41,19 +38,15 @@ invariant_of-self-in-Err-clause-of_mode g c = c.give_photons-given.ensures.same_
 pub invariant_of-self-in-Err-clause-before : goal.invariant_of-self-in-Err-clause-before
 invariant_of-self-in-Err-clause-before g c =
     let t = c.args.self.now in
-    let p = is_chosen (sorting_of t.gates.now) t.group in
-    let low = last_by t.picker.now in
-    let es = gathered c.args.block.now in
-    last-chosen p (chosen-photon (sorting_of t.gates.now) t.group) (orders_markers t.mode) low t.floor es t.before c.requires.in_order _ _ c.choose-many.ensures.chosen _ c.give_photons-given.ensures.last (rw c.orders_markers.ensures at c.floor_after-self.ensures)
+    last-chosen (sorting_of t.gates.now) t.group (orders_markers t.mode) (last_by t.picker.now) t.floor (gathered c.args.block.now) t.before c.requires.in_order _ _ c.choose-many.ensures.chosen _ c.give_photons-given.ensures.last (rw c.orders_markers.ensures at c.floor_after-self.ensures)
 
 pub returns-in-Err-clause-broken : goal.returns-in-Err-clause-broken
 returns-in-Err-clause-broken g c =
     let t = c.args.self.now in
     let p = is_chosen (sorting_of t.gates.now) t.group in
     let es = gathered c.args.block.now in
-    let old = pen t.picker.now (g.O.Sink.written t.out.now) t.block (g.O.Sink.faults t.out.now) in
-    let new = pen c.give_photons-given.new.picker (g.O.Sink.written c.give_photons-given.new.out) c.give_photons-given.new.block
-    (g.O.Sink.faults c.give_photons-given.new.out) in
+    let old = pen_on g.O.Sink t.picker.now t.out.now t.block in
+    let new = pen_on g.O.Sink c.give_photons-given.new.picker c.give_photons-given.new.out c.give_photons-given.new.block in
     let stopped : Stopped old new (filter p es) c.in-Err.fault =
     subst (λ ps. Stopped old new ps c.in-Err.fault) c.choose-many.ensures.chosen c.in-Err.ensures.stopped in
     let up = up_to p es stopped.front stopped.back stopped.e stopped.are in
@@ -62,7 +55,7 @@ returns-in-Err-clause-broken g c =
       back = up.back;
       some = up.some;
       are = up.are;
-      broken = λ start l h none. Refused-block _ _ l h t.of_mode es new c.in-Err.fault stopped up.front up.chosen _ refl refl refl refl;
+      broken = λ start l h none. Refused-more _ _ l h t.of_mode (on_time up.front) (filter p up.front) (ap (filter p) (not_marked-false up.front)) c.in-Err.fault stopped.front stopped.e up.chosen stopped.in_time _ stopped.why refl;
     }
 
 pub returns-clause-follows : goal.returns-clause-follows
@@ -70,9 +63,8 @@ returns-clause-follows g c = λ start l h.
     let t = c.args.self.now in
     let p = is_chosen (sorting_of t.gates.now) t.group in
     let es = gathered c.args.block.now in
-    let old = pen t.picker.now (g.O.Sink.written t.out.now) t.block (g.O.Sink.faults t.out.now) in
-    let new = pen c.give_photons-given.new.picker (g.O.Sink.written c.give_photons-given.new.out) c.give_photons-given.new.block
-    (g.O.Sink.faults c.give_photons-given.new.out) in
+    let old = pen_on g.O.Sink t.picker.now t.out.now t.block in
+    let new = pen_on g.O.Sink c.give_photons-given.new.picker c.give_photons-given.new.out c.give_photons-given.new.block in
     let gave : Gave old new (filter p es) = subst (λ ps. Gave old new ps) c.choose-many.ensures.chosen c.in_default.ensures.gave in
-    let counted : t.taken + c.len-2.result ≡ t.taken + length es = ap (λ n. t.taken + n) c.len-2.ensures.value in
-    Took-block _ _ l h t.of_mode es new _ _ gave c.requires.in_order counted (rw c.orders_markers.ensures at c.floor_after-self.ensures)
+    Took-more _ _ l h t.of_mode (on_time es) (filter p es) (ap (filter p) (not_marked-false es)) new _ _ gave.in_time gave.picked gave.text gave.kept (omega (arith, c.len-2.ensures.value, length-on_time es))
+    (rw c.orders_markers.ensures at c.floor_after-self.ensures ∙ floor_of-block t.mode l es _ t.floor (rw h.same_mode h.moved) c.requires.in_order)
