@@ -17,7 +17,9 @@ import subprocess
 import sys
 import tempfile
 import time
+from collections.abc import Iterator
 from pathlib import Path
+from typing import Any
 
 ROOT = Path(__file__).resolve().parent.parent
 sys.path[:0] = [str(ROOT / "python" / "src"), str(ROOT / "examples")]
@@ -60,7 +62,7 @@ PartitionName=all Nodes=ALL Default=YES MaxTime=INFINITE State=UP
 """
 
 
-def until(true, what):
+def until(true: Any, what: Any) -> None:
     end = time.monotonic() + PATIENCE
     while not true():
         if time.monotonic() > end:
@@ -69,7 +71,7 @@ def until(true, what):
 
 
 @contextlib.contextmanager
-def queue(folder):
+def queue(folder: Path) -> Iterator[Any]:
     """A queue of one node on the loopback."""
     host = socket.gethostname().split(".")[0]
     (folder / "slurm.conf").write_text(CONFIG.format(folder=folder, host=host))
@@ -96,7 +98,7 @@ def queue(folder):
             one.wait(60)
 
 
-def make_files(folder, program):
+def make_files(folder: Path, program: str) -> None:
     """Eight files, of which the third is cut within a record; and a program that is slow with the sixth."""
     for number in range(8):
         times = [range(7 + number, 400_000, 61), range(11, 400_000, 97 + number)]
@@ -108,13 +110,13 @@ def make_files(folder, program):
     (folder / "slow_ptu").chmod(0o755)
 
 
-def job_of(name):
+def job_of(name: str) -> Any:
     """The number of a job that runs, or nothing."""
     words = ["squeue", "-h", "-r", "-t", "RUNNING", "-o", "%i", f"--name={name}"]
     return subprocess.run(words, capture_output=True, text=True, check=False).stdout.split()
 
 
-def by_snakemake(folder, wanted):
+def by_snakemake(folder: Path, wanted: Any) -> None:
     """A job for each file, one of which is cancelled."""
     words = ["snakemake", "--profile", str(ROOT / "examples" / "slurm"), "-s", str(ROOT / "examples" / "Snakefile")]
     words += ["--config", f"data={folder}", f"plan={folder}/plan.toml", f"ptu={folder}/slow_ptu", f"out={folder}/counts", "group=1"]
@@ -134,10 +136,10 @@ def by_snakemake(folder, wanted):
     print(f"8 files by {jobs} jobs in {time.monotonic() - begin:.0f} s: job {cancelled} was cancelled and counted again,")
 
 
-def by_array(folder, wanted):
+def by_array(folder: Path, wanted: Any) -> None:
     """Four jobs of an array, one of which is put back into the queue."""
     (folder / "list").write_text("".join(f"{folder}/{number}.ptu\n" for number in range(8)))
-    words = [ROOT / "examples" / "slurm" / "array.sh", folder / "plan.toml", folder / "list", folder / "out", "4", folder / "slow_ptu"]
+    words: list[str | Path] = [ROOT / "examples" / "slurm" / "array.sh", folder / "plan.toml", folder / "list", folder / "out", "4", folder / "slow_ptu"]
     surroundings = os.environ | {"PTULAB": f"{sys.executable} -m ptulab", "PYTHONPATH": str(ROOT / "python" / "src")}
     begin = time.monotonic()
     subprocess.run(words, check=True, env=surroundings, stdout=subprocess.DEVNULL)
@@ -149,7 +151,7 @@ def by_array(folder, wanted):
     print(f"8 files by an array of 4 jobs in {time.monotonic() - begin:.0f} s, which includes the wait for a job that was put back: {put_back},")
 
 
-def main():
+def main() -> None:
     program = os.path.abspath(sys.argv[1])
     for name in ("munged", "slurmctld", "slurmd", "sbatch", "snakemake"):
         if not shutil.which(name):

@@ -294,6 +294,10 @@ def test_an_array_of_jobs(tmp_path: Path) -> None:
         assert (tmp_path / "out" / "sum.txt").read_text() == script("add_reports.py", *paths).stdout
     assert "--dependency=afterany:7 " in (tmp_path / "asked").read_text()
     assert "none.ptu: not added: No such file" in "".join(path.read_text() for path in (tmp_path / "out" / "parts").glob("*.left"))
+    (tmp_path / "1.ptu").unlink()  # the only one of its job
+    assert subprocess.run(words, capture_output=True, env=surroundings, check=False).returncode == 0
+    assert (tmp_path / "out" / "sum.txt").read_text() == script("add_reports.py", paths[0], paths[2]).stdout
+    assert "parts/1.sum: not added: No such file" in (tmp_path / "out" / "sum.left").read_text()
     (tmp_path / "plan.toml").write_text("version = 2\n")
     assert subprocess.run(words, capture_output=True, env=surroundings, check=False).returncode == 1
 

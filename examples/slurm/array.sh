@@ -15,15 +15,16 @@ fi
 cp "$plan" "$out/plan.toml"
 cp "$list" "$out/files"
 : > "$out/sums"
-for job in $(seq 0 $((jobs - 1))); do echo "$out/parts/$job.txt" >> "$out/sums"; done
+for job in $(seq 0 $((jobs - 1))); do echo "$out/parts/$job.sum" >> "$out/sums"; done
 
-# 3 and 4 say that files were left, which is no fault of the job
+# 3 and 4 say that files were left, which is no fault of the job; what an earlier job had counted is added only once this one ended well
 cat > "$out/count.sh" <<END
 #!/bin/sh
-n=\$SLURM_ARRAY_TASK_ID
-exec_() { "\$@" || case \$? in 3 | 4) ;; *) exit 1 ;; esac; }
-exec_ $ptulab count '$out/plan.toml' --from '$out/files' --share "\$n/$jobs" --processes "\${SLURM_CPUS_PER_TASK:-1}" \\
-    --program '$program' --left "$out/parts/\$n.left" -o "$out/parts/\$n.txt"
+part='$out/parts/'\$SLURM_ARRAY_TASK_ID
+rm -f "\$part.sum"
+$ptulab count '$out/plan.toml' --from '$out/files' --share "\$SLURM_ARRAY_TASK_ID/$jobs" --processes "\${SLURM_CPUS_PER_TASK:-1}" \\
+    --program '$program' --left "\$part.left" -o "\$part.txt" || case \$? in 3) ;; 4) exit 0 ;; *) exit 1 ;; esac
+ln "\$part.txt" "\$part.sum"
 END
 cat > "$out/sum.sh" <<END
 #!/bin/sh

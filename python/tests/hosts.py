@@ -4,6 +4,8 @@ It needs root, ``ip`` and ``unshare``. A host is killed by ending all processes 
 """
 
 import contextlib
+import itertools
+import json
 import os
 import shutil
 import signal
@@ -12,11 +14,28 @@ import sys
 import time
 from collections.abc import Callable, Iterator
 from pathlib import Path
-from typing import Any
+from typing import Any, AnyStr
 
 import ptulab
 
 PACKAGE = str(Path(ptulab.__file__).parents[1])
+SOON = """
+import sys
+from ptulab import _hand_out
+from ptulab.__main__ import main
+_hand_out.COLLECT, _hand_out.HOLD = 0.3, 0.1
+sys.exit(main())
+"""
+ASKED = """
+import json
+import sys
+from distributed import Client
+for line in sys.stdin:
+    with Client(line.strip(), timeout=60) as client:
+        tasks = client.run_on_scheduler(lambda dask_scheduler: list(dask_scheduler.tasks))
+        print(json.dumps([len(client.scheduler_info()["workers"]), tasks]), flush=True)
+"""
+signal.signal(signal.SIGINT, signal.default_int_handler)  # for what is started here, where a shell let it be ignored
 QUIET: dict[str, Any] = {"stdout": subprocess.DEVNULL, "stderr": subprocess.DEVNULL, "stdin": subprocess.DEVNULL}
 
 
@@ -37,16 +56,28 @@ def ip(*words: str) -> None:
 
 
 def seconds(number: float) -> float:
-    """So many on a machine with nothing else to do, and more where several processes wait for each processor."""
-    return number * max(1.0, os.getloadavg()[0] / (os.cpu_count() or 1))
+    """So many on a machine with little else to do, and more where processes wait for their processors, as this one now does."""
+    began, used = time.monotonic(), time.thread_time()
+    while (took := time.thread_time() - used) < 0.02:
+        pass
+    return number * max(1.0, 2 * (time.monotonic() - began) / took - 1, 2 * os.getloadavg()[0] / (os.cpu_count() or 1))
 
 
 def until(true: Callable[[], object], what: str, patience: float = 60) -> None:
-    """Waits until something is so, on an idle machine for ``patience`` seconds at most."""
-    end = time.monotonic() + seconds(patience)
+    """Waits until something is so, on an idle machine for ``patience`` seconds at most; how idle it is is asked at the end too."""
+    began = time.monotonic()
+    end = began + seconds(patience)
     while not true():
-        assert time.monotonic() < end, f"waited too long for {what}"
+        if time.monotonic() > end:
+            end = began + seconds(patience)
+            assert time.monotonic() < end or true(), f"waited too long for {what}"
         time.sleep(0.05)
+
+
+def end_of(running: subprocess.Popen[AnyStr], patience: float = 60) -> tuple[AnyStr, AnyStr]:
+    """Waits for the end of a command that prints little, and gives what it printed."""
+    until(lambda: running.poll() is not None, "the end of a command", patience)
+    return running.communicate(timeout=seconds(10))
 
 
 class Host:
@@ -96,6 +127,28 @@ class Host:
         ip("-n", self.network.space, "link", "set", self.link, state)
 
 
+def memory(process: int, what: str = "VmRSS") -> int:
+    """The MiB that a process has, or of ``VmHWM`` the most that it had; 0 where it is no more."""
+    with contextlib.suppress(OSError, StopIteration):
+        lines = Path(f"/proc/{process}/status").read_text("utf-8").splitlines()
+        return next(int(line.split()[1]) >> 10 for line in lines if line.startswith(what))
+    return 0
+
+
+def children_of(process: int) -> list[int]:
+    """The processes that the first thread of one began."""
+    with contextlib.suppress(OSError):
+        return [int(word) for word in Path(f"/proc/{process}/task/{process}/children").read_text("utf-8").split()]
+    return []
+
+
+def has_words(process: int, words: bytes) -> bool:
+    """Whether these stand in the command line of a process."""
+    with contextlib.suppress(OSError):
+        return words in Path(f"/proc/{process}/cmdline").read_bytes()
+    return False
+
+
 def is_alive(process: int) -> bool:
     """Whether a process is more than a status that nobody has asked for."""
     try:
@@ -112,8 +165,10 @@ def surroundings(**more: str) -> dict[str, str]:
 class Network:
     """A bridge, and the hosts on it."""
 
+    numbers = itertools.count()
+
     def __init__(self) -> None:
-        self.space = f"ptulab-{os.getpid()}"
+        self.space = f"ptulab-{os.getpid()}-{next(self.numbers)}"
         self.hosts: dict[str, Host] = {}
         ip("netns", "add", self.space)
         ip("-n", self.space, "link", "add", "bridge", "type", "bridge")
@@ -144,6 +199,7 @@ class Cluster:
         self.client, self.boss = self.network.host("client"), self.network.host("boss")
         self.scheduler = f"tcp://{self.boss.address}:8786"
         self.odd: set[str] = set()  # hosts whose workers are others than `mend` starts
+        self.asked: subprocess.Popen[str] | None = None
 
     def start_scheduler(self) -> None:
         words = [sys.executable, "-m", "distributed.cli.dask_scheduler", "--host", self.boss.address, "--port", "8786", "--no-dashboard"]
@@ -161,6 +217,10 @@ class Cluster:
         with open(self.folder / f"{name}.log", "ab") as log:
             host.start(*command, hidden=hidden, environment=self.environment | environment, cwd=self.folder, stdout=log, stderr=log)
         return host
+
+    def worker(self, name: str) -> int:
+        """The process of a host that counts."""
+        return max(process for process in self.network.host(name).processes() if has_words(process, b"spawn_main"))
 
     def mend(self) -> None:
         """Starts what is missing, and ends what is too much."""
@@ -180,23 +240,25 @@ class Cluster:
         """Whether so many workers are there; one that could not start in time is started anew."""
         if not self.odd:
             self.mend()
-        return self.ask("len(info['workers'])") == str(workers)
+        return self.ask()[0] == workers
 
-    def ask(self, words: str) -> str:
-        """What a line of Python says of the scheduler, with ``info`` as what that tells of itself and ``tasks`` of its tasks."""
-        script = (
-            "import sys; from distributed import Client\n"
-            f"with Client({self.scheduler!r}, timeout=60) as client:\n"
-            "    info = client.scheduler_info(); tasks = client.run_on_scheduler(lambda dask_scheduler: list(dask_scheduler.tasks))\n"
-            f"    print({words})"
-        )
-        asking = self.client.start(sys.executable, "-c", script, environment=self.environment, stdout=subprocess.PIPE, stderr=subprocess.DEVNULL)
-        return asking.communicate(timeout=seconds(60))[0].strip()
+    def ask(self) -> tuple[int, list[str]]:
+        """How many workers the scheduler has, and its tasks, by a process on a host of its own."""
+        if self.asked is None or self.asked.poll() is not None:
+            pipes: dict[str, Any] = {"stdin": subprocess.PIPE, "stdout": subprocess.PIPE, "stderr": subprocess.DEVNULL}
+            self.asked = self.network.host("asker").start(sys.executable, "-c", ASKED, environment=self.environment, **pipes)
+        assert self.asked.stdin is not None and self.asked.stdout is not None
+        with contextlib.suppress(BrokenPipeError):
+            print(self.scheduler, file=self.asked.stdin, flush=True)
+        number, tasks = json.loads(self.asked.stdout.readline() or '[0, ["not known"]]')
+        return number, tasks
 
-    def start(self, *words: object, **more: Any) -> subprocess.Popen[str]:
-        """Starts ``ptulab`` with these words, and the scheduler's address, on the host of the commands."""
-        command = [sys.executable, "-m", "ptulab", *map(str, words), "--scheduler", self.scheduler, "--patience", "10"]
-        return self.client.start(*command, environment=self.environment, stdout=subprocess.PIPE, stderr=subprocess.PIPE, **more)
+    def start(self, name: str, *words: object, soon: bool = False, host: str = "client", **more: Any) -> subprocess.Popen[str]:
+        """Starts a command of ``ptulab`` with these words, and the scheduler's address, on the host of the commands or another;
+        ``soon`` brings sums together several times a second."""
+        command = [sys.executable, *(["-c", SOON] if soon else ["-m", "ptulab"]), name, "--scheduler", self.scheduler, "--patience", f"{seconds(10):.0f}"]
+        on = self.network.host(host)
+        return on.start(*command, *map(str, words), environment=self.environment, stdout=subprocess.PIPE, stderr=subprocess.PIPE, **more)
 
     def close(self) -> None:
         self.network.close()

@@ -17,6 +17,15 @@ def report_of(program: str, plan: Path, file: Path) -> str:
     return subprocess.run([program, "run", plan, file], capture_output=True, text=True, check=True).stdout
 
 
+def cube_report(path: Path, bins: int) -> Path:
+    """A report of a cube of 256 by 256 pixels that has a count on each page of its memory, which is half a MiB for each bin."""
+    cells = range(7, bins << 16, 512)
+    lines = [f"{cell // bins & 255} {cell // bins >> 8} {cell % bins} {cell % 9 + 1}" for cell in cells]
+    head = "type HydraHarp2T3\nannounced -\nglobal -\nresolution -\nrecords 9\nphotons 9\nmarkers 0\nwraps 0\nreserved 0\nlate 0\nfirst 0\nlast 9\n"
+    path.write_text("\n".join([f"{head}cube 1 width 256 height 256 dwell 8 dwidth 4 dbins {bins}", *lines, "outside 0", "over 0\n"]))
+    return path
+
+
 def parts(text: str) -> list[tuple[str, list[tuple[tuple[int, ...], int]], list[tuple[str, int]]]]:
     """The tables: the first line, the cells with their counts, and what is in no cell."""
     found: list[tuple[str, list[tuple[tuple[int, ...], int]], list[tuple[str, int]]]] = []

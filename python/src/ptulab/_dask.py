@@ -14,6 +14,7 @@ import threading
 import time
 from collections import Counter
 from collections.abc import Iterator, Sequence
+from contextlib import suppress
 from dataclasses import dataclass, field
 from typing import Any, NamedTuple
 
@@ -25,7 +26,11 @@ from ._work import HostFails, Work, check, count, free_megabytes
 LOOKS = 1.0  # seconds between two questions for the workers
 LOST = 3  # times that a worker may be lost before it has counted anything
 WAITS = 30.0  # seconds for a small answer
-FAILURES = (Exception, asyncio.CancelledError, concurrent.futures.CancelledError)  # whatever dask or a worker raises
+BRIEF = 1.0  # seconds that are given to a word which isn't needed
+PAIR = 120.0  # seconds for a sum of two on a worker, before each comes by itself
+NO_MORE = ("lost", "cancelled", "error")  # of a future
+CANCELLED = (asyncio.CancelledError, concurrent.futures.CancelledError)
+FAILURES = (Exception, *CANCELLED)  # whatever dask or a worker raises
 USED = 0.8  # the part of its limit at which a worker of dask pauses
 
 
@@ -100,8 +105,9 @@ class _Worker:
 class Dask:
     """A lane is a thread of a worker of dask."""
 
-    def __init__(self, work: Work, program: bytes | None, client: Any) -> None:
+    def __init__(self, work: Work, program: bytes | None, client: Any, patience: float) -> None:
         want("distributed", "many machines")
+        self.patience = max(patience, WAITS)  # seconds in which a worker must be checked, which may have other tasks
         self.events: queue.SimpleQueue[Event] = queue.SimpleQueue()
         self.work, self.program, self.client = work, program, client
         self.workers: dict[str, _Worker] = {}
@@ -148,10 +154,10 @@ class Dask:
             self.lose(address, "the worker that counted it was lost")
         elif worker.checking is not None and worker.checking.status != "pending":
             self.take_check(address, worker)
-        elif worker.checking is not None and time.monotonic() - worker.since > WAITS:
+        elif worker.checking is not None and time.monotonic() - worker.since > self.patience:
             self.drop(worker.checking)
             worker.checking = None
-            self.events.put(Event(lost=f"it did not answer within {WAITS:.0f} s", host=address))
+            self.events.put(Event(lost=f"it did not answer within {self.patience:.0f} s", host=address))
         elif any(self.failed(lane) for lane in worker.lanes):
             self.lose(address, "the worker that counted it lost its values")
 
@@ -159,14 +165,17 @@ class Dask:
         """Whether one of its futures is no more."""
         thread = self.threads[lane]
         futures = [thread.value, *(thread.coming or ())]
-        return thread.is_broken or any(future is not None and future.status in ("lost", "cancelled", "error") for future in futures)
+        return thread.is_broken or any(future is not None and future.status in NO_MORE for future in futures)
 
     def take_check(self, address: str, worker: _Worker) -> None:
         """A worker that is good gets its lanes, and one that isn't is left out."""
         checking, worker.checking = worker.checking, None
         try:
             worker.host, number = checking.result(timeout=WAITS)
-        except FAILURES as error:
+        except (*CANCELLED, TimeoutError):  # as while a link is down
+            self.lose(address, "its check was lost")
+            return
+        except Exception as error:
             said = str(error) if isinstance(error, HostFails) else f"{type(error).__name__}: {error}"
             self.events.put(Event(lost=said, host=address))
             return
@@ -179,9 +188,9 @@ class Dask:
     def lose(self, address: str, why: str) -> None:
         """A worker, or what it had, is no more; one that comes again is checked again."""
         worker = self.workers.pop(address)
+        threads = [self.threads.pop(lane) for lane in worker.lanes]
+        self.drop(*(future for thread in threads for future in (thread.value, *(thread.coming or ()))))
         for lane in worker.lanes:
-            thread = self.threads.pop(lane)
-            self.drop(thread.value, *(thread.coming or ()))
             self.events.put(Event(lane, lost=why))
         self.losses[address] += 1
         if self.losses[address] >= LOST and self.there is not None and address in self.there:
@@ -189,10 +198,17 @@ class Dask:
             self.events.put(Event(lost=f"{why}, {LOST} times", host=address))
 
     def drop(self, *futures: Any) -> None:
-        """Lets the scheduler forget some tasks, which ends those that run."""
+        """Lets the scheduler forget some tasks, which ends those that run. It hears of it later where a link is down."""
         these = [future for future in futures if future is not None]
+
+        def ask() -> None:
+            with suppress(*FAILURES):
+                self.client.cancel(these, force=True, asynchronous=False)
+
         if these and self.client.status == "running":
-            self.client.cancel(these, force=True, asynchronous=False)
+            asking = threading.Thread(target=ask, daemon=True)
+            asking.start()
+            asking.join(BRIEF)
 
     def leave_out(self, host: str) -> None:
         """Gives this host no more files; what it has counted is lost."""
@@ -245,16 +261,19 @@ class Dask:
                 break  # these can't be brought together, so each comes by itself
             del pairs  # and with it what was added up
         for worker, future in values:
-            if (value := self.fetched(worker, future)) is not None:
+            value = self.fetched(worker, future)
+            if value is not None:
                 yield value.part
+            del value  # before the next one comes
         self.drop(*(future for _, future in values))
 
     def is_lost(self, worker: str, future: Any) -> bool:
-        return self.client.status != "running" or worker not in (self.there or ()) or future.status in ("lost", "cancelled", "error")
+        return self.client.status != "running" or worker not in (self.there or ()) or future.status in NO_MORE
 
     def of_pair(self, one: tuple[str, Any], other: tuple[str, Any], future: Any) -> list[tuple[str, Any]]:
         """The sum of two, or those of the two that are still there."""
-        while future.status == "pending" and not self.is_lost(*one) and not self.is_lost(*other):
+        end = time.monotonic() + PAIR
+        while future.status == "pending" and time.monotonic() < end and not self.is_lost(*one) and not self.is_lost(*other):
             time.sleep(0.01)
         if future.status == "finished":
             return [(one[0], future)]

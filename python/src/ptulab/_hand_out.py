@@ -10,12 +10,13 @@ import math
 import queue
 import time
 from collections import Counter, deque
-from collections.abc import Callable, Iterator, Sequence
+from collections.abc import Iterator, Sequence
 from dataclasses import dataclass, field, replace
 from typing import Protocol
 
 from ._manifest import Manifest
 from ._parts import File, Kind, Part
+from ._progress import Progress
 from ._work import OF_PLAN
 from .errors import PtulabError
 from .program import refusal
@@ -82,10 +83,10 @@ class HandOut:
     """Hands out the files at ``paths``, and adds up what is collected into ``whole``."""
 
     patience = 120.0  # seconds without anybody who counts
+    shown = Progress((), False)
 
     def __init__(self, engine: Engine, paths: Sequence[str], whole: Part, kind: Kind | None, manifest: Manifest | None) -> None:
         self.engine, self.paths, self.whole, self.kind, self.manifest = engine, paths, whole, kind, manifest
-        self.settled: Callable[[File], None] = lambda file: None
         self.lanes: list[Lane] = []
         self.waiting = deque(place for place in range(len(paths)) if place not in whole.files)
         self.alone: deque[int] = deque()  # whose lane was lost: each is a chunk by itself
@@ -108,6 +109,7 @@ class HandOut:
                 self.give_up()
                 self.take_events()
                 self.collect_in_time()
+                self.shown.look()
         except Gone as gone:
             self.leave_all(str(gone))
 
@@ -153,7 +155,7 @@ class HandOut:
     def take(self, event: Event) -> None:
         lane = event.lane
         if event.host:
-            self.left_out[event.host] = event.lost
+            self.leave_out(event.host, event.lost)
         elif lane is None:
             return
         elif event.counted is not None:
@@ -201,15 +203,22 @@ class HandOut:
         """A host that often can't read what others can gets no more files."""
         self.strikes[host] += 1
         if self.strikes[host] >= TRIES and self.strikes[host] > self.counted[host] and host not in self.left_out:
-            self.left_out[host] = f"it could not read {self.strikes[host]} files that others could: {why}"
+            self.leave_out(host, f"it could not read {self.strikes[host]} files that others could: {why}")
             self.engine.leave_out(host)
+
+    def leave_out(self, host: str, why: str) -> None:
+        """A host, or a worker, gets no more files."""
+        self.left_out[host] = why
+        self.shown.left_out(host, why)
+        if self.manifest is not None:
+            self.manifest.left_out(host, why)
 
     # ## Files that are settled
 
     def know(self, place: int, file: File) -> None:
         """What came of a file; the first one that was counted says of which kind all are."""
         self.known[place] = file
-        self.settled(file)
+        self.shown.settled(file)
         if self.kind is None:
             for file in map(self.known.get, range(len(self.paths))):  # type: ignore[assignment]
                 if file is None or file.kind is not None:
@@ -233,8 +242,7 @@ class HandOut:
                 if len(self.tried[place]) >= TRIES or (hosts and hosts <= self.hosts_of(place)):
                     self.again.remove(place)
                     self.leave(place)
-        patience = HOLD if self.left_out and not self.counted else self.patience
-        if time.monotonic() - self.seen > patience:
+        if time.monotonic() - self.seen > self.patience:
             self.leave_all("nobody could count it")
 
     def leave_all(self, why: str) -> None:
@@ -268,6 +276,7 @@ class HandOut:
             if part.files.keys() <= wanted:
                 self.whole.take(part)
                 wanted -= part.files.keys()
+            del part  # before the next one comes
         if self.kind is not None:
             self.whole.only(self.kind)
         for place in wanted:

@@ -5,13 +5,13 @@ from __future__ import annotations
 import contextlib
 import json
 import os
+import secrets
 import socket
 import tempfile
 import threading
 import time
-from typing import Any
+from typing import IO, Any
 
-from ._whole import written_whole
 from .errors import PtulabError
 
 RENEWED, STALE = 10, 120  # seconds after which a lock is renewed, and after which it is old
@@ -25,29 +25,41 @@ class Lock:
     """
 
     def __init__(self, path: str) -> None:
-        self.path = f"{path}.lock"
-        mine = json.dumps({"host": socket.gethostname(), "process": os.getpid(), "since": now()}).encode("ascii")
-        try:
-            with open(self.path, "xb") as file:
-                file.write(mine)
-        except FileExistsError:
-            held = self.holder()
-            if not is_dead(held) and self.age() < STALE:
-                said = f"process {held.get('process')} on {held.get('host')} makes it since {held.get('since')}"
-                raise PtulabError(f"{path}: {said}; once that has ended, remove {self.path}") from None
-            with written_whole(self.path) as file:
-                file.write(mine)
+        self.made, self.path = path, f"{path}.lock"
+        mine = {"host": socket.gethostname(), "process": os.getpid(), "since": now(), "run": secrets.token_hex(8)}
+        self.mine: dict[str, Any] = mine
+        while not self.is_taken():
+            self.take_off()
         self.ended = threading.Event()
         threading.Thread(target=self.renew, daemon=True).start()
 
-    def holder(self) -> dict[str, Any]:
-        """Who holds it."""
+    def is_taken(self) -> bool:
+        """Takes it where there is none."""
         try:
-            with open(self.path, encoding="utf-8") as file:
-                held = json.loads(file.read(1000))
-            return held if isinstance(held, dict) else {}
-        except (OSError, ValueError):
-            return {}
+            file = open(self.path, "xb")
+        except FileExistsError:
+            return False
+        try:
+            with file:
+                file.write(json.dumps(self.mine).encode("ascii"))
+        except BaseException:
+            os.unlink(self.path)
+            raise
+        return True
+
+    def take_off(self) -> None:
+        """Takes off an old one, of which of several runs only one does; raises ``PtulabError`` where it is held."""
+        with contextlib.suppress(FileNotFoundError), open(self.path, "rb") as file:
+            held = holder(file)
+            if not is_dead(held) and self.age() < STALE:
+                who = f"process {held.get('process')} on {held.get('host')} makes it since {held.get('since')}" if held else "another run makes it"
+                raise PtulabError(f"{self.made}: {who}; once that has ended, remove {self.path}")
+            with contextlib.suppress(ImportError, OSError):  # where there are no locks on files
+                import fcntl
+
+                fcntl.flock(file, fcntl.LOCK_EX)
+            if os.path.samestat(os.fstat(file.fileno()), os.stat(self.path)):
+                os.unlink(self.path)
 
     def age(self) -> float:
         """Seconds since it was renewed, by the clock of the disk."""
@@ -57,17 +69,40 @@ class Lock:
         except OSError:
             return 0
 
+    def is_mine(self) -> bool:
+        """Whether this run holds it still."""
+        try:
+            with open(self.path, "rb") as file:
+                return holder(file) == self.mine
+        except OSError:
+            return False
+
+    def check(self) -> None:
+        """Raises ``PtulabError`` where it was taken over, as of a process that was stopped for a while."""
+        if not self.is_mine():
+            raise PtulabError(f"{self.made}: {self.path} was taken off meanwhile, so another run may make it")
+
     def renew(self) -> None:
         """Renews it, till it is taken off."""
-        while not self.ended.wait(RENEWED):
+        while not self.ended.wait(RENEWED) and self.is_mine():
             with contextlib.suppress(OSError):
                 os.utime(self.path)
 
     def close(self) -> None:
         """Takes it off."""
         self.ended.set()
-        with contextlib.suppress(FileNotFoundError):
-            os.unlink(self.path)
+        if self.is_mine():
+            with contextlib.suppress(FileNotFoundError):
+                os.unlink(self.path)
+
+
+def holder(file: IO[bytes]) -> dict[str, Any]:
+    """Who holds it, or nothing where that isn't told yet."""
+    try:
+        held = json.loads(file.read(1000))
+    except (OSError, ValueError):
+        return {}
+    return held if isinstance(held, dict) else {}
 
 
 def is_dead(held: dict[str, Any]) -> bool:

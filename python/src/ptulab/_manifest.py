@@ -13,7 +13,7 @@ import hashlib
 import json
 import os
 import socket
-from collections.abc import Iterable, Iterator, Sequence
+from collections.abc import Iterator, Sequence
 from typing import IO, Any
 
 from ._lock import Lock, now
@@ -100,6 +100,7 @@ class Manifest:
 
     def sum(self, report: Report | None, files: dict[int, File], path: str) -> None:
         """Writes the lines of all files that have none, and the sum at a path."""
+        self.lock.check()
         for place in sorted(files.keys() - self.written):
             self.line(line_of(files[place]))
         self.written |= files.keys()
@@ -109,19 +110,24 @@ class Manifest:
                 told = written(report, temporary)
                 self.line({"sum": os.path.basename(path), "sha256": told, "added": self.added, "at": now()})
 
-    def end(self, report: Report | None, files: dict[int, File], left_out: Iterable[tuple[str, str]]) -> None:
+    def left_out(self, host: str, why: str) -> None:
+        """Writes that a host could not count."""
+        self.lock.check()
+        self.line({"host": host, "left_out": why})
+
+    def end(self, report: Report | None, files: dict[int, File]) -> None:
         """Writes the sum where it belongs."""
-        for host, why in left_out:
-            self.line({"host": host, "left_out": why})
         self.sum(report, files, self.out)
         with contextlib.suppress(FileNotFoundError):
             os.unlink(self.part)
 
     def close(self) -> None:
         """Takes the lock off."""
-        if self.file is not None:
-            self.file.close()
-        self.lock.close()
+        try:
+            if self.file is not None:
+                self.file.close()  # which fails where the disk was full
+        finally:
+            self.lock.close()
 
 
 def written(report: Report, path: str) -> str:

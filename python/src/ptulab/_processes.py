@@ -5,6 +5,7 @@ A process gets its work through a pipe, and ends, with the run that it has begun
 
 from __future__ import annotations
 
+import mmap
 import os
 import pickle
 import queue
@@ -23,6 +24,7 @@ from ._work import HostFails, Work, check, count, free_megabytes
 from .errors import PtulabError
 
 LOST = 10  # processes that may be lost in a row before a file was counted
+MAPPED = 1 << 20  # bytes from which on memory of its own is mapped for an array
 Files = Sequence[tuple[int, str]]
 
 
@@ -84,21 +86,25 @@ class Processes:
         while len(self.lanes) < self.number and self.lost < LOST:
             lane = Lane("")
             self.lanes[lane] = _Process(self, lane)
+            threading.Thread(target=self.lanes[lane].serve, daemon=True).start()
 
     def pending(self) -> bool:
         """Whether a process is beginning."""
-        return any(not lane.host for lane in self.lanes)
+        return any(not lane.host for lane in list(self.lanes))
 
     def start(self, lane: Lane, files: Files, kind: Kind | None) -> None:
         """Lets a process count some files."""
-        self.lanes[lane].asked.put(("count", self.work, files, kind))
+        if process := self.lanes.get(lane):  # else its loss is told already
+            process.asked.put(("count", self.work, files, kind))
 
     def collect(self, lanes: Sequence[Lane]) -> Iterator[Part]:
         """The sums of these processes, one after the other."""
-        for process in [self.lanes[lane] for lane in lanes if lane in self.lanes]:
+        for process in filter(None, map(self.lanes.get, lanes)):
             process.asked.put(("give",))
-            if (part := process.given.get()) is not None:
+            part = process.given.get()
+            if part is not None:
                 yield part
+            del part
 
     def leave_out(self, host: str) -> None:
         """There is no other."""
@@ -127,7 +133,7 @@ class _Process:
         words = [sys.executable, "-m", "ptulab._worker"]
         pipes = {"stdin": subprocess.PIPE, "stdout": subprocess.PIPE}
         self.child = subprocess.Popen(words, env=paths, start_new_session=True, **pipes)  # type: ignore[call-overload]
-        threading.Thread(target=self.serve, daemon=True).start()
+        self.is_open, self.closing = True, threading.Lock()
 
     def serve(self) -> None:
         """Asks and hears, until the process is lost."""
@@ -140,7 +146,7 @@ class _Process:
         except HostFails as error:
             self.owner.lost = LOST
             why = str(error)
-        except (OSError, EOFError) as error:
+        except Exception as error:  # whatever it is: nobody may wait for this one
             why = f"the process that counted it ended ({self.status() or error})"
         self.close()
         self.given.put(None)
@@ -174,13 +180,16 @@ class _Process:
         return ""
 
     def close(self) -> None:
-        """Ends it and all that it runs."""
-        with suppress(OSError):
-            if hasattr(os, "killpg"):
-                os.killpg(self.child.pid, signal.SIGKILL)
-            else:
-                self.child.kill()
-        self.child.wait()
+        """Ends it and all that it runs, once: its number may be another's then."""
+        with self.closing:
+            if self.is_open:
+                self.is_open = False
+                with suppress(OSError):
+                    if hasattr(os, "killpg"):
+                        os.killpg(self.child.pid, signal.SIGKILL)
+                    else:
+                        self.child.kill()
+                self.child.wait()
 
 
 # ## What goes through the pipes: a pickle, whose arrays stand behind it as they are
@@ -205,8 +214,9 @@ def get(source: IO[bytes]) -> Any:
     return pickle.loads(pickled, buffers=[_bytes(source, one) for one in sizes])
 
 
-def _bytes(source: IO[bytes], size: int) -> bytearray:
-    found = bytearray(size)
+def _bytes(source: IO[bytes], size: int) -> bytearray | mmap.mmap:
+    """So many bytes; what is mapped goes back to the system with its last array, and isn't kept for the thread that read it."""
+    found: bytearray | mmap.mmap = mmap.mmap(-1, size) if size >= MAPPED else bytearray(size)
     if source.readinto(found) < size:  # type: ignore[attr-defined]
         raise EOFError("the pipe ended")
     return found

@@ -43,7 +43,16 @@ class Progress:
         if self.bar is not None:
             self.bar.update(size)
             self.bar.set_postfix_str(f"{self.files} of {self.number} files{self.said_of_left()}")
-        elif self.shown and time.monotonic() >= self.next:
+
+    def left_out(self, host: str, why: str) -> None:
+        """A host gets no more files."""
+        if self.shown:
+            say = print if self.bar is None else self.bar.write
+            say(f"{host} was left out: {why}", file=sys.stderr)
+
+    def look(self) -> None:
+        """Says how far it is where that is due, also where nothing was settled meanwhile."""
+        if self.shown and self.bar is None and time.monotonic() >= self.next:
             self.next, self.lines = time.monotonic() + EVERY, self.lines + 1
             print(self.line(), file=sys.stderr, flush=True)
 

@@ -183,10 +183,16 @@ def opened(path: str) -> Iterator[int]:
     descriptor = os.open(path, os.O_RDONLY | getattr(os, "O_NONBLOCK", 0) | getattr(os, "O_CLOEXEC", 0) | getattr(os, "O_BINARY", 0))
     try:
         if not stat.S_ISREG(os.fstat(descriptor).st_mode):
-            raise OSError(errno.EINVAL, "it is no regular file")
+            raise OSError(errno.EINVAL, "it is no regular file", path)
         yield descriptor
     finally:
         os.close(descriptor)
+
+
+def content_of(path: str | os.PathLike[str], most: int = -1) -> bytes:
+    """The bytes of a regular file, or so many of them."""
+    with opened(os.fspath(path)) as descriptor, open(descriptor, "rb", closefd=False) as file:
+        return file.read(most)
 
 
 def _looks_of(descriptor: int) -> tuple[int, int]:
@@ -234,17 +240,15 @@ def _run(work: Work, descriptor: int, child_of: list[subprocess.Popen[bytes]]) -
         with subprocess.Popen(words, pass_fds=passed, **more) as child:  # type: ignore[call-overload]
             child_of[:] = [child]
             try:
-                report: Report | PtulabError = _read(child.stdout, work.document, None)
-            except Unlike as error:
-                report = error
-                child.kill()
+                report: Report | PtulabError = _read(child.stdout, work.document)
             except BaseException:
                 child.kill()
+                child.wait()  # which an interrupt would cut short
                 raise
             finally:
                 child_of.clear()
         told.seek(0)
-        if child.returncode != 0 and not isinstance(report, Unlike):
+        if child.returncode != 0:
             return refusal(child.returncode, told.read(4096).decode(errors="replace").strip())
     return report
 
@@ -319,4 +323,5 @@ def count(work: Work, part: Part, files: Sequence[tuple[int, str]], kind: Kind |
             latest.files[place] = file
             if not file.again:
                 part.add(place, file, report)
+            del report  # before the next one comes
     return latest

@@ -17,6 +17,7 @@ __all__ = ["EventsLike", "Group", "GroupLike", "photons_of", "shifted"]
 Part = Events | NDArray[np.void]  # events in columns, or as rows
 EventsLike = Part | str | os.PathLike[str]  # events, or the path of the file that has them
 PIECE = 1 << 18  # events that are looked at together
+MOST_PERIOD = 1 << 15  # ticks of the dtime, by the limits of a plan
 
 
 @dataclass(frozen=True)
@@ -104,10 +105,10 @@ def shifted(events: Part, shifts: Mapping[int, int], period: int) -> Events:
     """A copy of the events with shifted dtimes, as a plan's ``shift`` has them.
 
     ``shifts`` has for each input the ticks that are added to its dtimes; the sum is taken modulo ``period``, in ticks.
-    The dtimes of the other inputs stay. Raises ``ValueError`` where the period isn't positive.
+    The dtimes of the other inputs stay. Raises ``ValueError`` for a period that no plan has: it has 1 to 32,768 ticks.
     """
-    if period < 1:
-        raise ValueError("a period has one tick at least")
+    if not 1 <= period <= MOST_PERIOD:
+        raise ValueError(f"a period of {period} ticks: it has 1 to {MOST_PERIOD}")
     events = events_of(events)
     dtimes = np.array(events.dtimes)
     for number, ticks in shifts.items():

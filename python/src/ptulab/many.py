@@ -14,14 +14,14 @@ from dataclasses import dataclass
 from typing import Any, NamedTuple
 
 from ._dask import Dask
-from ._documents import read_plan
+from ._documents import LONGEST, read_plan
 from ._hand_out import Engine, HandOut
 from ._manifest import Manifest
 from ._parts import File, Part
 from ._plan_rules import broken_rules
 from ._processes import Here, Processes, processors
 from ._progress import Progress
-from ._work import Work, check, sha256
+from ._work import Work, check, content_of, sha256
 from .errors import BadPlan
 from .program import find_program
 from .report import Report
@@ -89,17 +89,13 @@ def count_files(
     Raises ``Refusal`` where the plan is refused, ``NoProgram``, ``Missing``, ``OSError`` where plan or program can't be
     read or the sum can't be written, and ``PtulabError`` where another run makes it, or this machine can't count.
     """
-    with open(plan, "rb") as text, open(find_program(program), "rb") as code:
-        these = text.read(), code.read()
-    megabytes = 0
-    with suppress(BadPlan):  # that is for the program to say
-        megabytes = _megabytes(these[0], os.fspath(plan))
-    work = Work(these[0], sha256(these[1]), megabytes, guarded=client is not None)
+    these = content_of(plan, LONGEST + 1), content_of(find_program(program))
+    work = Work(these[0], sha256(these[1]), _megabytes_or_none(these[0]), guarded=client is not None)
     paths = [os.path.abspath(file) for file in files]
 
     def engine() -> Engine:
         if client is not None:
-            return Dask(work, these[1], client)
+            return Dask(work, these[1], client, patience)
         check(work, these[1], None)
         return Processes(work, these[1], max(1, min(processes or processors(), len(paths))))
 
@@ -124,14 +120,13 @@ def sum_files(
     """
     text = None
     if plan is not None:
-        with open(plan, "rb") as file:
-            read_plan(text := file.read())
-    work = Work(text, guarded=client is not None)
+        read_plan(text := content_of(plan, LONGEST + 1))
+    work = Work(text, megabytes=_megabytes_or_none(text or b""), guarded=client is not None)
     paths = [os.path.abspath(report) for report in reports]
 
     def engine() -> Engine:
         if client is not None:
-            return Dask(work, None, client)
+            return Dask(work, None, client, patience)
         if processes == 1:
             return Here(work, None)
         return Processes(work, None, max(1, min(processes, len(paths))))
@@ -164,14 +159,14 @@ def _made(work: Work, paths: Sequence[str], engine_of: Callable[[], Engine], wis
             engine = engine_of()
             ends.callback(engine.close)
             by = HandOut(engine, paths, whole, kind, manifest)
-            by.settled, by.patience = shown.settled, wishes.patience
+            by.shown, by.patience = shown, wishes.patience
             by.run()
             left_out = tuple(by.left_out.items())
         else:
             left_out = ()
         found = _sum_of(whole, paths, left_out, plan, work.program)
         if manifest is not None:
-            manifest.end(found.report, whole.files, left_out)
+            manifest.end(found.report, whole.files)
     return found
 
 
@@ -192,6 +187,13 @@ def megabytes_of(plan: PathLike) -> int:
     """
     with open(plan, "rb") as text:
         return _megabytes(text.read(), os.fspath(plan))
+
+
+def _megabytes_or_none(plan: bytes) -> int:
+    """The same, or 0 of a bad plan, which is for the program to say."""
+    with suppress(BadPlan):
+        return _megabytes(plan, "")
+    return 0
 
 
 def _megabytes(plan: bytes, name: str) -> int:
