@@ -11,7 +11,9 @@ from collections.abc import Callable, Sequence
 from contextlib import ExitStack
 from typing import Any
 
+from .app import serve
 from .errors import PtulabError, Refusal
+from .first_look import info as look_at
 from .many import Sum, count_files, sum_files
 from ._optional import want
 from .page import write_page
@@ -23,6 +25,30 @@ from ._whole import written_whole
 
 PARTIAL, NONE = 3, 4  # the statuses where a sum lacks some of the files, and where there is none since all are left
 Make = Callable[[list[str], dict[str, Any]], Sum]
+
+
+def info(words: Sequence[str]) -> int:
+    """tells what a PTU file is: its header in words, whether it is whole, and what its inputs and markers have"""
+    parser = _parser("info", info)
+    parser.add_argument("file")
+    parser.add_argument("--json", action="store_true", help="as one line of JSON, with traces, decays and tags")
+    parser.add_argument("--program", help="the ptu that counts")
+    given = parser.parse_args(words)
+    seen = look_at(given.file, program=given.program)
+    print(seen.json() if given.json else seen)
+    return 0
+
+
+def app(words: Sequence[str]) -> int:
+    """opens a window to click in: a page on this machine over the PTU files of a folder"""
+    parser = _parser("app", app)
+    parser.add_argument("folder", nargs="?", default=".", help="the folder of the files, by default this one")
+    parser.add_argument("--port", type=int, default=0, help="of 127.0.0.1, by default a free one")
+    parser.add_argument("--no-browser", action="store_true", help="only print the address")
+    parser.add_argument("--program", help="the ptu that counts")
+    given = parser.parse_args(words)
+    serve(given.folder, port=given.port, browser=not given.no_browser, program=given.program)
+    return 0
 
 
 def page(words: Sequence[str]) -> int:
@@ -143,11 +169,12 @@ def _told(whole: Sum, out: str | None, left: str | None) -> int:
     if whole.report is None:
         return NONE
     if out is None:
-        sys.stdout.buffer.writelines(report_lines(whole.report))
+        with open(1, "wb", closefd=False) as file:  # whose end tells of a full disk
+            file.writelines(report_lines(whole.report))
     return PARTIAL if whole.left else 0
 
 
-COMMANDS: dict[str, Callable[[Sequence[str]], int]] = {"page": page, "plan": plan, "check": check, "sum": add, "count": count}
+COMMANDS: dict[str, Callable[[Sequence[str]], int]] = {"app": app, "info": info, "page": page, "plan": plan, "check": check, "sum": add, "count": count}
 
 
 def _parser(name: str, function: Callable[[Sequence[str]], int]) -> argparse.ArgumentParser:

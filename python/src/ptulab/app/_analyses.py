@@ -1,0 +1,435 @@
+"""What can be asked of a file: each question with a plan, a few settings, a script that answers it, and what is drawn.
+
+The window runs the script that it hands out, so its printed lines are the numbers that the window shows.
+"""
+
+from __future__ import annotations
+
+import math
+import re
+from collections.abc import Callable, Mapping, Sequence
+from dataclasses import asdict, dataclass
+from typing import Any
+
+import numpy as np
+
+from .._looks import Look, look
+from .._versions import __version__
+from ..events import UNKNOWN
+from ..page._figures import Picture
+from ..plans import SIDE, bins_of_pixel, plan_of
+from ._figures import Drawn, curve, drawn, figure, of_report, units_of_second, with_curve
+
+Names = Mapping[str, Any]  # of a script that ran
+Settings = dict[str, Any]
+
+
+@dataclass(frozen=True)
+class Setting:
+    """A number that can be set, from ``least`` to ``most``."""
+
+    key: str
+    label: str
+    value: float
+    least: float
+    most: float
+    whole: bool = True
+
+
+@dataclass(frozen=True)
+class Analysis:
+    """A question. ``wanting`` says why a file can't answer it, ``kinds`` are the tables of its plan, ``body`` makes its script."""
+
+    name: str
+    title: str
+    means: str  # what comes of it, in a sentence
+    wanting: Callable[[Look], str]
+    kinds: tuple[str, ...]
+    settings: Callable[[Look], list[Setting]]
+    body: Callable[[Names, Settings, str | None], str]
+    draw: Callable[[Names], list[Drawn]]
+    imports: str
+    by_python: bool = False
+    takes_second: bool = False  # whether another file can be the pulse
+
+    def script(self, path: str, document: Names, settings: Settings, second: str | None) -> str:
+        """The script that answers the question of the file at ``path``, by the document of its plan."""
+        return HEAD.format(title=self.title, version=__version__, imports=self.imports, path=path) + self.body(document, settings, second)
+
+
+HEAD = """\
+# {title}, as the window of ptulab {version} showed it; plan.toml stands beside this: python3 analysis.py [FILE]
+import sys
+from pathlib import Path
+
+{imports}
+
+here = Path(__file__).parent
+file = sys.argv[1] if len(sys.argv) > 1 else {path!r}
+"""
+FIT = """\
+for name, value in fit.values.items():
+    factor, unit = (1e9, " ns") if name.startswith(("lifetime", "shift")) else (1, "")
+    print(f"{name}: {value * factor:.5g} ± {fit.errors[name] * factor:.2g}{unit}")
+print(f"deviance over what is expected: {fit.reduced:.4g}")
+"""
+REPORT = 'report = ptulab.run(here / "plan.toml", file)\n'
+FIT_CURVE = '"fit": {"seconds": fit.axis, "photons": fit.data, "fit": fit.curve, "residuals": fit.residuals}'
+
+
+def settings_of(analysis: Analysis, given: Mapping[str, Any]) -> Settings:
+    """The settings that were given, within their bounds. Raises ``ValueError`` for others."""
+    settings: Settings = {}
+    for one in analysis.settings(Look(UNKNOWN)):
+        value = given.get(one.key, one.value)
+        if isinstance(value, bool) or not isinstance(value, int | float) or not one.least <= value <= one.most:
+            raise ValueError(f"{one.label}: a number from {one.least:g} to {one.most:g} is wanted")
+        settings[one.key] = int(value) if one.whole else float(value)
+    return settings
+
+
+def proposals(path: str) -> list[dict[str, Any]]:
+    """Of a file each question, with the reason where it can't be asked, and the plan and the settings that suit."""
+    seen = look(path)
+    text = plan_of(seen)
+    return [_proposal(one, seen, text) for one in ANALYSES.values()]
+
+
+def _proposal(one: Analysis, seen: Look, text: str) -> dict[str, Any]:
+    reason = one.wanting(seen) if seen.inputs else "there are no photons in the file"
+    told = {"name": one.name, "title": one.title, "means": one.means, "reason": reason, "python": one.by_python, "second": one.takes_second}
+    if reason:
+        return told | {"plan": "", "settings": []}
+    plan = _of_kinds(text, one.kinds) + (_fold(seen) if one.name == "patterns" else "")
+    if one.name == "image" and "[[cube]]" not in plan:
+        plan += _scan_of_marks(seen)
+    if re.search(r"^\[\[(cube|fold)\]\]", plan, re.M) and "version" not in plan:
+        plan = f"version = 2\n\n{plan}"
+    return told | {"plan": plan, "settings": [asdict(setting) for setting in one.settings(seen)]}
+
+
+def _of_kinds(text: str, kinds: Sequence[str]) -> str:
+    """The parts of a proposed plan that are tables of these kinds, or none at all; what is said of an image holds for a cube."""
+    kept = []
+    for part in re.split(r"\n\n+", text):
+        kind = re.search(r"^\[\[(\w+)\]\]", part, re.M)
+        if kind is None or kind[1] in ("group", *kinds):
+            kept.append(part.strip("\n").replace("# the same with the dtimes of each pixel\n", ""))
+        elif kind[1] == "image" and "cube" in kinds:
+            kept += [line for line in part.splitlines() if line.startswith("#")]
+    return "\n\n".join(filter(None, kept)) + "\n"
+
+
+def _fold(seen: Look) -> str:
+    tick = seen.header.global_seconds or 1e-12
+    window = min(1 << 20, max(1, round(1e-8 / tick))) if 0 < tick < 1 else 1
+    return f"\n# within 10 ns, where the header tells its tick\n[[fold]]\ngroups = {list(range(1, min(6, len(seen.inputs)) + 1))}\nwindow = {window}\n"
+
+
+def _group(document: Names, number: int) -> str:
+    """The words by which a script names a group of the plan."""
+    groups = document.get("group", [])
+    if document.get("shift"):
+        raise ValueError("a plan with shifts is not for what Python counts here: leave them out")
+    if not 1 <= number <= len(groups):
+        raise ValueError(f"the plan has no group {number}: it has {len(groups)}")
+    table = groups[number - 1]
+    gates = [tuple(gate) for gate in table.get("gates", [table["gate"]] if "gate" in table else [])]
+    return f"Group({table['inputs']}, {gates})" if gates else f"Group({table['inputs']})"
+
+
+def _known(value: float | None) -> bool:
+    return value is not None and math.isfinite(value) and value > 0
+
+
+def _only(mode: str, what: str) -> Callable[[Look], str]:
+    def wanting(seen: Look) -> str:
+        if seen.header.mode != mode:
+            return f"{what}: this is a {seen.header.mode} file, and it takes {mode}"
+        known = _known(seen.header.global_seconds) and (mode == "T2" or _known(seen.header.resolution_seconds))
+        return "" if known else "the header doesn't tell how long a tick is"
+
+    return wanting
+
+
+def _two_detectors(mode: str, what: str) -> Callable[[Look], str]:
+    first = _only(mode, what)
+    return lambda seen: first(seen) or ("" if len(seen.inputs) > 1 else "it takes two detectors, and the file has one input")
+
+
+# ## Decays and images of lifetimes
+
+DECAY_SETTINGS = [
+    Setting("number", "Histogram of the plan", 1, 1, 32),
+    Setting("terms", "Lifetimes", 1, 1, 3),
+    Setting("after", "The tail begins so many ns after the peak", 0.5, 0, 1000, whole=False),
+]
+
+
+def _decay(document: Names, settings: Settings, second: str | None) -> str:
+    body = f'{REPORT}decay = report.table("histogram", {settings["number"]})\n'
+    if second is None:
+        body += f"start = decay.seconds[decay.counts.argmax()] + {settings['after']!r} * 1e-9\n"
+        body += f"fit = fits.fit_tail(decay.counts, decay.seconds, start, terms={settings['terms']})\n"
+    else:
+        body += f'pulse = ptulab.run(here / "plan.toml", {second!r}).table("histogram", {settings["number"]})\n'
+        body += 'width = report.head.resolution_seconds * decay.settings["width"]\n'
+        body += f"fit = fits.fit_reconvolution(decay.counts, pulse.counts, width, period=report.head.global_seconds, terms={settings['terms']})\n"
+    return f'{body}{FIT}curves = {{"decay": {{"seconds": decay.seconds, "photons": decay.counts}}, {FIT_CURVE}}}\n'
+
+
+def _draw_fit(one: Drawn, fit: Any) -> list[Drawn]:
+    """A decay with its fit, and the residuals."""
+    xs = fit.axis * units_of_second(one)
+    rest = figure(one["name"] + "-rest", "Residuals of the fit", "What the fit leaves, in standard deviations: a right model scatters around 0.",
+                  (one["xlabel"], one["xunit"]), ("residual (standard deviations)", ""), [curve("residuals", xs, fit.residuals)], level=0.0)
+    return [with_curve(one, "fit", xs, fit.curve), rest]
+
+
+def _draw_decay(names: Names) -> list[Drawn]:
+    return _draw_fit(drawn(of_report(names["report"], "histogram", names["decay"].number)[0]), names["fit"])
+
+
+def _image(document: Names, settings: Settings, second: str | None) -> str:
+    threshold = str(settings["threshold"]) if settings["threshold"] else "max(1, round(0.1 * np.percentile(photons, 99)))"
+    return f"""{REPORT}cube = report.table("cube", 1)
+photons, decay = cube.counts.sum(axis=2), cube.counts.sum(axis=(0, 1))
+begin = int(np.flatnonzero(2 * decay >= decay.max())[0])
+threshold = {threshold}
+delays = fits.mean_delays(cube.counts[..., begin:], cube.seconds[begin:], offset=cube.seconds[begin], threshold=threshold)
+start = cube.seconds[decay.argmax()] + {settings['after']!r} * 1e-9
+fit = fits.fit_tail(decay, cube.seconds, start, terms={settings['terms']})
+print(f"photons in the picture: {{photons.sum():,}}")
+print(f"pixels with {{threshold:,}} photons or more: {{np.count_nonzero(~np.isnan(delays)):,}}")
+print(f"median of their mean delays: {{np.nanmedian(delays) * 1e9:.4g}} ns")
+{FIT}curves = {{"decay": {{"seconds": cube.seconds, "photons": decay}}, {FIT_CURVE}}}
+"""
+
+
+def _draw_image(names: Names) -> list[Drawn]:
+    photons, delays = of_report(names["report"], "cube", 1, names["ptulab"].read_header(names["file"]))[:2]
+    whole = of_report(names["report"], "cube", 1)[2]
+    assert isinstance(delays, Picture)
+    values = names["delays"] * 1e9
+    if delays.values.shape == values.shape:
+        told = f"The mean delay of each pixel with {names['threshold']:,} photons or more, after the rise of the decay of all pixels."
+        told += " It is the lifetime only of a single exponential without background."
+        delays = Picture(delays.name, delays.title, told, names["photons"], values, "mean delay (ns)", "ns", 1, names["threshold"], delays.colours, delays.micrometres)
+    return [drawn(photons), drawn(delays), *_draw_fit(drawn(whole), names["fit"])]
+
+
+# ## Light over the time, and correlations
+
+
+def _trace(document: Names, settings: Settings, second: str | None) -> str:
+    return f"""{REPORT}trace = report.table("trace", {settings['number']})
+counts = trace.counts[:-1] if len(trace.counts) > 1 else trace.counts  # the last bin is longer than the file
+frequencies, edges = np.histogram(counts, bins=min(64, int(np.ptp(counts)) + 1))
+print(f"bins: {{len(counts):,}}")
+print(f"mean: {{counts.mean():.5g}} photons in a bin")
+print(f"variance over mean: {{counts.var() / max(counts.mean(), 1e-300):.4g}} (1 is light that doesn't fluctuate)")
+curves = {{"trace": {{"ticks": trace.ticks, "photons": trace.counts}}, "frequencies": {{"photons": edges[:-1], "bins": frequencies}}}}
+"""
+
+
+def _draw_trace(names: Names) -> list[Drawn]:
+    often = figure("frequencies", "How many bins have how many photons", "The histogram of the trace.",
+                   ("photons in a bin", "photons"), ("bins", "bins"), [curve("bins", names["edges"][:-1], names["frequencies"])])
+    return [*map(drawn, of_report(names["report"], "trace", names["trace"].number)), often]
+
+
+def _correlation(document: Names, settings: Settings, second: str | None) -> str:
+    first, other = (_group(document, settings[key]) for key in ("first", "second"))
+    until = f"{settings['until']!r}" if settings["until"] else "np.inf"
+    return f"""curve = segments.correlation_by_segments(file, {first}, {other}, segments={settings['segments']})
+span = ({settings['begin']!r} * 1e-6, {until})
+fit = fits.fit_fcs(curve.seconds, curve.values, curve.errors, dimensions={settings['dimensions']}, triplet={bool(settings['triplet'])}, span=span)
+for name, value in fit.values.items():
+    factor, unit = (1e3, " ms") if name in ("diffusion", "triplet_time") else (1, "")
+    print(f"{{name}}: {{value * factor:.5g}} ± {{fit.errors[name] * factor:.2g}}{{unit}}")
+print(f"reduced chi-square: {{fit.reduced:.4g}}")
+curves = {{"correlation": {{"seconds": curve.seconds, "G": curve.values, "error": curve.errors}}, "fit": {{"seconds": fit.axis, "G": fit.data, "fit": fit.curve}}}}
+"""
+
+
+def _correlation_settings(seen: Look) -> list[Setting]:
+    groups = [group for group, number in enumerate(seen.inputs, 1) if number != 0 or seen.header.mode == "T3"] or [1]
+    return [
+        Setting("first", "First group", groups[0], 1, 64),
+        Setting("second", "Second group (the same again for one detector)", groups[min(1, len(groups) - 1)], 1, 64),
+        Setting("segments", "Segments, whose scatter tells the errors", 10, 2, 100),
+        Setting("dimensions", "Dimensions of the diffusion, 2 or 3", 3, 2, 3),
+        Setting("triplet", "A triplet state in the fit: 1, none: 0", 0, 0, 1),
+        Setting("begin", "The fit begins at so many µs", 1.0, 0, 1e9, whole=False),
+        Setting("until", "and ends at so many seconds (0: at the end)", 0.0, 0, 1e9, whole=False),
+    ]
+
+
+def _draw_correlation(names: Names) -> list[Drawn]:
+    found, fit = names["curve"], names["fit"]
+    there = np.isfinite(found.values)
+    told = "Normalised: 1 is light without correlation. Bars are the standard errors of the segments; the fit is of molecules that diffuse."
+    one = curve("correlation", found.seconds[there], found.values[there], found.errors[there], "linear")
+    begin = float(fit.axis[0]) if len(fit.axis) else None
+    axes = ("delay (s)", "s"), ("G (1 is no correlation)", "")
+    return [with_curve(figure("correlation", "Correlation", told, *axes, [one], xlog=True, level=1.0, start=begin), "fit", fit.axis, fit.curve)]
+
+
+# ## Antibunching
+
+
+def _g2(document: Names, settings: Settings, second: str | None) -> str:
+    return f"""{REPORT}pairs = report.table("coincidence", 1)
+values, errors = fits.g2(pairs)
+middle, lowest = np.abs(pairs.ticks).argmin(), (values + errors).argmin()
+print(f"g2 at 0: {{values[middle]:.4g}} ± {{errors[middle]:.2g}}")
+print(f"lowest g2: {{values[lowest]:.4g}} ± {{errors[lowest]:.2g}} at {{pairs.seconds[lowest] * 1e9:.4g}} ns")
+curves = {{"g2": {{"seconds": pairs.seconds, "pairs": pairs.counts, "g2": values, "error": errors}}}}
+"""
+
+
+def _pulsed(document: Names, settings: Settings, second: str | None) -> str:
+    first, other = (_group(document, settings[key]) for key in ("first", "second"))
+    return f"""pairs = pulsed.coincidences(file, {first}, {other}, {settings['reach']})
+ratio, error = pairs.central_ratio(neighbours={settings['neighbours'] or None})
+print(f"g2(0), the pairs of one pulse over those of two: {{ratio:.4g}} ± {{error:.2g}}")
+curves = {{"pairs": {{"periods": pairs.ticks, "pairs": pairs.counts}}}}
+"""
+
+
+def _pulsed_settings(seen: Look) -> list[Setting]:
+    return [
+        Setting("first", "First group", 1, 1, 64),
+        Setting("second", "Second group", 2, 1, 64),
+        Setting("reach", "Sync periods to either side", 10, 2, 1000),
+        Setting("neighbours", "Peaks beside it that are compared (0: all)", 0, 0, 1000),
+    ]
+
+
+def _draw_pulsed(names: Names) -> list[Drawn]:
+    pairs = names["pairs"]
+    told = f"{int(pairs.counts.sum()):,} pairs by how many sync periods the second photon is later. A single emitter has few at 0."
+    bars = curve("pairs", pairs.ticks, pairs.counts, np.sqrt(pairs.variances()), "linear")
+    return [figure("pairs", "Pairs of photons by pulses", told, ("sync periods", "sync periods"), ("pairs", "pairs"), [bars])]
+
+
+# ## Single molecules, and patterns
+
+
+def _bursts(document: Names, settings: Settings, second: str | None) -> str:
+    numbers = [settings["donor"], settings["acceptor"], *([settings["own"]] if settings["own"] else [])]
+    groups = ", ".join(_group(document, number) for number in numbers)
+    return f"""photons = photons_of(file)
+rate = {settings['rate']!r} * 1e3
+bursts = fused(find_bursts(photons["time"], rate, minimum={settings['minimum']}, m={settings['m']}, unit_seconds=photons.header.global_seconds))
+counted = [photons_in(bursts, photons, group) for group in ({groups},)]
+result = fret(*counted, gamma={settings['gamma']!r})
+known = ~np.isnan(result.E)
+print(f"bursts: {{len(bursts):,}}")
+if len(bursts):
+    print(f"median of their photons: {{np.median(bursts['last'] - bursts['first'] + 1):.4g}}")
+    print(f"mean of E: {{result.E[known].mean():.4g}}, standard deviation {{result.E[known].std():.3g}}")
+counts, edges = result.histogram(bins=48)
+curves = {{"efficiency": {{"E": edges[:-1], "bursts": counts}}, "bursts": {{"start": bursts["start"], "stop": bursts["stop"], "E": result.E}}}}
+if result.S is not None:
+    curves["bursts"]["S"] = result.S
+"""
+
+
+def _bursts_settings(seen: Look) -> list[Setting]:
+    tick, photons = seen.header.global_seconds, sum(seen.inputs.values())
+    mean = photons / (seen.length * tick) if tick is not None and _known(tick) and seen.length else 1e4
+    return [
+        Setting("donor", "Group of the donor", 1, 1, 64),
+        Setting("acceptor", "Group of the acceptor", 2, 1, 64),
+        Setting("own", "Group of the acceptor by its own laser (0: none)", 0, 0, 64),
+        Setting("rate", "Threshold in thousand photons a second", float(f"{5 * mean / 1e3:.2g}"), 1e-6, 1e9, whole=False),
+        Setting("minimum", "Least photons of a burst", 30, 2, 100_000),
+        Setting("m", "Photons in a row that are looked at", 10, 2, 1000),
+        Setting("gamma", "gamma", 1.0, 1e-3, 1e3, whole=False),
+    ]
+
+
+def _draw_bursts(names: Names) -> list[Drawn]:
+    result = names["result"]
+    told = "How many bursts have each E: the part of a molecule's photons that went on to the acceptor."
+    figures = [figure("efficiency", "Bursts by E", told, ("E", ""), ("bursts", "bursts"), [curve("bursts", names["edges"][:-1], names["counts"])])]
+    if result.S is not None:
+        there = ~(np.isnan(result.E) | np.isnan(result.S))
+        points = curve("bursts", result.E[there], result.S[there], shape="points")
+        said = f"Each of {np.count_nonzero(there):,} bursts by E and S: molecules with both dyes lie at middling S."
+        figures.append(figure("e-s", "E and S", said, ("E", ""), ("S", ""), [points]))
+    return figures
+
+
+def _patterns(document: Names, settings: Settings, second: str | None) -> str:
+    return f"""{REPORT}fold = report.table("fold", 1)
+for groups, count in list(zip(fold.patterns(), fold.counts))[1:]:
+    print(f"{{' and '.join(map(str, groups))}}: {{count:,}}")
+curves = {{"patterns": {{"groups": [' and '.join(map(str, groups)) for groups in fold.patterns()], "photons": fold.counts}}}}
+"""
+
+
+def _scanned(seen: Look) -> str:
+    wanting = _only("T3", "pixels have delays after the sync")(seen)
+    if not wanting and "[[cube]]" not in plan_of(seen) and not _scan_of_marks(seen):
+        return "neither its header nor its markers tell of the lines of a scan"
+    return wanting
+
+
+def _scan_of_marks(seen: Look) -> str:
+    """A cube by the markers alone, where the header tells of no scan: as many columns as there are lines in a frame."""
+    counts = seen.bits
+    lines = [bit for bit, count in counts.items() if 2 * count > max(counts.values())]
+    begins = {bit: int(seen.marks[0][seen.marks[1] & 1 << (bit - 1) != 0][0]) for bit in lines}
+    line = min(begins, key=lambda bit: begins[bit], default=0)
+    frame = min(set(counts) - set(lines), key=lambda bit: counts[bit], default=0)
+    stop = next((bit for bit in lines if bit != line), 0)
+    length = seen.periods_of_line(line, stop or line) if line else None
+    height = round(counts[line] / counts[frame]) if frame else counts.get(line, 0)
+    if length is None or not 2 <= height <= SIDE or length < height:
+        return ""
+    keys = {"group": 1, "width": height, "height": height, "dwell": round(length / height), "line": line, "frame": frame, "stop": stop}
+    said = f"\n# a guess by the markers, {height} lines in a frame: the header tells of no pixels; put the scan's own width here\n[[cube]]\n"
+    return said + "".join(f"{key} = {value}\n" for key, value in (keys | bins_of_pixel(seen, height * height)).items() if value)
+
+
+def _ticks_known(seen: Look) -> str:
+    return "" if _known(seen.header.global_seconds) else "the header doesn't tell how long a tick is"
+
+
+def _fits(*more: Setting) -> Callable[[Look], list[Setting]]:
+    return lambda seen: [*more, *DECAY_SETTINGS[1:]]
+
+
+NUMPY, FITS = "import numpy as np\n\nimport ptulab", "from ptulab import fits"
+ANALYSES = {
+    one.name: one
+    for one in (
+        Analysis("decay", "Decay and lifetime", "How long the dye stays excited: an exponential is fitted to the photons by their delay after the pulse.",
+                 _only("T3", "photons have delays after a pulse"), ("histogram",), lambda seen: DECAY_SETTINGS, _decay, _draw_decay,
+                 f"import ptulab\n{FITS}", takes_second=True),
+        Analysis("image", "Lifetime image", "A picture of the scan, with the mean delay of the photons of each pixel.",
+                 _scanned, ("cube",), _fits(Setting("threshold", "Photons that a pixel must have (0: a tenth of the brightest)", 0, 0, 1e9)),
+                 _image, _draw_image, f"{NUMPY}\n{FITS}"),
+        Analysis("trace", "Light over the time", "The light of the group over the measurement, and how often it was how bright.",
+                 _ticks_known, ("trace",), lambda seen: [Setting("number", "Trace of the plan", 1, 1, 32)], _trace, _draw_trace, NUMPY),
+        Analysis("correlation", "Correlation (FCS)", "How long a molecule stays in the focus, and how many are there: the curve falls where they leave it.",
+                 _ticks_known, (), _correlation_settings, _correlation, _draw_correlation, f"{NUMPY}\nfrom ptulab import fits, segments\nfrom ptulab.groups import Group",
+                 by_python=True),
+        Analysis("antibunching", "Antibunching (g2)", "Whether the light comes of one emitter: below one half at 0, it does.",
+                 _two_detectors("T2", "all pairs are counted by their times"), ("trace", "coincidence"), lambda seen: [], _g2,
+                 lambda names: [*map(drawn, of_report(names["report"], "coincidence"))], f"{NUMPY}\n{FITS}"),
+        Analysis("pulsed", "Antibunching of a pulsed source", "Whether the light comes of one emitter: hardly two photons of one pulse, then.",
+                 _two_detectors("T3", "pairs are counted by pulses"), (), _pulsed_settings, _pulsed, _draw_pulsed,
+                 "from ptulab import pulsed\nfrom ptulab.groups import Group", by_python=True),
+        Analysis("bursts", "Single molecules (FRET)", "Each molecule that crosses the focus is a burst; E tells how near its two dyes are.",
+                 lambda seen: _ticks_known(seen) or ("" if len(seen.inputs) > 1 else "it takes the donor's and the acceptor's input, and the file has one"),
+                 (), _bursts_settings, _bursts, _draw_bursts,
+                 "import numpy as np\n\nfrom ptulab.bursts import find_bursts, fret, fused, photons_in\nfrom ptulab.groups import Group, photons_of",
+                 by_python=True),
+        Analysis("patterns", "Which detectors click together", "How often a photon of one group has others of other groups in a window behind it.",
+                 _two_detectors("T2", "photons are compared by their times"), (), lambda seen: [], _patterns,
+                 lambda names: [*map(drawn, of_report(names["report"], "fold"))], "import ptulab"),
+    )
+}  # fmt: skip

@@ -1,0 +1,121 @@
+"""What the window draws, as JSON: curves that share their axes, and pictures."""
+
+from __future__ import annotations
+
+import csv
+import math
+from collections.abc import Iterator, Sequence
+from pathlib import Path
+from typing import Any
+
+import numpy as np
+from numpy.typing import NDArray
+
+from ..first_look import Info
+from ..page._document import packed
+from ..page._figures import POINTS, Figure, Picture, figures_of, limits_of
+
+Floats = NDArray[np.float64]
+Drawn = dict[str, Any]
+
+
+def curve(label: str, xs: NDArray[Any], ys: NDArray[Any], errors: NDArray[Any] | None = None, shape: str = "hv") -> Drawn:
+    """A curve of a figure; of many points the least and the greatest of each piece are drawn."""
+    places = _thinned(np.asarray(ys, np.float64))
+    told = None if errors is None else _listed(errors[places])
+    return {"label": label, "x": _listed(xs[places]), "y": _listed(ys[places]), "errors": told, "shape": shape}
+
+
+def figure(name: str, title: str, summary: str, xaxis: tuple[str, str], yaxis: tuple[str, str], curves: Sequence[Drawn], **more: Any) -> Drawn:
+    """A figure of curves: the axes are their labels and units; ``more`` has ``xlog``, ``log``, ``level`` and ``start``."""
+    axes = {"xlabel": xaxis[0], "xunit": xaxis[1], "ylabel": yaxis[0], "yunit": yaxis[1]}
+    usual = {"xlog": False, "log": None, "level": None, "start": None, "names": None}
+    return {"kind": "curves", "name": name, "title": title, "summary": summary, **axes, **usual, **more, "curves": list(curves)}
+
+
+def drawn(one: Figure) -> Drawn:
+    """A figure of the page, for the window."""
+    if isinstance(one, Picture):
+        return _picture(one)
+    curves = [curve(one.title, one.xs, one.ys, one.errors, one.shape)] if len(one.xs) else []
+    names = None if one.names is None else list(one.names)
+    axes = (one.xlabel, one.xunit), (one.ylabel, one.yunit)
+    return figure(one.name, one.title, one.summary, *axes, curves, xlog=one.xlog, log=one.log, level=one.level, start=one.start, names=names)
+
+
+def of_report(report: Any, kind: str, number: int = 1, header: Any = None) -> list[Figure]:
+    """The figures of one table of a report."""
+    return [one for one in figures_of(report, header) if "-".join(one.name.split("-")[:2]) == f"{kind}-{number}"]
+
+
+def with_curve(one: Drawn, label: str, xs: NDArray[Any], ys: NDArray[Any]) -> Drawn:
+    """The same figure with another curve, as of a fit."""
+    return one | {"curves": [*one["curves"], curve(label, xs, ys, shape="linear")]}
+
+
+def units_of_second(one: Drawn) -> float:
+    """How many units of its x axis a figure has for a second."""
+    return {"s": 1.0, "ms": 1e3, "µs": 1e6, "ns": 1e9, "ps": 1e12}.get(one["xunit"], math.nan)
+
+
+def _picture(one: Picture) -> Drawn:
+    rows, columns = one.photons.shape
+    least, most = limits_of(one)
+    values = None if one.unit == "photons" else packed(one.values.astype("<f4"))
+    return {
+        "kind": "picture", "name": one.name, "title": one.title, "summary": one.summary, "rows": rows, "columns": columns, "block": one.block,
+        "label": one.label, "unit": one.unit, "micrometres": one.micrometres, "photons": packed(one.photons), "values": values,
+        "threshold": one.threshold, "most": int(one.photons.max(initial=1)), "zmin": least, "zmax": most, "colours": one.colours,
+    }  # fmt: skip
+
+
+def figures_of_look(seen: Info) -> list[Drawn]:
+    """The traces of all inputs over the time of the file, and of T3 their decays."""
+    if not seen.inputs:
+        return []
+    tick, mode = seen.tick_seconds, seen.header.mode
+    factor, unit = (tick, "s") if tick else (1.0, "ticks" if mode == "T2" else "sync periods")
+    last = seen.head.last or 0
+    starts = np.arange(0, last + 1, seen.bin_ticks, dtype=np.float64)
+    rate = 1 / (seen.bin_ticks * tick) if tick else 1.0
+    traces = [curve(f"input {one.number}", starts * factor, one.trace[: len(starts)] * rate) for one in seen.inputs]
+    told = f"The light of each input over the file, in {len(starts)} bins of {seen.bin_ticks * factor:.4g} {unit}."
+    ylabel = ("photons a second", "a second") if tick else ("photons in a bin", "photons")
+    figures = [figure("look-trace", "Over the time", told, (f"time ({unit})", unit), ylabel, traces)]
+    return figures + ([_decays(seen)] if mode == "T3" else [])
+
+
+def _decays(seen: Info) -> Drawn:
+    tick = seen.dtime_seconds
+    factor, unit = (tick * 1e9, "ns") if tick else (1.0, "ticks")
+    decays = [(one.number, one.decay) for one in seen.inputs if one.decay is not None]
+    depth = max(int(np.flatnonzero(decay)[-1]) + 1 for _, decay in decays)
+    xs = np.arange(depth) * factor
+    curves = [curve(f"input {number}", xs, decay[:depth]) for number, decay in decays]
+    told = f"The photons of each input by their delay after the sync, in {depth:,} bins of {factor:.4g} {unit}."
+    axes = (f"delay after the sync ({unit})", unit), ("photons", "photons")
+    return figure("look-decay", "By the delay after the sync", told, *axes, curves, log=True, tick=factor)
+
+
+def write_curves(folder: Path, names: dict[str, Any]) -> None:
+    """A CSV of each list of columns that a script names ``curves``."""
+    for name, columns in names.get("curves", {}).items():
+        with open(folder / f"{name}.csv", "w", encoding="utf-8", newline="") as out:
+            rows = csv.writer(out, lineterminator="\n")
+            rows.writerow(columns)
+            rows.writerows(zip(*(np.asarray(column).tolist() for column in columns.values())))
+
+
+def _thinned(ys: Floats) -> NDArray[np.int64]:
+    if len(ys) <= POINTS:
+        return np.arange(len(ys))
+    return np.unique(np.fromiter(_ends(np.nan_to_num(ys)), np.int64))
+
+
+def _ends(ys: Floats) -> Iterator[int]:
+    for piece in np.array_split(np.arange(len(ys)), POINTS // 2):
+        yield from (piece[ys[piece].argmin()], piece[ys[piece].argmax()])
+
+
+def _listed(values: NDArray[Any]) -> list[float | None]:
+    return [float(f"{value:.9g}") if math.isfinite(value) else None for value in np.asarray(values, np.float64).tolist()]

@@ -1,0 +1,325 @@
+"""The server of the window: what the page asks, and what it gets."""
+
+from __future__ import annotations
+
+import asyncio
+import json
+import os
+import re
+import secrets
+import shutil
+import socket
+import sys
+import tempfile
+import threading
+import webbrowser
+from collections.abc import AsyncGenerator, Callable
+from contextlib import aclosing
+from importlib import resources
+from pathlib import Path
+from typing import Any
+
+from .._optional import want
+from .._versions import __version__
+from ..errors import PtulabError
+from ..headers import other_records, read_header
+from ..program import find_program
+from ._folder import Folder, NotHere
+from ._groups import looked_over, with_groups
+from ._guard import Guard
+from ._jobs import Jobs
+
+__all__ = ["make_app", "serve"]
+
+FEATURE = "the window"
+LONGEST = 1 << 18  # bytes that a page may send
+KEPT = 8  # results whose files are kept
+MEGABYTES = 3072  # that a piece of work may have
+SCRIPTS = ("app.js", "server.js", "dom.js", "files.js", "look.js", "plan.js", "questions.js", "plots.js")
+TYPES = {".js": "text/javascript; charset=utf-8", ".css": "text/css; charset=utf-8"}
+RESULT = re.compile(r"[0-9a-f]{16}")
+FILE = re.compile(r"[A-Za-z0-9_]{1,60}\.[a-z]{2,4}")
+SESSIONS = "ptulab-sessions"
+SESSION = re.compile(r"[\w][\w .()+-]{0,79}")
+
+
+class Window:
+    """What the page of one folder asks."""
+
+    def __init__(self, folder: str | os.PathLike[str], program: str, work: str, megabytes: int) -> None:
+        self.folder, self.work, self.jobs = Folder(folder), Path(work), Jobs(program, megabytes)
+        self.results: dict[str, str] = {}  # of each the name of its file
+
+    # ## Files
+
+    def files(self, asked: dict[str, Any]) -> Any:
+        """The files of the folder, by their headers."""
+        return {"folder": os.path.basename(self.folder.root) or "/", "files": [self._file(name) for name in self.folder.names()]}
+
+    def _file(self, name: str) -> dict[str, Any]:
+        told: dict[str, Any] = {"name": name.encode("utf-8", "surrogateescape").decode("utf-8", "replace"), "bytes": 0, "type": "", "wrong": ""}
+        try:
+            path = self.folder.path(name)
+            told["bytes"] = os.path.getsize(path)
+            header = read_header(path)
+        except (PtulabError, OSError) as error:
+            return told | {"wrong": str(getattr(error, "line", "") or getattr(error, "strerror", "") or error)}
+        odd = "cut within a record" if header.left_over_bytes else other_records(header.announced, header.records)
+        return told | {"type": header.record_type, "odd": odd, "records": header.records}
+
+    # ## Plans
+
+    def plan(self, asked: dict[str, Any]) -> Any:
+        """What is in a plan, and what is wrong with it."""
+        return looked_over(_text(asked, "plan"))
+
+    def groups(self, asked: dict[str, Any]) -> Any:
+        """The plan with other groups."""
+        text = with_groups(_text(asked, "plan"), asked["groups"])
+        return {"plan": text, **looked_over(text)}
+
+    # ## Work
+
+    def request(self, kind: str, asked: dict[str, Any]) -> dict[str, Any]:
+        """What a piece of work is told. A run gets a folder for its files, the oldest of which is removed."""
+        request: dict[str, Any] = {"kind": kind}
+        if kind == "page":
+            folder = self._result(asked)
+            return request | {"path": self.folder.path(self.results[folder.name]), "out": str(folder)}
+        request["path"] = self.folder.path(asked.get("file"))
+        if kind in ("check", "run"):
+            result = secrets.token_hex(8)
+            (self.work / result).mkdir()
+            request |= {"out": str(self.work / result), "plan": _text(asked, "plan")}
+            if kind == "run":
+                self.results[result] = asked["file"]
+                request |= {"analysis": _text(asked, "analysis"), "settings": dict(asked["settings"])}
+                request["second"] = self.folder.path(asked["second"]) if asked.get("second") else None
+                self._forget()
+        return request
+
+    def _forget(self) -> None:
+        while len(self.results) > KEPT:
+            oldest = next(iter(self.results))
+            del self.results[oldest]
+            shutil.rmtree(self.work / oldest, ignore_errors=True)
+
+    def _result(self, asked: dict[str, Any]) -> Path:
+        name = asked.get("result")
+        if not isinstance(name, str) or not RESULT.fullmatch(name) or name not in self.results:
+            raise NotHere("this result isn't kept any more: run it once more")
+        return self.work / name
+
+    def file_of_result(self, result: str, name: str) -> Path:
+        """A file of a result."""
+        path = self._result({"result": result}) / name
+        if not FILE.fullmatch(name) or not path.is_file() or path.is_symlink():
+            raise NotHere("the result has no such file")
+        return path
+
+    # ## Sessions
+
+    def keep(self, asked: dict[str, Any]) -> Any:
+        """Puts the files of a result into a folder beside the data, with what was asked."""
+        result, name = self._result(asked), _text(asked, "name").strip()
+        if not SESSION.fullmatch(name):
+            raise ValueError("a session's name has letters, digits, blanks and ( ) + - . _, at most 80")
+        home = os.path.join(self.folder.root, SESSIONS)
+        folder = os.path.join(home, name)
+        if os.path.realpath(home) != home or os.path.lexists(folder):
+            raise ValueError(f"there is a session {name}: take another name")
+        told = {key: asked.get(key) for key in ("analysis", "settings", "second")} | {"file": self.results[result.name]}
+        os.makedirs(folder)
+        try:
+            for path in sorted(result.iterdir()):
+                shutil.copyfile(path, os.path.join(folder, path.name))
+            Path(folder, "session.json").write_text(json.dumps(told, indent=1), "utf-8")
+        except OSError:  # as of a full disk: half a session is none
+            shutil.rmtree(folder, ignore_errors=True)
+            raise
+        return {"folder": f"{SESSIONS}/{name}"}
+
+    def sessions(self, asked: dict[str, Any]) -> Any:
+        """The sessions beside the data, by their names."""
+        home = Path(self.folder.root, SESSIONS)
+        names = sorted(path.parent.name for path in home.glob("*/session.json")) if home.is_dir() else []
+        return {"sessions": [name for name in names if SESSION.fullmatch(name)]}
+
+    def session(self, asked: dict[str, Any]) -> Any:
+        """What a session asked: file, analysis, settings and plan."""
+        name = _text(asked, "name")
+        folder = os.path.join(self.folder.root, SESSIONS, name)
+        if not SESSION.fullmatch(name) or os.path.realpath(folder) != folder:
+            raise NotHere("there is no such session")
+        texts = []
+        for file in ("session.json", "plan.toml"):
+            with open(os.path.join(folder, file), encoding="utf-8", errors="replace") as opened:
+                texts.append(opened.read(LONGEST))
+        told = json.loads(texts[0])
+        self.folder.path(told["file"])
+        return {key: told.get(key) for key in ("analysis", "settings", "second", "file")} | {"plan": texts[1]}
+
+
+def _text(asked: dict[str, Any], key: str) -> str:
+    value = asked.get(key)
+    if not isinstance(value, str):
+        raise ValueError(f"{key} is wanting")
+    return value
+
+
+def make_app(folder: str | os.PathLike[str], *, token: str, port: int, work: str, program: str | None = None, megabytes: int = MEGABYTES) -> Guard:
+    """The application of a folder, for a server on this port.
+
+    ``token`` is in the first address, ``work`` an empty folder for results, ``megabytes`` what a piece of work may have for its
+    data. Raises ``Missing`` without Starlette or Jinja, ``NoProgram``, and ``OSError`` for a folder that can't be read.
+    """
+    want("starlette.applications", FEATURE)
+    want("jinja2", FEATURE)
+    from starlette.applications import Starlette
+    from starlette.requests import Request
+    from starlette.responses import FileResponse, JSONResponse, Response
+    from starlette.routing import Route
+
+    window = Window(folder, find_program(program), work, megabytes)
+    kept: dict[str, bytes] = {}
+
+    def answered(answer: Callable[[dict[str, Any]], Any]) -> Callable[[Request], Any]:
+        async def endpoint(request: Request) -> Response:
+            try:
+                return JSONResponse(await asyncio.to_thread(answer, await _asked(request)))
+            except (PtulabError, ValueError, KeyError, TypeError, OSError) as error:
+                return JSONResponse({"error": _said(error)}, 404 if isinstance(error, NotHere) else 400)
+
+        return endpoint
+
+    def worked(kind: str) -> Callable[[Request], Any]:
+        async def endpoint(request: Request) -> Any:
+            try:
+                told = window.request(kind, await _asked(request))
+            except (PtulabError, ValueError, KeyError, TypeError, OSError) as error:
+                return JSONResponse({"error": _said(error)}, 404 if isinstance(error, NotHere) else 400)
+            begun = json.dumps({"begun": os.path.basename(told.get("out", ""))}).encode() + b"\n"
+            return _stream(begun, window.jobs.lines(told, kind == "run"))
+
+        return endpoint
+
+    async def script(request: Request) -> Response:
+        name = request.path_params["name"]
+        if name == "plotly.js":
+            if name not in kept:
+                kept[name] = str(want("plotly.offline", FEATURE).get_plotlyjs()).encode()
+            return Response(kept[name], headers={"content-type": TYPES[".js"], "cache-control": "private, max-age=86400"})
+        if name not in (*SCRIPTS, "app.css"):
+            return Response("no such file", 404)
+        return Response(_static(name), headers={"content-type": TYPES[os.path.splitext(name)[1]]})
+
+    async def download(request: Request) -> Response:
+        try:
+            path = window.file_of_result(request.path_params["result"], request.path_params["name"])
+        except NotHere as error:
+            return Response(str(error), 404)
+        headers = {"content-security-policy": "sandbox; default-src 'none'"}
+        return FileResponse(path, filename=path.name, media_type="application/octet-stream", headers=headers)
+
+    async def page(request: Request) -> Response:
+        text = _page({"folder": os.path.basename(window.folder.root) or "/", "version": __version__})
+        return Response(text, headers={"content-type": "text/html; charset=utf-8"})
+
+    asked = {"files": window.files, "plan": window.plan, "groups": window.groups, "keep": window.keep, "sessions": window.sessions, "session": window.session}
+    return Guard(
+        Starlette(
+            routes=[
+                Route("/", page),
+                Route("/static/{name}", script),
+                Route("/result/{result}/{name}", download),
+                *(Route(f"/api/{name}", answered(answer), methods=["POST"]) for name, answer in asked.items()),
+                *(Route(f"/api/{kind}", worked(kind), methods=["POST"]) for kind in ("look", "propose", "check", "run", "page")),
+            ]
+        ),
+        token,
+        port,
+        window.jobs.end,
+    )
+
+
+async def _asked(request: Any) -> dict[str, Any]:
+    """The JSON that a page sent, at most 256 KiB; what is more is read, so that the page hears of it, and thrown away."""
+    body, size = bytearray(), 0
+    async for piece in request.stream():
+        size += len(piece)
+        if size <= LONGEST:
+            body += piece
+        elif size > 256 * LONGEST:
+            break
+    if size > LONGEST:
+        raise ValueError(f"more than {LONGEST} bytes were sent")
+    asked = json.loads(body or b"{}")
+    if not isinstance(asked, dict):
+        raise ValueError("an object of JSON is wanted")
+    return asked
+
+
+def _stream(begun: bytes, lines: AsyncGenerator[bytes, None]) -> Any:
+    """An answer that ends the work when the page that asked is gone."""
+    from starlette.responses import StreamingResponse
+
+    async def all_of() -> AsyncGenerator[bytes, None]:
+        yield begun
+        async for some in lines:
+            yield some
+
+    class Stream(StreamingResponse):
+        async def __call__(self, scope: Any, receive: Any, send: Any) -> None:
+            async with aclosing(lines), aclosing(told):
+                await super().__call__(scope, receive, send)
+
+    told = all_of()
+    return Stream(told, media_type="application/x-ndjson")
+
+
+def _said(error: BaseException) -> str:
+    if isinstance(error, OSError) and not isinstance(error, PtulabError):
+        return f"{os.path.basename(str(error.filename or ''))}: {error.strerror or error}".removeprefix(": ")
+    return f"{error} is wanting" if isinstance(error, KeyError) and not isinstance(error, PtulabError) else str(error)
+
+
+def _static(name: str) -> bytes:
+    return resources.files(__package__).joinpath("static", name).read_bytes()
+
+
+def _page(values: dict[str, Any]) -> str:
+    """The page itself; what is put in is escaped."""
+    jinja2 = want("jinja2", FEATURE)
+    environment = jinja2.Environment(autoescape=True, undefined=jinja2.StrictUndefined)
+    return str(environment.from_string(_static("page.html").decode("utf-8")).render(**values))
+
+
+def serve(folder: str | os.PathLike[str] = ".", *, port: int = 0, browser: bool = True, program: str | None = None) -> None:
+    """Serves the window of a folder on 127.0.0.1 till it is ended, and opens the browser at it.
+
+    ``port`` 0 takes a free one. Raises as ``make_app`` does, and ``Missing`` without uvicorn.
+    """
+    uvicorn = want("uvicorn", FEATURE)
+    listening = socket.socket(socket.AF_INET, socket.SOCK_STREAM)
+    listening.setsockopt(socket.SOL_SOCKET, socket.SO_REUSEADDR, 1)
+    with listening, tempfile.TemporaryDirectory(prefix="ptulab-app-") as work:
+        listening.bind(("127.0.0.1", port))
+        listening.listen()  # so that a browser that comes early waits
+        port, token = listening.getsockname()[1], secrets.token_urlsafe(32)
+        app = make_app(folder, token=token, port=port, work=work, program=program)
+        address = f"http://127.0.0.1:{port}/?token="
+        print(f"The window is at {address}{token}\nIt ends with Control-C.", file=sys.stderr, flush=True)
+        if browser:  # whose words others on this machine may see
+            opening = threading.Timer(0.5, webbrowser.open, (address + app.once,))
+            opening.daemon = True
+            opening.start()
+        settings = uvicorn.Config(app, log_level="warning", access_log=False, ws="none", server_header=False, timeout_keep_alive=30)
+        server = uvicorn.Server(settings)
+        handle = server.handle_exit
+
+        def ended(number: int, frame: Any) -> None:
+            app.end()
+            handle(number, frame)
+
+        server.handle_exit = ended
+        server.run(sockets=[listening])

@@ -1,0 +1,48 @@
+// The window: files and sessions on the left, and the one that was chosen on the right.
+import { byId, make, trouble } from "./dom.js";
+import { list, lookAround, mark } from "./files.js";
+import { look } from "./look.js";
+import { open, questions, stop } from "./questions.js";
+import { ask } from "./server.js";
+
+let chosen = new AbortController();
+
+/** Looks at a file and shows what can be asked of it; what was done before ends. @param {string} name @param {any} [session] */
+async function choose(name, session = null) {
+  chosen.abort();
+  stop();
+  const mine = chosen = new AbortController();
+  trouble("");
+  mark(name);
+  byId("welcome").hidden = true;
+  for (const id of ["questions", "ask", "result"]) byId(id).hidden = true;
+  try {
+    const told = await look(name, mine.signal);
+    if (mine.signal.aborted) return;
+    if (!session) byId("look-title").focus();
+    const these = await questions(name, told.info, mine.signal);
+    const one = session && these.find((each) => each.name === session.analysis);
+    if (one) await open(one, session);
+  } catch (error) {
+    if (mine.signal.aborted) return;
+    const said = error instanceof Error ? error.message : String(error);
+    byId("look-said").textContent = said;
+    byId("look-said").className = "wrong";
+    byId("questions").hidden = true;
+  }
+}
+
+async function sessions() {
+  const { sessions: names } = await ask("sessions");
+  byId("sessions").replaceChildren(...(names.length ? names.map((/** @type {string} */ name) => make("li", {}, make("button", { type: "button", text: name, on: { click: async () => {
+    try {
+      const told = await ask("session", { name });
+      await choose(told.file, told);
+    } catch (error) {
+      trouble(error instanceof Error ? error.message : String(error));
+    }
+  } } }))) : [make("li", { class: "faint", text: "none yet" })]));
+}
+
+document.addEventListener("kept", () => { sessions().catch((error) => trouble(error.message)); });
+list(choose).then(sessions).then(lookAround).catch((error) => trouble(error.message)).finally(() => { document.documentElement.dataset.ready = "yes"; });

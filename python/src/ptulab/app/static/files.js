@@ -1,0 +1,81 @@
+// The files of the folder, each with what its header says and then with what a look in the background finds.
+import { byId, make, short } from "./dom.js";
+import { ask, work } from "./server.js";
+
+/** @type {{name: string, bytes: number, type: string, wrong: string, odd?: string, records?: number}[]} */
+export let files = [];
+/** @type {Map<string, any>} what the first looks told */
+export const looks = new Map();
+/** @type {AbortController | null} */
+let background = null;
+let paused = 0, looking = false;
+
+/** Lists the files. @param {(name: string) => void} chosen */
+export async function list(chosen) {
+  const told = await ask("files");
+  files = told.files;
+  byId("files-said").textContent = files.length ? `${files.length} files` : "There is no PTU file in this folder.";
+  byId("files").replaceChildren(...files.map((file) => {
+    const button = make("button", { type: "button", disabled: Boolean(file.wrong), "data-name": file.name, on: { click: () => chosen(file.name) } },
+      make("strong", { text: file.name }), make("span", { class: file.wrong ? "wrong" : "faint", text: said(file) }));
+    return make("li", {}, button);
+  }));
+}
+
+/** @param {typeof files[0]} file */
+function said(file) {
+  if (file.wrong) return file.wrong;
+  const size = file.bytes < 1e5 ? `${short(file.bytes)} bytes` : `${Number((file.bytes / 1e6).toPrecision(3))} MB`, seen = looks.get(file.name);
+  const found = seen ? `${short(seen.info.seconds)} s, ${short(seen.info.photons)} photons` : `${short(file.records || 0)} records`;
+  return [file.type, size, found, file.odd || (seen ? "whole" : "")].filter((some) => some).join(", ");
+}
+
+/** Marks the file that is looked at. @param {string} name */
+export function mark(name) {
+  for (const button of document.querySelectorAll("#files button")) button.setAttribute("aria-current", String(button.getAttribute("data-name") === name));
+}
+
+/** Shows what a look found. @param {string} name */
+export function found(name) {
+  const button = [...document.querySelectorAll("#files button")].find((one) => one.getAttribute("data-name") === name);
+  const file = files.find((one) => one.name === name);
+  if (button && file && button.lastChild) button.lastChild.textContent = said(file);
+}
+
+/** Looks at one file after another, while nothing else is done. */
+export async function lookAround() {
+  if (looking || paused) return;
+  looking = true;
+  try {
+    for (const file of files) if (!file.wrong && !looks.has(file.name) && !paused) await lookAt(file);
+    byId("files-said").textContent = files.length ? `${files.length} files` : "There is no PTU file in this folder.";
+  } finally {
+    looking = false;
+  }
+}
+
+/** @param {typeof files[0]} file */
+async function lookAt(file) {
+  const mine = background = new AbortController();
+  try {
+    looks.set(file.name, await work("look", { file: file.name }, (line) => {
+      byId("files-said").textContent = `${files.length} files; looks at ${file.name}: ${Math.round(100 * (line.progress || 0))} %`;
+    }, mine.signal));
+  } catch (error) {
+    if (mine.signal.aborted) return;
+    file.wrong = error instanceof Error ? error.message : String(error);
+  }
+  found(file.name);
+}
+
+/** Does something while no file is looked at in the background. @template T @param {() => Promise<T>} what @returns {Promise<T>} */
+export async function alone(what) {
+  paused += 1;
+  background?.abort();
+  try {
+    return await what();
+  } finally {
+    paused -= 1;
+    if (!paused) setTimeout(lookAround, 500);
+  }
+}

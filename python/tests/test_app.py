@@ -1,0 +1,482 @@
+"""The window's server: who may ask it, what it sees, and that no file, request or run ends it."""
+
+import io
+import json
+import os
+import re
+import signal
+import socket
+import subprocess
+import sys
+import threading
+import time
+from collections.abc import Iterator
+from concurrent.futures import ThreadPoolExecutor
+from pathlib import Path
+from typing import Any
+
+import made
+import numpy as np
+import pytest
+
+import ptulab
+from conftest import EXAMPLES
+
+httpx = pytest.importorskip("httpx", reason="python3-httpx isn't on this machine")
+uvicorn = pytest.importorskip("uvicorn", reason="python3-uvicorn isn't on this machine")
+pytest.importorskip("starlette", reason="python3-starlette isn't on this machine")
+SECONDS = 600  # for whatever is waited for, on a machine with other work
+HOSTILE = "<img src=x onerror=alert(1)>\"'.ptu"
+DECAY = "[[group]]\ninputs = [0]\n[[histogram]]\ngroup = 1\nwidth = 8\nbins = 250\n"
+
+
+class Served:
+    """A server of a folder, and a client that came by its first address."""
+
+    def __init__(self, folder: Path, work: Path, program: str, megabytes: int = 3072) -> None:
+        from ptulab.app import make_app
+
+        listening = socket.socket()
+        listening.bind(("127.0.0.1", 0))
+        listening.listen()
+        self.port, self.folder = listening.getsockname()[1], folder
+        self.origin = f"http://127.0.0.1:{self.port}"
+        work.mkdir()
+        self.app = make_app(folder, token="right", port=self.port, work=str(work), program=program, megabytes=megabytes)
+        self.server = uvicorn.Server(uvicorn.Config(self.app, log_level="critical", ws="none", timeout_keep_alive=SECONDS))
+        self.thread = threading.Thread(target=self.server.run, kwargs={"sockets": [listening]}, daemon=True)
+        self.thread.start()
+        self.client = httpx.Client(base_url=self.origin, verify=False, headers={"origin": self.origin}, timeout=SECONDS)
+        assert self.client.get("/?token=right").status_code == 303
+
+    def end(self) -> None:
+        self.client.close()
+        self.app.end()
+        self.server.should_exit = True
+        self.thread.join(SECONDS)
+
+    def ask(self, what: str, /, **asked: Any) -> Any:
+        return self.client.post(f"/api/{what}", content=json.dumps(asked)).json()
+
+    def work(self, what: str, /, **asked: Any) -> Any:
+        """The last line of a piece of work, with the name of its result."""
+        answer = self.client.post(f"/api/{what}", content=json.dumps(asked))
+        lines = [json.loads(line) for line in answer.text.splitlines() if line]
+        return {"begun": lines[0].get("begun"), **lines[-1]}
+
+
+def jobs_of(served: Served) -> Any:
+    """What does the work of a server."""
+    return getattr(served.app.end, "__self__")
+
+
+@pytest.fixture(scope="module")
+def folder(tmp_path_factory: pytest.TempPathFactory) -> Path:
+    """A laboratory's folder: good files, broken ones, and links out of it."""
+    outside, here = tmp_path_factory.mktemp("outside"), tmp_path_factory.mktemp("folder")
+    draws = np.random.default_rng(1)
+    for name, lifetime in (("decay", 70), ("pulse", 1)):
+        ticks = np.minimum(100 + draws.exponential(lifetime, 6000).astype(int) + draws.integers(0, 8, 6000), 1990)
+        times = np.sort(draws.integers(0, 42_000, 6000))
+        events = [(int(time), int(draws.integers(0, 2)), int(tick)) for time, tick in zip(times, ticks)]
+        made.write(here / f"{name}.ptu", "HydraHarp2T3", events, tick=100e-9, resolution=50e-12)
+    times = np.cumsum(draws.integers(1, 400, 8000))
+    made.write(here / "pairs.ptu", "HydraHarp2T2", [(int(time), int(1 + draws.integers(0, 2))) for time in times], tick=1e-9)
+    (here / "scan.ptu").write_bytes((EXAMPLES / "scan.ptu").read_bytes())
+    (here / "cut.ptu").write_bytes((here / "pairs.ptu").read_bytes()[:-6])
+    (here / "text.ptu").write_text("no PTU file")
+    (here / "empty.ptu").write_bytes(b"")
+    (here / HOSTILE).write_bytes((here / "pairs.ptu").read_bytes())
+    (here / "more").mkdir()
+    (here / "more" / "inside.ptu").write_bytes((here / "pairs.ptu").read_bytes())
+    made.write(outside / "secret.ptu", "HydraHarp2T2", [(1, 1)])
+    (here / "link.ptu").symlink_to(outside / "secret.ptu")
+    (here / "away").symlink_to(outside)
+    (here / "plain.txt").write_text("text")
+    os.mkfifo(here / "pipe.ptu")
+    return here
+
+
+@pytest.fixture(scope="module")
+def served(folder: Path, program: str, tmp_path_factory: pytest.TempPathFactory) -> Iterator[Served]:
+    one = Served(folder, tmp_path_factory.mktemp("work") / "results", program)
+    yield one
+    one.end()
+
+
+# ## Who may ask
+
+
+@pytest.mark.parametrize(
+    ("headers", "status"),
+    [
+        ({"host": "evil.example"}, 421),
+        ({"host": "127.0.0.1"}, 421),
+        ({"host": "127.0.0.1.evil.example:{port}"}, 421),
+        ({"origin": "http://evil.example"}, 403),
+        ({"origin": "null"}, 403),
+        ({"origin": "http://localhost:{port}"}, 403),
+        ({"origin": "https://127.0.0.1:{port}"}, 403),
+        ({"sec-fetch-site": "cross-site"}, 403),
+        ({"sec-fetch-site": "same-site"}, 403),
+        ({"cookie": ""}, 403),
+        ({"cookie": "ptulab-{port}=right"}, 403),
+        ({"cookie": "ptulab-{port}"}, 403),
+    ],
+)
+@pytest.mark.parametrize("path", ["/", "/api/files", "/static/app.js"])
+def test_others_get_nothing(headers: dict[str, str], status: int, path: str, served: Served) -> None:
+    wanted = {word: value.format(port=served.port) for word, value in headers.items()}
+    answer = served.client.request("POST" if path.startswith("/api") else "GET", path, headers=wanted, content=b"{}" if path.startswith("/api") else None)
+    assert answer.status_code == status and "ptu" not in answer.text.lower().replace("the page that it", "")
+    assert answer.headers["content-security-policy"].startswith("default-src 'none'")
+
+
+def test_a_post_without_an_origin_gets_nothing(served: Served) -> None:
+    with httpx.Client(base_url=served.origin, verify=False, cookies=served.client.cookies, timeout=SECONDS) as client:
+        assert client.post("/api/files").status_code == 403
+        assert client.get("/").status_code == 200
+
+
+def test_the_token_gives_a_cookie_that_scripts_cannot_read(served: Served) -> None:
+    with httpx.Client(base_url=served.origin, verify=False, timeout=SECONDS) as client:
+        assert [client.get(f"/?token={token}").status_code for token in ("", "wrong", "right%00", "RIGHT")] == [403] * 4
+        assert client.get("/static/app.js?token=right").status_code == 403
+        answer = client.get("/?token=right")
+        assert answer.status_code == 303 and answer.headers["location"] == "/"
+        words = answer.headers["set-cookie"].split("; ")
+        assert words[0].startswith(f"ptulab-{served.port}=") and "right" not in words[0] and set(words[1:]) == {"HttpOnly", "SameSite=Strict", "Path=/"}
+        assert client.get("/").status_code == 200
+
+
+def test_the_token_of_the_browsers_words_is_good_once(served: Served) -> None:
+    with httpx.Client(base_url=served.origin, verify=False, timeout=SECONDS) as client:
+        token = served.app.once
+        assert [client.get(f"/?token={token}").status_code for _ in range(3)] == [303, 403, 403]
+
+
+def test_each_answer_has_the_policy(served: Served) -> None:
+    for path in ("/", "/static/app.js", "/static/app.css", "/static/plotly.js", "/nowhere", "/result/0123456789abcdef/plan.toml"):
+        headers = served.client.get(path).headers
+        policy = dict(part.strip().partition(" ")[::2] for part in headers["content-security-policy"].split(";"))
+        assert policy["default-src"] == "'none'" and policy.get("script-src", "'self'") == "'self'", path
+        assert headers["x-content-type-options"] == "nosniff" and headers["x-frame-options"] == "DENY"
+
+
+def test_the_page_has_no_script_of_its_own_and_nothing_from_elsewhere(served: Served) -> None:
+    page = served.client.get("/").text
+    assert not re.search(r"<script(?![^>]*src=\"/static/)", page) and not re.search(r"(src|href)=\"(?!/static/|#|data:,)", page)
+    for name in re.findall(r"from \"\./(\w+\.js)\"", "".join(served.client.get(f"/static/{one}").text for one in ("app.js", "look.js", "questions.js"))):
+        assert served.client.get(f"/static/{name}").status_code == 200
+
+
+def test_the_name_of_the_folder_is_escaped(tmp_path: Path, program: str) -> None:
+    hostile = tmp_path / "<script>alert(1)<"
+    hostile.mkdir()
+    one = Served(hostile, tmp_path / "results", program)
+    try:
+        assert "<script>alert" not in one.client.get("/").text and "&lt;script&gt;alert(1)&lt;" in one.client.get("/").text
+        assert one.ask("files")["files"] == []
+    finally:
+        one.end()
+
+
+# ## What it sees
+
+
+BAD_NAMES = ["../outside/secret.ptu", "link.ptu", "away/secret.ptu", "more/../../x.ptu", "plain.txt", "more", "", ".", "pipe.ptu", "no.ptu", "a\0.ptu", "x" * 2000, None, 5, ["decay.ptu"]]
+
+
+@pytest.mark.parametrize("name", BAD_NAMES)
+@pytest.mark.parametrize("kind", ["look", "propose", "check", "run"])
+def test_no_path_outside_the_folder(name: Any, kind: str, served: Served) -> None:
+    answer = served.client.post(f"/api/{kind}", content=json.dumps({"file": name, "plan": DECAY, "analysis": "decay", "settings": {}}))
+    assert answer.status_code == 404 and answer.json() == {"error": "there is no such file in the folder"}
+
+
+def test_no_absolute_path_and_no_second_file_outside(served: Served, folder: Path) -> None:
+    answer = served.client.post("/api/look", content=json.dumps({"file": str(folder / "decay.ptu")}))
+    assert answer.status_code == 404
+    asked = {"file": "decay.ptu", "second": "link.ptu", "plan": DECAY, "analysis": "decay", "settings": {}}
+    assert served.client.post("/api/run", content=json.dumps(asked)).status_code == 404
+
+
+@pytest.mark.parametrize("path", ["/static/../_serve.py", "/static/%2e%2e%2f_serve.py", "/static/page.html", "/result/../x/plan.toml", "/result/0123456789abcdef/..%2fplan.toml", "//etc/passwd"])
+def test_no_other_file_is_handed_out(path: str, served: Served) -> None:
+    assert served.client.get(path).status_code == 404
+
+
+def test_the_files_of_the_folder(served: Served) -> None:
+    files = {one["name"]: one for one in served.ask("files")["files"]}
+    assert sorted(files) == sorted(["decay.ptu", "pulse.ptu", "pairs.ptu", "scan.ptu", "cut.ptu", "text.ptu", "empty.ptu", HOSTILE, "more/inside.ptu"])
+    assert files["text.ptu"]["wrong"] == "not a PTU file" and files["empty.ptu"]["wrong"] == "header cut after 0 bytes"
+    assert files["cut.ptu"]["odd"] == "cut within a record" and files["decay.ptu"]["type"] == "HydraHarp2T3"
+
+
+def test_a_look_tells_what_info_tells(served: Served, folder: Path) -> None:
+    told = served.work("look", file="decay.ptu")["result"]
+    seen = ptulab.info(folder / "decay.ptu")
+    assert told["text"] == str(seen) and told["info"]["photons"] == 6000
+    trace, decay = told["figures"]
+    assert [one["label"] for one in decay["curves"]] == ["input 0", "input 1"]
+    first = seen.inputs[0].decay
+    assert first is not None and decay["curves"][0]["y"] == first[: len(decay["curves"][0]["y"])].tolist() and sum(decay["curves"][0]["y"]) == first.sum()
+    assert trace["yunit"] == "a second"
+    assert served.work("look", file="cut.ptu")["result"]["info"]["is_cut"]
+
+
+def test_a_look_and_a_check_here(folder: Path, tmp_path: Path) -> None:
+    """What the process of the work does."""
+    told = done_here("look", folder / "scan.ptu", tmp_path)
+    assert told["info"]["markers"] == {"1": 128, "2": 2, "3": 128} and [one["name"] for one in told["figures"]] == ["look-trace", "look-decay"]
+    assert done_here("check", folder / "pairs.ptu", tmp_path, plan=DECAY)["findings"][0]["refused"]
+
+
+def test_broken_files_get_a_line_and_end_nothing(served: Served, folder: Path) -> None:
+    assert served.work("look", file="text.ptu")["error"] == "text.ptu: not a PTU file"
+    gone = folder / "gone.ptu"
+    gone.write_bytes((folder / "pairs.ptu").read_bytes())
+    names = [one["name"] for one in served.ask("files")["files"]]
+    gone.unlink()
+    assert "gone.ptu" in names and served.client.post("/api/look", content=json.dumps({"file": "gone.ptu"})).status_code == 404
+    wrong = served.work("run", file="cut.ptu", plan="[[group]]\ninputs = [1]\n[[trace]]\ngroup = 1\nwidth = 1000\nbins = 9\n", analysis="trace", settings={})
+    assert "2 bytes of a record at the end" in wrong["error"] and str(folder) not in wrong["error"]
+    assert served.work("look", file="pairs.ptu")["result"]["info"]["photons"] == 8000
+
+
+@pytest.mark.parametrize("body", [b"[]", b"{", b"\xff", b"3", b'{"file": {}}', b'{"plan": 1}', b"x" * (1 << 18) + b"yy"])
+@pytest.mark.parametrize("path", ["/api/plan", "/api/run", "/api/keep", "/api/session", "/api/groups", "/api/page"])
+def test_odd_requests_are_refused(body: bytes, path: str, served: Served) -> None:
+    answer = served.client.post(path, content=body)
+    assert answer.status_code in (400, 404) and answer.json()["error"]
+
+
+# ## Plans and their groups
+
+
+def test_what_is_wrong_stands_at_its_line(served: Served) -> None:
+    told = served.ask("plan", plan=DECAY.replace("bins = 250", "bins = 0"))
+    assert told["findings"] == [{"line": 6, "text": "histogram 1: bins = 0 isn't a whole number from 1 to 32,768 (rule 12)", "refused": True}]
+    assert served.ask("plan", plan="version = 1\ngroup = [\n")["findings"][0]["line"] == 2
+    inline = served.ask("plan", plan="group = [{ inputs = [0] }]\ntrace = [{ group = 2, width = 1, bins = 1 }]\n")
+    assert inline["groups"] is None and inline["findings"][0]["line"] == 2
+    assert served.ask("plan", plan="odd = 1\n")["findings"][0]["line"] == 1
+
+
+def test_groups_follow_the_text_and_the_text_the_groups(served: Served) -> None:
+    text = f"# a remark\n{DECAY.replace('[[group]]', '[[group]] # donor')}# another\n"
+    groups = served.ask("plan", plan=text)["groups"]
+    assert groups == [{"name": "donor", "inputs": [0], "gates": []}]
+    groups.append({"name": "late", "inputs": [1, 0, 1], "gates": [[900, 1000], [100, 200]]})
+    told = served.ask("groups", plan=text, groups=groups)
+    assert told["groups"] == [groups[0], {"name": "late", "inputs": [0, 1], "gates": [[100, 200], [900, 1000]]}] and told["findings"] == []
+    assert told["plan"].startswith("# a remark\nversion = 2\n\n[[group]] # donor\ninputs = [0]\n\n[[group]] # late\n") and told["plan"].endswith("bins = 250\n# another\n")
+    again = served.ask("groups", plan=told["plan"], groups=told["groups"])
+    assert again["plan"] == told["plan"]
+    fewer = served.ask("groups", plan=told["plan"], groups=[])
+    assert fewer["groups"] == [] and "is no group" in fewer["findings"][0]["text"]
+    assert "only be changed in its text" in served.ask("groups", plan="group = [{ inputs = [0] }]\n", groups=groups)["error"]
+
+
+def test_a_plan_is_checked_for_its_file(served: Served) -> None:
+    found = served.work("check", file="pairs.ptu", plan=DECAY)["result"]["findings"]
+    assert found[0]["refused"] and "doesn't suit T2" in found[0]["text"] and found[0]["line"] == 3
+
+
+def test_what_suits_no_file_says_why(served: Served) -> None:
+    t3 = {one["name"]: one for one in served.work("propose", file="decay.ptu")["result"]["questions"]}
+    t2 = {one["name"]: one for one in served.work("propose", file="pairs.ptu")["result"]["questions"]}
+    assert not t3["decay"]["reason"] and "[[histogram]]" in t3["decay"]["plan"] and "T2" in t3["antibunching"]["reason"]
+    assert not t2["antibunching"]["reason"] and "[[coincidence]]" in t2["antibunching"]["plan"] and "T3" in t2["decay"]["reason"]
+    assert "lines of a scan" in t3["image"]["reason"] and t3["pulsed"]["python"] and not t3["decay"]["python"]
+    for one in (*t3.values(), *t2.values()):
+        assert one["reason"] or served.ask("plan", plan=one["plan"])["findings"] == [], one["name"]
+
+
+# ## Runs
+
+
+QUESTIONS = [("decay.ptu", "decay", None), ("decay.ptu", "decay", "pulse.ptu"), ("decay.ptu", "pulsed", None), ("decay.ptu", "bursts", None), ("scan.ptu", "image", None),
+             ("pairs.ptu", "trace", None), ("pairs.ptu", "correlation", None), ("pairs.ptu", "antibunching", None), ("pairs.ptu", "patterns", None)]  # fmt: skip
+
+
+def done_here(kind: str, path: Path, out: Path, **asked: Any) -> Any:
+    """A piece of work as its own process does it, in this one."""
+    from ptulab.app import _job
+
+    return _job.KINDS[kind](_job.Work({"path": str(path), "out": str(out), "megabytes": 3072, **asked}, io.BytesIO()))
+
+
+@pytest.mark.parametrize(("file", "name", "second"), QUESTIONS)
+def test_the_script_prints_what_the_window_shows(file: str, name: str, second: str | None, folder: Path, tmp_path: Path, monkeypatch: pytest.MonkeyPatch) -> None:
+    """By the plan and settings that were proposed; the script is run in another folder, by itself."""
+    monkeypatch.setattr(sys, "argv", ["job"])
+    asked = next(one for one in done_here("propose", folder / file, tmp_path)["questions"] if one["name"] == name)
+    settings = {one["key"]: one["value"] for one in asked["settings"]} | ({"rate": 200} if name == "bursts" else {}) | ({"segments": 2} if name == "correlation" else {})
+    for each in ("one", "other"):
+        (tmp_path / each).mkdir()
+    others = {"analysis": name, "settings": settings, "second": str(folder / second) if second else None}
+    result = done_here("run", folder / file, tmp_path / "one", plan=asked["plan"], **others)
+    for copied in ("analysis.py", "plan.toml"):
+        (tmp_path / "other" / copied).write_bytes((tmp_path / "one" / copied).read_bytes())
+    source = str(Path(ptulab.__file__).resolve().parents[1])
+    done = subprocess.run([sys.executable, "analysis.py"], cwd=tmp_path / "other", capture_output=True, text=True, check=False, env=os.environ | {"PYTHONPATH": source})
+    assert (done.stdout, done.returncode) == (result["numbers"], 0) and len(result["numbers"].splitlines()) >= 1, done.stderr
+    assert result["figures"] and all(one["title"] and one["summary"] for one in result["figures"])
+    assert {"analysis.py", "plan.toml", "numbers.txt"} < set(result["files"]) and json.dumps(result, allow_nan=False)
+    if name == "decay":
+        lifetime = float(re.findall(r"^lifetime_1: ([0-9.]+) ", result["numbers"], re.M)[0])
+        assert lifetime == pytest.approx(3.5, rel=0.05)
+
+
+def test_a_page_and_a_session_of_a_result(served: Served, folder: Path) -> None:
+    told = served.work("run", file="decay.ptu", plan=DECAY, analysis="decay", settings={"terms": 1})
+    answer = served.client.get(f"/result/{told['begun']}/numbers.txt")
+    assert answer.text == told["result"]["numbers"] and answer.headers["content-disposition"].startswith("attachment")
+    assert "sandbox" in answer.headers["content-security-policy"]
+    assert "page.html" in served.work("page", result=told["begun"])["result"]["files"]
+    assert b"<!doctype html>" in served.client.get(f"/result/{told['begun']}/page.html").content
+    asked = {"result": told["begun"], "analysis": "decay", "settings": {"terms": 1}, "second": None}
+    assert served.ask("keep", name="one", **asked) == {"folder": "ptulab-sessions/one"}
+    assert {path.name for path in (folder / "ptulab-sessions" / "one").iterdir()} >= {"plan.toml", "analysis.py", "report.txt", "page.html", "decay.csv", "session.json"}
+    assert served.ask("sessions") == {"sessions": ["one"]}
+    assert served.ask("session", name="one") == {"analysis": "decay", "settings": {"terms": 1}, "second": None, "file": "decay.ptu", "plan": DECAY}
+    assert all("error" in served.ask("keep", name=name, **asked) for name in ("one", "../two", "", ".hidden", "a/b", "x" * 99))
+    assert all("error" in served.ask("session", name=name) for name in ("../..", "two", ""))
+    (folder / "ptulab-sessions" / "linked").symlink_to("/etc")
+    assert "error" in served.ask("session", name="linked") and served.ask("sessions") == {"sessions": ["one"]}
+
+
+@pytest.mark.parametrize(
+    ("change", "said"),
+    [
+        ({"settings": {"terms": 9}}, "Lifetimes: a number from 1 to 3 is wanted"),
+        ({"settings": {"terms": "1); import os"}}, "Lifetimes: a number from 1 to 3 is wanted"),
+        ({"settings": {"number": 2}}, "the report has no histogram 2"),
+        ({"plan": DECAY.replace("bins = 250", "bins = 0")}, "the plan: histogram 1: bins = 0 isn't a whole number from 1 to 32,768 (rule 12)"),
+        ({"plan": DECAY + "[[cube]]\n"}, "cube"),
+        ({"analysis": "nothing"}, "nothing"),
+    ],
+)
+def test_a_run_that_cannot_be_says_why(change: dict[str, Any], said: str, served: Served) -> None:
+    asked = {"file": "decay.ptu", "plan": DECAY, "analysis": "decay", "settings": {}}
+    assert said in served.work("run", **(asked | change))["error"]
+
+
+def test_tables_that_take_too_much_are_refused_before_the_run(folder: Path, tmp_path: Path) -> None:
+    """Two cubes of 512 MiB, each in the program and in Python."""
+    plan = "version = 2\n" + DECAY + "[[cube]]\ngroup = 1\nwidth = 1024\nheight = 1024\ndwell = 1\nline = 1\ndwidth = 1\ndbins = 64\n" * 2
+    with pytest.raises(ptulab.BadPlan, match="its tables take some 2082 MiB, and 2081 may be taken: ask for fewer"):
+        done_here("run", folder / "decay.ptu", tmp_path, plan=plan, analysis="decay", settings={}, megabytes=2081)
+    assert not list(tmp_path.iterdir())
+
+
+def test_what_a_script_is_told_stays_text(served: Served, folder: Path) -> None:
+    """A file whose name would end a text of Python."""
+    name = "a'''\"\"\"\n); print(1) #.ptu"
+    (folder / name).write_bytes((folder / "pairs.ptu").read_bytes())
+    told = served.work("run", file=name, plan="[[group]]\ninputs = [1]\n[[trace]]\ngroup = 1\nwidth = 100000\nbins = 20\n", analysis="trace", settings={})
+    (folder / name).unlink()
+    assert told["result"]["numbers"].startswith("bins: 19\n")
+
+
+def test_little_memory_gets_a_line(folder: Path, program: str, tmp_path: Path) -> None:
+    one = Served(folder, tmp_path / "results", program, megabytes=64)
+    try:
+        told = one.work("run", file="pairs.ptu", plan="[[group]]\ninputs = [1]\n[[group]]\ninputs=[2]\n", analysis="correlation", settings={"segments": 2})
+        assert "memory" in told["error"].lower() or "allocate" in told["error"], told
+        assert len(one.ask("files")["files"]) > 5
+    finally:
+        one.end()
+
+
+def begun(served: Served) -> int:
+    """The process of a run that is held still."""
+    end = time.monotonic() + SECONDS
+    while jobs_of(served).process is None:
+        assert time.monotonic() < end
+        time.sleep(0.002)
+    process: int = jobs_of(served).process
+    os.killpg(process, signal.SIGSTOP)
+    return process
+
+
+def gone(process: int) -> bool:
+    end = time.monotonic() + SECONDS
+    while time.monotonic() < end:
+        try:
+            if "Z" in Path(f"/proc/{process}/stat").read_text("ascii").split(")")[1][:3]:
+                return True
+        except OSError:
+            return True
+        time.sleep(0.02)
+    return False
+
+
+def test_two_windows_and_a_page_that_closes(served: Served) -> None:
+    """While one runs another is refused, and a look waits; when the page of the first is gone, so is its run."""
+    asked = {"file": "decay.ptu", "plan": DECAY, "analysis": "decay", "settings": {}}
+    with httpx.Client(base_url=served.origin, verify=False, headers={"origin": served.origin}, cookies=served.client.cookies, timeout=SECONDS) as other:
+        with other.stream("POST", "/api/run", content=json.dumps(asked)) as first:
+            assert first.status_code == 200
+            process = begun(served)
+            assert "Something else is running" in served.work("run", **asked)["error"]
+            with ThreadPoolExecutor() as pool:
+                look = pool.submit(served.work, "look", file="pairs.ptu")
+                time.sleep(0.2)
+                assert not look.done()
+                first.close()
+                assert gone(process) and look.result()["result"]["info"]["photons"] == 8000
+    assert "numbers" in served.work("run", **asked)["result"]
+
+
+def test_fifty_requests_at_once(served: Served) -> None:
+    """All are answered, those for work one after another."""
+
+    def one(number: int) -> Any:
+        with httpx.Client(base_url=served.origin, verify=False, headers={"origin": served.origin}, cookies=served.client.cookies, timeout=SECONDS) as client:
+            if number % 25 == 0:
+                lines = client.post("/api/look", content=json.dumps({"file": "pairs.ptu"})).text.splitlines()
+                return json.loads(lines[-1])
+            return client.post("/api/plan", content=json.dumps({"plan": DECAY})).json()
+
+    with ThreadPoolExecutor(50) as pool:
+        answers = list(pool.map(one, range(50)))
+    assert all(answer["findings"] == [] for at, answer in enumerate(answers) if at % 25)
+    assert all(look["result"]["info"]["photons"] == 8000 for look in answers[::25])
+    assert jobs_of(served).waiting == 0 and not jobs_of(served).is_running
+
+
+def test_work_beyond_what_may_wait_is_refused(served: Served) -> None:
+    jobs_of(served).waiting += 8
+    try:
+        assert "Something else is running" in served.work("look", file="pairs.ptu")["error"]
+    finally:
+        jobs_of(served).waiting -= 8
+
+
+def test_work_ends_with_its_server(folder: Path, program: str, tmp_path: Path) -> None:
+    one = Served(folder, tmp_path / "results", program)
+    with ThreadPoolExecutor() as pool:
+        run = pool.submit(one.work, "run", file="decay.ptu", plan=DECAY, analysis="decay", settings={})
+        process = begun(one)
+        one.app.end()
+        assert gone(process) and "error" in run.result()
+    one.end()
+    assert not one.thread.is_alive()
+
+
+def test_the_command_serves_on_the_loopback_alone(folder: Path, program: str) -> None:
+    words = [sys.executable, "-m", "ptulab", "app", str(folder), "--no-browser", "--program", program]
+    source = str(Path(ptulab.__file__).resolve().parents[1])
+    with subprocess.Popen(words, stderr=subprocess.PIPE, text=True, env=os.environ | {"PYTHONPATH": source}) as child:
+        try:
+            assert child.stderr is not None
+            address = child.stderr.readline().split()[-1]
+            assert re.fullmatch(r"http://127\.0\.0\.1:\d+/\?token=[\w-]{43}", address)
+            with httpx.Client(verify=False) as client:  # the port listens before the address is told
+                assert client.get(address, timeout=SECONDS).status_code == 303
+            child.send_signal(signal.SIGINT)
+            assert child.wait(SECONDS) in (0, 130)
+        finally:
+            child.kill()

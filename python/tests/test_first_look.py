@@ -1,0 +1,140 @@
+"""The first look: what is told of made files whose truth is known."""
+
+import json
+import math
+from collections.abc import Callable
+from pathlib import Path
+from typing import Any
+
+import made
+import numpy as np
+import pytest
+
+import ptulab
+from conftest import EXAMPLES
+from ptulab.__main__ import main
+from ptulab.first_look import sparkline
+
+MakeFile = Callable[..., Path]
+
+
+def photons(many: int, tick: float, inputs: int) -> list[tuple[int, ...]]:
+    """So many photons over 2 ms, on the inputs 1, 2 .. in turn."""
+    return [(round((at + 1) * 2e-3 / many / tick), 1 + at % inputs) for at in range(many)]
+
+
+def test_each_record_type_tells_its_inputs_and_markers(record_type: str, make_file: MakeFile) -> None:
+    is_t3 = record_type.endswith("T3")
+    events = [(16 * at, 1 + at % 2, *([at % 7] if is_t3 else [])) for at in range(1, 301)]
+    events += [(16 * at + 3 - at % 2, made.Bits(3 - at % 2)) for at in range(301, 311)]
+    seen = ptulab.info(make_file(record_type, events, tick=50e-9, resolution=25e-12))
+    assert [(one.number, one.photons) for one in seen.inputs] == [(1, 150), (2, 150)]
+    assert seen.markers == {1: 5, 2: 10} and seen.head.late == 0 and not seen.is_cut
+    assert all(one.trace.sum() == 150 for one in seen.inputs)
+    assert record_type[:4].lower() in seen.record_type.lower() and seen.record_type.split("; ")[1].startswith(record_type[-2:])
+    first, second = (one.decay for one in seen.inputs)
+    if is_t3:
+        assert first is not None and first.sum() == 150 and first[7:].sum() == 0
+        assert np.array_equal(first[:7], np.bincount([at % 7 for at in range(2, 301, 2)], minlength=7))
+    else:
+        assert first is None and second is None
+
+
+@pytest.mark.parametrize("tick", [1e-12, 4e-12])
+def test_rates_over_picoseconds(tick: float, make_file: MakeFile) -> None:
+    """2 ms in ticks of a picosecond pass many wraps; trace and rates are of seconds all the same."""
+    seen = ptulab.info(make_file("MultiHarpT2", [(0, 0), *photons(200, tick, 2)], tick=tick, TTResult_SyncRate=40_000_000))
+    assert seen.seconds is not None and seen.seconds == pytest.approx(2e-3, rel=1e-9)
+    assert [one.photons for one in seen.inputs] == [1, 100, 100]
+    assert seen.inputs[1].rate_hertz == pytest.approx(50_000, rel=1e-6)
+    assert seen.sync_hertz == pytest.approx(500, rel=1e-6) and seen.sync_told_hertz == 4e7
+    trace = seen.inputs[2].trace
+    assert len(trace) <= 1024 and seen.bin_ticks * tick * len(trace) >= 2e-3
+    places = [time // seen.bin_ticks for time, number in photons(200, tick, 2) if number == 2]
+    assert np.array_equal(trace, np.bincount(places, minlength=len(trace)))
+
+
+def test_the_sync_of_t3_is_one_over_its_period(make_file: MakeFile) -> None:
+    seen = ptulab.info(make_file("HydraHarp2T3", [(5, 0, 3)], tick=12.5e-9, resolution=4e-12))
+    assert seen.sync_hertz == pytest.approx(8e7) and seen.sync_told_hertz is None and seen.dtime_seconds == 4e-12
+    assert "sync           80 MHz\n" in str(seen)
+
+
+@pytest.mark.parametrize(("told", "shown"), [(999, "999 Hz"), (1000, "1 kHz"), (78_125_123, "78.1251 MHz")])
+def test_rates_of_the_sync_are_short_texts(told: int, shown: str, make_file: MakeFile) -> None:
+    assert f"sync           {shown} told when it began\n" in str(ptulab.info(make_file("HydraHarp2T2", [(5, 1)], TTResult_SyncRate=told)))
+
+
+@pytest.mark.parametrize(("bytes_off", "whole"), [(8, "announces 100 records, and there are 98: the file may be cut"), (7, "cut within a record: 1 bytes")])
+def test_a_cut_file_is_counted_as_far_as_it_goes(bytes_off: int, whole: str, tmp_path: Path) -> None:
+    path = made.write(tmp_path / "cut.ptu", "HydraHarp2T2", [(10 * at, 1) for at in range(100)], tick=1e-9)
+    path.write_bytes(path.read_bytes()[:-bytes_off])
+    seen = ptulab.info(path)
+    assert seen.is_cut and whole in seen.whole and whole in str(seen)
+    assert seen.inputs[0].photons == seen.header.records == 100 - math.ceil(bytes_off / 4)
+
+
+def test_late_events_are_told_and_in_no_count(make_file: MakeFile) -> None:
+    seen = ptulab.info(make_file("HydraHarp2T3", [(10, 0, 1), (20, 0, 1), (15, 0, 1), (15, 1, 1), (30, 0, 1)], tick=1e-7))
+    assert seen.head.late == 2 and seen.head.photons == 5
+    assert [(one.number, one.photons) for one in seen.inputs] == [(0, 3)]
+    assert "late           2 events, which are in no count below\ninput  " in str(seen)
+
+
+def test_late_markers_are_told_above_that_line(make_file: MakeFile) -> None:
+    seen = ptulab.info(make_file("HydraHarp2T3", [(10, made.Bits(1)), (20, 0, 1), (15, made.Bits(1))], tick=1e-7))
+    assert seen.head.late == 1 and "markers        bit 1: 2\nlate           1 events" in str(seen)
+
+
+def test_more_inputs_than_a_plan_has_traces(make_file: MakeFile) -> None:
+    seen = ptulab.info(make_file("MultiHarpT2", [(at, at % 65) for at in range(650)], tick=1e-12))
+    assert [(one.number, one.photons) for one in seen.inputs] == [(number, 10) for number in range(65)]
+
+
+@pytest.mark.parametrize("record_type", ["PicoHarpT3", "HydraHarp2T2"])
+def test_a_file_without_events(record_type: str, make_file: MakeFile) -> None:
+    seen = ptulab.info(make_file(record_type, []))
+    assert (seen.inputs, seen.markers, seen.seconds, seen.is_cut) == ((), {}, None, False)
+    assert "no photons" in str(seen) and json.loads(seen.json())["inputs"] == []
+
+
+def test_the_header_in_words() -> None:
+    seen = ptulab.info(EXAMPLES / "bench.ptu")
+    assert "bench.ptu, 783 bytes\n" in str(seen)
+    assert (seen.device, seen.software, seen.comment, seen.announced_seconds) == ("Bench", "TestSW", "", 60.0)
+    assert seen.created is not None and seen.created.isoformat() == "2023-05-10T00:00:00"
+
+
+def test_what_a_header_says_is_one_line_and_no_command(make_file: MakeFile) -> None:
+    """A comment of several lines and of escapes of terminals, and numbers that JSON doesn't have."""
+    path = make_file("HydraHarp2T2", [(1, 1)], tick=math.inf, HW_Type="A\x1b[31m", HW_Version="1", File_Comment="one\r\n two\x7f", Odd=math.nan)
+    seen = ptulab.info(path)
+    assert seen.comment == "one two" and seen.device == "A [31m, version 1"
+    assert seen.seconds is None and seen.tick_seconds is None and seen.inputs[0].rate_hertz is None
+    assert json.loads(seen.json())["tags"]["Odd"] is None and "\x1b" not in str(seen)
+
+
+def test_json_has_what_the_object_has() -> None:
+    seen = ptulab.info(EXAMPLES / "scan.ptu")
+    told = json.loads(seen.json())
+    assert told["photons"] == seen.head.photons == sum(one["photons"] for one in told["inputs"])
+    assert told["markers"] == {"1": 128, "2": 2, "3": 128} and told["marker_events"] == 256
+    assert sum(told["inputs"][0]["trace"]) == sum(told["inputs"][0]["decay"]) == 97492
+    assert told["whole"].startswith("whole: 100,747 records") and told["created"] is None
+    assert seen == ptulab.info(EXAMPLES / "scan.ptu")
+
+
+def test_the_command(capsys: Any, tmp_path: Path) -> None:
+    assert main(["info", str(EXAMPLES / "scan.ptu")]) == 0
+    told = capsys.readouterr().out
+    assert "scan.ptu, 0.4 MB\n" in told and "bit 1: 128, bit 2: 2, bit 3: 128" in told and "\n    0          97,492      634,724  " in told
+    assert main(["info", "--json", str(EXAMPLES / "scan.ptu")]) == 0
+    assert json.loads(capsys.readouterr().out)["type"] == "HydraHarp2T3"
+    (tmp_path / "text.ptu").write_text("no PTU file")
+    assert main(["info", str(tmp_path / "text.ptu")]) == 1
+    assert "not a PTU file" in capsys.readouterr().err
+
+
+def test_a_sparkline() -> None:
+    assert sparkline(np.array([0, 1, 4, 8])) == " ▁▄█" and sparkline(np.zeros(3, np.int64)) == "   "
+    assert len(sparkline(np.ones(1000, np.int64))) == 32 and sparkline(np.zeros(0, np.int64)) == ""
