@@ -7,8 +7,12 @@ from typing import Any
 
 import made
 import pytest
+from hypothesis import HealthCheck, settings
 
 import ptulab
+
+settings.register_profile("any machine", deadline=None, suppress_health_check=[HealthCheck.too_slow])
+settings.load_profile("any machine")
 
 ROOT = Path(__file__).resolve().parents[2]  # the checkout
 EXAMPLES = ROOT / "examples"

@@ -34,11 +34,19 @@ def test_bursts_are_those_of_the_plain_search(times: Any, minimum: int, m: int, 
     assert ours.tolist() == searched(times.tolist(), minimum, m, (m - 1 - c) / rate)
 
 
+def test_ten_photons_and_bursts_of_twenty_are_looked_for() -> None:
+    """Ten photons of the first burst span 9, of the second 18; the third has nineteen photons in all."""
+    times = np.concatenate([np.arange(20), 100 + 2 * np.arange(20), 300 + np.arange(19)])
+    assert find_bursts(times, 10 / 9).tolist() == [(0, 19, 0, 19)]
+    assert find_bursts(times, 10 / 18).tolist() == [(0, 19, 0, 19), (20, 39, 100, 138)]
+    assert len(find_bursts(times, 10 / 8.9)) == 0 and len(find_bursts(times, 10 / 17.9)) == 1
+
+
 @settings(max_examples=60, deadline=None)
 @given(random_events.times, st.integers(0, 30), st.floats(0.2, 2))
 def test_fused_bursts_are_apart(times: Any, gap: int, rate: float) -> None:
     bursts = find_bursts(times, rate, minimum=3, m=3)
-    expected = []
+    expected: list[tuple[int, int, int, int]] = []
     for one in bursts.tolist():
         if expected and one[2] - expected[-1][3] <= gap:
             expected[-1] = (expected[-1][0], one[1], expected[-1][2], one[3])
@@ -66,10 +74,10 @@ def test_two_kinds_of_molecules_are_told_apart(make_file: Callable[..., Path]) -
     assert len(bursts) == 400 and (np.diff(bursts["start"]) > 90_000).all()
     during = ((0, 100),)
     counts = [photons_in(bursts, photons, one) for one in (Group((0,), during), Group((1,), during), Group((1,), ((100, 200),)))]
-    assert (sum(counts) >= 100).all() and photons_in(bursts, photons, None).sum() >= 400 * 100
+    assert (np.sum(counts, axis=0) >= 100).all() and photons_in(bursts, photons, None).sum() >= 400 * 100
     result = fret(*counts)
     assert np.median(result.E[0::2]) == pytest.approx(0.7, abs=0.02) and np.median(result.E[1::2]) == pytest.approx(0.2, abs=0.02)
-    assert np.median(result.S) == pytest.approx(0.5, abs=0.02)
+    assert np.median(np.asarray(result.S)) == pytest.approx(0.5, abs=0.02)
     one, edges = result.histogram()
     assert one.sum() == 400 and len(edges) == 49
     both, edges = result.histogram_2d(24)
@@ -79,10 +87,10 @@ def test_two_kinds_of_molecules_are_told_apart(make_file: Callable[..., Path]) -
 def test_corrections_of_e_and_s() -> None:
     counts = [np.array([100, 0, 40]), np.array([50, 0, 80]), np.array([60, 0, 20])]
     plain = fret(*counts)
-    assert plain.E[0] == pytest.approx(1 / 3) and plain.S[0] == pytest.approx(150 / 210) and np.isnan(plain.E[1])
+    assert plain.E[0] == pytest.approx(1 / 3) and np.asarray(plain.S)[0] == pytest.approx(150 / 210) and np.isnan(plain.E[1])
     corrected = fret(*counts, gamma=0.5, leakage=0.1, excitation=0.05)
     passed = 50 - 10 - 3
-    assert corrected.E[0] == pytest.approx(passed / (passed + 50)) and corrected.S[0] == pytest.approx((passed + 50) / (passed + 110))
+    assert corrected.E[0] == pytest.approx(passed / (passed + 50)) and np.asarray(corrected.S)[0] == pytest.approx((passed + 50) / (passed + 110))
     assert fret(*counts[:2]).S is None
     with pytest.raises(ptulab.NotKnown):
         fret(*counts[:2]).histogram_2d()

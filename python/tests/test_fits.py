@@ -3,7 +3,7 @@ import tracemalloc
 import types
 from collections.abc import Callable
 from pathlib import Path
-from typing import Any, Literal
+from typing import Any, Literal, cast
 
 import lmfit
 import made
@@ -45,6 +45,7 @@ def test_a_tail_tells_its_lifetime() -> None:
     fit = fits.fit_tail(counts, axis, 3.0, stop=20.0)
     assert within(fit, "lifetime_1", 2.6) and fit.errors["lifetime_1"] < 0.03
     assert 0.8 < fit.reduced < 1.2 and fit.axis[0] >= 3.0 and fit.axis[-1] < 20.0
+    assert fit.lmfit.params["lifetime_1"].max == pytest.approx(100 * (fit.axis[-1] - fit.axis[0]))
     assert len(fit.curve) == len(fit.data) == len(fit.residuals)
 
 
@@ -111,8 +112,9 @@ def test_a_decay_much_shorter_than_a_bin() -> None:
 
 
 @settings(max_examples=200, deadline=None)
-@given(st.integers(0, 10**7), st.floats(0.01, 1e7))
-def test_residuals_are_those_of_the_likelihood(count: int, expected: float) -> None:
+@given(st.integers(0, 10**7) | st.floats(0.01, 1), st.floats(0.01, 1e7))
+def test_residuals_are_those_of_the_likelihood(count: float, expected: float) -> None:
+    """Also of a part of a count, as where something was taken off."""
     twice = 2 * (expected - count + (count * np.log(count / expected) if count else 0))
     ours = float(fits.deviance(np.array([float(count)]), np.array([expected]))[0])
     assert ours**2 == pytest.approx(twice, rel=1e-6, abs=1e-7 * max(count, 1)) and ours * (count - expected) >= 0
@@ -245,15 +247,16 @@ def test_g2_of_what_has_none(program: str, tmp_path: Path, make_file: Callable[.
     bare = ptulab.run(tmp_path / "plan.toml", path, program=program)
     table = bare.table("coincidence")
     table.measurements = tuple(one._replace(photons=None) for one in table.measurements)
-    for call in (lambda: fits.g2(table), lambda: fits.g2(report.table("startstop"))):
+    for none in (table, report.table("startstop")):
         with pytest.raises(ptulab.NotKnown):
-            call()
-    empty = fits.g2(coincidences(path, 3, 4, 2))
-    assert np.isnan(empty[0]).all()
+            fits.g2(none)
+    with np.errstate(all="raise"):
+        empty = fits.g2(coincidences(path, 3, 4, 2))
+    assert np.isnan(empty).all()
 
 
 def test_lmfit_is_named_where_it_is_missing(monkeypatch: pytest.MonkeyPatch) -> None:
-    monkeypatch.setitem(sys.modules, "lmfit", None)
+    monkeypatch.setitem(cast(dict[str, Any], sys.modules), "lmfit", None)
     with pytest.raises(ptulab.Missing, match="python3-lmfit"):
         fits.fit_tail(np.arange(10, 0, -1), np.arange(10.0), 0)
 
@@ -271,7 +274,8 @@ def test_fits_that_find_no_end_say_so(monkeypatch: pytest.MonkeyPatch) -> None:
 
 def test_fits_that_cannot_be() -> None:
     axis = np.arange(10.0)
-    for call in (
+    dimensions: Any = 1
+    bad: list[Callable[[], object]] = [
         lambda: fits.fit_tail(np.zeros(10), axis, 0),
         lambda: fits.fit_tail(np.ones(10), axis, 9),
         lambda: fits.fit_tail(np.ones(10), axis, 0, terms=5),
@@ -282,11 +286,13 @@ def test_fits_that_cannot_be() -> None:
         lambda: fits.fit_reconvolution(np.ones(4), np.zeros(4), 1.0),
         lambda: fits.fit_reconvolution(np.ones(4), np.ones(5), 1.0),
         lambda: fits.fit_reconvolution(np.ones(4), np.ones(4), 1.0, period=3.0),
-        lambda: fits.fit_fcs(axis, axis, dimensions=1),
-    ):
+        lambda: fits.fit_fcs(axis, axis, dimensions=dimensions),
+    ]
+    for call in bad:
         with pytest.raises(ValueError):
             call()
-    for call in (lambda: fits.fit_fcs(axis, axis * np.nan), lambda: fits.fit_tail(np.ones(10), axis, 7, terms=3)):
+    few: list[Callable[[], object]] = [lambda: fits.fit_fcs(axis, axis * np.nan), lambda: fits.fit_tail(np.ones(10), axis, 7, terms=3)]
+    for call in few:
         with pytest.raises(ptulab.FitFailed):
             call()
 
@@ -342,6 +348,35 @@ def test_told_errors_of_correlations_are_their_scatter(told: bool) -> None:
         values, said = (np.array([getattr(fit, what)[name] for fit in found]) for what in ("values", "errors"))
         assert np.sqrt((said**2).mean()) == pytest.approx(values.std(), rel=0.1)
         assert values.mean() == pytest.approx(value, abs=4 * values.std() / np.sqrt(300))
+
+
+@pytest.mark.parametrize("together", [0.0, 0.05])
+def test_told_errors_by_ten_segments_are_their_scatter(together: float) -> None:
+    """300 measurements of ten segments, with pairs by Poisson's law, and a height that may be another in each segment."""
+    ticks, level = segments.delays(8, 14)
+    times, draws, pairs, found = ticks * 1e-6, np.random.default_rng(4), 400.0 * 2.0**level, []
+    for _ in range(300):
+        heights = 1 + together * draws.normal(size=(10, 1))
+        parts = draws.poisson(pairs * (1 + heights * (fits.fcs_model(times, 2.5, 4e-4) - 1))) / pairs
+        found.append(fits.fit_fcs(times, parts.mean(axis=0), segments=parts, dimensions=2))
+    for name, known in (("number", 2.5), ("diffusion", 4e-4), ("baseline", 1.0)):
+        values, said = (np.array([getattr(fit, what)[name] for fit in found]) for what in ("values", "errors"))
+        assert np.sqrt((said**2).mean()) == pytest.approx(values.std(), rel=0.1)
+        assert values.mean() == pytest.approx(known, abs=4 * values.std() / np.sqrt(300))
+    assert together or np.mean([fit.reduced for fit in found]) == pytest.approx(1, abs=0.1)
+
+
+def test_segments_without_a_value_are_left_out_of_a_fit() -> None:
+    times, draws = DELAYS[::2], np.random.default_rng(6)
+    parts = draws.normal(fits.fcs_model(times, 2.5, 4e-4), 0.004, (8, 60))
+    parts[2, 5] = np.nan
+    known = fits.fit_fcs(times, parts.mean(axis=0), segments=parts, dimensions=2)
+    assert len(known.axis) == 59 and times[5] not in known.axis and 0 < known.errors["number"] < 0.01
+    with_none = np.insert(parts, 4, np.nan, axis=0)
+    assert fits.fit_fcs(times, parts.mean(axis=0), segments=with_none, dimensions=2).errors == known.errors
+    for bad, errors in ((parts, np.ones(60)), (parts[:2], None), (with_none[3:6], None)):
+        with pytest.raises(ValueError, match="segments"):
+            fits.fit_fcs(times, parts[0], errors, segments=bad)
 
 
 def test_every_background_free_decay_has_an_error_of_its_lifetime() -> None:
@@ -404,6 +439,13 @@ def test_bins_wider_than_the_pulse_with_a_pulse_in_finer_ones(width: float, tole
     assert coarse.values["lifetime_1"] < 1 - tolerance and coarse.reduced > 10
 
 
+def test_a_pulse_of_any_height_and_a_decay_of_one_photon() -> None:
+    counts, pulse = decayed(3, [2.0], [1.0], 10_000)
+    whole, part = (fits.fit_reconvolution(counts, one, WIDTH, period=PERIOD) for one in (pulse, pulse / pulse.sum() / 2))
+    assert part.values == pytest.approx(whole.values, rel=1e-3, abs=1e-3)
+    assert fits.fit_reconvolution(np.eye(1, BINS, 60)[0], pulse, WIDTH).curve.sum() == pytest.approx(1, rel=0.2)
+
+
 def test_a_reconvolution_is_that_of_lmfits_own_models() -> None:
     """A Gaussian convolved with an exponential, as lmfit's lineshapes have it in closed form, also where it is shifted."""
     fine = np.arange(25_000) * 0.001 + 0.0005
@@ -442,18 +484,53 @@ def test_a_triplet_is_found_whatever_the_first_cells_are(tick: float, levels: in
         assert all(abs(fit.values[name] - value) < 8 * fit.errors[name] for name, value in known.items())
 
 
-def test_fits_that_can_come_no_nearer_are_fits(monkeypatch: pytest.MonkeyPatch) -> None:
-    """MINPACK's end because numbers can't tell a nearer fit is none that failed."""
+@pytest.mark.parametrize("end", [6, 7, 8])
+def test_fits_that_can_come_no_nearer_are_fits(end: int, monkeypatch: pytest.MonkeyPatch) -> None:
+    """MINPACK's ends because numbers can't tell a nearer fit are none that failed."""
     whole = lmfit.minimize
 
     def as_near_as_can_be(*words: Any, **more: Any) -> Any:
         result = whole(*words, **more)
-        result.success, result.ier = False, 7
+        result.success, result.ier = False, end
         return result
 
     monkeypatch.setattr(lmfit, "minimize", as_near_as_can_be)
     fit = fits.fit_fcs(DELAYS, fits.fcs_model(DELAYS, 2.5, 4e-4, structure=5.0))
     assert fit.values["diffusion"] == pytest.approx(4e-4, rel=1e-6)
+
+
+@pytest.mark.parametrize("dark", [0.25, 0.93, 0.97])
+def test_a_triplet_begins_beside_the_known_one_and_on_no_bound(dark: float) -> None:
+    exact = fits.fcs_model(DELAYS, 2.5, 4e-4, structure=5.0, triplet=dark, triplet_time=4e-6)
+    begin = fits._begin_fcs(DELAYS, exact, np.full(120, 0.01), 5.0, True)
+    assert begin["triplet"].value == pytest.approx(np.clip(dark, 0.05, 0.9), abs=0.04)
+    assert all(one.min < one.value < one.max for one in begin.values())
+    assert dark > 0.95 or [begin[name].value for name in ("diffusion", "triplet_time")] == pytest.approx([4e-4, 4e-6], rel=0.5)
+
+
+@pytest.mark.parametrize("terms", [1, 2, 3])
+def test_the_terms_of_a_decay_begin_with_its_height_together(terms: int) -> None:
+    begin = fits._begin_decay(terms, 60.0, 2.0, 100.0, 3.0)
+    heights, times = ([begin[f"{name}_{n}"].value for n in range(1, terms + 1)] for name in ("amplitude", "lifetime"))
+    assert sum(heights) == pytest.approx(60) and np.exp(np.log(times).mean()) == pytest.approx(2) and len(set(times)) == terms
+
+
+def test_a_fit_is_shown_without_lmfits_result() -> None:
+    assert "lmfit" not in repr(fits.fit_fcs(DELAYS, fits.fcs_model(DELAYS, 2.5, 4e-4, structure=5.0)))
+
+
+def test_a_curve_has_six_points_and_those_at_the_ends_of_its_span() -> None:
+    times = np.geomspace(1e-5, 1e-2, 8)
+    curve = fits.fcs_model(times, 2.5, 4e-4, structure=5.0)
+    fit = fits.fit_fcs(times, curve, span=(times[1], times[6]))
+    assert fit.axis.tolist() == times[1:7].tolist() and fit.values["number"] == pytest.approx(2.5, rel=1e-4)
+    with pytest.raises(ptulab.FitFailed, match="5 points"):
+        fits.fit_fcs(times, curve, span=(times[2], times[6]))
+
+
+def test_a_flat_curve_begins_with_a_million_molecules() -> None:
+    flat = fits._begin_fcs(DELAYS, np.ones(120), np.full(120, 0.01), 5.0, False)
+    assert flat["number"].value == pytest.approx(1e6)
 
 
 def test_delays_of_nothing_are_left_out() -> None:
@@ -495,6 +572,8 @@ def test_phasors_by_a_pulse_or_a_known_dye() -> None:
     assert fits.phasor(sample, axis, frequency, offset=2.0) == pytest.approx(turned * np.exp(-2j * np.pi * frequency * 2.0))
     with pytest.raises(ValueError, match="without photons"):
         fits.phasor_reference(pulse * 0, axis, frequency)
+    one = fits.phasor_reference(np.array([0, 1, 0, 0]), np.arange(4.0), 0.25)
+    assert one == pytest.approx(np.exp(2j * np.pi * 1.5 / 4) * np.cos(np.pi / 4))
 
 
 def test_lifetimes_that_no_phasor_has_are_nan() -> None:
@@ -538,6 +617,7 @@ def written_again(tmp_path: Path, report: Any) -> Any:
 def test_a_file_without_events_leaves_a_sum_as_it_was(program: str, tmp_path: Path, make_file: Callable[..., Path]) -> None:
     (one, two, empty), plan, paths = a_sum(program, tmp_path, make_file)
     whole = ptulab.count_files(plan, [*paths[:1], paths[2], paths[1]], program=program).report
+    assert whole is not None
     bare = ptulab.sum_reports([written_again(tmp_path, report) for report in (empty, one, two)])
     for kind in ("coincidence", "correlation"):
         known, bars = fits.g2((one + two).table(kind))

@@ -2,6 +2,7 @@
 
 import re
 from collections.abc import Callable
+from dataclasses import replace
 from pathlib import Path
 from typing import Any
 
@@ -186,3 +187,11 @@ def test_pulses_in_turn_need_delays(stream: ptulab.Events, tmp_path: Path) -> No
 def test_inputs_that_are_left_out_need_no_channel(molecules: ptulab.Events, tmp_path: Path) -> None:
     found = written(molecules, tmp_path / "two.h5", setup=Setup("smFRET", spectral=[[0], [1]]), group=[0, 1])
     assert set(found["photon_data/detectors"].tolist()) == {0, 1} and found["setup/num_pixels"] == 2
+
+
+def test_delays_of_more_than_16_bits_stay_as_they_are(molecules: ptulab.Events, tmp_path: Path) -> None:
+    """As of events that were made otherwise than by reading a file."""
+    far = replace(molecules, dtimes=molecules.dtimes + np.int32(70_000))
+    found = written(far, tmp_path / "far.h5", setup=Setup())
+    assert (found["photon_data/nanotimes"] == molecules.photons.dtimes + 70_000).all()
+    assert written(molecules, tmp_path / "near.h5", setup=Setup())["photon_data/nanotimes"].dtype == np.uint16

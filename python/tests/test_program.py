@@ -82,12 +82,15 @@ def test_the_position_of_a_file_that_is_read(tmp_path: Path) -> None:
     """A bar goes on while the program reads, and no further where it is refused."""
     tqdm = pytest.importorskip("tqdm")
     (tmp_path / "data").write_bytes(b"\0" * 1000)
-    slow = "import sys, time\nwith open(sys.argv[3], 'rb', buffering=0) as file:\n    file.read(300)\n    time.sleep(1.5)\nsys.exit(10)\n"
+    wait = f"    while not os.path.exists({os.fspath(tmp_path / 'seen')!r}):\n        time.sleep(0.01)\n"
+    slow = f"import os, sys, time\nwith open(sys.argv[3], 'rb', buffering=0) as file:\n    file.read(300)\n{wait}sys.exit(10)\n"
     seen: list[int] = []
 
     class Bar(tqdm.tqdm):  # type: ignore[misc,name-defined]
         def update(self, n: float = 1) -> bool | None:
             seen.append(int(self.n + n))
+            if seen[-1]:
+                (tmp_path / "seen").touch()
             return bool(super().update(n))
 
     monkeypatch = pytest.MonkeyPatch()
@@ -142,8 +145,8 @@ def test_where_the_program_is(tmp_path: Path, monkeypatch: pytest.MonkeyPatch) -
 
 def test_a_folder_of_data_brings_no_program(tmp_path: Path, monkeypatch: pytest.MonkeyPatch) -> None:
     """A name alone is one of the PATH, as in a shell: no file of that name in the working directory is run or hides it,
-    also where the PATH has the working directory, and neither does one of the checkout that can't be run."""
-    for folder in ("data", "bin", "checkout/out"):
+    also where the PATH has the working directory, and neither does one there or of the checkout that can't be run."""
+    for folder in ("data", "bin", "dead", "checkout/out"):
         (tmp_path / folder).mkdir(parents=True)
         (tmp_path / folder / "ptu").write_text("#!/bin/sh\n")
     ours = tmp_path / "bin" / "ptu"
@@ -155,7 +158,7 @@ def test_a_folder_of_data_brings_no_program(tmp_path: Path, monkeypatch: pytest.
     monkeypatch.setattr(ptulab_program, "HERE", str(tmp_path))
     for mode in (0o755, 0o644):
         Path("ptu").chmod(mode)
-        for folders in (str(ours.parent), f":.:{ours.parent}", f"{ours.parent}:."):
+        for folders in (str(ours.parent), f":.:{ours.parent}", f"{ours.parent}:.", f"{tmp_path}/dead:{ours.parent}"):
             monkeypatch.setenv("PATH", folders)
             for named in (None, "ptu"):
                 assert module.find_program(named) == str(ours)
@@ -205,3 +208,18 @@ def test_a_file_from_a_pipe(tmp_path: Path, program: str, make_plan: Callable[..
     report = ptulab.run(make_plan(""), tmp_path / "pipe", program=program, progress=True)
     os.waitpid(child, 0)
     assert report.head.photons == 1
+
+
+@pytest.mark.parametrize("piped", [True, False])
+def test_what_is_cut_or_unlike_in_the_middle_adds_nothing(program: str, tmp_path: Path, make_plan: Callable[..., Path], make_file: Callable[..., Path], piped: bool) -> None:
+    """A program that ends while it prints, and a second table of another width, of a plan that can be read or not."""
+    path = make_file("HydraHarp2T2", [(time, 1) for time in range(30)])
+    plan = make_plan("group = [{ inputs = [1] }]\n" + "".join(f"[[trace]]\ngroup = 1\nwidth = {width}\nbins = 8\n" for width in (2, 3)))
+    one, as_it_was = (ptulab.run(plan, path, program=program) for _ in range(2))
+    text = subprocess.run([program, "run", plan, path], capture_output=True, text=True, check=True).stdout
+    told = tmp_path / "none.toml" if piped else plan
+    for printed, end in ((text[: text.index("trace 2")], "os.kill(os.getpid(), 9)"), (text.replace("width 3", "width 4"), "")):
+        with pytest.raises(Refusal if end else ptulab.Unlike):
+            ptulab.run(told, path, program=script(tmp_path, f"import os\nprint({printed!r}, end='', flush=True)\n{end}\n"), whole=one)
+        assert one == as_it_was
+    assert ptulab.run(plan, path, program=program, whole=one) == as_it_was + as_it_was

@@ -2,6 +2,7 @@
 
 import importlib
 import inspect
+import os
 import pkgutil
 import re
 import subprocess
@@ -60,13 +61,14 @@ for one in pkgutil.walk_packages(ptulab.__path__, "ptulab."):
         importlib.import_module(one.name)
 print(len([name for name in sys.modules if name.startswith("ptulab.")]))
 """
-LIBRARIES = ["matplotlib", "scipy", "lmfit", "h5py", "tifffile", "xarray", "plotly", "tqdm", "dask", "distributed", "pandas"]
+SURROUNDINGS = os.environ | {"PYTHONPATH": str(Path(ptulab.__file__).parents[1])}  # the same package as here
+LIBRARIES = ["matplotlib", "scipy", "lmfit", "h5py", "tifffile", "xarray", "plotly", "tqdm", "dask", "distributed", "pandas", "starlette", "uvicorn", "jinja2", "anyio", "httpx"]
 
 
 def test_only_numpy_is_needed_to_import_it() -> None:
     """Every module is imported where no other library is."""
     words = [sys.executable, "-c", IMPORTS.replace("{words}", repr(LIBRARIES))]
-    run = subprocess.run(words, capture_output=True, text=True, check=False)
+    run = subprocess.run(words, capture_output=True, text=True, env=SURROUNDINGS, check=False)
     assert run.returncode == 0 and int(run.stdout) > 30, run.stderr
 
 
@@ -82,7 +84,9 @@ multiprocessing.get_all_start_methods = lambda: ["spawn"]
 
 import ptulab
 from ptulab import events, exports, groups, scans
+from ptulab._processes import processors
 
+assert processors() >= 1
 events.GIVEN_BACK = 1  # so that pages are given back at once
 file, report, folder = sys.argv[1:]
 read = ptulab.read_events(file)
@@ -101,5 +105,5 @@ def test_the_parts_without_the_program_work_on_other_systems(tmp_path: Path, pro
     text = subprocess.run([program, "run", EXAMPLES / "scan.toml", EXAMPLES / "scan.ptu"], capture_output=True, check=True).stdout
     (tmp_path / "report.txt").write_bytes(text)
     words = [sys.executable, "-c", ELSEWHERE, str(EXAMPLES / "scan.ptu"), str(tmp_path / "report.txt"), str(tmp_path)]
-    run = subprocess.run(words, capture_output=True, text=True, cwd=ROOT / "python" / "src", check=False)
+    run = subprocess.run(words, capture_output=True, text=True, env=SURROUNDINGS, check=False)
     assert (run.returncode, run.stderr) == (0, "")

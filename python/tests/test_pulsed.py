@@ -15,6 +15,7 @@ from scipy import stats
 
 import ptulab
 from ptulab import pulsed
+from ptulab.events import events_of
 from ptulab.groups import Group
 from ptulab.pulsed import Coincidences, coincidences, start_stops
 
@@ -46,7 +47,7 @@ def test_coincidences_of_t3_are_those_of_the_same_times_in_t2(program: str, fold
     for path in (t2, t3):
         ours = coincidences(ptulab.read_events(path), first, second, reach, width=width)
         assert (ours.counts == table.counts).all() and (ours.ticks == table.ticks).all()
-        assert np.allclose(ours.seconds, table.seconds, rtol=1e-12)
+        assert np.allclose(np.asarray(ours.seconds), table.seconds, rtol=1e-12)
         assert ours.widths.sum() == 2 * reach + 1
 
 
@@ -127,7 +128,7 @@ def test_an_emitter_of_single_photons_is_told_by_lag_0(make_file: Callable[..., 
     assert abs(ratio - 1) < 4 * error
     normalised = ours.counts / ours.expected()
     assert abs(normalised.mean() - 1) < 0.03 and ours.length <= 60000
-    assert ours.seconds[0] == pytest.approx(-2e-6)
+    assert ours.seconds is not None and ours.seconds[0] == pytest.approx(-2e-6)
     peaks = coincidences(ptulab.read_events(antibunched), 0, 1, 14999, width=10000, period=1e4)
     assert peaks.counts.tolist() == coincidences(antibunched, 0, 1, 1).counts.tolist() and peaks.unit_seconds == 1e-11
 
@@ -151,7 +152,8 @@ def test_nothing_to_pair(make_file: Callable[..., Path]) -> None:
     assert ours.counts.tolist() == [0] * 7 and ours.expected().tolist() == [0] * 7 and ours.seconds is None
     with pytest.raises(ptulab.NotKnown):
         ours.central_ratio()
-    assert start_stops(path, 0, 1, 1, 2).counts.tolist() == [0, 0] and start_stops(path, 0, 1, 1, 2).seconds is None
+    none = start_stops(path, 0, 1, 1, 2)
+    assert (none.counts.tolist(), none.over, none.seconds) == ([0, 0], 0, None)
     timed = make_file("HydraHarp2T2", [(1, 1), (8, 2)], name="timed.ptu", tick=1e-9)
     stops = start_stops(ptulab.read_events(timed), 1, 2, 3, 4)
     assert stops.counts.tolist() == [0, 0, 1, 0] and stops.ticks.tolist() == [0, 3, 6, 9]
@@ -195,12 +197,15 @@ def ratio_of_source(together: float, bright: float) -> float:
 
 
 def test_the_error_of_a_ratio_is_its_scatter() -> None:
-    """Of 300 sources, by pulses and by whole peaks: their ratios scatter as is told around the known one."""
-    events = [pulsed_source(seed, pulses=20_000, bright=0.2) for seed in range(300)]
+    """Of 300 sources, by pulses and by whole peaks: their ratios scatter as is told around the known one.
+
+    A tenth of a photon a pulse: of more the pairs scatter less than by Poisson's law.
+    """
+    events = [pulsed_source(seed, pulses=80_000, bright=0.1) for seed in range(300)]
     for words in ({"reach": 10}, {"reach": 10_600, "width": 20, "period": 1000}):
         ratios, errors = np.array([coincidences(one, 0, 1, **words).central_ratio() for one in events]).T
         assert np.sqrt((errors**2).mean()) == pytest.approx(ratios.std(), rel=0.1)
-        assert ratios.mean() == pytest.approx(ratio_of_source(0.3, 0.2), abs=4 * ratios.std() / np.sqrt(300))
+        assert ratios.mean() == pytest.approx(ratio_of_source(0.3, 0.1), abs=4 * ratios.std() / np.sqrt(300))
 
 
 @pytest.mark.parametrize("period", [1000, 1562.5])
@@ -273,6 +278,11 @@ def test_a_source_that_blinks_wants_near_neighbours() -> None:
         assert pairs.central_ratio(neighbours=1)[0] == pytest.approx(ratio_of_source(0.3, 0.1) / np.exp(-2 / 20), abs=0.04)
 
 
+def test_pairs_of_one_unit_of_time() -> None:
+    """Two photons and three in a measurement of one unit: all pairs are at 0."""
+    assert Coincidences(np.zeros(3, np.int64), 1, 1, 2, 3, 1).expected().tolist() == [0, 6, 0]
+
+
 def test_pairs_of_one_detector_have_twice_the_error() -> None:
     events = pulsed_source(7)
     events["number"] = 0
@@ -280,6 +290,15 @@ def test_pairs_of_one_detector_have_twice_the_error() -> None:
     ratio, error = pairs.central_ratio()
     half = int(pairs.counts.sum() - pairs.counts[10]) // 2
     assert error == pytest.approx(ratio * np.sqrt(2 / pairs.counts[10] + 1 / half), rel=1e-6)
+
+
+@pytest.mark.parametrize(("reach", "width"), [(6, 3), (7, 3), (5, 11), (4, 2), (9, 20), (8, 1)])
+def test_variances_count_what_has_its_opposite_in_the_same_cell(reach: int, width: int) -> None:
+    pairs = Coincidences(np.full(2 * reach // width + 1, 12), reach, width, 9, 16, 100, None, 6)
+    for cell, variance in enumerate(pairs.variances()):
+        inside = range(cell * width - reach, min((cell + 1) * width - reach, reach + 1))
+        both = sum(-difference in inside for difference in inside)
+        assert variance == pytest.approx(12 * (1 + 36 / 144 * both / len(inside)))
 
 
 def test_ratios_are_told_apart_as_by_scipys_test() -> None:
@@ -298,15 +317,22 @@ def test_dense_pairs_take_no_time_by_the_reach(photons: int, span: int, reach: i
     """As many as those of an array of each difference, and in a second of the processor at most."""
     draws = np.random.default_rng(8)
     times = np.unique(draws.integers(0, span, photons))
-    weights = draws.integers(0, 3, (2, len(times)))
+    firsts, seconds = draws.integers(0, 3, (2, len(times)))
     begun = time.process_time()
-    counts = pulsed.pair_counts(times, *weights, reach)
+    counts = pulsed.pair_counts(times, firsts, seconds, reach)
     assert time.process_time() - begun < 1 and counts.shape == (reach + 1,)
     known = np.zeros(reach + 1, np.int64)
     for at in range(len(times)):
         last = np.searchsorted(times, times[at] + reach, side="right")
-        known[times[at:last] - times[at]] += weights[0][at] * weights[1][at:last]
+        known[times[at:last] - times[at]] += firsts[at] * seconds[at:last]
     assert np.array_equal(counts, known)
+
+
+def test_what_is_dense_is_told_by_pairs_of_times() -> None:
+    """50 times, each with six others in reach, in less than eight times as many units of time; none without one of the groups."""
+    times, ones = np.arange(0, 1000, 20), np.ones(50, np.int64)
+    assert pulsed._is_dense(times, ones, ones, 980, 100)
+    assert not pulsed._is_dense(times, 0 * ones, ones, 980, 100) and not pulsed._is_dense(times, ones, ones, 8000, 100)
 
 
 @settings(max_examples=60, deadline=None)
@@ -326,7 +352,7 @@ def test_hours_in_ticks_of_a_picosecond(period: float) -> None:
     """Three hours of 80 MHz by 1 ps pass 2^53 ticks: times are exact to the tick, beside Python's own fractions."""
     events = np.zeros(4, ptulab.EVENT)
     events["time"], events["dtime"] = [0, 1, 864_000_000_001, 864_000_000_002], [5, 7, 11, 4000]
-    ours = pulsed.in_ticks(events, period)
+    ours = pulsed.in_ticks(events_of(events), period)
     known = [round(Fraction(period) * int(one["time"])) + int(one["dtime"]) for one in events]
     assert ours.tolist() == known
     shown = coincidences(events, 0, 0, 20_000, period=period)
@@ -338,5 +364,5 @@ def test_periods_that_tell_no_times_apart() -> None:
     events["time"] = [0, 10**13]
     for bad in (0, -3, float("nan"), float("inf"), 1000 + 1 / 3, 500_000):
         with pytest.raises(ValueError, match="told apart"):
-            pulsed.in_ticks(events, bad)
-    assert pulsed.in_ticks(events, 100 + 1 / 3)[1] == pytest.approx(10**15 + 10**13 / 3, abs=1)
+            pulsed.in_ticks(events_of(events), bad)
+    assert pulsed.in_ticks(events_of(events), 100 + 1 / 3)[1] == pytest.approx(10**15 + 10**13 / 3, abs=1)

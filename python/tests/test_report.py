@@ -287,6 +287,8 @@ BAD = [
     HEAD + "correlation 1 lags 4 levels 2\n0 5 1\n",
     HEAD + "correlation 1 lags 4 levels 2\n1 2 1\n",
     HEAD + "correlation 1 lags 4 levels 2\n2 3 1\n",
+    HEAD + "correlation 1 lags 4 levels 41\n",
+    HEAD + f"coincidence 1 reach {2**20 + 1} width 1\n",
     HEAD + "nothing 1\n",
     HEAD + "histogram 2 width 1 bins 2\nover 1\n",
     HEAD + "histogram 1 width 1 bins 2\nover 1\n" * 2,

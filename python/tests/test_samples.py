@@ -98,7 +98,7 @@ def test_pairs_of_the_diffusing_molecules(program: str, folder: Path) -> None:
 
 def test_the_diffusion_is_found(folder: Path) -> None:
     curve = correlation_by_segments(ptulab.read_events(folder / "diffusion.ptu"), 1, 2, segments=10, levels=24)
-    fit = fits.fit_fcs(np.asarray(curve.seconds), curve.values, curve.errors, dimensions=2, span=(2e-5, 0.05))
+    fit = fits.fit_fcs(np.asarray(curve.seconds), curve.values, segments=curve.segments, dimensions=2, span=(2e-5, 0.05))
     assert fit.values["diffusion"] == pytest.approx(500e-6, rel=0.1) and fit.values["number"] == pytest.approx(20 * np.pi / 64, rel=0.1)
 
 

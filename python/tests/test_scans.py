@@ -1,4 +1,6 @@
-from collections.abc import Callable
+import dataclasses
+import operator
+from collections.abc import Callable, Iterable
 from fractions import Fraction
 from pathlib import Path
 from typing import Any
@@ -15,7 +17,7 @@ import ptulab
 from ptulab import groups
 from ptulab.groups import Group, photons_of, shifted
 from ptulab.pulsed import coincidences
-from ptulab.scans import Scan, best_phase, cube, image, lines_of, scan_of
+from ptulab.scans import Cube, Image, Scan, _likeness, best_phase, cube, image, lines_of, scan_of
 from ptulab.segments import window
 
 BITS = st.one_of(st.none(), st.integers(1, 4))
@@ -26,7 +28,7 @@ def folder(tmp_path_factory: pytest.TempPathFactory) -> Path:
     return tmp_path_factory.mktemp("scans")
 
 
-def counted(program: str, folder: Path, plan: Any, events: Any) -> Any:
+def counted(program: str, folder: Path, plan: str, events: Iterable[tuple[int, ...]]) -> tuple[ptulab.Report, ptulab.Events]:
     """What ptu counts by a plan, and the events, of a file of these events."""
     (folder / "plan.toml").write_text("version = 2\n" + plan)
     path = made.write(folder / "data.ptu", "HydraHarp2T3", events, tick=1e-8, resolution=1e-11)
@@ -48,15 +50,15 @@ def test_whole_pixel_times_are_counted_as_ptu_does(program: str, folder: Path, e
     said = keys(width, height, dwell, line, frame, stop, serpentine)
     plan = f"group = [{{ inputs = [0, 2], gates = [[0, 9], [12, 40]] }}]\nimage = [{{ {said} }}]\n"
     plan += f"cube = [{{ {said}, dwidth = 7, dbins = 4 }}]\n"
-    report, events = counted(program, folder, plan, events)
+    report, read = counted(program, folder, plan, events)
     scan = Scan(width, height, line, stop, frame, width * dwell, serpentine)
     group = Group((0, 2), ((0, 9), (12, 40)))
-    ours, table = image(events, scan, group), report.table("image")
+    ours, table = image(read, scan, group), report.table("image")
     assert (ours.counts == table.counts).all() and ours.outside == table.rest["outside"]
-    ours, table = cube(events, scan, 7, 4, group), report.table("cube")
-    assert (ours.counts == table.counts).all() and (ours.ticks == table.ticks).all()
-    assert {"outside": ours.outside, "over": ours.over} == table.rest
-    framed = image(events, Scan(width, height, line, stop, frame, width * dwell, serpentine, frames=True), group)
+    deep, table = cube(read, scan, 7, 4, group), report.table("cube")
+    assert (deep.counts == table.counts).all() and (deep.ticks == table.ticks).all()
+    assert {"outside": deep.outside, "over": deep.over} == table.rest
+    framed = image(read, Scan(width, height, line, stop, frame, width * dwell, serpentine, frames=True), group)
     assert (framed.counts.sum(axis=0) == report.table("image").counts).all() and framed.outside == table.rest["outside"]
 
 
@@ -64,7 +66,7 @@ def has(event: Any, bit: int | None) -> Any:
     return bit is not None and isinstance(event[1], made.Bits) and event[1] >> bit - 1 & 1
 
 
-def place(events: Any, at: int, scan: Any) -> Any:
+def place(events: Any, at: int, scan: Scan) -> tuple[int, int, int] | None:
     """The frame, row and column of a photon, by looking at all markers before it, or None."""
     line = max((i for i in range(at) if has(events[i], scan.line)), default=None)
     if line is None or any(has(event, scan.stop) for event in events[line + 1 : at]):
@@ -88,12 +90,12 @@ def place(events: Any, at: int, scan: Any) -> Any:
     column = since * scan.width // Fraction(str(time))
     if not 0 <= column < scan.width or row >= scan.height:
         return None
-    return frame, row, scan.width - 1 - column if back else column
+    return frame, row, int(scan.width - 1 - column if back else column)
 
 
 @settings(max_examples=50, deadline=None)
 @given(
-    random_events.scans.map(lambda events: sorted(events, key=lambda event: event[0])),
+    random_events.scans.map(lambda events: sorted(events, key=operator.itemgetter(0))),
     st.integers(1, 4),
     BITS,
     st.integers(1, 4),
@@ -167,6 +169,7 @@ def test_the_header_tells_of_a_scan(make_file: Callable[..., Path]) -> None:
     less = {"ImgHdr_PixX": 512, "ImgHdr_PixY": 256, "ImgHdr_LineStart": 1, "ImgHdr_LineStop": -1}
     assert told(less | {"ImgHdr_TimePerPixel": 8.4 * 5e-5}).time == pytest.approx(4300.8)
     assert told(less, time=99) == Scan(512, 256, 1, time=99)
+    assert told(HEADER | {"ImgHdr_Frame": 0, "ImgHdr_LineStop": 0}, time=99) == Scan(512, 256, 1, time=99, serpentine=True)
     with pytest.raises(ValueError, match="the time of a line"):
         told(less)
     for tag in ("PixX", "PixY", "LineStart"):
@@ -189,15 +192,18 @@ def test_empty_files_give_empty_images(make_file: Callable[..., Path]) -> None:
 
 
 def test_settings_that_no_scan_has_are_refused(make_file: Callable[..., Path]) -> None:
-    for bad in ({"width": 0}, {"line": 5}, {"stop": 0}, {"time": None}, {"time": -1.0}, {"time": float("nan")}, {"phase": float("inf")}):
+    good = Scan(4, 4, 1, time=9)
+    bad: list[dict[str, Any]] = [{"width": 0}, {"line": 5}, {"stop": 0}, {"time": None}, {"time": -1.0}, {"time": float("nan")}, {"phase": float("inf")}]
+    for words in bad:
         with pytest.raises(ValueError):
-            Scan(**({"width": 4, "height": 4, "line": 1, "time": 9} | bad))
+            dataclasses.replace(good, **words)
     path = make_file("HydraHarp2T3", [(5, made.Bits(1)), (7, 0)])
     with pytest.raises(ValueError, match="too long"):
         image(path, Scan(4, 4, 1, time=2.0**62))
     with pytest.raises(ValueError, match="bins"):
         cube(path, Scan(4, 4, 1, time=9), 0, 4)
-    for wrong in (65, [-1], [0, 300]):
+    inputs: list[int | list[int]] = [65, [-1], [0, 300]]
+    for wrong in inputs:
         with pytest.raises(ValueError, match="inputs are 0 to 64"):
             image(path, Scan(4, 4, 1, time=9), wrong)
     with pytest.raises(ValueError, match="a gate from 5 to 5"):
@@ -205,13 +211,15 @@ def test_settings_that_no_scan_has_are_refused(make_file: Callable[..., Path]) -
 
 
 def test_shifts_are_those_of_a_plan(program: str, folder: Path) -> None:
-    events = [(1, 0, 3), (2, 1, 90), (3, 1, 4), (3, made.Bits(1)), (4, 2, 99)]
+    shown: list[tuple[int, ...]] = [(1, 0, 3), (2, 1, 90), (3, 1, 4), (3, made.Bits(1)), (4, 2, 99)]
     plan = "period = 100\nshift = [{ input = 1, shift = 85 }]\ngroup = [{ inputs = [0, 1, 2] }]\n"
-    report, events = counted(program, folder, plan + "histogram = [{ group = 1, width = 1, bins = 100 }]\n", events)
+    report, events = counted(program, folder, plan + "histogram = [{ group = 1, width = 1, bins = 100 }]\n", shown)
     dtimes = photons_of(shifted(events.array, {1: 85}, 100))["dtime"]
     assert (np.bincount(dtimes, minlength=100) == report.table("histogram").counts).all()
-    with pytest.raises(ValueError):
-        shifted(events.array, {}, 0)
+    for period in (0, 32_769, 4_000_000_000):
+        with pytest.raises(ValueError, match="1 to 32768"):
+            shifted(events.array, {1: 3_000_000_000}, period)
+    assert (shifted(events, {1: -1}, 32_768).dtimes[1], shifted(events, {1: 32_767}, 32_768).dtimes[1]) == (89, 89)
 
 
 @settings(max_examples=20, deadline=None)
@@ -245,12 +253,14 @@ def test_pieces_of_a_file_are_put_together(folder: Path, events: Any, piece: int
         ({"line": 4}, "bit 4, which begins a line"),
         ({"time": None, "stop": 4}, "bit 4, which ends it"),
         ({"time": 1}, "none comes within a line"),
+        ({"time": 1, "frame": 2}, "none comes within a line"),
     ],
 )
 def test_a_picture_without_photons_says_why(make_file: Callable[..., Path], words: Any, said: str) -> None:
-    path = make_file("HydraHarp2T3", [(5, made.Bits(1)), (9, 0, 3), (12, 0, 3), (40, made.Bits(1)), (44, 0, 1)])
+    path = make_file("HydraHarp2T3", [(2, made.Bits(2)), (5, made.Bits(1)), (9, 0, 3), (12, 0, 3), (40, made.Bits(1)), (44, 0, 1)])
     scan = Scan(**({"width": 4, "height": 2, "line": 1, "time": 20} | words))
-    for call in (lambda: image(path, scan), lambda: cube(path, scan, 1, 2)):
+    calls: list[Callable[[], Image | Cube]] = [lambda: image(path, scan), lambda: cube(path, scan, 1, 2)]
+    for call in calls:
         with pytest.warns(UserWarning, match=f"all 3 photons are outside of the image: .*{said}") as told:
             assert call().outside == 3
         assert told[0].filename == __file__
@@ -275,10 +285,50 @@ def test_a_sine_that_the_header_tells_of_is_said(make_file: Callable[..., Path],
 def test_lines_of_no_time_are_refused(make_file: Callable[..., Path]) -> None:
     """A time that its nearest fraction makes 0 left the image empty."""
     path = make_file("HydraHarp2T3", [(5, made.Bits(1)), (5, 0, 3), (6, 0, 3)])
-    for time in (4e-7, 9e-7, Fraction(1, 1_000_001)):
+    times: list[float | Fraction] = [4e-7, 9e-7, Fraction(1, 1_000_001)]
+    for time in times:
         with pytest.raises(ValueError, match="a line of"):
             Scan(4, 4, 1, time=time)
     assert image(path, Scan(4, 4, 1, time=1e-6)).counts.sum() == 1
     with pytest.raises(ValueError, match="too short for a phase"):
         image(path, Scan(2048, 4, 1, time=0.25, phase=1e12 + 0.001))
     assert Scan(4, 4, 1, time=1e-6).time == 1e-6
+
+
+def rows_of(*times: int) -> Any:
+    """A marker of bit 1 at 5, and photons at these times, of T3."""
+    events = np.zeros(1 + len(times), ptulab.EVENT)
+    events["record"], events["time"] = np.arange(1, len(events) + 1), [5, *times]
+    events["marker"][0] = events["number"][0] = 1
+    return events
+
+
+def test_the_longest_line_that_columns_have() -> None:
+    events = rows_of(9, 2**62)
+    assert image(events, Scan(1, 1, 1, time=2**62 - 2)).counts.tolist() == [[2]]
+    with pytest.raises(ValueError, match="too long"):
+        image(events, Scan(1, 1, 1, time=2**62 - 1))
+
+
+def test_photons_far_behind_a_line_of_a_fine_time_are_outside() -> None:
+    """Their columns would have more than 64 bits."""
+    ours = image(rows_of(5, 2**60, 2**62 - 1), Scan(40, 1, 1, time=Fraction(333_333, 1_000_000)))
+    assert ours.counts.sum() == ours.counts[0, 0] == 1 and ours.outside == 2
+
+
+def test_photons_far_before_a_line_are_outside() -> None:
+    """As before a marker of T2, which has no order: 1000 times the time between has more than 64 bits."""
+    events = rows_of(0, 2**61 + 5)
+    events["time"][0] = 2**61
+    ours = image(events, Scan(4, 1, 1, time=8, serpentine=True, phase=0.001))
+    assert ours.counts.tolist() == [[0, 0, 1, 0]] and ours.outside == 1
+
+
+@settings(max_examples=50, deadline=None)
+@given(st.integers(2, 5), st.integers(0, 2**32))
+def test_rows_are_alike_by_the_angle_between_them(rows: int, seed: int) -> None:
+    counts = np.random.default_rng(seed).integers(0, 9, (rows, 4))
+    above, below = counts[:-1].ravel().astype(float), counts[1:].ravel().astype(float)
+    if above.any() and below.any():
+        assert _likeness(counts) == pytest.approx(above @ below / np.linalg.norm(above) / np.linalg.norm(below))
+    assert _likeness(np.tile(counts[:1] + 1, (rows, 1))) == pytest.approx(1) and _likeness(0 * counts) == 0

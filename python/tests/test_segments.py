@@ -55,7 +55,7 @@ def test_a_whole_measurement_is_one_segment(program: str, folder: Path) -> None:
     table = report_of(program, folder, (1,), (2,), 16, 6, path).table("correlation")
     curve = correlation_by_segments(ptulab.read_events(path), 1, 2, segments=1, lags=16, levels=6)
     assert np.allclose(curve.values, table.normalised(), rtol=1e-3) and np.isnan(curve.errors).all()
-    assert np.allclose(curve.seconds, table.seconds, rtol=1e-12)
+    assert np.allclose(np.asarray(curve.seconds), table.seconds, rtol=1e-12)
 
 
 def test_errors_are_those_of_the_mean(folder: Path) -> None:
@@ -109,13 +109,14 @@ def test_segments_hold_every_event_but_those_left_over(folder: Path, events: Any
 
 def test_what_cannot_be_correlated(make_file: Callable[..., Path]) -> None:
     path = make_file("HydraHarp2T2", [])
-    for call in (
+    calls: list[Callable[[], object]] = [
         lambda: correlation_by_segments(path, 1, 2),
         lambda: list(split(ptulab.read_events(path), 2)),
         lambda: edges(0, 5, 0),
         lambda: delays(7, 3),
         lambda: delays(8, 41),
-    ):
+    ]
+    for call in calls:
         with pytest.raises(ValueError):
             call()
     lonely = correlation_by_segments(make_file("HydraHarp2T2", [(0, 1), (9, 1)], name="lonely.ptu"), 1, 2, segments=2, levels=2)

@@ -16,7 +16,8 @@ LINES = ["trace 1 origin 10 width 5", "0 2", "1 1", "198 1", "before 1", "freque
 
 def test_a_trace(tmp_path: Path) -> None:
     (tmp_path / "trace.txt").write_text("\n".join(LINES))
-    for source in (tmp_path / "trace.txt", "\n".join(LINES), "\n".join(LINES).encode()):
+    sources: list[Path | str | bytes] = [tmp_path / "trace.txt", "\n".join(LINES), "\n".join(LINES).encode()]
+    for source in sources:
         trace = ptulab.read_trace(source)
         assert (trace.origin, trace.width, trace.before, trace.above) == (10, 5, 1, 0)
         assert trace.ticks.tolist() == [10, 15, 1000] and trace.counts.tolist() == [2, 1, 1]
@@ -32,7 +33,8 @@ def test_a_trace_that_was_cut(many: int) -> None:
 
 @pytest.mark.parametrize("text", ["", "trace 1 origin 10\n", "\n".join(LINES[:3]), "\n".join([LINES[0], "x 1", ""]), "\n".join([*LINES, "1 1", ""]),
                                   "\n".join([LINES[0], "1 1", "1 1", ""]), "\n".join([*LINES[:5], "9" * 2000]), f"{LINES[0]}\n{'1' * 70000}",
-                                  f"trace 1 origin 0 width {2**62 + 1}\n"])
+                                  f"trace 1 origin 0 width {2**62 + 1}\n", f"trace 1 origin 0 width {2**62}\n1 1\n2 5\n",
+                                  f"trace 1 origin {2**62} width 9\n{10**18 - 1} 5\n"])
 def test_texts_that_are_no_trace(text: str) -> None:
     with pytest.raises(BadReport):
         ptulab.read_trace(text.encode())
@@ -41,6 +43,8 @@ def test_texts_that_are_no_trace(text: str) -> None:
 def test_the_widest_trace() -> None:
     trace = ptulab.read_trace(f"trace 1 origin {2**62} width {2**62}\n0 5\n")
     assert trace.ticks.tolist() == [2**62] and trace.width == 2**62
+    last = 2**63 - 1 - 9 * (10**18 - 1)
+    assert ptulab.read_trace(f"trace 1 origin {last} width 9\n{10**18 - 1} 5\n").ticks.tolist() == [2**63 - 1]
 
 
 @pytest.mark.parametrize("number", ["1024", "9" * 30])

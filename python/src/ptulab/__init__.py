@@ -5,10 +5,12 @@ Reports and their sums (``read_report``, ``sum_reports``), runs of the program (
 """
 
 from . import (
+    app,
     bursts,
     errors,
     events,
     exports,
+    first_look,
     fits,
     groups,
     headers,
@@ -29,6 +31,7 @@ from . import (
 )
 from .errors import BadFile, BadPlan, BadReport, FitFailed, Missing, NoProgram, NotKnown, NoTable, PtulabError, Refusal, Unlike
 from .events import EVENT, Events, iter_events, read_events
+from .first_look import Info, info
 from .headers import Header, read_header
 from .many import Left, Sum, count_files, sum_files
 from .page import write_page
@@ -50,6 +53,7 @@ __all__ = [
     "FitFailed",
     "Head",
     "Header",
+    "Info",
     "Left",
     "LongTrace",
     "Missing",
@@ -63,6 +67,7 @@ __all__ = [
     "Table",
     "Unlike",
     "__version__",
+    "app",
     "bursts",
     "check_plan",
     "count_files",
@@ -70,9 +75,11 @@ __all__ = [
     "events",
     "exports",
     "find_program",
+    "first_look",
     "fits",
     "groups",
     "headers",
+    "info",
     "iter_events",
     "many",
     "page",

@@ -6,7 +6,7 @@ from typing import Any
 from .errors import Missing
 
 PACKAGES = {"distributed": "many", "dask": "many", "tqdm": "many", "matplotlib": "plot", "lmfit": "fit", "scipy": "fit",
-            "h5py": "export", "tifffile": "export", "xarray": "export", "plotly": "page"}  # the extra that has each
+            "h5py": "export", "tifffile": "export", "xarray": "export", "plotly": "page", "starlette": "app", "uvicorn": "app", "jinja2": "app"}  # the extra that has each
 
 
 def want(name: str, feature: str) -> Any:

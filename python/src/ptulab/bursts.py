@@ -44,8 +44,9 @@ def find_bursts(
     if np.any(times[1:] < times[:-1]):
         raise ValueError("the times of photons must rise")
     longest = (m - 1 - c) / rate / (1.0 if unit_seconds is None else unit_seconds)
-    above = np.zeros(max(len(times) - m + 1, 0) + 2, np.int8)
-    above[1:-1] = times[m - 1 :] - times[: max(len(times) - m + 1, 0)] <= longest
+    ends = times[m - 1 :]
+    above = np.zeros(len(ends) + 2, np.int8)
+    above[1:-1] = ends - times[: len(ends)] <= longest
     steps = np.diff(above)
     first = np.flatnonzero(steps == 1)
     last = np.flatnonzero(steps == -1) + m - 2

@@ -129,7 +129,7 @@ def _photon_data(photons: Events, setup: Setup) -> dict[str, Any]:
     if header.mode == "T3":
         period, tick = _positive(header.global_seconds), _positive(header.resolution_seconds)
         bins = max(round(period / tick), int(photons.dtimes.max(initial=0)) + 1)
-        data["nanotimes"] = photons.dtimes.astype(np.uint16)
+        data["nanotimes"] = photons.dtimes.astype(np.uint16 if photons.dtimes.max(initial=0) < 1 << 16 else np.uint32)
         data["nanotimes_specs"] = {"tcspc_unit": tick, "tcspc_num_bins": bins, "tcspc_range": bins * tick}
     elif setup.kind == "smFRET-nsALEX":
         raise ValueError("smFRET-nsALEX is of T3 files, whose photons have delays")

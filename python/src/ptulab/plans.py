@@ -37,7 +37,11 @@ def plan_for(path: str | os.PathLike[str]) -> str:
 
     Raises ``BadFile`` for a file that the program would refuse. The whole file is looked at, in the memory of a piece.
     """
-    seen = look(path)
+    return plan_of(look(path))
+
+
+def plan_of(seen: Look) -> str:
+    """A plan for a file that was looked at, as ``plan_for`` makes it."""
     if not seen.inputs:
         return "# no photons\n"
     scanned = seen.header.mode == "T3" and bool(seen.header.tags.get("ImgHdr_PixX"))
@@ -125,7 +129,7 @@ def _scan(seen: Look) -> Iterator[str]:
         settings |= {key: bit for key, bit in (("frame", frame), ("stop", stop)) if bit}
         settings |= {"serpentine": "true"} if tags.get("ImgHdr_BiDirect") else {}
         yield _said_of_pixels(seen, dwell, source, width) + _table("image", **settings)
-        yield "# the same with the dtimes of each pixel\n" + _table("cube", **settings, **_bins_of_pixel(seen, width * height))
+        yield "# the same with the dtimes of each pixel\n" + _table("cube", **settings, **bins_of_pixel(seen, width * height))
 
 
 def _bit(seen: Look, name: str) -> int | None:
@@ -155,7 +159,7 @@ def _said_of_pixels(seen: Look, dwell: float, source: str, width: int) -> str:
     return said + "\n"
 
 
-def _bins_of_pixel(seen: Look, pixels: int) -> dict[str, int]:
+def bins_of_pixel(seen: Look, pixels: int) -> dict[str, int]:
     """Bins of the dtime, as fine as a cube has room for."""
     depth = _depth(seen)
     width = math.ceil(depth / min(DEPTH, BINS_OF_CUBE // pixels))

@@ -7,16 +7,16 @@ import subprocess
 import tempfile
 import threading
 from collections.abc import Callable, Iterator
-from contextlib import contextmanager, suppress
+from contextlib import contextmanager
 from importlib import resources
 from typing import IO, Any
 
 import ptulab_program
 
 from ._documents import read_plan
-from .errors import BadPlan, BadReport, NoProgram, Refusal
+from .errors import BadPlan, BadReport, NoProgram, Refusal, Unlike
 from ._optional import want
-from .report import Report, groups_of, read_stream
+from .report import Report, read_stream
 
 __all__ = ["find_program", "refusal", "run"]
 
@@ -51,29 +51,31 @@ def run(
 
     With ``progress`` tqdm shows a bar of the bytes of the file that the program has read. The report is read while it
     is printed, so the memory is that of its tables. With ``whole``, a report of the same plan, it is added into the
-    arrays of that one, and the sum is given; a file that is refused and what is ``Unlike`` it, as a plan of other tables or
-    a file of another record type or tick, leave it as it is. Raises ``Refusal`` where the program ends with another status
-    than 0, with its line and its meaning; ``NoProgram``; and ``Missing`` where a bar is wanted and tqdm isn't there.
+    arrays of that one once it is whole, and the sum is given; a file that is refused and what is ``Unlike`` it, as a plan
+    of other tables or a file of another record type or tick, leave it as it is. Raises ``Refusal`` where the program ends
+    with another status than 0, with its line and its meaning; ``NoProgram``; and ``Missing`` where a bar is wanted and tqdm
+    isn't there.
     """
     words = [find_program(program), "run", os.fspath(plan), os.fspath(file)]
     bar = want("tqdm", "the progress of a run").tqdm if progress else None
     document = _document(plan)
-    if whole is not None and document is not None:
-        with suppress(KeyError, TypeError, AttributeError):  # a bad plan is for the program to refuse
-            groups_of(document, whole.tables)
     with tempfile.TemporaryFile() as told:
         with subprocess.Popen(words, stdout=subprocess.PIPE, stderr=told) as child, _shown(bar, child, words[-1]):
             try:
-                report = _read(child.stdout, document, whole)
+                report = _read(child.stdout, document)
             except BaseException:
                 child.kill()
+                child.wait()  # which an interrupt would cut short
                 raise
         told.seek(0)
         if child.returncode != 0:
             raise refusal(child.returncode, told.read().decode(errors="replace").strip())
-    if isinstance(report, BadReport):
+    if not isinstance(report, Report):
         raise report
-    return report
+    if whole is None:
+        return report
+    whole += report
+    return whole
 
 
 def refusal(status: int, line: str) -> Refusal:
@@ -102,12 +104,12 @@ def _document(plan: str | os.PathLike[str]) -> dict[str, Any] | None:
         return None
 
 
-def _read(stream: IO[bytes] | None, document: dict[str, Any] | None, whole: Report | None) -> Report | BadReport:
-    """The report, or what is wrong with it: of a run that was refused there is none."""
+def _read(stream: IO[bytes] | None, document: dict[str, Any] | None) -> Report | BadReport | Unlike:
+    """The report, or what is wrong with it: of a run that was refused there is none, or a part."""
     assert stream is not None
     try:
-        return read_stream(stream, document, whole)
-    except BadReport as error:
+        return read_stream(stream, document)
+    except (BadReport, Unlike) as error:
         while stream.read(1 << 16):
             pass
         return error

@@ -221,7 +221,7 @@ def cube(source: EventsLike, scan: Scan, dwidth: int, dbins: int, group: GroupLi
     for piece in pieces_of(source):
         photons = chosen.mask(piece)
         cells, placed = places.of(piece["record"][photons], piece["time"][photons])
-        bins = piece["dtime"][photons] // dwidth
+        bins = piece["dtime"][photons] // np.int64(dwidth)
         kept = placed & (bins < dbins)
         outside += len(placed) - int(np.count_nonzero(placed))
         over += int(np.count_nonzero(placed)) - int(np.count_nonzero(kept))
@@ -287,7 +287,7 @@ class _Places:
         self.until = np.append(-1, np.where(good, lines["until"], -1))
         self.length = np.append(1, np.where(good, length, 1))
         self.first, self.step = np.append(0, np.where(back, first + scan.width - 1, first)), np.append(1, np.where(back, -1, 1))
-        self.most = self.length // (self.parts // scan.width) + math.ceil(abs(phase)) + 1  # beyond it all are outside
+        self.most = self.length // (self.parts // scan.width) + math.ceil(abs(phase)) + 1  # beyond it, and so long before, all are outside
 
     def of(self, records: NDArray[np.int64], times: NDArray[np.int64]) -> tuple[NDArray[np.int64], NDArray[np.bool_]]:
         """Of photons, by the numbers of their records, which rise, and their times: the numbers of their pixels, frame by
@@ -300,7 +300,8 @@ class _Places:
         def each(values: NDArray[np.int64]) -> NDArray[np.int64]:
             return np.repeat(values[low:high], many)
 
-        since = np.minimum(times - each(self.start), each(self.most)) * self.scale - each(self.phase)
+        most = each(self.most)
+        since = np.clip(times - each(self.start), -most, most) * self.scale - each(self.phase)
         placed = (records < each(self.until)) & (since >= 0)
         columns = since * self.parts // each(self.length * self.scale)
         placed &= columns < self.width

@@ -17,6 +17,7 @@ Settings = Mapping[str, int]
 Given = int | Sequence[int] | None  # photons of a group: of all measurements, of each, or those that a plan told
 BY_DTIME = ("histogram", "cube")  # whose axis is the delay after the sync
 MOST_CELLS = 1 << 26  # of a table, by the limits of a plan
+MOST_REACH = 1 << 20  # of coincidences, likewise
 TOGETHER = 1 << 16  # counts that are floating-point numbers at a time
 
 
@@ -276,7 +277,8 @@ def empty_table(kind: str, number: int, settings: dict[str, int], seconds: float
 
     Raises ``BadReport`` where its settings are none that a plan can have.
     """
-    if min(settings.values()) < (0 if kind == "trace" else 1) or settings.get("width", 1) < 1 or settings.get("bins", 1) < 1:
+    few = min(settings.values()) < (0 if kind == "trace" else 1) or settings.get("width", 1) < 1 or settings.get("bins", 1) < 1
+    if few or settings.get("levels", 1) > 40 or settings.get("reach", 1) > MOST_REACH:  # delays and differences have 64 bits
         raise BadReport(f"a {kind} with settings that no plan has")
     shape = KINDS[kind].shape(settings)
     cells = 1

@@ -71,6 +71,8 @@ def _trace(file: IO[bytes]) -> LongTrace:
             end = text[at:] + file.read(LONGEST_END)
             break
     bins, counts = (np.concatenate([part[:, column] for part in parts]) for column in (0, 1))
+    if int(first[1]) + int(bins.max(initial=0)) * int(first[2]) >= 1 << 63:
+        raise BadReport("a bin of this trace begins after the greatest time")
     trace = LongTrace(int(first[1]), int(first[2]), bins, counts)
     return _with_end(trace, end) if end else trace
 
