@@ -2,7 +2,7 @@
 use Rattle.std.specs.Prelude.{ℕ, Bool, true, false, ◌&&◌, not, if◌then◌else◌}
 use Rattle.tally_base.{specs.declared.event.Event.Event, specs.declared.header.Mode.Mode, specs.declared.header.Mode.TheVariants.{T2, T3}, specs.Events.is_ordered}
 
--- the greatest time of the ordered events that weren't marked late, with one more event behind them
+-- the greatest time of the ordered events that weren't marked late, with one more event after them
 abbrev pub moved_floor : Mode → ℕ → Event → Bool → ℕ
 moved_floor mode floor e late = if is_ordered mode e && not late then e.time else floor
 

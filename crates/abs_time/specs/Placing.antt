@@ -26,7 +26,7 @@ greatest_by clock = clock.greatest
 abbrev pub HasPlaced : Clock → List Raw → Type 0
 HasPlaced clock records = IsClock clock.mode clock.placed clock.base clock.greatest records
 
--- Behind all that the clock placed, these records lead to these numbers.
+-- After all that the clock placed, these records lead to these numbers.
 abbrev pub LeadsOn : Clock → ℕ → ℕ → ℕ → List Raw → Type 0
 LeadsOn clock count sum top more = (records : List Raw) → HasPlaced clock records → IsClock (mode_of clock) count sum top (records ++ more)
 
@@ -42,7 +42,7 @@ abbrev pub placed_as : Mode → List Event → Raw → List Event → Placed
 placed_as mode before raw [] = if is_wrap raw then Wrap else Reserved
 placed_as mode before raw (e ∷ es) = placed_event mode before e
 
--- what placing a record behind these answers
+-- what placing a record after these answers
 unfoldable pub place_answer : Mode → List Raw → Raw → Result Placed Fault
 place_answer mode before raw =
     if passes before raw then Err (TimeLimit (length before + 1)) else Ok (placed_as mode (events before) raw (event_after before raw))
@@ -59,7 +59,7 @@ Moves mode before now (Late e top) = IsSmall mode e × (now ≡ before)
 Moves mode before now Wrap = now ≡ before
 Moves mode before now Reserved = now ≡ before
 
--- the event of a placed record is the next one behind so many records
+-- the event of a placed record is the next one after so many records
 abbrev pub IsAtPlace : ℕ → Placed → Type 0
 IsAtPlace count (InOrder e) = e.place ≡ count + 1
 IsAtPlace count (Late e top) = e.place ≡ count + 1

@@ -80,7 +80,7 @@ impl Clock {
         self.greatest
     }
 
-    /// Goes on behind more records that were placed by the same rules without it, since a block of them needs no
+    /// Goes on after more records that were placed by the same rules without it, since a block of them needs no
     /// test for each. With them so many are placed; the wraps of all add up to `base`, at most 2^62, and `greatest`
     /// is the greatest time of the events in order.
     #[inline(always)]

@@ -33,7 +33,7 @@ GivesCount old new count into = Consumes old new (take count into) × (IsAtEnd n
 abbrev pub ReadGives : {E : Type 0} → Given → Given → Result ℕ E → List ℕ → Type 0
 ReadGives old new result into = MatchResult result (λ count. GivesCount old new count into) (λ _. new ≡ old)
 
--- These bytes may stand in the file behind those that were given: none, where the end was said.
+-- These bytes may stand in the file after those that were given: none, where the end was said.
 abbrev pub MayFollow : Given → List ℕ → Type 0
 MayFollow given more = IsAtEnd given → more ≡ []
 

@@ -13,7 +13,7 @@ pub record NamedBytes : Type 0 where
 
 -- Entries that are taken round and round.
 
--- the place behind, or the first where there is none behind
+-- the place after, or the first where there is none after
 abbrev pub next_turn : List ℕ → ℕ → ℕ
 next_turn [] turn = turn
 next_turn (entry ∷ entries) turn = (turn + 1) % length (entry ∷ entries)

@@ -5,7 +5,7 @@ use Rattle.coincidence.specs.Intervals.{neighbours, is_of_either, photons_of_eit
 
 -- one more item, and the neighbours
 
--- the pair of a last item, if there is one, and the item behind it
+-- the pair of a last item, if there is one, and the item after it
 abbrev pub last_pair : {X : Type 0} → Option X → X → List (X × X)
 last_pair None y = []
 last_pair (Some x) y = (x, y) ∷ []
@@ -81,7 +81,7 @@ sum-shift f a (suc n) = grind (arith, common_steps, add-one, sum_by-cons, sum-sh
 pub sum-places : (f : ℕ → ℕ) (n : ℕ) → sum_by f (range_with_len 0 (suc n)) ≡ f 0 + sum_by (λ i. f (suc i)) (range_with_len 0 n)
 sum-places f n = sum_by-cons f 0 (range_with_len (0 + 1) n) ∙ ap (λ m. f 0 + m) (sum-shift f 0 n)
 
--- how many photons behind x are the next of either group, and end an interval from x
+-- how many photons after x are the next of either group, and end an interval from x
 abbrev pub next_ends : StartStopView → (ℕ → Bool) → Event × ℕ → History → ℕ → Bool
 next_ends set test x h j = not (list_any (is_of_either set) (take j h)) && are_ends set test (Some x) (slice_get h j)
 

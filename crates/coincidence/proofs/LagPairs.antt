@@ -84,7 +84,7 @@ lags_in_turn d set c es (l ∷ ls) rising below =
 
 -- Pairs in windows.
 
--- a range and the one behind it
+-- a range and the one after it
 pub range-append : (a m n : ℕ) → range_with_len a (m + n) ≡ range_with_len a m ++ range_with_len (a + m) n
 range-append a zero n = search (rules, arith)
 range-append a (suc m) n =
@@ -151,7 +151,7 @@ pub three-sums : (f : Entry → ℕ) (front back ring later : List Entry) → fr
     → sum_by f (ring ++ later) ≡ sum_by f front + sum_by f back + sum_by f later
 three-sums f front back ring later is = search (rules, arith, sum_by-append)
 
--- entries behind others rise with them
+-- entries after others rise with them
 pub rising_join : (es later : List Entry) → IsRising es → IsRising later
     → AllByRecursion (λ l. AllByRecursion (λ e. e.index < l.index) es) later → IsRising (es ++ later)
 rising_join [] later rising rising' above = rising'

@@ -21,7 +21,7 @@ module _ (set : CoincidenceView) {N : ℕ} (b : Block N) where
   picked_more [] from upto within are is = (within, omega arith, is, are, λ i least most. absurd (omega (arith, least, most)))
   picked_more (at ∷ rest) from upto within are is = search (rules, arith, picked_more rest (at + 1) upto (omega (arith, are.1)) are.4 is)
 
-  -- the next row is put behind the others, and counts where it has one
+  -- the next row is put after the others, and counts where it has one
   pub picked_row : (v : Bool) (xs : List ℕ) (n at : ℕ) → n < length xs → has_either set b at ≡ v → ArePicked set b (take n xs) 0 at → ArePicked set b (take (n + cond v 1 0) (slice_set xs n at)) 0 (at + 1)
   picked_row v xs n at room is are = search (rules, arith, take_more_set, picked_more, take-set, picked_none)
 

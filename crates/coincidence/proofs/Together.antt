@@ -87,7 +87,7 @@ module _ (set : CoincidenceView) where
         bins_below m bins (closed ++ are.0) are.1 (all_back (λ x. x.0.time < m) are.0 are.1 both) are.5,
       )
 
-  -- bins are kept where they are put behind the others at once, and then those go that are further back than the reach
+  -- bins are kept where they are put after the others at once, and then those go that are further back than the reach
   bins_kept : (bins : List Bin) (r : Ring) (closed xs : History) (n : ℕ) → 0 < set.reach → IsRising r.entries → RingIs set r closed
       → BinsAre set bins closed xs → AllByRecursion (λ e. e.index ≤ n) (weights_in bins) → Reaches n (closed ++ xs)
       → RingIs set (ring (filter (λ f. leb (n - (set.reach - 1)) f.index) (r.entries ++ weights_in bins)) r.reach) (closed ++ xs)
@@ -168,7 +168,7 @@ module _ (set : CoincidenceView) (r : Ring) (bins : List Bin) (i : ℕ) (d : Bin
       let few = few_in closed rest next.0 next.1 next.2 can.few in
       (next.0, next.1, next.2, record { few = few.0; keep = next.3; had = can.had }, λ r' now is had. record { few = few.1; keep = next.4 r' is; had = had })
 
--- bins are those of a part and behind them the others
+-- bins are those of a part and after them the others
 split_are : (set : CoincidenceView) (part rest : List Bin) (closed xs : History) → BinsAre set (part ++ rest) closed xs
     → (here : History) × (after : History) × (xs ≡ here ++ after) × BinsAre set part closed here × BinsAre set rest (closed ++ here) after
 split_are set [] rest closed xs are = ([], xs, refl, refl, rw (append-nil closed) are)
@@ -205,7 +205,7 @@ shut_parts set r old bins closed xs can later is c =
     let above = bins_above set r bins closed xs can.keep.were can.keep.are in
     rw is (omega (arith, all_parts set c r.entries bins, lags_in_turn Forward set c r.entries (weights_in bins) rising above, lags_in_turn Backward set c r.entries (weights_in bins) rising above))
 
--- photons behind photons behind others
+-- photons after photons after others
 pub three_runs : (xs done here after : History) (rest : History) → xs ≡ done ++ rest → rest ≡ here ++ after → xs ≡ (done ++ here) ++ after
 three_runs xs done here after rest is also = is ∙ ap (λ ys. done ++ ys) also ∙ sym (append_assoc done here after)
 

@@ -76,18 +76,18 @@ abbrev pub IsLow : ℕ → ℕ → List Entry → Type 0
 IsLow most low es = (side : Side) (top p : ℕ) → weight_at side top low p es ≤ most
 
 module _ (set : CoincidenceView) where
-  -- photons came: those of closed bins, and behind them those of the gathered ones and of the open one
+  -- photons came: those of closed bins, and after them those of the gathered ones and of the open one
   abbrev pub Gathered : Option Bin → List Bin → History → History → Type 0
   Gathered bin bins closed came = (pending : History) × (open' : History) × (came ≡ (closed ++ pending) ++ open') × BinsAre set bins closed pending × OpenIs set bin (closed ++ pending) open'
 
-  -- photons of one tick may come behind them
+  -- photons of one tick may come after them
   pub record CanGather (last : Option Bin) (bins : List Bin) (bin : Bin) (closed came xs : History) : Type 0 where
     pub few : length came + length xs ≤ record_limit
     pub was : Gathered last bins closed came
     pub is : BinIs set bin xs
     pub after : AllByRecursion (λ x. x.0.time ≤ bin.weights.index) came
 
-  -- bins of the photons xs may be put behind the closed ones
+  -- bins of the photons xs may be put after the closed ones
   pub record CanKeepAll (ring : Ring) (bins : List Bin) (closed xs : History) : Type 0 where
     pub are : BinsAre set bins closed xs
     pub were : RingIs set ring closed

@@ -20,7 +20,7 @@ IsAlone set es bin = (bin.both ≡ bin.weights.a * bin.weights.b) × AllByRecurs
 abbrev pub IsLone : {N : ℕ} → CoincidenceView → Block N → ℕ → Type 0
 IsLone set b at = ((has_photon b at set.first || has_photon b at set.second) ≡ true) × (time_at b (at - 1) + set.reach < time_at b at)
 
--- Where the photons of the first so many rows came, behind any others, those of the rows up to another came then, and no pair.
+-- Where the photons of the first so many rows came, after any others, those of the rows up to another came then, and no pair.
 abbrev pub Passes : {N : ℕ} → CoincidenceView → Block N → Option Bin → Option Bin → Ring → Ring → ℕ → ℕ → Type 0
 Passes set b waiting result old new at to =
     (p : Pairing) (cells : Cells) (h : History) → CanTake set p (gathered b) h

@@ -102,7 +102,7 @@ module _ (set : CoincidenceView) where
     pub ring : RingIs p.ring came
     pub cells : CellsAre p.cells came
 
-  -- a bin of the photons xs may be put behind the closed ones
+  -- a bin of the photons xs may be put after the closed ones
   pub record CanKeep (ring : Ring) (bin : Bin) (closed xs : History) : Type 0 where
     pub is : BinIs bin xs
     pub after : AllByRecursion (λ x. x.0.time < bin.weights.index) closed
@@ -133,7 +133,7 @@ module _ (set : CoincidenceView) where
   abbrev pub Came : Pairing → History → Type 0
   Came p came = (closed : History) × (open' : History) × (came ≡ closed ++ open') × PairingIs p closed open'
 
-  -- Photons of one tick came behind any others that they may come behind.
+  -- Photons of one tick came after any others that they may come after.
   abbrev pub Puts : Pairing → Pairing → Bin → Type 0
   Puts old new bin = (closed open' xs : History) → CanPut old bin closed open' xs → Came new ((closed ++ open') ++ xs)
 

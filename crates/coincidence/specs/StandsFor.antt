@@ -27,11 +27,11 @@ pub record CanTake (set : CoincidenceView) (p : Pairing) (es : List Event) (h : 
   pub was : Came set p (photons_of_groups set h)
   pub after : InOrder false (greatest_time false h) es
 
--- The photons of these events came behind those of any that they may be given after. A block has `es`, of which `xs` are its events.
+-- The photons of these events came after those of any that they may be given after. A block has `es`, of which `xs` are its events.
 abbrev pub TakesOn : CoincidenceView → Pairing → Pairing → List Event → History → Type 0
 TakesOn set old new es xs = (h : History) → CanTake set old es h → Came set new (photons_of_groups set (h ++ xs))
 
--- The photons of these events came, and the bins that they closed are gathered behind those that were closed before.
+-- The photons of these events came, and the bins that they closed are gathered after those that were closed before.
 abbrev pub Gathers : CoincidenceView → Option Bin → Option Bin → List Bin → List Event → History → Type 0
 Gathers set waiting result bins es xs =
     (ring : Ring) (cells : Cells) (h : History) → (can : CanTake set (pairing_of waiting ring cells) es h)

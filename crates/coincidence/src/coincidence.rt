@@ -32,7 +32,7 @@ pub struct Coincidence {
 impl Coincidence {
     ghost use Rattle.coincidence.{specs.Coincidence.{Holds, set_of, settings, cells_in, spent_by}, specs.Pairs.{coincidences, coincidences_before, work}};
 
-    /// A table of no events, with all the memory that it ever takes, or `AllocError` where it is wanting.
+    /// A table of no events, with all the memory that it ever takes, or `AllocError` where there is not enough.
     pub fn open(alloc: Global, set: CoincidenceSet) -> Result<Coincidence, AllocError>
         ensures set { IfOk result (λ t. set_of t ≡ set) }
         ensures settings { IfOk result (λ t. ⟦<Coincidence as Tally>⟧.settings t ≡ CoincidenceSettings (coincidence_view set)) }

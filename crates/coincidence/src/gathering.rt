@@ -9,7 +9,7 @@ use crate::pairing::Bin;
 use arrayvec::ArrayVec;
 use tally_base::{Block, CoincidenceSet, TABLE_BLOCK};
 
-/// Takes photons of one tick, after all that came. They join the open bin, or put it behind those that
+/// Takes photons of one tick, after all that came. They join the open bin, or put it after those that
 /// are to be closed: the answer is the bin that is open then.
 #[inline(always)]
 fn gather_bin(waiting: Option<Bin>, bins: &mut ArrayVec<Bin, TABLE_BLOCK>, bin: Bin) -> Option<Bin>
@@ -34,8 +34,8 @@ fn gather_bin(waiting: Option<Bin>, bins: &mut ArrayVec<Bin, TABLE_BLOCK>, bin: 
     }
 }
 
-/// Puts the rows of a block that have a photon of either group behind one another, and answers how many there are. What
-/// stands behind them has no meaning.
+/// Puts the rows of a block that have a photon of either group after one another, and answers how many there are. What
+/// stands after them has no meaning.
 #[inline(always)]
 fn pick(set: CoincidenceSet, block: &Block<TABLE_BLOCK>, rows: &mut [u16; TABLE_BLOCK]) -> usize
     requires sorted { IsSorted block.now }

@@ -9,7 +9,7 @@ use lag_ring::{BYTE_LAGS, Entry, LagRing, PairCells, Side, byte_lag_sums, put_si
 use std::sync::ledger::Ledger;
 use tally_base::{CoincidenceSet, Steps};
 
-/// How many lags a window serves at most, and how many places behind them it has for later bins.
+/// How many lags a window serves at most, and how many places after them it has for later bins.
 pub(crate) const TOP: u32 = 4096;
 
 /// How many places a window has.

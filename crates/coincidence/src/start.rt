@@ -24,7 +24,7 @@ pub(crate) fn no_start() -> Start
     }
 }
 
-/// The start that is open behind a photon: its own time where it starts, and none where it only stops.
+/// The start that is open after a photon: its own time where it starts, and none where it only stops.
 #[inline(always)]
 pub(crate) fn start_behind(start: Start, time: u64, starts: bool, stops: bool) -> Start
     ensures value { start_in result ≡ (if starts then Some time else if stops then None else start_in start) }

@@ -80,7 +80,7 @@ SomeCause shape plan_file data_file fault = (p : Phase) × Cause p shape plan_fi
 own : (calls : Fault → Type 0) (end : Outcome) (fault : Fault) → end.fault ≡ Some fault → ((other : Fault) × calls other × (end ≡ refused other)) → calls fault
 own calls end fault ends h = subst calls (sym (of-refused end h.0 fault h.2 ends)) h.1
 
--- FILE is absent, or refused as a header, or ends the run behind its header
+-- FILE is absent, or refused as a header, or ends the run after its header
 file-why : {R : Type 0} (case : Header → List ℕ → Outcome → Type 0) (data_file : File) (end : Outcome) (fault : Fault)
     → end.fault ≡ Some fault → FileCase (HeaderCase case) data_file end
     → ((data_file ≡ None) × (fault ≡ OpenFault Data) → R) → (Unheaded data_file fault → R)

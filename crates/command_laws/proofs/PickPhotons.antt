@@ -36,7 +36,7 @@ module _ (mode : Mode) where
       by false is (inr h) = inr (record
           { before = p ∷ h.before; photon = h.photon; behind = h.behind; parts = ap (λ l. p ∷ l) h.parts; none_before = rw is h.none_before; late = h.late })
 
-  -- it is the same where more come behind
+  -- it is the same where more come after
   abbrev pub late-more : (ps tail now : List Event) → now ≡ ps ++ tail → FirstLate mode ps → FirstLate mode now
   late-more ps tail now adds h = record {
     before = h.before;
@@ -89,7 +89,7 @@ module _ (chooses : Event → Bool) (how : StreamSettings) where
       let front = given-front how words more in
       (filter chooses (not_marked front.0), ap (photons_in chooses how) parts ∙ ap (λ l. filter chooses (not_marked l)) front.1 ∙ chosen-more chooses (given how words) front.0)
 
-  -- those of some words are in front of those of all bytes behind a header that begin with them
+  -- those of some words are in front of those of all bytes after a header that begin with them
   pub front-of : (words more bytes : List ℕ) → words_of bytes ≡ words ++ more
       → (tail : List Event) × (photons_of chooses how bytes ≡ photons_in chooses how words ++ tail)
   front-of words more bytes parts = by (streamed how bytes) refl
@@ -150,7 +150,7 @@ module _ (chooses : Event → Bool) (how : StreamSettings) where
       by None e = refl
       by (Some fault) e = let refused : record_refusal how now ≡ Some fault = ap (record_refusal how) parts ∙ refused-more how words more fault e in cc
 
-  -- what all bytes behind a header end with
+  -- what all bytes after a header end with
   abbrev pub all_end : List ℕ → Outcome
   all_end bytes = record { text = short_header how.mode ++ end_text chooses how bytes; fault = end_fault chooses how bytes }
 

@@ -12,7 +12,7 @@ cut-or : (fault : Fault) → ((count : ℕ) × (fault ≡ TruncatedHeader count)
 cut-or (TruncatedHeader count) = inl (count, refl)
 cut-or _ = inr (λ count e. cc)
 
--- ## What stands behind a header
+-- ## What stands after a header
 
 module _ (tells : Header → Telling) (stays : (header : Header) → RefusalStays (tells header)) (bytes : List ℕ) where
   -- it is refused, or it isn't

@@ -23,7 +23,7 @@ abbrev pub FileCase : (List ℕ → Outcome → Type 0) → File → Outcome →
 FileCase case None end = end ≡ refused (OpenFault Data)
 FileCase case (Some bytes) end = case bytes end
 
--- The bytes are refused as a header, or have one, and end as it and the bytes behind it do.
+-- The bytes are refused as a header, or have one, and end as it and the bytes after it do.
 abbrev pub HeaderCase : (Header → List ℕ → Outcome → Type 0) → List ℕ → Outcome → Type 0
 HeaderCase case bytes end =
     ((fault : Fault) × HasAnswer bytes (Err fault) × (end ≡ refused fault))
@@ -35,7 +35,7 @@ WholeCase behind text end =
     ((rest_of behind ≢ []) × (end ≡ refused (TruncatedRecord (length (rest_of behind)))))
     ⊎ ((rest_of behind ≡ []) × (end ≡ written text))
 
--- No word is refused behind those before it.
+-- No word is refused after those before it.
 abbrev pub NoneRefused : StreamSettings → List ℕ → Type 0
 NoneRefused how words = (k d : ℕ) → k < length words → refusal how (take k words) (get_or words k d) ≡ None
 
@@ -49,7 +49,7 @@ CountCase header behind end =
 
 -- ## header
 
--- The longest front of the bytes, and the item that has begun behind it, are printed so.
+-- The longest front of the bytes, and the item that has begun after it, are printed so.
 pub record PrintsFront (bytes text : List ℕ) : Type 0 where
   pub start : List ℕ
   pub items : List Item
@@ -113,7 +113,7 @@ abbrev pub by_places : PartSettings → Printed
 by_places (StartStopSettings set) = startstop_by_places set
 by_places settings = printed settings
 
--- a table behind others, by its number among those of its kind
+-- a table after others, by its number among those of its kind
 abbrev pub placed_text : List Table → Table → List ℕ
 placed_text before it = table_lines (by_places it.0) (count_by (λ other. same_kind it.0 other.0) before + 1) it.1
 

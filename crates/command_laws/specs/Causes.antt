@@ -20,7 +20,7 @@ pub record IsValidPlan (plan_file : File) (view : PlanView) : Type 0 where
   pub document_is : document text ≡ Some ms
   pub view_is : view ≡ plan (table ms)
 
--- The file is there, and has this header, with these bytes behind it.
+-- The file is there, and has this header, with these bytes after it.
 pub record Headed (data_file : File) (header : Header) (behind : List ℕ) : Type 0 where
   pub bytes : List ℕ
   pub present : data_file ≡ Some bytes
@@ -40,7 +40,7 @@ IsPlanWith need plan_file view = IsValidPlan plan_file view × Has need view
 abbrev pub InRecords : (Header → List ℕ → Type 0) → File → Type 0
 InRecords calls data_file = (header : Header) × (behind : List ℕ) × Headed data_file header behind × calls header behind
 
--- The same by a plan that has what is needed, behind a header.
+-- The same by a plan that has what is needed, after a header.
 abbrev pub ByPlanIn : Need → (PlanView → Header → List ℕ → Type 0) → File → File → Type 0
 ByPlanIn need calls plan_file data_file = (view : PlanView) × (header : Header) × (behind : List ℕ) × IsPlanWith need plan_file view × Headed data_file header behind × calls view header behind
 

@@ -13,7 +13,7 @@ use Rattle.command_work.specs.Outcomes.{Outcome, refused, written, IsIn}
 use Rattle.file_work.specs.FileOutcomes.{listing}
 use Rattle.command_laws.specs.Cases.{FileCase, HeaderCase, NoneRefused, CountCase, PrintCase, ListCase, words_report, ReportCase, HasTrace, TracedCase, HasGroup, LateAtRecord, LateAtEnd, SettledInTime, RefusedInTime, PickedCase}
 
--- How a command ends by the records behind a header that suits it. That the four agree is what the laws `one_outcome` and `exactly_where` say.
+-- How a command ends by the records after a header that suits it. That the four agree is what the laws `one_outcome` and `exactly_where` say.
 pub record RecordCases : Type 1 where
   -- the text, and the fault where there is one
   pub ends : Header → List ℕ → Outcome → Type 0

@@ -26,7 +26,7 @@ EndsWhere low high as_said = (request : Option Request) (plan_file data_file : F
 abbrev pub Lists : List ℕ → List ℕ → Mode → List Event → Type 0
 Lists name file mode photons = ends_with (Events name) None (Some file) ≡ written (events_text (map (λ e. (e, false)) (picked_events mode photons)))
 
--- the photons that are written of the bytes behind a header: those before the first that is too late
+-- the photons that are written of the bytes after a header: those before the first that is too late
 abbrev pub photons_written : ℕ → PlanView → Header → List ℕ → List Event
 photons_written group plan header bytes = writable (mode_of header.record_type) (photons_of (chosen_by plan group) (reading_by plan header) bytes)
 
@@ -43,7 +43,7 @@ EndsWellOrLate request plan_file data_file =
     ((ends_with request plan_file data_file).fault ≡ None)
     ⊎ ((fault : Fault) × EndsWithFault (Some request) plan_file data_file fault × TooLate (cases (Some request)) plan_file data_file fault)
 
--- The bytes call for no end by themselves, or for one that stays whatever comes behind them.
+-- The bytes call for no end by themselves, or for one that stays whatever comes after them.
 abbrev pub GoesOnOrShows : Work → List ℕ → Type 0
 GoesOnOrShows work bytes = work.goes_on bytes ⊎ Shows work.outcome bytes (work.outcome bytes)
 

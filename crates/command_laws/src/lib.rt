@@ -81,7 +81,7 @@ pub fn statuses_of_commands()
         → EndsWithFault request plan_file data_file fault → MayCallFor (cases request) fault }
 {}
 
-/// Bytes of FILE call for no end by themselves, or the run ends as they say whatever comes behind them: a
+/// Bytes of FILE call for no end by themselves, or the run ends as they say whatever comes after them: a
 /// refusal of a header, also a whole header for `header`, a plan that doesn't suit it, a refused record, and for `pick` a
 /// photon that is settled and too late.
 pub fn an_end_that_is_shown_stays()

@@ -29,7 +29,7 @@ abbrev pub pick_of : List ℕ → Option ℕ → List ℕ → Option Request
 pick_of plan (Some group) file = Some (Pick plan group file)
 pick_of plan None file = None
 
--- the words behind the program's name
+-- the words after the program's name
 abbrev pub request_of : List (List ℕ) → Option Request
 request_of (word ∷ file ∷ []) =
     if bytes_eq word (codes "count") then Some (Count file)

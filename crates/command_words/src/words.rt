@@ -70,7 +70,7 @@ fn number(word: &str, most: u64) -> Option<u64>
     }
 }
 
-/// The words behind `demo`.
+/// The words after `demo`.
 fn demo_words(seed: &str, count: &str) -> Option<Command<'static>>
     ensures request { asked_for result
         ≡ demo_of (number_in (2 ^ 64 - 1) seed.now) (number_in photon_limit count.now) }
@@ -81,7 +81,7 @@ fn demo_words(seed: &str, count: &str) -> Option<Command<'static>>
     Some(Command::Demo { seed, count })
 }
 
-/// The words behind `pick`.
+/// The words after `pick`.
 fn pick_words<'a>(plan: &'a str, group: &str, file: &'a str) -> Option<Command<'a>>
     ensures request { asked_for result
         ≡ pick_of plan.now (number_in (2 ^ 64 - 1) group.now) file.now }
@@ -129,7 +129,7 @@ fn three_words<'a>(word: &str, first: &'a str, second: &'a str) -> Option<Comman
     }
 }
 
-/// The command of the words behind the program's name: `count FILE`, `header FILE`, `events FILE`,
+/// The command of the words after the program's name: `count FILE`, `header FILE`, `events FILE`,
 /// `run PLAN FILE`, `trace PLAN FILE`, `pick PLAN GROUP FILE` or `demo SEED COUNT`. GROUP, SEED and COUNT are one to
 /// twenty digits, GROUP and SEED at most 2^64 - 1 and COUNT at most 10,000,000. None exactly where the words are none
 /// of these.

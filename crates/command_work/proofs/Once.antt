@@ -61,7 +61,7 @@ unopened-openings : (slot : Slot) (a b : InputState) → KeepsOther slot a b →
     → (it : Slot) → CountsIf (tells_opening (Some (OpenFault slot)) it) (a.open_faults it) (b.open_faults it)
 unopened-openings slot a b other once it = search (rules, arith)
 
--- a read that did not fail behind others that did not, whatever is refused then
+-- a read that did not fail after others that did not, whatever is refused then
 pub once-read : (slot : Slot) (a b c : InputState) (fault : Option Fault) → IsQuiet fault → InputsOnce a b None
     → KeepsOther slot b c → OpensNone b c → c.read_faults slot ≡ b.read_faults slot → InputsOnce a c fault
 once-read slot a b c fault quiet so_far other none same = search (rules, arith, once-none, once-behind, other-reads)

@@ -28,16 +28,16 @@ IsCut-nil = refl
 pub some_used : (bytes piece : List ℕ) (used : ℕ) (header : Header) → IsCut bytes → header_answer (bytes ++ take used piece) ≡ Ok (header, []) → 0 < used
 some_used bytes piece used header cut whole = search (rules, arith, append-nil)
 
--- fewer bytes than a buffer has stand behind a header that ends in it
+-- fewer bytes than a buffer has stand after a header that ends in it
 pub few_behind : (buffer : List ℕ) (used len size : ℕ) → length buffer ≡ size → 0 < used
     → used ≤ len → len ≤ length buffer → length (slice_range buffer used len) < size
 few_behind buffer used len size whole some within fits = search (rules, arith, length-drop, length-take-le)
 
--- the bytes taken are a header with these bytes behind it, whatever comes next
+-- the bytes taken are a header with these bytes after it, whatever comes next
 abbrev pub ShowsHeader : List ℕ → Header → List ℕ → Type 0
 ShowsHeader taken header behind = (more : List ℕ) → header_answer (taken ++ more) ≡ Ok (header, behind ++ more)
 
--- No more is taken than one read behind bytes that call for no end by themselves.
+-- No more is taken than one read after bytes that call for no end by themselves.
 
 pub few-none : (goes_on : List ℕ → Type 0) (front : List ℕ) (before after : Given) → Consumes before after front → goes_on front → TakesFew goes_on before after
 few-none goes_on front before after took goes = search (rules, arith, append-nil)
@@ -61,7 +61,7 @@ none-unread P (Err fault) inside = search (rules, arith)
 pub stops-unread : {A : Type 0} (goes_on : List ℕ → Type 0) (front : List ℕ) (before after : Given) (fault : Fault) → Consumes before after front → goes_on front → SaysNoEnd before after → StopsSoon {A = A} goes_on before after (Err fault)
 stops-unread goes_on front before after fault took goes on = search (rules, arith, few-none)
 
--- a piece was read behind bytes that go on so, and it ended the work
+-- a piece was read after bytes that go on so, and it ended the work
 pub stops-piece : {A : Type 0} (goes_on : List ℕ → Type 0) (front : List ℕ) (len : ℕ) (into : List ℕ) (before mid after : Given) (r : Result A Fault) → Consumes before mid front → GivesCount mid after len into → goes_on front → length into ≤ piece_limit
     → IfErr r (λ fault. is_outside fault ≡ false) → IfOk r (λ value. SaysNoEnd before after) → StopsSoon goes_on before after r
 stops-piece goes_on front len into before mid after r took gives goes size inside on = record { unread = none-unread _ r inside; done = on; few = few-piece goes_on front len into before mid after took gives goes size }

@@ -150,7 +150,7 @@ plan_reason : (opening reading : Slot → Type 0) (writing memory : Type 0) (fau
     → (fault ≢ OutOfMemory → is_outside fault ≡ false) → (fault ≡ OutOfMemory → memory) → HasReason opening reading writing memory fault
 plan_reason opening reading writing memory fault h want = search (rules, arith)
 
--- a plan for which memory is wanting was read whole
+-- a plan for which memory runs out was read whole
 plan_wanted : (after : InputState) (start : Given) (taken : List ℕ) → start ≡ no_bytes → after.opened PlanSlot ≡ true → Consumes start (after.given PlanSlot) taken → (length taken < text_limit + 1 → IsAtEnd (after.given PlanSlot)) → length taken ≤ text_limit → HasWholePlan after
 plan_wanted after start taken none opened took ended few = search (rules, arith, all-taken)
 
@@ -171,7 +171,7 @@ pub ended_short : (size len : ℕ) (text : List ℕ) (given : Given) → length 
     → (len < length text → IsAtEnd given) → length (take len text) < size → IsAtEnd given
 ended_short size len text given whole room ended short = search (rules, arith, length-take-le)
 
--- an opening and reads behind it
+-- an opening and reads after it
 pub uses-read : (slot : Slot) (before mid after : InputState) → Keeps before mid → KeepsOther slot before mid → OnlyReads slot mid after → OnlyUses slot before after
 uses-read slot before mid after keeps other reads = search (rules, arith)
 

@@ -128,7 +128,7 @@ pub record SoFar (t : Telling) (shown bytes so_far : List ℕ) (at : Span) : Typ
   pub clear : t.refuses (bytes ++ so_far) ≡ None
   pub unended : SaysNoEnd (at.before.given Data) (at.after.given Data)
 
--- A read behind them.
+-- A read after them.
 pub record Read (before after : InputState) : Type 0 where
   pub other : KeepsOther Data before after
   pub none : OpensNone before after

@@ -5,12 +5,12 @@ use Rattle.bench_io.{specs.Inputs.{File, InputState, IsOpened}, specs.Given.{Giv
 use Rattle.ptu_definitions.specs.Headers.{Shows}
 use Rattle.command_work.{specs.Outcomes.{Says, SaysNoEnd, Outcome, InputsOnce}, specs.Endings.{FileOf, HasPlan, outcome, on_file, Answers, EndsWith, StopsIn, Cuts, Span, TakesData, HasCauses, AreItsFiles, ForItsFiles, Tells, ToldAreIts, Asks}, specs.Behaviours.{Work, Writing, OnFile, Behaviour, Alone, ByPlan}, specs.Works.{AnswersWork, EndsWork, ReadsWork, CutsWork, WantsNone, WorkReason, TakesFew}}
 
--- at the end nothing stands behind
+-- at the end nothing stands after
 pub Says-at_end : {A : Type 0} (meaning : List ℕ → A) (taken : List ℕ) (given : Given) (answer : A)
     → IsAtEnd given → meaning taken ≡ answer → Says meaning taken given answer
 Says-at_end meaning taken given answer end h = search (rules, arith, append-nil)
 
--- what bytes show they say, whatever stands behind
+-- what bytes show they say, whatever stands after
 pub Says-shown : {A : Type 0} (meaning : List ℕ → A) (taken : List ℕ) (given : Given) (answer : A)
     → Shows meaning taken answer → Says meaning taken given answer
 Says-shown meaning taken given answer shown = record { means = λ more follows. shown more }
@@ -31,7 +31,7 @@ none-ended start now none on = λ ended. let bad : false ≡ true = sym (ap (λ 
 pub all-taken : (start given : Given) (taken : List ℕ) → start ≡ no_bytes → Consumes start given taken → given.bytes ≡ taken
 all-taken start given taken none took = took.adds ∙ ap (λ (g : Given). g.bytes ++ taken) none
 
--- a file that may be the slot's is the bytes taken with some behind them
+-- a file that may be the slot's is the bytes taken with some after them
 pub record Splits (given : Given) (taken : List ℕ) (file : File) : Type 0 where
   pub more : List ℕ
   pub follows : MayFollow given more

@@ -33,14 +33,14 @@ abbrev pub under : PlanView → Writing (PlanView → List ℕ → List ℕ) →
 under plan AtEnd = AtEnd
 under plan (AsItReads text) = AsItReads (text plan)
 
--- what memory may be wanting for, where there is a plan: for the plan alone, before the data are opened; or also for its tables, right behind the header
+-- what memory may run out for, where there is a plan: for the plan alone, before the data are opened; or also for its tables, right after the header
 pub data Memory : Type 0 where
   ForPlan : Memory
   ForTables : Memory
 
 -- How a command comes to its end.
 pub data Behaviour : Type 1 where
-  -- There is neither a word PLAN nor a word FILE, or the words are no command. The text is written at the end, and memory may be wanting where it would end well.
+  -- There is neither a word PLAN nor a word FILE, or the words are no command. The text is written at the end, and memory may run out where it would end well.
   Alone : (end : Outcome) → Behaviour
   -- FILE is opened and read. No memory is taken.
   OnFile : (file : List ℕ) (writing : Writing (List ℕ → List ℕ)) (work : Work) → Behaviour
@@ -49,16 +49,16 @@ pub data Behaviour : Type 1 where
 
 -- ## Good files
 
--- The records behind a header are few enough and whole.
+-- The records after a header are few enough and whole.
 pub record AreWhole (behind : List ℕ) : Type 0 where
   pub few : length (words_of behind) ≤ record_limit
   pub whole : rest_of behind ≡ []
 
--- The records behind a header are whole, and none is refused.
+-- The records after a header are whole, and none is refused.
 pub record AreRead (how : StreamSettings) (behind : List ℕ) : Type 0 where
   pub unrefused : record_refusal how (words_of behind) ≡ None
   pub whole : rest_of behind ≡ []
 
--- The bytes have a header, and this holds of it and of the bytes behind it.
+-- The bytes have a header, and this holds of it and of the bytes after it.
 abbrev pub IsHeaded : (Header → List ℕ → Type 0) → List ℕ → Type 0
 IsHeaded holds bytes = (header : Header) × (behind : List ℕ) × (header_answer bytes ≡ Ok (header, behind)) × holds header behind

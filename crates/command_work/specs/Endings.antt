@@ -42,7 +42,7 @@ pub record IsPlan (plan_file : File) (plan : PlanView) : Type 0 where
 
 -- ## The files of a run, by what its calls gave
 
--- This may be the file of a slot: where the slot was opened, the file is there, and its bytes are those that the reads gave with any behind them, or with none where a read said the end. Of a slot that was not opened nothing is known.
+-- This may be the file of a slot: where the slot was opened, the file is there, and its bytes are those that the reads gave with any after them, or with none where a read said the end. Of a slot that was not opened nothing is known.
 abbrev pub FileOf : InputState → Slot → File → Type 0
 FileOf after slot file = after.opened slot ≡ true → (bytes : List ℕ) × (file ≡ Some bytes) × IsOf (after.given slot) bytes
 
@@ -52,11 +52,11 @@ AreItsFiles (Alone end) after plan_file data_file = Unit {0}
 AreItsFiles (OnFile file writing work) after plan_file data_file = FileOf after Data data_file
 AreItsFiles (ByPlan plan file writing memory lacks work) after plan_file data_file = FileOf after Plan plan_file × FileOf after Data data_file
 
--- This holds of the outcome over all such files, whatever stands behind the bytes that were read.
+-- This holds of the outcome over all such files, whatever stands after the bytes that were read.
 abbrev pub ForItsFiles : Behaviour → InputState → (Outcome → Type 0) → Type 0
 ForItsFiles does after holds_of = (plan_file data_file : File) → AreItsFiles does after plan_file data_file → holds_of (outcome does plan_file data_file)
 
--- What the reads of PLAN gave is this plan, whatever stands behind it, and it lacks nothing.
+-- What the reads of PLAN gave is this plan, whatever stands after it, and it lacks nothing.
 pub record HasPlan (after : InputState) (lacks : PlanView → Option Fault) (plan : PlanView) : Type 0 where
   pub is_plan : (plan_file : File) → FileOf after Plan plan_file → IsPlan plan_file plan
   pub whole : lacks plan ≡ None
@@ -146,11 +146,11 @@ pub record HasWholePlan (after : InputState) : Type 0 where
   pub ended : IsAtEnd (after.given Plan)
   pub few : length (after.given Plan).bytes ≤ text_limit
 
--- Memory may be wanting for a plan: for its text, before it is asked for; or for its document, once the whole was read.
+-- Memory may run out for a plan: for its text, before it is asked for; or for its document, once the whole was read.
 abbrev pub WantsForPlan : InputState → Type 0
 WantsForPlan after = (after.asked Plan ≡ false) ⊎ HasWholePlan after
 
--- The plan has a table, and the bytes that were taken from the file are a header that its parts suit, and less than one piece behind it.
+-- The plan has a table, and the bytes that were taken from the file are a header that its parts suit, and less than one piece after it.
 pub record StopsAtHeader (plan : PlanView) (taken : List ℕ) : Type 0 where
   pub tables : 0 < length (parts_of plan)
   pub header : Header
@@ -159,12 +159,12 @@ pub record StopsAtHeader (plan : PlanView) (taken : List ℕ) : Type 0 where
   pub suits : fits (mode_of header.record_type) plan ≡ Ok (tt {0})
   pub few : length behind < piece_limit
 
--- Memory may be wanting behind these bytes of FILE: for tables, behind the data's header.
+-- Memory may run out after these bytes of FILE: for tables, after the data's header.
 abbrev pub WantsBehind : Memory → PlanView → List ℕ → Type 0
 WantsBehind ForPlan plan taken = ⊥
 WantsBehind ForTables plan taken = StopsAtHeader plan taken
 
--- The data were opened, behind a plan that lacks nothing, and memory may be wanting behind the bytes that their reads gave.
+-- The data were opened, after a plan that lacks nothing, and memory may run out after the bytes that their reads gave.
 pub record StopsBehind (memory : Memory) (lacks : PlanView → Option Fault) (is_plan : PlanSays) (after : InputState) : Type 0 where
   pub plan : PlanView
   pub has : is_plan lacks plan
@@ -182,7 +182,7 @@ RunsOut (ByPlan plan file writing memory lacks work) is_plan after old new =
 abbrev pub TakesPlan : InputState → Type 0
 TakesPlan after = after.opened Plan ≡ true → length (after.given Plan).bytes ≤ text_limit + 1
 
--- The bytes that the reads of FILE gave are some that call for no end by themselves, and no more behind them than one read gives.
+-- The bytes that the reads of FILE gave are some that call for no end by themselves, and no more after them than one read gives.
 pub record TakesData (work : Work) (after : InputState) : Type 0 where
   pub front : List ℕ
   pub last : List ℕ
@@ -190,12 +190,12 @@ pub record TakesData (work : Work) (after : InputState) : Type 0 where
   pub goes_on : work.goes_on front
   pub few : length last ≤ piece_limit
 
--- The data are asked for only behind a plan that lacks nothing, and what is taken of them is what its work takes.
+-- The data are asked for only after a plan that lacks nothing, and what is taken of them is what its work takes.
 abbrev pub AsksByPlan : (PlanView → Option Fault) → (PlanView → Work) → PlanSays → InputState → Type 0
 AsksByPlan lacks work is_plan after = after.asked Data ≡ true → (view : PlanView) × is_plan lacks view × (after.opened Data ≡ true → TakesData (work view) after)
 
 -- What a command asks for and takes, however it ends. Without a word PLAN it never asks for a plan, and without a word FILE it leaves the inputs as they were.
--- The data are asked for only behind a plan that lacks nothing, and opened only where they are asked for.
+-- The data are asked for only after a plan that lacks nothing, and opened only where they are asked for.
 abbrev pub Asks : Behaviour → PlanSays → InputState → InputState → Type 0
 Asks (Alone end) is_plan before after = after ≡ before
 Asks (OnFile file writing work) is_plan before after = (after.asked Plan ≡ false) × (after.opened Data ≡ true → TakesData work after)
@@ -210,7 +210,7 @@ TellsFault old new before now (Some fault) = (Appends old new (line_of fault) ×
 abbrev pub EndsBy : Outcome → ℕ → Option (List ℕ) → Option (List ℕ) → Option (List ℕ) → Option (List ℕ) → ℕ → ℕ → Type 0
 EndsBy end result old new err_old err_new before now = (result ≡ status end.fault) × Appends old new end.text × TellsFault err_old err_new before now end.fault
 
--- the states of the inputs and of standard output before a command and behind it
+-- the states of the inputs and of standard output before a command and after it
 pub record Span : Type 0 where
   pub before : InputState
   pub after : InputState

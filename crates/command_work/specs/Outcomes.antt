@@ -47,7 +47,7 @@ IsCut bytes = header_answer bytes ≡ Err (TruncatedHeader (length bytes))
 pub record SaysNoEnd (start now : Given) : Type 0 where
   pub said_before : IsAtEnd now → IsAtEnd start
 
--- The bytes taken mean this, whatever may stand behind them.
+-- The bytes taken mean this, whatever may stand after them.
 pub record Says {A : Type 0} (meaning : List ℕ → A) (taken : List ℕ) (given : Given) (answer : A) : Type 0 where
   pub means : (more : List ℕ) → MayFollow given more → meaning (taken ++ more) ≡ answer
 

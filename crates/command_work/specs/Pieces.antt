@@ -23,7 +23,7 @@ pub record HoldsPart (state : InputState) (buffer : List ℕ) (used len : ℕ) :
   pub order : used ≤ len
   pub within : len ≤ length buffer
 
--- A read fails only behind bytes that go on so, and no more is taken behind such than one read gives. No read said the end where one fails, nor where the work is done.
+-- A read fails only after bytes that go on so, and no more is taken after such than one read gives. No read said the end where one fails, nor where the work is done.
 pub record StopsSoon {A : Type 0} (goes_on : List ℕ → Type 0) (start now : Given) (result : Result A Fault) : Type 0 where
   pub unread : IfErr result (λ fault. is_outside fault ≡ true → (taken : List ℕ) × Consumes start now taken × goes_on taken × SaysNoEnd start now)
   pub done : IfOk result (λ value. SaysNoEnd start now)
@@ -50,13 +50,13 @@ RefusesInside More = Unit {0}
 RefusesInside (Done used header) = Unit {0}
 RefusesInside (Refused fault) = is_outside fault ≡ false
 
--- Bytes of the buffer ended the header, and those behind it stand from `used` to `len`.
+-- Bytes of the buffer ended the header, and those after it stand from `used` to `len`.
 pub record EndsIn (buffer : List ℕ) (found : FoundHeader) : Type 0 where
   pub ended : 0 < found.used
   pub order : found.used ≤ found.len
   pub within : found.len ≤ length buffer
 
--- The header of the bytes taken, with the part of the buffer behind it; or a fault.
+-- The header of the bytes taken, with the part of the buffer after it; or a fault.
 abbrev pub HeaderEnds : List ℕ → List ℕ → Given → Result FoundHeader Fault → Type 0
 HeaderEnds buffer taken given (Ok found) = (more : List ℕ) → header_answer (taken ++ more) ≡ Ok (found.header, slice_range buffer found.used found.len ++ more)
 HeaderEnds buffer taken given (Err fault) = (is_outside fault ≡ true) ⊎ Says header_answer taken given (Err fault)
@@ -89,7 +89,7 @@ pub record IsRead (plan_file : File) (result : Result Plan Fault) : Type 0 where
 abbrev pub AnswersPlan : InputState → Result Plan Fault → Type 0
 AnswersPlan after result = IsErrAnd result (λ fault. is_outside fault ≡ true) ⊎ ((plan_file : File) → FileOf after PlanSlot plan_file → IsRead plan_file result)
 
--- The plan could not be opened, or a read failed where none had said the end and no more bytes were taken than a plan may have, or memory was wanting for the plan.
+-- The plan could not be opened, or a read failed where none had said the end and no more bytes were taken than a plan may have, or memory ran out for the plan.
 abbrev pub PlanReason : InputState → InputState → Fault → Type 0
 PlanReason before after = HasReason
     (λ slot. (slot ≡ PlanSlot) × Rose (before.open_faults slot) (after.open_faults slot))

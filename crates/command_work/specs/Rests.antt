@@ -6,7 +6,7 @@ use Rattle.command_work.{specs.Endings.{Span, Once}, specs.Outcomes.SaysNoEnd, s
 
 -- Bytes were given before, of which this text is shown; `memory` says why memory may be refused.
 module _ (t : Telling) (shown bytes : List ℕ) (memory : Type 0) (at : Span) where
-  -- The bytes taken end so, whatever may stand behind them, and after the text that is shown the rest was written.
+  -- The bytes taken end so, whatever may stand after them, and after the text that is shown the rest was written.
   pub record EndsText (fault : Option Fault) : Type 0 where
     pub taken : List ℕ
     pub consumes : Consumes (at.before.given Data) (at.after.given Data) taken
@@ -30,7 +30,7 @@ module _ (t : Telling) (shown bytes : List ℕ) (memory : Type 0) (at : Span) wh
     pub adds : text ≡ shown ++ more
     pub short : AppendsShort at.old at.new more
 
-  -- The text that the bytes end with was cut short, whatever may stand behind them.
+  -- The text that the bytes end with was cut short, whatever may stand after them.
   pub record CutsText : Type 0 where
     pub taken : List ℕ
     pub consumes : Consumes (at.before.given Data) (at.after.given Data) taken

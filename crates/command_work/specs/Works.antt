@@ -5,7 +5,7 @@ use Rattle.bench_io.specs.Given.{Given, Consumes, MayFollow}
 use Rattle.plan_text.specs.Plan.{PlanView}
 use Rattle.command_work.{specs.Outcomes.{Says, SaysNoEnd}, specs.Behaviours.{piece_limit, Work, Writing, Memory, so_far, under}, specs.Endings.{Cuts, Span, Once, WantsBehind}}
 
--- The bytes taken end so, whatever may stand behind them, and this text was written.
+-- The bytes taken end so, whatever may stand after them, and this text was written.
 pub record EndsWork (work : Work) (start now : Given) (old new : Option (List ℕ)) (fault : Option Fault) : Type 0 where
   pub taken : List ℕ
   pub consumes : Consumes start now taken
@@ -25,20 +25,20 @@ pub record ReadsWork (writing : Writing (List ℕ → List ℕ)) (work : Work) (
   pub goes_on : work.goes_on taken
   pub unended : SaysNoEnd start now
 
--- The text of the bytes taken was cut short, whatever may stand behind them.
+-- The text of the bytes taken was cut short, whatever may stand after them.
 pub record CutsWork (writing : Writing (List ℕ → List ℕ)) (work : Work) (start now : Given) (old new : Option (List ℕ)) : Type 0 where
   pub taken : List ℕ
   pub consumes : Consumes start now taken
   pub cut : (more : List ℕ) → MayFollow now more → Cuts writing (work.outcome (taken ++ more)) old new
 
--- Nothing was written, and the bytes taken are some behind which memory may be wanting.
+-- Nothing was written, and the bytes taken are some after which memory may run out.
 pub record WantsWork (wanting : List ℕ → Type 0) (start now : Given) (old new : Option (List ℕ)) : Type 0 where
   pub keeps : Keeps old new
   pub taken : List ℕ
   pub consumes : Consumes start now taken
   pub wants : wanting taken
 
--- memory is never wanting
+-- memory never runs out
 abbrev pub WantsNone : List ℕ → Type 0
 WantsNone taken = ⊥
 
@@ -50,7 +50,7 @@ WorkReason writing wanting work span = HasReason
     (Rose span.faults_before span.faults_after × CutsWork writing work (span.before.given Data) (span.after.given Data) span.old span.new)
     (WantsWork wanting (span.before.given Data) (span.after.given Data) span.old span.new)
 
--- The bytes taken are some that call for no end by themselves, and no more behind them than one read gives.
+-- The bytes taken are some that call for no end by themselves, and no more after them than one read gives.
 pub record TakesFew (goes_on : List ℕ → Type 0) (start now : Given) : Type 0 where
   pub front : List ℕ
   pub last : List ℕ

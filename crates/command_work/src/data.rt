@@ -15,7 +15,7 @@ pub const PIECE: usize = 8192;
 /// The fault of a read of the data that failed.
 pub const READ_FAULT: Fault = Fault::ReadFault { slot: Slot::Data };
 
-/// A header, and the bytes behind it that were read with its last ones: those of the buffer from
+/// A header, and the bytes after it that were read with its last ones: those of the buffer from
 /// `used` to `len`.
 #[derive(Clone, Copy)]
 pub struct FoundHeader {

@@ -32,7 +32,7 @@ pub struct Trace {
 impl Trace {
     ghost use Rattle.count_trace.{specs.TraceCounts.{in_trace_bin, count_before, count_beyond}, specs.Trace.{Holds, set_of}};
 
-    /// A trace of no events, with all the memory that it ever takes, or `AllocError` where it is wanting.
+    /// A trace of no events, with all the memory that it ever takes, or `AllocError` where there is not enough.
     pub fn open(alloc: Global, set: TraceSet) -> Result<Trace, AllocError>
         ensures set { IfOk result (λ t. set_of t ≡ set) }
         ensures settings { IfOk result (λ t. ⟦<Trace as Tally>⟧.settings t ≡ TraceSettings (trace_view set)) }

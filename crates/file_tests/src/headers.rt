@@ -26,7 +26,7 @@ const SHORT_HEADER: Header = Header {
     version: *b"1.0.00\0\0",
 };
 
-/// Feeds a piece until the reader has no other step for it. Answers how many bytes are behind the header.
+/// Feeds a piece until the reader has no other step for it. Answers how many bytes are after the header.
 fn feed_piece(reader: &mut HeaderReader, piece: &[u8]) -> usize {
     let mut rest = piece;
     for _ in 0..piece.len() + 1 {

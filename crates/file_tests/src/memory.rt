@@ -15,7 +15,7 @@ fn next_read<I: Inputs>(inputs: &mut I) -> Option<usize>
     inputs.read(Slot::Data, &mut [0; 8]).ok()
 }
 
-/// A file `f` of eleven bytes, and behind it one of the same name.
+/// A file `f` of eleven bytes, and after it one of the same name.
 fn two_files(alloc: Global) -> Result<Vec<MemoryFile>, Fail> {
     let mut files = Vec::new(alloc);
     for contents in [b"hello world".as_slice(), b"other".as_slice()] {

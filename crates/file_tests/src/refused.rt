@@ -85,7 +85,7 @@ pub(crate) fn answer<S: EventTaker>(
 }
 
 /// What a stream of T3 records answers to these words, to an empty piece and to two photons more, and
-/// behind each how many events its taker took and how often it failed.
+/// after each how many events its taker took and how often it failed.
 fn answers(policy: Policy, room: u64, words: &[u8]) -> ([Option<Fault>; 3], [[u64; 2]; 3])
     requires records { (0 < policy.records) × (policy.records ≤ record_limit) }
     requires settle { policy.settle ≤ 64 }

@@ -9,8 +9,8 @@ use record_stream::{EventTaker, RecordStream, Summary};
 use std::test::Fail;
 use tally_base::{Fault, OnReserved, Order, Policy, RecordType};
 
-/// What a stream of these words answers to them, if it refuses them, and at its end; behind the first answer
-/// how many events its taker has and how many are kept back, and behind the other how many its taker has.
+/// What a stream of these words answers to them, if it refuses them, and at its end; after the first answer
+/// how many events its taker has and how many are kept back, and after the other how many its taker has.
 fn settled(
     record_type: RecordType,
     policy: Policy,
@@ -167,7 +167,7 @@ fn photons(time: u8) -> [u8; 520] {
     words
 }
 
-/// The digest of these photons, where the one at place 65 comes behind this one.
+/// The digest of these photons, where the one at place 65 comes after this one.
 fn digest_behind(last: u64) -> u64 {
     let mut digest = 0;
     for place in 1..131 {

@@ -22,7 +22,7 @@ fn photon(place: u64, input: u8, dtime: u16, time: u64) -> Event
 
 const HEADER: usize = 112;
 
-/// The greatest time behind whose unit no wrap is too great, in T2.
+/// The greatest time after whose unit no wrap is too great, in T2.
 const LAST: u64 = (1 << 62) + (1 << 25) - 1;
 
 #[test]

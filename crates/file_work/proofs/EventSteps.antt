@@ -32,7 +32,7 @@ pub ListedShort-more : {name name' : ℕ} {mode mode' : Mode} {taken taken' floo
 ListedShort-more {a = a} {b = b} {c = c} {held = held} {held' = held'} l more lines h is p none =
     record { text = subst (λ t. AppendsShort a c t) (lines_more held l more lines is) (AppendsShort-passed a b c (held ++ events_text l) held' lines h.text p); empty = none }
 
--- the last time, behind one event and behind a block of them
+-- the last time, after one event and after a block of them
 pub floor-event : (mode mode' : Mode) (floor floor' now : ℕ) (l : Marked) (e : Event) (late : Bool) → (IsTrue (is_ordered mode' e && not late) → floor' ≤ e.time) → now ≡ (if is_ordered mode' e && not late then e.time else floor')
     → mode' ≡ mode → floor' ≡ max floor (floor_of mode l) → now ≡ max floor (floor_of mode (l ++ (e, late) ∷ []))
 floor-event mode mode' floor floor' now l e late in_order moves same moved =

@@ -11,7 +11,7 @@ use Rattle.file_work.{specs.declared.print.HeaderPrinter.HeaderPrinter, specs.de
 
 -- ## A text that has grown
 
--- What the text has grown by was put behind what a block holds.
+-- What the text has grown by was put after what a block holds.
 pub record PutsMore (shown grown : List ℕ) (old new : Option (List ℕ)) (held now : List ℕ) : Type 0 where
   pub added : List ℕ
   pub text : grown ≡ shown ++ added
@@ -23,7 +23,7 @@ pub record AppendsMore (shown grown : List ℕ) (old new : Option (List ℕ)) : 
   pub text : grown ≡ shown ++ added
   pub written : Appends old new added
 
--- It was cut short, behind what a block held.
+-- It was cut short, after what a block held.
 pub record CutsMore (shown grown : List ℕ) (old new : Option (List ℕ)) (held : List ℕ) : Type 0 where
   pub added : List ℕ
   pub text : grown ≡ shown ++ added
@@ -31,7 +31,7 @@ pub record CutsMore (shown grown : List ℕ) (old new : Option (List ℕ)) (held
 
 -- ## The text of a body
 
--- What bytes add to the text of a body was put behind what a block holds; was cut short.
+-- What bytes add to the text of a body was put after what a block holds; was cut short.
 abbrev pub PutsBody : TagKind → List ℕ → List ℕ → Option (List ℕ) → Option (List ℕ) → List ℕ → List ℕ → Type 0
 PutsBody kind part bytes = PutsMore (body_text kind part) (body_text kind (part ++ bytes))
 
@@ -56,7 +56,7 @@ Leaves bytes piece printer More = Prints printer (bytes ++ piece) × (is_open pr
 Leaves bytes piece printer Done = (header : Header) × (behind : List ℕ) × ((more : List ℕ) → header_answer (bytes ++ piece ++ more) ≡ Ok (header, behind ++ more))
 Leaves bytes piece printer (Refused fault) = Shows header_answer (bytes ++ piece) (Err fault)
 
--- What a piece behind some bytes adds to the text of the header was put behind what a block holds; was written; was cut short.
+-- What a piece after some bytes adds to the text of the header was put after what a block holds; was written; was cut short.
 abbrev pub PutsHeader : List ℕ → List ℕ → Option (List ℕ) → Option (List ℕ) → List ℕ → List ℕ → Type 0
 PutsHeader bytes piece = PutsMore (header_text bytes) (header_text (bytes ++ piece))
 

@@ -14,7 +14,7 @@ pub record ListsNone (taken floor : ℕ) (held : List ℕ) : Type 0 where
   pub none_before : floor ≡ 0
   pub empty : held ≡ []
 
--- The lines of these events were put behind what a block held, for the same sink, of which no write failed.
+-- The lines of these events were put after what a block held, for the same sink, of which no write failed.
 pub record Listed (name name' : ℕ) (mode mode' : Mode) (taken taken' floor floor' faults faults' : ℕ) (old new : Option (List ℕ)) (held held' : List ℕ) (l : Marked) : Type 0 where
   pub same_sink : name' ≡ name
   pub same_mode : mode' ≡ mode

@@ -16,7 +16,7 @@ counts_text header counts =
     ++ line (codes "wraps") (decimal counts.wraps)
     ++ line (codes "reserved") (decimal counts.reserved)
 
--- what the records behind a header end with, by their counts
+-- what the records after a header end with, by their counts
 abbrev pub counted_end : Header → Result KindCounts Fault → Outcome
 counted_end header (Ok counts) = written (counts_text header counts)
 counted_end header (Err fault) = refused fault

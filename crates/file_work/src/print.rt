@@ -68,7 +68,7 @@ fn put_body<O: Sink>(
     Ok(())
 }
 
-/// Puts the newline behind the last byte of a body.
+/// Puts the newline after the last byte of a body.
 fn put_end<O: Sink>(last: bool, block: &mut OutBuffer, out: &mut O) -> Result<(), Failed>
     ensures all { OnOk result (PassesOn (O.written out.old) (O.written out.new)
         (block.old ++ end_line last) block.new) }
@@ -94,7 +94,7 @@ impl HeaderPrinter {
         }
     }
 
-    /// Puts what a piece shows of the header behind what a block holds.
+    /// Puts what a piece shows of the header after what a block holds.
     fn put_piece<O: Sink>(
         &mut self,
         piece: &[u8],

@@ -23,7 +23,7 @@ zero_read zero i = refl
 zero_read (suc n) zero = refl
 zero_read (suc n) (suc i) = zero_read n i
 
--- Bytes of 0 behind the last change none.
+-- Bytes of 0 after the last change none.
 zeros_read : (n entry byte : ℕ) → get_or {A = ℕ} (get_or (replicate n eight_zeros) entry []) byte 0 ≡ 0
 zeros_read n entry byte = search (rules, arith, cases_lt, get_or-replicate, eight_zeros, zero_read, get_or_past, length-replicate)
 

@@ -16,7 +16,7 @@ abbrev small : CubeView
 small = record
     { image = record { group = 1; width = 2; height = 2; dwell = 10; line = 1; frame = Some 2; stop = None; serpentine = false }; dwidth = 5; dbins = 2 }
 
--- A frame and a line in one marker. In the first pixel dtimes of each bin and one past the last, one in the second, and one behind the line.
+-- A frame and a line in one marker. In the first pixel dtimes of each bin and one past the last, one in the second, and one after the line.
 abbrev scanned : History
 scanned = marker 100 3 ∷ photon 100 0 ∷ photon 100 9 ∷ photon 100 10 ∷ photon 110 4 ∷ photon 120 0 ∷ []
 

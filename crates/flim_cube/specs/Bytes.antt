@@ -1,7 +1,7 @@
 -- Counts whose bytes stand apart: first the lowest byte of each count, then the second byte of each, and so on.
 use Rattle.std.{specs.Prelude.{ℕ, ◌+◌, ◌*◌, ◌/◌, ◌%◌, List, [], map, length, ◌≡◌, slice_index_or}, specs.Int.{byte_worth, sum_through}, specs.List.range_with_len, proofs.lemmas.List.FromFn.length-map-range_with_len}
 
--- the byte at a place, where each list has eight of them and they are numbered one after the other; behind the last it is 0
+-- the byte at a place, where each list has eight of them and they are numbered one after the other; after the last it is 0
 unfoldable pub byte_in : List (List ℕ) → ℕ → ℕ
 byte_in bytes place = slice_index_or (slice_index_or bytes (place / 8) []) (place % 8) 0
 

@@ -7,7 +7,7 @@ use Rattle.scan_image.specs.ImageCounts.{count_met, is_at}
 abbrev pub is_in_cell : ℕ → ℕ → ℕ → Option (ℕ × ℕ) → ℕ → Bool
 is_in_cell x y b place bin = is_at x y place && (bin == b)
 
--- there is a place, and the bin is behind the last
+-- there is a place, and the bin is after the last
 abbrev pub is_over : ℕ → Option (ℕ × ℕ) → ℕ → Bool
 is_over bins None bin = false
 is_over bins (Some place) bin = nat_le bins bin

@@ -68,7 +68,7 @@ impl Bins {
     }
 }
 
-/// The bin of a dtime, or the one where it would be behind the last, by a product.
+/// The bin of a dtime, or the one where it would be after the last, by a product.
 #[inline(always)]
 fn bin_by(ticks: &Divisor, dtime: u16) -> u32
     requires { divisor_of ticks.now ≤ 32768 }

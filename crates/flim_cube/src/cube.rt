@@ -38,7 +38,7 @@ pub struct FlimCube {
 impl FlimCube {
     ghost use Rattle.flim_cube.{specs.CubeCounts.{in_cell, count_over}, specs.Cube.{Holds, set_of}};
 
-    /// A cube of no events, with all the memory that it ever takes, or `AllocError` where it is wanting. Of
+    /// A cube of no events, with all the memory that it ever takes, or `AllocError` where there is not enough. Of
     /// this an eighth is in use at first: one byte for each count.
     pub fn open(alloc: Global, set: CubeSet) -> Result<FlimCube, AllocError>
         ensures set { IfOk result (λ t. set_of t ≡ set) }

@@ -6,7 +6,7 @@ use std::alloc::{AllocError, Global};
 
 /// Counts of 64 bits, with room for eight bytes of each, which is taken at the start.
 ///
-/// The lowest bytes of all counts stand together, behind them the second bytes of all, and so on. Bytes that
+/// The lowest bytes of all counts stand together, after them the second bytes of all, and so on. Bytes that
 /// no count has come to yet aren't there, and stand for 0. So as long as no count is above 255, counting
 /// touches an eighth of the room alone.
 ///
@@ -79,7 +79,7 @@ fn width_of(parts: [u8; 8]) -> usize
 impl Cells {
     ghost use Rattle.flim_cube.specs.Cells.{counts_of, entries_of, part_of, width_of_each};
 
-    /// So many cells, each 0, or `AllocError` where memory for them is wanting. It takes all the memory that
+    /// So many cells, each 0, or `AllocError` where there is not enough memory for them. It takes all the memory that
     /// they ever need.
     pub(crate) fn open(alloc: Global, size: u32) -> Result<Cells, AllocError>
         ensures zeros { IfOk result (λ cells. counts_of cells ≡ replicate size 0) }

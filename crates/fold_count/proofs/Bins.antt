@@ -58,7 +58,7 @@ pub photons_kept : (before : ℕ) (bins : List Entry)
     → photons_in (filter (λ e. leb before e.index) bins) + photons_where (λ t. ltb t before) bins ≡ photons_in bins
 photons_kept before bins = omega (arith, sum_by-filter_both (λ (e : Entry). leb before e.index) (λ e. ltb e.index before) (λ e. not_late e.index before) (λ e. e.a) bins, sum_by-filter (λ (e : Entry). ltb e.index before) (λ e. e.a) bins)
 
--- ## What is kept from a tick on, of bins and an open one behind them
+-- ## What is kept from a tick on, of bins and an open one after them
 
 -- the open one goes with those that are before the tick
 pub kept_short : (before : ℕ) (bins : List Entry) (bin : Entry) → bin.index < before

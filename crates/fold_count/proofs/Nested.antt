@@ -1,4 +1,4 @@
--- Bins in which the groups of those behind them were met too, and what is kept of them stays sound.
+-- Bins in which the groups of those after them were met too, and what is kept of them stays sound.
 use Rattle.std.{proofs.Common.{◌≡◌, ◌∙◌, ℕ, zero, suc, true, cond, ◌+◌, ◌-◌, ◌^◌, ◌<◌, Bool, List, [], ◌∷◌, ◌++◌, filter, length, refl, sym, ap, arith, slice_get, Some, bit_or, slice_set, rules, ◌≤◌, leb}, specs.Int.Bits.or_zero_r, specs.List.AllByRecursion, proofs.lemmas.List.Folds.fold-map, proofs.lemmas.Nat.{or_lt, pow_pos}}
 use Rattle.tally_base.{specs.Settings.FoldView, specs.Limits.time_limit}
 use Rattle.lag_ring.{specs.declared.ring.Entry.Entry, specs.Ring.{Ring, ring as ring_of}, proofs.Rising.{all_push, all_weaker, all_at}, proofs.Lists.{all_back, all_map, all_filter, all_both, all_passed}}
@@ -106,7 +106,7 @@ partly_stop at groups bins e some nested here is = search (rules, arith, partly_
 pub ring_is : (r : Ring) (es : List Entry) (n : ℕ) → r.entries ≡ es → r.reach ≡ n → r ≡ ring_of es n
 ring_is r es n entries reach = λ i. record { entries = entries i; reach = reach i }
 
--- those that are kept from a tick on are before one that is not behind it only where the open one is
+-- those that are kept from a tick on are before one that is not after it only where the open one is
 pub kept_below : (ring : Ring) (bin : Entry) (before tick : ℕ) → AllByRecursion (λ e. e.index < bin.index) ring.entries → (before ≤ bin.index → bin.index < tick) → AllByRecursion (λ e. e.index < tick) (filter (λ e. leb before e.index) (as_met ring bin))
 kept_below ring bin before tick above lt =
     let upto = all_push (λ e. e.index ≤ bin.index) (joined bin.b ring.entries) bin (all_map (λ e. e.index ≤ bin.index) (join bin.b) ring.entries (all_weaker (λ e. e.index < bin.index) (λ e. e.index ≤ bin.index) (λ e lt. omega (arith, lt)) ring.entries above)) (omega arith) in

@@ -35,7 +35,7 @@ row-all = refl
 abbrev two : FoldView
 two = record { groups = 1 ∷ 2 ∷ []; window = 4 }
 
--- The end of a window is in it, and the tick behind it is not. Markers count nowhere.
+-- The end of a window is in it, and the tick after it is not. Markers count nowhere.
 abbrev apart : History
 apart = photon 0 1 ∷ marker 1 ∷ photon 4 2 ∷ photon 9 2 ∷ []
 

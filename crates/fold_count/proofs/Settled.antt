@@ -7,18 +7,18 @@ use Rattle.fold_count.{specs.FoldCounts.{is_seen, seen_set}, specs.Folded.{photo
 within : (of from to : Bool) → to ≡ true → (of && (from && to)) ≡ (of && from)
 within of from to is = search (rules, arith)
 
--- a photon that is seen by a time is one from there on, where no photon comes behind the window
+-- a photon that is seen by a time is one from there on, where no photon comes after the window
 seen_from : (window tick t group : ℕ) (x : Event × ℕ) → tick ≤ t + window → x.0.time ≤ tick → is_seen window t group x ≡ is_from group t x
 seen_from window tick t group x near upto = search (rules, arith, within)
 
--- where no photon is behind a window, its set is that of the groups with a photon from its first tick on
+-- where no photon is after a window, its set is that of the groups with a photon from its first tick on
 pub known : (set : FoldView) (tick : ℕ) (h : History) → AllByRecursion (λ x. x.0.time ≤ tick) h
     → (t : ℕ) → tick ≤ t + set.window → seen_set set h t ≡ met_from set.groups h t
 known set tick h upto t near =
     number_agree (λ group. list_any (is_seen set.window t group) h) (λ group. list_any (is_from group t) h) set.groups
     (λ k inside. any_agree (λ x. x.0.time ≤ tick) (is_seen set.window t (get_or set.groups k 0)) (is_from (get_or set.groups k 0) t) h upto (λ x le. seen_from set.window tick t (get_or set.groups k 0) x near le))
 
--- no photon comes behind the last tick
+-- no photon comes after the last tick
 pub met_none : (groups : List ℕ) (tick t : ℕ) (h : History) → tick < t → AllByRecursion (λ x. x.0.time ≤ tick) h → met_from groups h t ≡ 0
 met_none groups tick t h lt upto = number_none (λ group. list_any (is_from group t) h) groups (λ group. any_none (λ x. x.0.time ≤ tick) (is_from group t) h upto (λ x le. search (rules, arith)))
 

@@ -40,7 +40,7 @@ as_met ring bin = joined bin.b ring.entries ++ bin ∷ []
 abbrev pub photons_of : ℕ → ℕ → List Entry → ℕ
 photons_of before s bins = sum_by (λ e. if nat_lt e.index before && (e.b == s) then e.a else 0) bins
 
--- in each bin the groups were met that were met in those behind it
+-- in each bin the groups were met that were met in those after it
 abbrev pub IsNested : List Entry → Type 0
 IsNested [] = ⊤
 IsNested (e ∷ es) = AllByRecursion (λ f. bit_or e.b f.b ≡ e.b) es × IsNested es
@@ -113,7 +113,7 @@ pub record GainsBefore (cells cells' : List ℕ) (before : ℕ) (bins : List Ent
   pub each : (s : ℕ) → s < length cells → slice_index cells' s ≡ slice_index cells s + photons_of before s bins
   pub same : length cells' ≡ length cells
 
--- A photon at this time, in which this set of the groups was met, can be put behind an open bin.
+-- A photon at this time, in which this set of the groups was met, can be put after an open bin.
 pub record CanPut (set : FoldView) (bin : Entry) (time met : ℕ) : Type 0 where
   pub after : bin.index ≤ time
   pub in_time : time ≤ time_limit

@@ -38,7 +38,7 @@ pub struct Fold {
 impl Fold {
     ghost use Rattle.fold_count.{specs.FoldCounts.in_set, specs.Fold.{Holds, set_of, cells_in}};
 
-    /// A fold of no events, with all the memory that it ever takes, or `AllocError` where it is wanting.
+    /// A fold of no events, with all the memory that it ever takes, or `AllocError` where there is not enough.
     pub fn open(alloc: Global, set: FoldSet) -> Result<Fold, AllocError>
         ensures set { IfOk result (λ t. set_of t ≡ set) }
         ensures settings { IfOk result (λ t.

@@ -5,7 +5,7 @@ ghost use Rattle.fold_count.specs.Folded.{waiting, joined, as_met, AreHeld, Gain
 
 use lag_ring::{Entry, LagRing};
 
-/// Notes that these groups were met behind the closed bins. A bin in which they all were met already ends
+/// Notes that these groups were met after the closed bins. A bin in which they all were met already ends
 /// the walk from the newest back, since they were met in those before it too. Each other bin gains one of
 /// at most six groups at least, so it changes at most six times while it waits, and all walks together take
 /// at most seven steps for each bin, whatever the window.

@@ -82,7 +82,7 @@ pub shifted_rows : (by : Sorting) (f e : ℕ → Event) (n : ℕ) → ((i : ℕ)
 shifted_rows by f e zero is = refl
 shifted_rows by f e (suc n) is = rw (map-append, ← shifted_rows by f e n (λ i lt. is i (omega (arith, lt))), is n (omega arith)) refl
 
--- one event more is shifted, and those behind it are left
+-- one event more is shifted, and those after it are left
 pub shifted_more : (by : Sorting) (old now next : ℕ → Event) (at : ℕ) → ((i : ℕ) → i < at → now i ≡ shifted by (old i))
     → ((i : ℕ) → at ≤ i → now i ≡ old i) → next at ≡ shifted by (now at) → ((i : ℕ) → i ≢ at → next i ≡ now i)
     → (i : ℕ) → i < at + 1 → next i ≡ shifted by (old i)

@@ -148,7 +148,7 @@ few_groups groups few = let same : length (map group_view groups) ≡ length gro
 
 -- The gates of all groups are those of the groups that have some.
 
--- the gates of a group, and those of the groups behind it
+-- the gates of a group, and those of the groups after it
 front_and_rest : (index : ℕ) (gs : List Group) (g : Group) → index < length gs → g ≡ get_or gs index g
     → all_gates (map group_view (drop index gs)) ≡ g.gates.items ++ all_gates (map group_view (drop (index + 1) gs))
 front_and_rest index gs g within is = cc (drop_more gs index g within)

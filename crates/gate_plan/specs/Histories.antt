@@ -21,11 +21,11 @@ history by how words = with_groups by (kept_by how.policy.settle how.mode (event
 unfoldable pub settled_history : Sorting → StreamSettings → List ℕ → History
 settled_history by how words = with_groups by (settled_by how.policy.settle how.mode (events (map how.meaning words)))
 
--- How a plan reads the records behind a header.
+-- How a plan reads the records after a header.
 
 abbrev pub policy_of : PlanView → Policy
 policy_of plan = record { order = plan.order; reserved = plan.reserved; records = plan.records; settle = plan.settle }
 
--- how a plan reads the records behind a header
+-- how a plan reads the records after a header
 abbrev pub reading_by : PlanView → Header → StreamSettings
 reading_by plan header = reading header.record_type (policy_of plan)

@@ -50,7 +50,7 @@ groups_by plain gated input dtime = slice_index plain input + gated_sum gated in
 abbrev pub on_sides : List ℕ → Gated → ℕ → List ℕ
 on_sides plain group input = slice_index plain input ∷ min (slice_index plain input + one_if (slice_index_or group.has input false) * 2 ^ group.place) (2 ^ 64 - 1) ∷ []
 
--- the groups of a photon behind an only gate
+-- the groups of a photon after an only gate
 abbrev pub groups_behind : ℕ → ℕ → OnlyGate → ℕ
 groups_behind input dtime only = slice_index (slice_index_or only.groups input []) (one_if (is_in_gate dtime only.gate))
 

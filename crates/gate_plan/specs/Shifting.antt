@@ -17,7 +17,7 @@ abbrev pub shift_of : List ShiftView → ℕ → Option ℕ
 shift_of [] input = None
 shift_of (set ∷ shifts) input = if set.input == input then Some set.shift else shift_of shifts input
 
--- the dtime behind a shift, modulo a period, and the dtime itself where there is no shift
+-- the dtime after a shift, modulo a period, and the dtime itself where there is no shift
 abbrev pub shifted_by : ℕ → Option ℕ → ℕ → ℕ
 shifted_by period None dtime = dtime
 shifted_by period (Some shift) dtime = (dtime + shift) % period

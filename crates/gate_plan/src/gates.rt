@@ -22,7 +22,7 @@ pub struct Gates {
     // By input: its shift, if it has one.
     shift_by_input: [Option<u16>; 256],
     groups: ArrayVec<Group, 64>,
-    // By input: the number of those groups of the input that have no gate. Behind them 0, for markers.
+    // By input: the number of those groups of the input that have no gate. After them 0, for markers.
     plain: [u64; 257],
     // The groups that have gates.
     gated: ArrayVec<Gated, 64>,
@@ -112,7 +112,7 @@ impl Gates {
         }
     }
 
-    /// The only gate of the plan, if there is one, with the groups of each input behind it.
+    /// The only gate of the plan, if there is one, with the groups of each input after it.
     pub fn only_gate(&self) -> Option<&OnlyGate>
         ensures tells { ForSome result (λ gate. TellsGroups gate.now (sorting_of self.now).groups) }
         ensures one { is_some result ≡ (length (all_gates (sorting_of self.now).groups) == 1) }
@@ -129,7 +129,7 @@ impl Gates {
         !self.gated.is_empty()
     }
 
-    /// By input the groups without a gate that its photons are in, and behind them those of markers, which are none.
+    /// By input the groups without a gate that its photons are in, and after them those of markers, which are none.
     pub(crate) fn by_input(&self) -> &[u64; 257]
         ensures inputs { (input : ℕ) → input < 256
             → slice_index result.now input ≡ plain_bits (sorting_of self.now).groups input }

@@ -4,10 +4,10 @@ ghost use Rattle.gate_plan.specs.Taking.{is_in_gate};
 
 use tally_base::{Block, TABLE_BLOCK};
 
-/// The only gate of a plan, with the groups of each input behind it.
+/// The only gate of a plan, with the groups of each input after it.
 #[derive(Clone, Copy)]
 pub struct OnlyGate {
-    /// By input, and by whether a dtime is in the gate: the number of the groups. Behind them 0, for markers.
+    /// By input, and by whether a dtime is in the gate: the number of the groups. After them 0, for markers.
     groups: [[u64; 2]; 257],
     /// The range of dtimes, from its first number on and below its second.
     gate: (u16, u16),

@@ -28,7 +28,7 @@ fn shift_of(shifts: &[ShiftSet], input: u8) -> Option<u16>
     None
 }
 
-/// The dtime behind a shift, modulo a period, and the dtime itself where there is no shift.
+/// The dtime after a shift, modulo a period, and the dtime itself where there is no shift.
 #[inline(always)]
 pub(crate) fn shifted_by(period: u32, shift: Option<u16>, dtime: u16) -> u16
     requires { (0 < period) × (period ≤ 32768) }

@@ -9,7 +9,7 @@ use crate::only_gate::{OnlyGate, is_in_gate};
 use arrayvec::ArrayVec;
 use tally_base::Group;
 
-/// For each input the number of those of its groups that have no gate, and behind them 0, for markers.
+/// For each input the number of those of its groups that have no gate, and after them 0, for markers.
 #[tactic(auto, using(crate::proofs::Parts::filled_more))]
 pub(crate) fn plain_table(groups: &[Group]) -> [u64; 257]
     requires few { length groups.now ≤ 64 }
@@ -80,7 +80,7 @@ fn gated_at(group: &Group, place: u64) -> Gated
 }
 
 /// The only gate of these groups, if they are one group that has one gate, with the groups of each input
-/// behind it, where these are the groups that have none.
+/// after it, where these are the groups that have none.
 pub(crate) fn only_gate(gated: &[Gated], plain: &[u64; 257]) -> Option<OnlyGate>
     ensures groups { ForSome result (TellsGroupsBy plain.now gated.now) }
     ensures one { is_some result ≡ (length (gates_in gated.now) == 1) }
@@ -94,7 +94,7 @@ pub(crate) fn only_gate(gated: &[Gated], plain: &[u64; 257]) -> Option<OnlyGate>
 }
 
 /// For each input the number of its groups where the dtime isn't in a gate of this group, and where it is, and these
-/// are the groups that have none. Behind them 0, for markers.
+/// are the groups that have none. After them 0, for markers.
 #[tactic(auto, using(crate::proofs::Parts::filled_more))]
 fn sides_table(group: &Gated, plain: &[u64; 257]) -> [[u64; 2]; 257]
     ensures inputs { (input : ℕ) → input < 256 → slice_index_or result input [] ≡ on_sides plain.now group.now input }

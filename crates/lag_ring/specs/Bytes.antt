@@ -26,7 +26,7 @@ product_at side window low from e = slice_index window (e.index - low + from) * 
 abbrev pub IsLight : ℕ → List Entry → Type 0
 IsLight most es = AllByRecursion (λ e. (e.a ≤ most) × (e.b ≤ most)) es
 
--- what stands so many places behind a spot of a window
+-- what stands so many places after a spot of a window
 abbrev pub behind : List ℕ → ℕ → ℕ → ℕ
 behind window from spot = slice_index window (spot + from)
 
@@ -38,7 +38,7 @@ Fit side top low window es = (p : ℕ) → p < length window → slice_index win
 abbrev pub Have : Side → ℕ → ℕ → List ℕ → List ℕ → List Entry → Type 0
 Have side top low old new es = (p : ℕ) → p < length old → slice_index new p ≡ slice_index old p + weight_at side top low p es
 
--- A window serves photons at some spots up to the greatest lag: its places have few photons each, and so many lags have a place behind each spot.
+-- A window serves photons at some spots up to the greatest lag: its places have few photons each, and so many lags have a place after each spot.
 pub record ServesSpots (most top : ℕ) (window spots : List ℕ) : Type 0 where
   pub weighed : (0 < most) × (most ≤ 255)
   pub light : (p : ℕ) → p < length window → slice_index window p ≤ most

@@ -33,7 +33,7 @@ impl Model for Buffered {
 impl Buffered {
     ghost use Rattle.lag_ring.{specs.declared.ring.Entry.Entry, specs.Ring.ring};
 
-    /// No entries, with room for `reach`, or `AllocError` where memory for them is wanting.
+    /// No entries, with room for `reach`, or `AllocError` where there is not enough memory for them.
     pub(crate) fn open(alloc: Global, reach: u32) -> Result<Buffered, AllocError>
         ensures empty { IfOk result (λ r. r ≡ ring [] reach) }
     {

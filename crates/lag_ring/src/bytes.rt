@@ -55,7 +55,7 @@ pub fn put_side(window: &mut [u8], side: Side, top: u64, low: u64, entries: &[En
     }
 }
 
-/// Puts a spot behind others, where there is a place.
+/// Puts a spot after others, where there is a place.
 #[inline(always)]
 fn put_once(spots: &mut [u16; MOST_SPOTS], count: usize, spot: u16)
     ensures others { take count spots.new ≡ take count spots.old }
@@ -66,7 +66,7 @@ fn put_once(spots: &mut [u16; MOST_SPOTS], count: usize, spot: u16)
     }
 }
 
-/// Puts a spot behind others so many times.
+/// Puts a spot after others so many times.
 #[inline(always)]
 fn put_times(spots: &mut [u16; MOST_SPOTS], count: usize, spot: u16, times: u64)
     requires room { count + times ≤ MOST_SPOTS }
@@ -79,7 +79,7 @@ fn put_times(spots: &mut [u16; MOST_SPOTS], count: usize, spot: u16, times: u64)
     }
 }
 
-/// Puts a spot behind others so many times, and answers how many there are then. It takes no branch on whether that is
+/// Puts a spot after others so many times, and answers how many there are then. It takes no branch on whether that is
 /// none or one, which is as good as random.
 #[inline(always)]
 fn put_spot(spots: &mut [u16; MOST_SPOTS], count: usize, spot: u16, times: u64) -> usize
@@ -127,7 +127,7 @@ fn add_bytes<const N: usize>(sums: &mut [u8; N], part: &[u8])
     }
 }
 
-/// What stands behind each of a few spots of a window, summed for each of some lags.
+/// What stands after each of a few spots of a window, summed for each of some lags.
 #[inline(always)]
 fn byte_sums<const N: usize>(window: &[u8], from: usize, spots: &[u16]) -> [u8; N]
     requires lags { N ≤ BYTE_LAGS }
@@ -154,8 +154,8 @@ fn add_wide<const N: usize>(sums: &mut [u32; N], bytes: &[u8; N])
     }
 }
 
-/// What stands behind each of some spots of a window, summed for each of some lags: sum `q` takes for a spot the
-/// place `from + q` behind it.
+/// What stands after each of some spots of a window, summed for each of some lags: sum `q` takes for a spot the
+/// place `from + q` after it.
 pub fn byte_lag_sums<const N: usize>(
     window: &[u8],
     most: usize,

@@ -112,7 +112,7 @@ fn add_each<L: Ledger>(
 impl PairCells {
     ghost use Rattle.lag_ring.specs.Cells.{pair_cells};
 
-    /// So many cells, each 0, or `AllocError` where memory for them is wanting.
+    /// So many cells, each 0, or `AllocError` where there is not enough memory for them.
     pub fn open(alloc: Global, cells: u32) -> Result<PairCells, AllocError>
         ensures zeros { IfOk result (λ c. c ≡ pair_cells (replicate cells 0) 0 []) }
     {

@@ -60,7 +60,7 @@ impl Model for LagRing {
         × (r.alone ≡ true → r.kept.entries ≡ []) };
 }
 
-/// Puts the only entry of a ring that began anew into the buffer, so that another can stand behind it.
+/// Puts the only entry of a ring that began anew into the buffer, so that another can stand after it.
 #[inline(always)]
 fn lay_out(kept: &mut Buffered, last: &Entry, alone: bool)
     requires some { 0 < kept.old.reach }
@@ -75,7 +75,7 @@ fn lay_out(kept: &mut Buffered, last: &Entry, alone: bool)
 impl LagRing {
     ghost use Rattle.lag_ring.specs.declared.ring.Entry.{Entry};
 
-    /// A ring of no entries, with room for `reach`, or `AllocError` where memory for them is wanting.
+    /// A ring of no entries, with room for `reach`, or `AllocError` where there is not enough memory for them.
     pub fn open(alloc: Global, reach: u32) -> Result<LagRing, AllocError>
         requires some { 0 < reach }
         ensures empty { IfOk result (λ r. r ≡ ring [] reach) }

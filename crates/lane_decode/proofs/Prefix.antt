@@ -64,7 +64,7 @@ lasts xs = map (λ k. get_or (xs ++ xs) k 0) (replicate 8 7)
 pub last-of : (xs : List ℕ) → length xs ≡ 8 → lasts xs ≡ replicate 8 (get_or xs 7 0)
 last-of xs long = ap lasts (by-places xs long)
 
--- the sums of some numbers and of more behind them
+-- the sums of some numbers and of more after them
 pub sum-behind : (f g : ℕ → ℕ) (a n : ℕ) → ((j : ℕ) → j < n → g j ≡ f (a + j)) → sum_to f (a + n) ≡ sum_to f a + sum_to g n
 unfolding sum_to
 sum-behind f g a zero same = let none : a + 0 ≡ a = omega arith in ap (sum_to f) none ∙ omega arith

@@ -1,3 +1,3 @@
 pub mod Lanes
 pub mod InColumns
-pub mod InCompacted
+pub mod Staying

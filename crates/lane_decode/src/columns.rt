@@ -15,7 +15,7 @@ pub struct Columns {
     // The code of each record, and its dtime in the upper half, as a block of events has them.
     pub(crate) marks: [u32; 64],
     pub(crate) times: [u32; 64],
-    // How many wraps each record stands for: narrower than how much later the times behind it are.
+    // How many wraps each record stands for: narrower than how much later the times after it are.
     pub(crate) wraps: [u32; 64],
 }
 
@@ -74,7 +74,7 @@ impl Columns {
     }
 
     /// True only where no time of the 64 records falls, from this one on. It needs no sum of wraps: the time before a
-    /// wrap counts as one that falls behind it only where it is longer than a wrap.
+    /// wrap counts as one that falls after it only where it is longer than a wrap.
     #[inline(always)]
     pub fn rises<R: RecordLayout>(&self, base: u64, low: u64) -> bool
         ensures rises { result ≡ true → Rises low (time_in base R.UNIT self.now) 64 }
@@ -85,7 +85,7 @@ impl Columns {
         let mut falls = (ahead >> 32) as u32;
         for i in 0..64usize {
             let time = self.times[i];
-            // A time that the record does not fall behind, of those that are known without its wraps.
+            // A time that the record does not fall after, of those that are known without its wraps.
             let most = if self.wraps[i] == 0 {
                 time
             } else {

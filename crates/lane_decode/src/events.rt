@@ -1,14 +1,14 @@
 // The events of records, put close together into a block.
 ghost use Rattle.std.{specs.Prelude.{◌≡◌, ◌+◌, ◌*◌, ◌%◌, ◌^◌, ◌<◌, ◌≤◌, ◌++◌, ℕ, length, map, nat_lt, slice_index}, specs.Simd.Lanes.chunk};
 ghost use Rattle.tally_base.specs.{Codes.code_in, Columns.{count, sorted, gathered}};
-ghost use Rattle.lane_decode.{specs.InCompacted.{has_bit, bits_in}, specs.InColumns.{wraps_at, sum_to, time_in}};
+ghost use Rattle.lane_decode.{specs.Staying.{has_bit, bits_in}, specs.InColumns.{wraps_at, sum_to, time_in}};
 
 use crate::columns::Columns;
 use record_layout::RecordLayout;
 use std::simd::prelude::*;
 use tally_base::{BLOCK_SIZE, Block, TABLE_BLOCK};
 
-/// The places of the bits that are set in a number of eight bits, in order, and 0 behind them.
+/// The places of the bits that are set in a number of eight bits, in order, and 0 after them.
 #[rattlefmt::skip]
 static LANES: [[u32; 8]; 256] = [
     [0, 0, 0, 0, 0, 0, 0, 0], [0, 0, 0, 0, 0, 0, 0, 0], [1, 0, 0, 0, 0, 0, 0, 0], [0, 1, 0, 0, 0, 0, 0, 0],
@@ -113,9 +113,9 @@ fn times_from<R: RecordLayout>(base: u64, wraps: u32x8, times: u32x8) -> u64x8
 }
 
 impl Columns {
-    ghost use Rattle.lane_decode.specs.InCompacted.{staying, event_in};
+    ghost use Rattle.lane_decode.specs.Staying.{staying, event_in};
 
-    /// Puts the events of those of 64 records whose codes are below `below` behind those of a block, where so many
+    /// Puts the events of those of 64 records whose codes are below `below` after those of a block, where so many
     /// records are placed before them, and wraps add to a base.
     #[inline(always)]
     pub fn put_events<R: RecordLayout>(

@@ -11,7 +11,7 @@ take_while-passed p (x ∷ xs) more h = take_while-cons p x (xs ++ more)
     ∙ elim (p x) as (λ b. ((b && list_all p xs) ≡ true) → cond b (x ∷ take_while p (xs ++ more)) [] ≡ x ∷ (xs ++ take_while p more))
     [ true ↦ λ h. ap (λ l. x ∷ l) (take_while-passed p xs more h) | false ↦ λ h. cc ] h
 
--- behind what ends it nothing counts
+-- after what ends it nothing counts
 pub take_while-ended : (p : ℕ → Bool) (front more : List ℕ) → list_all p front ≡ false → take_while p (front ++ more) ≡ take_while p front
 take_while-ended p [] more h = cc
 take_while-ended p (x ∷ xs) more h = take_while-cons p x (xs ++ more)

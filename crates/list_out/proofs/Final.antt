@@ -11,7 +11,7 @@ head_of-more a b = elim (cases_lt (length a) (2 ^ 24)) [
   | inr long ↦ ([], take-append-le (2 ^ 24) a b long ∙ sym (append-nil (head_of a)))
 ]
 
--- Whatever comes behind the bytes, their text is the first part of the text.
+-- Whatever comes after the bytes, their text is the first part of the text.
 pub header_text-grows : (a b : List ℕ) → Grown (header_text a) (header_text (a ++ b))
 unfolding header_text
 header_text-grows a b =
@@ -52,7 +52,7 @@ header_answer-cut : (file : List ℕ) (size : ℕ) → header_answer file ≡ Er
 unfolding header_answer
 header_answer-cut file size e = answer_as-cut file (ending (head_of file)) size e
 
--- the text of bytes that are refused, whatever comes behind them
+-- the text of bytes that are refused, whatever comes after them
 pub header_text-refused : (a b : List ℕ) (fault : Fault) → Shows header_answer a (Err fault) → header_text (a ++ b) ≡ header_text a
 header_text-refused a b fault shown = elim (cases_lt (length a) (2 ^ 24)) [
   | inr long ↦ header_text-full a b long
@@ -63,7 +63,7 @@ header_text-refused a b fault shown = elim (cases_lt (length a) (2 ^ 24)) [
       absurd (omega (arith, here, next, length-take (2 ^ 24) a, length-take (2 ^ 24) (a ++ 0 ∷ []), length-append a (0 ∷ []))))
 ]
 
--- the text of a header that is whole, whatever comes behind it
+-- the text of a header that is whole, whatever comes after it
 pub header_text-done : (a b : List ℕ) (header : Header) (behind : List ℕ)
     → ((more : List ℕ) → header_answer (a ++ more) ≡ Ok (header, behind ++ more)) → header_text (a ++ b) ≡ header_text a
 header_text-done a b header behind done = elim (cases_lt (length a) (2 ^ 24)) [

@@ -70,7 +70,7 @@ seen_from-negative (suc limit) tag rest size known negative =
     let long : nat_lt (length (tag ++ rest)) 48 ≡ false = not_less (length (tag ++ rest)) 48 (omega (arith, length-append tag rest)) in
     rw (long, take_front 48 tag rest size, known, negative) refl
 
--- what the bytes behind a tag show
+-- what the bytes after a tag show
 abbrev pub seen_behind : ℕ → List ℕ → List ℕ → List Item
 seen_behind limit tag rest = if is_end tag then [] else seen_from limit (drop (body_size tag) rest)
 
@@ -201,7 +201,7 @@ grows-begun a b preamble long before after =
     (Grown-behind (preamble_text preamble) _ _ (seen_from-grows (length a) (length (a ++ b)) (drop 16 a) b
     (omega (arith, length-drop 16 a)) (omega (arith, length-append (drop 16 a) b, length-append a b, length-drop 16 a))))
 
--- whatever comes behind the bytes, their text is the first part of the text
+-- whatever comes after the bytes, their text is the first part of the text
 pub shown_text-grows : (a b : List ℕ) → Grown (shown_text a) (shown_text (a ++ b))
 shown_text-grows a b = elim (seen_preamble-some a b) [
   | inl none ↦ Grown-none _ _ (shown_text-none a none)

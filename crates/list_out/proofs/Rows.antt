@@ -42,7 +42,7 @@ end_text = codes "tag Header_End -1 tyEmpty8 -\n"
 abbrev pub lines : List Event → List ℕ
 lines es = events_text (map (λ e. (e, false)) es)
 
--- rows behind others
+-- rows after others
 rows-join : {A : Type 0} (f : ℕ → A) (a n : ℕ) → rows f (a + n) ≡ rows f a ++ rows (λ i. f (a + i)) n
 rows-join f a zero = let none : a + 0 ≡ a = omega arith in ap (rows f) none ∙ sym (append-nil (rows f a))
 rows-join f a (suc n) =
@@ -97,7 +97,7 @@ headers =
     ∷ (codes "PQTTTS" ++ replicate 10 0, [])
     -- The last two bytes of the magic are printed as they are.
     ∷ ((codes "PQTTTR" ++ 1 ∷ 255 ∷ []) ++ replicate 8 171, codes "magic 50515454545201FF\nversion ABABABABABABABAB\n")
-    -- Behind the end of the header nothing is printed.
+    -- After the end of the header nothing is printed.
     ∷ (short_header ++ type_tag, start_text ++ type_text ++ end_text)
     -- A space and a backslash in a name are printed as digits.
     ∷ (start_bytes ++ tag (codes "A B\\") 2 0x11000008 0xFF ++ type_tag ++ end_tag, start_text ++ codes "tag A\\x20B\\x5C 2 tyBitSet64 00000000000000FF\n" ++ type_text ++ end_text)
@@ -125,7 +125,7 @@ headers =
     -- An index and a number have a sign.
     ∷ (start_bytes ++ tag (codes "N") 0x80000000 0x10000008 0x8000000000000000 ++ tag (codes "N") 0xFFFFFFFE 0x10000008 0, start_text ++ codes "tag N -2147483648 tyInt8 -9223372036854775808\ntag N -2 tyInt8 0\n")
     ∷ (start_bytes ++ alone (codes "C") 0x12000008 0xABC ++ alone (codes "D") 0x20000008 0x3E6AD7F29ABCAF48 ++ alone (codes "E") 0x21000008 1, start_text ++ codes "tag C -1 tyColor8 0000000000000ABC\ntag D -1 tyFloat8 3E6AD7F29ABCAF48\ntag E -1 tyTDateTime 0000000000000001\n")
-    -- A tag that is refused prints as nothing, and what is behind it neither.
+    -- A tag that is refused prints as nothing, and what is after it neither.
     ∷ (start_bytes ++ type_tag ++ alone (codes "X") 0x30000008 0 ++ end_tag, start_text ++ type_text)
     ∷ (start_bytes ++ type_tag ++ alone (codes "X") 0x4001FFFF 0xFFFFFFFFFFFFFFFF, start_text ++ type_text)
     -- The end of a header may have a body.
@@ -141,7 +141,7 @@ pub known_lines :
     (event_text (record { place = 3; kind = Photon 0 0; time = 4101 }) false ≡ codes "3 photon 0 4101 0\n")
     × (event_text (record { place = 1; kind = Marker 15; time = 4111 }) false ≡ codes "1 marker 15 4111\n")
     × (event_text (record { place = 3; kind = Photon 64 32767; time = 7 }) true ≡ codes "3 photon 64 7 32767 late\n")
-    -- one line behind the other
+    -- one line after the other
     × (events_text ((record { place = 1; kind = Photon 0 0; time = 9 }, false) ∷ (record { place = 2; kind = Marker 1; time = 7 }, true) ∷ []) ≡ codes "1 photon 0 9 0\n2 marker 1 7 late\n")
 unfolding digits event_text
 known_lines = (refl, refl, refl, refl)

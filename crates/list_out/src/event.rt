@@ -93,7 +93,7 @@ pub fn format_event<'l>(event: &Event, late: bool, line: &'l mut [u8; LINE_SIZE]
 }
 
 /// Writes the lines of up to 64 events of a block from a place on, none of them late, at the end of a buffer, and
-/// returns where they start. The last line is written first, and each before what stands behind it.
+/// returns where they start. The last line is written first, and each before what stands after it.
 fn write_lines(text: &mut [u8; LINES_SIZE], block: &Block<TABLE_BLOCK>, from: usize) -> usize
     requires { from ≤ count block.now }
     ensures inside { result ≤ LINES_SIZE }

@@ -108,7 +108,7 @@ other-way true false p' same = rw same refl
 other-way false true p' same = rw same refl
 other-way false false p' same = rw same refl
 
--- where the newest bin begins, behind one event more
+-- where the newest bin begins, after one event more
 pub low-next : (g p : Bool) (more low low' floor time origin : ℕ) → more ≡ (if g && p then 1 else 0)
     → (IsTrue p → floor ≤ time) → low ≤ max floor origin → (0 < more → low' ≤ max time origin) → (more ≡ 0 → low' ≡ low)
     → low' ≤ max (if p then time else floor) origin

@@ -1,4 +1,4 @@
--- What is behind the lines of the bins that are closed.
+-- What is after the lines of the bins that are closed.
 use Rattle.std.{proofs.Common.{◌≡◌, ◌∙◌, ℕ, ◌+◌, ◌-◌, ◌<◌, Bool, true, false, ◌&&◌, cond, List, [], ◌++◌, refl, sym, ap, subst, arith, append-nil, append_assoc, nat_lt, ◌==◌, count_by, if◌then◌else◌, rules}, proofs.lemmas.Bool.cases_eq, proofs.lemmas.Bool.Decides.nat_tests, specs.declared.option.Option.Option}
 use Rattle.bench_io.{specs.Sinks.{AppendsShort, PassesOn}, proofs.Bytes.{PassesOn-trans, AppendsShort-passed, AppendsShort-more, AppendsShort-same}}
 use Rattle.tally_base.{specs.Settings.TraceView, specs.Tally.History}

@@ -44,7 +44,7 @@ nought : (b : Bool) → ◌≡◌ {A = ℕ} (cond b 0 0) 0
 nought true = refl
 nought false = refl
 
--- behind a number all are 0
+-- after a number all are 0
 pub count-skip : (p : ℕ → Bool) (f : ℕ → ℕ) (at k m : ℕ) → ((b : ℕ) → at < b → f b ≡ 0) → m ≡ k + at + 1
     → count_by p (map f (range_with_len 0 m)) ≡ count_by p (map f (range_with_len 0 at)) + cond (p (f at)) 1 0 + cond (p 0) k 0
 count-skip p f at zero m none e = omega (arith, count-more p f at m (omega (arith, e)), nought (p 0))

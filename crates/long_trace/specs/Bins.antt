@@ -20,7 +20,7 @@ pub record CountsBins (set : TraceView) (state : BinState) (h : History) : Type 
   pub each : (c : ℕ) → c < frequency_limit → slice_index state.frequencies c ≡ frequency (counts set state.bin h) c
   pub others : state.many ≡ above (counts set state.bin h)
 
--- More events were counted behind any that are, and the lines of the bins that they closed are put behind others.
+-- More events were counted after any that are, and the lines of the bins that they closed are put after others.
 pub record CountsOn (set : TraceView) (old new : BinState) (more : History) (lines lines' : List ℕ) : Type 0 where
   pub text : List ℕ
   pub put : lines' ≡ lines ++ text

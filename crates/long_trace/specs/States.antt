@@ -7,7 +7,7 @@ use Rattle.long_trace.{specs.declared.counting.OpenBin.OpenBin, specs.declared.c
 abbrev pub state_of : OpenBin → Closed → BinState
 state_of newest closed = record { bin = newest.bin.index; count = newest.count; frequencies = closed.frequencies; many = closed.many }
 
--- what is printed behind the lines of the bins before the newest
+-- what is printed after the lines of the bins before the newest
 abbrev pub end_text : OpenBin → List ℕ → ℕ → List ℕ
 end_text newest all before = bin_line newest.bin.index newest.count ++ summary_text all before
 

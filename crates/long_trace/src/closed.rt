@@ -44,7 +44,7 @@ impl Closed {
         }
     }
 
-    /// A bin with this count is closed, and so many empty ones behind it.
+    /// A bin with this count is closed, and so many empty ones after it.
     pub fn close(&mut self, count: u64, empty: u64)
         requires { sum self.old.frequencies + self.old.many + 1 + empty < 2 ^ 64 }
         ensures frequencies { (c : ℕ) → c < frequency_limit → slice_index self.new.frequencies c

@@ -17,7 +17,7 @@ pub(crate) struct OpenBin {
     pub count: u64,
 }
 
-/// Closes the newest bin, and opens the bin of a photon behind it.
+/// Closes the newest bin, and opens the bin of a photon after it.
 fn open_next<const N: usize>(
     set: &TraceSet,
     newest: OpenBin,

@@ -55,7 +55,7 @@ fn put_frequencies<O: Sink>(
     Ok(())
 }
 
-/// Writes what is behind the lines of the bins before the last, by how often each count came.
+/// Writes what is after the lines of the bins before the last, by how often each count came.
 pub(crate) fn put_end<O: Sink>(
     newest: &OpenBin,
     before: u64,

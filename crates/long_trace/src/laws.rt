@@ -4,7 +4,7 @@ ghost use Rattle.count_trace.specs.TraceCounts.{in_trace_bin};
 ghost use Rattle.long_trace.specs.Texts.{span, counts, above, in_all_frequencies};
 ghost use Rattle.tally_base.{specs.Settings.TraceView, specs.Tally.History};
 
-/// The last bin of the span of a trace isn't empty, and each behind it is.
+/// The last bin of the span of a trace isn't empty, and each after it is.
 pub fn the_span_ends_with_its_last_bin()
     ensures last { (set : TraceView) (h : History) → 0 < span set h → 0 < in_trace_bin set (span set h - 1) h }
     ensures behind { (set : TraceView) (h : History) (bin : ℕ) → span set h ≤ bin → in_trace_bin set bin h ≡ 0 }

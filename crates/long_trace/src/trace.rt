@@ -18,7 +18,7 @@ use tally_base::{Block, Event, Failed, Fault, TABLE_BLOCK, TraceSet, floor_behin
 /// empty has a line once a photon comes in a later one, and the last such bin at the end. Then it is printed how
 /// many photons came before the origin, and for each count below 1,024 how many bins have it, of those up to
 /// the last that isn't empty; those of a greater count are counted in one number. How much it keeps doesn't
-/// depend on the file. `start` is called first and once, and nothing behind a refused call.
+/// depend on the file. `start` is called first and once, and nothing after a refused call.
 ///
 /// The lists and arrays that it keeps: the frequencies of `closed`.
 #[derive(Drop)]
@@ -140,7 +140,7 @@ impl LongTrace {
         );
     }
 
-    /// Takes an event as `take` does, and writes the line of the bin that it closes. Behind `start` and such
+    /// Takes an event as `take` does, and writes the line of the bin that it closes. After `start` and such
     /// calls the first line and the lines of all bins are written but for the last that isn't empty.
     ///
     /// Refuses with `WriteFault` where a write fails: then a beginning of the line that isn't all of it was
@@ -171,7 +171,7 @@ impl LongTrace {
         written
     }
 
-    /// Writes what is behind the lines of the bins that are closed: that of the last bin, how many photons came
+    /// Writes what is after the lines of the bins that are closed: that of the last bin, how many photons came
     /// before the origin, and how often each count came.
     ///
     /// Refuses with `WriteFault` where a write fails: then a beginning of this that isn't all of it was

@@ -41,7 +41,7 @@ row-last_column = refl
 row-behind_columns : place_of (framed None) 120 together ≡ None
 row-behind_columns = refl
 
--- before any line, and behind a stop
+-- before any line, and after a stop
 row-no_line : place_of (framed (Some 3)) 5 [] ≡ None
 row-no_line = refl
 
@@ -59,7 +59,7 @@ row-no_frame = refl
 row-second : place_of (framed None) 31 (mark 1 0 ∷ mark 2 5 ∷ mark 1 10 ∷ mark 1 20 ∷ []) ≡ Some (1, 1)
 row-second = refl
 
--- A frame behind a line leaves its row, and the next line is row 0.
+-- A frame after a line leaves its row, and the next line is row 0.
 row-frame_in_line : place_of (framed None) 29 (mark 3 10 ∷ mark 1 20 ∷ mark 2 25 ∷ []) ≡ Some (0, 1)
 row-frame_in_line = refl
 
@@ -78,7 +78,7 @@ row-stop_and_line = refl
 row-below : place_of (framed None) 30 (mark 3 10 ∷ mark 1 20 ∷ mark 1 30 ∷ []) ≡ None
 row-below = refl
 
--- Without a frame bit the rows begin again behind the last.
+-- Without a frame bit the rows begin again after the last.
 abbrev unframed : ImageView
 unframed = record { group = 1; width = 1; height = 2; dwell = 10; line = 1; frame = None; stop = None; serpentine = false }
 

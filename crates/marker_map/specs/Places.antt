@@ -34,7 +34,7 @@ abbrev pub until_last : {X : Type 0} → (X → Bool) → List X → List X
 until_last p [] = []
 until_last p (x ∷ xs) = if list_any p (x ∷ xs) then x ∷ until_last p xs else []
 
--- the elements behind the last one that passes, and all of them where none passes
+-- the elements after the last one that passes, and all of them where none passes
 abbrev pub behind_last : {X : Type 0} → (X → Bool) → List X → List X
 behind_last p [] = []
 behind_last p (x ∷ xs) = if list_any p (x ∷ xs) then behind_last p xs else x ∷ xs
@@ -55,7 +55,7 @@ is_stop set m = has_named_bit set.stop m.bits
 abbrev pub is_frame : ℕ → Mark → Bool
 is_frame frame m = has_bit frame m.bits
 
--- The line of a photon is the last marker before it with the line bit, provided that none behind that one has the stop bit.
+-- The line of a photon is the last marker before it with the line bit, provided that none after that one has the stop bit.
 abbrev pub line_of : ImageView → List Mark → Option Mark
 line_of set ms = if list_any (is_stop set) (behind_last (is_line set) ms) then None else last_that (is_line set) ms
 
@@ -77,14 +77,14 @@ row_of set ms = row_at set.frame set (until_last (is_line set) ms)
 abbrev pub runs_back : ImageView → ℕ → Bool
 runs_back set row = set.serpentine && (row % 2 == 1)
 
--- the column that is so many dwell times behind the start of a row
+-- the column that is so many dwell times after the start of a row
 abbrev pub column_in : ImageView → ℕ → ℕ → ℕ
 column_in set row steps = if runs_back set row then set.width - 1 - steps else steps
 
--- the column and the row so many dwell times behind the start of a row, and nothing where the image ends before them
+-- the column and the row so many dwell times after the start of a row, and nothing where the image ends before them
 abbrev pub within : ImageView → ℕ → ℕ → Option (ℕ × ℕ)
 within set steps row = if nat_lt steps set.width && nat_lt row set.height then Some (column_in set row steps, row) else None
 
--- the column and the row of a photon at this time behind these markers
+-- the column and the row of a photon at this time after these markers
 abbrev pub place_of : ImageView → ℕ → List Mark → Option (ℕ × ℕ)
 place_of set time ms = option_and_then (λ line. option_and_then (within set ((time - line.time) / set.dwell)) (row_of set ms)) (line_of set ms)

@@ -21,11 +21,11 @@ abbrev pub turns : Way → Bool
 turns Forwards = false
 turns Backwards = true
 
--- the column so many dwell times behind the start of the line
+-- the column so many dwell times after the start of the line
 abbrev pub column_on : Strip → ℕ → ℕ
 column_on strip steps = if strip.backwards then strip.width - 1 - steps else steps
 
--- the column and the row of a photon so long behind the start of the line, and nothing where it is outside the image
+-- the column and the row of a photon so long after the start of the line, and nothing where it is outside the image
 abbrev pub place_behind : Strip → ℕ → Option (ℕ × ℕ)
 place_behind strip since = if strip.open then (if nat_lt (since / divisor_of strip.dwell) strip.width then Some (column_on strip (since / divisor_of strip.dwell), strip.row) else None) else None
 
@@ -50,7 +50,7 @@ next_row_by (Some frame) set ms = if list_any (is_frame frame) ms then Some (lin
 abbrev pub next_row : ImageView → List Mark → Option ℕ
 next_row set ms = next_row_by set.frame set ms
 
--- Without a frame bit the rows begin again behind the last.
+-- Without a frame bit the rows begin again after the last.
 abbrev pub row_after : ImageView → ℕ → ℕ
 row_after set row = if (row + 1 == set.height) && is_none set.frame then 0 else row + 1
 

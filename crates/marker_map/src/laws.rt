@@ -2,7 +2,7 @@
 ghost use Rattle.std.{specs.Prelude.{◌≡◌, Bool, false, None, List, [], ◌++◌, option_to_list, if◌then◌else◌}, specs.List.{list_any, last_or}};
 ghost use Rattle.marker_map.specs.Places.{last_that, until_last, behind_last, from_last, Mark};
 
-/// The last marker that passes a test parts the markers: up to it, and behind it, where none passes.
+/// The last marker that passes a test parts the markers: up to it, and after it, where none passes.
 pub fn the_last_marker_parts_them()
     ensures parts { (p : Mark → Bool) (ms : List Mark) → until_last p ms ++ behind_last p ms ≡ ms }
     ensures ends { (p : Mark → Bool) (ms : List Mark) → last_or None (until_last p ms) ≡ last_that p ms }

@@ -17,9 +17,9 @@ struct Line {
 
 /// Where a photon is in an image, by the markers that came before it.
 ///
-/// The line of a photon is the last marker with the line bit, where no marker behind that one has the
+/// The line of a photon is the last marker with the line bit, where no marker after that one has the
 /// stop bit. With a frame bit the rows count from 0 from each frame on, and before the first frame a line
-/// has no row. Without a frame bit they count from the first line on, and begin again behind the last row
+/// has no row. Without a frame bit they count from the first line on, and begin again after the last row
 /// of the image. In one marker the stop bit counts first, then the frame bit, then the line bit. The
 /// columns of a line count from its marker on, and in the odd rows of a serpentine image backwards, from
 /// the last one. Times are sync periods.
@@ -27,7 +27,7 @@ struct Line {
 pub struct Lines {
     set: ImageSet,
     dwell: Divisor,
-    // None before the first line, behind a stop, and at a line that has no row.
+    // None before the first line, after a stop, and at a line that has no row.
     line: Option<Line>,
     // The row of the next line. None before the first frame.
     next_row: Option<u64>,
@@ -60,7 +60,7 @@ fn unless_stopped(line: Option<Line>, stops: bool) -> Option<Line>
     if stops { None } else { line }
 }
 
-/// The row behind this one. Without a frame bit the first row follows the last.
+/// The row after this one. Without a frame bit the first row follows the last.
 fn row_behind(set: &ImageSet, row: Option<u64>) -> Option<u64>
     requires { ForSome row (λ row. row ≤ record_limit) }
     ensures { result ≡ option_map (row_after (image_view set.now)) row }

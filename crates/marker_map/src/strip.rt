@@ -40,7 +40,7 @@ pub struct Strip {
     pub(crate) width: u32,
     pub(crate) height: u32,
     pub(crate) dwell: Divisor,
-    // A photon that comes sooner than this behind the start of the line is on it, and its column is a product.
+    // A photon that comes sooner than this after the start of the line is on it, and its column is a product.
     pub(crate) near: u64,
     pub(crate) ghost inside: { row < height },
     pub(crate) ghost is_near: { (since : ℕ) → since < near
@@ -58,7 +58,7 @@ impl Strip {
         self.backwards
     }
 
-    /// The same, where it is known which way it runs. In a loop behind this the way isn't tested.
+    /// The same, where it is known which way it runs. In a loop after this the way isn't tested.
     #[inline(always)]
     pub fn facing(&self, way: Way) -> Strip
         requires { turns way ≡ is_backwards self.now }
@@ -92,7 +92,7 @@ impl Strip {
         }
     }
 
-    /// The column and the row of a photon so long behind the start of the line, however long it is.
+    /// The column and the row of a photon so long after the start of the line, however long it is.
     #[inline(always)]
     fn far_place(&self, since: u64) -> Option<(u32, u32)>
         ensures value { result ≡ place_behind self.now since }
@@ -109,7 +109,7 @@ impl Strip {
         }
     }
 
-    /// The column so many dwell times behind the start of the line, fewer than there are columns.
+    /// The column so many dwell times after the start of the line, fewer than there are columns.
     #[inline(always)]
     fn column(&self, steps: u64) -> u32
         requires { steps < width_of self.now }

@@ -4,7 +4,7 @@ ghost use Rattle.tally_base.specs.declared.header.Mode.{Mode};
 ghost use Rattle.ptu_definitions.{specs.Headers.header_answer, specs.Words.{words_of, rest_of}};
 ghost use Rattle.minimal_file.specs.ShortFiles.{bytes_in, short_fields, minimal_file};
 
-/// A short file has a header of its mode's record type and 112 bytes, and behind it its words, four bytes
+/// A short file has a header of its mode's record type and 112 bytes, and after it its words, four bytes
 /// each and no byte more.
 pub fn a_short_file_is_read()
     ensures header { (mode : Mode) (words : List ℕ)

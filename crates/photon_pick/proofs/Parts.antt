@@ -1,4 +1,4 @@
--- What was put of photons behind others, and what is left of them.
+-- What was put of photons after others, and what is left of them.
 use Rattle.std.{proofs.Common.{◌≡◌, ◌∙◌, ℕ, List, [], ◌∷◌, ◌++◌, Bool, true, false, Some, cond, refl, sym, ap, subst, append_assoc, append-nil, arith, length, length-append, rules, inl, inr, ⊎_elim, Err}, specs.List.filter, specs.declared.option.Option.Option, proofs.lemmas.List.Elements.filter-append, specs.Io.KnownBytes.Appends}
 use Rattle.tally_base.{specs.declared.event.Event.Event, specs.declared.header.Mode.Mode, specs.declared.fault.Fault.Fault, specs.declared.fault.Fault.TheVariants.{PickTime, WriteFault}, specs.FaultCounts.Rose}
 use Rattle.bench_io.{specs.Sinks.{AppendsShort, PassesOn}, proofs.Bytes.{Appends-flushed, AppendsShort-flushed, AppendsShort-more, AppendsShort-kept, Keeps-from_none}}
@@ -42,7 +42,7 @@ move-cut m n a b held behind photons same none h = search (rules, arith)
 
 -- ## Texts
 
--- the words of photons behind others
+-- the words of photons after others
 pub words-more : (mode : Mode) (ps qs : List Event)
     → bytes_in (picked_words mode (ps ++ qs)) ≡ bytes_in (picked_words mode ps) ++ bytes_in (each_after (photon_words mode) ps qs)
 unfolding picked_words
@@ -64,7 +64,7 @@ module _ (s t : Stand) (chooses : Event → Bool) (mode : Mode) (same_choice : s
   bytes-before : bytes_of mode before ≡ bytes_in (picked_words mode before)
   bytes-before = ap (λ ps. bytes_in (picked_words mode ps)) (writable-all mode before clear)
 
-  -- the bytes where these photons come behind those before
+  -- the bytes where these photons come after those before
   bytes-now : (qs : List Event) → writable mode total ≡ before ++ qs
       → bytes_of mode total ≡ bytes_of mode before ++ bytes_in (each_after (photon_words mode) before qs)
   bytes-now qs is = search (rules, arith, words-more, bytes-before)

@@ -20,7 +20,7 @@ abbrev of_words : List ℕ → List ℕ
 of_words words = bytes_in words
 
 pub rows :
-    -- The first that is too late ends what is written, and is named, also where a photon behind it could be written.
+    -- The first that is too late ends what is written, and is named, also where a photon after it could be written.
     (writable T2 (photon 4 7 ∷ photon 9 (2 ^ 62 + 2 ^ 25) ∷ photon 11 (2 ^ 62) ∷ []) ≡ photon 4 7 ∷ [])
     × (late_or (first (too_late T2 (photon 4 7 ∷ photon 9 (2 ^ 62 + 2 ^ 25) ∷ photon 11 (2 ^ 62 + 2 ^ 26) ∷ []))) (Some (TruncatedRecord 1))
     ≡ Some (PickTime 9))

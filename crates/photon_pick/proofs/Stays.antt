@@ -1,4 +1,4 @@
--- What is written of the photons of bytes is written of them with more behind, and a refusal stays.
+-- What is written of the photons of bytes is written of them with more after, and a refusal stays.
 use Rattle.std.{proofs.Common.{◌≡◌, ◌∙◌, ℕ, List, [], ◌∷◌, ◌++◌, Bool, true, false, None, Some, Ok, Err, cond, refl, sym, ap, append_assoc, append-nil, Result, if◌then◌else◌, arith, rules}, specs.List.filter, specs.declared.option.Option.Option, proofs.lemmas.List.Elements.filter-append}
 use Rattle.tally_base.{specs.declared.event.Event.Event, specs.declared.fault.Fault.Fault, specs.declared.fault.Fault.TheVariants.PickTime, specs.declared.header.Mode.Mode, specs.Faults.{is_outside, fault_in}}
 use Rattle.ptu_definitions.{specs.declared.records.Summary.Summary, specs.Prefixes.{each_after, first}, specs.Settled.not_marked, specs.Streams.{StreamSettings, record_refusal, last_in, streamed}, specs.Words.{words_of, rest_of}, proofs.Firsts.{record_refusal-inside, streamed-inside}, proofs.PrefixLemmas.first-append, proofs.StreamLemmas.{given-front, given-stays}, proofs.WordsLemmas.words_of-append}
@@ -7,7 +7,7 @@ use Rattle.minimal_file.specs.ShortFiles.{bytes_in}
 use Rattle.record_write.{specs.declared.picker.Picker.Picker, specs.Picked.{is_too_late, photon_words, picked_words}, specs.Picker.HasPicked}
 use Rattle.photon_pick.{specs.Late.{too_late, writable}, specs.Texts.{photons_in, text_in, late_or, refusal_in, HasPickedIn}, specs.Ends.{photons_by, photons_of, end_text, end_fault}, proofs.Parts.{words-more, bytes_of}, proofs.Feeds.photons-more, proofs.Ends.{kept-are, given-none, clear-from_ok}}
 
--- ## Photons behind others
+-- ## Photons after others
 
 abbrev unless_late : Bool → Event → List Event → List Event
 unless_late late e more = if late then [] else e ∷ more
@@ -26,7 +26,7 @@ stays-one : (late : Bool) (p e : Event) (others all front : List Event) → firs
     → (first others ≡ Some e → all ≡ front) → unless_late late p all ≡ unless_late late p front
 stays-one late p e others all front h same = search (rules, arith)
 
--- behind a photon that is too late no photon is written, and it is still the first
+-- after a photon that is too late no photon is written, and it is still the first
 writable-stays : (mode : Mode) (ps qs : List Event) (e : Event) → first (too_late mode ps) ≡ Some e → writable mode (ps ++ qs) ≡ writable mode ps
 writable-stays mode [] qs e h = cc
 writable-stays mode (p ∷ ps) qs e h =

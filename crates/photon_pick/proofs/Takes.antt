@@ -21,7 +21,7 @@ module _ (by : Sorting) (group : ℕ) (strict : Bool) where
   abbrev p : Event → Bool
   p = is_chosen by group
 
-  -- The photons that are chosen of events in order come in order, and none behind the greatest time.
+  -- The photons that are chosen of events in order come in order, and none after the greatest time.
   pub order-chosen : (low floor : ℕ) (es : List Event) → low ≤ floor → InOrder strict floor es
       → InOrder true low (filter p es) × (floor_after true low (filter p es) ≤ floor_after strict floor es)
   order-chosen low floor [] below order = (tt, below)
@@ -42,7 +42,7 @@ module _ (by : Sorting) (group : ℕ) (strict : Bool) where
           ((order.0, (λ x. omega (arith, below, first)), more.0), more.1)
       pick false is rest = rest low (rises (moves_floor strict e) low floor e.time order.1 below)
 
-  -- So the last of them is no further on than the floor behind those events.
+  -- So the last of them is no further on than the floor after those events.
   pub last-chosen : (low floor : ℕ) (es : List Event) → low ≤ floor → InOrder strict floor es → (last : ℕ) (photons : List Event)
       → photons ≡ filter p es → (now : ℕ) → last ≤ floor_after true low photons → now ≡ floor_after strict floor es → last ≤ now
   last-chosen low floor es below order last photons are now last_is now_is =

@@ -1,4 +1,4 @@
--- What all bytes behind a header write of the photons that are chosen.
+-- What all bytes after a header write of the photons that are chosen.
 use Rattle.std.{specs.Prelude.{ℕ, ◌≡◌, Bool, List, [], map, Result, Ok, Err}, specs.List.filter, specs.declared.option.Option.Option}
 use Rattle.tally_base.{specs.declared.event.Event.Event, specs.declared.fault.Fault.Fault, specs.declared.header.Mode.Mode, specs.Faults.fault_in}
 use Rattle.ptu_definitions.{specs.declared.records.Summary.Summary, specs.Prefixes.first, specs.Settled.kept_by, specs.Streams.{StreamSettings, streamed}, specs.Times.events, specs.Words.words_of}
@@ -27,12 +27,12 @@ end_text chooses how bytes = bytes_in (picked_words how.mode (writable how.mode 
 abbrev pub end_fault : (Event → Bool) → StreamSettings → List ℕ → Option Fault
 end_fault chooses how bytes = late_or (first (too_late how.mode (photons_of chooses how bytes))) (fault_in (streamed how bytes))
 
--- What the end of the bytes wrote behind what their words wrote while more might come, by the answer.
+-- What the end of the bytes wrote after what their words wrote while more might come, by the answer.
 abbrev pub WritesEnd : (Event → Bool) → StreamSettings → Option (List ℕ) → Option (List ℕ) → ℕ → ℕ → List ℕ → Result (Unit {0}) Fault → Type 0
 WritesEnd chooses how old new before after bytes result =
     WritesText (text_in chooses how (words_of bytes)) (end_text chooses how bytes) (end_fault chooses how bytes) old new before after result
 
--- The photons that are chosen can be written: all of the kept list where none of them is too late, and always those before the first that is, of all bytes behind a header and of what words settle while more may come.
+-- The photons that are chosen can be written: all of the kept list where none of them is too late, and always those before the first that is, of all bytes after a header and of what words settle while more may come.
 pub record CanBeWritten (mode : Mode) (chooses : Event → Bool) (how : StreamSettings) : Type 0 where
   pub kept : (words : List ℕ) → too_late mode (photons_kept chooses how words) ≡ [] → CanBePicked mode (photons_kept chooses how words)
   pub written : (bytes : List ℕ) → CanBePicked mode (writable mode (photons_of chooses how bytes))

@@ -17,7 +17,7 @@ pub record Pen : Type 0 where
 abbrev pub pen : Picker → Option (List ℕ) → List ℕ → ℕ → Pen
 pen picker written held faults = record { picker = picker; written = written; held = held; faults = faults }
 
--- the words of photons behind others
+-- the words of photons after others
 abbrev pub words_behind : Pen → List Event → List Event → List ℕ
 words_behind p behind photons = each_after (photon_words (mode_of p.picker)) behind photons
 
@@ -111,7 +111,7 @@ stand chooses picker mode taken floor sink written held fault = record {
 abbrev pub chosen_of : Stand → Marked → List Event
 chosen_of s l = filter s.chooses (not_marked l)
 
--- The words of these photons behind others were put.
+-- The words of these photons after others were put.
 abbrev pub PutsPhotons : Stand → Stand → List Event → List Event → Type 0
 PutsPhotons s t behind photons = PutsWords s.written t.written s.held t.held (each_after (photon_words s.mode) behind photons)
 

@@ -14,7 +14,7 @@ writable mode (e ∷ es) = if is_too_late mode e.time then [] else e ∷ writabl
 
 -- The photons before the first that is too late to be written.
 
--- They are the first of these photons, none of them is too late, and behind them is nothing, or first one that is.
+-- They are the first of these photons, none of them is too late, and after them is nothing, or first one that is.
 pub record AreBeforeLate (mode : Mode) (front photons : List Event) : Type 0 where
   pub behind : List Event
   pub parts : photons ≡ front ++ behind

@@ -8,7 +8,7 @@ ghost use Rattle.photon_pick.{specs.Chosen.is_chosen, specs.Ends.CanBeWritten, s
 /// The photons of a group in the kept list of any words can be written where none of them is too late:
 /// they fit the mode of the record type, and their times never fall, whether late events are left out or
 /// put in their places. Those before the first that is too late can be written always: of all bytes
-/// behind a header, refused or not, and of what words settle while more may come. These are all photons
+/// after a header, refused or not, and of what words settle while more may come. These are all photons
 /// that are ever written.
 pub fn kept_photons_can_be_written()
     ensures { (record_type : RecordType) (policy : Policy) (sorting : Sorting) (group : ℕ)

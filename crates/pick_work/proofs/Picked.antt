@@ -1,4 +1,4 @@
--- A text that stands behind another one.
+-- A text that stands after another one.
 use Rattle.std.{proofs.Common.{◌≡◌, ◌∙◌, ℕ, Bool, List, [], ◌++◌, None, Ok, Err, sym, ap, append_assoc, append-nil, inl, inr, Result, arith, rules}, specs.declared.option.Option.{Option}}
 use Rattle.tally_base.{specs.declared.event.Event.Event, specs.declared.fault.Fault.Fault, specs.declared.header.Header.Header, specs.RecordTypes.mode_of}
 use Rattle.streamed_text.specs.Texts.{WroteText, CutText, WritesText}

@@ -18,7 +18,7 @@ no_group group plan = if nat_le 1 group && nat_le group (length plan.groups) the
 abbrev pub chosen_by : PlanView → ℕ → Event → Bool
 chosen_by plan group = is_chosen (sorting plan) group
 
--- a file of the photons that are chosen, written as they are read: their words behind the header, and why they are refused
+-- a file of the photons that are chosen, written as they are read: their words after the header, and why they are refused
 abbrev pub picks : (Event → Bool) → StreamSettings → Telling
 picks chooses how = record {
   text = λ bytes. short_header how.mode ++ text_in chooses how (words_of bytes);

@@ -43,7 +43,7 @@ are_short d all =
 abbrev limit_of : TableList → List ℕ × ℕ
 limit_of list = (list.key, list.most)
 
--- the tables of all kinds, one kind behind the other
+-- the tables of all kinds, one kind after the other
 all_keep : (kinds : List Kind) (d : Data) → AllByRecursion (KeepsFew d) kinds → AreShort (map limit_of (map list_of_kind kinds)) d
     → sum_by entries (flat_map (λ kind. filter_map (kind.read d) (tables kind d)) kinds) ≤ sum_by most_entries kinds
 all_keep [] d few short = omega arith

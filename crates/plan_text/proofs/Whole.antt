@@ -78,7 +78,7 @@ kinds_whole : (kinds : List Kind) (d : Data) → AllByRecursion (Holds d) (map l
 kinds_whole [] d all = refl
 kinds_whole (kind ∷ kinds) d all = search (rules, arith, map-append, kind_whole, kinds_whole kinds d all.1)
 
--- going through the rules of lists one behind the other
+-- going through the rules of lists one after the other
 pub kept_by_lists : (lists : List TableList) (d : Data) → all_kept (flat_map (λ list. list.rules d) lists) ≡ lists_kept lists d
 kept_by_lists [] d = refl
 kept_by_lists (list ∷ lists) d = search (rules, arith, all_kept_after, kept_by_lists lists d)

@@ -35,7 +35,7 @@ shift_of _ _ = None
 unfoldable pub shift : ℕ → ℕ → Data → Option ShiftView
 shift period low set = shift_of (number_in low 64 (get (codes "input") set)) (number_in 0 (period - 1) (get (codes "shift") set))
 
--- the least input behind a shift
+-- the least input after a shift
 abbrev pub input_behind : Option ShiftView → ℕ
 input_behind (Some set) = set.input + 1
 input_behind None = 0
@@ -53,7 +53,7 @@ all_shifts d = shifts_from (period_or_one d) 0 (shifts d)
 unfoldable pub has_shift_keys : Data → Bool
 has_shift_keys = has_keys (codes "input" ∷ codes "shift" ∷ []) []
 
--- the rules on the period and the shifts, and behind them the one on settling
+-- the rules on the period and the shifts, and after them the one on settling
 unfoldable pub shift_rules : Data → List Rule
 shift_rules d =
     whole 23 (is_some (period d))

@@ -68,7 +68,7 @@ fn known_keys(second: bool) -> ArrayVec<&'static str, 64>
     keys
 }
 
-/// Puts these keys behind others, and that of each list that version 2 added, or of each that it did not.
+/// Puts these keys after others, and that of each list that version 2 added, or of each that it did not.
 fn put_keys(own: &[&'static str], added: bool, keys: &mut ArrayVec<&'static str, 64>)
     requires room { length keys.old.items + length own.now + length lists ≤ 64 }
     ensures few { length keys.new.items ≤ length keys.old.items + length own.now + length lists }

@@ -26,7 +26,7 @@ pub const TEXT_LIMIT: usize = 65_536;
 /// - with `PlanSyntax`, where the bytes are no TOML document;
 /// - with `PlanRule`, where a rule is broken: the least such rule, and under it the least index;
 ///
-/// and with `OutOfMemory`, where memory for a document that is not too long is wanting.
+/// and with `OutOfMemory`, where there is not enough memory for a document that is not too long.
 pub fn read_plan(alloc: Global, bytes: &[u8]) -> Result<Plan, Fault>
     ensures answer { result ≢ Err Fault.OutOfMemory → plan_seen result ≡ plan_answer bytes.now }
     ensures refused { IfErr result (IsCalledFor bytes.now) }
@@ -80,7 +80,7 @@ fn read_document(alloc: Global, bytes: &[u8]) -> Result<Value, Fault>
     }
 }
 
-/// Goes through all rules in their order, and reads the tables of each list behind the rules on it.
+/// Goes through all rules in their order, and reads the tables of each list after the rules on it.
 #[tactic(auto, using(crate::proofs::Whole::plan_kept), unfolding(crate::specs::Plan::plan))]
 fn plan_of(document: &Value) -> Result<Plan, Fault>
     ensures kept { OnOk result (all_kept (plan_rules (view document.now)) ≡ Ok tt) }

@@ -104,7 +104,7 @@ ok-answered does after old new err faults (inr some) =
     files-map does after (λ (end : Outcome). EndsWith end None old new) (λ (end : Outcome). EndsBy end 0 old new err err faults faults)
     (λ end ends. (ap status ends.same, ends.text, subst (λ (o : Option Fault). TellsFault err err faults faults o) ends.same (Keeps-from_none err err (Appends-nil err), refl))) some
 
--- ## Nothing but memory is wanting
+-- ## Nothing but memory runs out
 
 -- only want of memory is left
 only_memory : (opening reading : Slot → Type 0) (writing memory : Type 0) (fault : Fault) → is_outside fault ≡ true

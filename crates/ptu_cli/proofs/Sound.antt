@@ -49,7 +49,7 @@ streamed-read : (how : StreamSettings) (behind : List ℕ) → AreRead how behin
 unfolding streamed
 streamed-read how behind h = rw (h.unrefused, h.whole) refl
 
--- an end behind a header that a plan suits
+-- an end after a header that a plan suits
 planned-bytes : (view : PlanView) (tells : Header → Telling) → ((header : Header) (behind : List ℕ) → status ((tells header).ends behind).fault ≢ 1)
     → (file : List ℕ) → status (headed_end (if_suited view tells) (header_answer file)).fault ≢ 1
 planned-bytes view tells own = headed-bytes (headed_end (if_suited view tells))

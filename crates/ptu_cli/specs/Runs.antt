@@ -6,7 +6,7 @@ use Rattle.command_words.specs.Commands.{Request}
 use Rattle.ptu_cli.specs.Behaviours.{behaviour}
 use Rattle.command_work.{specs.Outcomes.{InputsOnce, OutOnce, Outcome, status}, specs.Endings.{HasPlan, AreItsFiles, ForItsFiles, ToldAreIts, TellsFault, EndsBy, FailsOpening, FailsReading, CutsOutcome, RunsOut, Asks, LacksMemory, NoneRose, IsGood}}
 
--- The states before a run and behind it: of the inputs, of standard output and of standard error, each with the count of its failed writes.
+-- The states before a run and after it: of the inputs, of standard output and of standard error, each with the count of its failed writes.
 pub record Around : Type 0 where
   pub before : InputState
   pub after : InputState
@@ -52,7 +52,7 @@ NothingFailed run = NoneRose run.before run.after × ¬ (Rose run.out_faults_bef
 
 -- The promise of the whole program.
 pub record Runs (request : Option Request) (run : Around) (result : ℕ) : Type 0 where
-  -- Where nothing outside failed, it ends as its files call for: all that may be them by what the calls gave, whatever stands behind.
+  -- Where nothing outside failed, it ends as its files call for: all that may be them by what the calls gave, whatever stands after.
   pub answered : (2 ≤ result → 5 < result) → ForItsFiles (behaviour request) run.after (λ end. EndsIn run result end)
   -- The status is 0, or that of one fault, whose line is told. With 0 nothing is told.
   pub told : (fault : Option Fault) × (result ≡ status fault) × TellsOn run fault
@@ -68,7 +68,7 @@ pub record Runs (request : Option Request) (run : Around) (result : ℕ) : Type 
   pub memory : result ≡ 5 → RunsOut (behaviour request) (HasPlan run.after) run.after run.out_before run.out_after × TellsOn run (Some OutOfMemory)
   -- What it asked for and took, whatever its status is.
   pub asks : Asks (behaviour request) (HasPlan run.after) run.before run.after
-  -- It does not go on behind a call that failed: with status 0 no count of the inputs and of standard output moved, and else none but the one of the fault whose line is told, by one.
+  -- It does not go on after a call that failed: with status 0 no count of the inputs and of standard output moved, and else none but the one of the fault whose line is told, by one.
   pub once : (fault : Option Fault) × (result ≡ status fault) × TellsOn run fault × MovesOnly run fault
   -- Where no count of the inputs and of standard output rose, it ends as its files call for or for want of memory, and well where they are good.
   pub complete : NothingFailed run → LacksMemory (behaviour request) result ⊎ ForItsFiles (behaviour request) run.after (λ end. result ≡ status end.fault)

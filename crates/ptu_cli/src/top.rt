@@ -67,7 +67,7 @@ pub fn tell<E: Sink>(fault: &Fault, err: &mut E)
 }
 
 /// Does all that the program does, and answers its exit status: 0, or that of the one fault whose
-/// line is written to `err`. The words are those behind the program's name.
+/// line is written to `err`. The words are those after the program's name.
 ///
 /// What a command does is told by its shape (`behaviour`): `demo` stands alone, `count`, `header`
 /// and `events` are on FILE, and `run`, `trace` and `pick` are by a plan. `outcome` is the end that the contents of PLAN
@@ -77,7 +77,7 @@ pub fn tell<E: Sink>(fault: &Fault, err: &mut E)
 /// |---|---|---|---|---|
 /// | 0 | never | all is written | all is written | all is written |
 /// | 1 | always | never | never | never |
-/// | 2 | never | never | FILE is not opened | PLAN is not opened, or FILE behind a plan |
+/// | 2 | never | never | FILE is not opened | PLAN is not opened, or FILE after a plan |
 /// | 3 | never | never | a read of FILE fails | a read of PLAN fails, or one of FILE |
 /// | 4 | never | a write fails | a write fails | a write fails |
 /// | 5 | never | nothing is written | never | before FILE is asked for, or at its header |
@@ -89,7 +89,7 @@ pub fn tell<E: Sink>(fault: &Fault, err: &mut E)
 /// | 24 | never | never | never | a photon is too late to be written |
 ///
 /// 5 stands for want of memory. It may come only where the command takes memory: before PLAN is
-/// asked for, behind a whole plan, or behind a header that a plan with a table suits. That memory
+/// asked for, after a whole plan, or after a header that a plan with a table suits. That memory
 /// was refused is not said.
 ///
 /// After 2 and 5 nothing is written. After 3 nothing is, or, where the text is written while FILE
@@ -122,7 +122,7 @@ pub fn ptu_main<I: Inputs, O: Sink, E: Sink>(
     }
 }
 
-/// Words that can't be had are a bad command line, unless memory was wanting.
+/// Words that can't be had are a bad command line, unless memory ran out.
 fn fault_of(kind: ErrorKind) -> Fault
     ensures { result ≡ fault_of_kind kind }
 {
@@ -132,7 +132,7 @@ fn fault_of(kind: ErrorKind) -> Fault
     }
 }
 
-/// The words behind the first, in order.
+/// The words after the first, in order.
 fn behind_first(alloc: Global, mut args: Args) -> Result<Vec<String>, Fault>
     ensures words { IfOk result (λ line. line.items ≡ drop 1 (into_iter_items args)) }
     ensures memory { IfErr result (λ fault. fault ≡ OutOfMemory) }
@@ -147,7 +147,7 @@ fn behind_first(alloc: Global, mut args: Args) -> Result<Vec<String>, Fault>
     Ok(line)
 }
 
-/// The words behind the program's name, in order. Where the system's words can't be had it is refused
+/// The words after the program's name, in order. Where the system's words can't be had it is refused
 /// with `OutOfMemory` if that is the kind of the error, and else, as for a word that is not UTF-8, with
 /// `Usage`; where there is no memory for the words, with `OutOfMemory`.
 pub fn words_behind_name(alloc: Global, args: io::Result<Args>) -> Result<Vec<String>, Fault>
@@ -162,7 +162,7 @@ pub fn words_behind_name(alloc: Global, args: io::Result<Args>) -> Result<Vec<St
     }
 }
 
-/// Does all that the program does behind its words, and answers the exit status: that of the run which
+/// Does all that the program does after its words, and answers the exit status: that of the run which
 /// the words ask for, or that of the fault for which there are none, whose line is written to `err`.
 pub fn exit_of<I: Inputs, O: Sink, E: Sink>(
     alloc: Global,

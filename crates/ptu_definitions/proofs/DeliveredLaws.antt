@@ -127,7 +127,7 @@ put_in-front (suc n) u e (x ∷ xs) up few = elim (cases_lt e.time x.time) [
       ap (take (suc n)) (put_in-append e (x ∷ []) xs (passes, tt)) ∙ ap (λ l. x ∷ l) (put_in-front n x.time e xs up.1 behind)
 ]
 
--- What was settled stays so when one event more comes, and what is delivered with it is settled behind.
+-- What was settled stays so when one event more comes, and what is delivered with it is settled after.
 settled-front : (k : ℕ) (es : List Event) (e : Event) → is_overtaken k es e ≡ false
     → without_last k (in_time k es) ++ drop (length (without_last k (in_time k es))) (without_last k (in_time k (es ++ e ∷ [])))
     ≡ without_last k (in_time k (es ++ e ∷ []))
@@ -223,7 +223,7 @@ settled_by-0 mode es = take_all (length (kept mode es) - 0) (kept mode es) (omeg
 
 -- A list that grows.
 
--- what events behind others add to what is delivered
+-- what events after others add to what is delivered
 abbrev pub delivered_after : ℕ → Mode → List Event → List Event → Marked
 delivered_after k mode before es = cond (k == 0) (each_after (mark mode) before es) (each_after (settles k) (ordered mode before) (ordered mode es))
 

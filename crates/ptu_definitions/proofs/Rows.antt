@@ -88,7 +88,7 @@ pub rows :
     -- A Header_End whose body is cut doesn't end the list.
     × (header_answer (start_bytes ++ type_item ++ tag (codes "Header_End") (255 ∷ 255 ∷ 1 ∷ 64 ∷ []) (2 ∷ replicate 7 0) ++ codes "o")
     ≡ Err (TruncatedHeader 113))
-    -- What stands behind the first NUL of an identifier isn't compared.
+    -- What stands after the first NUL of an identifier isn't compared.
     × (header_answer (start_bytes ++ tag (codes "TTResultFormat_TTTRRecType" ++ 0 ∷ codes "more") (8 ∷ 0 ∷ 0 ∷ 16 ∷ []) (4 ∷ 3 ∷ 1 ∷ 1 ∷ replicate 4 0) ++ tag
     (codes "Header_End" ++ 0 ∷ codes "x") (8 ∷ 0 ∷ 255 ∷ 255 ∷ []) (replicate 8 0))
     ≡ Ok (record { record_type = HydraHarp2T3; count = None; global = None; resolution = None; version = version_bytes }, []))

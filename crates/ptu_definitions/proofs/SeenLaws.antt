@@ -3,7 +3,7 @@ use Rattle.std.{proofs.Common.{min, subst, ◌+◌, ◌≡◌, ◌≢◌, ◌-�
 use Rattle.tally_base.{specs.declared.fault.Fault.Fault, specs.declared.fault.Fault.TheVariants.TruncatedHeader, specs.declared.header.Header.Header}
 use Rattle.ptu_definitions.{specs.declared.found.Found.Found, specs.TagList.{is_end, Item, bytes_of}, specs.Endings.{Ending, OtherFile, BadType, BadLength, Whole, Open, HasTag, IsOtherFile, EndsAs, ending}, specs.Fields.{found_in, header_of, version_in}, specs.Headers.{header_answer, head_of, answer_as, with_rest, unfinished, Shows, seen_from, seen, seen_preamble, begun, IsLongestFront, HasNoFront}, proofs.Walks.{is_less, tag_long, take_front, drop_front}, proofs.Sound.{ending-applies, Few, Other, Preamble, start_of, Stuck, Part, Unknown, Negative, Cut, starts, start_front}, proofs.AnswerLemmas.{head-front, answer-open, front-push, front-header}, proofs.SeenLemmas.{seen_from-short, seen_from-part, seen_from-unknown, seen_from-negative, seen-front, seen-short, seen-other, seen-unknown, seen-negative, seen-header, seen_preamble-short, seen_preamble-other, seen_preamble-front, seen_preamble-header}}
 
--- no whole item stands behind the longest front
+-- no whole item stands after the longest front
 longest_stuck : (bytes start : List ℕ) (items : List Item) (front rest : List ℕ) → IsLongestFront bytes start items front rest → Stuck rest
 longest_stuck bytes start items front rest h = elim (starts rest) [
   | inr stuck ↦ stuck
@@ -46,7 +46,7 @@ seen-none bytes none = elim (start_of bytes) [
   | Preamble p ↦ absurd (none (take 16 bytes) [] (take 16 bytes) (drop 16 bytes) (start_front (take 16 bytes) p) (sym (take-append-drop 16 bytes)))
 ]
 
--- bytes that are settled show the same with more behind
+-- bytes that are settled show the same with more after
 abbrev ShowsAll : List ℕ → List ℕ → Type 0
 ShowsAll bytes more = (seen_preamble (bytes ++ more) ≡ seen_preamble bytes) × (seen (bytes ++ more) ≡ seen bytes)
 
@@ -56,7 +56,7 @@ other-append bytes more h = search (rules, arith, length-append, take-append-le)
 pub behind_tag : (front tag rest more : List ℕ) → (front ++ (tag ++ rest)) ++ more ≡ front ++ (tag ++ (rest ++ more))
 behind_tag front tag rest more = append_assoc front (tag ++ rest) more ∙ ap (λ l. front ++ l) (append_assoc tag rest more)
 
--- where the same is shown of a tag with any bytes behind it
+-- where the same is shown of a tag with any bytes after it
 tag-shows : (bytes more : List ℕ) (number : ℕ) (tag : List ℕ) (h : HasTag bytes number tag)
     → ((rest : List ℕ) → seen (h.front ++ (tag ++ rest)) ≡ h.items) → ShowsAll bytes more
 tag-shows bytes more number tag h same = search (rules, arith, behind_tag, seen_preamble-front)

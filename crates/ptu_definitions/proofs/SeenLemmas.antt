@@ -119,7 +119,7 @@ seen-negative start items front tag rest h size known negative =
     let at = seen-front start items front (tag ++ rest) h in
     at.2 ∙ ap (λ l. items ++ l) (seen_from-negative at.0 tag rest size known negative) ∙ append-nil items
 
--- a header and what stands behind it, as a front and what stands behind that
+-- a header and what stands after it, as a front and what stands after that
 pub header_bytes : (start : List ℕ) (inner : List Item) (last : Item) (header rest : List ℕ)
     → IsHeader start inner last header → header ++ rest ≡ (start ++ bytes_of inner) ++ ((last.tag ++ last.body) ++ rest)
 header_bytes start inner last header rest h = ap (λ l. l ++ rest) h.bytes ∙ append_assoc (start ++ bytes_of inner) (last.tag ++ last.body) rest

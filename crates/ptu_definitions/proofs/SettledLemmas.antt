@@ -42,7 +42,7 @@ pub Rises-lower : (t u : ℕ) (xs : List Event) → u ≤ t → Rises t xs → R
 Rises-lower t u [] h up = tt
 Rises-lower t u (x ∷ xs) h up = (omega (arith, up.0), up.1)
 
--- an event comes behind all that are no later
+-- an event comes after all that are no later
 pass-pick : (b : Bool) (e x : Event) (xs ys zs : List Event) → nat_lt e.time x.time ≡ b → x.time ≤ e.time → zs ≡ ys → cond b (e ∷ x ∷ xs) (x ∷ zs) ≡ x ∷ ys
 pass-pick b e x xs ys zs is le same = search (rules, arith, ltb-true)
 
@@ -113,7 +113,7 @@ Rises-IsNonDecreasingBy t (x ∷ xs) up low =
 first-pick : (b : Bool) (e x : Event) (xs : List Event) → nat_lt e.time x.time ≡ b → e.time < x.time → cond b (e ∷ x ∷ xs) (x ∷ put_in e xs) ≡ e ∷ x ∷ xs
 first-pick b e x xs is lt = search (rules, arith, ltb-false)
 
--- an insert behind all that are no later
+-- an insert after all that are no later
 pub insert-put_in : (e : Event) (xs : List Event) (at : ℕ) → at ≤ length xs → AllWithin (λ (x : Event). x.time ≤ e.time) xs 0 at
     → AllWithin (λ (x : Event). e.time < x.time) xs at (length xs) → insert xs at e ≡ put_in e xs
 insert-put_in e [] zero h before after = refl
@@ -127,7 +127,7 @@ insert-put_in e (x ∷ xs) (suc at) h before after =
 pub put_in-rising : (e : Event) (xs : List Event) → IsNonDecreasingBy (λ (x : Event). x.time) xs → IsNonDecreasingBy (λ (x : Event). x.time) (put_in e xs)
 put_in-rising e xs up = IsNonDecreasingBy-Rises 0 (put_in e xs) (Rises-put_in 0 e xs (omega arith) (Rises-IsNonDecreasingBy 0 xs up (λ d h. omega arith)))
 
--- an event that goes behind the first, where the first is taken out
+-- an event that goes after the first, where the first is taken out
 pub insert-rest : (e : Event) (xs : List Event) (at : ℕ) (x : Event) → 0 < at → at ≤ length xs → x ≡ get_or xs 0 x → AllWithin (λ (x : Event). x.time ≤ e.time) xs 0 at → AllWithin (λ (x : Event). e.time < x.time) xs at (length xs) → x ∷ insert (remove xs 0) (at - 1) e ≡ put_in e xs
 insert-rest e [] at x pos h is before after = absurd (omega arith)
 insert-rest e (y ∷ xs) zero x pos h is before after = absurd (omega arith)

@@ -1,4 +1,4 @@
--- More bytes behind a file change its header's answer only where the header is cut.
+-- More bytes after a file change its header's answer only where the header is cut.
 use Rattle.std.{proofs.Common.{subst, ◌+◌, ◌≡◌, ◌≢◌, ◌-◌, ◌≤◌, ◌^◌, ℕ, List, [], ◌++◌, length, take, drop, refl, sym, ap, ◌∙◌, append_assoc, append-nil, arith, length-append, inl, inr, Ok, Err, Result, rules}, proofs.lemmas.List.{length-take, take-append-le, drop-append-le, take_all, length-drop}, proofs.lemmas.Bool.cases_lt}
 use Rattle.tally_base.{specs.declared.fault.Fault.Fault, specs.declared.fault.Fault.TheVariants.TruncatedHeader, specs.declared.header.Header.Header}
 use Rattle.ptu_definitions.{specs.TagList.{Item, bytes_of}, specs.Endings.{Ending, OtherFile, BadType, BadLength, Whole, Open, HasTag, HasHeader, IsOpen, EndsAs, ending}, specs.Fields.{found_in, header_of, version_in}, specs.Headers.{header_answer, head_of, answer_as, with_rest, unfinished}, proofs.Sound.{ending-applies, ending-one}, proofs.AnswerLemmas.{head-front, answer-open, answer-at, bytes_of-append}, proofs.SeenLaws.{other-append, behind_tag, refusal, err_is}}
@@ -11,11 +11,11 @@ with_more more (Err fault) = Err fault
 with_rest-more : (rest more : List ℕ) (r : Result Header Fault) → with_rest (rest ++ more) r ≡ with_more more (with_rest rest r)
 with_rest-more rest more r = search (rules, arith)
 
--- A tag that stands behind a front stands there whatever comes behind.
+-- A tag that stands after a front stands there whatever comes after.
 tag-more : (bytes more : List ℕ) (number : ℕ) (tag : List ℕ) → HasTag bytes number tag → HasTag (bytes ++ more) number tag
 tag-more bytes more number tag h = search (rules, arith, behind_tag)
 
--- Of the ways in which a tag list can end each but the last stays with more bytes behind.
+-- Of the ways in which a tag list can end each but the last stays with more bytes after.
 ends-more : (bytes more : List ℕ) (end : Ending) → EndsAs bytes end → (end ≡ Open → more ≡ []) → EndsAs (bytes ++ more) end
 ends-more bytes more OtherFile h whole = other-append bytes more h
 ends-more bytes more (BadType number code) h whole = search (rules, arith, tag-more)
@@ -43,7 +43,7 @@ answer-more file more (Whole items) h whole =
     ∙ with_rest-more (drop size file) more (header_of (version_in file) (found_in items))
 answer-more file more Open h whole = ap (λ n. refusal (unfinished n)) (whole refl)
 
--- where the first bytes of a longer file are those of the file and some of what comes behind
+-- where the first bytes of a longer file are those of the file and some of what comes after
 stays : (file more tail : List ℕ) → head_of (file ++ more) ≡ head_of file ++ tail
     → (ending (head_of file) ≡ Open → tail ≡ []) → header_answer (file ++ more) ≡ with_more more (header_answer file)
 unfolding header_answer

@@ -19,12 +19,12 @@ pub greatest-push : (mode : Mode) (es : List Event) (e : Event) → greatest mod
 greatest-push mode [] e = omega arith
 greatest-push mode (x ∷ es) e = rw (greatest-push mode es e) (omega arith)
 
--- what words behind others add to what is delivered
+-- what words after others add to what is delivered
 pub events_in-append : (how : StreamSettings) (ws more : List ℕ) → events_in how (ws ++ more) ≡ events_in how ws ++ delivered_after how.policy.settle how.mode (events (map how.meaning ws)) (each_after event_after (map how.meaning ws) (map how.meaning more))
 unfolding events
 events_in-append how ws more = rw (map-append, each_after-append) (delivered-append how.policy.settle how.mode _ _)
 
--- what the word behind these adds
+-- what the word after these adds
 abbrev pub fresh : StreamSettings → List ℕ → Raw → Marked
 fresh how ws raw = delivered_after how.policy.settle how.mode (events (map how.meaning ws)) (event_after (map how.meaning ws) raw)
 
@@ -82,7 +82,7 @@ pub given-refused : (how : StreamSettings) (ws : List ℕ) (w : ℕ) (fault : Fa
 unfolding given
 given-refused how ws w fault clear some = ap (events_in how) (unrefused-upto how ws w [] fault clear some)
 
--- the words before the first refusal stay, whatever comes behind
+-- the words before the first refusal stay, whatever comes after
 unless-front : (w : ℕ) (o : Option Fault) (a b tail : List ℕ) → a ≡ b ++ tail → (more : List ℕ) × (unless_refused w a o ≡ unless_refused w b o ++ more)
 unless-front w None a b tail e = (tail, ap (λ l. w ∷ l) e)
 unless-front w (Some fault) a b tail e = ([], refl)
@@ -94,7 +94,7 @@ unrefused-front how before (w ∷ ws) more =
     let r = unrefused-front how (before ++ w ∷ []) ws more in
     unless-front w (refusal how before w) _ _ r.0 r.1
 
--- what is given stays, whatever comes behind
+-- what is given stays, whatever comes after
 pub given-front : (how : StreamSettings) (ws more : List ℕ) → (tail : Marked) × (given how (ws ++ more) ≡ given how ws ++ tail)
 unfolding given
 given-front how ws more =

@@ -16,7 +16,7 @@ pub rows :
     (record { place = 3; kind = Photon 0 0; time = 7 }, true) ∷ (record { place = 4; kind = Photon 0 0; time = 9 }, false) ∷ [])
     -- and is refused where late events stop
     × (record_refusal (how HydraHarp2T3 Stop Skip 100) (5 ∷ 9 ∷ 7 ∷ 9 ∷ []) ≡ Some (BackwardTime 3 7 9))
-    -- with the events before it given, and neither it nor those behind it
+    -- with the events before it given, and neither it nor those after it
     × (given (how HydraHarp2T3 Stop Skip 100) (5 ∷ 9 ∷ 7 ∷ 9 ∷ [])
     ≡ (record { place = 1; kind = Photon 0 0; time = 5 }, false) ∷ (record { place = 2; kind = Photon 0 0; time = 9 }, false) ∷ [])
     -- wraps of zero and of three units

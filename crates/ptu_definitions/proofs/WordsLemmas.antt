@@ -3,7 +3,7 @@ use Rattle.std.{proofs.Common.{◌≡◌, ◌/◌, ◌%◌, ◌<◌, ◌≤◌, 
 use Rattle.tally_base.{specs.declared.header.RecordType.RecordType, specs.declared.header.Mode.TheVariants.{T2, T3}, specs.RecordTypes.mode_of}
 use Rattle.ptu_definitions.{specs.Words.{word_of, words_of, rest_of, numbers}, specs.Layouts.{pico_t2, pico_t3, hydra_t2, hydra_t3, meaning_of, Fits}}
 
--- the words of bytes behind others, by what was left over of these
+-- the words of bytes after others, by what was left over of these
 pub words_of-append : (bytes piece : List ℕ) → words_of (bytes ++ piece) ≡ words_of bytes ++ words_of (rest_of bytes ++ piece)
 words_of-append [] piece = refl
 words_of-append (a ∷ []) piece = refl
@@ -61,7 +61,7 @@ numbers-chunks (a ∷ b ∷ c ∷ d ∷ more) =
     let count : length (a ∷ b ∷ c ∷ d ∷ more) / 4 ≡ suc (length more / 4) = omega arith in
     rw (count, number_of a b c d, numbers-chunks more) refl
 
--- behind the fours of `as_chunks` lies what is left over
+-- after the fours of `as_chunks` lies what is left over
 pub drop-chunks : (bytes : List ℕ) → drop (length bytes / 4 * 4) bytes ≡ rest_of bytes
 drop-chunks [] = refl
 drop-chunks (a ∷ []) = refl

@@ -2,7 +2,7 @@
 use Rattle.std.specs.Prelude.{ℕ, ◌≡◌, ◌≤◌, ◌⊎◌, List, ◌++◌, length, true, false, Some}
 use Rattle.ptu_definitions.{specs.TagList.{code_in, is_known, is_negative, body_size, Item, IsFront, GoesOn}, specs.Headers.{head_of, seen, seen_preamble}}
 
--- a preamble, items behind it, and their bytes
+-- a preamble, items after it, and their bytes
 pub record Front : Type 0 where
   pub start : List ℕ
   pub items : List Item

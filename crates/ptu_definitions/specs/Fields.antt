@@ -50,7 +50,7 @@ header_of version found = with_value version found found.record_type
 abbrev pub version_in : List ℕ → List ℕ
 version_in bytes = take 8 (drop 8 bytes)
 
--- what was found, with one more tag behind
+-- what was found, with one more tag after
 abbrev pub with_tag : Found → List ℕ → Found
 with_tag found tag = record {
   record_type = or_else found.record_type (value_under (codes "TTResultFormat_TTTRRecType") int8 tag);

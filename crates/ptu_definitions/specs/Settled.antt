@@ -21,7 +21,7 @@ unless_overtaken k before e = if is_overtaken k before e then [] else e ∷ []
 unfoldable pub not_overtaken : ℕ → List Event → List Event
 not_overtaken k es = each (unless_overtaken k) es
 
--- events in order of time and one more, which comes behind all whose time is not greater
+-- events in order of time and one more, which comes after all whose time is not greater
 abbrev pub put_in : Event → List Event → List Event
 put_in e [] = e ∷ []
 put_in e (x ∷ xs) = if nat_lt e.time x.time then e ∷ x ∷ xs else x ∷ put_in e xs
@@ -82,7 +82,7 @@ settles k before e =
     if is_overtaken k before e then (e, true) ∷ []
     else marked_as false (drop (length (without_last k (in_time k before))) (without_last k (in_time k (before ++ e ∷ []))))
 
--- What is delivered behind some first events: where k is 0 all events in file order, each with whether it is late.
+-- What is delivered after some first events: where k is 0 all events in file order, each with whether it is late.
 -- Otherwise each late event when it comes, and each other event when it is settled.
 unfoldable pub delivered : ℕ → Mode → List Event → Marked
 delivered k mode es = if k == 0 then marked mode es else each (settles k) (ordered mode es)

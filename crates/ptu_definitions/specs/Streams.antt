@@ -18,7 +18,7 @@ abbrev pub late_refusal : ℕ → Mode → List Event → List Event → Option 
 late_refusal k mode before [] = None
 late_refusal k mode before (e ∷ es) = if is_late_by k mode before e then Some (BackwardTime e.place e.time (greatest mode before)) else None
 
--- why a record is refused behind these records, by the first cause that stands
+-- why a record is refused after these records, by the first cause that stands
 abbrev pub refusal_in : StreamSettings → List Raw → Raw → ℕ → Option Fault
 refusal_in how before raw word =
     if nat_le how.policy.records (length before) then Some (RecordLimit how.policy.records)
@@ -27,7 +27,7 @@ refusal_in how before raw word =
     else if stops_late how.policy.order then late_refusal how.policy.settle how.mode (events before) (event_after before raw)
     else None
 
--- Why the word behind these is refused, or None where it is not.
+-- Why the word after these is refused, or None where it is not.
 unfoldable pub refusal : StreamSettings → List ℕ → ℕ → Option Fault
 refusal how before word = refusal_in how (map how.meaning before) (how.meaning word) word
 
@@ -48,7 +48,7 @@ abbrev pub unrefused_after : StreamSettings → List ℕ → List ℕ → List �
 unrefused_after how before [] = []
 unrefused_after how before (word ∷ more) = unless_refused word (unrefused_after how (before ++ word ∷ []) more) (refusal how before word)
 
--- What is delivered behind these words: the late events, marked, and of the others those that are settled.
+-- What is delivered after these words: the late events, marked, and of the others those that are settled.
 abbrev pub events_in : StreamSettings → List ℕ → Marked
 events_in how words = delivered how.policy.settle how.mode (events (map how.meaning words))
 
@@ -84,7 +84,7 @@ abbrev pub or_refusal : Option Fault → Result Summary Fault → Result Summary
 or_refusal None answer = answer
 or_refusal (Some fault) answer = Err fault
 
--- what the bytes behind a header answer
+-- what the bytes after a header answer
 unfoldable pub streamed : StreamSettings → List ℕ → Result Summary Fault
 streamed how bytes =
     or_refusal (record_refusal how (words_of bytes))

@@ -86,7 +86,7 @@ pub record IsHeader (start : List ℕ) (items : List Item) (last : Item) (header
   pub end : is_end last.tag ≡ true
   pub bytes : header ≡ start ++ bytes_of items ++ (last.tag ++ last.body)
 
--- A list of items and its bytes go on as another: the other has more items behind.
+-- A list of items and its bytes go on as another: the other has more items after.
 pub record GoesOn (items : List Item) (bytes : List ℕ) (more_items : List Item) (more_bytes : List ℕ) : Type 0 where
   pub more : List Item
   pub items_are : more_items ≡ items ++ more

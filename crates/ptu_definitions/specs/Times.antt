@@ -3,7 +3,7 @@ use Rattle.std.specs.Prelude.{ℕ, ◌+◌, ◌&&◌, Bool, nat_lt, List, [], �
 use Rattle.tally_base.{specs.declared.event.Event.Event, specs.declared.event.EventKind.TheVariants.Photon as PhotonEvent, specs.declared.event.EventKind.TheVariants.Marker as MarkerEvent, specs.Limits.wrap_limit}
 use Rattle.ptu_definitions.{specs.declared.records.Raw.Raw, specs.declared.records.Raw.TheVariants.{Photon, Marker, Wrap, Reserved}, specs.Kinds.is_wrap, specs.Prefixes.each}
 
--- how much later the times behind a record are
+-- how much later the times after a record are
 abbrev pub amount : Raw → ℕ
 amount (Photon input time dtime) = 0
 amount (Marker bits time) = 0
@@ -21,7 +21,7 @@ event_of place base (Marker bits time) = record { place = place; kind = MarkerEv
 event_of place base (Wrap ticks) = []
 event_of place base Reserved = []
 
--- the event of the record behind these
+-- the event of the record after these
 abbrev pub event_after : List Raw → Raw → List Event
 event_after before raw = event_of (length before + 1) (base before) raw
 
@@ -29,6 +29,6 @@ event_after before raw = event_of (length before + 1) (base before) raw
 unfoldable pub events : List Raw → List Event
 events records = each event_after records
 
--- The record behind these is a wrap that makes the base greater than 2^62 (`wrap_limit`).
+-- The record after these is a wrap that makes the base greater than 2^62 (`wrap_limit`).
 abbrev pub passes : List Raw → Raw → Bool
 passes before raw = is_wrap raw && nat_lt wrap_limit (base before + amount raw)

@@ -29,7 +29,7 @@ pub fn a_header_ends()
         → IsFrontOf front header.start header.inner }
 {}
 
-/// What bytes show: behind whole items the front of a tag shows nothing, and a tag shows as much of
+/// What bytes show: after whole items the front of a tag shows nothing, and a tag shows as much of
 /// its body as is there.
 pub fn seen_items()
     ensures tag { (start : List ℕ) (items : List Item) (front part : List ℕ)
@@ -42,7 +42,7 @@ pub fn seen_items()
 {}
 
 /// The longest front or header says what bytes show: its preamble, its items, and of the item that
-/// has begun behind a front its tag and as much of its body as is there.
+/// has begun after a front its tag and as much of its body as is there.
 pub fn seen_longest()
     ensures front { (bytes start : List ℕ) (items : List Item) (front rest : List ℕ)
         → IsLongestFront bytes start items front rest
@@ -61,7 +61,7 @@ pub fn some_longest()
         ⊎ (HasLongestFront bytes ⊎ ((items : List Item) × HasHeader bytes items)) }
 {}
 
-/// Bytes that have an answer show all that the first bytes of the file show, whatever comes behind.
+/// Bytes that have an answer show all that the first bytes of the file show, whatever comes after.
 pub fn seen_answered()
     ensures answered { (bytes more : List ℕ) → length bytes ≤ 2 ^ 24
         → ((count : ℕ) → header_answer bytes ≢ Err (Fault.TruncatedHeader count))
@@ -70,14 +70,14 @@ pub fn seen_answered()
         → Shows header_answer bytes (Err fault) → ShowsNoMore bytes more }
 {}
 
-/// No bytes show that a header is cut, since more may come behind them.
+/// No bytes show that a header is cut, since more may come after them.
 pub fn no_cut_is_shown()
     ensures { (bytes : List ℕ) (count : ℕ)
         → Shows header_answer bytes (Err (Fault.TruncatedHeader count)) → ⊥ }
 {}
 
-/// Bytes behind a file leave its header's answer, unless it is that the header is cut: a refusal stays,
-/// and so does a header, with these bytes behind it.
+/// Bytes after a file leave its header's answer, unless it is that the header is cut: a refusal stays,
+/// and so does a header, with these bytes after it.
 pub fn an_answer_stays()
     ensures refused { (file more : List ℕ) (fault : Fault) → header_answer file ≡ Err fault
         → ((count : ℕ) → fault ≢ Fault.TruncatedHeader count)
@@ -89,7 +89,7 @@ pub fn an_answer_stays()
 
 /// A stream is refused for its least record that is refused, and for that record whenever there is
 /// one. What is given is what the records before it deliver, and where none is refused what all records
-/// do. Whatever comes behind a refused record changes neither the refusal nor what is given.
+/// do. Whatever comes after a refused record changes neither the refusal nor what is given.
 pub fn first_refusal()
     ensures first { (how : StreamSettings) (words : List ℕ) (fault : Fault)
         → record_refusal how words ≡ Some fault → IsFirst how fault [] words }
@@ -153,7 +153,7 @@ pub fn kept_list_of_zero()
     ensures rest { (mode : Mode) (events : List Event) → delivered_last 0 mode events ≡ [] }
 {}
 
-/// What is delivered behind some first events: of the events that aren't late the settled list, which
+/// What is delivered after some first events: of the events that aren't late the settled list, which
 /// the rest that is delivered at the end makes the kept list, and the late events in file order.
 pub fn delivered_once()
     ensures settled { (k : ℕ) (mode : Mode) (events : List Event)

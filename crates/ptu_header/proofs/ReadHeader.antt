@@ -103,7 +103,7 @@ pub body-more : (left fewer : ℕ) (last : Bool) (tags : ℕ) (found : Found) (v
     → InBody left last tags found version bytes → length p + fewer ≡ left → InBody fewer last tags found version (bytes ++ p)
 body-more left fewer last tags found version bytes p h e = search (rules, arith, append_assoc, length-append)
 
--- behind a tag or a piece of its body
+-- after a tag or a piece of its body
 pub after-reads : (left : ℕ) (last : Bool) (taken tags : ℕ) (found : Found) (version bytes : List ℕ)
     → InBody left last tags found version bytes → taken ≡ length bytes → Reads (phase_after left last) [] taken tags found version bytes
 after-reads zero true taken tags found version bytes h size =

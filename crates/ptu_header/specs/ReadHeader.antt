@@ -12,7 +12,7 @@ pub record InPreamble (carried bytes : List ℕ) : Type 0 where
   pub short : length carried < 16
   pub magic : 6 ≤ length carried → take 6 carried ≡ codes "PQTTTR"
 
--- a front, and what is carried behind it
+-- a front, and what is carried after it
 pub record InTag (carried : List ℕ) (tags : ℕ) (found : Found) (version bytes : List ℕ) : Type 0 where
   pub start : List ℕ
   pub items : List Item
@@ -78,7 +78,7 @@ goes_on (Phases.Refused fault) = false
 abbrev pub is_open : HeaderReader → Bool
 is_open reader = goes_on reader.phase && nat_lt reader.taken (2 ^ 24)
 
--- The tag stands at the end of the bytes, behind a front.
+-- The tag stands at the end of the bytes, after a front.
 pub record EndsInTag (bytes tag : List ℕ) : Type 0 where
   pub start : List ℕ
   pub items : List Item
@@ -89,7 +89,7 @@ pub record EndsInTag (bytes tag : List ℕ) : Type 0 where
   pub positive : is_negative tag ≡ false
   pub bytes_are : bytes ≡ front ++ tag
 
--- The piece is a part of a body that goes on behind the bytes, and its end where `last`.
+-- The piece is a part of a body that goes on after the bytes, and its end where `last`.
 pub record EndsInBody (bytes piece : List ℕ) (last : Bool) : Type 0 where
   pub items : List Item
   pub tag : List ℕ

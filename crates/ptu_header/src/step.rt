@@ -3,7 +3,7 @@ use ptu_tag::{TagHead, TagKind};
 use tally_base::{Fault, Header};
 
 /// One step through a header. But for More and Refused, a step took `used` bytes from the front of the
-/// piece. The caller feeds what is behind them next, which may be nothing.
+/// piece. The caller feeds what is after them next, which may be nothing.
 #[derive(Clone, Copy)]
 pub enum HeaderStep {
     /// Took the whole piece, and completed neither the preamble nor a tag. The header goes on.

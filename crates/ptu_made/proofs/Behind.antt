@@ -1,4 +1,4 @@
--- The words behind one more photon.
+-- The words after one more photon.
 use Rattle.std.{proofs.Common.{◌≡◌, ◌+◌, ◌<◌, ℕ, List, [], ◌∷◌, ◌++◌, refl, arith, rules, ◌-◌, ◌≤◌, length, take, drop, sym, ap, ◌∙◌, append_assoc, slice_range}, proofs.lemmas.List.Sums.sum_by-cons, proofs.lemmas.List.{length-take, take-take, drop-append-le, drop-drop}, proofs.lemmas.Slice.{take-put_mid, between_is}, proofs.Math.Seq.{take-add, take-append-add}}
 use Rattle.ptu_definitions.specs.Prefixes.{each_after, each}
 use Rattle.ptu_made.specs.Generator.{next_state, states, gap, channel, last_time, photon_words, words_behind}
@@ -60,7 +60,7 @@ held-split next end count held fits =
     rw (whole, part) (take-add count (end - (next + count)) (drop next held)
     ∙ ap (λ l. take count (drop next held) ++ take (end - (next + count)) l) (drop-drop count next held))
 
--- the first bytes with those that were read behind them
+-- the first bytes with those that were read after them
 read_behind : (filled k count : ℕ) (into new : List ℕ) → filled ≤ length into → count ≤ length new
     → take (filled + count) (put_mid filled k into new) ≡ take filled into ++ take count new
 read_behind filled k count into new fits few =

@@ -59,7 +59,7 @@ words-bytes words h = (words_of-bytes_in words (small words h), rest_of-bytes_in
 abbrev photon : Giving Timed
 photon before time number = record { kind = PhotonEvent (number + 1) 0; time = time } ∷ []
 
--- the events behind these records
+-- the events after these records
 abbrev events_after : List Raw → List ℕ → List Timed
 events_after before words = map timed (each_after event_after before (map (hydra_t2 false) words))
 

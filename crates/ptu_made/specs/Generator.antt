@@ -6,11 +6,11 @@ use Rattle.ptu_definitions.specs.Prefixes.{each}
 abbrev pub photon_limit : ℕ
 photon_limit = 10000000
 
--- the state of the generator behind another
+-- the state of the generator after another
 abbrev pub next_state : ℕ → ℕ
 next_state state = (state * 6364136223846793005 + 1442695040888963407) % 2 ^ 64
 
--- so many states, the first of them behind the seed
+-- so many states, the first of them after the seed
 unfoldable pub states : ℕ → ℕ → List ℕ
 states zero seed = []
 states (suc count) seed = next_state seed ∷ states count (next_state seed)
@@ -19,7 +19,7 @@ states (suc count) seed = next_state seed ∷ states count (next_state seed)
 abbrev pub drawn : ℕ → ℕ
 drawn state = state / 2 ^ 33
 
--- how many ticks the photon of a state comes behind the one before
+-- how many ticks the photon of a state comes after the one before
 abbrev pub gap : ℕ → ℕ
 gap state = drawn state % 512
 
@@ -47,6 +47,6 @@ photon_words before time channel = (if nat_lt (before / unit) (time / unit) then
 abbrev pub words_behind : ℕ → List ℕ → List ℕ
 words_behind start states = each (λ before state. photon_words (start + last_time before) (start + (last_time before + gap state)) (channel state)) states
 
--- so many photons of a seed, the first of them a gap behind time 0
+-- so many photons of a seed, the first of them a gap after time 0
 unfoldable pub made_words : ℕ → ℕ → List ℕ
 made_words seed count = words_behind 0 (states count seed)

@@ -16,7 +16,7 @@ IsPhotonOrWrap Reserved = ⊥
 abbrev pub made_header : Header
 made_header = short_fields T2
 
--- Each photon is of the input behind its channel, and comes its gap behind the one before.
+-- Each photon is of the input one above its channel, and comes its gap after the one before.
 unfoldable pub made_photons : ℕ → ℕ → List Timed
 made_photons seed count = each (λ before state. record { kind = PhotonEvent (channel state + 1) 0; time = last_time before + gap state } ∷ []) (states count seed)
 

@@ -10,7 +10,7 @@ ghost use Rattle.minimal_file.specs.ShortFiles.{bytes_in, timed};
 use crate::made::Made;
 use bench_io::Inputs;
 
-/// The file has a header of the record type HydraHarp2T2 and 112 bytes, and behind it its words,
+/// The file has a header of the record type HydraHarp2T2 and 112 bytes, and after it its words,
 /// four bytes each and no byte more. There are at least as many words as photons, and at most twice as
 /// many.
 pub fn the_file_is_whole()
@@ -24,7 +24,7 @@ pub fn the_file_is_whole()
 {}
 
 /// Each word is a photon of input 1 or 2 or one wrap. The events are the photons that the seed gives:
-/// each of the input behind its channel, and as much later than the one before as its gap is.
+/// each of the input one above its channel, and as much later than the one before as its gap is.
 pub fn the_words_are_photons()
     ensures words { (seed count : ℕ)
         → All (λ word. IsPhotonOrWrap (meaning_of RecordType.HydraHarp2T2 word))

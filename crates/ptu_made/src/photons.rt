@@ -1,4 +1,4 @@
-// The generator of the made file: photons of two inputs, each a few ticks behind the one before.
+// The generator of the made file: photons of two inputs, each a few ticks after the one before.
 ghost use Rattle.std.specs.Prelude.{◌≡◌, ◌+◌, ◌*◌, ◌%◌, ◌^◌, ◌<◌, ◌≤◌, ◌++◌, [], MatchOption, OnSome};
 ghost use Rattle.ptu_made.{specs.Generator.{photon_limit, next_state, made_words}, specs.Photon.words_of_photon};
 

@@ -35,7 +35,7 @@ impl Unread {
         }
     }
 
-    /// Holds the bytes of a word behind those that are held.
+    /// Holds the bytes of a word after those that are held.
     fn hold(&mut self, word: u32)
         requires { self.old.end + 4 ≤ 112 }
         ensures bytes { held_in self.new ≡ held_in self.old ++ to_le_bytes w32 word }
@@ -46,7 +46,7 @@ impl Unread {
         self.end += 4;
     }
 
-    /// Holds the bytes of a photon behind those that are held.
+    /// Holds the bytes of a photon after those that are held.
     fn hold_photon(&mut self, photon: PhotonWords)
         requires { self.old.end + 8 ≤ 112 }
         ensures bytes { held_in self.new ≡ held_in self.old ++ bytes_in (words_of_photon photon) }

@@ -46,7 +46,7 @@ pub AreCounts-none : (record_type : RecordType) → AreCounts record_type [] (re
 unfolding records_of
 AreCounts-none record_type = record { rest = refl; kinds = refl; few = omega arith }
 
--- the counts of two lists of words, one behind the other
+-- the counts of two lists of words, one after the other
 pub counts_of-both : (record_type : RecordType) (first others : List (List ℕ)) (words : List ℕ) (counts more : KindCounts)
     → counts ≡ counts_of (map (meaning_of record_type) (numbers first)) → more ≡ counts_of (map (meaning_of record_type) (numbers others))
     → numbers (first ++ others) ≡ words → sum_of counts more ≡ counts_of (map (meaning_of record_type) words)
@@ -61,12 +61,12 @@ pub counted-limit : (record_type : RecordType) (bytes : List ℕ) → record_lim
 unfolding counted
 counted-limit record_type bytes many = grind (arith, nat_tests)
 
--- too many words are refused, whatever comes behind them
+-- too many words are refused, whatever comes after them
 pub counted-shows : (record_type : RecordType) (bytes : List ℕ) → record_limit < length (words_of bytes)
     → Shows (counted record_type) bytes (Err (RecordLimit record_limit))
 counted-shows record_type bytes many = λ more. sym (counted-limit record_type (bytes ++ more) (words-more bytes more many))
 
--- A begun word, and a piece behind it.
+-- A begun word, and a piece after it.
 
 pub none_of : (xs : List ℕ) → length xs ≡ 0 → xs ≡ []
 none_of [] none = refl

@@ -72,6 +72,6 @@ module _ (meaning : ℕ → Raw) (words : List (List ℕ)) (photons markers wrap
         ← length-meanings meaning words,
       ) refl
 
--- the counts of records and of more behind them
+-- the counts of records and of more after them
 pub counts_of-append : (records more : List Raw) → counts_of (records ++ more) ≡ sum_of (counts_of records) (counts_of more)
 counts_of-append records more = simp (length-append, count_by-append)

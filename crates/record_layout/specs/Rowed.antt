@@ -35,7 +35,7 @@ pico_code channel marker =
     else if nat_le channel 4 then channel
     else 513
 
--- how much later the times behind a wrap are
+-- how much later the times after a wrap are
 abbrev pub hydra_t2_unit : Bool → ℕ
 hydra_t2_unit true = 33552000
 hydra_t2_unit false = 33554432

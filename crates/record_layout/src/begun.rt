@@ -35,7 +35,7 @@ impl BegunWord {
     }
 
     /// Takes the next piece of the bytes. Gives the word that the piece completes, if one was begun and
-    /// becomes whole, and the whole words behind it. What is left over is the word that is begun now.
+    /// becomes whole, and the whole words after it. What is left over is the word that is begun now.
     pub fn take<'p>(&mut self, piece: &'p [u8]) -> (Option<[u8; 4]>, &'p [[u8; 4]])
         ensures words { numbers (listed result.0 ++ result.1.now)
             ≡ words_of (begun_in self.old ++ piece.now) }

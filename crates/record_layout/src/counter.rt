@@ -14,7 +14,7 @@ const LIMIT: Fault = Fault::RecordLimit {
     limit: RECORD_LIMIT,
 };
 
-/// Counts the records of a file by kind, from the bytes behind its header. These come in pieces of
+/// Counts the records of a file by kind, from the bytes after its header. These come in pieces of
 /// any sizes, and a record may lie in two of them.
 #[derive(Drop)]
 pub struct Counter {

@@ -84,7 +84,7 @@ fn is_wrap<R: RecordLayout>(word: u32) -> bool
     matches!(R::decode(word), Raw::Wrap { .. })
 }
 
-/// The counts of some records and of more behind them.
+/// The counts of some records and of more after them.
 pub(crate) fn sum(counts: &KindCounts, more: &KindCounts) -> KindCounts
     requires fits { counts.now.records + more.now.records < 2 ^ 64 }
     requires split { IsSplit counts.now }

@@ -26,7 +26,7 @@ pub trait RecordLayout {
     /// The mask of the time, which begins at bit 0.
     const TIME_MASK: u32;
 
-    /// How much later the times behind one wrap are, below 2^28.
+    /// How much later the times after one wrap are, below 2^28.
     const UNIT: u64;
 
     ghost MODE: { Mode };

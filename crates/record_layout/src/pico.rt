@@ -10,10 +10,10 @@ use crate::row::Row;
 use ptu_definitions::Raw;
 use tally_base::Mode;
 
-/// How many ticks later the times behind a wrap of a T2 file are.
+/// How many ticks later the times after a wrap of a T2 file are.
 const T2_WRAP: u64 = 210_698_240;
 
-/// How many sync periods later the times behind a wrap of a T3 file are.
+/// How many sync periods later the times after a wrap of a T3 file are.
 const T3_WRAP: u64 = 65_536;
 
 /// T2 records of PicoHarp. The lowest four bits of a marker's time are the marker's own.

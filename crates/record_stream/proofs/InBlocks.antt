@@ -9,7 +9,7 @@ floor_of-append : (mode : Mode) (l m : Marked) → floor_of mode (l ++ m) ≡ ma
 floor_of-append mode [] m = omega arith
 floor_of-append mode (x ∷ l) m = rw (floor_of-append mode l m) (omega arith)
 
--- the greatest time with events in order behind one
+-- the greatest time with events in order after one
 pub floor_of-line : (mode : Mode) (floor : ℕ) (es : List Event) → InOrder (orders_markers mode) floor es
     → floor_after (orders_markers mode) floor es ≡ max floor (floor_of mode (on_time es))
 floor_of-line mode floor es order = floor_of-block mode [] es floor floor (omega arith) order
@@ -38,7 +38,7 @@ module _ {T : Type 0} (g : Ghosts T) where
       → GoesOn g old mid es between l → GoesOn g mid new between now [] → GoesOn g old new es now l
   goes_on-last {old = old} {new = new} {es = es} {now = now} {l = l} p q = subst (λ m. GoesOn g old new es now m) (append-nil l) (goes_on-trans p q)
 
-  -- it broke at what came behind
+  -- it broke at what came after
   pub breaks-behind : {old mid new : T} {es between : List Event} {l m : Marked}
       → GoesOn g old mid es between l → Breaks g mid new between m → Breaks g old new es (l ++ m)
   breaks-behind {es = es} {l = l} {m = m} p q = record {

@@ -25,7 +25,7 @@ pub streamed-cut : (how : StreamSettings) (clock : Clock) (sum : Summary) (count
 unfolding streamed
 streamed-cut how clock sum count carried bytes some is h = search (rules, arith, unrefused)
 
--- a refused stream shows its refusal, whatever comes behind
+-- a refused stream shows its refusal, whatever comes after
 pub streamed-shown : (how : StreamSettings) (bytes : List ℕ) (fault : Fault)
     → record_refusal how (words_of bytes) ≡ Some fault → Shows (streamed how) bytes (Err fault)
 streamed-shown how bytes fault h = λ more. sym (streamed-refused how (bytes ++ more) fault (refused-bytes how bytes more fault h))

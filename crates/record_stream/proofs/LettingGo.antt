@@ -19,7 +19,7 @@ greatest-line : (mode : Mode) (before es : List Event) → InOrder (orders_marke
     → greatest mode (before ++ es) ≡ floor_after (orders_markers mode) (greatest mode before) es
 greatest-line mode before es line = search (rules, arith, greatest-is, map-append, floor-line)
 
--- none that comes behind them is late
+-- none that comes after them is late
 pub early : (k : ℕ) (mode : Mode) (before es : List Event) (e : Event) → InOrder (orders_markers mode) (greatest mode before) es
     → floor_after (orders_markers mode) (greatest mode before) es ≤ e.time → is_ordered mode e ≡ true
     → is_overtaken k (ordered mode (before ++ es)) e ≡ false
@@ -113,7 +113,7 @@ module _ (how : StreamSettings) (old new : Settle) (words : List ℕ) (came went
         delivers = delivered-more went' (option_to_list o) outs adds;
       }
 
--- Behind the words of a block.
+-- After the words of a block.
 module _ (how : StreamSettings) (settle : Settle) (words now : List ℕ) (came went : List Event)
     (adds : events (map how.meaning now) ≡ events (map how.meaning words) ++ came) (d : IsDelivered how settle words came went) where
   pub block_delivers : events_in how now ≡ events_in how words ++ on_time went

@@ -1,4 +1,4 @@
--- Events in order behind all that are kept back, and those that are let go with them.
+-- Events in order after all that are kept back, and those that are let go with them.
 use Rattle.std.{proofs.Common.{rules}, proofs.Common.{◌≡◌, ◌≢◌, ◌+◌, ◌-◌, ◌<◌, ◌≤◌, ℕ, suc, List, [], ◌∷◌, ◌++◌, true, false, drop, get_or, length, map, refl, sym, ap, subst, ◌∙◌, append_assoc, append-nil, arith, length-append}, specs.List.{All, AllByRecursion}, specs.List.Sorted.IsNonDecreasingBy, proofs.Math.Seq.drop-append_seam, proofs.lemmas.Bool.ne_eqb, proofs.lemmas.List.Elements.{All-tail, All-from_recursion, filter-append, recursion_from_All}}
 use Rattle.tally_base.{specs.declared.event.Event.Event, specs.declared.event.EventKind.TheVariants.Marker as MarkerEvent, specs.declared.header.Mode.Mode, specs.Events.is_ordered, specs.Tally.{moves_floor, floor_after, InOrder}, specs.Columns.rows, proofs.Floors.{order-lower, order-append, order-parts}, proofs.BlockRows.{length-rows, rows-split}}
 use Rattle.ptu_definitions.{specs.Layouts.KindFits, specs.Settled.{not_marked, ordered, Rises}, specs.Streams.{StreamSettings, events_in}, specs.Times.events, proofs.DeliveredLaws.{delivered-append}, proofs.SettledLemmas.IsNonDecreasingBy-Rises, proofs.SettlingLemmas.each-weaker}
@@ -136,7 +136,7 @@ module _ (walk : Walk) (from : Settle) (came went stay : List Event) (settles : 
   stay-rises : Rises (time_after (last_time from) went) stay
   stay-rises = rw (← floor-all mode (last_time from) went (are_ordered went waiting.0)) (rises-line mode _ stay whole.1 (are_ordered stay waiting.1))
 
-  -- what stays is in order behind what goes
+  -- what stays is in order after what goes
   pub stays-low : All (λ (x : Event). time_after (last_time from) went ≤ x.time) stay
   stays-low = All-from_recursion _ stay (low-rises (time_after (last_time from) went) stay stay-rises)
 

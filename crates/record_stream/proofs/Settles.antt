@@ -89,7 +89,7 @@ module _ {T : Type 0} (g : Ghosts T) where
   tells_one (Err y) old new from settle t now before given e x late top none is all_is settled moved in_order gave broken fault cause =
       inr (fault, record { unrefused = none; some = rw is (omega arith); broken = rw is broken; rose = cause.once })
 
--- Behind one word more.
+-- After one word more.
 pub come_event : (how : StreamSettings) (settle settle' : Settle) (ws : List ℕ) (w : ℕ) (e : Event)
     → HasCome how settle ws → event_after (map how.meaning ws) (how.meaning w) ≡ e ∷ []
     → fresh how ws (how.meaning w) ≡ tells how.policy.settle how.mode (ordered how.mode (events (map how.meaning ws))) e

@@ -105,7 +105,7 @@ pub length-on_time : (es : List Event) → length (on_time es) ≡ length es
 length-on_time [] = refl
 length-on_time (e ∷ es) = omega (arith, length-on_time es)
 
--- where the stream stands behind a block
+-- where the stream stands after a block
 pub block_at : {how : StreamSettings} {clock clock' : Clock} {sum sum' : Summary} {count count' n base top : ℕ} {before : List ℕ} {came : List Event} {k : KindCounts}
     (ws : List ℕ) (es : List Event) → IsAt how clock sum count before → Adds how n base top before (before ++ ws) came
     → events_in how (before ++ ws) ≡ events_in how before ++ on_time es

@@ -4,7 +4,7 @@ use Rattle.ptu_definitions.{specs.declared.records.Raw.Raw, specs.declared.recor
 use Rattle.tally_base.{specs.declared.event.Event.Event, specs.declared.header.Mode.Mode, specs.declared.header.Mode.TheVariants.{T2, T3}, specs.Limits.wrap_limit, specs.Tally.{moves_floor, floor_after}, proofs.Floors.floor-push}
 use Rattle.abs_time.{specs.declared.clock.Clock.Clock, specs.Placing.{placed_by, base_of}, specs.Floors.orders_markers}
 use Rattle.record_layout.{specs.declared.row.Row.Row, specs.Rowed.raw_of, proofs.KindLemmas.count-more}
-use Rattle.lane_decode.{specs.declared.columns.Columns.Columns, specs.InColumns.{HasRows, row_at, wraps_at, sum_to, time_in, before, Rises}, specs.InCompacted.{stays, staying, event_in}, proofs.Chosen.{place-more, few-staying as few-stay}, proofs.Added.sum-more}
+use Rattle.lane_decode.{specs.declared.columns.Columns.Columns, specs.InColumns.{HasRows, row_at, wraps_at, sum_to, time_in, before, Rises}, specs.Staying.{stays, staying, event_in}, proofs.Chosen.{place-more, few-staying as few-stay}, proofs.Added.sum-more}
 use Rattle.record_stream.{specs.OneMore.{first_with, last_with, or_time, time_if}, specs.Whole.{events_below, last_below, last_time}, specs.Rows.{ordered_below, gathered_below, event_below, greatest_with_row}, specs.Walking.{how_of, greatest_of, clock_in, Gathers, LetsPass}, specs.declared.walk.Walk.Walk, proofs.Gathering.{gathers-none, small, gathers-row, count_by-meanings}, proofs.Summaries.last_with-push}
 
 -- the codes below which events in order are, and events are

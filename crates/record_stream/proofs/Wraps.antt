@@ -50,7 +50,7 @@ pub parted-numbers : (words seen rest front back : List (List ℕ)) → words �
     → rest ≡ front ++ back → numbers words ≡ (numbers seen ++ numbers front) ++ numbers back
 parted-numbers words seen rest front back is parts = search (rules, arith, parted, both-numbers)
 
--- What is carried, and a piece behind it.
+-- What is carried, and a piece after it.
 module _ (carried bytes piece : List ℕ) (is : carried ≡ rest_of bytes) where
   pub cut-words : (first others : List (List ℕ)) → numbers (first ++ others) ≡ words_of (carried ++ piece)
       → (words_of bytes ++ numbers first) ++ numbers others ≡ words_of (bytes ++ piece)

@@ -29,7 +29,7 @@ abbrev pub IsOnTime : Mode → ℕ → List Event → Type 0
 IsOnTime mode greatest [] = Unit {0}
 IsOnTime mode greatest (e ∷ es) = IsTrue (is_ordered mode e) → greatest ≤ e.time
 
--- Up to `now` no word is refused, and behind the first ones come these events, none of them late.
+-- Up to `now` no word is refused, and after the first ones come these events, none of them late.
 pub record Adds (how : StreamSettings) (count sum greatest : ℕ) (words now : List ℕ) (es : List Event) : Type 0 where
   pub clear : refusals how now ≡ []
   pub clock : IsClock how.mode count sum greatest (map how.meaning now)
@@ -41,7 +41,7 @@ abbrev pub PlacesRise : ℕ → List Event → Type 0
 PlacesRise low [] = Unit {0}
 PlacesRise low (e ∷ es) = (low < e.place) × PlacesRise e.place es
 
--- The events stand at places that rise, behind one place and not behind another.
+-- The events stand at places that rise, after one place and not after another.
 pub record RisesWithin (low high : ℕ) (es : List Event) : Type 0 where
   pub rises : PlacesRise low es
   pub last : place_after low es ≤ high
@@ -51,7 +51,7 @@ abbrev pub chosen : Bool → Mode → List Event → List Event
 chosen false mode es = es
 chosen true mode es = ordered mode es
 
--- The events are in order behind a time, and the last of those has this one.
+-- The events are in order after a time, and the last of those has this one.
 pub record IsInLine (mode : Mode) (low last : ℕ) (es : List Event) : Type 0 where
   pub in_order : InOrder (orders_markers mode) low es
   pub greatest : floor_after (orders_markers mode) low es ≡ last

@@ -1,4 +1,4 @@
--- What a taker is given by words that come behind others.
+-- What a taker is given by words that come after others.
 use Rattle.std.specs.Prelude.{ℕ, ◌≡◌, ◌+◌, ◌<◌, ◌≤◌, List, [], ◌++◌, length, map, None, Some, Result, Ok, Err, OnOk, ◌⊎◌}
 use Rattle.ptu_definitions.{specs.declared.records.Summary.Summary, specs.Kept.Marked, specs.Words.words_of, specs.Streams.{StreamSettings, refusals, record_refusal, given, events_in}}
 use Rattle.tally_base.{specs.declared.fault.Fault.Fault, specs.declared.fault.Fault.TheVariants.WriteFault, specs.declared.header.Mode.Mode, specs.FaultCounts.Rose, specs.declared.event.Event.Event, specs.Limits.record_limit, specs.Tally.InOrder}
@@ -31,7 +31,7 @@ module _ {T : Type 0} (g : Ghosts T) where
     pub follows : (start : T) (l : Marked) → g.got start old l → g.got start new (l ++ on_time es)
     pub same_mode : g.mode new ≡ g.mode old
 
-  -- It got what the words call for that came behind others.
+  -- It got what the words call for that came after others.
   pub record GaveOn (how : StreamSettings) (old new : T) (words now : List ℕ) : Type 0 where
     pub more : Marked
     pub adds : given how now ≡ given how words ++ more
@@ -47,17 +47,17 @@ module _ {T : Type 0} (g : Ghosts T) where
     pub broken : (start : T) (l : Marked) → g.got start old l → g.broke start new (l ++ front)
     pub rose : Rose (g.faults old) (g.faults new)
 
-  -- What feeding words did that came behind others, by its answer.
+  -- What feeding words did that came after others, by its answer.
   abbrev pub Fed : {X : Type 0} → StreamSettings → T → T → List ℕ → List ℕ → Result X Fault → Type 0
   Fed how old new words now (Ok x) = (record_refusal how now ≡ None) × GaveOn how old new words now
   Fed how old new words now (Err fault) =
       ((record_refusal how now ≡ Some fault) × GaveOn how old new words now) ⊎ ((fault ≡ WriteFault) × BrokeOn how old new words now)
 
-  -- What taking more words did behind any where it stood, by its answer.
+  -- What taking more words did after any where it stood, by its answer.
   pub record Delivers {X : Type 0} (how : StreamSettings) (stood stands : List ℕ → Type 0) (old new : T) (more : List ℕ) (answer : Result X Fault) : Type 0 where
     pub at : (before : List ℕ) → stood before → OnOk answer (stands (before ++ more))
     pub fed : (before : List ℕ) → stood before → Fed how old new before (before ++ more) answer
 
-  -- The same of the words of bytes behind which a piece came.
+  -- The same of the words of bytes after which a piece came.
   abbrev pub FedPiece : {X : Type 0} → StreamSettings → T → T → List ℕ → List ℕ → Result X Fault → Type 0
   FedPiece how old new bytes piece answer = Fed how old new (words_of bytes) (words_of (bytes ++ piece)) answer

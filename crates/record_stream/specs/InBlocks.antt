@@ -21,7 +21,7 @@ module _ {T : Type 0} (g : Ghosts T) where
     pub few : 0 < length (gathered block) → taken_with taker (gathered block) ≤ record_limit
     pub unsorted : sorted block ≡ 0
 
-  -- Behind the events that wait these came: the first of all are given, and the others wait now.
+  -- After the events that wait these came: the first of all are given, and the others wait now.
   pub record GoesOn (old new : T) (es now : List Event) (l : Marked) : Type 0 where
     pub front : Marked
     pub parts : on_time es ++ l ≡ front ++ on_time now

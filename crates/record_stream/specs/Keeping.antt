@@ -11,7 +11,7 @@ pub record CanWait (mode : Mode) (e : Event) : Type 0 where
   pub small : IsSmall mode e
   pub ordered : is_ordered mode e ≡ true
 
--- What is kept back behind a walk: no more than its policy says, all of it counted, and nothing behind its last record.
+-- What is kept back after a walk: no more than its policy says, all of it counted, and nothing after its last record.
 pub record IsKeeping (walk : Walk) (settle : Settle) : Type 0 where
   pub reach : reach_of settle ≡ walk.policy.settle
   pub unpopped : was_popped settle ≡ false
@@ -28,7 +28,7 @@ pub record HasCome (how : StreamSettings) (settle : Settle) (words : List ℕ) :
 abbrev pub Settles : StreamSettings → Settle → List ℕ → Type 0
 Settles how settle words = how.policy.settle ≢ 0 → HasCome how settle words
 
--- what an event adds to what is delivered, behind these events in order
+-- what an event adds to what is delivered, after these events in order
 abbrev pub tells : ℕ → Mode → List Event → Event → Marked
 tells k mode before e = if is_ordered mode e then settles k before e else []
 

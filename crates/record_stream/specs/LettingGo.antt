@@ -22,7 +22,7 @@ pub record IsFull (walk : Walk) (settle : Settle) : Type 0 where
   pub full : length (kept_back settle) ≡ reach_of settle
   pub below : All (λ (x : Event). x.time ≤ greatest_of walk) (kept_back settle)
 
--- Events came at places behind this one, and some were let go with them: in order, behind the last one before them, and
+-- Events came at places after this one, and some were let go with them: in order, after the last one before them, and
 -- as few as there are events that came or waited.
 pub record LetsGo (mode : Mode) (low : ℕ) (from settle : Settle) (came went : List Event) : Type 0 where
   pub line : IsInLine mode (last_time from) (last_time settle) went
@@ -33,7 +33,7 @@ pub record LetsGo (mode : Mode) (low : ℕ) (from settle : Settle) (came went : 
   pub few : length went ≤ length came
   pub count : length went + length (kept_back settle) ≤ length (kept_back from) + length came
 
--- Behind the events of these words these came, and with them these are delivered, none of them late.
+-- After the events of these words these came, and with them these are delivered, none of them late.
 pub record IsDelivered (how : StreamSettings) (settle : Settle) (words : List ℕ) (came went : List Event) : Type 0 where
   pub settled : HasSettled settle (ordered how.mode (events (map how.meaning words) ++ came)) (not_marked (events_in how words) ++ went)
   pub delivers : delivered how.policy.settle how.mode (events (map how.meaning words) ++ came) ≡ events_in how words ++ on_time went

@@ -31,7 +31,7 @@ abbrev pub refused_late : StreamSettings → List Raw → Raw → Option Fault
 refused_late how before raw =
     if stops_late how.policy.order then late_refusal how.policy.settle how.mode (events before) (event_after before raw) else None
 
--- Behind these words it is refused for nothing else, and this is what it is.
+-- After these words it is refused for nothing else, and this is what it is.
 pub record IsPlaced (old new : Walk) (words : List ℕ) (word : ℕ) (placed : Placed) : Type 0 where
   pub refusal : refusal (how_of old) words word ≡ refused_late (how_of old) (map (how_of old).meaning words) ((how_of old).meaning word)
   pub answer : place_answer (how_of old).mode (map (how_of old).meaning words) ((how_of old).meaning word) ≡ Ok placed

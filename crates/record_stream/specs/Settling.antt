@@ -11,7 +11,7 @@ pub record IsSettledBehind (walk : Walk) (settle : Settle) (words : List ℕ) : 
   pub behind : IsBehind walk words
   pub come : HasCome (how_of walk) settle words
 
--- The next event: behind those that were pushed, and of a record that is counted and placed.
+-- The next event: after those that were pushed, and of a record that is counted and placed.
 pub record ComesUp (walk : Walk) (settle : Settle) (e : Event) : Type 0 where
   pub next : next_place settle ≤ e.place
   pub placed : e.place ≤ placed_by (clock_in walk)
@@ -34,7 +34,7 @@ module _ {T : Type 0} (g : Ghosts T) where
     pub stays : Stays g old new taker now
     pub keeps : IsKeeping new settle
 
-  -- Behind these events in order one more came, and what it adds was given.
+  -- After these events in order one more came, and what it adds was given.
   pub record Told (how : StreamSettings) (old new : Walk) (from settle : Settle) (taker now : T) (before given : List Event) (e : Event) (latest : ℕ) : Type 0 where
     pub unrefused : refused_for how before e latest ≡ None
     pub settled : HasSettled settle (before ++ ordered how.mode (e ∷ [])) (given ++ not_marked (tells how.policy.settle how.mode before e))

@@ -41,7 +41,7 @@ pub record KeepsPlace (old new : Walk) : Type 0 where
 abbrev pub IsBehind : Walk → List ℕ → Type 0
 IsBehind walk words = IsAt (how_of walk) walk.clock (summed walk.sums) walk.given words
 
--- What some words add behind any that it took: these events, up to this sum of wraps and this greatest time.
+-- What some words add after any that it took: these events, up to this sum of wraps and this greatest time.
 abbrev pub AddsBehind : Walk → List (List ℕ) → ℕ → ℕ → List Event → Type 0
 AddsBehind walk words sum greatest es =
     (before : List ℕ) → IsBehind walk before → Adds (how_of walk) (placed_by (clock_in walk) + length words) sum greatest before (before ++ numbers words) es
@@ -82,7 +82,7 @@ module _ {T : Type 0} (g : Ghosts T) where
     pub plain : (how_of walk).policy.settle ≡ 0
     pub follows : IsFollowed walk taker
 
-  -- The event, whose record is counted, can be given behind those that the taker got.
+  -- The event, whose record is counted, can be given after those that the taker got.
   pub record CanGive (walk : Walk) (e : Event) (late : Bool) (taker : T) : Type 0 where
     pub mode_is : g.mode taker ≡ (how_of walk).mode
     pub few : g.taken taker ≤ given_by walk
@@ -90,7 +90,7 @@ module _ {T : Type 0} (g : Ghosts T) where
     pub room : given_by walk < records_of walk
     pub small : IsSmall (how_of walk).mode e
 
-  -- The taker got it behind whatever it got before, and the walk has noted it.
+  -- The taker got it after whatever it got before, and the walk has noted it.
   pub record Gave (old new : Walk) (taker now : T) (e : Event) (late : Bool) : Type 0 where
     pub got : (start : T) (l : Marked) → g.got start taker l → g.got start now (l ++ (e, late) ∷ [])
     pub follows : (greatest : ℕ) → moved_floor (how_of old).mode (g.floor taker) e late ≤ greatest → Follows g (how_of old).mode (given_by new) greatest now

@@ -5,7 +5,7 @@ use Rattle.ptu_definitions.{specs.Kinds.counts_of, specs.Words.numbers}
 use Rattle.record_layout.specs.Sums.{IsSplit}
 use Rattle.abs_time.{specs.declared.clock.Clock.Clock, specs.Placing.{base_of, mode_of, placed_by}}
 use Rattle.record_stream.{specs.declared.ahead.Ahead.Ahead, specs.declared.walk.Walk.Walk, specs.Rows.{ordered_below, gathered_below}, specs.Walking.{how_of, greatest_of, records_of, clock_in, Gathers}}
-use Rattle.lane_decode.{specs.declared.columns.Columns.Columns, specs.InColumns.{row_at, wraps_at, time_in}, specs.InCompacted.{staying, event_in}}
+use Rattle.lane_decode.{specs.declared.columns.Columns.Columns, specs.InColumns.{row_at, wraps_at, time_in}, specs.Staying.{staying, event_in}}
 
 -- the events of the records whose codes are below this one
 abbrev pub events_below : ℕ → Clock → ℕ → Columns → List Event

@@ -1,7 +1,7 @@
 // Where a block of words leads, whose records are in columns.
 ghost use Rattle.std.specs.Prelude.{◌≡◌, ◌+◌, ◌*◌, ◌^◌, ◌<◌, ◌≤◌, ◌∷◌, ℕ, List, length, IfSome, if◌then◌else◌};
 ghost use Rattle.tally_base.specs.declared.header.Mode.{Mode};
-ghost use Rattle.lane_decode.specs.{InColumns.{HasRows, row_at, wraps_at, sum_to, time_in}, InCompacted.staying};
+ghost use Rattle.lane_decode.specs.{InColumns.{HasRows, row_at, wraps_at, sum_to, time_in}, Staying.staying};
 ghost use Rattle.record_stream.specs.{Rows.{ordered_below, gathered_below}, Whole.{last_time, LeadsTo}, Walking.how_of};
 
 use crate::count::{Sums, stops_reserved};
@@ -28,8 +28,8 @@ pub struct Ahead {
 }
 
 impl Ahead {
-    /// Where these words lead. None: one may be refused, or late. It may also say so of an event that is not late, behind
-    /// a time that is longer than a wrap, at or behind a marker of T2 out of order, or at a reserved record.
+    /// Where these words lead. None: one may be refused, or late. It may also say so of an event that is not late, after
+    /// a time that is longer than a wrap, at or after a marker of T2 out of order, or at a reserved record.
     #[inline(always)]
     pub(crate) fn of<R: RecordLayout>(
         walk: &Walk,

@@ -15,7 +15,7 @@ use ptu_definitions::KindCounts;
 use record_layout::RecordLayout;
 use tally_base::{BLOCK_SIZE, Block, Fault, TABLE_BLOCK};
 
-/// Puts the events of 64 records whose codes are below `below` behind those of a block, several records at once.
+/// Puts the events of 64 records whose codes are below `below` after those of a block, several records at once.
 #[inline(always)]
 pub(crate) fn put_events<R: RecordLayout>(
     clock: &Clock,

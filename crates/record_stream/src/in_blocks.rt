@@ -95,7 +95,7 @@ impl<'t, S: EventTaker> EventTaker for InBlocks<'t, S> {
 
     ghost same_more = { λ t u v p q. (q.0 ∙ p.0, S.same_more _ _ _ p.1 q.1) };
 
-    /// A late one is given at once, behind those that wait.
+    /// A late one is given at once, after those that wait.
     #[inline(always)]
     fn take(&mut self, event: &Event, late: bool) -> Result<(), Failed> {
         if late {

@@ -15,7 +15,7 @@ pub fn stream_numbers()
         → greatest_of stream ≡ floor_of (how_of stream).mode (given_in stream bytes) }
 {}
 
-/// A refusal of records stays, whatever comes behind: that of words, and what their bytes answer. What is
+/// A refusal of records stays, whatever comes after: that of words, and what their bytes answer. What is
 /// given then is what those before it deliver (`first_refusal` of the definitions), and stays too.
 pub fn a_refusal_stays()
     ensures words { (how : StreamSettings) (words more : List ℕ) (fault : Fault)

@@ -9,7 +9,7 @@ use arrayvec::ArrayVec;
 use settle::Settle;
 use tally_base::{Block, Event, TABLE_BLOCK};
 
-/// Puts an event behind the others, if there is one.
+/// Puts an event after the others, if there is one.
 #[inline(always)]
 fn push_some(block: &mut Block<TABLE_BLOCK>, event: Option<Event>)
     requires room { length (gathered block.old) < TABLE_BLOCK }
@@ -21,7 +21,7 @@ fn push_some(block: &mut Block<TABLE_BLOCK>, event: Option<Event>)
     }
 }
 
-/// Puts events behind the others.
+/// Puts events after the others.
 #[inline(always)]
 fn push_all(block: &mut Block<TABLE_BLOCK>, events: &[Event])
     requires room { length (gathered block.old) + length events.now ≤ TABLE_BLOCK }
@@ -33,7 +33,7 @@ fn push_all(block: &mut Block<TABLE_BLOCK>, events: &[Event])
     }
 }
 
-/// Puts events behind the others.
+/// Puts events after the others.
 #[inline(always)]
 fn stay_all(stay: &mut ArrayVec<Event, 64>, events: &[Event])
     requires { length stay.old.items + length events.now ≤ 64 }
@@ -44,7 +44,7 @@ fn stay_all(stay: &mut ArrayVec<Event, 64>, events: &[Event])
     }
 }
 
-/// Puts the events of a block from one on behind the others.
+/// Puts the events of a block from one on after the others.
 #[inline(always)]
 fn stay_back(stay: &mut ArrayVec<Event, 64>, block: &Block<TABLE_BLOCK>, from: usize)
     requires inside { from ≤ count block.now }
@@ -94,7 +94,7 @@ fn push_block(
     }
 }
 
-/// The same, at once, where they come behind as many that are kept back as may be. What stays is written to
+/// The same, at once, where they come after as many that are kept back as may be. What stays is written to
 /// an array first.
 fn pass_block(
     walk: &Walk,

@@ -171,7 +171,7 @@ impl RecordStream {
         in_layout!(self.walk.record_type, self.piece::<R, W>(piece, taker))
     }
 
-    /// Takes a piece, and gives its events in blocks. None waits for the next call, nor behind a refusal.
+    /// Takes a piece, and gives its events in blocks. None waits for the next call, nor after a refusal.
     fn whole<'t, S: EventTaker>(
         &mut self,
         piece: &[u8],

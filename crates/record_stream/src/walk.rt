@@ -1,4 +1,4 @@
-// The records of a stream, one behind the other.
+// The records of a stream, one after the other.
 ghost use Rattle.std.specs.Prelude.{◌≡◌, ◌+◌, ◌*◌, ◌<◌, ◌≤◌, ◌++◌, ◌∷◌, [], List, ℕ, length, Some, OnOk, OnErr, IfOk, IfErr, ◌&&◌, not, IsTrue};
 ghost use Rattle.abs_time.{specs.Placing.{mode_of as clock_mode, placed_by, IsSmall}, specs.Floors.moved_floor};
 ghost use Rattle.tally_base.{specs.RecordTypes.mode_of, specs.Limits.record_limit, specs.declared.fault.Fault.TheVariants.WriteFault, specs.FaultCounts.FailsOnce, specs.Events.is_ordered};

@@ -7,7 +7,7 @@ use Rattle.record_write.{specs.Picked.{unit_of, wrap_word, wraps, photon_word, o
 abbrev pub records_of : Mode → List ℕ → List Raw
 records_of mode words = map (meaning_in mode) words
 
--- what holds of the words behind others and of their photons, word by word
+-- what holds of the words after others and of their photons, word by word
 pub record Walks (mode : Mode) (C : List ℕ → List ℕ → List Event → Type 0) : Type 0 where
   pub none : (before : List ℕ) → C before [] []
   pub wrap : (before : List ℕ) (units : ℕ) (words : List ℕ) (photons : List Event) → 0 < units → units < unit_of mode

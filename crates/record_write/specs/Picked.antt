@@ -27,7 +27,7 @@ abbrev pub own_word : Mode → EventKind → ℕ → List ℕ
 own_word mode (Photon input dtime) time = photon_word mode input dtime time ∷ []
 own_word mode (Marker bits) time = []
 
--- The words of an event behind a time: the wraps of the units that have begun since, each of fewer units than a unit has ticks, and
+-- The words of an event after a time: the wraps of the units that have begun since, each of fewer units than a unit has ticks, and
 -- its own word.
 abbrev pub words_behind : Mode → ℕ → EventKind → ℕ → List ℕ
 words_behind mode before kind time = wraps (unit_of mode - 1) (time / unit_of mode - before / unit_of mode) ++ own_word mode kind time
@@ -40,7 +40,7 @@ time_or_none (Some e) = e.time
 abbrev pub last_time : List Event → ℕ
 last_time photons = time_or_none (last photons)
 
--- the words of a photon behind these photons
+-- the words of a photon after these photons
 abbrev pub photon_words : Mode → List Event → Event → List ℕ
 photon_words mode before e = words_behind mode (last_time before) e.kind e.time
 

@@ -36,7 +36,7 @@ pub record IsNext (picker : Picker) (e : Event) : Type 0 where
   pub fits : KindFits (mode_of picker) e.kind
   pub in_order : last_by picker ≤ e.time
 
--- The photon was picked behind any others.
+-- The photon was picked after any others.
 pub record Picks (old new : Picker) (e : Event) : Type 0 where
   pub picked : (photons : List Event) → HasPicked old photons → HasPicked new (photons ++ e ∷ [])
   pub last : last_by new ≡ e.time
@@ -51,6 +51,6 @@ pub record Closes (old new : Picker) : Type 0 where
   pub same_mode : mode_of new ≡ mode_of old
   pub same_begun : was_begun new ≡ was_begun old
 
--- This holds of the words of a photon behind those that the picker has picked.
+-- This holds of the words of a photon after those that the picker has picked.
 abbrev pub OnWordsOf : Picker → Event → (List ℕ → Type 0) → Type 0
 OnWordsOf picker e holds = (photons : List Event) → HasPicked picker photons → holds (photon_words (mode_of picker) photons e)

@@ -4,7 +4,7 @@ use Rattle.tally_base.{specs.declared.fault.Fault.Fault, specs.declared.fault.Fa
 use Rattle.bench_io.specs.Sinks.{AppendsShort, PassesOn}
 use Rattle.minimal_file.specs.ShortFiles.{bytes_in}
 
--- The bytes of the words come behind those that a block held, and what it passed on and what it holds are all of these.
+-- The bytes of the words come after those that a block held, and what it passed on and what it holds are all of these.
 abbrev pub PutsWords : Option (List ℕ) → Option (List ℕ) → List ℕ → List ℕ → List ℕ → Type 0
 PutsWords old new held now words = PassesOn old new (held ++ bytes_in words) now
 

@@ -13,7 +13,7 @@ use tally_base::{Event, EventKind, Failed, Fault, Mode};
 
 /// Writes a file of photons: first its header, and then the photons in order of time. A T2 file has the
 /// record type HydraHarp2T2 and a T3 file HydraHarp2T3. Before a photon come the wraps that lead to its
-/// time. `start` is called first and once, and nothing behind a refused call. It takes no memory, and
+/// time. `start` is called first and once, and nothing after a refused call. It takes no memory, and
 /// keeps no list.
 #[derive(Drop)]
 pub struct Picker {
@@ -92,7 +92,7 @@ impl Picker {
         }
     }
 
-    /// Puts a photon behind those before it into a block, which passes it on to the sink.
+    /// Puts a photon after those before it into a block, which passes it on to the sink.
     ///
     /// Its input must be at most 64 in T2 and 63 in T3, its dtime 0 in T2 and at most 32,767 in T3, and its
     /// time no less than that of the photon before it. Refuses with `PickTime` one whose wraps would add up to
@@ -125,7 +125,7 @@ impl Picker {
         }
     }
 
-    /// Writes a photon behind those before it, as `put` does, but at once.
+    /// Writes a photon after those before it, as `put` does, but at once.
     pub fn photon<O: Sink>(&mut self, e: &Event, out: &mut O) -> Result<(), Fault>
         requires next { IsNext self.old e.now }
         ensures picks { OnOk result (Picks self.old self.new e.now) }

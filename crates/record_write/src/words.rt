@@ -33,7 +33,7 @@ pub(crate) fn is_too_late(mode: Mode, time: u64) -> bool
     }
 }
 
-/// How many units have begun from one time to another, behind the greatest number of units of one wrap.
+/// How many units have begun from one time to another, after the greatest number of units of one wrap.
 #[inline(always)]
 fn units_between(mode: Mode, before: u64, time: u64) -> (u64, u64)
     requires { before ≤ time }

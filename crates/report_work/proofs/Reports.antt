@@ -20,7 +20,7 @@ pub demo-plan : plan_answer demo_text ≡ Ok demo_plan
 unfolding plan_on_literals
 demo-plan = refl
 
--- only memory may be wanting to read it
+-- only memory may run out to read it
 pub plan-wanted : (fault : Fault) → (◌≢◌ {A = Result Plan Fault} (Err fault) (Err OutOfMemory) → Err fault ≡ plan_answer demo_text) → fault ≡ OutOfMemory
 plan-wanted OutOfMemory h = refl
 plan-wanted _ h = let bad = h (λ e. cc) ∙ demo-plan in cc

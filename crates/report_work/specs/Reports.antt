@@ -8,7 +8,7 @@ use Rattle.table_out.specs.Report.{report, with_events}
 use Rattle.command_work.{specs.Outcomes.{Outcome, refused, written}, specs.Behaviours.{Work, AreRead, IsHeaded}, specs.Tellings.{Telling, if_suited, headed_work}}
 use Rattle.tally_engine.{specs.declared.engine.Engine.Engine, specs.Engine.{HasFed, header_of, refused_by, IsFor}}
 
--- what the records behind a header end with: the report, where none is refused
+-- what the records after a header end with: the report, where none is refused
 abbrev pub reported : PlanView → Header → List ℕ → Result Summary Fault → Outcome
 reported plan header bytes (Ok summary) = written (report header summary (with_events (parts_of plan) (history (sorting plan) (reading_by plan header) (words_of bytes))))
 reported plan header bytes (Err fault) = refused fault
@@ -39,7 +39,7 @@ pub record IsLedger (name parts its_name its_parts : ℕ) : Type 0 where
   pub same_parts : parts ≡ its_parts
   pub some : 0 < parts
 
--- Memory may be wanting after a header: the plan has a table, and its parts suit the file.
+-- Memory may run out after a header: the plan has a table, and its parts suit the file.
 abbrev pub MayWant : PlanView → Header → Type 0
 MayWant plan header = (0 < length (parts_of plan)) × (fits (mode_of header.record_type) plan ≡ Ok (tt {0}))
 

@@ -1,4 +1,4 @@
--- One more event, and the counts of an image and the lines behind it.
+-- One more event, and the counts of an image and the lines after it.
 use Rattle.std.{proofs.Common.{◌≡◌, ◌∙◌, ℕ, ◌+◌, Bool, false, ◌&&◌, cond, [], ◌∷◌, ◌++◌, ap, arith, Option, ◌≤◌, true, List, sym, subst, refl, if◌then◌else◌, rules}, specs.List.cons_option, proofs.lemmas.List.append-nil, proofs.lemmas.List.Elements.filter_map-append, proofs.Math.Path.fun_ext}
 use Rattle.tally_base.{specs.declared.event.Event.Event, specs.declared.event.EventKind.TheVariants.{Photon, Marker}, specs.Events.is_in, specs.Settings.ImageView, specs.Tally.History}
 use Rattle.tcspc_hist.specs.HistogramCounts.{dtime_passes}

@@ -14,7 +14,7 @@ marker time bits = (record { place = 1; kind = Marker bits; time = time }, 0)
 abbrev framed : Option ℕ → ImageView
 framed stop = record { group = 1; width = 2; height = 2; dwell = 10; line = 1; frame = Some 2; stop = stop; serpentine = false }
 
--- A frame and a line in one marker, a photon in each column of that line, and one behind the last.
+-- A frame and a line in one marker, a photon in each column of that line, and one after the last.
 abbrev together : History
 together = marker 100 3 ∷ photon 100 1 ∷ photon 119 1 ∷ photon 120 1 ∷ []
 
@@ -30,7 +30,7 @@ row-empty = refl
 row-behind : count_outside (framed None) together ≡ 1
 row-behind = refl
 
--- A photon before any line, and one behind a stop.
+-- A photon before any line, and one after a stop.
 abbrev stopped : History
 stopped = photon 5 1 ∷ marker 10 3 ∷ marker 12 4 ∷ photon 13 1 ∷ []
 
@@ -40,7 +40,7 @@ row-stopped = refl
 row-no_cell : in_cell (framed (Some 3)) 0 0 stopped ≡ 0
 row-no_cell = refl
 
--- Without a frame bit the rows begin again behind the last.
+-- Without a frame bit the rows begin again after the last.
 abbrev unframed : ImageView
 unframed = record { group = 1; width = 1; height = 2; dwell = 10; line = 1; frame = None; stop = None; serpentine = false }
 

@@ -1,4 +1,4 @@
--- The counts of an image, and counts and lines behind the events of a block.
+-- The counts of an image, and counts and lines after the events of a block.
 use Rattle.std.specs.Prelude.{◌≡◌, ℕ, ◌+◌, ◌*◌, ◌<◌, Bool, List, Option, is_none, slice_index, if◌then◌else◌, ◌≤◌, ◌++◌, true, length}
 use Rattle.tally_base.{specs.Settings.ImageView, specs.declared.settings.ImageSet.ImageSet, specs.Tally.{History, floor_after}, specs.declared.block.Block.Block, specs.Columns.{count, code_at, time_at, item, rows, gathered, IsSorted}, specs.Limits.record_limit}
 use Rattle.marker_map.{specs.declared.lines.Lines.Lines, specs.declared.strip.Strip.Strip, specs.Lines.{Saw, image_of, markers_given, line_start}, specs.Places.{Mark, place_of}, specs.Strips.{place_on, width_of, height_of}}
@@ -22,11 +22,11 @@ pub record IsBehind (over : HowMany → Type 0) (set : ImageView) (lines : Lines
   pub counted : over (λ test. count_met set test h)
   pub saw : Saw lines (markers h)
 
--- Where some counts are behind the events up to one place of a block, others are behind those up to another.
+-- Where some counts are after the events up to one place of a block, others are after those up to another.
 abbrev pub CountsOn : {N : ℕ} → (HowMany → Type 0) → (HowMany → Type 0) → ImageView → Lines → Block N → ℕ → ℕ → Type 0
 CountsOn before after set lines block from at = (h : History) → IsBehind before set lines (h ++ rows (item block) from) → IsBehind after set lines (h ++ rows (item block) at)
 
--- The strip tells where photons are behind the markers that the lines saw.
+-- The strip tells where photons are after the markers that the lines saw.
 abbrev pub IsStripOf : Lines → Strip → Type 0
 IsStripOf lines strip = (ms : List Mark) → Saw lines ms → (time : ℕ) → place_on strip time ≡ place_of (image_of lines) time ms
 
@@ -35,7 +35,7 @@ pub record IsOfSize (set : ImageSet) (strip : Strip) : Type 0 where
   pub width : width_of strip ≡ set.width
   pub height : height_of strip ≡ set.height
 
--- Where some counts and lines are behind any events, others are behind these and more.
+-- Where some counts and lines are after any events, others are after these and more.
 abbrev pub CountsMore : (HowMany → Type 0) → (HowMany → Type 0) → ImageView → Lines → Lines → History → Type 0
 CountsMore before after set lines lines' more = (h : History) → IsBehind before set lines h → IsBehind after set lines' (h ++ more)
 

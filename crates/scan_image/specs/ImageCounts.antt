@@ -16,7 +16,7 @@ markers h = filter_map (λ x. mark_at x.0.time x.0.kind) h
 abbrev pub count_behind : (History → Event × ℕ → Bool) → History → ℕ
 count_behind test h = count_by (λ i. option_map_or (test (take i h)) (slice_get h i) false) (range_with_len 0 (length h))
 
--- a photon of the group whose place behind these events, if it has one, passes the test together with its dtime
+-- a photon of the group whose place after these events, if it has one, passes the test together with its dtime
 abbrev pub is_met : ImageView → (Option (ℕ × ℕ) → ℕ → Bool) → History → Event × ℕ → Bool
 is_met set test before x = is_in x.1 set.group && dtime_passes (test (place_of set x.0.time (markers before))) x.0.kind
 

@@ -35,7 +35,7 @@ pub struct Image {
 impl Image {
     ghost use Rattle.scan_image.{specs.ImageCounts.{in_cell, count_outside}, specs.Image.{Holds, set_of}};
 
-    /// An image of no events, with all the memory that it ever takes, or `AllocError` where it is wanting.
+    /// An image of no events, with all the memory that it ever takes, or `AllocError` where there is not enough.
     pub fn open(alloc: Global, set: ImageSet) -> Result<Image, AllocError>
         ensures set { IfOk result (λ t. set_of t ≡ set) }
         ensures settings { IfOk result (λ t. ⟦<Image as Tally>⟧.settings t ≡ ImageSettings (image_view set)) }

@@ -1,4 +1,4 @@
--- Events that come in order behind all that are kept back.
+-- Events that come in order after all that are kept back.
 use Rattle.std.{specs.Prelude.{ℕ, ◌+◌, ◌≡◌, ◌<◌, ◌≤◌, ◌++◌, false, List, [], ◌∷◌, length, ◌&&◌, not, nat_lt, true, None, IfSome, is_some}, specs.List.AllByRecursion, specs.declared.option.Option.Option, specs.Option.option_to_list}
 use Rattle.tally_base.specs.declared.event.Event.{Event}
 use Rattle.ptu_definitions.{specs.Prefixes.each_after, specs.Settled.{marked_as, settles, is_overtaken, put_in}}
@@ -15,7 +15,7 @@ abbrev pub place_after : ℕ → List Event → ℕ
 place_after place [] = place
 place_after place (e ∷ es) = place_after e.place es
 
--- the least place behind them
+-- the least place after them
 abbrev pub next_after : ℕ → List Event → ℕ
 next_after next [] = next
 next_after next (e ∷ es) = next_after (e.place + 1) es
@@ -25,7 +25,7 @@ abbrev pub time_after : ℕ → List Event → ℕ
 time_after time [] = time
 time_after time (e ∷ es) = time_after e.time es
 
--- These events come in order behind all that are kept back, which are as many as may be. Of both together the first go,
+-- These events come in order after all that are kept back, which are as many as may be. Of both together the first go,
 -- up to this time, and the last stay. The last that came has this place.
 pub record ComesBehind (s : Settle) (came went stay : List Event) (time place : ℕ) : Type 0 where
   pub unpopped : was_popped s ≡ false
@@ -39,14 +39,14 @@ pub record ComesBehind (s : Settle) (came went stay : List Event) (time place : 
   pub time_is : time ≡ time_after (last_time s) went
   pub place_is : place + 1 ≡ next_after (next_place s) came
 
--- Behind some events these came, and with them these were let go, none of them late.
+-- After some events these came, and with them these were let go, none of them late.
 pub record HasPassed (old new : Settle) (pushed given came went : List Event) : Type 0 where
   pub settled : HasSettled new (pushed ++ came) (given ++ went)
   pub tells : each_after (settles (reach_of old)) pushed came ≡ marked_as false went
 
 -- What a push of an event does.
 
--- Behind some events this one came. If it is late it tells so, and else the least of all, if one is emitted.
+-- After some events this one came. If it is late it tells so, and else the least of all, if one is emitted.
 pub record HasPushed (old new : Settle) (pushed given : List Event) (event : Event) (answer : Settled) : Type 0 where
   pub settled : HasSettled new (pushed ++ event ∷ []) (given ++ option_to_list answer.emitted)
   pub overtaken : answer.late ≡ is_overtaken (reach_of old) pushed event

@@ -8,7 +8,7 @@ pub record Precedes (x y : Event) : Type 0 where
   pub in_time : x.time ≤ y.time
   pub ties : x.time ≡ y.time → x.place < y.place
 
--- Each event is before all behind it.
+-- Each event is before all after it.
 abbrev pub IsInOrder : List Event → Type 0
 IsInOrder [] = Unit {0}
 IsInOrder (x ∷ xs) = AllByRecursion (λ y. Precedes x y) xs × IsInOrder xs

@@ -20,7 +20,7 @@ abbrev pub next_behind : Option ℕ → ℕ
 next_behind None = 0
 next_behind (Some place) = place + 1
 
--- the least place that the next event may have: any where there was none, and else one behind the last
+-- the least place that the next event may have: any where there was none, and else one after the last
 abbrev pub next_place : Settle → ℕ
 next_place s = next_behind s.place
 

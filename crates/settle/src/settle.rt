@@ -113,7 +113,7 @@ impl Settle {
         self.waiting.as_slice()
     }
 
-    /// Takes events that come in order behind all that it keeps back, which are as many as may be. Of both
+    /// Takes events that come in order after all that it keeps back, which are as many as may be. Of both
     /// together these last ones stay, as many, and all before these are let go, up to this time. The last
     /// event that came has this place.
     pub fn pass(&mut self, stay: &[Event], time: u64, place: u64)
@@ -164,7 +164,7 @@ fn place_of(events: &[Event], time: u64) -> usize
     at
 }
 
-/// Puts an event behind all that are not later.
+/// Puts an event after all that are not later.
 fn put_in(waiting: &mut ArrayVec<Event, 64>, event: Event)
     requires room { array_vec_len waiting.old < 64 }
     requires rising { IsNonDecreasingBy (λ (x : Event). x.time) waiting.old.items }
@@ -176,7 +176,7 @@ fn put_in(waiting: &mut ArrayVec<Event, 64>, event: Event)
     waiting.insert(at, event);
 }
 
-/// Puts an event behind all that are not later, and takes out the first.
+/// Puts an event after all that are not later, and takes out the first.
 fn exchange(waiting: &mut ArrayVec<Event, 64>, event: Event) -> Event
     requires rising { IsNonDecreasingBy (λ (x : Event). x.time) waiting.old.items }
     ensures value { result ∷ waiting.new.items ≡ put_in event waiting.old.items }

@@ -1,4 +1,4 @@
--- More text is put behind a text, whatever the tables stand for.
+-- More text is put after a text, whatever the tables stand for.
 use Rattle.std.{proofs.Common.{◌≡◌, ℕ, zero, suc, ◌+◌, ◌-◌, ◌<◌, List, [], ◌++◌, refl, sym, ap, ◌∙◌, append_assoc, append-nil, arith, ◌≤◌, ◌∷◌, take, drop, get_or, length, subst, take-append-drop, Bool, count_by, cond, fold}, specs.declared.option.Option.Option, proofs.lemmas.List.{take_all, take_more}, proofs.lemmas.List.Elements.{All-head, All-tail}}
 use Rattle.bench_io.{specs.Sinks.{AppendsShort, PassesOn}, proofs.Bytes.{PassesOn-held, PassesOn-trans, AppendsShort-passed, AppendsShort-more, AppendsShort-same}}
 use Rattle.table_out.{specs.Printed.{texts, texts_of}, specs.Report.{PutsText, CutsText, Table, StandsFor, EachHolds, same_kind, part_text, table_text, parts_text, with_events}}
@@ -37,13 +37,13 @@ module _ {A : Type 0} (holds : A → Type 0) where
   puts-more text next a b c held mid now first then' h is =
       rw (← append_assoc held (text h) (next h)) (PassesOn-trans a b c (held ++ text h) mid (next h) now (first h is) (then' h is))
 
-  -- the sink fails behind a text
+  -- the sink fails after a text
   pub cuts-behind : (text next : A → List ℕ) (a b c : Option (List ℕ)) (held mid : List ℕ)
       → PutsText holds text a b held mid → CutsText holds next b c mid → CutsText holds (λ h. text h ++ next h) a c held
   cuts-behind text next a b c held mid first then' h is =
       AppendsShort-same a c _ _ (append_assoc held (text h) (next h)) (AppendsShort-passed a b c (held ++ text h) mid (next h) (first h is) (then' h is))
 
-  -- a text that is cut has more behind it
+  -- a text that is cut has more after it
   pub cuts-front : (text whole : A → List ℕ) (a b : Option (List ℕ)) (held : List ℕ)
       → ((h : A) → (rest : List ℕ) × (whole h ≡ text h ++ rest)) → CutsText holds text a b held → CutsText holds whole a b held
   cuts-front text whole a b held begins cut h is =
@@ -63,7 +63,7 @@ module _ {A : Type 0} (holds : A → Type 0) where
       (λ h. texts-front (λ place. text place h) (suc n) (size - suc n) size (omega (arith, inside)))
       (cuts-behind (texts_of text n) (text n) a b c held mid so_far cut)
 
--- Tables by their kinds, and one behind the other.
+-- Tables by their kinds, and one after the other.
 
 -- ## The tables, each with what it stands for
 

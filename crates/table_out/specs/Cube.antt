@@ -10,7 +10,7 @@ use Rattle.table_out.specs.Printed.{Printed}
 abbrev pub triple_line : ℕ → ℕ → ℕ → ℕ → List ℕ
 triple_line first second third count = if count == 0 then [] else decimal first ++ codes " " ++ (decimal second ++ codes " " ++ line (decimal third) (decimal count))
 
--- a row of a cube has the bins of each of its pixels, one pixel behind the other
+-- a row of a cube has the bins of each of its pixels, one pixel after the other
 unfoldable pub cube_printed : CubeView → Printed
 cube_printed set = record {
   word = codes "cube";

@@ -3,7 +3,7 @@ use Rattle.std.specs.Prelude.{ℕ, zero, suc, ◌==◌, List, [], ◌++◌, code
 use Rattle.tally_base.specs.Tally.{History}
 use Rattle.list_out.specs.Lines.{line}
 
--- the texts of the first places, one behind the other
+-- the texts of the first places, one after the other
 abbrev pub texts : (ℕ → List ℕ) → ℕ → List ℕ
 texts text zero = []
 texts text (suc n) = texts text n ++ text n
@@ -28,14 +28,14 @@ pair_line first second count = if count == 0 then [] else decimal first ++ codes
 pub record Printed : Type 0 where
   -- the name of its kind
   pub word : List ℕ
-  -- its settings, as its first line has them behind its number
+  -- its settings, as its first line has them after its number
   pub settings : List ℕ
   -- how many rows of cells it has, and how many columns a row has
   pub rows : ℕ
   pub columns : ℕ → ℕ
   -- the line of the cell in a row and a column
   pub cell : ℕ → ℕ → History → List ℕ
-  -- the lines behind the cells
+  -- the lines after the cells
   pub rest : History → List ℕ
 
 -- its first line, by its number

@@ -39,11 +39,11 @@ part_text number settings = table_lines (printed settings) number
 abbrev pub Table : Type 0
 Table = PartSettings × History
 
--- a table behind others: its number is its place among those of its kind, from 1
+-- a table after others: its number is its place among those of its kind, from 1
 abbrev pub table_text : List Table → Table → List ℕ
 table_text before table = part_text (count_by (λ other. same_kind table.0 other.0) before + 1) table.0 table.1
 
--- tables one behind the other
+-- tables one after the other
 abbrev pub parts_text : List Table → List ℕ
 parts_text tables = each table_text tables
 
@@ -71,7 +71,7 @@ EachHolds (p ∷ parts) (table ∷ tables) = StandsFor p table × EachHolds part
 
 -- What is put into a block of a text that depends on the events of a table, or of tables.
 
--- For everything that the table or the tables may stand for, the text is put behind the bytes that the block held.
+-- For everything that the table or the tables may stand for, the text is put after the bytes that the block held.
 abbrev pub PutsText : {A : Type 0} → (A → Type 0) → (A → List ℕ) → Option (List ℕ) → Option (List ℕ) → List ℕ → List ℕ → Type 0
 PutsText {A} holds text old new held now = (h : A) → holds h → PassesOn old new (held ++ text h) now
 

@@ -17,7 +17,7 @@ pub(crate) trait Prints: Tally {
         ensures text { result.now ≡ (printed (Self.settings self.now)).word }
         ensures short { length result.now ≤ 16 };
 
-    /// Its settings, as its first line has them behind its number.
+    /// Its settings, as its first line has them after its number.
     fn settings_text(&self) -> ArrayVec<u8, 160>
         ensures { result.items ≡ (printed (Self.settings self.now)).settings };
 
@@ -37,7 +37,7 @@ pub(crate) trait Prints: Tally {
         requires column { column < (printed (Self.settings self.now)).columns row }
         ensures { (h : History) → Self.holds self.now h → result.now ≡ (printed (Self.settings self.now)).cell row column h };
 
-    /// The lines behind the cells.
+    /// The lines after the cells.
     fn rest_lines(&self) -> ArrayVec<u8, 64>
         ensures { (h : History) → Self.holds self.now h → result.items ≡ (printed (Self.settings self.now)).rest h };
 }

@@ -22,13 +22,13 @@ pub(crate) fn number(word: &str, at: usize, default: u64) -> Result<u64, Fail> {
     }
 }
 
-/// What a photon's word tells behind its time: its dtime and its groups.
+/// What a photon's word tells after its time: its dtime and its groups.
 fn photon_of(word: &str) -> Result<(EventKind, u64), Fail> {
     let dtime = u16::try_from(number(word, 2, 9)?)?;
     Ok((EventKind::Photon { input: 1, dtime }, number(word, 1, 1)?))
 }
 
-/// What a marker's word tells behind its time: its bits, and its groups.
+/// What a marker's word tells after its time: its bits, and its groups.
 fn marker_of(word: &str) -> Result<(EventKind, u64), Fail> {
     let bits = u8::try_from(number(word, 1, 0)?)?;
     Ok((EventKind::Marker { bits }, number(word, 2, u64::MAX)?))
@@ -44,7 +44,7 @@ fn event_of(word: &str) -> Result<Given, Fail> {
     Ok((number(word, 0, 0)?, kind, groups))
 }
 
-/// Puts the event of a word behind others, as `3*5` three times.
+/// Puts the event of a word after others, as `3*5` three times.
 fn put(events: &mut Vec<Given>, word: &str) -> Result<(), Fail> {
     let (times, word) = word.split_once('*').unwrap_or(("1", word));
     let event = event_of(word)?;
@@ -156,7 +156,7 @@ pub(crate) fn holds(right: bool, what: &str) -> Result<(), Fail> {
     Err(Fail::new(what))
 }
 
-/// What stands before the first bar of a line, and behind it.
+/// What stands before the first bar of a line, and after it.
 pub(crate) fn halves(line: &str) -> (&str, &str) {
     line.split_once(" | ").unwrap_or((line, ""))
 }

@@ -1,4 +1,4 @@
-// Places of photons behind known markers: the test of `marker_map`.
+// Places of photons after known markers: the test of `marker_map`.
 use crate::given::{Given, events_of, halves, holds, plan_of, same};
 use crate::rows::PLACES;
 use marker_map::Lines;
@@ -6,7 +6,7 @@ use std::alloc::Global;
 use std::test::Fail;
 use tally_base::{EventKind, ImageSet};
 
-/// The place of a photon behind these markers.
+/// The place of a photon after these markers.
 fn place(set: &ImageSet, markers: &[Given], photon: u64) -> Result<Option<(u32, u32)>, Fail> {
     if markers.len() > 100 {
         return Err(Fail::new("a row has too many markers"));

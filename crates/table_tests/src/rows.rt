@@ -84,7 +84,7 @@ the greatest times | correlation = [{ first = 1, second = 2, lags = 128, levels 
 the greatest correlation: each pair is in its cells | correlation = [{ first = 1, second = 2, lags = 128, levels = 40 }] | 0 1:2 128:2 35734127902720:2 | 5120: 0=1 127=1 5056=1
 ";
 
-/// A name, an image, markers, and the column and the row of photons behind them.
+/// A name, an image, markers, and the column and the row of photons after them.
 pub(crate) const PLACES: &str =
     "before any line | image = [{ group = 1, width = 2, height = 2, dwell = 10, line = 1 }] | m0:2 m0:4 m0:8 | 0=- 5=-
 a line before any frame | image = [{ group = 1, width = 2, height = 2, dwell = 10, line = 1, frame = 2 }] | m0:1 | 0=- 5=-

@@ -55,7 +55,7 @@ pub rows-push : (places times marks : List ℕ) (n place time mark code dtime : 
     → rows (row (set places n place) (set times n time) (set marks n mark)) (n + 1) ≡ rows (row places times marks) n ++ e ∷ []
 rows-push places times marks n place time mark code dtime e in1 in2 in3 is few byte p t c d = search (rules, arith, kind-again, kind-joined, rows-written)
 
--- the first rows of other columns, copied behind the rows that stand
+-- the first rows of other columns, copied after the rows that stand
 
 abbrev pub copied : ℕ → ℕ → List ℕ → List ℕ → List ℕ
 copied start front column other = take start column ++ (take front other ++ drop (start + front) column)
@@ -80,7 +80,7 @@ rows-joined f g h n (suc m) first next =
     let last : h (n + m) ≡ g m = next m (omega arith) in
     ap (rows h) e ∙ more_rows h (n + m) ∙ rw (before, last) (append_assoc (rows f n) (rows g m) (g m ∷ []))
 
--- each column of the first rows, behind those that stand, of which the first so many are events
+-- each column of the first rows, after those that stand, of which the first so many are events
 pub rows-copied : (places times marks ps ts ms p2 t2 m2 : List ℕ) (n m k : ℕ) → k ≤ m
     → n ≤ length places → n ≤ length times → n ≤ length marks → m ≤ length ps → m ≤ length ts → m ≤ length ms
     → p2 ≡ copied n m places ps → t2 ≡ copied n m times ts → m2 ≡ copied n m marks ms
@@ -90,7 +90,7 @@ rows-copied places times marks ps ts ms p2 t2 m2 n m k le in1 in2 in3 few1 few2 
     (λ i lt. rw (before-part n m places ps i lt in1, before-part n m times ts i lt in2, before-part n m marks ms i lt in3) refl)
     (λ i lt. let few : i < m = omega (arith, lt, le) in rw (in-part n m places ps i few in1 few1, in-part n m times ts i few in2 few2, in-part n m marks ms i few in3 few3) refl))
 
--- the rows up to one, and those behind it
+-- the rows up to one, and those after it
 pub rows-split : {A : Type 0} (f : ℕ → A) (i n : ℕ) → i ≤ n → (back : List A) × (rows f n ≡ rows f i ++ back)
 rows-split f i zero few = let e : i ≡ zero = omega (arith, few) in ([], rw e refl)
 rows-split f i (suc n) few =

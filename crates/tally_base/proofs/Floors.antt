@@ -11,7 +11,7 @@ pub floor-more : (strict : Bool) (floor : ℕ) (f : ℕ → Event) (n : ℕ)
     → floor_after strict floor (rows f (n + 1)) ≡ (if moves_floor strict (f n) then (f n).time else floor_after strict floor (rows f n))
 floor-more strict floor f n = ap (floor_after strict floor) (more_rows f n) ∙ floor-push strict floor (rows f n) (f n)
 
--- what an event must be behind others
+-- what an event must be after others
 abbrev pub Next : Bool → ℕ → List Event → Event → Type 0
 Next strict floor es e = (e.time ≤ time_limit) × (IsTrue (moves_floor strict e) → floor_after strict floor es ≤ e.time)
 
@@ -94,11 +94,11 @@ greatest-rows strict h f (suc n) all =
     ∙ later (moves_floor strict (f n).0) (floor_after strict floor es) (f n).0.time (order-last strict floor es (f n).0 all).1
     ∙ sym (floor-push strict floor es (f n).0)
 
--- the greatest time behind a block
+-- the greatest time after a block
 pub greatest_block : (strict : Bool) (h : History) {N : ℕ} (b : Block N) (floor now : ℕ) → floor ≡ greatest_time strict h → InOrder strict floor (gathered b) → now ≡ floor_after strict floor (gathered b) → now ≡ greatest_time strict (h ++ events_in b)
 greatest_block strict h b floor now is ordered after = search (rules, arith, greatest-rows)
 
--- Events in order behind a floor are in order behind a lower one.
+-- Events in order after a floor are in order after a lower one.
 
 lower : (b : Bool) (low floor time : ℕ) → low ≤ floor → (if b then time else low) ≤ (if b then time else floor)
 lower b low floor time below = search (rules, arith)

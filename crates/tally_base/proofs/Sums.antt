@@ -1,4 +1,4 @@
--- Sums over numbers, and what is counted by a number: in a range and behind it is all.
+-- Sums over numbers, and what is counted by a number: in a range and after it is all.
 use Rattle.std.{proofs.Common.{rules, ◌≡◌, ◌∙◌, ℕ, zero, suc, ◌+◌, ◌<◌, ◌≤◌, Bool, true, false, ◌&&◌, cond, eqb, leb, List, [], ◌∷◌, refl, ap, arith, ltb, ◌++◌, length, take, drop, ◌*◌, ◌/◌, ◌%◌, sym}, specs.List.{count_by, sum_by, range_with_len}, proofs.lemmas.Grind.common_steps, proofs.lemmas.Bool.Decides.nat_tests, proofs.lemmas.List.Sums.sum_by-cons, proofs.Math.Nat.{div-eq_of_lt-le, div-add-mod, lt_of_mul-lt-mul_left, mul-le-mul_left, mul-le-mul_right, mul-lt-mul_of_pos_right, lt-mul-div-succ, mul-div-le, mod-lt}}
 
 pub sum_same : {X : Type 0} (f g : X → ℕ) → ((x : X) → f x ≡ g x) → (xs : List X) → sum_by f xs ≡ sum_by g xs
@@ -42,7 +42,7 @@ in_or_behind : (a n : ℕ) (b : Bool) → leb n a ≡ b → sum_by (λ i. cond (
 in_or_behind a n true is = let past : n ≤ a = grind (arith, nat_tests, is) in omega (arith, behind_range a 0 n 1 (omega (arith, past)))
 in_or_behind a n false is = let inside : a < n = grind (arith, nat_tests, is) in omega (arith, in_range a 0 n 1 (omega arith) (omega (arith, inside)))
 
--- one that passes has a number in the range or behind it
+-- one that passes has a number in the range or after it
 one_part : (b : Bool) (a n : ℕ) → sum_by (λ i. cond (b && eqb a i) 1 0) (range_with_len 0 n) + cond (b && leb n a) 1 0 ≡ cond b 1 0
 one_part true a n = in_or_behind a n (leb n a) refl
 one_part false a n = ap (λ s. s + 0) (sum_none (range_with_len 0 n))

@@ -44,7 +44,7 @@ IsSorted b = b.sorted ≡ b.len
 abbrev pub event_by : ℕ → ℕ → ℕ → ℕ → Event
 event_by place code dtime time = record { place = place; kind = kind_of code dtime; time = time }
 
--- the first so many rows, also those behind its end
+-- the first so many rows, also those after its end
 abbrev pub written : {N : ℕ} → Block N → ℕ → List Event
 written b n = rows (event_at b) n
 

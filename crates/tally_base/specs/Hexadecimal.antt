@@ -1,7 +1,7 @@
 -- Hexadecimal digits in upper case.
 use Rattle.std.specs.Prelude.{ℕ, zero, suc, ◌+◌, ◌-◌, ◌*◌, ◌/◌, ◌%◌, ◌^◌, nat_lt, List, [], ◌∷◌, if◌then◌else◌}
 
--- the digit of a number that has `below` digits behind it
+-- the digit of a number that has `below` digits after it
 abbrev pub digit_at : ℕ → ℕ → ℕ
 digit_at number below = number / 2 ^ (4 * below) % 16
 

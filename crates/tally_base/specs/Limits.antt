@@ -9,6 +9,6 @@ record_limit = 2 ^ 40
 abbrev pub wrap_limit : ℕ
 wrap_limit = 2 ^ 62
 
--- The greatest time of an event: behind all wraps comes the time field of its record, which is below 2^28.
+-- The greatest time of an event: after all wraps comes the time field of its record, which is below 2^28.
 abbrev pub time_limit : ℕ
 time_limit = wrap_limit + 2 ^ 28

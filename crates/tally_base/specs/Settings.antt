@@ -5,7 +5,7 @@ use Rattle.std.{specs.Prelude.{ℕ, ◌+◌, ◌-◌, ◌*◌, ◌/◌, ◌^◌,
 pub record GroupView : Type 0 where
   -- bit n is set for the input n
   pub inputs : ℕ
-  -- of each gate the first dtime, and the first behind it
+  -- of each gate the first dtime, and the first after it
   pub gates : List (ℕ × ℕ)
 
 pub record ShiftView : Type 0 where

@@ -22,7 +22,7 @@ in_all_bins bins in_bin = sum_by in_bin (range_with_len 0 bins)
 abbrev pub photons_of_group : ℕ → History → ℕ
 photons_of_group group h = count_by (λ x. is_photon x.0 && is_in x.1 group) h
 
--- Events behind other events.
+-- Events after other events.
 
 -- the time of the last event that comes in order, or this one
 abbrev pub floor_after : Bool → ℕ → List Event → ℕ

@@ -141,7 +141,7 @@ impl<const N: usize> Block<N> {
         floor
     }
 
-    /// Puts the first so many of eight events behind the others. What is written behind them is no event of the block.
+    /// Puts the first so many of eight events after the others. What is written after them is no event of the block.
     #[inline(always)]
     pub fn put_eight(&mut self, places: u64x8, marks: u32x8, times: u64x8, front: usize)
         requires lanes { (length places ≡ 8) × (length marks ≡ 8) × (length times ≡ 8) }
@@ -157,7 +157,7 @@ impl<const N: usize> Block<N> {
         self.len = start + front;
     }
 
-    /// Puts an event behind the others. There are fewer than `N`. Its groups are to be put.
+    /// Puts an event after the others. There are fewer than `N`. Its groups are to be put.
     #[inline(always)]
     pub fn push(&mut self, e: &Event)
         requires { length (gathered self.old) < N }
@@ -171,7 +171,7 @@ impl<const N: usize> Block<N> {
         self.len = at + 1;
     }
 
-    /// Puts the first so many events of another block behind the others, each column at once. Their groups are
+    /// Puts the first so many events of another block after the others, each column at once. Their groups are
     /// to be put.
     #[inline(always)]
     pub fn push_front<const M: usize>(&mut self, other: &Block<M>, front: usize)
@@ -216,7 +216,7 @@ impl<const N: usize> Block<N> {
         self.sorted = at + 1;
     }
 
-    /// Puts the groups of all events, each at its place. A marker has none. What stands behind the last event
+    /// Puts the groups of all events, each at its place. A marker has none. What stands after the last event
     /// has no meaning.
     #[inline(always)]
     pub fn put_all(&mut self, groups: &[u64; N])
@@ -231,7 +231,7 @@ impl<const N: usize> Block<N> {
         self.sorted = self.len;
     }
 
-    /// Finds the groups of all events by a table, which has those of the photons of each input, and none behind
+    /// Finds the groups of all events by a table, which has those of the photons of each input, and none after
     /// them, where markers are looked up.
     #[inline(always)]
     pub fn sort_by(&mut self, groups: &[u64; 257])
@@ -252,7 +252,7 @@ impl<const N: usize> Block<N> {
 
     /// Finds the groups of all events by a gate, a range of dtimes from its first number on and below its second,
     /// and a table. It has those of the photons of each input, first of those whose dtimes aren't in the gate and
-    /// then of those whose are, and none behind them, where markers are looked up.
+    /// then of those whose are, and none after them, where markers are looked up.
     #[inline(always)]
     pub fn sort_by_gate(&mut self, gate: (u16, u16), groups: &[[u64; 2]; 257])
         requires unsorted { sorted self.old ≡ 0 }

@@ -54,7 +54,7 @@ pub fn is_in(groups: u64, group: u8) -> bool
     (groups >> (group - 1)) & 1 == 1
 }
 
-/// What becomes of a late event: one in order of time that comes behind a greater time.
+/// What becomes of a late event: one in order of time that comes after a greater time.
 #[derive(Clone, Copy, Debug, PartialEq, Eq)]
 pub enum Order {
     /// It is counted as late and left out.

@@ -211,7 +211,7 @@ fn put_around(into: &mut ArrayVec<u8, 96>, before: &[u8], number: u64, behind: &
     put_text(into, behind);
 }
 
-/// Appends the number of a record with a text behind it.
+/// Appends the number of a record with a text after it.
 fn put_record(into: &mut ArrayVec<u8, 96>, place: u64, behind: &[u8])
     requires { array_vec_len into.old + 27 + length behind.now ≤ 96 }
     ensures items { into.new.items ≡ into.old.items ++

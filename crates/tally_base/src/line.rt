@@ -49,7 +49,7 @@ pub fn put_hexadecimal<const N: usize>(line: &mut ArrayVec<u8, N>, number: u64, 
     }
 }
 
-/// The hexadecimal digit of a number that has `below` digits behind it.
+/// The hexadecimal digit of a number that has `below` digits after it.
 fn digit(number: u64, below: u32) -> u8
     requires { below < 16 }
     ensures { result ≡ digit_code (digit_at number below) }

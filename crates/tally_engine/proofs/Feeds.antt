@@ -31,7 +31,7 @@ settled-given : (by : Sorting) (stream : RecordStream) (bytes : List ℕ) → Ha
 unfolding settled_history
 settled-given by stream bytes h none = search (rules, arith, given-clear, delivered-settled)
 
--- The events of a piece come behind those that were given.
+-- The events of a piece come after those that were given.
 pub settled-fed : (by : Sorting) (old new : RecordStream) (bytes piece : List ℕ) (more : Marked) → HasStreamed old bytes → refused_with old ≡ None
     → HasStreamed new (bytes ++ piece) → refused_with new ≡ None → how_of new ≡ how_of old
     → given (how_of old) (words_of (bytes ++ piece)) ≡ given (how_of old) (words_of bytes) ++ more
@@ -77,6 +77,6 @@ pub of_faults : {X : Type 0} {P Q : Fault → Type 0} (r : Result X Fault) (refu
     → refused ≡ fault_in r → ((fault : Fault) → refused ≡ Some fault → P fault → Q fault) → IfErr r P → IfErr r Q
 of_faults r refused is follows p = search (rules, arith)
 
--- what holds behind a piece that was taken
+-- what holds after a piece that was taken
 pub where_taken : {X A : Type 0} (r : Result X Fault) (refused : Option Fault) → refused ≡ fault_in r → OnOk r A → refused ≡ None → A
 where_taken r refused is a none = search (rules, arith)

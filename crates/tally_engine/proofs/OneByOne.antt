@@ -22,7 +22,7 @@ pub left_more : {X : Type 0} (old now : List X) (i : ℕ) (v : X) → ((k : ℕ)
     → (k : ℕ) (d : X) → i + 1 ≤ k → get_or (set now i v) k d ≡ get_or old k d
 left_more old now i v left k d above = rw (behind now i k v d (omega (arith, above))) (left k d (omega (arith, above)))
 
--- Tables that are opened one behind the other.
+-- Tables that are opened one after the other.
 
 pub standing_first : (mode : Mode) (taken floor : ℕ) (settings : PartSettings) (p : Part)
     → (mode ≡ T2 → is_strict (ghosts.settings p) ≡ false) → IsOpened settings p → Standing ghosts mode taken floor p
@@ -44,7 +44,7 @@ opened_more settings items new part pushed opened all =
 pub take_more : {S : Type 0} (sets : List S) (k : ℕ) (set d : S) → k < length sets → set ≡ get_or sets k d → take (k + 1) sets ≡ take k sets ++ set ∷ []
 take_more sets k set d within is = let more : k + 1 ≡ suc k = omega arith in rw (more, is) (take-suc sets k d within)
 
--- lists that were put one behind the other
+-- lists that were put one after the other
 pub behind_all : (front next : List PartSettings) (more : List (List PartSettings))
     → (front ++ next) ++ flat_map (λ l. l) more ≡ front ++ flat_map (λ l. l) (next ∷ more)
 behind_all front next more = append_assoc front next (flat_map (λ l. l) more)

@@ -92,7 +92,7 @@ abbrev pub Finishes : Engine → List ℕ → Result Results Fault → Type 0
 Finishes engine bytes (Ok results) = IsCounted engine bytes results
 Finishes engine bytes (Err fault) = streamed (reading_of engine) bytes ≡ Err fault
 
--- An engine is opened where the parts suit the mode, or else their fault is answered. Only memory may be wanting, and only where there is a table.
+-- An engine is opened where the parts suit the mode, or else their fault is answered. Only memory may run out, and only where there is a table.
 abbrev pub OpensAs : {A : Type 0} → Mode → PlanView → Result A Fault → Type 0
 OpensAs mode plan (Ok engine) = fits mode plan ≡ Ok tt
 OpensAs mode plan (Err fault) = (fits mode plan ≡ Err fault) ⊎ ((fits mode plan ≡ Ok tt) × (fault ≡ OutOfMemory) × (0 < length (parts_of plan)))

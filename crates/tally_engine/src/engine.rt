@@ -42,7 +42,7 @@ impl Engine {
     /// An engine of no bytes, for a plan and the header of a file.
     ///
     /// Refuses with `PlanMode` a part of the plan that doesn't suit the mode of the file, and else with
-    /// `OutOfMemory` where memory for a table is wanting. The greatest number of records is 1 to 2^40.
+    /// `OutOfMemory` where there is not enough memory for a table. The greatest number of records is 1 to 2^40.
     pub fn open(alloc: Global, plan: &Plan, header: &Header) -> Result<Engine, Fault>
         requires records { (0 < plan.now.policy.records) × (plan.now.policy.records ≤ record_limit) }
         ensures answer { OpensAs (mode_of header.now.record_type) (plan_view plan.now) result }
@@ -67,7 +67,7 @@ impl Engine {
         }
     }
 
-    /// Takes a piece of the bytes behind the header, and gives each event that isn't late to every
+    /// Takes a piece of the bytes after the header, and gives each event that isn't late to every
     /// table, a photon with its shifted dtime.
     ///
     /// Refuses one record more than the greatest number, and a wrap that makes the sum of wraps greater

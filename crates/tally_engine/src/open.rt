@@ -92,7 +92,7 @@ impl OpensPart for FoldSet {
     }
 }
 
-/// Puts tables of one kind behind the tables that are there.
+/// Puts tables of one kind after the tables that are there.
 fn open_list<S: OpensPart>(
     alloc: Global,
     sets: &[S],
@@ -110,7 +110,7 @@ fn open_list<S: OpensPart>(
     Ok(())
 }
 
-/// The tables of a plan, in the order of the report, which were given nothing. Memory is wanting only for a table.
+/// The tables of a plan, in the order of the report, which were given nothing. Memory runs out only for a table.
 #[tactic(auto, using(crate::proofs::OneByOne::behind_all))]
 pub(crate) fn open_all(alloc: Global, plan: &Plan) -> Result<Vec<Part>, AllocError>
     ensures settings { IfOk result (λ parts.

@@ -74,7 +74,7 @@ placed_upto [] ps most low = tt
 placed_upto (e ∷ es) [] most low = tt
 placed_upto (e ∷ es) (p ∷ ps) most low = (low 0, placed_upto es ps most (λ i. low (suc i)))
 
--- bins are laid one behind the other
+-- bins are laid one after the other
 laid_behind : (reach index place : ℕ) (es : List Entry) → AllByRecursion (λ f. place + 0 ≤ f.index) (laid reach index place es)
 laid_behind reach index place [] = tt
 laid_behind reach index place (e ∷ es) = search (rules, arith, all_weaker, laid_behind reach e.index (place + min (e.index - index) reach) es)
@@ -218,7 +218,7 @@ paired_laid : (reach index place k : ℕ) (es : List Entry) → k < reach → Is
 paired_laid reach index place k [] few spaced = refl
 paired_laid reach index place k (e ∷ es) few spaced = search (rules, arith, laid_at, paired_alike)
 
--- the same of bins behind others
+-- the same of bins after others
 module _ (reach first start : ℕ) (list back : List Entry) (spaced : IsSpaced 0 list)
     (both : laid reach first 0 list ≡ laid reach first 0 (take start list) ++ back) where
   abbrev all : List Entry

@@ -19,7 +19,7 @@ near_next d (suc i) es none some inside = (let one : suc i - 1 ≡ i = omega ari
 pub near_at : (d : ℕ) (es : List Entry) → near d (take 1 es) ≡ 0
 near_at d es = search (rules, arith)
 
--- fewer are near in a part of a list, and one more at most behind one bin
+-- fewer are near in a part of a list, and one more at most after one bin
 pub near_take : (d n : ℕ) (es : List Entry) → near d (take n es) ≤ near d es
 near_take d zero es = omega arith
 near_take d (suc n) [] = omega arith

@@ -32,7 +32,7 @@ module _ (set : CorrelationView) (level : ℕ) where
     b = rw (left.b, right.b) (sym (sum_by-append _ xs ys));
   }
 
-  -- where nothing that came is behind an index that the last bin hasn't, all is before it
+  -- where nothing that came is after an index that the last bin hasn't, all is before it
   is_after : (e : Entry) (n : ℕ) (closed open' : History) → IsBin set level e open' → AllByRecursion (λ x. bin level x < e.index) closed → AllByRecursion (λ x. bin level x ≤ n) (closed ++ open') → e.index ≢ n → AllByRecursion (λ x. bin level x < n) (closed ++ open')
   is_after e n closed open' is before after other =
       (let upto = of_some (bin level) e.index (λ m. m ≤ n) open' is.some is.here (all_back (λ x. bin level x ≤ n) closed open' after) in search (rules, arith, all_join, all_weaker))
@@ -80,7 +80,7 @@ module _ (set : CorrelationView) (level : ℕ) where
   come_push [] e came xs run come is after = search (rules, arith, append-nil)
   come_push (f ∷ es) e came xs run come is after = search (rules, arith, append_assoc, come_push es e (came ++ come.0) come.1 run come.5 is)
 
--- the first bin of a stretch, and those behind it
+-- the first bin of a stretch, and those after it
 pub stretch_more : (from count levels : ℕ) (list : List Entry) (none : Entry) → 0 < count → from < length list
     → stretch from count levels list ≡ raised levels (get_or list from none) ∷ stretch (from + 1) (count - 1) levels list
 stretch_more from count levels list none some inside = search (rules, arith, drop_more)

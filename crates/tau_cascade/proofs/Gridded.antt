@@ -84,7 +84,7 @@ module _ (g : Grid) (es : List Entry) (before start : ℕ) (is : start ≡ befor
       none_pass test (bins_from g start) (all_passed (λ e. ltb 0 (photons e)) (map (bin_at g) (range_with_len start count)))
       (λ side. unfolded side test ∙ sum_by-zero (λ e. test e.index ≡ false) (λ e. cond (test e.index) (weight_of side e) 0) kept none (λ e no. rw no refl))
 
-  -- what a test tells of a bin holds of those behind others as it holds of these
+  -- what a test tells of a bin holds of those after others as it holds of these
   as_kept : (P : Entry → Type 0) (test : ℕ → Bool) → ((e : Entry) → P e → test e.index ≡ false) → ((e : Entry) → test e.index ≡ false → P e)
       → (rs : List Entry) → AllByRecursion P (rs ++ kept) → AllByRecursion P (rs ++ bins_from g start)
   as_kept P test to back rs all = all_join P rs (bins_from g start) (all_front P rs kept all) (all_weaker (λ e. test e.index ≡ false) P back (bins_from g start)

@@ -62,7 +62,7 @@ module _ (before levels n : ℕ) (bins : List Entry) (spaced : IsSpaced 0 (map (
   pub laid_kept : (was : List Entry) (end' : ℕ) → take end' was ≡ take (length bins - n) (drop n bins) → merged_all (stretch 0 end' levels was) ≡ filter from (merged_all up)
   laid_kept was end' laid = search (rules, arith, laid, take_rest, up, kept_one, kept_bins)
 
--- no photon of bins is behind the last
+-- no photon of bins is after the last
 follow_upto : (set : CorrelationView) (level : ℕ) (e : Entry) (es : List Entry) (closed xs : History) → Follow set level closed (e ∷ es) xs → AllByRecursion (λ x. bin level x ≤ last_of e.index es) (closed ++ xs)
 follow_upto set level e [] closed xs follow = search (rules, arith, all_join, all_weaker, append-nil)
 follow_upto set level e (f ∷ fs) closed xs follow = rw (follow.2, ← append_assoc closed follow.0 follow.1) (follow_upto set level f fs (closed ++ follow.0) follow.1 follow.5)
@@ -81,7 +81,7 @@ merged_end (e ∷ es) some =
 
 -- What the bins of a list from a place on do, so many levels up, that are closed as merged ones, and what is kept of them.
 
--- a list behind the ring's entries, and the first index that the ring keeps
+-- a list after the ring's entries, and the first index that the ring keeps
 pub record Standing (set : CorrelationView) (level skipped : ℕ) (r : Ring) (levels start : ℕ) (list : List Entry) (before : ℕ) : Type 0 where
   pub skips : skipped ≡ skipped_lags set level
   pub lags : 0 < set.lags

@@ -26,7 +26,7 @@ paired-append lag before (e ∷ es) fs = search (rules, arith, e, append_assoc, 
 pub take_parts : (es : List Entry) (from at : ℕ) → from ≤ at → take at es ≡ take from es ++ take (at - from) (drop from es)
 take_parts es from at within = subst (λ m. take m es ≡ take from es ++ take (at - from) (drop from es)) (omega arith) (take-add from (at - from) es)
 
--- what the first of the bins from a place on adds, some levels up, behind some of those before it
+-- what the first of the bins from a place on adds, some levels up, after some of those before it
 pub paired_first : (levels : ℕ) (list : List Entry) (from at' end' : ℕ) (none : Entry) → from ≤ at' → at' < end' → end' ≤ length list → (k : ℕ)
     → paired_from (at' - from) k (map (raised levels) (take (end' - from) (drop from list)))
     ≡ weight_before k ((get_or list at' none).index / 2 ^ levels) (map (raised levels) (take (at' - from) (drop from list))) * (get_or list at' none).b

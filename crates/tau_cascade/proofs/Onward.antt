@@ -16,7 +16,7 @@ cut_bins side base at' index old es fs is long has before here = λ p inside.
     let other : at' ≢ p → sum_by f fs ≡ 0 = λ away. sum_by-zero (λ e. e.index ≡ index) f fs here (λ e there. grind (arith, nat_tests)) in
     grind (arith, nat_tests, get_or-set_at, get_or-set_other, sum_by-append f es fs, has p inside)
 
--- the bins of an index are taken out, behind which there are none
+-- the bins of an index are taken out, after which there are none
 pub stands_cut : (g : Grid) (at' index : ℕ) (es fs : List Entry) → g.base + at' ≡ index → at' < g.len → at' < length g.firsts → at' < length g.seconds
     → Stands g (es ++ fs) → AllByRecursion (λ e. e.index < index) es → AllByRecursion (λ e. e.index ≡ index) fs
     → Stands (record { base = g.base; len = at'; total = g.total; firsts = set g.firsts at' 0; seconds = set g.seconds at' 0 }) es

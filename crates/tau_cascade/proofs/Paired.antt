@@ -54,7 +54,7 @@ module _ (set : CorrelationView) (level : ℕ) where
       let one = occupied-more set level closed follow.0 e.index follow.4 follow.3.some follow.3.here in
       search (rules, arith, append_assoc, occupied_all es (closed ++ follow.0) follow.1 follow.5)
 
-  -- the bins rise behind those before them
+  -- the bins rise after those before them
   pub rising_all : (before es : List Entry) (closed xs : History) → IsRising before → ((n : ℕ) → AllByRecursion (λ x. bin level x < n) closed → AllByRecursion (λ f. f.index < n) before) → Follow set level closed es xs → IsRising (before ++ es)
   rising_all before [] closed xs rising bounded follow = rw append-nil rising
   rising_all before (e ∷ es) closed xs rising bounded follow =

@@ -20,7 +20,7 @@ pub spaced-rising : (es : List Entry) → IsRising es → IsSpaced 0 es
 spaced-rising [] rising = tt
 spaced-rising (e ∷ es) rising = search (rules, arith, all_weaker, spaced-rising es rising.1)
 
--- the same behind an index before them
+-- the same after an index before them
 pub spaced_behind : (d i : ℕ) (e : Entry) (es : List Entry) → i + d ≤ e.index → IsSpaced d (e ∷ es) → AllByRecursion (λ f. i + d ≤ f.index) (e ∷ es)
 spaced_behind d i e es first spaced = (first, all_weaker (λ f. e.index + d ≤ f.index) (λ f. i + d ≤ f.index) (λ f apart. omega arith) es spaced.0)
 

@@ -39,7 +39,7 @@ one_halved side base low off p e even is from = grind (arith, common_steps)
 abbrev pub AreHalved : ℕ → List ℕ → List ℕ → Type 0
 AreHalved off old new = (p : ℕ) → p < 4096 → get_or new p 0 ≡ cond (leb off p) (halved off old p) 0
 
--- a place has few photons, and none behind so many
+-- a place has few photons, and none after so many
 abbrev pub IsLow : ℕ → List ℕ → ℕ → Type 0
 IsLow len places p = (get_or places p 0 < 32768) × (len ≤ p → get_or places p 0 ≡ 0)
 

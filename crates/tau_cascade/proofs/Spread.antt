@@ -19,7 +19,7 @@ lower_more levels start i entries list e none inside room is so_far =
     let long : i < length (drop start list) = omega (arith, length-drop start list) in
     rw (drop-set-add start list i e, take_more_set (drop start list) i e long, map_push, so_far, take_more entries i none inside, is, shl-shr) refl
 
--- all are, and those behind them stay
+-- all are, and those after them stay
 pub lower_done : (levels start from : ℕ) (entries list was : List Entry) → start + length entries ≡ from
     → map (raised levels) (take (length entries) (drop start list)) ≡ entries → drop from list ≡ drop from was
     → map (raised levels) (drop start list) ≡ entries ++ map (raised levels) (drop from was)
@@ -33,7 +33,7 @@ pub spaced_before : (es : List Entry) (i n : ℕ) (none : Entry) → IsSpaced 0 
 spaced_before es i n none spaced inside below =
     all_weaker (λ e. e.index + 0 < n) (λ e. e.index < n) (λ e under. omega arith) (take (suc i) es) (far_place 0 n i es none inside spaced (omega arith))
 
--- where a bin has another index than those behind it, all up to it are before these
+-- where a bin has another index than those after it, all up to it are before these
 pub cut_before : (es : List Entry) (i n : ℕ) (none : Entry) → IsSpaced 0 es → suc i < length es → AllByRecursion (λ e. e.index ≡ n) (drop (suc i) es) → (get_or es i none).index ≢ n → AllByRecursion (λ e. e.index < n) (take (suc i) es)
 cut_before [] i n none sorted inside here other = absurd (omega (arith, inside))
 cut_before (e ∷ []) i n none sorted inside here other = absurd (omega (arith, inside))
@@ -46,7 +46,7 @@ module _ (levels closed : ℕ) (bins : List Entry) (none : Entry) (some : 0 < cl
   pub cut_more : map (raised levels) (drop (closed - 1) bins) ≡ raised levels (get_or bins (closed - 1) none) ∷ map (raised levels) (drop closed bins)
   cut_more = search (rules, arith, rest_at)
 
-  -- the weights of that one and of those behind it, which are among those of all
+  -- the weights of that one and of those after it, which are among those of all
   pub cut_sum : (f : Entry → ℕ) → f (raised levels (get_or bins (closed - 1) none)) + sum_by f (map (raised levels) (drop closed bins)) ≡ sum_by f (map (raised levels) (drop (closed - 1) bins))
   cut_sum f = sym (ap (sum_by f) cut_more ∙ sum_by-cons f (raised levels (get_or bins (closed - 1) none)) (map (raised levels) (drop closed bins)))
 
@@ -55,7 +55,7 @@ module _ (levels closed : ℕ) (bins : List Entry) (none : Entry) (some : 0 < cl
 
 -- The open bin before those that come.
 
--- a list's bins from a place on, behind the open one
+-- a list's bins from a place on, after the open one
 onto_take : (o : Option Entry) (es : List Entry) (m count : ℕ) → m ≡ length (onto o []) + count → take m (onto o es) ≡ onto o (take count es)
 onto_take o es m count is = search (rules, arith)
 
@@ -117,14 +117,14 @@ module _ {levels first count : ℕ} {l : Level} {was new : List Entry} {from : �
   pub long : length here ≡ first + count - from
   long = length-take-le (first + count - from) (drop from new) (omega (arith, length-drop from new, put.inside))
 
-  -- those that came are behind the open bin
+  -- those that came are after the open bin
   pub came_here : drop (first - from) here ≡ take count (drop first was)
   came_here =
       let size : first - from + count ≡ first + count - from = omega (arith, put.place) in
       let there : from + (first - from) ≡ first = omega (arith, put.place) in
       subst (λ m. drop (first - from) (take m (drop from new)) ≡ take count (drop first was)) size (rw (drop-take, drop-drop, there, put.same) refl)
 
-  -- what is cut off behind them
+  -- what is cut off after them
   module _ (n : ℕ) (few : n < length here) where
     pub upto : n ≤ first + count - from
     upto = omega (arith, few, long)
@@ -176,7 +176,7 @@ module _ (set : CorrelationView) (level : ℕ) where
   come_onto : (o : Option Entry) (es : List Entry) (closed open' xs : History) → OpenIs set level o closed open' → Come set level (closed ++ open') es xs → Come set level closed (onto o es) (open' ++ xs)
   come_onto o es closed open' xs is come = search (rules, arith, all_weaker)
 
-  -- the first of bins that come, and those behind them
+  -- the first of bins that come, and those after them
   come_split : (es fs : List Entry) (came xs : History) → Come set level came (es ++ fs) xs → (front : History) × (back : History) × (xs ≡ front ++ back) × Come set level came es front × Come set level (came ++ front) fs back
   come_split [] fs came xs come = ([], xs, refl, refl, rw append-nil come)
   come_split (e ∷ es) fs came xs come =
@@ -214,7 +214,7 @@ module _ (set : CorrelationView) (level : ℕ) where
       let upto = of_some (bin level) e.index (λ n. n ≤ f.index) come.0 come.3.some come.3.here (all_back (λ x. bin level x ≤ f.index) came come.0 come.5.4) in
       (spaced_behind 0 e.index f es (omega arith) rest, rest)
 
-  -- behind the ring of what is closed too
+  -- after the ring of what is closed too
   ring_sorted : (r : Ring) (es : List Entry) (closed xs : History) → RingIs set level r closed → IsBefore closed es → Come set level closed es xs → IsSpaced 0 (r.entries ++ es)
   ring_sorted r [] closed xs is before come = rw append-nil (spaced-rising r.entries is.rising)
   ring_sorted r (e ∷ es) closed xs is before come = spaced_join r.entries e es is.rising (is.keeps.bounded e.index before) (come_sorted (e ∷ es) closed xs come)
@@ -283,7 +283,7 @@ module _ {set : CorrelationView} {level : ℕ} {l : Level} {es : List Entry} {cl
     pub few_closed : (paired : ℕ) → paired ≤ paired_of l + 2 * length (merged_all front) → paired ≤ 2 * occupied level (closed ++ parts.0)
     few_closed paired few' = omega (arith, few', can.was.few, occupied_all set level (merged_all front) closed parts.0 may_close.bins)
 
-    -- and those behind it are open then
+    -- and those after it are open then
     pub take_took : (l' : Level) → l'.open ≡ Some last → RingIs set level l'.ring (closed ++ parts.0) × CellsAre set level l'.cells (closed ++ parts.0) × (paired_of l' ≤ 2 * occupied level (closed ++ parts.0))
         → (shut : List Entry) → ComeAlike front shut → Took set level l' shut closed open' xs parts.0 parts.1
     take_took l' opened is' shut alike =

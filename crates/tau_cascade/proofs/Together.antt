@@ -13,7 +13,7 @@ strip_more at' count skipped middle old cells new f is so_far left before here p
     let place : at' ≤ p → at' + (p - at') ≡ p = λ from. omega arith in
     grind (arith, place, before p, so_far p, left p, here (p - at'))
 
--- cells behind those that were added to are added to
+-- cells after those that were added to are added to
 pub once_more : (at i mid n : ℕ) → mid ≡ at + i → (a b c : Cells) → AddsOnce at i a b → AddsOnce mid n b c → AddsOnce at (i + n) a c
 once_more at i mid n is a b c first second = record {
   once = λ p. grind (arith, second.before p, first.once p, first.behind p, second.once p);

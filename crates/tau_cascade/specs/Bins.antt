@@ -30,12 +30,12 @@ merged_at start levels list = merged_all (drop start (map (raised levels) list))
 abbrev pub kept_of : ℕ → ℕ → List Entry → List Entry
 kept_of before levels list = filter (λ e. nat_le before e.index) (merged_at 0 levels list)
 
--- bins behind an open one, where there is one
+-- bins after an open one, where there is one
 abbrev pub onto : Option Entry → List Entry → List Entry
 onto None es = es
 onto (Some e) es = e ∷ es
 
--- each bin is so far before those behind it, or further
+-- each bin is so far before those after it, or further
 abbrev pub IsSpaced : ℕ → List Entry → Type 0
 IsSpaced distance [] = ⊤
 IsSpaced distance (e ∷ es) = AllByRecursion (λ f. e.index + distance ≤ f.index) es × IsSpaced distance es
@@ -92,12 +92,12 @@ module _ (set : CorrelationView) (level : ℕ) where
     pub is : LevelIs set level l (closed ++ done) now
     pub bins : Come closed shut done
 
-  -- Photons came in these bins behind any that they may come behind, and the bins `shut` were closed.
+  -- Photons came in these bins after any that they may come after, and the bins `shut` were closed.
   abbrev pub Takes : Level → Level → List Entry → List Entry → Type 0
   Takes old new es shut =
       (closed open' xs : History) → CanTake old es closed open' xs → (done : History) × (now : History) × Took new shut closed open' xs done now
 
-  -- This holds of the photons of closed bins together with those of bins that may be closed behind them.
+  -- This holds of the photons of closed bins together with those of bins that may be closed after them.
   abbrev pub HoldsOfAll : Ring → Cells → List Entry → (History → Type 0) → Type 0
   HoldsOfAll ring cells es holds = (closed xs : History) → CanShutAll ring cells es closed xs → holds (closed ++ xs)
 
@@ -124,7 +124,7 @@ pub record CanCome (set : CorrelationView) (level : ℕ) (ls : List Level) (es :
   pub chain : Chain set level ls came
   pub come : Come set level came es xs
 
--- Photons came in these bins to a level and those above it, behind any that they may come behind.
+-- Photons came in these bins to a level and those above it, after any that they may come after.
 abbrev pub Carries : CorrelationView → ℕ → List Level → List Level → List Entry → Type 0
 Carries set level old new es = (came xs : History) → CanCome set level old es came xs → Chain set level new (came ++ xs)
 

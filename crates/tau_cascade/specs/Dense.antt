@@ -7,7 +7,7 @@ use Rattle.tau_cascade.{specs.Levels.weight_before, specs.declared.laid.Laying.L
 abbrev pub bins_of : Bins → List Entry
 bins_of b = map (raised b.levels) b.list.now
 
--- those from a place on do not fall behind those before them
+-- those from a place on do not fall after those before them
 pub record AreBins (b : Bins) : Type 0 where
   pub within : b.start ≤ length b.list.now
   pub levels : b.levels < 64
@@ -56,7 +56,7 @@ NotesUpTo old new n = sum_by (λ n. n) new ≤ sum_by (λ n. n) old + n
 
 -- Bins that are laid close together.
 
--- bins behind one of this index that lies at this place, each as far from the one before it as it is, and no further than the reach
+-- bins after one of this index that lies at this place, each as far from the one before it as it is, and no further than the reach
 abbrev pub laid : ℕ → ℕ → ℕ → List Entry → List Entry
 laid reach index place [] = []
 laid reach index place (e ∷ es) = record { index = place + min (e.index - index) reach; a = e.a; b = e.b } ∷ laid reach e.index (place + min (e.index - index) reach) es
@@ -71,7 +71,7 @@ placed (e ∷ es) (p ∷ ps) = record { index = p; a = e.a; b = e.b } ∷ placed
 abbrev pub IsZero : List ℕ → Type 0
 IsZero window = (p : ℕ) → p < 8640 → slice_index window p ≡ 0
 
--- bins were laid in a window, whose place 192 is that of the index, and others are laid behind the last of them
+-- bins were laid in a window, whose place 192 is that of the index, and others are laid after the last of them
 pub record IsLaid (window : List ℕ) (reach index : ℕ) (laying : Laying) (es : List Entry) : Type 0 where
   pub weights : laying.heaviest < 2048 → (p : ℕ) → p < 8640 → slice_index window p ≡ weight_at First 192 0 p (laid reach index 0 es)
   pub light : (p : ℕ) → p < 8640 → slice_index window p ≤ laying.heaviest

@@ -54,7 +54,7 @@ counted g bins = if nat_le 1 g.len then (g.len + 3) / 4 else bins
 abbrev pub filled : List ℕ → List ℕ → ℕ → ℕ
 filled firsts seconds p = min 1 (slice_index firsts p + slice_index seconds p)
 
--- what two neighbouring places have together, at one place behind so many others
+-- what two neighbouring places have together, at one place after so many others
 abbrev pub halved : ℕ → List ℕ → ℕ → ℕ
 halved off places p = slice_index places (2 * (p - off)) + slice_index places (2 * (p - off) + 1)
 
@@ -74,6 +74,6 @@ bin_at g p = record { index = g.base + p; a = slice_index g.firsts p; b = slice_
 abbrev pub bins_from : Grid → ℕ → List Entry
 bins_from g start = filter (λ e. nat_lt 0 (photons e)) (map (bin_at g) (range_with_len start (g.len - start)))
 
--- entries that are not before an index, and behind them those bins
+-- entries that are not before an index, and after them those bins
 abbrev pub kept_and : ℕ → List Entry → Grid → ℕ → List Entry
 kept_and before entries g start = filter (λ e. nat_le before e.index) entries ++ bins_from g start

@@ -39,7 +39,7 @@ pub(crate) struct LagRange {
     ghost within: { (skipped ≤ last) × (last ≤ MOST_LAGS) },
 }
 
-/// Bins from a place of a list on, behind those before them.
+/// Bins from a place of a list on, after those before them.
 #[derive(Clone, Copy)]
 pub(crate) struct Bins<'a> {
     /// The list.
@@ -180,7 +180,7 @@ pub(crate) fn merge(list: &mut [Entry], from: usize, count: usize, levels: u32) 
     closed + 1
 }
 
-/// Copies entries into a list from a place on, and answers the place behind them.
+/// Copies entries into a list from a place on, and answers the place after them.
 #[inline(always)]
 pub(crate) fn copy_into(entries: &[Entry], list: &mut [Entry], start: usize) -> usize
     requires { start + length entries.now ≤ length list.old }

@@ -12,7 +12,7 @@ use std::alloc::{AllocError, Global};
 use std::sync::ledger::Ledger;
 use tally_base::{Block, CorrelationSet, Steps, TABLE_BLOCK, Tally};
 
-/// Counts the pairs of a photon of the first group and one of the second by how far the second is behind
+/// Counts the pairs of a photon of the first group and one of the second by how far the second is after
 /// the first, on levels of coarser and coarser time.
 ///
 /// A time, in ticks in T2 and sync periods in T3, lies in the bin `time >> level` of each level. The cell
@@ -35,8 +35,8 @@ pub struct Cascade {
 impl Cascade {
     ghost use Rattle.tau_cascade.{specs.Cascade.{Holds, paired_at, cells_at, ring_at, open_at, set_of, spent_by, added_below}, specs.Correlation.{correlation, lag_count, skipped_lags, photons_of}, specs.Opens.open_bin, specs.Work.{work, occupied, IsWithinLevelWork}};
 
-    /// A correlation of no events, with all the memory that it ever takes, or `AllocError` where it is
-    /// wanting.
+    /// A correlation of no events, with all the memory that it ever takes, or `AllocError` where there is
+    /// not enough.
     pub fn open(alloc: Global, set: CorrelationSet) -> Result<Cascade, AllocError>
         ensures set { IfOk result (λ t. set_of t ≡ set) }
         ensures settings { IfOk result (λ t.

@@ -106,7 +106,7 @@ fn halve_part(pairs: &[u16], to: &mut [u16])
     }
 }
 
-/// Makes one place of each two of the first `2 * half`, behind `off` empty ones. The window is zero before and after. A
+/// Makes one place of each two of the first `2 * half`, after `off` empty ones. The window is zero before and after. A
 /// function of its own, where the compiler knows that the two share nothing.
 #[inline(never)]
 fn halve_at(places: &mut [u16; SPAN], window: &mut [u16; PLACES], half: usize, off: usize)
@@ -312,7 +312,7 @@ impl Grid {
         }
     }
 
-    /// Takes out the bins of one index, which are behind all others.
+    /// Takes out the bins of one index, which are after all others.
     fn cut(&mut self, index: u64)
         requires stands { ∥ ((es : List Entry) × Stands self.old es) ∥₁ }
         requires inside { (self.old.base ≤ index) × (index < self.old.base + self.old.len) }
@@ -470,7 +470,7 @@ impl Grid {
             &bins.list[..bins.start],
             bins.levels,
         );
-        // Behind the last place there are zeros.
+        // After the last place there are zeros.
         let rows = (self.len + LANES - 1) / LANES;
         self.put_dots(sums, window, range, rows);
         clear_window(window, self.len as u64 - 1);
@@ -490,7 +490,7 @@ impl Grid {
     }
 
     /// The place from which on no bin is before an index, where there are bins, and a list has room for those from there on
-    /// behind a ring.
+    /// after a ring.
     pub(crate) fn place_from(&self, before: u64) -> Option<usize>
         ensures { ForSome result (λ p. (0 < self.now.len) × (p ≡ before - self.now.base)
             × (self.now.len - p + MOST_LAGS ≤ LIST)) }
@@ -503,7 +503,7 @@ impl Grid {
         }
     }
 
-    /// Puts the bins of the places from one on, of which each has photons, behind so many entries of a list, and answers how
+    /// Puts the bins of the places from one on, of which each has photons, after so many entries of a list, and answers how
     /// many there are then.
     pub(crate) fn put_bins(&self, start: usize, list: &mut [Entry], count: usize) -> usize
         requires room { (self.now.len ≤ SPAN) × (count + (self.now.len - start) ≤ length list.old) }

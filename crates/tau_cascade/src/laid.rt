@@ -28,7 +28,7 @@ const NOT_LIGHT: u64 = 32;
 pub(crate) struct Laid {
     /// The index of the bin.
     pub(crate) index: u64,
-    /// How far behind the first bin it was laid.
+    /// How far after the first bin it was laid.
     pub(crate) place: u64,
 }
 
@@ -41,7 +41,7 @@ pub(crate) struct Laying {
     pub(crate) heaviest: u64,
 }
 
-/// Lays a bin, so many levels up, behind another one: as far behind it as it is, and no further than just out of reach.
+/// Lays a bin, so many levels up, after another one: as far after it as it is, and no further than just out of reach.
 #[inline(always)]
 fn lay_behind(was: Laid, bin: &Entry, levels: u32, reach: u64) -> Laid
     requires fits { (was.place + reach < 2 ^ 64) × (levels < 64) }
@@ -57,7 +57,7 @@ fn lay_behind(was: Laid, bin: &Entry, levels: u32, reach: u64) -> Laid
     }
 }
 
-/// Lays a bin behind another one, and adds the lowest 16 bits of its weight in the first group to what the window has
+/// Lays a bin after another one, and adds the lowest 16 bits of its weight in the first group to what the window has
 /// at its place.
 #[inline(always)]
 fn lay_one(window: &mut [u16; PLACES], was: Laying, bin: &Entry, levels: u32, reach: u64) -> Laying
@@ -83,8 +83,8 @@ fn lay_one(window: &mut [u16; PLACES], was: Laying, bin: &Entry, levels: u32, re
     }
 }
 
-/// Lays bins, so many levels up, one behind the other, and puts their weights in the first group into the window. They
-/// are no further behind the index `first` than the lags.
+/// Lays bins, so many levels up, one after the other, and puts their weights in the first group into the window. They
+/// are no further after the index `first` than the lags.
 #[inline(always)]
 fn lay_before(
     window: &mut [u16; PLACES],
@@ -113,8 +113,8 @@ fn lay_before(
     laying
 }
 
-/// Lays the bins of a list one behind the other, puts their weights in the first group into the window, and keeps the
-/// places of those from its start on. Those before are no further behind the index `first` than the lags.
+/// Lays the bins of a list one after the other, puts their weights in the first group into the window, and keeps the
+/// places of those from its start on. Those before are no further after the index `first` than the lags.
 #[inline(always)]
 fn lay_all(
     window: &mut [u16; PLACES],
@@ -143,7 +143,7 @@ fn lay_all(
     laying
 }
 
-/// Makes a window zero again, in which nothing was laid behind a place.
+/// Makes a window zero again, in which nothing was laid after a place.
 #[inline(always)]
 pub(crate) fn clear_window(window: &mut [u16; PLACES], place: u64)
     requires room { place + TOP < PLACES }
@@ -181,7 +181,7 @@ fn add_lanes<const N: usize>(sums: Simd<u16, N>, part: &[u16], times: u16) -> Si
 }
 
 /// Sums the products of the weights in the second group of bins with those in the window, for some lags.
-/// Sum `q` takes for a bin the place `from + q` behind that where it is laid.
+/// Sum `q` takes for a bin the place `from + q` after that where it is laid.
 #[inline(always)]
 fn sum_light<const N: usize>(
     window: &[u16; PLACES],

@@ -91,7 +91,7 @@ fn keep(ring: &mut LagRing, list: &[Entry], levels: u32, before: u64, spare: &mu
     heaviest_of(&spare[..count])
 }
 
-/// Puts the bins of a grid from a place on behind those of a ring that are not before an index, and takes out the others.
+/// Puts the bins of a grid from a place on after those of a ring that are not before an index, and takes out the others.
 /// Answers a number of photons that none of them has more of. What is in `spare` is lost.
 #[inline(always)]
 fn keep_dense(
@@ -155,7 +155,7 @@ fn merge_many(list: &mut [Entry], closing: Coming, grid: &Grid, heaviest: u64) -
 impl Level {
     ghost use Rattle.tau_cascade.{specs.Levels.{LevelIs, CanFinish, Finished}, specs.Bins.{CanShutAll, CanTake, Takes, Shuts}};
 
-    /// A level to which nothing came, or `AllocError` where memory for it is wanting.
+    /// A level to which nothing came, or `AllocError` where there is not enough memory for it.
     pub(crate) fn open(alloc: Global, set: &CorrelationSet, level: u32) -> Result<Level, AllocError>
         ensures empty { IfOk result (λ l. LevelIs (correlation_view set.now) level l [] []) }
         ensures none { IfOk result (λ l. l.cells.added ≡ 0) }
@@ -229,7 +229,7 @@ impl Level {
     }
 
     /// Takes bins, one after the other and none before what came. The open bin goes before them in the list, those of
-    /// the last bin are cut off behind them, and it is open. Answers where those are that are closed. A grid of those that
+    /// the last bin are cut off after them, and it is open. Answers where those are that are closed. A grid of those that
     /// came is then one of those that are closed, or has none.
     pub(crate) fn take<L: Ledger>(
         &mut self,
@@ -256,7 +256,7 @@ impl Level {
         let from = lower_open(&self.open, list, first, levels);
         let apart = apart_all(&list[from..first + 1], came.apart, levels, set.lags);
         let last = cut_last(&list[from..end], levels);
-        // Bins behind a heavy ring go into no grid, so that they may be merged.
+        // Bins after a heavy ring go into no grid, so that they may be merged.
         let dense = scratch.grid.is_on() || came.level < DENSE_LEVELS;
         if dense && self.has_light_ring() {
             let bins = Bins {

@@ -28,7 +28,7 @@ pub struct Hist {
 impl Hist {
     ghost use Rattle.tcspc_hist.specs.Hist.{Holds, set_of};
 
-    /// A histogram of no events, with all the memory that it ever takes, or `AllocError` where it is wanting.
+    /// A histogram of no events, with all the memory that it ever takes, or `AllocError` where there is not enough.
     pub fn open(alloc: Global, set: HistSet) -> Result<Hist, AllocError>
         ensures set { IfOk result (λ t. set_of t ≡ set) }
         ensures settings { IfOk result (λ t. ⟦<Hist as Tally>⟧.settings t ≡ HistSettings (hist_view set)) }
@@ -111,7 +111,7 @@ fn put(cells: &mut [u64], over: &mut u64, bin: u64, more: u64)
     }
 }
 
-/// The bin of a dtime, or the one where it would be behind the last, by the divisor for the width. Bins of one tick need
+/// The bin of a dtime, or the one where it would be after the last, by the divisor for the width. Bins of one tick need
 /// no product.
 #[inline(always)]
 fn bin_of(width: u32, by: &Divisor, dtime: u16) -> u64

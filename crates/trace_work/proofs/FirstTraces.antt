@@ -13,7 +13,7 @@ skips-all : (n : ℕ) → (n ≡ 1 → ⊥) → (parts rest : List PartSettings)
 skips-all n other [] rest are = refl
 skips-all n other (part ∷ parts) rest are = skips part (parts ++ rest) (λ is. other (sym are.0 ∙ is)) ∙ skips-all n other parts rest are.1
 
--- no kind behind that of traces has one
+-- no kind after that of traces has one
 none-behind : (n : ℕ) (lists : List (List PartSettings)) → 2 ≤ n → AreByKinds n lists → first_trace (flat_map (λ list. list) lists) ≡ None
 none-behind n [] behind are = refl
 none-behind n (list ∷ lists) behind are = search (rules, arith, skips-all, none-behind (n + 1) lists (omega (arith, behind)) are.1)

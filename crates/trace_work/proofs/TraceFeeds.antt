@@ -129,7 +129,7 @@ module _ {T : Type 0} (g : Ghosts T) (trace : T → LongTrace) (told : T → Opt
               (record { more = it.0; adds = it.1; written = Appends-flushed (told a) (told b) c it.0 (held b) it.2 flushed; kept = still ∙ rest.kept });
         }
 
-    -- The flush failed behind them.
+    -- The flush failed after them.
     pub ends-cut : (summary : Summary) → AppendsShort (told b) c (held b) → Rose (g.faults b) faults
         → Ended g how a b bytes (Ok summary) → CutLast o by how (trace a) out out' bytes
     ends-cut summary short rose rest =

@@ -49,7 +49,7 @@ abbrev pub traced : Option TraceView → Sorting → StreamSettings → List ℕ
 traced set by how bytes (Ok summary) = written (whole_by set (history by how (words_of bytes)))
 traced set by how bytes (Err fault) = record { text = words_traced set by how (words_of bytes); fault = Some fault }
 
--- what the bytes behind a header end with
+-- what the bytes after a header end with
 abbrev pub records_traced : Option TraceView → Sorting → StreamSettings → List ℕ → Outcome
 records_traced set by how bytes = traced set by how bytes (streamed how bytes)
 
@@ -78,7 +78,7 @@ tracing plan = headed_work (traces_by (trace_of plan) plan) (IsHeaded (λ header
 
 -- The lines of a trace on their way to a sink.
 
--- The trace was given those of the events that aren't marked late, each with its groups, and the lines of the bins that they closed were put behind what a block held, for a sink of which no write failed.
+-- The trace was given those of the events that aren't marked late, each with its groups, and the lines of the bins that they closed were put after what a block held, for a sink of which no write failed.
 pub record Traced (start now : LongTrace) (by by' : Sorting) (mode mode' : Mode) (taken taken' floor floor' faults faults' : ℕ) (old new : Option (List ℕ)) (held held' : List ℕ) (l : Marked) : Type 0 where
   pub same_sorting : by' ≡ by
   pub same_mode : mode' ≡ mode

@@ -1,4 +1,4 @@
--- What the trace of words writes that come behind others.
+-- What the trace of words writes that come after others.
 use Rattle.std.{specs.Prelude.{ℕ, ◌≡◌, ◌⊎◌, ◌≤◌, List, ◌++◌, OnOk, true, false, None, Some, Result, Ok, Err}, specs.Io.KnownBytes.Keeps}
 use Rattle.tally_base.{specs.declared.fault.Fault.Fault, specs.declared.fault.Fault.TheVariants.WriteFault, specs.Faults.{is_outside, fault_in}, specs.Settings.trace_view}
 use Rattle.bench_io.specs.declared.sink.Sink.{Ghosts}
@@ -27,7 +27,7 @@ pub record HasTraced (by : Sorting) (stream : RecordStream) (trace : LongTrace) 
   pub streamed : HasStreamed stream bytes
   pub traced : TracesBytes by (how_of stream) trace bytes
 
--- What feeding a piece behind these bytes wrote on an output, and that the trace then stands for them with the piece.
+-- What feeding a piece after these bytes wrote on an output, and that the trace then stands for them with the piece.
 pub record TracedPiece {O : Type 0} (o : Ghosts O) (by : Sorting) (stream : RecordStream) (trace now : LongTrace) (bytes piece : List ℕ) (old new : O) (result : Result (Unit {0}) Fault) : Type 0 where
   pub writes : WritesPiece (traces (trace_view (set_of trace)) by (how_of stream)) bytes piece (o.written old) (o.written new) (o.faults old) (o.faults new) result
   pub stands : OnOk result (TracesBytes by (how_of stream) now (bytes ++ piece))

@@ -183,7 +183,7 @@ fn both(finished: Result<Summary, Fault>, flushed: Result<(), Failed>) -> Result
     }
 }
 
-/// Gives a trace the events that a stream keeps back, and writes all that is behind the lines so far. Refuses bytes
+/// Gives a trace the events that a stream keeps back, and writes all that is after the lines so far. Refuses bytes
 /// that end within a record, and then writes nothing.
 fn end_trace<O: Sink>(
     stream: RecordStream,

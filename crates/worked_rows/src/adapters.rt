@@ -13,7 +13,7 @@ fn unsupported<T>() -> io::Result<T> {
     Err(io::Error::from(ErrorKind::Unsupported))
 }
 
-/// The error behind which a call is usually made again.
+/// The error after which a call is usually made again.
 fn interrupted<T>() -> io::Result<T> {
     Err(io::Error::from(ErrorKind::Interrupted))
 }

@@ -59,7 +59,7 @@ fn code_of(word: &str) -> Result<u64, ParseIntError> {
     u64::from_str_radix(word, 16)
 }
 
-/// What stands before the first space of a line, and behind it.
+/// What stands before the first space of a line, and after it.
 pub(crate) fn halves(line: &str) -> (&str, &str) {
     line.split_once(' ').unwrap_or((line, ""))
 }
@@ -88,7 +88,7 @@ pub(crate) fn put_begun(into: &mut Vec<u8>, text: &str) -> Taken {
     Ok(())
 }
 
-/// Appends a text and the end of its line, which a `\` behind the text leaves out.
+/// Appends a text and the end of its line, which a `\` after the text leaves out.
 pub(crate) fn put_text(into: &mut Vec<u8>, text: &str) -> Taken {
     match text.strip_suffix('\\') {
         Some(begun) => put_begun(into, begun),
@@ -148,7 +148,7 @@ fn put_told_tag(into: &mut Vec<u8>, tag: &str) -> Taken {
 
 const PREAMBLE: &[u8] = b"PQTTTR\0\01.0.00\0\0";
 
-/// Appends the shortest file of a record type, with words behind its header of 112 bytes.
+/// Appends the shortest file of a record type, with words after its header of 112 bytes.
 fn put_short(into: &mut Vec<u8>, file: &str) -> Taken {
     let (record_type, words) = halves(file);
     let code = code_of(record_type)?;
@@ -234,7 +234,7 @@ pub(crate) fn put_made(into: &mut Vec<u8>, shared: &[Shared], made: &str) -> Tak
     }
 }
 
-/// Appends what a line tells: a text behind its key, and behind a key that ends in `:` what a kind of bytes makes.
+/// Appends what a line tells: a text after its key, and after a key that ends in `:` what a kind of bytes makes.
 pub(crate) fn put_line(into: &mut Vec<u8>, shared: &[Shared], line: &str) -> Taken {
     let (key, rest) = halves(line);
     if key.ends_with(':') {

@@ -60,7 +60,7 @@ impl Progress {
         }
     }
 
-    /// Runs a row with more behind its plan, and tells only what is wrong.
+    /// Runs a row with more after its plan, and tells only what is wrong.
     fn judge_with(&mut self, rt: &HostRuntime, row: &mut Row, line: &str) -> Taken {
         let front = row.plan.len();
         let must = row.put_with(self.shared.as_slice(), line)?;

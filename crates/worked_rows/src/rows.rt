@@ -129,7 +129,7 @@ impl Row {
         Ok(())
     }
 
-    /// Puts what a line `with` tells behind the plan, and answers what the run must leave then.
+    /// Puts what a line `with` tells after the plan, and answers what the run must leave then.
     pub(crate) fn put_with(&mut self, shared: &[Shared], line: &str) -> Result<Must, Refused> {
         let alloc = *self.plan.allocator();
         let (key, rest) = halves(line);

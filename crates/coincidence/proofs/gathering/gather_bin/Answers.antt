@@ -3,9 +3,9 @@ use Rattle.tally_base.{specs.Settings.CoincidenceView, specs.Tally.History}
 use Rattle.coincidence.{specs.declared.pairing.Bin.Bin, specs.Pairing.{joined, BinIs}, specs.Closing.{BinsAre, Gathered, CanGather}, proofs.Visits.{joined_is, behind_bin}}
 use Rattle.coincidence.proofs.gathering.gather_bin.Goals as goal
 
--- photons that come behind gathered bins
+-- photons that come after gathered bins
 module _ (set : CoincidenceView) where
-  -- a bin more behind the others
+  -- a bin more after the others
   bins_push : (bins : List Bin) (bin : Bin) (closed xs ys : History) → BinsAre set bins closed xs → BinIs set bin ys → AllByRecursion (λ x. x.0.time < bin.weights.index) (closed ++ xs) → BinsAre set (bins ++ bin ∷ []) closed (xs ++ ys)
   bins_push [] bin closed xs ys are is after = (ys, [], rw are (sym (append-nil ys)), is, (rw (are, append-nil closed) at after), refl)
   bins_push (b ∷ bins) bin closed xs ys are is after = (

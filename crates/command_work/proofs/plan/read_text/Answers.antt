@@ -7,7 +7,7 @@ use Rattle.command_work.proofs.plan.read_text.Goals as goal
 
 -- a text that is read into the rest of an array
 
--- the first bytes with those that were read behind them
+-- the first bytes with those that were read after them
 read_behind : (len k more : ℕ) (text new : List ℕ) → len ≤ length text → more ≤ length new
     → take (len + more) (put_mid len k text new) ≡ take len text ++ take more new
 read_behind len k more text new fits few =

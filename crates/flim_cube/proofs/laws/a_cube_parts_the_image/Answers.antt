@@ -9,7 +9,7 @@ use Rattle.flim_cube.proofs.laws.a_cube_parts_the_image.Goals as goal
 met-bin : (bins bin more : ℕ) (inside : Bool) → ltb bin bins ≡ inside → sum_by (λ b. cond (eqb bin b) more 0) (range_with_len 0 bins) ≡ cond inside more 0
 met-bin bins bin more inside is = search (rules, arith, in_range, behind_range)
 
--- A bin is met once in a pixel, unless it is behind the last.
+-- A bin is met once in a pixel, unless it is after the last.
 met-bins : (bins bin more : ℕ) (at : Bool) → sum_by (λ b. cond (at && eqb bin b) more 0) (range_with_len 0 bins) ≡ cond at (cond (ltb bin bins) more 0) 0
 met-bins bins bin more true = met-bin bins bin more (ltb bin bins) refl
 met-bins bins bin more false = sum_none (range_with_len 0 bins)

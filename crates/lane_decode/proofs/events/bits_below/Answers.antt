@@ -2,7 +2,7 @@ use Rattle.std.{proofs.Common.{rules}, proofs.Common.{◌≡◌, ◌<◌, ◌==�
 use lib.Lanes.{zip2, mask_l}
 use lib.Bits.{bit_and}
 use Rattle.tally_base.specs.Codes.{code_in}
-use Rattle.lane_decode.specs.InCompacted.{has_bit}
+use Rattle.lane_decode.specs.Staying.{has_bit}
 use Rattle.lane_decode.proofs.events.bits_below.Goals as goal
 
 abbrev codes : List ℕ → List ℕ

@@ -1,5 +1,5 @@
 use Rattle.std.{proofs.Common.{refl, ◌∙◌, arith, w32}, proofs.lemmas.Simd.{SwzOk-from_below, length-swz_l}}
-use Rattle.lane_decode.{specs.InCompacted.lanes_in, proofs.{Chosen.{below-all, few-bits}, Table.{row_is, lanes-below, lanes-long, close-at}}}
+use Rattle.lane_decode.{specs.Staying.lanes_in, proofs.{Chosen.{below-all, few-bits}, Table.{row_is, lanes-below, lanes-long, close-at}}}
 use Rattle.lane_decode.proofs.events.close.Goals as goal
 
 pub swizzle : goal.swizzle

@@ -1,5 +1,5 @@
 use Rattle.std.{proofs.Common.{ap, ◌∙◌, ◌%◌, ◌^◌, ◌+◌, arith}}
-use Rattle.lane_decode.{specs.InCompacted.{lanes_in}, proofs.{Chosen.few-bits, Table.{row_is, lanes-long, lane-at}, Wide.places-at}}
+use Rattle.lane_decode.{specs.Staying.{lanes_in}, proofs.{Chosen.few-bits, Table.{row_is, lanes-long, lane-at}, Wide.places-at}}
 use Rattle.lane_decode.proofs.events.places_from.Goals as goal
 
 pub returns-clause-places : goal.returns-clause-places

@@ -6,7 +6,7 @@ use Rattle.record_write.specs.Picker.{mode_of, last_by}
 use Rattle.photon_pick.{specs.Giving.{pen_on, Gave}, proofs.Gives.{Gave-more, refuses}}
 use Rattle.photon_pick.proofs.giving.give_photons.Goals as goal
 
--- a row and those behind it
+-- a row and those after it
 rows-part : (f : ℕ → Event) (k n : ℕ) → k < n → (back : List Event) × (rows f n ≡ rows f k ++ f k ∷ back)
 rows-part f k n lt =
     let some : k + 1 ≤ n = omega (arith, lt) in

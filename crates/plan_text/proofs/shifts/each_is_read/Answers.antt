@@ -5,7 +5,7 @@ use Rattle.toml_rules.specs.Rules.{held_from}
 use Rattle.plan_text.{specs.Shifts.{shift, input_behind, shifts_from}, proofs.Numbers.first_of}
 use Rattle.plan_text.proofs.shifts.each_is_read.Goals as goal
 
--- shifts that are read one behind the other
+-- shifts that are read one after the other
 some_seen : (set : Option ShiftSet) → is_some set ≡ true → is_some (option_map shift_view set) ≡ true
 some_seen set some = search (rules, arith)
 

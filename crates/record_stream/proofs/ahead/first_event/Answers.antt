@@ -1,6 +1,6 @@
 use Rattle.std.{proofs.Common.{◌≡◌, ◌+◌, ◌*◌, ◌^◌, ◌≤◌, ap, arith, rules, slice_index}, proofs.lemmas.Bool.{lt-ltb, le-ltb}, proofs.Math.Nat.mul-le-mul_right}
 use Rattle.record_layout.specs.declared.row.Row.{Row}
-use Rattle.lane_decode.{specs.InColumns.{wraps_at, sum_to}, specs.InCompacted.staying, proofs.Added.sum-few}
+use Rattle.lane_decode.{specs.InColumns.{wraps_at, sum_to}, specs.Staying.staying, proofs.Added.sum-few}
 use Rattle.record_stream.{proofs.WholeBlocks.{product-more, none-more, first-is}}
 use Rattle.record_stream.proofs.ahead.first_event.Goals as goal
 

@@ -57,7 +57,7 @@ give_event-requires-in-Some g c =
     (kept_back c.push-settled.new.self) e c.in-Some.is (c.push-settled.ensures.keeps.kept c.if-settled.false) waits c.requires.keeps.fit in
     search (rules, arith, goes)
 
--- What is kept back behind an event in order.
+-- What is kept back after an event in order.
 kept_push : {walk new : Walk} {from now : Settle} {e : Event} {push : Settled}
     → IsKeeping walk from → ComesUp walk from e → is_ordered (how_of walk).mode e ≡ true
     → push.late ≡ false → KeepsOrEmits from now e push → StandsBehind from now e.place → how_of new ≡ how_of walk → clock_in new ≡ clock_in walk

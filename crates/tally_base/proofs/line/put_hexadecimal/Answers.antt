@@ -8,7 +8,7 @@ unfolding hexadecimal
 hexadecimal-next zero number some = absurd (omega arith)
 hexadecimal-next (suc below) number some = let e : suc below - 1 ≡ below = omega arith in rw e refl
 
--- a digit more behind the text, and one less to come
+-- a digit more after the text, and one less to come
 hexadecimal-step : (text line new : List ℕ) (left number digit : ℕ) → 0 < left → line ++ hexadecimal left number ≡ text
     → new ≡ line ++ digit ∷ [] → digit ≡ digit_code (digit_at number (left - 1))
     → new ++ hexadecimal (left - 1) number ≡ text

@@ -13,7 +13,7 @@ use Rattle.file_work.proofs.print.HeaderPrinter.put_piece.Goals as goal
 abbrev printer : HeaderReader → BodyText → HeaderPrinter
 printer reader body = record { reader = reader; body = body }
 
--- what a step makes of the part that it took, behind what was taken before
+-- what a step makes of the part that it took, after what was taken before
 abbrev TakesPart : HeaderPrinter → List ℕ → ℕ → Option (List ℕ) → Option (List ℕ) → List ℕ → List ℕ → List ℕ → Type 0
 TakesPart new left more b c now later front = (text : List ℕ) × (header_text (front ++ take more left) ≡ header_text front ++ text) × PassesOn b c (now ++ text) later × Prints new (front ++ take more left)
 
@@ -79,7 +79,7 @@ text-refused bytes left fault reader s later limit =
     ap header_text (sym (take-append-drop n all)) ∙ header_text-refused front (drop n all) fault s.2.refused
     ∙ header_text-same bytes front (omega (arith, later, limit)) (omega (arith, limit, length-take n all)) items preamble
 
--- what the printer stands for behind the steps
+-- what the printer stands for after the steps
 Prints-preamble : (bytes left magic version : List ℕ) (more : ℕ) (reader : HeaderReader) (body : BodyText)
     → Steps bytes left reader (Preamble more magic version)
     → bytes_taken reader ≡ length (bytes ++ take more left) → Prints (printer reader body) (bytes ++ take more left)

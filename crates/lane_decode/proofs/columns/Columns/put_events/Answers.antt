@@ -1,7 +1,7 @@
 use Rattle.std.{proofs.Common.{◌≡◌, ◌+◌, ◌*◌, ◌^◌, ◌<◌, ◌≤◌, ◌++◌, ℕ, List, length, map, get_or, replicate, refl, sym, ap, ◌∙◌, arith, rules, append-nil, append_assoc, zero, suc, [], ◌∷◌}, specs.Prelude.{count_ones, nat_lt}, proofs.lemmas.Simd.{get_or-chunk, get_or-replicate, Each1-get_or, map-map}, proofs.lemmas.List.{length-map, length-append, map-append}, proofs.lemmas.List.FromFn.map-range_with_len_more, specs.List.{filter, range_with_len}}
 use lib.Lanes.{chunk}
 use Rattle.tally_base.{specs.Codes.{code_in}, specs.Columns.{event_at, rows, row, gathered}, proofs.BlockRows.length-rows}
-use Rattle.lane_decode.{specs.InCompacted.{has_bit, bits_in, stays, staying, event_in}, specs.InColumns.{wraps_at, sum_to, time_in}, proofs.Added.sum-few, proofs.Prefix.{plus, length-plus, plus-at, lasts, last-of, sum-behind}, proofs.Chosen.{few-staying, few-bits, below-bits, ones-bits, stay-more, map-places}, specs.declared.columns.Columns.Columns}
+use Rattle.lane_decode.{specs.Staying.{has_bit, bits_in, stays, staying, event_in}, specs.InColumns.{wraps_at, sum_to, time_in}, proofs.Added.sum-few, proofs.Prefix.{plus, length-plus, plus-at, lasts, last-of, sum-behind}, proofs.Chosen.{few-staying, few-bits, below-bits, ones-bits, stay-more, map-places}, specs.declared.columns.Columns.Columns}
 use Rattle.lane_decode.proofs.columns.Columns.put_events.Goals as goal
 
 few_rows : (below : ℕ) (columns : Columns) (n : ℕ) → length (staying below columns n) ≤ n

@@ -50,7 +50,7 @@ next-begins-by None set ms m false some begins is = cc (lines_in-push set ms m t
 next-begins-by (Some frame) set ms m true some begins is = search (rules, arith, any-passing, from-passing, lines_in-push)
 next-begins-by (Some frame) set ms m false some begins is = grind (arith, common_steps, any-failing, from-failing)
 
--- Behind a line comes the next row.
+-- After a line comes the next row.
 next-begins : (set : ImageView) (ms : List Mark) (m : Mark) (frames : Bool) → 0 < set.height → is_line set m ≡ true → has_named_bit set.frame m.bits ≡ frames → next_row set (ms ++ m ∷ []) ≡ option_map (row_after set) (cond frames (Some 0) (next_row set ms))
 next-begins set ms m frames some begins is = next-begins-by set.frame set ms m frames some begins is
 

@@ -5,7 +5,7 @@ use Rattle.ptu_definitions.{specs.Prefixes.each_after, specs.Settled.{marked_as,
 use Rattle.settle.{specs.Standing.{IsSettled, next_place}, specs.Passing.{ComesOn, next_after, time_after}, proofs.Steps.{settled-emit, tells-one}}
 use Rattle.settle.proofs.settle.Settle.pass.Goals as goal
 
--- events that come in order behind all that are kept back
+-- events that come in order after all that are kept back
 
 -- as many as there were stand in the place of all
 refilled : {A : Type 0} (n : ℕ) (xs ws : List A) → n ≡ length xs → length ws ≡ n → refill n xs ws ≡ ws

@@ -3,7 +3,7 @@ use Rattle.lag_ring.specs.declared.ring.Entry.{Entry}
 use Rattle.tau_cascade.specs.Grid.{bin_at, photons}
 use Rattle.tau_cascade.proofs.grid.Grid.put_bins.Goals as goal
 
--- an entry is kept behind others, or is written over
+-- an entry is kept after others, or is written over
 kept : (b : Bool) (list : List Entry) (end' : ℕ) (e : Entry) → end' < length list
     → take (end' + cond b 1 0) (set list end' e) ≡ take end' list ++ cond b (e ∷ []) []
 kept b list end' e inside = search (rules, arith, take_more_set, take-set-le, append-nil)

@@ -6,7 +6,7 @@ use Rattle.tau_cascade.proofs.level.Level.end.Goals as goal
 inside : (g : Over) (c : After-lay_out-from g) → c.lay_out-from.result < length c.lay_out-from.new.list
 inside g c = ∥∥₁_elim c.requires.stands (hlevel props) (λ w. omega (arith, w.2.was.ring.keeps.within, w.2.was.ring.reach, c.args.set.now.some_lags, c.requires.room))
 
--- the ring's entries and the bin behind them
+-- the ring's entries and the bin after them
 put : (g : Over) (c : After-lay_out-from g) → map (raised 0) (take (c.lay_out-from.result + 1) (slice_set c.lay_out-from.new.list c.lay_out-from.result c.in-Some.last)) ≡ c.args.self.now.ring.entries ++ c.in-Some.last ∷ []
 put g c = rw (raised-none, take_more_set c.lay_out-from.new.list c.lay_out-from.result c.in-Some.last (inside g c), c.lay_out-from.ensures.entries) refl
 

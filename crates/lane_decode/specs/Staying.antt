@@ -25,6 +25,6 @@ has_bit bits i = bits / 2 ^ i % 2 == 1
 unfoldable pub bits_in : ℕ → List ℕ
 bits_in bits = filter (has_bit bits) (range_with_len 0 8)
 
--- eight places, with 0 behind these
+-- eight places, with 0 after these
 abbrev pub lanes_in : ℕ → List ℕ
 lanes_in bits = bits_in bits ++ replicate (8 - length (bits_in bits)) 0
