@@ -79,7 +79,7 @@ static LANES: [[u32; 8]; 256] = [
 
 /// Those of eight lanes whose bits are set, close together.
 #[inline(always)]
-fn close(eight: u32x8, bits: usize) -> u32x8
+pub fn close(eight: u32x8, bits: usize) -> u32x8
     requires bits { bits < 256 }
     requires lanes { length eight ≡ 8 }
     ensures lanes { length result ≡ 8 }
@@ -115,8 +115,8 @@ fn times_from<R: RecordLayout>(base: u64, wraps: u32x8, times: u32x8) -> u64x8
 impl Columns {
     ghost use Rattle.lane_decode.specs.Staying.{staying, event_in};
 
-    /// Puts the events of those of 64 records whose codes are below `below` after those of a block, where so many
-    /// records are placed before them, and wraps add to a base.
+    /// Puts the events of those of 64 records whose codes are below `below` after those of a block. `placed` records come
+    /// before these 64, and a time counts from `base`, which is what the wraps before them add.
     #[inline(always)]
     pub fn put_events<R: RecordLayout>(
         &self,

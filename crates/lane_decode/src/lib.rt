@@ -9,3 +9,4 @@ mod lanes;
 
 pub use block::decode_block;
 pub use columns::Columns;
+pub use events::close;

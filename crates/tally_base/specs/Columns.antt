@@ -17,6 +17,10 @@ event_at b i = row b.places b.times b.marks i
 abbrev pub groups_at : {N : ℕ} → Block N → ℕ → ℕ
 groups_at b i = slice_index b.groups i
 
+-- what an event is, as one number
+abbrev pub mark_at : {N : ℕ} → Block N → ℕ → ℕ
+mark_at b i = slice_index b.marks i
+
 abbrev pub code_at : {N : ℕ} → Block N → ℕ → ℕ
 code_at b i = code_in (slice_index b.marks i)
 

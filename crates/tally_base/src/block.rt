@@ -1,5 +1,5 @@
 // Events in columns.
-ghost use Rattle.std.specs.Prelude.{◌≡◌, ◌≤◌, ◌≢◌, ◌+◌, ◌<◌, ◌++◌, ◌∷◌, ◌&&◌, [], length, take, drop, min, ℕ, nat_lt, slice_index, slice_index_or, if◌then◌else◌};
+ghost use Rattle.std.specs.Prelude.{◌≡◌, ◌≤◌, ◌≢◌, ◌+◌, ◌*◌, ◌<◌, ◌++◌, ◌∷◌, ◌&&◌, [], length, take, drop, min, ℕ, nat_lt, slice_index, slice_index_or, if◌then◌else◌};
 ghost use Rattle.tally_base.{specs.Codes.{code_of, dtime_of, kind_of, joined, code_in, dtime_in, IsByte, InNoGroup}};
 
 use crate::event::{Event, EventKind, is_in};
@@ -29,7 +29,7 @@ pub struct Block<const N: usize> {
 }
 
 impl<const N: usize> Block<N> {
-    ghost use Rattle.tally_base.{specs.Events.{is_photon, is_in}, specs.Gates.side_of, specs.Columns.{events_in, IsSorted, count, sorted, event_at, groups_at, code_at, dtime_at, time_at, item, gathered, event_by, written, row, rows}, specs.Tally.floor_after};
+    ghost use Rattle.tally_base.{specs.Events.{is_photon, is_in}, specs.Gates.side_of, specs.Columns.{events_in, IsSorted, count, sorted, event_at, groups_at, mark_at, code_at, dtime_at, time_at, item, gathered, event_by, written, row, rows}, specs.Tally.floor_after};
 
     /// No events.
     pub fn new() -> Block<N>
@@ -114,6 +114,29 @@ impl<const N: usize> Block<N> {
         ensures { result ≡ (is_in (groups_at self.now at) group && nat_lt (code_at self.now at) 256) }
     {
         is_in(self.groups[at], group)
+    }
+
+    /// The marks of the eight events from a place on: what each of them is, as one number.
+    #[inline(always)]
+    pub fn marks_from(&self, at: usize) -> u32x8
+        requires { at + 8 ≤ count self.now }
+        ensures lanes { length result ≡ 8 }
+        ensures marks { (i : ℕ) → i < 8 → slice_index result i ≡ mark_at self.now (at + i) }
+    {
+        let marks = &self.marks[..];
+        u32x8::from_slice(&marks[at..])
+    }
+
+    /// The groups of the eight events from a place on. A marker has none.
+    #[inline(always)]
+    pub fn groups_from(&self, at: usize) -> u64x8
+        requires { at + 8 ≤ sorted self.now }
+        ensures lanes { length result ≡ 8 }
+        ensures groups { (i : ℕ) → i < 8 → slice_index result i ≡ groups_at self.now (at + i) }
+        ensures markers { (i : ℕ) → i < 8 → 256 ≤ code_at self.now (at + i) → slice_index result i ≡ 0 }
+    {
+        let groups = &self.groups[..];
+        u64x8::from_slice(&groups[at..])
     }
 
     /// 1 where the event at a place, from 0, is a photon of the group, 1 to 64, else 0. It takes no branch.
@@ -243,7 +266,10 @@ impl<const N: usize> Block<N> {
             → groups_at self.new i ≡ slice_index groups.now (min (code_at self.old i) 256) }
         ensures sorted { sorted self.new ≡ count self.old }
     {
-        for at in 0..self.len.min(N) {
+        let len = self.len.min(N);
+        let eights = len / 8;
+        look_up(&self.marks, groups, &mut self.groups, eights);
+        for at in 8 * eights..len {
             let code = code_in(self.marks[at]) as usize;
             self.groups[at] = groups[code.min(256)];
         }
@@ -309,6 +335,42 @@ fn copy_front<T: Copy>(column: &mut [T], start: usize, other: &[T], front: usize
         ≡ take start column.old ++ (take front other.now ++ drop (start + front) column.old) }
 {
     column[start..start + front].copy_from_slice(&other[..front]);
+}
+
+/// Finds the groups of the first events of a block by their marks and a table, so many times eight.
+#[inline(always)]
+fn look_up(marks: &[u32], table: &[u64; 257], groups: &mut [u64], eights: usize)
+    requires inside { (8 * eights ≤ length marks.now) × (8 * eights ≤ length groups.old) }
+    ensures { (i : ℕ) → i < 8 * eights → slice_index groups.new i
+        ≡ slice_index table.now (min (code_in (slice_index marks.now i)) 256) }
+{
+    for k in 0..eights {
+        look_up_eight(marks, table, groups, 8 * k);
+    }
+}
+
+/// Finds the groups of the eight events from a place on.
+#[inline(always)]
+fn look_up_eight(marks: &[u32], table: &[u64; 257], groups: &mut [u64], at: usize)
+    requires inside { (at + 8 ≤ length marks.now) × (at + 8 ≤ length groups.old) }
+    ensures there { (i : ℕ) → at ≤ i → i < at + 8 → slice_index groups.new i
+        ≡ slice_index table.now (min (code_in (slice_index marks.now i)) 256) }
+    ensures others { (i : ℕ) → i < at → slice_index groups.new i ≡ slice_index groups.old i }
+{
+    let codes = codes_from(marks, at);
+    for j in 0..8usize {
+        groups[at + j] = table[codes[j] as usize];
+    }
+}
+
+/// The codes in eight marks from a place on, and 256 for each marker.
+#[inline(always)]
+fn codes_from(marks: &[u32], at: usize) -> [u32; 8]
+    requires { at + 8 ≤ length marks.now }
+    ensures { (j : ℕ) → j < 8 → slice_index result j ≡ min (code_in (slice_index marks.now (at + j))) 256 }
+{
+    let codes = u32x8::from_slice(&marks[at..]) & u32x8::splat(0xFFFF);
+    codes.simd_min(u32x8::splat(256)).to_array()
 }
 
 #[inline(always)]

@@ -1,7 +1,8 @@
 -- The counts over the rows of a block.
-use Rattle.std.{proofs.Common.{◌≡◌, ℕ, ◌+◌, ◌≤◌, Bool, true, false, ◌&&◌, cond, ◌++◌, refl, arith, nat_lt, if◌then◌else◌, rules}, proofs.lemmas.List.Sums.{sum_by-append, sum_by_push}}
-use Rattle.tally_base.{specs.declared.event.Event.Event, specs.declared.event.EventKind.TheVariants.{Photon, Marker}, specs.Events.is_in, specs.Settings.HistView, specs.Tally.History, specs.Columns.{rows, item, code_at, dtime_at, groups_at}, specs.declared.block.Block.Block, proofs.BlockRows.more_rows}
-use Rattle.tcspc_hist.specs.HistogramCounts.{count_dtimes, dtime_passes}
+use Rattle.std.{proofs.Common.{◌≡◌, ◌∙◌, ℕ, zero, suc, ◌+◌, ◌<◌, ◌≤◌, Bool, true, false, ◌&&◌, cond, ◌++◌, List, [], ◌∷◌, length, take, drop, map, filter, get_or, count_by, ap, sym, subst, refl, arith, nat_lt, if◌then◌else◌, rules}, specs.List.{range_with_len}, proofs.lemmas.Grind.{take_at_read}, proofs.Math.Seq.{take-append-add}, proofs.lemmas.List.{map-append, length-take-le, take-append-le}, proofs.lemmas.List.Sums.{sum_by-append, sum_by_push}}
+use Rattle.tally_base.{specs.declared.event.Event.Event, specs.declared.event.EventKind.TheVariants.{Photon, Marker}, specs.Events.is_in, specs.Codes.dtime_in, specs.Settings.HistView, specs.Tally.History, specs.Columns.{rows, item, mark_at, code_at, dtime_at, groups_at}, specs.declared.block.Block.Block, proofs.BlockRows.more_rows}
+use Rattle.lane_decode.proofs.Chosen.{place-more}
+use Rattle.tcspc_hist.{specs.HistogramCounts.{count_dtimes, dtime_passes}, specs.Picked.{has_photon, photon_marks}}
 
 none_either : (b : Bool) → ◌≡◌ {A = ℕ} 0 (if b then 0 else 0)
 none_either true = refl
@@ -22,3 +23,40 @@ count-row set test b n = search (rules, arith, more_rows, sum_by_push)
 
 pub one_at_most : (b : Bool) → (if b then 1 else 0) ≤ 1
 one_at_most b = search (rules, arith)
+
+-- one number more that is taken
+pub count-taken : (p : ℕ → Bool) (xs : List ℕ) (n : ℕ) → n < length xs → count_by p (take (n + 1) xs) ≡ count_by p (take n xs) + (if p (get_or xs n 0) then 1 else 0)
+count-taken p xs n lt =
+    ap (count_by p) (take_at_read xs n 0 lt).1 ∙ sum_by_push (λ x. cond (p x) 1 0) (take n xs) (get_or xs n 0)
+
+-- the photons that were picked
+pub count-picked : (set : HistView) (test : ℕ → Bool) {N : ℕ} (b : Block N) (n : ℕ) → count_by (λ mark. test (dtime_in mark)) (photon_marks set.group b n) ≡ count_dtimes set test (rows (item b) n)
+count-picked set test b zero = refl
+count-picked set test b (suc n) =
+    let next : suc n ≡ n + 1 = omega arith in
+    let f = has_photon set.group b in
+    let more : photon_marks set.group b (n + 1) ≡ photon_marks set.group b n ++ map (mark_at b) (cond (f n) (n ∷ []) []) =
+    ap (map (mark_at b)) (place-more f n) ∙ map-append (mark_at b) (filter f (range_with_len 0 n)) (cond (f n) (n ∷ []) []) in
+    subst (λ k. count_by (λ mark. test (dtime_in mark)) (photon_marks set.group b k) ≡ count_dtimes set test (rows (item b) k)) (sym next)
+    (ap (count_by (λ mark. test (dtime_in mark))) more ∙ sum_by-append (λ mark. cond (test (dtime_in mark)) 1 0) (photon_marks set.group b n) (map (mark_at b) (cond (f n) (n ∷ []) []))
+    ∙ omega (arith, count-picked set test b n, count-row set test b n, one (f n)))
+  where
+    one : (found : Bool) → count_by (λ mark. test (dtime_in mark)) (map (mark_at b) (cond found (n ∷ []) [])) ≡ (if test (dtime_at b n) then (if found then 1 else 0) else 0)
+    one true = search (rules, arith)
+    one false = search (rules, arith)
+
+-- the front of numbers, by the places that they come from
+pub front-by : (h : ℕ → ℕ) (zs ks : List ℕ) → length ks ≤ length zs → ((j : ℕ) → j < length ks → get_or zs j 0 ≡ h (get_or ks j 0)) → take (length ks) zs ≡ map h ks
+front-by h zs [] few same = refl
+front-by h [] (k ∷ ks) few same = absurd (omega (arith, few))
+front-by h (z ∷ zs) (k ∷ ks) few same =
+    let first : z ≡ h k = same 0 (omega arith) in
+    let rest = front-by h zs ks (omega (arith, few)) (λ j lt. same (suc j) (omega (arith, lt))) in
+    rw (first, rest) refl
+
+-- eight numbers put after those that stay
+pub front-put : (xs zs : List ℕ) (n m : ℕ) → length zs ≡ 8 → n + 8 ≤ length xs → m ≤ 8 → take (n + m) (take n xs ++ (zs ++ drop (n + 8) xs)) ≡ take n xs ++ take m zs
+front-put xs zs n m long room few =
+    let here : n ≡ length (take n xs) = sym (length-take-le n xs (omega (arith, room))) in
+    ap (λ k. take (k + m) (take n xs ++ (zs ++ drop (n + 8) xs))) here ∙ take-append-add (take n xs) (zs ++ drop (n + 8) xs) m
+    ∙ ap (λ l. take n xs ++ l) (take-append-le m zs (drop (n + 8) xs) (omega (arith, long, few)))

@@ -1,2 +1,3 @@
 pub mod HistogramCounts
 pub mod Hist
+pub mod Picked

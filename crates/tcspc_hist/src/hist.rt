@@ -1,11 +1,12 @@
 // A histogram of photons by their dtimes.
-ghost use Rattle.std.specs.Prelude.{◌≡◌, ◌+◌, ◌*◌, ◌/◌, ◌^◌, ◌<◌, ◌≤◌, ℕ, vec_len, sum, length, slice_index, nat_le, ◌==◌, if◌then◌else◌, IfOk, [], false};
-ghost use Rattle.tally_base.{specs.Settings.{divisor_of, hist_view}, specs.Tally.History, specs.Limits.record_limit, specs.Columns.{gathered, events_in, IsSorted}, specs.Settings.PartSettings.HistSettings};
+ghost use Rattle.std.specs.Prelude.{◌≡◌, ◌+◌, ◌*◌, ◌/◌, ◌^◌, ◌<◌, ◌≤◌, ℕ, vec_len, sum, length, slice_index, nat_le, ◌==◌, if◌then◌else◌, IfOk, [], false, count_by};
+ghost use Rattle.tally_base.{specs.Settings.{divisor_of, hist_view}, specs.Tally.History, specs.Limits.record_limit, specs.Columns.{gathered, events_in, IsSorted}, specs.Codes.dtime_in, specs.Settings.PartSettings.HistSettings};
 ghost use Rattle.tcspc_hist.specs.HistogramCounts.{in_bin, count_over};
 
+use crate::picking::pick;
 use std::alloc::{AllocError, Global};
 use std::sync::ledger::Ledger;
-use tally_base::{Block, Divisor, HistSet, Steps, TABLE_BLOCK, Tally};
+use tally_base::{Block, Divisor, HistSet, Steps, TABLE_BLOCK, Tally, dtime_in};
 
 /// Counts the photons of a group by their dtimes, that is by the ticks since their syncs.
 ///
@@ -69,7 +70,9 @@ impl Hist {
     }
 }
 
-/// Counts the photons of a block, and answers how many are now past the last bin.
+/// Counts the photons of a block, and answers how many are now past the last bin. Those of the group are picked before
+/// any is counted: no branch on the group, which is as good as random from photon to photon, and no cell is read for
+/// the others.
 // Not inlined, so that its loop has the registers for itself.
 #[inline(never)]
 fn count_block(set: &HistSet, cells: &mut [u64], over: u64, block: &Block<TABLE_BLOCK>) -> u64
@@ -84,12 +87,35 @@ fn count_block(set: &HistSet, cells: &mut [u64], over: u64, block: &Block<TABLE_
     let group = set.group;
     let width = set.width;
     let by = Divisor::new(u64::from(width));
-    let mut over = over;
-    for at in 0..block.len().min(TABLE_BLOCK) {
-        // No branch on the group, which is as good as random from photon to photon.
+    let len = block.len().min(TABLE_BLOCK);
+    let mut marks = [0; TABLE_BLOCK];
+    let eights = len / 8;
+    let many = pick(group, block, eights, &mut marks);
+    let mut over = add_marks(set, &by, cells, over, &marks[..many]);
+    for at in 8 * eights..len {
         let more = block.photons_in(at, group);
         let bin = bin_of(width, &by, block.dtime(at));
         put(cells, &mut over, bin, more);
+    }
+    over
+}
+
+/// Counts photons by their marks, and answers how many are now past the last bin.
+#[inline(always)]
+fn add_marks(set: &HistSet, by: &Divisor, cells: &mut [u64], over: u64, marks: &[u32]) -> u64
+    requires divisor { divisor_of by.now ≡ set.now.width }
+    requires room { sum cells.old + over + length marks.now ≤ record_limit }
+    ensures cells { (b : ℕ) → b < length cells.old → slice_index cells.new b
+        ≡ slice_index cells.old b + count_by (λ mark. dtime_in mark / set.now.width == b) marks.now }
+    ensures over { result
+        ≡ over + count_by (λ mark. nat_le (length cells.old) (dtime_in mark / set.now.width)) marks.now }
+    ensures few { sum cells.new + result ≡ sum cells.old + over + length marks.now }
+{
+    let width = set.width;
+    let mut over = over;
+    for at in 0..marks.len() {
+        let bin = bin_of(width, by, dtime_in(marks[at]));
+        put(cells, &mut over, bin, 1);
     }
     over
 }

@@ -4,5 +4,6 @@
 
 mod hist;
 pub mod laws;
+mod picking;
 
 pub use hist::Hist;

@@ -1,7 +1,28 @@
-use Rattle.std.proofs.Common.{◌≡◌, ◌<◌, ◌≤◌, ◌/◌, ◌&&◌, length, refl, rules, arith, nat_lt, nat_le, ◌==◌, if◌then◌else◌}
-use Rattle.tally_base.{specs.Events.is_in, specs.Settings.hist_view, specs.Columns.{code_at, dtime_at, groups_at}}
-use Rattle.tcspc_hist.proofs.Blocks.{count-row, one_at_most}
+use Rattle.std.{proofs.lemmas.List.length-take-le}
+use Rattle.std.proofs.Common.{ℕ, Bool, ◌*◌, ◌∙◌, ap, take, count_by, ◌≡◌, ◌<◌, ◌≤◌, ◌/◌, ◌&&◌, length, refl, rules, arith, nat_lt, nat_le, ◌==◌, if◌then◌else◌}
+use Rattle.tally_base.{specs.Events.is_in, specs.Settings.hist_view, specs.Codes.dtime_in, specs.Columns.{code_at, dtime_at, groups_at, item, rows}}
+use Rattle.tcspc_hist.proofs.Blocks.{count-picked, count-row, one_at_most}
+use Rattle.tcspc_hist.specs.HistogramCounts.{count_dtimes, count_over}
 use Rattle.tcspc_hist.proofs.hist.count_block.Goals as goal
+
+pub loop-at-init : goal.loop-at-init
+loop-at-init c =
+    let set = hist_view c.args.set.now in
+    let block = c.args.block.now in
+    let n = 8 * (c.min-len.result / 8) in
+    let many = c.pick-many.result in
+    let marks = c.pick-many.new.marks in
+    let e = c.add_marks-over.ensures in
+    let rest = rows (item block) n in
+    let picked : (test : ℕ → Bool) → count_by (λ mark. test (dtime_in mark)) (take many marks) ≡ count_dtimes set test rest = λ test.
+    ap (count_by (λ mark. test (dtime_in mark))) c.pick-many.ensures.picked ∙ count-picked set test block n in
+    let past : count_dtimes set (λ dtime. nat_le (length c.args.cells.now) (dtime / set.width)) rest ≡ count_over set rest = rw c.requires.sized refl in
+    let room : many ≤ length marks = omega (arith, c.pick-many.ensures.few, c.pick-many.array_long, c.min-len.ensures) in
+    record {
+      cells = λ b lt. omega (arith, e.cells b (omega (arith, lt, c.requires.sized)), picked (λ dtime. dtime / set.width == b));
+      over = omega (arith, e.over, picked (λ dtime. nat_le (length c.args.cells.now) (dtime / set.width)), past);
+      few = omega (arith, e.few, c.pick-many.ensures.few, length-take-le many marks room);
+    }
 
 pub loop-at-preserved : goal.loop-at-preserved
 loop-at-preserved c =
