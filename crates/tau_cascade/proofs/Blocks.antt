@@ -3,7 +3,7 @@ use Rattle.std.{proofs.Common.{◌≡◌, ℕ, zero, suc, ◌+◌, ◌<◌, ◌�
 use mir.Val.{bool_byte}
 use Rattle.tally_base.{specs.declared.settings.CorrelationSet.CorrelationSet, specs.Events.{is_photon, is_in}, specs.Settings.{CorrelationView, correlation_view}, specs.Tally.{History, greatest_time, floor_after, InOrder, moves_floor}, specs.Limits.record_limit, specs.declared.block.Block.Block, specs.Columns.{rows, event_at, code_at, groups_at, gathered, events_in}, proofs.Floors.{moves_row, order-front, order-last, greatest-rows}, proofs.BlockRows.length-rows}
 use Rattle.lag_ring.{specs.declared.ring.Entry.Entry, proofs.Lists.{all_both, all_filter, all_passed}, proofs.Rising.all_weaker}
-use Rattle.tau_cascade.{specs.declared.level.Level.Level, specs.Correlation.{Given, bin, in_first, in_second, photons_of}, specs.StandsFor.StandsFor, specs.Levels.{IsBin, Chain, CanEnd, Complete}, specs.Bins.{raised, bin_of, photon_bins, Come, CanCome, CanGiveBlock}, proofs.Follows.{come_push, raised-none}}
+use Rattle.tau_cascade.{specs.declared.level.Level.Level, specs.Correlation.{Given, bin, in_first, in_second, photons_of}, specs.StandsFor.StandsFor, specs.Levels.{Chain, CanEnd, Complete}, specs.Bins.{raised, bin_of, photon_bins, Come, CanCome, CanGiveBlock}, proofs.Follows.{come_push, raised-none}}
 
 -- What an event does to the photons of the two groups.
 
@@ -14,13 +14,10 @@ from_start : (t : ℕ) (h : History) → t ≤ fold later t h
 from_start t [] = omega arith
 from_start t (x ∷ h) = search (rules, arith, from_start (later t x) h)
 
-later_than : (t : ℕ) (x : Given) (h : History) → is_photon x.0 ≡ true → later t x ≤ fold later (later t x) h → x.0.time ≤ fold later (later t x) h
-later_than t x h is rest = let now : later t x ≡ max t x.0.time = rw is refl in omega (arith, now)
-
 -- no photon is after the greatest time
 in_time : (t : ℕ) (h : History) → AllByRecursion (λ x. is_photon x.0 ≡ true → x.0.time ≤ fold later t h) h
 in_time t [] = tt
-in_time t (x ∷ h) = (λ is. let rest = from_start (later t x) h in later_than t x h is rest, in_time (later t x) h)
+in_time t (x ∷ h) = (λ is. let rest = from_start (later t x) h in let now : later t x ≡ max t x.0.time = rw is refl in omega (arith, now, rest), in_time (later t x) h)
 
 pub mine-photon : (p a b : Bool) → ((p && a) || (p && b)) ≡ true → p ≡ true
 mine-photon p a b is = search (rules, arith)
@@ -51,33 +48,24 @@ may_end closed still set ls count time h is few = search (rules, arith, false≢
 pub end_counts : (closed : Bool) → closed ≡ false → (set : CorrelationSet) (ls ls' : List Level) (count time : ℕ) (h : History) → StandsFor closed set ls count time h → Complete (correlation_view set) 0 ls' (photons_of (correlation_view set) h) → StandsFor true set ls' count time h
 end_counts closed still set ls ls' count time h is through = record { taken = is.taken; floor = is.floor; through = through }
 
-flip : (x y : Bool) → ◌≡◌ {A = ℕ} (cond (x && y) 1 0) (cond (y && x) 1 0)
-flip x y = search (rules, arith)
-
 -- the weight of an event of a block
 pub weight_row : {N : ℕ} (b : Block N) (i group : ℕ)
     → ◌≡◌ {A = ℕ} (cond (is_in (groups_at b i) group && nat_lt (code_at b i) 256) 1 0) (cond (is_photon (event_at b i) && is_in (groups_at b i) group) 1 0)
 weight_row b i group =
-    flip (is_in (groups_at b i) group) (nat_lt (code_at b i) 256) ∙ ap (λ p. cond (p && is_in (groups_at b i) group) 1 0) (sym (moves_row false b i))
+    search (rules, arith) ∙ ap (λ p. cond (p && is_in (groups_at b i) group) 1 0) (sym (moves_row false b i))
 
 module _ (set : CorrelationView) where
   abbrev pub mine : Given → Bool
   mine x = in_first set x || in_second set x
 
-  photons-more : (es : History) (x : Given) → photons_of set (es ++ x ∷ []) ≡ photons_of set es ++ cond (mine x) (x ∷ []) []
-  photons-more es x = filter-append mine es (x ∷ [])
-
   photon_bins-push : (es : History) (x : Given) → photon_bins set (es ++ x ∷ []) ≡ photon_bins set es ++ cond (mine x) (bin_of set x ∷ []) []
-  photon_bins-push es x = search (rules, arith, photons-more, mine, map-append)
+  photon_bins-push es x = search (rules, arith, filter-append, mine, map-append)
 
   -- one event more is gathered
   pub gather_step : (bins : List Entry) (count a b : ℕ) (es : History) (x : Given) → count < length bins
       → take count bins ≡ photon_bins set es → a ≡ cond (in_first set x) 1 0 → b ≡ cond (in_second set x) 1 0
       → take (count + cond (mine x) 1 0) (slice_set bins count (record { index = x.0.time; a = a; b = b })) ≡ photon_bins set (es ++ x ∷ [])
   gather_step bins count a b es x inside so_far is_a is_b = grind (arith, common_steps, photon_bins-push, mine, take_more_set, append-nil)
-
-  bin_is : (x : Given) → IsBin set 0 (bin_of set x) (x ∷ [])
-  bin_is x = search (rules, arith, bin-zero, zero-add)
 
   -- events in order come one after the other
   pub come_rows : (h : History) (f : ℕ → Given) (n : ℕ) → InOrder false (greatest_time false h) (rows (λ i. (f i).0) n)
@@ -92,14 +80,14 @@ module _ (set : CorrelationView) where
       let next = order-last false floor events x.0 order in
       let last = greatest-rows false h f n front in
       let before = come_rows h f n front in
-      rw (photon_bins-push es x, photons-more es x)
+      rw (photon_bins-push es x, filter-append mine es (x ∷ []))
       ((elim (mine x) as (λ m. mine x ≡ m → Come set 0 (photons_of set h) (photon_bins set es ++ cond m (bin_of set x ∷ []) []) (photons_of set es ++ cond m (x ∷ []) [])) [
         | true ↦ λ is.
             let photon : is_photon x.0 ≡ true = mine-photon (is_photon x.0) (is_in x.1 set.first) (is_in x.1 set.second) is in
             let late : greatest_time false (h ++ es) ≤ x.0.time = (let upto = next.1 photon in rw last upto) in
             let all : AllByRecursion (λ y. bin 0 y ≤ x.0.time) (photons_of set h ++ photons_of set es) =
             rw (← filter-append mine h es) (none_before set (h ++ es) x.0.time late) in
-            come_push set 0 (photon_bins set es) (bin_of set x) (photons_of set h) (photons_of set es) (x ∷ []) before (bin_is x) all
+            come_push set 0 (photon_bins set es) (bin_of set x) (photons_of set h) (photons_of set es) (x ∷ []) before (search (rules, arith, bin-zero, zero-add)) all
         | false ↦ λ other. rw (append-nil (photon_bins set es), append-nil (photons_of set es)) before
       ]) refl)
 

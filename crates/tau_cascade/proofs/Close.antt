@@ -117,21 +117,21 @@ module _ (levels : ℕ) (list : List Entry) (i : ℕ) (inside : i < length list)
 
   -- the last one laid before it is no further
   pub behind_last : {window : List ℕ} {reach first : ℕ} {laying : Laying} → IsLaid window reach first laying (take i ups) → IsSpaced 0 ups
-      → AllByRecursion (λ e. first ≤ e.index) ups → laying.last.index ≤ here.index
+      → AllByRecursion (λ e. first ≤ e.index) ups → laying.index ≤ here.index
   behind_last are spaced all = are.upto here.index (over all) (under spaced)
 
 -- a bin more is laid
 module _ (window new : List ℕ) (reach index : ℕ) (was now : Laying) (es : List Entry) (e : Entry) (are : IsLaid window reach index was es)
-    (up : was.last.index ≤ e.index) (last : (now.last.index ≡ e.index) × (now.last.place ≡ was.last.place + min (e.index - was.last.index) reach))
+    (up : was.index ≤ e.index) (last : (now.index ≡ e.index) × (now.place ≡ was.place + min (e.index - was.index) reach))
     (heaviest : (was.heaviest ≤ now.heaviest) × (e.a ≤ now.heaviest) × (e.b ≤ now.heaviest))
     (weights : (p : ℕ) → p < 8640
-    → get_or new p 0 ≡ cond (eqb (now.last.place + 192) p) ((get_or window p 0 + e.a % 65536) % 65536) (get_or window p 0))
-    (light : get_or window (now.last.place + 192) 0 + e.a % 65536 ≤ now.heaviest) where
-  pub push : laid reach index 0 (es ++ e ∷ []) ≡ laid reach index 0 es ++ laid_at now.last.place e ∷ []
+    → get_or new p 0 ≡ cond (eqb (now.place + 192) p) ((get_or window p 0 + e.a % 65536) % 65536) (get_or window p 0))
+    (light : get_or window (now.place + 192) 0 + e.a % 65536 ≤ now.heaviest) where
+  pub push : laid reach index 0 (es ++ e ∷ []) ≡ laid reach index 0 es ++ laid_at now.place e ∷ []
   push = rw last.1 (are.next (e ∷ []))
 
   weight_next : (q : ℕ) → weight_at First 192 0 q (laid reach index 0 (es ++ e ∷ []))
-      ≡ weight_at First 192 0 q (laid reach index 0 es) + cond (eqb (now.last.place + 192) q) e.a 0
+      ≡ weight_at First 192 0 q (laid reach index 0 es) + cond (eqb (now.place + 192) q) e.a 0
   weight_next q = search (rules, arith, push, sum_by_push, laid_at)
 
   pub laid_more : IsLaid new reach index now (es ++ e ∷ [])

@@ -57,5 +57,4 @@ module _ (lanes : ℕ) (sums xs ys : List ℕ) (long : (length sums ≡ lanes) �
   pub lane : (q x y : ℕ) → get_or xs q 0 ≡ x → get_or ys q 0 ≡ y → q < lanes → get_or sums q 0 + x * y < 65536
       → get_or (zip2 (λ x y. (x + y) % 65536) sums (zip2 (λ x y. x * y % 65536) xs ys)) q 0 ≡ get_or sums q 0 + x * y
   lane q x y is_x is_y inside fits =
-      let one = get_or-zip2 (λ x y. x * y % 65536) xs ys q 0 0 0 (omega (arith, long)) (omega (arith, long)) in
-      search (rules, arith, get_or-zip2, length-zip2, one)
+      search (rules, arith, get_or-zip2, length-zip2, get_or-zip2 (λ x y. x * y % 65536) xs ys q 0 0 0 (omega (arith, long)) (omega (arith, long)))

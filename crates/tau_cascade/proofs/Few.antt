@@ -1,7 +1,7 @@
 -- How many bins are near to the one before them, and how many share it some levels up.
-use Rattle.std.{proofs.Common.{◌≡◌, ◌≢◌, ℕ, zero, suc, ◌+◌, ◌-◌, ◌*◌, ◌/◌, ◌^◌, ◌<◌, ◌≤◌, true, false, cond, eqb, ltb, List, [], ◌∷◌, length, map, take, drop, get_or, refl, ap, add-one, zero-add, arith, rules}, proofs.lemmas.Bool.Decides.nat_tests, proofs.lemmas.Nat.{pow_pos}, proofs.Math.Seq.take-nil, proofs.Math.Nat.{div_self, div-mul-le_self, mul-le-mul_right}, proofs.lemmas.Grind.common_steps, proofs.lemmas.List.{take-take, drop-drop, length-map}}
-use Rattle.lag_ring.specs.declared.ring.Entry.{Entry}
-use Rattle.tau_cascade.{specs.Bins.{raised, both_of, merged, merged_all, near, IsSpaced, AreAlike}, proofs.Passes.{shares, spaced-rising}, proofs.Near.end_one, proofs.Follows.come_merged}
+use Rattle.std.{specs.List.AllByRecursion, proofs.Common.{◌≡◌, ◌≢◌, ℕ, zero, suc, ◌+◌, ◌-◌, ◌*◌, ◌/◌, ◌^◌, ◌<◌, ◌≤◌, true, false, cond, eqb, ltb, List, [], ◌∷◌, length, map, take, drop, get_or, refl, ap, add-one, zero-add, arith, rules}, proofs.lemmas.Bool.Decides.nat_tests, proofs.lemmas.Nat.{pow_pos}, proofs.Math.Seq.take-nil, proofs.Math.Nat.{div_self, div-mul-le_self, mul-le-mul_right}, proofs.lemmas.Grind.common_steps, proofs.lemmas.List.{take-take, drop-drop, length-map}}
+use Rattle.lag_ring.{specs.declared.ring.Entry.{Entry}, proofs.Rising.all_weaker}
+use Rattle.tau_cascade.{specs.declared.grid.Grid.Grid, specs.Grid.{IsGrid, counted}, specs.Bins.{raised, both_of, merged, merged_all, near, IsSpaced, AreAlike}, proofs.Passes.{shares, spaced-rising}, proofs.Near.end_one, proofs.Follows.come_merged}
 
 -- one bin more
 pub near_more : (d i : ℕ) (es : List Entry) (none : Entry) → suc i < length es
@@ -42,7 +42,6 @@ pub near_put : (d from first count n : ℕ) (list : List Entry) → from ≤ fir
     → near d (take n (drop from list)) ≤ near d (take count (drop first list)) + 1
 near_put d from first count n list order one within =
     let k : ℕ = first - from in
-    let size : first + count - from ≡ k + count = omega arith in
     let there : from + k ≡ first = omega arith in
     let cut : near d (take n (drop from list)) ≤ near d (take (k + count) (drop from list)) = rw (← take-take n (k + count) (drop from list) (omega arith)) (near_take d n (take (k + count) (drop from list))) in
     let back : drop k (drop from list) ≡ drop first list = rw (drop-drop, there) refl in
@@ -84,9 +83,6 @@ merged_once e (f ∷ fs) = (elim (eqb e.index f.index) as (λ b. eqb e.index f.i
       rw end.2 (grind (arith, nat_tests, common_steps, rest, two, end.3))
 ]) refl
 
-pub merged_twice : (es : List Entry) → merged_all (merged_all es) ≡ merged_all es
-merged_twice es = search (rules, arith, merged_once)
-
 -- What merging does to the bins that a level closes.
 
 pub near_zero : (es : List Entry) → near 0 es ≡ 0
@@ -107,4 +103,21 @@ module _ (d levels : ℕ) (es : List Entry) (reach : 0 < d / 2 ^ levels) where
   few_share most are few = omega (arith, share_near d levels es reaches, are, few, length-map es (raised levels))
 
 pub alike_merged : (es fs : List Entry) → fs ≡ merged_all es → AreAlike es fs
-alike_merged es fs is = search (rules, arith, come_merged, merged_twice, spaced-rising)
+alike_merged es fs is = search (rules, arith, come_merged, merged_once, spaced-rising)
+
+-- merged bins are no more than there were
+merged_few : (e : Entry) (es : List Entry) → length (merged e es) ≤ suc (length es)
+merged_few e [] = omega arith
+merged_few e (f ∷ fs) = search (rules, arith, nat_tests, merged_few (both_of e f) fs, merged_few f fs)
+
+-- and no more than there are indices from the first to the last
+merged_span : (top : ℕ) (e : Entry) (es : List Entry) → IsSpaced 0 (e ∷ es) → AllByRecursion (λ f. f.index < top) (e ∷ es) → length (merged e es) + e.index ≤ top
+merged_span top e [] spaced under = omega (arith, under.0)
+merged_span top e (f ∷ fs) spaced under = search (rules, arith, nat_tests, merged_span top (both_of e f) fs, merged_span top f fs spaced.1 under.1)
+
+-- so they count at most four times what their list does
+pub counts_all : (g : Grid) (es : List Entry) → IsGrid g es → IsSpaced 0 es → length (merged_all es) ≤ 4 * counted g (length es)
+counts_all g [] is spaced = omega arith
+counts_all g (e ∷ es) is spaced = (let few = merged_few e es in
+    let span : 0 < g.len → length (merged e es) ≤ g.len = λ on. (let stands = is.on on in omega (arith, stands.within.0, merged_span (g.base + g.len) e es spaced (all_weaker (λ f. (g.base ≤ f.index) × (f.index < g.base + g.len)) (λ f. f.index < g.base + g.len) (λ f in'. in'.1) (e ∷ es) stands.within))) in
+    grind (arith, nat_tests, few, span))

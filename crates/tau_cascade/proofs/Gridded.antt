@@ -34,7 +34,6 @@ none_pass : (test : ℕ → Bool) (us : List Entry) → AllByRecursion (λ e. lt
 none_pass test [] some none = tt
 none_pass test (u ∷ us) some none =
     let cons = λ (side : Side). sum_by-cons (λ (e : Entry). cond (test e.index) (weight_of side e) 0) u us in
-    let first = cons First in
     let second = cons Second in
     (grind (arith, nat_tests, common_steps, some.0, none First, none Second), none_pass test us some.1 (λ side. omega (arith, cons side, none side)))
 

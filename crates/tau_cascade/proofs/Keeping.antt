@@ -17,10 +17,6 @@ pub filter_again : (p q : Entry → Bool) → ((x : Entry) → p x ≡ true → 
 filter_again p q stronger [] = refl
 filter_again p q stronger (x ∷ xs) = search (rules, arith, false≢true, filter_again p q stronger xs)
 
-keep_more : (p q : Entry → Bool) → ((x : Entry) → p x ≡ true → q x ≡ true)
-    → (es fs : List Entry) (e : Entry) → filter p ((filter q es ++ e ∷ []) ++ fs) ≡ filter p (es ++ e ∷ fs)
-keep_more p q stronger es fs e = search (rules, arith, filter-append, filter_again, append_assoc)
-
 -- the index of the last of some entries, or a number where there are none
 abbrev pub last_of : ℕ → List Entry → ℕ
 last_of n [] = n
@@ -53,7 +49,7 @@ module _ (set : CorrelationView) (level : ℕ) (some : 0 < set.lags) where
   ring_all e (f ∷ fs) r closed xs was follow rising =
       let one = ring_one e r closed follow.0 was follow.3 follow.4 in
       let rest = ring_all f fs (ring (filter (from_last e.index) r.entries ++ e ∷ []) r.reach) (closed ++ follow.0) follow.1 one follow.5 rising.1 in
-      search (rules, arith, from_last, last_of, upto_last, keep_more, append_assoc)
+      search (rules, arith, from_last, last_of, upto_last, filter-append, filter_again, append_assoc)
 
 -- what is kept of bins of which those before a place go
 pub kept_is : (before start : ℕ) (bins : List Entry) → AllByRecursion (λ e. e.index < before) (take start bins) → AllByRecursion (λ e. before ≤ e.index) (drop start bins) → filter (λ e. leb before e.index) bins ≡ drop start bins

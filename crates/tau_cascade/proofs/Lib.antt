@@ -4,7 +4,6 @@ pub mod Spread
 pub mod Paired
 pub mod Keeping
 pub mod Nexts
-pub mod Together
 pub mod Close
 pub mod Blocks
 pub mod Passes

@@ -101,7 +101,6 @@ module _ {set : CorrelationView} {level skipped : ℕ} {r : Ring} {levels start 
 
   end' : (f : Entry) × (fs : List Entry) × (whole ≡ f ∷ fs) × (last_of f.index fs ≡ (get_or list (length list - 1) no_bin).index / 2 ^ levels)
   end' =
-      let is = at'.inside in
       let read = get_or-map (raised levels) list (length list - 1) no_bin no_bin in
       let end = merged_end bins (omega (arith, at'.inside, length-drop start (map (raised levels) list), length-map list (raised levels))) in
       (end.0, end.1, end.2, end.3 ∙ search (rules, arith, read, get_or-drop, length-drop, length-map))

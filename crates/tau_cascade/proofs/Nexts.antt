@@ -8,7 +8,6 @@ pub weight_more : (bins : List Entry) (levels i : ℕ) (none : Entry) → i < le
     → weight_before k n (take (i + 1) (map (raised levels) bins)) * w ≡ weight_before k n (take i (map (raised levels) bins)) * w
     + cond (eqb ((get_or bins i none).index / 2 ^ levels + k) n) ((get_or bins i none).a * w) 0
 weight_more bins levels i none inside k n w =
-    let u : ℕ = weight_before k n (take i (map (raised levels) bins)) in
     let e : Entry = raised levels (get_or bins i none) in
     let more = sum_by_more (λ (f : Entry). cond (eqb (f.index + k) n) f.a 0) (map (raised levels) bins) i none (rw (length-map bins (raised levels)) inside) in
     rw (more, get_or-map (raised levels) bins i none none inside) (grind arith)

@@ -98,14 +98,13 @@ paired_far : (k lags index : ℕ) (far near es : List Entry) → k ≤ lags → 
     → AllByRecursion (λ e. index ≤ e.index) es → paired k (far ++ near) es ≡ paired k near es
 paired_far k lags index far near [] few out from = refl
 paired_far k lags index far near (e ∷ es) few out from =
-    let further : AllByRecursion (λ f. f.index + lags < e.index) far = search (rules, arith, all_weaker) in
     search (
       rules,
       arith,
       near,
       sum_by-append,
       append_assoc,
-      none_at_lag far lags e.index k further few,
+      none_at_lag far lags e.index k (search (rules, arith, all_weaker)) few,
       paired_far k lags index far (near ++ e ∷ []) es few out from.1,
     )
 
@@ -114,10 +113,9 @@ paired_near : (k lags from at' : ℕ) (es : List Entry) (none : Entry) → k ≤
     → AllByRecursion (λ f. f.index + lags < (get_or es at' none).index) (take from es)
     → paired_from at' k es ≡ paired_from (at' - from) k (drop from es)
 paired_near k lags from at' es none few within inside sorted far =
-    let back : drop at' es ≡ drop (at' - from) (drop from es) = search (rules, arith, drop-drop) in
     let near : List Entry = take (at' - from) (drop from es) in
     rw (take_parts es from at' within) (paired_far k lags (get_or es at' none).index (take from es) near (drop at' es) few far
-    (from_place es at' none inside sorted) ∙ ap (paired k near) back)
+    (from_place es at' none inside sorted) ∙ ap (paired k near) (search (rules, arith, drop-drop)))
 
 -- the bins of a list from one place to another, some levels up, and those before them that are not out of reach
 module _ (levels : ℕ) (list : List Entry) (from at' end' : ℕ) (none : Entry) (within : from ≤ at')

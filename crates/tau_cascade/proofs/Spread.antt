@@ -3,7 +3,7 @@ use Rattle.std.{proofs.Common.{rules}, proofs.Common.{◌≡◌, ◌≢◌, ℕ,
 use native.Mathlib.Numerals.{unary_clauses}
 use Rattle.tally_base.{specs.Settings.CorrelationView, specs.Tally.History, specs.Limits.record_limit}
 use Rattle.lag_ring.{specs.declared.ring.Entry.Entry, specs.Ring.{Ring, IsRising}, proofs.Lists.{all_back, all_join, of_some}, proofs.Rising.all_weaker}
-use Rattle.tau_cascade.{specs.declared.level.Level.Level, specs.Correlation.{bin, in_first, in_second}, specs.Work.occupied, specs.Levels.{IsBin, OpenIs, RingIs, CellsAre, paired_of}, specs.Bins.{raised, onto, merged_all, FitCounts, stretch, IsSpaced, Come, Follow, CanShutAll, CanTake, Took, ComeAlike, near}, proofs.Paired.occupied_all, proofs.Few.near_put, proofs.Follows.{rest_at, merged_follow, come_weigh, come_merged, stretch_more}, proofs.Passes.{spaced_upto, far_place, spaced-rising, spaced_behind, spaced_take, spaced_nearer}}
+use Rattle.tau_cascade.{specs.declared.level.Level.Level, specs.Correlation.{bin, in_first, in_second}, specs.Work.occupied, specs.Levels.{IsBin, OpenIs, RingIs, CellsAre, paired_of, PairsMore}, specs.Bins.{raised, onto, merged_all, FitCounts, stretch, IsSpaced, Come, Follow, CanShutAll, CanTake, Took, ComeAlike, near}, proofs.Paired.occupied_all, proofs.Few.near_put, proofs.Follows.{rest_at, merged_follow, come_weigh, come_merged, stretch_more}, proofs.Passes.{spaced_upto, far_place, spaced-rising, spaced_behind, spaced_take, spaced_nearer}}
 
 -- The entries of a list before others, so many levels down.
 
@@ -226,10 +226,6 @@ module _ (set : CorrelationView) (level : ℕ) where
   come_none : (n : ℕ) (es : List Entry) (came xs : History) → n ≤ 0 → Come set level came (take n es) xs → xs ≡ []
   come_none n es came xs none come = search (rules, arith)
 
-  -- before the first of some bins, before the first ones of these
-  before_take : (n : ℕ) (es : List Entry) (closed : History) → IsBefore closed es → IsBefore closed (take n es)
-  before_take n es closed before = search (rules, arith)
-
   -- and before the last of them
   before_last : (es : List Entry) (n : ℕ) (last : Entry) (closed : History) → IsCut es n last → IsBefore closed es → AllByRecursion (λ x. bin level x < last.index) closed
   before_last [] n last closed cut before = absurd (omega (arith, cut.few))
@@ -269,27 +265,27 @@ module _ {set : CorrelationView} {level : ℕ} {l : Level} {es : List Entry} {cl
       few = omega (arith, can.few, ap length parts.2, length-append open' xs, length-append parts.0 parts.1);
       ring = can.was.ring;
       cells = can.was.cells;
-      bins = merged_comes set level front closed parts.0 (before_take set level n (onto l.open es) closed behind) parts.3;
+      bins = merged_comes set level front closed parts.0 (search (rules, arith, behind)) parts.3;
     }
 
     pub front_fit : FitCounts (merged_all front)
     front_fit = come_fit set level (merged_all front) closed parts.0 (omega (arith, can.few, ap length parts.2, length-append open' xs, length-append parts.0 parts.1)) (come_merged set level front closed parts.0 parts.3)
 
     -- where there are none, all stays
-    pub none_closed : n ≤ 0 → RingIs set level l.ring (closed ++ parts.0) × CellsAre set level l.cells (closed ++ parts.0) × (paired_of l ≤ 2 * occupied level (closed ++ parts.0))
-    none_closed none = rw (come_none set level n (onto l.open es) closed parts.0 none parts.3, append-nil) (can.was.ring, can.was.cells, can.was.few)
+    pub none_closed : n ≤ 0 → RingIs set level l.ring (closed ++ parts.0) × CellsAre set level l.cells (closed ++ parts.0) × PairsMore 0 (paired_of l) (occupied level (closed ++ parts.0))
+    none_closed none = rw (come_none set level n (onto l.open es) closed parts.0 none parts.3, append-nil) (can.was.ring, can.was.cells, can.was.paired)
 
-    -- Where the list that was paired has at most twice as many bins as are occupied, so have all.
-    pub few_closed : (paired : ℕ) → paired ≤ paired_of l + 2 * length (merged_all front) → paired ≤ 2 * occupied level (closed ++ parts.0)
-    few_closed paired few' = omega (arith, few', can.was.few, occupied_all set level (merged_all front) closed parts.0 may_close.bins)
+    -- lists that were paired for all bins
+    pub paired_closed : (paired : ℕ) → PairsMore (paired_of l) paired (length (merged_all front)) → PairsMore 0 paired (occupied level (closed ++ parts.0))
+    paired_closed paired more = omega (arith, more, can.was.paired, occupied_all set level (merged_all front) closed parts.0 may_close.bins)
 
     -- and those after it are open then
-    pub take_took : (l' : Level) → l'.open ≡ Some last → RingIs set level l'.ring (closed ++ parts.0) × CellsAre set level l'.cells (closed ++ parts.0) × (paired_of l' ≤ 2 * occupied level (closed ++ parts.0))
+    pub take_took : (l' : Level) → l'.open ≡ Some last → RingIs set level l'.ring (closed ++ parts.0) × CellsAre set level l'.cells (closed ++ parts.0) × PairsMore 0 (paired_of l') (occupied level (closed ++ parts.0))
         → (shut : List Entry) → ComeAlike front shut → Took set level l' shut closed open' xs parts.0 parts.1
     take_took l' opened is' shut alike =
         let here : IsBin set level last parts.1 = one_bin set level (drop n (onto l.open es)) last (closed ++ parts.0) parts.1 (omega (arith, is.few, length-drop n (onto l.open es))) is.here is.a is.b parts.4 in
         let before : AllByRecursion (λ x. bin level x < last.index) (closed ++ parts.0) = all_join (λ x. bin level x < last.index) closed parts.0 (before_last set level (onto l.open es) n last closed is behind) (come_all set level (λ m. m < last.index) front closed parts.0 is.before parts.3) in
-        record { all = parts.2; is = record { opened = rw opened (here, before); ring = is'.0; cells = is'.1; few = is'.2 }; bins = alike set level closed parts.0 parts.3 }
+        record { all = parts.2; is = record { opened = rw opened (here, before); ring = is'.0; cells = is'.1; paired = is'.2 }; bins = alike set level closed parts.0 parts.3 }
 
 -- What is put down before those that came fits, since it is not above the first of these.
 pub stretch_fit : (set : CorrelationView) (level : ℕ) (l : Level) (from count levels : ℕ) (list : List Entry) (none : Entry) → 0 < count → from + count ≤ length list → (get_or list from none).index < 2 ^ 64

@@ -1,6 +1,6 @@
 -- A level's additions are at most its lags times its occupied bins, and those at a lag at most its occupied bins.
 use Rattle.tally_base.{specs.declared.settings.CorrelationSet.CorrelationSet, specs.Settings.{CorrelationView, correlation_view}, specs.Tally.History}
-use Rattle.tau_cascade.{specs.declared.level.Level.Level, specs.declared.cascade.Cascade.Cascade, specs.Cascade.{Holds, set_of, spent_by, added_below}, specs.StandsFor.{StandsFor, WentThrough}, specs.Correlation.{bin, lag_count, correlation}, specs.Work.{occupied, IsWithinLevelWork, lags_at, work_from, work, appears, distinct}, specs.Levels.{Chain, Complete, CellsAre, paired_of, spent}}
+use Rattle.tau_cascade.{specs.declared.level.Level.Level, specs.declared.cascade.Cascade.Cascade, specs.Cascade.{Holds, set_of, spent_by, added_below}, specs.StandsFor.{StandsFor, WentThrough}, specs.Correlation.{bin, lag_count, correlation}, specs.Work.{occupied, IsWithinLevelWork, IsPaired, lags_at, work_from, work, appears, distinct}, specs.Levels.{Chain, Complete, CellsAre, paired_of, PairsMore, spent}}
 use Rattle.std.{proofs.Common.{rules, ◌≡◌, ℕ, zero, suc, ◌+◌, ◌*◌, ◌%◌, ◌<◌, ◌≤◌, take, slice_get, Bool, true, false, List, [], ◌∷◌, ◌++◌, length, map, sym, ap, ◌∙◌, refl, append_assoc, append-nil, zero-add, add-zero, Some, arith, cond, ◌||◌, eqb}, proofs.Math.Nat.mul-le-mul_left, specs.Option.{option_map, option_map_or}, proofs.lemmas.Grind.common_steps, proofs.lemmas.List.{map-append, take_all, length-map}, proofs.lemmas.List.Sums.{sum_by-cons, sum_by-le, count_by-le-length}, specs.List.{AllByRecursion}, specs.Bool.{⊤}}
 use Rattle.lag_ring.proofs.Lists.{all_map}
 
@@ -52,42 +52,42 @@ one_level set level l all front back same cells =
     let fewer = occupied-le level all front back same in
     record { all = omega (arith, cells.work, mul-le-mul_left (lag_count set level) fewer); each = λ p. omega (arith, cells.each p, fewer) }
 
-few_level : (level n : ℕ) (all front back : History) → all ≡ front ++ back → n ≤ 2 * occupied level front → n ≤ 2 * occupied level all
-few_level level n all front back same few = omega (arith, few, occupied-le level all front back same)
+open_level : (level n : ℕ) (all front back : History) → all ≡ front ++ back → PairsMore 0 n (occupied level front) → IsPaired false n (occupied level all)
+open_level level n all front back same are = record { few = omega (arith, are, occupied-le level all front back same); all = λ closed. cc }
 
 -- each level's additions are within its own work, and the bins that it paired
-abbrev AreWithin : CorrelationView → ℕ → List Level → History → Type 0
-AreWithin set level [] all = ⊤
-AreWithin set level (l ∷ ls) all = IsWithinLevelWork set level l.cells all × (paired_of l ≤ 2 * occupied level all) × AreWithin set (suc level) ls all
+abbrev AreWithin : Bool → CorrelationView → ℕ → List Level → History → Type 0
+AreWithin closed set level [] all = ⊤
+AreWithin closed set level (l ∷ ls) all = IsWithinLevelWork set level l.cells all × IsPaired closed (paired_of l) (occupied level all) × AreWithin closed set (suc level) ls all
 
-open_within : (set : CorrelationView) (level : ℕ) (ls : List Level) (all came later : History) → all ≡ came ++ later → Chain set level ls came → AreWithin set level ls all
+open_within : (set : CorrelationView) (level : ℕ) (ls : List Level) (all came later : History) → all ≡ came ++ later → Chain set level ls came → AreWithin false set level ls all
 open_within set level [] all came later same chain = tt
 open_within set level (l ∷ ls) all came later same chain =
     let split : all ≡ chain.0 ++ (chain.1 ++ later) = same ∙ ap (λ xs. xs ++ later) chain.2 ∙ append_assoc chain.0 chain.1 later in
-    (one_level set level l all chain.0 (chain.1 ++ later) split chain.3.cells, few_level level (paired_of l) all chain.0 (chain.1 ++ later) split chain.3.few, open_within set (suc level) ls all chain.0 (chain.1 ++ later) split chain.4)
+    (one_level set level l all chain.0 (chain.1 ++ later) split chain.3.cells, open_level level (paired_of l) all chain.0 (chain.1 ++ later) split chain.3.paired, open_within set (suc level) ls all chain.0 (chain.1 ++ later) split chain.4)
 
-shut_within : (set : CorrelationView) (level : ℕ) (ls : List Level) (all : History) → Complete set level ls all → AreWithin set level ls all
+shut_within : (set : CorrelationView) (level : ℕ) (ls : List Level) (all : History) → Complete set level ls all → AreWithin true set level ls all
 shut_within set level [] all is = tt
-shut_within set level (l ∷ ls) all is = search (rules, arith, one_level, append-nil, few_level, shut_within set (suc level) ls all is.1)
+shut_within set level (l ∷ ls) all is = search (rules, arith, one_level, append-nil, shut_within set (suc level) ls all is.1)
 
-all_within : (closed : Bool) (set : CorrelationView) (ls : List Level) (xs : History) → WentThrough closed set ls xs → AreWithin set 0 ls xs
+all_within : (closed : Bool) (set : CorrelationView) (ls : List Level) (xs : History) → WentThrough closed set ls xs → AreWithin closed set 0 ls xs
 all_within false set ls xs is = open_within set 0 ls xs xs [] (sym (append-nil xs)) is
 all_within true set ls xs is = shut_within set 0 ls xs is
 
-within_at : (set : CorrelationView) (level : ℕ) (ls : List Level) (all : History) → AreWithin set level ls all → (i : ℕ) (l : Level) → slice_get ls i ≡ Some l → IsWithinLevelWork set (level + i) l.cells all × (paired_of l ≤ 2 * occupied (level + i) all)
-within_at set level [] all are i l read = cc
-within_at set level (x ∷ ls) all are zero l read = let same : x ≡ l = cc in rw (add-zero, ← same) (are.0, are.1)
-within_at set level (x ∷ ls) all are (suc i) l read = search (rules, arith, within_at set (suc level) ls all are.2 i l read)
+within_at : (closed : Bool) (set : CorrelationView) (level : ℕ) (ls : List Level) (all : History) → AreWithin closed set level ls all → (i : ℕ) (l : Level) → slice_get ls i ≡ Some l → IsWithinLevelWork set (level + i) l.cells all × IsPaired closed (paired_of l) (occupied (level + i) all)
+within_at closed set level [] all are i l read = cc
+within_at closed set level (x ∷ ls) all are zero l read = let same : x ≡ l = cc in rw (add-zero, ← same) (are.0, are.1)
+within_at closed set level (x ∷ ls) all are (suc i) l read = (let one : level + suc i ≡ suc level + i = omega arith in rw one (within_at closed set (suc level) ls all are.2 i l read))
 
 pub level_within : (closed : Bool) (set : CorrelationView) (ls : List Level) (xs : History)
-    → WentThrough closed set ls xs → (i : ℕ) (l : Level) → slice_get ls i ≡ Some l → IsWithinLevelWork set i l.cells xs × (paired_of l ≤ 2 * occupied i xs)
-level_within closed set ls xs is i l read = (rw zero-add at (within_at set 0 ls xs (all_within closed set ls xs is) i l read))
+    → WentThrough closed set ls xs → (i : ℕ) (l : Level) → slice_get ls i ≡ Some l → IsWithinLevelWork set i l.cells xs × IsPaired closed (paired_of l) (occupied i xs)
+level_within closed set ls xs is i l read = (rw zero-add at (within_at closed set 0 ls xs (all_within closed set ls xs is) i l read))
 
-spent_all : (set : CorrelationView) → set.lags % 2 ≡ 0 → (level : ℕ) (ls : List Level) (all : History) → AreWithin set level ls all → spent ls ≤ work_from set level (length ls) all
-spent_all set even level [] all are = omega arith
-spent_all set even level (l ∷ ls) all are =
+spent_all : (closed : Bool) (set : CorrelationView) → set.lags % 2 ≡ 0 → (level : ℕ) (ls : List Level) (all : History) → AreWithin closed set level ls all → spent ls ≤ work_from set level (length ls) all
+spent_all closed set even level [] all are = omega arith
+spent_all closed set even level (l ∷ ls) all are =
     let own : l.cells.added ≤ lags_at set level * occupied level all = rw (← even_lags set level even) are.0.all in
-    rw (sum_by-cons (λ (l : Level). l.cells.added) l ls) (omega (arith, own, spent_all set even (suc level) ls all are.2))
+    rw (sum_by-cons (λ (l : Level). l.cells.added) l ls) (omega (arith, own, spent_all closed set even (suc level) ls all are.2))
 
 -- whatever events a correlation stands for, its additions are within their work
 pub spent_within : (closed : Bool) (set : CorrelationSet) (ls : List Level) (count time : ℕ) (h : History)

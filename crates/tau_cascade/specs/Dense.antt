@@ -7,22 +7,11 @@ use Rattle.tau_cascade.{specs.Levels.weight_before, specs.declared.laid.Laying.L
 abbrev pub bins_of : Bins → List Entry
 bins_of b = map (raised b.levels) b.list.now
 
--- those from a place on do not fall after those before them
+-- The place of the first that is paired is in the list, and none is meant before the one in front of it.
 pub record AreBins (b : Bins) : Type 0 where
   pub within : b.start ≤ length b.list.now
   pub levels : b.levels < 64
   pub sorted : IsSpaced 0 (bins_of b)
-
--- so many cells from one on may have changed, and no others
-abbrev pub SameOutside : ℕ → ℕ → List ℕ → List ℕ → Type 0
-SameOutside at count old new =
-    ((p : ℕ) → p < at → slice_index new p ≡ slice_index old p) × ((p : ℕ) → at + count ≤ p → slice_index new p ≡ slice_index old p)
-
--- so many cells from one on had one addition more at most, and no others had any
-pub record AddsOnce (at count : ℕ) (old new : Cells) : Type 0 where
-  pub once : (p : ℕ) → added_at new p ≤ added_at old p + 1
-  pub before : (p : ℕ) → p < at → added_at new p ≡ added_at old p
-  pub behind : (p : ℕ) → at + count ≤ p → added_at new p ≡ added_at old p
 
 -- What bins add to the cell of a lag.
 
@@ -47,12 +36,9 @@ FitPairs range b old = (p : ℕ) → p < range.last - range.skipped → slice_in
 abbrev pub AddsAtMost : ℕ → Cells → Cells → Type 0
 AddsAtMost most old new = (p : ℕ) → added_at new p ≤ added_at old p + most
 
--- so much is noted more, or at most so much
+-- so much is noted more
 abbrev pub Notes : List ℕ → List ℕ → ℕ → Type 0
 Notes old new n = sum_by (λ n. n) new ≡ sum_by (λ n. n) old + n
-
-abbrev pub NotesUpTo : List ℕ → List ℕ → ℕ → Type 0
-NotesUpTo old new n = sum_by (λ n. n) new ≤ sum_by (λ n. n) old + n
 
 -- Bins that are laid close together.
 
@@ -75,11 +61,11 @@ IsZero window = (p : ℕ) → p < 8640 → slice_index window p ≡ 0
 pub record IsLaid (window : List ℕ) (reach index : ℕ) (laying : Laying) (es : List Entry) : Type 0 where
   pub weights : laying.heaviest < 2048 → (p : ℕ) → p < 8640 → slice_index window p ≡ weight_at First 192 0 p (laid reach index 0 es)
   pub light : (p : ℕ) → p < 8640 → slice_index window p ≤ laying.heaviest
-  pub behind : (p : ℕ) → laying.last.place + 192 < p → p < 8640 → slice_index window p ≡ 0
+  pub behind : (p : ℕ) → laying.place + 192 < p → p < 8640 → slice_index window p ≡ 0
   pub heaviest : IsLight laying.heaviest es
-  pub next : (rest : List Entry) → laid reach index 0 (es ++ rest) ≡ laid reach index 0 es ++ laid reach laying.last.index laying.last.place rest
-  pub upto : (most : ℕ) → index ≤ most → AllByRecursion (λ e. e.index ≤ most) es → laying.last.index ≤ most
-  pub near : laying.last.place + index ≤ laying.last.index
+  pub next : (rest : List Entry) → laid reach index 0 (es ++ rest) ≡ laid reach index 0 es ++ laid reach laying.index laying.place rest
+  pub upto : (most : ℕ) → index ≤ most → AllByRecursion (λ e. e.index ≤ most) es → laying.index ≤ most
+  pub near : laying.place + index ≤ laying.index
 
 -- sums in so many lanes, of which the last is that of the first lag above those skipped, have the pairs of the bins of a list from a place on more than they had
 abbrev pub HavePaired : ℕ → LagRange → List ℕ → List ℕ → ℕ → List Entry → Type 0

@@ -12,6 +12,10 @@ weight_before k index es = weight_where (λ e. e.a) (λ i. i + k == index) es
 abbrev pub paired_of : Level → ℕ
 paired_of l = sum_by (λ n. n) l.paired.items
 
+-- lists that were paired more have at least a quarter as many bins together as these, and at most twice as many
+abbrev pub PairsMore : ℕ → ℕ → ℕ → Type 0
+PairsMore old new bins = (4 * old + bins ≤ 4 * new) × (new ≤ old + 2 * bins)
+
 module _ (set : CorrelationView) (level : ℕ) where
   -- the entry is the bin of these photons, of which there is one at least
   abbrev pub IsBin : Entry → History → Type 0
@@ -40,7 +44,7 @@ module _ (set : CorrelationView) (level : ℕ) where
     pub opened : OpenIs l.open closed open'
     pub ring : RingIs l.ring closed
     pub cells : CellsAre l.cells closed
-    pub few : paired_of l ≤ 2 * occupied level closed
+    pub paired : PairsMore 0 (paired_of l) (occupied level closed)
 
   -- its open bin may be closed
   pub record CanFinish (l : Level) (closed open' : History) : Type 0 where
@@ -52,7 +56,7 @@ module _ (set : CorrelationView) (level : ℕ) where
     pub none : l.open ≡ None
     pub ring : RingIs l.ring came
     pub cells : CellsAre l.cells came
-    pub few : paired_of l ≤ 2 * occupied level came
+    pub paired : PairsMore 0 (paired_of l) (occupied level came)
 
   abbrev pub Finished : Level → Option Entry → History → History → Type 0
   Finished l None closed open' = LevelDone l (closed ++ open') × (closed ≡ []) × (open' ≡ [])

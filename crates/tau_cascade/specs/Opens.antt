@@ -34,15 +34,15 @@ open_bin set level h = open_of set level (photons_of set h)
 
 -- those bins, on the level to which they come
 abbrev pub coming_bins : Coming → List Entry → List Entry
-coming_bins coming bins = stretch coming.closed.from coming.closed.count coming.levels bins
+coming_bins coming bins = stretch coming.from coming.count coming.levels bins
 
 -- the same a level down, as that closed them
 abbrev pub closed_bins : Coming → List Entry → List Entry
-closed_bins coming bins = stretch coming.closed.from coming.closed.count (coming.levels - 1) bins
+closed_bins coming bins = stretch coming.from coming.count (coming.levels - 1) bins
 
 -- They are in a list of 1192 places with room before them, of 168 on the first level and one less on each above, come from no further down than there are levels, and are as far apart and as near to one another as is said.
 pub record IsComing (coming : Coming) (level : ℕ) (bins : List Entry) : Type 0 where
-  pub places : (coming.closed.from ≤ 168) × (168 ≤ coming.closed.from + level) × (coming.closed.from + coming.closed.count ≤ 1192)
+  pub places : (coming.from ≤ 168) × (168 ≤ coming.from + level) × (coming.from + coming.count ≤ 1192)
   pub up : coming.levels ≤ level + 1
-  pub spaced : 0 < coming.apart → IsSpaced coming.apart (take coming.closed.count (drop coming.closed.from bins))
-  pub nearer : near coming.gaps.usual (take coming.closed.count (drop coming.closed.from bins)) ≤ coming.gaps.nearer
+  pub spaced : 0 < coming.apart → IsSpaced coming.apart (take coming.count (drop coming.from bins))
+  pub nearer : near coming.gaps.usual (take coming.count (drop coming.from bins)) ≤ coming.gaps.nearer

@@ -1,5 +1,5 @@
 -- How many additions a correlation of these events may make.
-use Rattle.std.specs.Prelude.{ℕ, ◌+◌, ◌*◌, ◌/◌, ◌≤◌, zero, suc, Bool, false, ◌||◌, ◌==◌, List, [], ◌∷◌, map, if◌then◌else◌}
+use Rattle.std.specs.Prelude.{◌≡◌, true, ℕ, ◌+◌, ◌*◌, ◌/◌, ◌≤◌, zero, suc, Bool, false, ◌||◌, ◌==◌, List, [], ◌∷◌, map, if◌then◌else◌}
 use Rattle.tally_base.{specs.Settings.CorrelationView, specs.Tally.History}
 use Rattle.lag_ring.specs.Cells.{Cells, added_at}
 use Rattle.tau_cascade.specs.Correlation.{bin, lag_count, photons_of}
@@ -22,6 +22,11 @@ occupied level h = distinct (map (bin level) h)
 pub record IsWithinLevelWork (set : CorrelationView) (level : ℕ) (cells : Cells) (h : History) : Type 0 where
   pub all : cells.added ≤ lag_count set level * occupied level h
   pub each : (p : ℕ) → added_at cells p ≤ occupied level h
+
+-- The lists that a level paired have together at most twice as many bins as are occupied, and once it is closed at least a quarter as many.
+pub record IsPaired (closed : Bool) (paired bins : ℕ) : Type 0 where
+  pub few : paired ≤ 2 * bins
+  pub all : closed ≡ true → bins ≤ 4 * paired
 
 -- how many lags a level has, by an even number of lags
 abbrev pub lags_at : CorrelationView → ℕ → ℕ

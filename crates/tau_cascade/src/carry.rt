@@ -4,13 +4,14 @@ ghost use Rattle.tally_base.{specs.Settings.correlation_view, specs.Tally.Histor
 ghost use Rattle.tau_cascade.{specs.Levels.{CanEnd, Complete, LevelDone, spent}, specs.Bins.{CanCome, Carries}, specs.Opens.coming_bins, specs.Comes.HasCome};
 
 use crate::bins::{FIRST_PLACE, Gaps, LEVELS, LIST, NO_BIN};
-use crate::level::{Closed, Coming, Level};
+use crate::level::{Coming, Level};
 use crate::scratch::Scratch;
 use lag_ring::Entry;
 use std::sync::ledger::Ledger;
 use tally_base::{CorrelationSet, Steps};
 
-/// Gives bins of a list to the first of these levels, and those that this closes to the next level, and so on.
+/// Gives bins of a list to the first of these levels, and those that this closes to the next level, and so on. What is in
+/// the list is lost.
 pub(crate) fn carry_all<L: Ledger>(
     levels: &mut [Level],
     set: &CorrelationSet,
@@ -27,7 +28,7 @@ pub(crate) fn carry_all<L: Ledger>(
         (coming_bins coming list.old) }
     ensures steps { steps.new + spent levels.old ≡ steps.old + spent levels.new }
 {
-    if coming.closed.count > 0 {
+    if coming.count > 0 {
         if let Some((first, rest)) = levels.split_first_mut() {
             let next = first.take(set, list, coming, scratch, steps);
             carry_all(rest, set, list, next, scratch, steps);
@@ -56,10 +57,8 @@ fn end_first<L: Ledger>(
         list[FIRST_PLACE] = last;
         let one = Coming {
             level: level + 1,
-            closed: Closed {
-                from: FIRST_PLACE,
-                count: 1,
-            },
+            from: FIRST_PLACE,
+            count: 1,
             levels: 1,
             apart: 0,
             gaps: Gaps::unknown(),

@@ -5,7 +5,7 @@ ghost use Rattle.tau_cascade.{specs.StandsFor.{StandsFor, HasTaken}, specs.Level
 
 use crate::bins::{FIRST_PLACE, Gaps, LIST, NO_BIN, gather, spacing};
 use crate::carry::{carry_all, end_all};
-use crate::level::{Closed, Coming, Level, skipped_lags};
+use crate::level::{Coming, Level, skipped_lags};
 use crate::scratch::Scratch;
 use lag_ring::{Entry, PairCells};
 use std::alloc::{AllocError, Global};
@@ -33,7 +33,7 @@ pub struct Cascade {
 }
 
 impl Cascade {
-    ghost use Rattle.tau_cascade.{specs.Cascade.{Holds, paired_at, cells_at, ring_at, open_at, set_of, spent_by, added_below}, specs.Correlation.{correlation, lag_count, skipped_lags, photons_of}, specs.Opens.open_bin, specs.Work.{work, occupied, IsWithinLevelWork}};
+    ghost use Rattle.tau_cascade.{specs.Cascade.{Holds, paired_at, cells_at, ring_at, open_at, set_of, spent_by, added_below}, specs.Correlation.{correlation, lag_count, skipped_lags, photons_of}, specs.Opens.open_bin, specs.Work.{work, occupied, IsWithinLevelWork, IsPaired}};
 
     /// A correlation of no events, with all the memory that it ever takes, or `AllocError` where there is
     /// not enough.
@@ -74,8 +74,9 @@ impl Cascade {
     }
 
     /// The cells of a level, one for each of its lags from the least on. Beside them a level keeps its open bin and at
-    /// most `lags` closed ones. The lists that it paired had together at most twice as many bins as have photons, where
-    /// four places of a grid count as a bin: what multiplies notes them, but for windows that it gives up.
+    /// most `lags` closed ones. The lists that it paired had together at most twice as many bins as have photons, and once
+    /// it is closed at least a quarter as many, where four places of a grid count as a bin: what multiplies notes them,
+    /// but for windows that it gives up.
     pub fn level(&self, level: u32) -> &PairCells
         requires { level < (set_of self.now).levels }
         ensures cells { cells_at self.now level ≡ Some result.now }
@@ -89,8 +90,9 @@ impl Cascade {
         ensures own { (h : History) → Holds self.now h
             → IsWithinLevelWork (correlation_view (set_of self.now)) level result.now
             (photons_of (correlation_view (set_of self.now)) h) }
-        ensures few { (h : History) → Holds self.now h → paired_at self.now level
-            ≤ 2 * occupied level (photons_of (correlation_view (set_of self.now)) h) }
+        ensures few { (h : History) → Holds self.now h
+            → IsPaired (⟦<Cascade as Tally>⟧.closed self.now) (paired_at self.now level)
+            (occupied level (photons_of (correlation_view (set_of self.now)) h)) }
     {
         &self.levels[level as usize].cells
     }
@@ -145,10 +147,8 @@ fn give_block<L: Ledger>(
     let count = gather(set, block, &mut list, FIRST_PLACE);
     let all = Coming {
         level: 0,
-        closed: Closed {
-            from: FIRST_PLACE,
-            count,
-        },
+        from: FIRST_PLACE,
+        count,
         levels: 0,
         apart: spacing(&list[FIRST_PLACE..FIRST_PLACE + count]),
         gaps: Gaps::unknown(),

@@ -23,62 +23,41 @@ const TOO_HEAVY: u64 = 2048;
 /// How many photons of one group are too many where products are summed in 16 bits.
 const NOT_LIGHT: u64 = 32;
 
-/// Where a bin was laid.
+/// The last of bins that were laid, and what is known of all.
 #[derive(Clone, Copy)]
-pub(crate) struct Laid {
-    /// The index of the bin.
+pub(crate) struct Laying {
+    /// The index of the last bin.
     pub(crate) index: u64,
     /// How far after the first bin it was laid.
     pub(crate) place: u64,
-}
-
-/// What is known of bins that were laid.
-#[derive(Clone, Copy)]
-pub(crate) struct Laying {
-    /// The last one.
-    pub(crate) last: Laid,
     /// A number that no bin has more photons of either group than.
     pub(crate) heaviest: u64,
 }
 
 /// Lays a bin, so many levels up, after another one: as far after it as it is, and no further than just out of reach.
-#[inline(always)]
-fn lay_behind(was: Laid, bin: &Entry, levels: u32, reach: u64) -> Laid
-    requires fits { (was.place + reach < 2 ^ 64) × (levels < 64) }
-    requires after { was.index ≤ bin.now.index / 2 ^ levels }
-    ensures index { result.index ≡ bin.now.index / 2 ^ levels }
-    ensures place { result.place ≡ was.place + min (bin.now.index / 2 ^ levels - was.index) reach }
-{
-    let index = bin.index >> levels;
-    let apart = index - was.index;
-    Laid {
-        index,
-        place: was.place + apart.min(reach),
-    }
-}
-
-/// Lays a bin after another one, and adds the lowest 16 bits of its weight in the first group to what the window has
-/// at its place.
+/// Adds the lowest 16 bits of its weight in the first group to what the window has at its place.
 #[inline(always)]
 fn lay_one(window: &mut [u16; PLACES], was: Laying, bin: &Entry, levels: u32, reach: u64) -> Laying
-    requires place { (was.last.place + reach + TOP < PLACES) × (levels < 64)
-        × (was.last.index ≤ bin.now.index / 2 ^ levels) }
-    ensures last { (result.last.index ≡ bin.now.index / 2 ^ levels) × (result.last.place
-        ≡ was.last.place + min (bin.now.index / 2 ^ levels - was.last.index) reach) }
+    requires place { (was.place + reach + TOP < PLACES) × (levels < 64)
+        × (was.index ≤ bin.now.index / 2 ^ levels) }
+    ensures last { (result.index ≡ bin.now.index / 2 ^ levels) × (result.place
+        ≡ was.place + min (bin.now.index / 2 ^ levels - was.index) reach) }
     ensures heaviest { (was.heaviest ≤ result.heaviest) × (bin.now.a ≤ result.heaviest)
         × (bin.now.b ≤ result.heaviest) }
     ensures weights { (p : ℕ) → p < PLACES → slice_index window.new p
-        ≡ (if result.last.place + TOP == p
+        ≡ (if result.place + TOP == p
         then (slice_index window.old p + bin.now.a % 2 ^ 16) % 2 ^ 16 else slice_index window.old p) }
-    ensures light { slice_index window.old (result.last.place + TOP) + bin.now.a % 2 ^ 16
+    ensures light { slice_index window.old (result.place + TOP) + bin.now.a % 2 ^ 16
         ≤ result.heaviest }
 {
-    let last = lay_behind(was.last, bin, levels, reach);
-    let at = last.place as usize + TOP;
+    let index = bin.index >> levels;
+    let place = was.place + (index - was.index).min(reach);
+    let at = place as usize + TOP;
     let all = u64::from(window[at]) + bin.a % (1 << 16);
     window[at] = (all % (1 << 16)) as u16;
     Laying {
-        last,
+        index,
+        place,
         heaviest: was.heaviest | all | bin.a | bin.b,
     }
 }
@@ -101,10 +80,8 @@ fn lay_before(
 {
     let reach = u64::from(lags) + 1;
     let mut laying = Laying {
-        last: Laid {
-            index: first,
-            place: 0,
-        },
+        index: first,
+        place: 0,
         heaviest: 0,
     };
     for bin in bins {
@@ -131,14 +108,14 @@ fn lay_all(
     ensures places { laid (lags + 1) first 0 (bins_of bins.entry)
         ≡ laid (lags + 1) first 0 (take bins.entry.start (bins_of bins.entry))
         ++ placed (drop bins.entry.start bins.entry.list.now) places.new }
-    ensures near { ((i : ℕ) → slice_index places.new i ≤ result.last.place)
-        × (result.last.place + TOP < PLACES) }
+    ensures near { ((i : ℕ) → slice_index places.new i ≤ result.place)
+        × (result.place + TOP < PLACES) }
 {
     let reach = u64::from(lags) + 1;
     let mut laying = lay_before(window, first, &bins.list[..bins.start], bins.levels, lags);
     for i in bins.start..bins.list.len() {
         laying = lay_one(window, laying, &bins.list[i], bins.levels, reach);
-        places[i - bins.start] = laying.last.place as u16;
+        places[i - bins.start] = laying.place as u16;
     }
     laying
 }
@@ -257,6 +234,21 @@ fn sum_laid<const N: usize>(
     }
 }
 
+/// Whether no two bins, so many levels up, are in reach of one another.
+#[inline(always)]
+fn is_apart(list: &[Entry], levels: u32, lags: u32) -> bool
+    requires { levels < 64 }
+    ensures { result ≡ true → IsSpaced (lags + 1) (map (raised levels) list.now) }
+{
+    for at in 1..list.len() {
+        let apart = (list[at].index >> levels).saturating_sub(list[at - 1].index >> levels);
+        if apart <= u64::from(lags) {
+            return false;
+        }
+    }
+    true
+}
+
 /// Adds the pairs of bins with those before them, at the lags of a range, to sums, and answers true. The last sum is that
 /// of the first lag. Where the first bin is further before those than the lags, or bins are too heavy, the answer is
 /// false.
@@ -274,6 +266,9 @@ pub(crate) fn sum_part<const N: usize>(
     ensures within { AreWithin N (length bins.entry.list.now - bins.entry.start) sums.old sums.new }
     ensures zeros { IsZero window.new }
 {
+    if is_apart(bins.list, bins.levels, range.last) {
+        return true;
+    }
     let first = bins.list[0].index >> bins.levels;
     let span = (bins.list[bins.start].index >> bins.levels) - first;
     if span > u64::from(range.last) {
@@ -293,6 +288,6 @@ pub(crate) fn sum_part<const N: usize>(
             laying.heaviest,
         );
     }
-    clear_window(window, laying.last.place);
+    clear_window(window, laying.place);
     light
 }

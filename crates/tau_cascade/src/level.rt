@@ -32,22 +32,15 @@ pub struct Level {
     heaviest: u64,
 }
 
-/// Where the bins are that a level closed.
-#[derive(Clone, Copy)]
-pub(crate) struct Closed {
-    /// The place of the first.
-    pub(crate) from: usize,
-    /// How many there are.
-    pub(crate) count: usize,
-}
-
 /// Bins that come to a level.
 #[derive(Clone, Copy)]
 pub(crate) struct Coming {
     /// The level, or while they are being closed the one that closes them.
     pub(crate) level: u32,
-    /// Where they are in their list.
-    pub(crate) closed: Closed,
+    /// The place of the first in their list.
+    pub(crate) from: usize,
+    /// How many there are.
+    pub(crate) count: usize,
     /// Each is meant so many levels up from where it stands in the list.
     pub(crate) levels: u32,
     /// A distance that no two of them fall below, as they stand in the list, or 0.
@@ -114,20 +107,21 @@ fn keep_dense(
     heaviest_of(&spare[..end])
 }
 
-/// Merges bins that a level closes, in their list, unless they are in a grid: where half may share one, or bins that
-/// wait there are not light: none of a ring, by `heaviest`, and the first of the list.
+/// Merges neighbours of one index among the bins that a level closes, in their list, and answers where they are then. They
+/// stay as they are if they are in a grid, if they are too far apart to share an index, or if at most half of them do and
+/// they are light, as far as the first of them and those of the ring, by `heaviest`, tell.
 fn merge_many(list: &mut [Entry], closing: Coming, grid: &Grid, heaviest: u64) -> Coming
     requires comes { IsClosing closing list.old }
     requires bins { CanClose grid.now (coming_bins closing list.old) }
-    ensures comes { IsComing result (closing.level + 1) list.new × (0 < result.closed.count) }
-    ensures same { (result.closed.from ≡ closing.closed.from) × (result.level ≡ closing.level)
+    ensures comes { IsComing result (closing.level + 1) list.new × (0 < result.count) }
+    ensures same { (result.from ≡ closing.from) × (result.level ≡ closing.level)
         × (result.levels ≤ closing.levels) }
     ensures bins { AreAlike (coming_bins closing list.old) (coming_bins result list.new) }
     ensures grid { IsGrid grid.now (coming_bins result list.new) }
     ensures few { counted grid.now (length (coming_bins result list.new))
         ≤ 2 * length (merged_all (coming_bins closing list.old)) }
 {
-    let Closed { from, count } = closing.closed;
+    let Coming { from, count, .. } = closing;
     let levels = closing.levels;
     if grid.is_on() || closing.apart >> levels > 0 {
         return closing;
@@ -145,7 +139,8 @@ fn merge_many(list: &mut [Entry], closing: Coming, grid: &Grid, heaviest: u64) -
     let count = merge(list, from, count, levels);
     Coming {
         level: closing.level,
-        closed: Closed { from, count },
+        from,
+        count,
         levels: 0,
         apart: 0,
         gaps: Gaps::unknown(),
@@ -229,8 +224,8 @@ impl Level {
     }
 
     /// Takes bins, one after the other and none before what came. The open bin goes before them in the list, those of
-    /// the last bin are cut off after them, and it is open. Answers where those are that are closed. A grid of those that
-    /// came is then one of those that are closed, or has none.
+    /// the last bin are cut off after them, and it is open. Answers where those are that are closed: what else the list had
+    /// is lost. A grid of those that came is then one of those that are closed, or has none.
     pub(crate) fn take<L: Ledger>(
         &mut self,
         set: &CorrelationSet,
@@ -239,7 +234,7 @@ impl Level {
         scratch: &mut Scratch,
         steps: &mut Steps<L>,
     ) -> Coming
-        requires comes { HasCome list.old came scratch.old × (0 < came.closed.count) × (came.level < LEVELS) }
+        requires comes { HasCome list.old came scratch.old × (0 < came.count) × (came.level < LEVELS) }
         requires stands { ∥ ((shut : History) × (open' : History) × (xs : History)
             × CanTake (correlation_view set.now) came.level self.old (coming_bins came list.old)
             shut open' xs) ∥₁ }
@@ -249,8 +244,8 @@ impl Level {
         ensures steps { steps.new + self.old.cells.added ≡ steps.old + self.new.cells.added }
     {
         let levels = came.levels;
-        let first = came.closed.from;
-        let end = first + came.closed.count;
+        let first = came.from;
+        let end = first + came.count;
         // For the proof: the index of the first fits, and nothing that is put before it is above it.
         let _first = list[first].index;
         let from = lower_open(&self.open, list, first, levels);
@@ -272,16 +267,13 @@ impl Level {
         }
         self.open = Some(last.bin);
         let count = last.closed;
-        let closing = Coming {
-            level: came.level,
-            closed: Closed { from, count },
-            levels,
+        let mut closing = Coming {
+            from,
+            count,
             apart,
-            gaps: Gaps {
-                usual: came.gaps.usual,
-                nearer: came.gaps.nearer.saturating_add(1),
-            },
+            ..came
         };
+        closing.gaps.nearer = came.gaps.nearer.saturating_add(1);
         if count > 0 {
             return self.close(set, list, closing, scratch, steps);
         }
@@ -292,7 +284,8 @@ impl Level {
         }
     }
 
-    /// Closes bins of a list, merged first where many share one, and answers where they are then.
+    /// Closes bins of a list, merged first where many share one, and answers where they are then. What stood before them in
+    /// the list is lost, and what they were if they are merged.
     fn close<L: Ledger>(
         &mut self,
         set: &CorrelationSet,
@@ -303,7 +296,7 @@ impl Level {
     ) -> Coming
         requires comes { IsClosing closing list.old × CanClose scratch.old.grid (coming_bins closing list.old) }
         requires room { IsZero scratch.old.window
-            × (length self.old.ring.entries ≤ closing.closed.from)
+            × (length self.old.ring.entries ≤ closing.from)
             × AllByRecursion (λ e. e.index * 2 ^ closing.levels < 2 ^ 64) self.old.ring.entries }
         requires bins { IsSpaced 0 (self.old.ring.entries ++ coming_bins closing list.old)
             × (0 < scratch.old.grid.len → FewFirsts self.old.ring.entries) }
@@ -318,7 +311,7 @@ impl Level {
         ensures steps { steps.new + self.old.cells.added ≡ steps.old + self.new.cells.added }
     {
         let shut = merge_many(list, closing, &scratch.grid, self.heaviest);
-        let Closed { from, count } = shut.closed;
+        let Coming { from, count, .. } = shut;
         let start = lower_ring(&self.ring, list, from, shut.levels);
         let apart = apart_all(&list[start..from + 1], shut.apart, shut.levels, set.lags);
         let bins = Bins {
@@ -335,7 +328,7 @@ impl Level {
         }
     }
 
-    /// Closes the open bin, and answers it.
+    /// Closes the open bin, and answers it. What is in the list is lost.
     pub(crate) fn end<L: Ledger>(
         &mut self,
         set: &CorrelationSet,

@@ -1,7 +1,7 @@
 // Pairs of bins with those before them.
-ghost use Rattle.std.{specs.Prelude.{◌≡◌, ◌≢◌, true, false, ℕ, ◌+◌, ◌-◌, ◌*◌, ◌^◌, ◌<◌, ◌≤◌, length, map, take, drop, slice_index, if◌then◌else◌}, specs.List.{AllByRecursion}};
+ghost use Rattle.std.{specs.Prelude.{◌≡◌, true, false, ℕ, ◌+◌, ◌-◌, ◌*◌, ◌^◌, ◌<◌, ◌≤◌, length, map, take, drop, slice_index, if◌then◌else◌}, specs.List.{AllByRecursion}};
 ghost use Rattle.lag_ring.specs.Cells.{Spends};
-ghost use Rattle.tau_cascade.{specs.Levels.weight_before, specs.Dense.{bins_of, AreBins, FitPairs, Notes, NotesUpTo, ArePaired, AddsAtMost, AddsOnce, SameOutside, IsZero, HavePaired, AreWithin, HaveRoom}, specs.Bins.{IsSpaced, raised}, specs.Grid.{IsGrid, FewFirsts, counted}};
+ghost use Rattle.tau_cascade.{specs.Levels.weight_before, specs.Dense.{bins_of, AreBins, FitPairs, Notes, ArePaired, AddsAtMost, IsZero, HavePaired, AreWithin, HaveRoom}, specs.Bins.{IsSpaced, raised}, specs.Grid.{IsGrid, FewFirsts, counted}};
 
 use crate::bins::{Bins, LagRange, MOST_LAGS, first_kept};
 use crate::laid::{CLOSE_PART, PLACES, sum_part};
@@ -14,45 +14,6 @@ use tally_base::Steps;
 /// How many bins at most have sums that fit.
 const CLOSE_LIST: usize = 1024;
 
-/// Adds pairs to a cell, also where there are none: a branch on that would cost more.
-#[inline(always)]
-fn add_some<L: Ledger>(cells: &mut PairCells, at: u32, pairs: u32, steps: &mut Steps<L>)
-    requires inside { at < length cells.old.cells }
-    requires sum { slice_index cells.old.cells at + pairs ≤ 2 ^ 80 }
-    ensures cell { slice_index cells.new.cells at ≡ slice_index cells.old.cells at + pairs }
-    ensures others { (p : ℕ) → p ≢ at
-        → slice_index cells.new.cells p ≡ slice_index cells.old.cells p }
-    ensures spends { Spends cells.old cells.new steps.old steps.new 1 }
-    ensures once { AddsOnce at 1 cells.old cells.new }
-{
-    cells.add(at, u128::from(pairs), steps);
-}
-
-/// Adds sums to so many cells from one on. They stand in the other order: the first cell has the last
-/// sum.
-#[inline(always)]
-fn add_sums<L: Ledger>(
-    cells: &mut PairCells,
-    at: u32,
-    count: u32,
-    sums: &[u32],
-    steps: &mut Steps<L>,
-)
-    requires inside { (count ≤ length sums.now) × (at + count ≤ length cells.old.cells) }
-    requires places { at + count < 2 ^ 32 }
-    requires fits { (i : ℕ) → i < count → slice_index cells.old.cells (at + i)
-        + slice_index sums.now (length sums.now - 1 - i) ≤ 2 ^ 80 }
-    ensures cells { (i : ℕ) → i < count → slice_index cells.new.cells (at + i)
-        ≡ slice_index cells.old.cells (at + i) + slice_index sums.now (length sums.now - 1 - i) }
-    ensures others { SameOutside at count cells.old.cells cells.new.cells }
-    ensures spends { Spends cells.old cells.new steps.old steps.new count }
-    ensures once { AddsOnce at count cells.old cells.new }
-{
-    for i in 0..count {
-        add_some(cells, at + i, sums[sums.len() - 1 - i as usize], steps);
-    }
-}
-
 /// The place, at most `at`, of the first of the bins, so many levels up, that is no more than `lags` before the index.
 #[inline(always)]
 fn first_in_reach(bins: &[Entry], at: usize, index: u64, levels: u32, lags: u32) -> usize
@@ -64,41 +25,7 @@ fn first_in_reach(bins: &[Entry], at: usize, index: u64, levels: u32, lags: u32)
     first_kept(&bins[..at], levels, index.saturating_sub(u64::from(lags)))
 }
 
-/// Whether no two bins, so many levels up, are in reach of one another.
-#[inline(always)]
-fn is_apart(list: &[Entry], levels: u32, lags: u32) -> bool
-    requires { levels < 64 }
-    ensures { result ≡ true → IsSpaced (lags + 1) (map (raised levels) list.now) }
-{
-    for at in 1..list.len() {
-        let apart = (list[at].index >> levels).saturating_sub(list[at - 1].index >> levels);
-        if apart <= u64::from(lags) {
-            return false;
-        }
-    }
-    true
-}
-
-/// Adds the pairs of a part of a list to sums, as `sum_part` does, where some are in reach.
-#[inline(always)]
-fn sum_near<const N: usize>(
-    sums: &mut [u32; N],
-    window: &mut [u16; PLACES],
-    range: LagRange,
-    bins: Bins,
-) -> bool
-    requires lags { (range.last - range.skipped ≤ N) × (N ≤ 64) }
-    requires bins { AreBins bins × (bins.start < length bins.list.now)
-        × (length bins.list.now - bins.start ≤ CLOSE_PART) }
-    requires room { IsZero window.old × HaveRoom N (length bins.list.now - bins.start) sums.old }
-    ensures sums { result ≡ true → HavePaired N range sums.old sums.new bins.entry.start (bins_of bins.entry) }
-    ensures within { AreWithin N (length bins.entry.list.now - bins.entry.start) sums.old sums.new }
-    ensures zeros { IsZero window.new }
-{
-    is_apart(bins.list, bins.levels, range.last) || sum_part(sums, window, range, bins)
-}
-
-/// The same for a whole list, part by part.
+/// Adds the pairs of a list to sums, part by part, as `sum_part` does; where the range has no lags, there is nothing to do.
 fn sum_parts<const N: usize>(
     sums: &mut [u32; N],
     window: &mut [u16; PLACES],
@@ -111,6 +38,9 @@ fn sum_parts<const N: usize>(
     ensures sums { result ≡ true → HavePaired N range sums.old sums.new bins.entry.start (bins_of bins.entry) }
     ensures zeros { IsZero window.new }
 {
+    if range.skipped == range.last {
+        return true;
+    }
     let mut at = bins.start;
     'parts: while at < bins.list.len() {
         let end = bins.list.len().min(at + CLOSE_PART);
@@ -121,7 +51,7 @@ fn sum_parts<const N: usize>(
             start: at - near,
             ..bins
         };
-        if !sum_near(sums, window, range, part) {
+        if !sum_part(sums, window, range, part) {
             return false;
         }
         at = end;
@@ -129,93 +59,90 @@ fn sum_parts<const N: usize>(
     true
 }
 
-/// Pairs bins with those before them, over a window in which they are laid close together, notes how many they are, and
-/// answers true. Where there are too many bins, or they are too heavy for it, nothing is paired, and the answer is false.
-/// The lags are summed `N` at once, in two parts where there are more.
-fn pair_close<L: Ledger, const N: usize>(
-    cells: &mut PairCells,
+/// Puts so many sums, which stand in the other order, to those from one on: the last is that of the first lag.
+#[inline(always)]
+fn turn(sums: &mut [u128; MOST_LAGS], at: u32, count: u32, close: &[u32])
+    requires all { (count ≤ length close.now) × (at + count ≤ MOST_LAGS) }
+    ensures turned { (p : ℕ) → p < count
+        → slice_index sums.new (at + p) ≡ slice_index close.now (length close.now - 1 - p) }
+    ensures before { (p : ℕ) → p < at → slice_index sums.new p ≡ slice_index sums.old p }
+{
+    for p in 0..count as usize {
+        sums[at as usize + p] = u128::from(close[close.len() - 1 - p]);
+    }
+}
+
+/// Puts the pairs of bins with those before them into sums, over a window in which they are laid close together, notes how
+/// many they are, and answers true. Where there are too many bins, or they are too heavy for it, the sums stay as they are,
+/// and the answer is false. The lags are summed `N` at once, in two parts where there are more.
+fn sum_close<const N: usize>(
+    sums: &mut [u128; MOST_LAGS],
     paired: &mut Noted<usize>,
     window: &mut [u16; PLACES],
     range: LagRange,
     bins: Bins,
-    steps: &mut Steps<L>,
 ) -> bool
-    requires lags { (length cells.old.cells ≡ range.last - range.skipped)
-        × (range.last - range.skipped ≤ 2 * N) × (N ≤ 64) }
-    requires bins { AreBins bins × FitPairs range bins cells.old.cells × IsZero window.old }
-    ensures cells { result ≡ true
-        → ArePaired range bins.entry.start cells.old.cells cells.new.cells (bins_of bins.entry) }
-    ensures none { result ≡ false → (cells.new ≡ cells.old) × (steps.new ≡ steps.old) }
+    requires lags { (range.last - range.skipped ≤ 2 * N) × (N ≤ 64) }
+    requires bins { AreBins bins × IsZero window.old × ((p : ℕ) → slice_index sums.old p ≡ 0) }
+    ensures sums { result ≡ true → ArePaired range bins.entry.start sums.old sums.new (bins_of bins.entry) }
+    ensures none { result ≡ false → sums.new ≡ sums.old }
     ensures noted { Notes paired.old.items paired.new.items (if result then length bins.entry.list.now - bins.entry.start else 0) }
-    ensures spends { Spends cells.old cells.new steps.old steps.new (range.last - range.skipped)
-        × AddsAtMost 1 cells.old cells.new × IsZero window.new }
+    ensures zeros { IsZero window.new }
 {
     let count = bins.list.len() - bins.start;
     if count > CLOSE_LIST {
         return false;
     }
-    let middle = range.last.min(range.skipped + N as u32);
-    let nearer = LagRange {
-        skipped: range.skipped,
-        last: middle,
-    };
+    let LagRange { skipped, last, .. } = range;
+    let middle = last.min(skipped + N as u32);
     let mut near = [0; N];
-    if !sum_parts(&mut near, window, nearer, bins) {
+    if !sum_parts(
+        &mut near,
+        window,
+        LagRange {
+            skipped,
+            last: middle,
+        },
+        bins,
+    ) {
         return false;
     }
-    if middle == range.last {
-        add_sums(cells, 0, range.last - range.skipped, &near, steps);
-        paired.note(&[count]);
-        return true;
-    }
-    let further = LagRange {
-        skipped: middle,
-        last: range.last,
-    };
     let mut far = [0; N];
-    if !sum_parts(&mut far, window, further, bins) {
+    if !sum_parts(
+        &mut far,
+        window,
+        LagRange {
+            skipped: middle,
+            last,
+        },
+        bins,
+    ) {
         return false;
     }
-    add_sums(cells, 0, middle - range.skipped, &near, steps);
-    add_sums(
-        cells,
-        middle - range.skipped,
-        range.last - middle,
-        &far,
-        steps,
-    );
+    turn(sums, 0, middle - skipped, &near);
+    turn(sums, middle - skipped, last - middle, &far);
     paired.note(&[count]);
     true
 }
 
-/// The same, by the number of lags. Where the bins are in a grid, nothing is paired, and the answer is false.
-fn pair_lanes<L: Ledger>(
-    cells: &mut PairCells,
+/// The same, by the number of lags.
+fn sum_lanes(
+    sums: &mut [u128; MOST_LAGS],
     paired: &mut Noted<usize>,
-    scratch: &mut Scratch,
+    window: &mut [u16; PLACES],
     range: LagRange,
     bins: Bins,
-    steps: &mut Steps<L>,
 ) -> bool
-    requires lags { length cells.old.cells ≡ range.last - range.skipped }
-    requires bins { AreBins bins × FitPairs range bins cells.old.cells × IsZero scratch.old.window }
-    ensures cells { result ≡ true
-        → ArePaired range bins.entry.start cells.old.cells cells.new.cells (bins_of bins.entry) }
-    ensures none { result ≡ false → (cells.new ≡ cells.old) × (steps.new ≡ steps.old) }
-    ensures noted { Notes paired.old.items paired.new.items
-        (if result then counted scratch.old.grid (length bins.entry.list.now - bins.entry.start) else 0) }
-    ensures spends { Spends cells.old cells.new steps.old steps.new (range.last - range.skipped)
-        × AddsAtMost 1 cells.old cells.new }
-    ensures scratch { IsZero scratch.new.window × (scratch.new.grid ≡ scratch.old.grid) }
+    requires bins { AreBins bins × IsZero window.old × ((p : ℕ) → slice_index sums.old p ≡ 0) }
+    ensures sums { result ≡ true → ArePaired range bins.entry.start sums.old sums.new (bins_of bins.entry) }
+    ensures none { result ≡ false → sums.new ≡ sums.old }
+    ensures noted { Notes paired.old.items paired.new.items (if result then length bins.entry.list.now - bins.entry.start else 0) }
+    ensures zeros { IsZero window.new }
 {
-    if scratch.grid.is_on() {
-        return false;
-    }
-    let window = &mut scratch.window;
     match range.last - range.skipped {
-        0..=8 => pair_close::<L, 8>(cells, paired, window, range, bins, steps),
-        9..=16 => pair_close::<L, 16>(cells, paired, window, range, bins, steps),
-        _ => pair_close::<L, 64>(cells, paired, window, range, bins, steps),
+        0..=8 => sum_close::<8>(sums, paired, window, range, bins),
+        9..=16 => sum_close::<16>(sums, paired, window, range, bins),
+        _ => sum_close::<64>(sums, paired, window, range, bins),
     }
 }
 
@@ -275,9 +202,37 @@ fn add_each<L: Ledger>(cells: &mut PairCells, count: u32, sums: &[u128], steps: 
     }
 }
 
-/// Pairs bins with those before them, at the lags of a range: over a grid, if they are in one, over a window in which
-/// they are laid close together, or else bin by bin. Where they are out of reach of one another, there are no pairs.
-/// What pairs them notes how many they are, or a quarter as many as the grid has places.
+/// Puts the pairs of bins with those before them, at the lags of a range, into sums: over a grid, if they are in one, over
+/// a window in which they are laid close together, or else bin by bin. What sums them notes how many they are, or a quarter
+/// as many as the grid has places.
+fn sum_all(
+    sums: &mut [u128; MOST_LAGS],
+    paired: &mut Noted<usize>,
+    scratch: &mut Scratch,
+    range: LagRange,
+    bins: Bins,
+)
+    requires bins { AreBins bins × FitPairs range bins sums.old × IsZero scratch.old.window × ((p : ℕ) → slice_index sums.old p ≡ 0) }
+    requires grid { IsGrid scratch.old.grid (drop bins.start (bins_of bins))
+        × (0 < scratch.old.grid.len → FewFirsts (take bins.start (bins_of bins))) }
+    ensures sums { ArePaired range bins.entry.start sums.old sums.new (bins_of bins.entry) }
+    ensures noted { Notes paired.old.items paired.new.items
+        (counted scratch.old.grid (length bins.entry.list.now - bins.entry.start)) }
+    ensures scratch { IsZero scratch.new.window × (scratch.new.grid ≡ scratch.old.grid) }
+{
+    let window = &mut scratch.window;
+    if scratch.grid.is_on() {
+        scratch.grid.sum(sums, paired, window, range, bins);
+        return;
+    }
+    if sum_lanes(sums, paired, window, range, bins) {
+        return;
+    }
+    sum_each(sums, paired, range, bins);
+}
+
+/// Pairs bins with those before them, at the lags of a range, and notes how many they are, or a quarter as many as a grid
+/// has places. Where they are out of reach of one another, there are no pairs.
 pub(crate) fn pair_all<L: Ledger>(
     cells: &mut PairCells,
     paired: &mut Noted<usize>,
@@ -292,24 +247,18 @@ pub(crate) fn pair_all<L: Ledger>(
     requires grid { IsGrid scratch.old.grid (drop bins.start (bins_of bins))
         × (0 < scratch.old.grid.len → FewFirsts (take bins.start (bins_of bins))) }
     ensures cells { ArePaired range bins.entry.start cells.old.cells cells.new.cells (bins_of bins.entry) }
-    ensures noted { NotesUpTo paired.old.items paired.new.items
+    ensures noted { Notes paired.old.items paired.new.items
         (counted scratch.old.grid (length bins.entry.list.now - bins.entry.start)) }
     ensures spends { Spends cells.old cells.new steps.old steps.new (range.last - range.skipped)
         × AddsAtMost 1 cells.old cells.new }
     ensures scratch { IsZero scratch.new.window × (scratch.new.grid ≡ scratch.old.grid) }
 {
     let Bins { apart, levels, .. } = bins;
-    if apart >> levels > u64::from(range.last)
-        || pair_lanes(cells, paired, scratch, range, bins, steps)
-    {
+    if apart >> levels > u64::from(range.last) {
+        paired.note(&[scratch.grid.counted(bins.list.len() - bins.start)]);
         return;
     }
     let mut sums = [0; MOST_LAGS];
-    if scratch.grid.is_on() {
-        let window = &mut scratch.window;
-        scratch.grid.sum(&mut sums, paired, window, range, bins);
-    } else {
-        sum_each(&mut sums, paired, range, bins);
-    }
+    sum_all(&mut sums, paired, scratch, range, bins);
     add_each(cells, range.last - range.skipped, &sums, steps);
 }

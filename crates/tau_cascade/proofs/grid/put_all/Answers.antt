@@ -16,6 +16,4 @@ put-requires-in-loop-bin c =
     record { inside = omega arith; fits = omega (arith, weight_at-few, le_or_r) }
 
 pub loop-bin-preserved : goal.loop-bin-preserved
-loop-bin-preserved c =
-    let near = has_place _ _ _ _ c.loop-bin-test.true c.requires.near.0 in
-    search (rules, arith, near, cut, sum_by_push, le_or_l, le_or_r)
+loop-bin-preserved c = search (rules, arith, has_place _ _ _ _ c.loop-bin-test.true c.requires.near.0, cut, sum_by_push, le_or_l, le_or_r)

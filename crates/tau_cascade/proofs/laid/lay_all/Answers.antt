@@ -18,10 +18,9 @@ loop-i-init c =
 
 pub lay_one-laying-requires : goal.lay_one-laying-requires
 lay_one-laying-requires c =
-    let i : ℕ = c.loop-i.i in
     let inside = c.loop-i-test.true in
     let reach : ℕ = c.from-reach.result + 1 in
-    let count : ℕ = i - c.args.bins.start in
+    let count : ℕ = c.loop-i.i - c.args.bins.start in
     let all : reach * (count + 1) ≤ 129 * 64 =
     mul-le-mul {n₂ = 129} {m₂ = 64} (omega (arith, c.requires.bins.2, c.from-reach.ensures)) (omega (arith, inside, c.requires.bins.1)) in
     search (rules, arith, behind_last)
@@ -36,7 +35,7 @@ loop-i-preserved c =
     let inv = c.loop-i.invariant in
     let one = c.lay_one-laying.ensures in
     let reach : ℕ = c.from-reach.result + 1 in
-    let place : ℕ = c.lay_one-laying.result.last.place in
+    let place : ℕ = c.lay_one-laying.result.place in
     let up = behind_last levels list i inside inv.are c.requires.bins.0.sorted c.requires.near.0 in
     let back : List Entry = drop start (take i list) in
     let long : length (take i list) ≡ i = length-take-le i list (omega (arith, inside)) in

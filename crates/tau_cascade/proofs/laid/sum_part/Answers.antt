@@ -1,7 +1,10 @@
 use Rattle.std.{proofs.Common.{◌≡◌, ◌∙◌, ℕ, ◌+◌, ◌-◌, ◌≤◌, get_or, map, take, drop, ap, arith, rules}, proofs.lemmas.List.{take_rest, take-append-drop}, proofs.lemmas.Bool.Decides.nat_tests}
 use Rattle.lag_ring.{proofs.Lists.all_back, proofs.Rising.all_weaker}
-use Rattle.tau_cascade.{specs.Dense.{placed}, specs.Bins.raised, proofs.Close.{no_bin, laid-paired, light-raised, placed_upto, from_first, under, over, zeros_at}, proofs.laid.sum_part.Goals.{then-light, else-light}}
+use Rattle.tau_cascade.{proofs.Passes.paired_apart, specs.Dense.{placed}, specs.Bins.raised, proofs.Close.{no_bin, laid-paired, light-raised, placed_upto, from_first, under, over, zeros_at}, proofs.laid.sum_part.Goals.{then-light, else-light}}
 use Rattle.tau_cascade.proofs.laid.sum_part.Goals as goal
+
+pub returns-then-is_apart-clause-sums : goal.returns-then-is_apart-clause-sums
+returns-then-is_apart-clause-sums g c = search (rules, arith, paired_apart)
 
 pub overflow_sub-span : goal.overflow_sub-span
 overflow_sub-span g c = search (rules, arith, over, from_first)
@@ -38,7 +41,7 @@ returns-clause-sums g c = λ is p inside. elim c.if-light.branch [
       let list = c.args.bins.list.now in
       let start : ℕ = c.args.bins.start in
       let places = c.lay_all-laying.new.places in
-      let most : ℕ = c.lay_all-laying.result.last.place in
+      let most : ℕ = c.lay_all-laying.result.place in
       let k : ℕ = p + c.args.range.skipped + 1 in
       let n : ℕ = g.row.N in
       let from : 192 - n - c.args.range.skipped + (n - 1 - p) ≡ 192 - k = omega (arith, inside, c.requires.lags, c.args.range.within) in

@@ -5,7 +5,7 @@ use Rattle.tau_cascade.{proofs.Follows.raised-none, proofs.Few.{few_apart, few_s
 use Rattle.tau_cascade.proofs.level.merge_many.Goals as goal
 
 abbrev here : Coming → List Entry → List Entry
-here closing list = take closing.closed.count (drop closing.closed.from list)
+here closing list = take closing.count (drop closing.from list)
 
 -- bins of a list, where there is no grid
 as_list : (g : Grid) (bins most : ℕ) → g.len ≤ 0 → bins ≤ most → counted g bins ≤ most

@@ -1,5 +1,5 @@
 use Rattle.std.proofs.Common.{◌≡◌, ℕ, ◌+◌, ◌<◌, ◌≤◌, length, get_or}
-use Rattle.tau_cascade.specs.Dense.{AddsOnce}
+use Rattle.lag_ring.specs.Cells.{added_at}
 use Rattle.tau_cascade.proofs.pairing.add_each.Given as goal
 
 abbrev pub invariant-loop-at : goal.invariant-loop-at
@@ -8,6 +8,7 @@ invariant-loop-at g l = record {
   left : (p : ℕ) → l.at ≤ p → get_or l.cells.cells p 0 ≡ get_or l.initial.cells.cells p 0;
   same : length l.cells.cells ≡ length l.initial.cells.cells;
   added : l.cells.added ≤ l.initial.cells.added + l.at;
-  once : AddsOnce 0 l.at l.initial.cells l.cells;
+  once : (p : ℕ) → added_at l.cells p ≤ added_at l.initial.cells p + 1;
+  behind : (p : ℕ) → l.at ≤ p → added_at l.cells p ≡ added_at l.initial.cells p;
   steps : l.steps + l.initial.cells.added ≡ l.initial.steps + l.cells.added;
 }

@@ -1,6 +1,5 @@
-use Rattle.std.proofs.{Common.{rules, arith, ◌+◌, ◌-◌, ◌<◌, cond, eqb, map}, Math.Nat.mul-le-mul_right, lemmas.{Grind.common_steps, List.Sums.sum_by-take-le}}
-use Rattle.lag_ring.specs.declared.ring.Entry.{Entry}
-use Rattle.tau_cascade.{proofs.Close.no_bin, specs.Bins.{raised}, proofs.Nexts.{weight_more}, proofs.pairing.sum_one.Goals.{then-lag-from+then-lag-from-2, else-lag-from, else-lag-from-via-then-lag-from+else-lag-from-2, else-lag-from-via-else-lag-from}}
+use Rattle.std.proofs.{Common.{rules, arith, ◌+◌, ◌-◌, ◌<◌}, lemmas.{Grind.common_steps}}
+use Rattle.tau_cascade.{proofs.Close.no_bin, proofs.Nexts.{weight_more}, proofs.pairing.sum_one.Goals.{then-lag-from+then-lag-from-2, else-lag-from, else-lag-from-via-then-lag-from+else-lag-from-2, else-lag-from-via-else-lag-from}}
 use Rattle.tau_cascade.proofs.pairing.sum_one.Goals as goal
 
 pub overflow_add-sums : goal.overflow_add-sums
@@ -10,7 +9,6 @@ overflow_add-sums c =
     let k = p + a.range.skipped + 1 in
     let inside : p < a.range.last - a.range.skipped = search (rules, arith) in
     let more = weight_more a.bins.now a.levels c.loop-bin.bin-index no_bin c.loop-bin-test.true k a.index a.weight in
-    let part = mul-le-mul_right a.weight (sum_by-take-le (λ (f : Entry). cond (eqb (f.index + k) a.index) f.a 0) (map (raised a.levels) a.bins.now) (c.loop-bin.bin-index + 1)) in
     let fits = c.requires.fits p inside in
     rw (c.from-then-lag-from-2.ensures, c.from-then-lag-from-2-2.ensures, c.from-then-lag-from-2-3.ensures, c.loop-bin.invariant p inside) (grind (arith, common_steps))
 

@@ -5,8 +5,8 @@ use Rattle.tau_cascade.proofs.pairing.sum_parts.Goals as goal
 pub parts-init : goal.parts-init
 parts-init g c = search (rules, arith, none_paired, length-map)
 
-pub sum_near-requires : goal.sum_near-requires
-sum_near-requires g c = search (rules, arith, part_long, no_bin, part_sorted)
+pub sum_part-requires : goal.sum_part-requires
+sum_part-requires g c = search (rules, arith, part_long, no_bin, part_sorted)
 
 pub parts-preserved : goal.parts-preserved
 parts-preserved g c =
@@ -19,7 +19,7 @@ parts-preserved g c =
     let upto : end ≤ length list = omega (arith, c.min-end.ensures) in
     let long = part_long a.bins.levels list near.result at end no_bin near.ensures.place more upto in
     let inv = c.parts.invariant in
-    let e = c.sum_near.ensures in
+    let e = c.sum_part.ensures in
     record {
       behind = omega (arith, inv.behind, more);
       within = upto;
@@ -28,5 +28,5 @@ parts-preserved g c =
       sums = λ p inside.
           let next = paired_between a.bins.levels list near.result at end no_bin near.ensures.place more upto c.requires.bins.0.sorted
           (p + a.range.skipped + 1) a.range.last a.bins.start (omega (arith, inside)) inv.behind near.ensures.far in
-          omega (arith, next, e.sums c.if-not-sum_near.false p inside, inv.sums p inside);
+          omega (arith, next, e.sums c.if-not-sum_part.false p inside, inv.sums p inside);
     }

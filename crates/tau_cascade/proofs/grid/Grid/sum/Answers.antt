@@ -60,9 +60,7 @@ module _ (g : Grid) (es : List Entry) (stands : Stands g es) (window part : List
     full = new ++ post_of 0 (192 + g.len) laid
 
     clear : (p : ℕ) → 192 + g.len ≤ p → p < 8640 → get_or full p 0 ≡ 0
-    clear p from upto =
-        let zero : get_or laid p 0 ≡ 0 = place p upto ∙ none p (λ i inside at. omega arith) in
-        search (rules, arith, get_or-append_right, laid, size, get_or-drop, zero)
+    clear p from upto = search (rules, arith, get_or-append_right, laid, size, get_or-drop, place p upto ∙ none p (λ i inside at. omega arith))
 
     pairs : (rows k : ℕ) → g.len ≤ 16 * rows → 16 * rows ≤ 4096 → 0 < k → k ≤ 192 → IsSpaced 0 all
         → sum_by (λ q. get_or full (192 - k + q) 0 * get_or g.seconds q 0) (range_with_len 0 (16 * rows)) ≡ paired k front es

@@ -9,22 +9,22 @@ lower_ring-start-requires-clause-fits g c =
     (λ e fits. omega (arith, fits, mul-le-mul_left e.index (pow_mono {i = c.merge_many-shut.result.levels} {j = c.args.closing.levels} (omega (arith, c.merge_many-shut.ensures.same))))) c.args.self.now.ring.entries c.requires.room.2
 
 -- the bins of the list that is paired
-abbrev bins : (g : Over) (c : After-lower_ring-start g) → drop (c.merge_many-shut.result.closed.from - c.lower_ring-start.result) (map (raised c.merge_many-shut.result.levels)
-    (take (c.merge_many-shut.result.closed.from + c.merge_many-shut.result.closed.count - c.lower_ring-start.result) (drop c.lower_ring-start.result c.lower_ring-start.new.list)))
+abbrev bins : (g : Over) (c : After-lower_ring-start g) → drop (c.merge_many-shut.result.from - c.lower_ring-start.result) (map (raised c.merge_many-shut.result.levels)
+    (take (c.merge_many-shut.result.from + c.merge_many-shut.result.count - c.lower_ring-start.result) (drop c.lower_ring-start.result c.lower_ring-start.new.list)))
     ≡ coming_bins c.merge_many-shut.result c.merge_many-shut.new.list
-bins g c = (ring_parts c.merge_many-shut.result.levels c.merge_many-shut.result.closed.from c.lower_ring-start.result c.merge_many-shut.result.closed.count
+bins g c = (ring_parts c.merge_many-shut.result.levels c.merge_many-shut.result.from c.lower_ring-start.result c.merge_many-shut.result.count
     c.args.self.now.ring.entries c.merge_many-shut.new.list c.lower_ring-start.new.list c.lower_ring-start.ensures.place c.lower_ring-start.ensures.bins).1
 
-abbrev merged : (g : Over) (c : After-lower_ring-start g) → merged_all (drop (c.merge_many-shut.result.closed.from - c.lower_ring-start.result) (map (raised c.merge_many-shut.result.levels)
-    (take (c.merge_many-shut.result.closed.from + c.merge_many-shut.result.closed.count - c.lower_ring-start.result) (drop c.lower_ring-start.result c.lower_ring-start.new.list))))
+abbrev merged : (g : Over) (c : After-lower_ring-start g) → merged_all (drop (c.merge_many-shut.result.from - c.lower_ring-start.result) (map (raised c.merge_many-shut.result.levels)
+    (take (c.merge_many-shut.result.from + c.merge_many-shut.result.count - c.lower_ring-start.result) (drop c.lower_ring-start.result c.lower_ring-start.new.list))))
     ≡ merged_all (coming_bins c.args.closing c.args.list.now)
 merged g c = ap merged_all (bins g c) ∙ c.merge_many-shut.ensures.bins.merged
 
 pub shut-requires-clause-list : goal.shut-requires-clause-list
 shut-requires-clause-list g c =
-    let here = ring_here c.merge_many-shut.result.levels c.merge_many-shut.result.closed.from c.lower_ring-start.result c.merge_many-shut.result.closed.count
+    let here = ring_here c.merge_many-shut.result.levels c.merge_many-shut.result.from c.lower_ring-start.result c.merge_many-shut.result.count
     c.args.self.now.ring.entries c.merge_many-shut.new.list c.lower_ring-start.new.list c.lower_ring-start.ensures.place c.lower_ring-start.ensures.bins in
-    let parts = ring_parts c.merge_many-shut.result.levels c.merge_many-shut.result.closed.from c.lower_ring-start.result c.merge_many-shut.result.closed.count
+    let parts = ring_parts c.merge_many-shut.result.levels c.merge_many-shut.result.from c.lower_ring-start.result c.merge_many-shut.result.count
     c.args.self.now.ring.entries c.merge_many-shut.new.list c.lower_ring-start.new.list c.lower_ring-start.ensures.place c.lower_ring-start.ensures.bins in (
       record {
         within = search (rules, arith);
@@ -34,7 +34,7 @@ shut-requires-clause-list g c =
       parts.0,
       λ far.
           let apart = c.apart_all-apart.ensures far in
-          seam _ _ c.lower_ring-start.result c.merge_many-shut.result.closed.from c.merge_many-shut.result.closed.count c.lower_ring-start.new.list apart.0
+          seam _ _ c.lower_ring-start.result c.merge_many-shut.result.from c.merge_many-shut.result.count c.lower_ring-start.new.list apart.0
           (omega (arith, c.lower_ring-start.ensures.place)) (omega (arith, c.merge_many-shut.ensures.comes)) apart.1
           (rw c.lower_ring-start.ensures.behind (c.merge_many-shut.ensures.comes.0.spaced (omega (arith, apart.0, far)))),
     )
@@ -48,9 +48,9 @@ shut-requires-clause-stands g c = rw (merged g (goal.at.shut-requires-clause-sta
 pub shut-requires-clause-few : goal.shut-requires-clause-few
 shut-requires-clause-few g c =
     let at' = (goal.at.shut-requires-clause-few g c).After-lower_ring-start in
-    let slice = take (c.merge_many-shut.result.closed.from + c.merge_many-shut.result.closed.count - c.lower_ring-start.result) (drop c.lower_ring-start.result c.lower_ring-start.new.list) in
-    let size : length slice - (c.merge_many-shut.result.closed.from - c.lower_ring-start.result) ≡ length (coming_bins c.merge_many-shut.result c.merge_many-shut.new.list) =
-    omega (arith, ap length (bins g at'), length-drop (c.merge_many-shut.result.closed.from - c.lower_ring-start.result) (map (raised c.merge_many-shut.result.levels) slice), length-map slice (raised c.merge_many-shut.result.levels)) in
+    let slice = take (c.merge_many-shut.result.from + c.merge_many-shut.result.count - c.lower_ring-start.result) (drop c.lower_ring-start.result c.lower_ring-start.new.list) in
+    let size : length slice - (c.merge_many-shut.result.from - c.lower_ring-start.result) ≡ length (coming_bins c.merge_many-shut.result c.merge_many-shut.new.list) =
+    omega (arith, ap length (bins g at'), length-drop (c.merge_many-shut.result.from - c.lower_ring-start.result) (map (raised c.merge_many-shut.result.levels) slice), length-map slice (raised c.merge_many-shut.result.levels)) in
     rw (merged g at', size) c.merge_many-shut.ensures.few
 
 pub returns-clause-shuts : goal.returns-clause-shuts

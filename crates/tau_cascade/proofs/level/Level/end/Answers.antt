@@ -40,4 +40,4 @@ returns-in-Some-clause-follows g c = λ closed open' can.
     let one = alone g (goal.at.returns-in-Some-clause-follows g c).After-lay_out-from in
     let may = finish_shut _ _ _ _ c.in-Some.is closed open' can in
     let was = finish_open _ _ _ _ c.in-Some.is closed open' can in
-    (record { none = refl; ring = c.shut.ensures.shuts.ring closed open' (rw one may); cells = c.shut.ensures.shuts.cells closed open' (rw one may); few = omega (arith, (rw one at c.shut.ensures.shuts.paired), can.was.few, occupied_all (correlation_view c.args.set.now) c.args.level (c.in-Some.last ∷ []) closed open' may.bins) }, was.0, was.1)
+    (record { none = refl; ring = c.shut.ensures.shuts.ring closed open' (rw one may); cells = c.shut.ensures.shuts.cells closed open' (rw one may); paired = omega (arith, (rw one at c.shut.ensures.shuts.paired), can.was.paired, occupied_all (correlation_view c.args.set.now) c.args.level (c.in-Some.last ∷ []) closed open' may.bins) }, was.0, was.1)

@@ -1,6 +1,6 @@
-use Rattle.std.{proofs.Common.{◌+◌, refl, arith, rules}, proofs.Props.props, proofs.Math.Logic.∥∥₁_elim, proofs.lemmas.Grind.common_steps}
+use Rattle.std.{specs.List.sum_by, proofs.lemmas.List.{length-drop, length-map}, proofs.Common.{◌≡◌, ◌+◌, ◌-◌, length, map, drop, refl, arith, rules}, proofs.Props.props, proofs.Math.Logic.∥∥₁_elim, proofs.lemmas.Grind.common_steps}
 use Rattle.tally_base.specs.Settings.{correlation_view}
-use Rattle.tau_cascade.{proofs.Paired.all_fit, proofs.Near.{Standing, paired_merged, cells_near, keeps_near, dense_near, keeps_stand, dense_stands}, proofs.level.Level.shut.Given.{Over}, proofs.level.Level.shut.Goals.{in-Some, in-None, After-saturating_sub-before}}
+use Rattle.tau_cascade.{specs.Bins.{raised, merged_all}, specs.Levels.{paired_of, PairsMore}, proofs.Few.counts_all, proofs.Passes.spaced_drop, proofs.Paired.all_fit, proofs.Near.{Standing, paired_merged, cells_near, keeps_near, dense_near, keeps_stand, dense_stands}, proofs.level.Level.shut.Given.{Over}, proofs.level.Level.shut.Goals.{in-Some, in-None, After-saturating_sub-before}}
 use Rattle.tau_cascade.proofs.level.Level.shut.Goals as goal
 
 standing : (g : Over) (c : After-saturating_sub-before g) → Standing (correlation_view c.args.set.now) c.args.level c.skipped_lags-skipped.result c.args.self.now.ring c.args.bins.levels c.args.bins.start c.args.bins.list.now c.saturating_sub-before.result
@@ -34,17 +34,21 @@ returns-clause-shuts g c =
     let here = standing g (goal.at.returns-clause-shuts g c).After-saturating_sub-before in
     let spent = c.pair_all.ensures.spends in
     let grid = (rw (← c.pair_all.ensures.scratch.1) at c.requires.grid.0) in
+    let es = drop c.args.bins.start (map (raised c.args.bins.levels) c.args.bins.list.now) in
+    let long : length es ≡ length c.args.bins.list.now - c.args.bins.start = omega (arith, length-drop c.args.bins.start (map (raised c.args.bins.levels) c.args.bins.list.now), length-map c.args.bins.list.now (raised c.args.bins.levels)) in
+    let all = (rw long at (counts_all c.args.scratch.now.grid es c.requires.grid.0 (spaced_drop 0 c.args.bins.start _ c.requires.list.0.sorted))) in
+    let more : PairsMore (paired_of c.args.self.now) (sum_by (λ n. n) c.pair_all.new.paired.items) (length (merged_all es)) = omega (arith, c.pair_all.ensures.noted, c.requires.few, all) in
     elim c.match-place_from.branch [
       | in-Some w ↦
           let at = c.place_from.ensures w.in-Some.place w.in-Some.is in
           rw w.self-is (record {
-            paired = omega (arith, c.pair_all.ensures.noted, c.requires.few);
+            paired = more;
             ring = λ closed xs can. rw w.keep_dense-self.ensures (dense_near here _ closed xs can c.pair_all.new.scratch.grid w.in-Some.place (grid.on at.0) at.1);
             cells = λ closed xs can. cells_near here _ closed xs can c.pair_all.new.cells c.pair_all.ensures.cells spent.0.same spent.0.added spent.1;
             opened = refl;
           })
       | in-None w ↦ rw w.self-is (record {
-        paired = omega (arith, c.pair_all.ensures.noted, c.requires.few);
+        paired = more;
         ring = λ closed xs can. rw w.keep-self.ensures (keeps_near here _ closed xs can).1;
         cells = λ closed xs can. cells_near here _ closed xs can c.pair_all.new.cells c.pair_all.ensures.cells spent.0.same spent.0.added spent.1;
         opened = refl;

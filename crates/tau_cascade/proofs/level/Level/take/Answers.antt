@@ -1,6 +1,6 @@
 use Rattle.std.{proofs.Common.{rules}, proofs.Common.{List, ◌≡◌, ◌+◌, ◌-◌, ◌*◌, ◌^◌, ◌<◌, ◌≤◌, [], length, map, take, drop, refl, sym, ap, ◌∙◌, arith}, proofs.Props.props, proofs.Math.Logic.{∥∥₁_map, ∥∥₁_elim}, proofs.lemmas.List.length-take}
 use Rattle.lag_ring.{specs.declared.ring.Entry.Entry, proofs.Lists.{all_front, all_back}}
-use Rattle.tau_cascade.{proofs.Close.no_bin, specs.Bins.{raised, onto, merged_all}, specs.Grid.{IsGrid, FewFirsts}, specs.Dense.IsZero, proofs.Onward.{grid_some, off_grid, is_grid}, proofs.Few.near_few, proofs.Passes.spaced_back, proofs.Spread.{IsPut, long, same_behind, onto_few, spaced-prop, stretch_fit, all_here, came_here, is_cut, front_all, front_here, apart_closed, near_closed, upto, here_sorted, front_sorted, front_fit, weights_fit, few_closed, parts, may_close, none_closed, take_took}, proofs.level.Level.take.Goals.{After-lower_open-from, Joined-dense, then-dense+then-has_light_ring, else-dense}, proofs.level.Level.take.Given.{Over}}
+use Rattle.tau_cascade.{proofs.Close.no_bin, specs.Bins.{raised, onto, merged_all}, specs.Grid.{IsGrid, FewFirsts}, specs.Dense.IsZero, proofs.Onward.{grid_some, off_grid, is_grid}, proofs.Few.near_few, proofs.Passes.spaced_back, proofs.Spread.{IsPut, long, same_behind, onto_few, spaced-prop, stretch_fit, all_here, came_here, is_cut, front_all, front_here, apart_closed, near_closed, upto, here_sorted, front_sorted, front_fit, weights_fit, paired_closed, parts, may_close, none_closed, take_took}, proofs.level.Level.take.Goals.{After-lower_open-from, Joined-dense, then-dense+then-has_light_ring, else-dense}, proofs.level.Level.take.Given.{Over}}
 use Rattle.tau_cascade.proofs.level.Level.take.Goals as goal
 
 pub lower_open-from-requires-clause-fits : goal.lower_open-from-requires-clause-fits
@@ -8,7 +8,7 @@ lower_open-from-requires-clause-fits g c = all_back (λ e. e.index * 2 ^ c.args.
     (stretch_fit _ _ _ _ _ _ c.args.list.now no_bin c.requires.comes.1 (omega (arith, c.requires.comes.0.bins.places)) (omega arith) c.requires.stands)
 
 -- what stands in the list then
-is_put : (g : Over) (c : After-lower_open-from g) → IsPut c.args.came.levels c.args.came.closed.from c.args.came.closed.count c.args.self.now c.args.list.now c.lower_open-from.new.list c.lower_open-from.result
+is_put : (g : Over) (c : After-lower_open-from g) → IsPut c.args.came.levels c.args.came.from c.args.came.count c.args.self.now c.args.list.now c.lower_open-from.new.list c.lower_open-from.result
 is_put g c = search (rules, arith, same_behind)
 
 pub cut_last-last-requires : goal.cut_last-last-requires
@@ -40,7 +40,7 @@ clear-requires g c = grid_some _ _ _ refl c.requires.comes.0.grid.grid
 -- the bins that are closed, as they stand in the list
 abbrev closing : (g : Over) (c : Joined-dense g) → List Entry
 closing g c = map (raised c.args.came.levels) (take c.cut_last-last.result.closed
-    (take (c.args.came.closed.from + c.args.came.closed.count - c.lower_open-from.result) (drop c.lower_open-from.result c.lower_open-from.new.list)))
+    (take (c.args.came.from + c.args.came.count - c.lower_open-from.result) (drop c.lower_open-from.result c.lower_open-from.new.list)))
 
 -- the grid stands for those, or has none
 grid_here : (g : Over) (c : Joined-dense g) → IsGrid c.if-dense.scratch.grid (closing g c) × (0 < c.if-dense.scratch.grid.len → FewFirsts c.args.self.now.ring.entries)
@@ -63,7 +63,7 @@ close-requires-clause-comes g c =
           places = omega (arith, c.requires.comes.0.bins.places, put.place, onto_few c.args.self.now.open, upto put _ few);
           up = omega (arith, c.requires.comes.0.bins.up);
           spaced = λ far. let apart = c.apart_all-apart.ensures far in apart_closed put _ few _ _ apart.0 (c.requires.comes.0.bins.spaced (omega arith)) apart.1;
-          nearer = omega (arith, near_closed put _ few c.args.came.gaps.usual c.args.came.gaps.nearer c.requires.comes.0.bins.nearer, near_few c.args.came.gaps.usual closed, length-take c.cut_last-last.result.closed (drop c.lower_open-from.result c.lower_open-from.new.list), c.saturating_add.ensures);
+          nearer = omega (arith, near_closed put _ few c.args.came.gaps.usual c.args.came.gaps.nearer c.requires.comes.0.bins.nearer, near_few c.args.came.gaps.usual closed, length-take c.cut_last-last.result.closed (drop c.lower_open-from.result c.lower_open-from.new.list), c.saturating_add-closing.ensures);
         };
         up = omega (arith, c.requires.comes.0.bins.up);
         some = omega arith;
@@ -112,7 +112,7 @@ returns-then-count-gt0-clause-follows g c = λ closed open' xs can.
     let shuts = (rw (front_here put _ few) at c.close.ensures.shuts) in (
       whole.0,
       whole.1,
-      take_took can is _ shuts.opened (shuts.ring closed whole.0 may, shuts.cells closed whole.0 may, few_closed can is _ shuts.paired)
+      take_took can is _ shuts.opened (shuts.ring closed whole.0 may, shuts.cells closed whole.0 may, paired_closed can is _ shuts.paired)
           _ (rw (front_here put _ few) at c.close.ensures.comes.3),
     )
 
@@ -140,7 +140,7 @@ returns-clause-comes g c =
           places = omega (arith, c.requires.comes.0.bins.places, put.place, onto_few c.args.self.now.open, upto put _ few);
           up = omega (arith, c.requires.comes.0.bins.up);
           spaced = λ far. let apart = c.apart_all-apart.ensures far in apart_closed put _ few _ _ apart.0 (c.requires.comes.0.bins.spaced (omega arith)) apart.1;
-          nearer = omega (arith, near_closed put _ few c.args.came.gaps.usual c.args.came.gaps.nearer c.requires.comes.0.bins.nearer, near_few c.args.came.gaps.usual closed, length-take c.cut_last-last.result.closed (drop c.lower_open-from.result c.lower_open-from.new.list), c.saturating_add.ensures);
+          nearer = omega (arith, near_closed put _ few c.args.came.gaps.usual c.args.came.gaps.nearer c.requires.comes.0.bins.nearer, near_few c.args.came.gaps.usual closed, length-take c.cut_last-last.result.closed (drop c.lower_open-from.result c.lower_open-from.new.list), c.saturating_add-closing.ensures);
         };
         grid = record { up = λ some. omega arith; grid = rw (up, front_here put _ few, ← front_all put _ few) are.0 };
         long = search (rules, arith);

@@ -1,6 +1,6 @@
 use Rattle.std.proofs.Common.{◌+◌, map, take}
 use Rattle.tau_cascade.specs.Bins.{IsSpaced, raised}
-use Rattle.tau_cascade.proofs.pairing.is_apart.Given as goal
+use Rattle.tau_cascade.proofs.laid.is_apart.Given as goal
 
 abbrev pub invariant-loop-at : goal.invariant-loop-at
 invariant-loop-at l = IsSpaced (l.lags + 1) (take l.at (map (raised l.levels) l.list))
