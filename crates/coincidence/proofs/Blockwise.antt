@@ -82,13 +82,8 @@ module _ (set : CoincidenceView) {N : ℕ} (b : Block N) (h : History) (at : ℕ
           none_after set (h ++ rows (item b) at) (time_at b at) (rw (greatest-rows false h (item b) at front) (next.1 (moves_row false b at ∙ seen)))
 
       -- it may be put after those that came
-      pub put_row : (p' : Pairing) (came : Came set p' (photons_of_groups set (h ++ rows (item b) at))) → CanPut set p' (bin_at set b at) came.0 came.1 (item b at ∷ [])
-      put_row p' came = record {
-        few = omega (arith, few_row, length-append came.0 came.1, ap length came.2);
-        was = came.3;
-        is = one_photon;
-        after = (rw came.2 at after_row);
-      }
+      abbrev pub put_row : (Were : History → Type 0) → Were (photons_of_groups set (h ++ rows (item b) at)) → CanPut set Were (bin_at set b at) (photons_of_groups set (h ++ rows (item b) at)) (item b at ∷ [])
+      put_row Were were = record { few = few_row; was = were; is = one_photon; after = after_row }
 
 -- what a table that isn't closed may take
 pub may_events : (closed : Bool) → closed ≡ false → (set : CoincidenceView) (p : Pairing) (count time : ℕ) (h : History) (es : List Event) → StandsFor closed set p count time h → count + length es ≤ record_limit → InOrder false time es → CanTake set p es h

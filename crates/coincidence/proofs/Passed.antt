@@ -1,8 +1,8 @@
 -- Photons that are alone in their reach make no pair.
-use Rattle.std.{proofs.Common.{◌≡◌, ℕ, zero, suc, ◌+◌, ◌-◌, ◌*◌, ◌<◌, ◌≤◌, Bool, true, ◌&&◌, ◌||◌, cond, [], ◌∷◌, ◌++◌, refl, arith, rules, Some}}
+use Rattle.std.{proofs.Common.{◌≡◌, ℕ, zero, suc, ◌+◌, ◌-◌, ◌*◌, ◌<◌, ◌≤◌, Bool, true, ◌&&◌, ◌||◌, cond, [], ◌∷◌, ◌++◌, refl, ap, arith, rules, Some}}
 use Rattle.tally_base.{specs.Settings.CoincidenceView, specs.Tally.History, specs.declared.block.Block.Block, specs.Columns.{rows, item, time_at, gathered}}
 use Rattle.lag_ring.{specs.Cells.Cells, specs.Ring.{Ring, ring}}
-use Rattle.coincidence.{specs.declared.pairing.Bin.Bin, specs.declared.pairing.Pairing.Pairing, specs.Pairs.photons_of_groups, specs.Pairing.{bin_pairs, pairing_of, Came}, specs.StandsFor.CanTake, specs.Lone.{has_photon, bin_at, IsAlone, IsLone}, proofs.Blockwise.{put_row, photons-more}, proofs.Shut.{cells_alone, ring_alone}, proofs.Visits.{can_shut, moved_on}}
+use Rattle.coincidence.{specs.declared.pairing.Bin.Bin, specs.declared.pairing.Pairing.Pairing, specs.Pairs.photons_of_groups, specs.Pairing.{bin_pairs, pairing_of, Came}, specs.StandsFor.CanTake, specs.Lone.{has_photon, bin_at, IsAlone, IsLone}, proofs.Blockwise.{put_row, photons-more}, proofs.Shut.{keep, cells_alone, ring_alone}, proofs.Visits.{can_close, moved_on}}
 
 no_pairs : (set : CoincidenceView) (c : ℕ) (bin : Bin) → bin.both ≡ bin.weights.a * bin.weights.b → bin_pairs set c bin [] ≡ 0
 no_pairs set c bin is = search (rules, arith)
@@ -22,17 +22,17 @@ module _ {N : ℕ} (set : CoincidenceView) (p : Pairing) (b : Block N) (h : Hist
   lone_next r bin at next is inside alone early either came =
       let p' = pairing_of (Some bin) r cells in
       let new = bin_at set b at in
-      let can_put = put_row set b h at either p inside can p' came in
-      let may = can_shut set p' bin new refl came.0 came.1 (item b at ∷ []) can_put in
-      let after = moved_on set p' bin new refl came.0 came.1 (item b at ∷ []) can_put (omega (arith, early)) in
-      rw (is, photons-more set b h at either, came.2) (
+      let can_put = put_row set b h at either p inside can (Came set p') came in
+      let may = can_close set p' bin new refl _ _ can_put (Some bin) in
+      let after = moved_on set p' bin new refl _ _ can_put (omega (arith, early)) in
+      rw (is, photons-more set b h at either) (
         _,
         item b at ∷ [],
-        refl,
+        ap (λ ys. ys ++ item b at ∷ []) came.2,
         record {
           opened = (can_put.is, after);
-          ring = ring_alone set r bin came.0 came.1 may.keep alone.1 some;
-          cells = cells_alone set r cells bin came.0 came.1 may alone.1 cells (λ c in_range. omega (arith, no_pairs set c bin alone.0)) refl (omega arith);
+          ring = ring_alone set r bin came.0 came.1 (keep set p' bin _ _ may) alone.1 some;
+          cells = cells_alone set p' bin came.0 came.1 may alone.1 cells 0 0 (record { cells = λ c in_range. omega (arith, no_pairs set c bin alone.0); spends = record { same = refl; added = omega arith; steps = refl } });
         },
       )
 

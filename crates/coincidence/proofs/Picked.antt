@@ -2,7 +2,7 @@
 use Rattle.std.{proofs.Common.{rules}, proofs.Common.{◌≡◌, ℕ, zero, suc, ◌+◌, ◌-◌, ◌<◌, ◌≤◌, Bool, true, false, List, [], ◌∷◌, ◌++◌, length, get_or, drop, arith, cond, take, slice_set, add-one, drop-cons, inl, inr}, proofs.Math.Nat.{eq-or-lt_of_le}, proofs.lemmas.List.{take-set, take_more_set}, proofs.Math.ListN.drop_of_length-le, specs.Prelude.{Option}}
 use Rattle.tally_base.{specs.Settings.CoincidenceView, specs.Tally.History, specs.declared.block.Block.Block, specs.Columns.{rows, item, gathered}}
 use Rattle.lag_ring.{specs.Cells.Cells, specs.Ring.Ring}
-use Rattle.coincidence.{specs.declared.pairing.Bin.Bin, specs.Pairs.photons_of_groups, specs.Closing.{Gathered, CanGather}, specs.Pairing.pairing_of, specs.StandsFor.{CanTake, Gathers}, specs.Lone.bin_at, specs.Picked.{has_either, HaveNone, ArePicked}, proofs.Blockwise.{photons-same, photons-more, one_photon, few_row, after_row}}
+use Rattle.coincidence.{specs.declared.pairing.Bin.Bin, specs.Pairs.photons_of_groups, specs.Pairing.{pairing_of, Gathered, CanPut}, specs.StandsFor.{CanTake, Gathers}, specs.Lone.bin_at, specs.Picked.{has_either, HaveNone, ArePicked}, proofs.Blockwise.{photons-same, photons-more, put_row}}
 
 module _ (set : CoincidenceView) {N : ℕ} (b : Block N) where
   none_more : (from upto : ℕ) → HaveNone set b from upto → has_either set b upto ≡ false → HaveNone set b from (upto + 1)
@@ -61,16 +61,11 @@ module _ (set : CoincidenceView) {N : ℕ} (b : Block N) where
       next_within = next.1
 
       pub may_gather : (ring : Ring) (cells : Cells) (h : History) (can : CanTake set (pairing_of waiting ring cells) (gathered b) h)
-          → CanGather set last bins (bin_at set b at) can.was.0 (photons_of_groups set (h ++ rows (item b) at)) (item b at ∷ [])
-      may_gather ring cells h can = record {
-        few = few_row set b h at next.2 (pairing_of waiting ring cells) next.1 can;
-        was = gathered_upto last bins can.was.0 h are.from at next.0 next.3 (are.came ring cells h can);
-        is = one_photon set b h at next.2;
-        after = after_row set b h at next.2 (pairing_of waiting ring cells) next.1 can;
-      }
+          → CanPut set (Gathered set last bins can.was.0) (bin_at set b at) (photons_of_groups set (h ++ rows (item b) at)) (item b at ∷ [])
+      may_gather ring cells h can = put_row set b h at next.2 (pairing_of waiting ring cells) next.1 can _ (gathered_upto last bins can.was.0 h are.from at next.0 next.3 (are.came ring cells h can))
 
       pub gathers_more : (now : Option Bin) (more : List Bin)
-          → ((closed came xs : History) → CanGather set last bins (bin_at set b at) closed came xs → Gathered set now more closed (came ++ xs))
+          → ((closed came xs : History) → CanPut set (Gathered set last bins closed) (bin_at set b at) came xs → Gathered set now more closed (came ++ xs))
           → GatheredTo waiting now more (drop (i + 1) picked)
       gathers_more now more follows = record {
         from = at + 1;

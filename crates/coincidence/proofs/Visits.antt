@@ -1,8 +1,8 @@
 -- One entry more in the loops over a ring.
-use Rattle.tally_base.{specs.Settings.CoincidenceView, specs.Tally.History, specs.Limits.record_limit}
-use Rattle.lag_ring.{specs.declared.ring.Entry.Entry, specs.Bytes.weight_of, proofs.Rising.all_weaker, proofs.Lists.{all_back, all_join, of_some}}
-use Rattle.coincidence.{specs.declared.pairing.Direction.Direction, specs.Pairs.is_in_cell, specs.Pairing.{shifted_by, earlier_side, pairs_of, pairs_of_all, joined, BinIs, PairingIs, CanShut, CanPut, CanEnd, Came}, specs.declared.pairing.Pairing.Pairing, specs.StandsFor.HasPhotons, specs.declared.pairing.Bin.Bin}
-use Rattle.std.{proofs.Common.{◌≡◌, ℕ, ◌+◌, ◌-◌, ◌*◌, ◌/◌, ◌<◌, ◌≤◌, eqb, cond, List, [], ◌∷◌, refl, arith, rules, ◌≢◌, Some, ◌++◌, length, sym, length-append, append_assoc, Bool, true, false}, proofs.lemmas.Grind.common_steps, proofs.lemmas.List.Sums.{sum_by-cons, sum_by-append}, specs.List.AllByRecursion, proofs.Math.Nat.mul-le-mul_left}
+use Rattle.tally_base.{specs.Settings.{CoincidenceView, coincidence_cells}, specs.Tally.History, specs.Limits.record_limit}
+use Rattle.lag_ring.{specs.declared.ring.Entry.Entry, specs.Bytes.weight_of, specs.Cells.Cells, proofs.Rising.all_weaker, proofs.Lists.{all_back, all_join, of_some}}
+use Rattle.coincidence.{specs.declared.pairing.Direction.Direction, specs.Pairs.is_in_cell, specs.Pairing.{shifted_by, earlier_side, pairs_of, pairs_of_all, joined, BinIs, OpenIs, PairingIs, pairing_of, CanClose, CanPut, CanEnd, Came, HasRoom, Counts}, specs.declared.pairing.Pairing.Pairing, specs.StandsFor.HasPhotons, specs.declared.pairing.Bin.Bin}
+use Rattle.std.{proofs.Common.{◌≡◌, ℕ, ◌+◌, ◌-◌, ◌*◌, ◌/◌, ◌<◌, ◌≤◌, eqb, cond, List, [], ◌∷◌, refl, arith, rules, ◌≢◌, Some, Option, ◌++◌, length, sym, length-append, append_assoc, append-nil, ap, Bool, true, false}, proofs.lemmas.Grind.common_steps, proofs.lemmas.List.Sums.{sum_by-cons, sum_by-append}, specs.List.AllByRecursion, proofs.Math.Nat.mul-le-mul_left}
 
 module _ (set : CoincidenceView) (index : ℕ) (earlier : Entry) (after : earlier.index < index) (near : index - earlier.index ≤ set.reach) where
   in_forward : (c : ℕ) → is_in_cell set c earlier.index index ≡ eqb ((set.reach + (index - earlier.index)) / set.width) c
@@ -24,6 +24,22 @@ pairs_far set index earlier far d later c = search (rules, arith)
 -- a difference in reach has a cell
 pub shifted_inside : (d : Direction) (reach apart width : ℕ) → 0 < width → apart ≤ reach → shifted_by d reach apart / width < 2 * reach / width + 1
 shifted_inside d reach apart width some near = search (rules, arith)
+
+-- the same by numbers that are the same
+pub room_as : (set : CoincidenceView) (cells : Cells) (f g : ℕ → ℕ) → HasRoom set cells f → ((c : ℕ) → g c ≡ f c) → HasRoom set cells g
+room_as set cells f g room same = record { sized = room.sized; fits = λ c inside. omega (arith, room.fits c inside, same c) }
+
+pub counts_as : (set : CoincidenceView) (old new : Cells) (before now : ℕ) (f g : ℕ → ℕ) (n : ℕ) → Counts set old new before now f n → ((c : ℕ) → f c ≡ g c) → Counts set old new before now g n
+counts_as set old new before now f g n is same = record { cells = λ c inside. omega (arith, is.cells c inside, same c); spends = is.spends }
+
+-- what is counted after what was counted
+module _ (set : CoincidenceView) (old mid : Cells) (before then' : ℕ) (f g h : ℕ → ℕ) (n : ℕ) (one : Counts set old mid before then' f n) where
+  pub counts_on : (new : Cells) (now m k : ℕ) → Counts set mid new then' now g m → ((c : ℕ) → c < coincidence_cells set → h c ≡ f c + g c) → n + m ≤ k → Counts set old new before now h k
+  counts_on new now m k two is upto = search (rules, arith)
+
+  -- and the room that is left
+  pub room_left : HasRoom set old h → ((c : ℕ) → c < coincidence_cells set → f c + g c ≤ h c) → HasRoom set mid g
+  room_left room is = search (rules, arith)
 
 pub one_fits : (x p most k : ℕ) → x + cond (eqb k k) p 0 ≤ most → x + p ≤ most
 one_fits x p most k fits = grind (arith, common_steps, fits)
@@ -66,21 +82,29 @@ module _ (set : CoincidenceView) where
       grind (arith, common_steps, all_join, all_weaker)
 
   -- the open bin may be closed
-  pub may_shut : (p : Pairing) (bin : Bin) → p.open ≡ Some bin → (closed open' : History) → PairingIs set p closed open'
-      → length closed + length open' ≤ record_limit → CanShut set p.ring p.cells bin closed open'
-  may_shut p bin is closed open' was few = search (rules, arith)
+  may_close : (p : Pairing) (bin : Bin) → p.open ≡ Some bin → (o : Option Bin) (closed open' : History) → PairingIs set p closed open'
+      → length closed + length open' ≤ record_limit → CanClose set (pairing_of o p.ring p.cells) (bin ∷ []) closed open'
+  may_close p bin is o closed open' was few = search (rules, arith, append-nil)
 
-  module _ (p : Pairing) (bin new : Bin) (is : p.open ≡ Some bin) (closed open' xs : History) (can : CanPut set p new closed open' xs) where
-    pub can_shut : CanShut set p.ring p.cells bin closed open'
-    can_shut = may_shut p bin is closed open' can.was (omega (arith, can.few))
+  module _ (p : Pairing) (bin new : Bin) (is : p.open ≡ Some bin) (came xs : History) (can : CanPut set (Came set p) new came xs) where
+    pub can_close : (o : Option Bin) → CanClose set (pairing_of o p.ring p.cells) (bin ∷ []) can.was.0 can.was.1
+    can_close o = may_close p bin is o can.was.0 can.was.1 can.was.3 (omega (arith, can.few, length-append can.was.0 can.was.1, ap length can.was.2))
+
+    opened : OpenIs set (Some bin) can.was.0 can.was.1
+    opened = rw is at can.was.3.opened
 
     -- photons of its own tick join it
-    pub joins : bin.weights.index ≡ new.weights.index → Came set (record p { «open» = Some (joined bin new) }) ((closed ++ open') ++ xs)
-    joins same = grind (arith, common_steps, append_assoc closed open' xs, joined_is bin new open' xs can_shut.keep.is can.is same)
+    pub joins : bin.weights.index ≡ new.weights.index → Came set (record p { «open» = Some (joined bin new) }) (came ++ xs)
+    joins same = (
+      can.was.0,
+      can.was.1 ++ xs,
+      rw can.was.2 (append_assoc can.was.0 can.was.1 xs),
+      record { opened = (joined_is bin new can.was.1 xs opened.0 can.is same, opened.1); ring = can.was.3.ring; cells = can.was.3.cells },
+    )
 
     -- those of another tick come after all that came
-    pub moved_on : bin.weights.index ≢ new.weights.index → AllByRecursion (λ x. x.0.time < new.weights.index) (closed ++ open')
-    moved_on other = behind_bin bin new closed open' can_shut.keep.is can_shut.keep.after can.after other
+    pub moved_on : bin.weights.index ≢ new.weights.index → AllByRecursion (λ x. x.0.time < new.weights.index) (can.was.0 ++ can.was.1)
+    moved_on other = behind_bin bin new can.was.0 can.was.1 opened.0 opened.1 (rw can.was.2 at can.after) other
 
-  pub end_shut : (p : Pairing) (bin : Bin) → p.open ≡ Some bin → (came : History) (can : CanEnd set p came) → CanShut set p.ring p.cells bin can.was.0 can.was.1
-  end_shut p bin is came can = search (rules, arith, may_shut, length-append)
+  pub end_close : (p : Pairing) (bin : Bin) → p.open ≡ Some bin → (came : History) (can : CanEnd set p came) → CanClose set p (bin ∷ []) can.was.0 can.was.1
+  end_close p bin is came can = search (rules, arith, may_close, length-append)

@@ -1,8 +1,8 @@
 -- Bins that are closed together.
-use Rattle.std.{specs.Prelude.{◌≡◌, ℕ, ◌+◌, ◌-◌, ◌^◌, ◌<◌, ◌≤◌, ◌==◌, ◌/◌, ◌*◌, min, slice_index, Option, List, [], ◌∷◌, ◌++◌, length, map, sum_by, if◌then◌else◌}, specs.List.{AllByRecursion, range_with_len}}
-use Rattle.tally_base.{specs.Settings.CoincidenceView, specs.Tally.History, specs.Limits.record_limit}
-use Rattle.lag_ring.{specs.declared.ring.Entry.Entry, specs.declared.window.Side.{Side, TheVariants.{First, Second}}, specs.Cells.Cells, specs.Ring.Ring, specs.Bytes.{weight_of, weight_at, weight_before, IsLight, behind}}
-use Rattle.coincidence.{specs.declared.pairing.Bin.Bin, specs.declared.pairing.Direction.Direction, specs.declared.pairing.Direction.TheVariants.{Forward, Backward}, specs.declared.pairing.Pairing.Pairing, specs.Pairing.{BinIs, OpenIs, RingIs, CellsAre, bin_pairs, earlier_side, later_side, shifted_by}}
+use Rattle.std.{specs.Prelude.{ℕ, ◌+◌, ◌-◌, ◌^◌, ◌<◌, ◌≤◌, ◌==◌, ◌/◌, ◌*◌, min, slice_index, List, [], ◌∷◌, ◌++◌, length, map, sum_by, if◌then◌else◌}, specs.List.{AllByRecursion, range_with_len}}
+use Rattle.tally_base.{specs.Settings.CoincidenceView, specs.Tally.History}
+use Rattle.lag_ring.{specs.declared.ring.Entry.Entry, specs.declared.window.Side.{Side, TheVariants.{First, Second}}, specs.Bytes.{weight_of, weight_at, weight_before, IsLight, behind}}
+use Rattle.coincidence.{specs.declared.pairing.Bin.Bin, specs.declared.pairing.Direction.Direction, specs.declared.pairing.Direction.TheVariants.{Forward, Backward}, specs.Pairing.{bin_pairs, earlier_side, later_side, shifted_by}}
 
 -- A photon came at this tick or later, or the tick is 0.
 abbrev pub Reaches : ℕ → History → Type 0
@@ -16,11 +16,6 @@ weights_in bins = map (λ bin. bin.weights) bins
 abbrev pub all_pairs : CoincidenceView → ℕ → List Entry → List Bin → ℕ
 all_pairs set c es [] = 0
 all_pairs set c es (bin ∷ bins) = bin_pairs set c bin es + all_pairs set c (es ++ bin.weights ∷ []) bins
-
--- the bins have these photons, one bin after the other, and each is after those that were closed before it
-abbrev pub BinsAre : CoincidenceView → List Bin → History → History → Type 0
-BinsAre set [] closed xs = xs ≡ []
-BinsAre set (bin ∷ bins) closed xs = (here : History) × (rest : History) × (xs ≡ here ++ rest) × BinIs set bin here × AllByRecursion (λ x. x.0.time < bin.weights.index) closed × BinsAre set bins (closed ++ here) rest
 
 -- the pairs of the photons of later entries with those of the entry so many ticks before, where the cell is that of their difference
 abbrev pub lag_pairs : Direction → CoincidenceView → ℕ → List Entry → List Entry → ℕ → ℕ
@@ -74,34 +69,3 @@ pub record FitsWindow (set : CoincidenceView) (most low : ℕ) (es later : List 
 -- no place of a window has more of these weights than so many
 abbrev pub IsLow : ℕ → ℕ → List Entry → Type 0
 IsLow most low es = (side : Side) (top p : ℕ) → weight_at side top low p es ≤ most
-
-module _ (set : CoincidenceView) where
-  -- photons came: those of closed bins, and after them those of the gathered ones and of the open one
-  abbrev pub Gathered : Option Bin → List Bin → History → History → Type 0
-  Gathered bin bins closed came = (pending : History) × (open' : History) × (came ≡ (closed ++ pending) ++ open') × BinsAre set bins closed pending × OpenIs set bin (closed ++ pending) open'
-
-  -- photons of one tick may come after them
-  pub record CanGather (last : Option Bin) (bins : List Bin) (bin : Bin) (closed came xs : History) : Type 0 where
-    pub few : length came + length xs ≤ record_limit
-    pub was : Gathered last bins closed came
-    pub is : BinIs set bin xs
-    pub after : AllByRecursion (λ x. x.0.time ≤ bin.weights.index) came
-
-  -- bins of the photons xs may be put after the closed ones
-  pub record CanKeepAll (ring : Ring) (bins : List Bin) (closed xs : History) : Type 0 where
-    pub are : BinsAre set bins closed xs
-    pub were : RingIs set ring closed
-
-  -- and be paired with them
-  pub record CanShutAll (ring : Ring) (cells : Cells) (bins : List Bin) (closed xs : History) : Type 0 where
-    pub few : length closed + length xs ≤ record_limit
-    pub keep : CanKeepAll ring bins closed xs
-    pub had : CellsAre set cells closed
-
-  abbrev pub MayShutAll : Pairing → List Bin → Type 0
-  MayShutAll p bins = ∥ ((closed : History) × (xs : History) × CanShutAll p.ring p.cells bins closed xs) ∥₁
-
-  -- The bins were.
-  pub record ShutsAll (old new : Pairing) (bins : List Bin) : Type 0 where
-    pub ring : (closed xs : History) → CanShutAll old.ring old.cells bins closed xs → RingIs set new.ring (closed ++ xs)
-    pub cells : (closed xs : History) → CanShutAll old.ring old.cells bins closed xs → CellsAre set new.cells (closed ++ xs)

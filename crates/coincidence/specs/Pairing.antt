@@ -1,7 +1,7 @@
 -- What the bins and cells of a table of coincidences stand for: photons that came in order, and how far they are paired.
-use Rattle.std.{specs.Prelude.{◌≡◌, ℕ, ◌+◌, ◌-◌, ◌*◌, ◌/◌, ◌^◌, ◌<◌, ◌≤◌, Bool, ◌&&◌, ◌==◌, Option, None, Some, List, [], ◌++◌, length, slice_index, sum_by, count_by, if◌then◌else◌}, specs.List.{AllByRecursion}}
+use Rattle.std.{specs.Prelude.{◌≡◌, ℕ, ◌+◌, ◌-◌, ◌*◌, ◌/◌, ◌^◌, ◌<◌, ◌≤◌, Bool, ◌&&◌, ◌==◌, Option, None, List, [], ◌∷◌, ◌++◌, length, slice_index, sum_by, count_by, if◌then◌else◌}, specs.List.{AllByRecursion}}
 use Rattle.tally_base.{specs.Settings.{CoincidenceView, coincidence_cells}, specs.Tally.History, specs.Limits.record_limit}
-use Rattle.lag_ring.{specs.declared.ring.Entry.Entry, specs.declared.window.Side.{Side, TheVariants.{First, Second}}, specs.Cells.Cells, specs.Ring.{Ring, Weighs, Keeps}}
+use Rattle.lag_ring.{specs.declared.ring.Entry.Entry, specs.declared.window.Side.{Side, TheVariants.{First, Second}}, specs.Cells.{Cells, Spends}, specs.Ring.{Ring, Weighs}, specs.Binned.{IsOpen, KeepsReach, CellsCount}}
 use Rattle.coincidence.{specs.declared.pairing.Bin.Bin, specs.declared.pairing.Direction.Direction, specs.declared.pairing.Direction.TheVariants.{Forward, Backward}, specs.declared.pairing.Pairing.Pairing, specs.Pairs.{in_first, in_second, is_in_cell, coincidences}}
 
 -- which weights of entries count in a direction: those of earlier ones, and those of later ones
@@ -53,13 +53,15 @@ joined bin more = record {
   both = bin.both + more.both;
 }
 
--- each cell has room for so many pairs more
-abbrev pub HasRoom : CoincidenceView → Cells → (ℕ → ℕ) → Type 0
-HasRoom set cells more = (c : ℕ) → c < coincidence_cells set → slice_index cells.cells c + more c ≤ 2 ^ 80
+-- each difference has a cell, which has room for so many pairs more
+pub record HasRoom (set : CoincidenceView) (cells : Cells) (more : ℕ → ℕ) : Type 0 where
+  pub sized : length cells.cells ≡ coincidence_cells set
+  pub fits : (c : ℕ) → c < coincidence_cells set → slice_index cells.cells c + more c ≤ 2 ^ 80
 
--- each cell counts so many pairs more
-abbrev pub CountsMore : CoincidenceView → Cells → Cells → (ℕ → ℕ) → Type 0
-CountsMore set old new more = (c : ℕ) → c < coincidence_cells set → slice_index new.cells c ≡ slice_index old.cells c + more c
+-- each cell counts so many pairs more, by so many additions at most
+pub record Counts (set : CoincidenceView) (old new : Cells) (before now : ℕ) (more : ℕ → ℕ) (most : ℕ) : Type 0 where
+  pub cells : (c : ℕ) → c < coincidence_cells set → slice_index new.cells c ≡ slice_index old.cells c + more c
+  pub spends : Spends old new before now most
 
 -- as many steps were taken as additions made
 abbrev pub Pays : Pairing → Pairing → ℕ → ℕ → Type 0
@@ -74,21 +76,16 @@ module _ (set : CoincidenceView) where
     pub weighs : Weighs (in_first set) (in_second set) (λ x. x.0.time) bin.weights xs
     pub both : bin.both ≡ count_by (λ x. in_first set x && in_second set x) xs
 
-  -- the open bin has the photons that are not in closed ones, and comes after those
   abbrev pub OpenIs : Option Bin → History → History → Type 0
-  OpenIs None closed open' = (closed ≡ []) × (open' ≡ [])
-  OpenIs (Some bin) closed open' = BinIs bin open' × AllByRecursion (λ x. x.0.time < bin.weights.index) closed
+  OpenIs bin closed open' = IsOpen BinIs (λ b. b.weights.index) (λ x. x.0.time) bin closed open'
 
   -- the ring keeps the closed bins that are in reach
-  pub record RingIs (ring : Ring) (closed : History) : Type 0 where
-    pub reach : ring.reach ≡ set.reach
-    pub keeps : Keeps (in_first set) (in_second set) (λ x. x.0.time) ring closed
+  abbrev pub RingIs : Ring → History → Type 0
+  RingIs ring closed = KeepsReach (in_first set) (in_second set) (λ x. x.0.time) set.reach ring closed
 
   -- the cells count the pairs of photons in closed bins
-  pub record CellsAre (cells : Cells) (closed : History) : Type 0 where
-    pub count : length cells.cells ≡ coincidence_cells set
-    pub pairs : (c : ℕ) → c < coincidence_cells set → slice_index cells.cells c ≡ coincidences set c closed
-    pub work : cells.added ≤ (2 * set.reach + 1) * length closed
+  abbrev pub CellsAre : Cells → History → Type 0
+  CellsAre cells closed = CellsCount (coincidence_cells set) (λ c. coincidences set c closed) ((2 * set.reach + 1) * length closed) cells
 
   -- the photons of closed bins came, and after them those of the open one
   pub record PairingIs (p : Pairing) (closed open' : History) : Type 0 where
@@ -96,47 +93,53 @@ module _ (set : CoincidenceView) where
     pub ring : RingIs p.ring closed
     pub cells : CellsAre p.cells closed
 
+  -- the photons that came, in their order
+  abbrev pub Came : Pairing → History → Type 0
+  Came p came = (closed : History) × (open' : History) × (came ≡ closed ++ open') × PairingIs p closed open'
+
   -- all photons that came are in closed bins
   pub record PairingDone (p : Pairing) (came : History) : Type 0 where
     pub shut : p.open ≡ None
     pub ring : RingIs p.ring came
     pub cells : CellsAre p.cells came
 
-  -- a bin of the photons xs may be put after the closed ones
-  pub record CanKeep (ring : Ring) (bin : Bin) (closed xs : History) : Type 0 where
+  -- the bins have these photons, one bin after the other, and each is after those that were closed before it
+  abbrev pub BinsAre : List Bin → History → History → Type 0
+  BinsAre [] closed xs = xs ≡ []
+  BinsAre (bin ∷ bins) closed xs = (here : History) × (rest : History) × (xs ≡ here ++ rest) × BinIs bin here × AllByRecursion (λ x. x.0.time < bin.weights.index) closed × BinsAre bins (closed ++ here) rest
+
+  -- photons came: those of closed bins, and after them those of the gathered ones and of the open one
+  abbrev pub Gathered : Option Bin → List Bin → History → History → Type 0
+  Gathered bin bins closed came = (pending : History) × (open' : History) × (came ≡ (closed ++ pending) ++ open') × BinsAre bins closed pending × OpenIs bin (closed ++ pending) open'
+
+  -- photons of one tick may come after those that came
+  pub record CanPut (Were : History → Type 0) (bin : Bin) (came xs : History) : Type 0 where
+    pub few : length came + length xs ≤ record_limit
+    pub was : Were came
     pub is : BinIs bin xs
-    pub after : AllByRecursion (λ x. x.0.time < bin.weights.index) closed
-    pub were : RingIs ring closed
+    pub after : AllByRecursion (λ x. x.0.time ≤ bin.weights.index) came
 
-  -- and be paired with them
-  pub record CanShut (ring : Ring) (cells : Cells) (bin : Bin) (closed xs : History) : Type 0 where
-    pub few : length closed + length xs ≤ record_limit
-    pub keep : CanKeep ring bin closed xs
-    pub had : CellsAre cells closed
-
-  abbrev pub MayShut : Pairing → Bin → Type 0
-  MayShut p bin = ∥ ((closed : History) × (xs : History) × CanShut p.ring p.cells bin closed xs) ∥₁
-
-  -- The bin was.
-  pub record Shuts (old new : Pairing) (bin : Bin) : Type 0 where
-    pub ring : (closed xs : History) → CanKeep old.ring bin closed xs → RingIs new.ring (closed ++ xs)
-    pub cells : (closed xs : History) → CanShut old.ring old.cells bin closed xs → CellsAre new.cells (closed ++ xs)
-
-  -- photons xs of one tick may come, after all that came
-  pub record CanPut (p : Pairing) (bin : Bin) (closed open' xs : History) : Type 0 where
-    pub few : length closed + length open' + length xs ≤ record_limit
-    pub was : PairingIs p closed open'
-    pub is : BinIs bin xs
-    pub after : AllByRecursion (λ x. x.0.time ≤ bin.weights.index) (closed ++ open')
-
-  -- the photons that came, in their order
-  abbrev pub Came : Pairing → History → Type 0
-  Came p came = (closed : History) × (open' : History) × (came ≡ closed ++ open') × PairingIs p closed open'
-
-  -- Photons of one tick came after any others that they may come after.
+  -- They came.
   abbrev pub Puts : Pairing → Pairing → Bin → Type 0
-  Puts old new bin = (closed open' xs : History) → CanPut old bin closed open' xs → Came new ((closed ++ open') ++ xs)
+  Puts old new bin = (came xs : History) → CanPut (Came old) bin came xs → Came new (came ++ xs)
 
+  -- the open bin may be closed
   pub record CanEnd (p : Pairing) (came : History) : Type 0 where
     pub few : length came ≤ record_limit
     pub was : Came p came
+
+  -- bins of the photons xs may be paired, and put after the closed ones
+  pub record CanClose (p : Pairing) (bins : List Bin) (closed xs : History) : Type 0 where
+    pub few : length closed + length xs ≤ record_limit
+    pub are : BinsAre bins closed xs
+    pub ring : RingIs p.ring closed
+    pub cells : CellsAre p.cells closed
+
+  abbrev pub MayClose : Pairing → List Bin → Type 0
+  MayClose p bins = ∥ ((closed : History) × (xs : History) × CanClose p bins closed xs) ∥₁
+
+  -- They were, with as many steps as additions.
+  pub record Closes (old new : Pairing) (bins : List Bin) (before now : ℕ) : Type 0 where
+    pub ring : (closed xs : History) → CanClose old bins closed xs → RingIs new.ring (closed ++ xs)
+    pub cells : (closed xs : History) → CanClose old bins closed xs → CellsAre new.cells (closed ++ xs)
+    pub steps : Pays old new before now

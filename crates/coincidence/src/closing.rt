@@ -1,12 +1,12 @@
 // Bins that are closed together.
 ghost use Rattle.std.{specs.Prelude.{◌≡◌, ℕ, ◌+◌, ◌-◌, ◌*◌, ◌^◌, ◌<◌, ◌≤◌, ◌++◌, [], IsTrue, length, slice_index, sum_by}, specs.List.{AllByRecursion}};
-ghost use Rattle.tally_base.{specs.Settings.{coincidence_view, coincidence_cells}, specs.Tally.History};
-ghost use Rattle.lag_ring.{specs.Ring.IsRising, specs.Bytes.{weight_of, IsLight}, specs.Cells.Spends};
+ghost use Rattle.tally_base.{specs.Settings.coincidence_view, specs.Tally.History};
+ghost use Rattle.lag_ring.{specs.Bytes.{weight_of, IsLight}};
 ghost use Rattle.arrayvec.specs.ArrayVec.{array_vec_len};
-ghost use Rattle.coincidence.{specs.Pairing.{RingIs, bin_pairs, CanKeep, Pays, HasRoom, CountsMore}, specs.Closing.{weights_in, CanKeepAll, MayShutAll, ShutsAll, FitsWindow, Reaches}};
+ghost use Rattle.coincidence.{specs.Pairing.{bin_pairs, MayClose, Closes, HasRoom, Counts}, specs.Closing.{weights_in, FitsWindow}};
 
 use crate::lags::{Places, TOP, are_near, pair_lags};
-use crate::pairing::{Bin, Pairing, least_kept, pair_inside, shut};
+use crate::pairing::{Bin, Pairing, close, least_kept, pair_inside};
 use arrayvec::ArrayVec;
 use lag_ring::{Entry, LagRing, MOST_SPOTS, PairCells, Side, total_weight, weight_bound};
 use std::sync::ledger::Ledger;
@@ -37,7 +37,6 @@ fn put_weights(entries: &mut ArrayVec<Entry, TABLE_BLOCK>, bins: &[Bin])
 fn weight_bound_of(ring: &LagRing, later: &[Entry]) -> u64
     ensures some { 0 < result }
     ensures light { IsLight result (ring.now.entries ++ later.now) }
-    ensures rising { IsRising ring.now.entries }
 {
     let (front, back) = ring.slices();
     weight_bound(front) | weight_bound(back) | weight_bound(later)
@@ -71,12 +70,10 @@ fn pair_insides<L: Ledger>(
     bins: &[Bin],
     steps: &mut Steps<L>,
 )
-    requires sized { length cells.old.cells ≡ coincidence_cells (coincidence_view set.now) }
     requires both { AllByRecursion (λ bin. bin.both ≤ bin.weights.a * bin.weights.b) bins.now }
-    requires fits { HasRoom (coincidence_view set.now) cells.old (λ c. sum_by (λ bin. bin_pairs (coincidence_view set.now) c bin []) bins.now) }
-    ensures cells { CountsMore (coincidence_view set.now) cells.old cells.new
-        (λ c. sum_by (λ bin. bin_pairs (coincidence_view set.now) c bin []) bins.now) }
-    ensures spends { Spends cells.old cells.new steps.old steps.new (length bins.now) }
+    requires room { HasRoom (coincidence_view set.now) cells.old (λ c. sum_by (λ bin. bin_pairs (coincidence_view set.now) c bin []) bins.now) }
+    ensures { Counts (coincidence_view set.now) cells.old cells.new steps.old steps.new
+        (λ c. sum_by (λ bin. bin_pairs (coincidence_view set.now) c bin []) bins.now) (length bins.now) }
 {
     for bin in bins {
         pair_inside(cells, set, bin, steps);
@@ -84,20 +81,18 @@ fn pair_insides<L: Ledger>(
 }
 
 /// Pairs bins over windows, and puts them among the closed ones. Those that no later photon reaches leave the ring.
-fn shut_together<L: Ledger>(
+fn close_together<L: Ledger>(
     pairing: &mut Pairing,
     places: Places,
     bins: &[Bin],
     later: &[Entry],
     steps: &mut Steps<L>,
 )
-    requires stands { MayShutAll (coincidence_view places.set) pairing.old bins.now }
+    requires stands { MayClose (coincidence_view places.set) pairing.old bins.now }
     requires entries { later.now ≡ weights_in bins.now }
-    requires window { IsRising pairing.old.ring.entries × FitsWindow (coincidence_view places.set)
-        places.most places.low pairing.old.ring.entries later.now }
+    requires window { FitsWindow (coincidence_view places.set) places.most places.low pairing.old.ring.entries later.now }
     requires some { (0 < length bins.now) × (length bins.now ≤ TABLE_BLOCK) }
-    ensures shuts { ShutsAll (coincidence_view places.set) pairing.old pairing.new bins.now }
-    ensures steps { Pays pairing.old pairing.new steps.old steps.new }
+    ensures { Closes (coincidence_view places.set) pairing.old pairing.new bins.now steps.old steps.new }
 {
     let Pairing { ring, cells, .. } = pairing;
     pair_lags(cells, ring, places, later, steps);
@@ -107,32 +102,30 @@ fn shut_together<L: Ledger>(
 }
 
 /// Pairs bins one by one, and puts them among the closed ones.
-fn shut_each<L: Ledger>(
+fn close_each<L: Ledger>(
     pairing: &mut Pairing,
     set: &CoincidenceSet,
     bins: &[Bin],
     steps: &mut Steps<L>,
 )
-    requires stands { MayShutAll (coincidence_view set.now) pairing.old bins.now }
-    ensures shuts { ShutsAll (coincidence_view set.now) pairing.old pairing.new bins.now }
-    ensures steps { Pays pairing.old pairing.new steps.old steps.new }
+    requires stands { MayClose (coincidence_view set.now) pairing.old bins.now }
+    ensures { Closes (coincidence_view set.now) pairing.old pairing.new bins.now steps.old steps.new }
 {
     for bin in bins {
-        shut(pairing, set, bin, steps);
+        close(pairing, set, bin, steps);
     }
 }
 
 /// Pairs bins, over windows where they fit these and many are in reach, and puts them among the closed ones.
-fn shut_part<L: Ledger>(
+fn close_part<L: Ledger>(
     pairing: &mut Pairing,
     set: &CoincidenceSet,
     bins: &[Bin],
     steps: &mut Steps<L>,
 )
     requires some { (0 < length bins.now) × (length bins.now ≤ TABLE_BLOCK) }
-    requires stands { MayShutAll (coincidence_view set.now) pairing.old bins.now }
-    ensures shuts { ShutsAll (coincidence_view set.now) pairing.old pairing.new bins.now }
-    ensures steps { Pays pairing.old pairing.new steps.old steps.new }
+    requires stands { MayClose (coincidence_view set.now) pairing.old bins.now }
+    ensures { Closes (coincidence_view set.now) pairing.old pairing.new bins.now steps.old steps.new }
 {
     if pairing.ring.len() >= MANY && bins.len() >= SOME {
         let mut later = ArrayVec::new();
@@ -141,11 +134,11 @@ fn shut_part<L: Ledger>(
         let most = weight_bound_of(&pairing.ring, &later);
         if fits_window(set, &pairing.ring, low, &later, most) {
             let (set, most) = (*set, most as usize);
-            shut_together(pairing, Places { set, low, most }, bins, &later, steps);
+            close_together(pairing, Places { set, low, most }, bins, &later, steps);
             return;
         }
     }
-    shut_each(pairing, set, bins, steps);
+    close_each(pairing, set, bins, steps);
 }
 
 /// How many bins there are before the first that a window from the first one on has no place for.
@@ -167,21 +160,20 @@ fn near_first(bins: &[Bin]) -> usize
 }
 
 /// Pairs bins, and puts them among the closed ones: as many at once as a window has places for.
-pub(crate) fn shut_all<L: Ledger>(
+pub(crate) fn close_all<L: Ledger>(
     pairing: &mut Pairing,
     set: &CoincidenceSet,
     bins: &[Bin],
     steps: &mut Steps<L>,
 )
     requires few { length bins.now ≤ TABLE_BLOCK }
-    requires stands { MayShutAll (coincidence_view set.now) pairing.old bins.now }
-    ensures shuts { ShutsAll (coincidence_view set.now) pairing.old pairing.new bins.now }
-    ensures steps { Pays pairing.old pairing.new steps.old steps.new }
+    requires stands { MayClose (coincidence_view set.now) pairing.old bins.now }
+    ensures { Closes (coincidence_view set.now) pairing.old pairing.new bins.now steps.old steps.new }
 {
     let mut rest = bins;
     while !rest.is_empty() {
         let (part, behind) = rest.split_at(near_first(rest));
-        shut_part(pairing, set, part, steps);
+        close_part(pairing, set, part, steps);
         rest = behind;
     }
 }

@@ -3,7 +3,7 @@ ghost use Rattle.std.specs.Prelude.{◌≡◌, ◌+◌, ◌<◌, ◌≤◌, ◌+
 ghost use Rattle.tally_base.{specs.Settings.{CoincidenceView, coincidence_view}, specs.Tally.History, specs.Columns.{count, gathered, events_in, IsSorted}};
 ghost use Rattle.lag_ring.{specs.Cells.Cells, specs.Ring.Ring};
 ghost use Rattle.arrayvec.specs.ArrayVec.{array_vec_len};
-ghost use Rattle.coincidence.{specs.StandsFor.{CanTake, Gathers}, specs.Pairing.pairing_of, specs.Closing.{Gathered, CanGather}, specs.Picked.ArePicked};
+ghost use Rattle.coincidence.{specs.StandsFor.{CanTake, Gathers}, specs.Pairing.{pairing_of, Gathered, CanPut}, specs.Picked.ArePicked};
 
 use crate::pairing::Bin;
 use arrayvec::ArrayVec;
@@ -15,9 +15,9 @@ use tally_base::{Block, CoincidenceSet, TABLE_BLOCK};
 fn gather_bin(waiting: Option<Bin>, bins: &mut ArrayVec<Bin, TABLE_BLOCK>, bin: Bin) -> Option<Bin>
     requires room { array_vec_len bins.old < TABLE_BLOCK }
     requires stands { ∥ ((set : CoincidenceView) × (closed : History) × (came : History)
-        × (xs : History) × CanGather set waiting bins.old.items bin closed came xs) ∥₁ }
+        × (xs : History) × CanPut set (Gathered set waiting bins.old.items closed) bin came xs) ∥₁ }
     ensures follows { (set : CoincidenceView) (closed came xs : History)
-        → CanGather set waiting bins.old.items bin closed came xs
+        → CanPut set (Gathered set waiting bins.old.items closed) bin came xs
         → Gathered set result bins.new.items closed (came ++ xs) }
     ensures few { array_vec_len bins.new ≤ array_vec_len bins.old + 1 }
 {

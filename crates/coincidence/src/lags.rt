@@ -1,8 +1,8 @@
 // Pairs of many bins at once, lag by lag.
 ghost use Rattle.std.{specs.Prelude.{◌≡◌, ℕ, ◌+◌, ◌-◌, ◌*◌, ◌^◌, ◌<◌, ◌≤◌, ◌++◌, IsTrue, length, min}, specs.List.{AllByRecursion}};
-ghost use Rattle.tally_base.specs.Settings.{coincidence_view, coincidence_cells};
-ghost use Rattle.lag_ring.{specs.Cells.Spends, specs.Bytes.{Fit, Have, ServesSpots}};
-ghost use Rattle.coincidence.specs.{Pairing.{HasRoom, CountsMore}, Closing.{row_sum, strip_sum, window_sum, lag_sum, both_lag_sums, FitsWindow, IsLow}};
+ghost use Rattle.tally_base.specs.Settings.{coincidence_view};
+ghost use Rattle.lag_ring.{specs.Bytes.{Fit, Have, ServesSpots}};
+ghost use Rattle.coincidence.specs.{Pairing.{HasRoom, Counts}, Closing.{row_sum, strip_sum, window_sum, lag_sum, both_lag_sums, FitsWindow, IsLow}};
 
 use crate::pairing::{Direction, add_pairs};
 use lag_ring::{BYTE_LAGS, Entry, LagRing, PairCells, Side, byte_lag_sums, put_side, spots_of};
@@ -35,11 +35,10 @@ fn add_row<L: Ledger>(
     row: &[u32],
     steps: &mut Steps<L>,
 )
-    requires sized { length cells.old.cells ≡ coincidence_cells (coincidence_view set) }
     requires inside { from + length row.now ≤ 2 * set.reach + 1 }
-    requires fits { HasRoom (coincidence_view set) cells.old (λ c. row_sum (coincidence_view set) c from row.now) }
-    ensures cells { CountsMore (coincidence_view set) cells.old cells.new (λ c. row_sum (coincidence_view set) c from row.now) }
-    ensures spends { Spends cells.old cells.new steps.old steps.new (length row.now) }
+    requires room { HasRoom (coincidence_view set) cells.old (λ c. row_sum (coincidence_view set) c from row.now) }
+    ensures { Counts (coincidence_view set) cells.old cells.new steps.old steps.new
+        (λ c. row_sum (coincidence_view set) c from row.now) (length row.now) }
 {
     if set.width == 1 {
         cells.add_row(from, row, steps);
@@ -61,11 +60,10 @@ fn add_sums<L: Ledger>(
     sums: &mut [u32; BYTE_LAGS],
     steps: &mut Steps<L>,
 )
-    requires sized { length cells.old.cells ≡ coincidence_cells (coincidence_view set) }
     requires inside { least ≤ set.reach }
-    requires fits { HasRoom (coincidence_view set) cells.old (λ c. strip_sum direction (coincidence_view set) c least sums.old) }
-    ensures cells { CountsMore (coincidence_view set) cells.old cells.new (λ c. strip_sum direction (coincidence_view set) c least sums.old) }
-    ensures spends { Spends cells.old cells.new steps.old steps.new (min (set.reach - least) 256) }
+    requires room { HasRoom (coincidence_view set) cells.old (λ c. strip_sum direction (coincidence_view set) c least sums.old) }
+    ensures { Counts (coincidence_view set) cells.old cells.new steps.old steps.new
+        (λ c. strip_sum direction (coincidence_view set) c least sums.old) (min (set.reach - least) 256) }
 {
     let count = (set.reach - least).min(BYTE_LAGS as u32);
     match direction {
@@ -90,13 +88,11 @@ fn pair_window<L: Ledger>(
     spots: &[u16],
     steps: &mut Steps<L>,
 )
-    requires sized { length cells.old.cells ≡ coincidence_cells (coincidence_view places.set) }
     requires reach { places.set.reach ≤ TOP }
     requires window { ServesSpots places.most TOP window.now spots.now }
-    requires fits { HasRoom (coincidence_view places.set) cells.old (λ c. window_sum direction (coincidence_view places.set) c window.now spots.now) }
-    ensures cells { CountsMore (coincidence_view places.set) cells.old cells.new
-        (λ c. window_sum direction (coincidence_view places.set) c window.now spots.now) }
-    ensures spends { Spends cells.old cells.new steps.old steps.new places.set.reach }
+    requires room { HasRoom (coincidence_view places.set) cells.old (λ c. window_sum direction (coincidence_view places.set) c window.now spots.now) }
+    ensures { Counts (coincidence_view places.set) cells.old cells.new steps.old steps.new
+        (λ c. window_sum direction (coincidence_view places.set) c window.now spots.now) places.set.reach }
 {
     let Places { set, most, .. } = places;
     for strip in 0..set.reach.div_ceil(BYTE_LAGS as u32) {
@@ -142,14 +138,12 @@ fn pair_side<L: Ledger>(
     later: &[Entry],
     steps: &mut Steps<L>,
 )
-    requires sized { length cells.old.cells ≡ coincidence_cells (coincidence_view places.set) }
     requires photons { FitsWindow (coincidence_view places.set) places.most places.low ring.now.entries later.now
         × IsLow places.most places.low (ring.now.entries ++ later.now) }
-    requires fits { HasRoom (coincidence_view places.set) cells.old (λ c. lag_sum direction
+    requires room { HasRoom (coincidence_view places.set) cells.old (λ c. lag_sum direction
         (coincidence_view places.set) c (ring.now.entries ++ later.now) later.now) }
-    ensures cells { CountsMore (coincidence_view places.set) cells.old cells.new (λ c. lag_sum direction
-        (coincidence_view places.set) c (ring.now.entries ++ later.now) later.now) }
-    ensures spends { Spends cells.old cells.new steps.old steps.new places.set.reach }
+    ensures { let set = coincidence_view places.set in Counts set cells.old cells.new steps.old steps.new
+        (λ c. lag_sum direction set c (ring.now.entries ++ later.now) later.now) places.set.reach }
 {
     let mut window = [0; WIDE];
     fill(&mut window, direction.earlier(), ring, places.low, later);
@@ -165,14 +159,12 @@ pub(crate) fn pair_lags<L: Ledger>(
     later: &[Entry],
     steps: &mut Steps<L>,
 )
-    requires sized { length cells.old.cells ≡ coincidence_cells (coincidence_view places.set) }
     requires photons { FitsWindow (coincidence_view places.set) places.most places.low ring.now.entries later.now
         × IsLow places.most places.low (ring.now.entries ++ later.now) }
-    requires fits { HasRoom (coincidence_view places.set) cells.old (λ c. both_lag_sums
+    requires room { HasRoom (coincidence_view places.set) cells.old (λ c. both_lag_sums
         (coincidence_view places.set) c (ring.now.entries ++ later.now) later.now) }
-    ensures cells { CountsMore (coincidence_view places.set) cells.old cells.new (λ c. both_lag_sums
-        (coincidence_view places.set) c (ring.now.entries ++ later.now) later.now) }
-    ensures spends { Spends cells.old cells.new steps.old steps.new (2 * places.set.reach) }
+    ensures { let set = coincidence_view places.set in Counts set cells.old cells.new steps.old steps.new
+        (λ c. both_lag_sums set c (ring.now.entries ++ later.now) later.now) (2 * places.set.reach) }
 {
     pair_side(cells, ring, places, Direction::Forward, later, steps);
     pair_side(cells, ring, places, Direction::Backward, later, steps);

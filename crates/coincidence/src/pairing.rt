@@ -1,8 +1,8 @@
 // The bins of a table of coincidences, the ring of the last closed ones, and the cells.
-ghost use Rattle.std.{specs.Prelude.{◌≡◌, ℕ, ◌+◌, ◌-◌, ◌*◌, ◌/◌, ◌^◌, ◌<◌, ◌≤◌, [], ◌++◌, length, slice_index, if◌then◌else◌, ◌==◌, nat_le, IfOk, None}, specs.List.AllByRecursion};
+ghost use Rattle.std.{specs.Prelude.{◌≡◌, ℕ, ◌+◌, ◌-◌, ◌*◌, ◌/◌, ◌^◌, ◌<◌, ◌≤◌, [], ◌∷◌, ◌++◌, length, slice_index, if◌then◌else◌, ◌==◌, nat_le, IfOk, None}, specs.List.AllByRecursion};
 ghost use Rattle.tally_base.{specs.Settings.{coincidence_view, coincidence_cells}, specs.Tally.History};
 ghost use Rattle.lag_ring.specs.Cells.{Spends};
-ghost use Rattle.coincidence.specs.Pairing.{pairs_of, pairs_of_all, pairs_with, bin_pairs, pairing_of, RingIs, CanKeep, MayShut, Shuts, Pays, CanPut, Puts, HasRoom, CountsMore};
+ghost use Rattle.coincidence.specs.Pairing.{pairs_of, pairs_of_all, pairs_with, bin_pairs, pairing_of, MayClose, Closes, Pays, Came, CanPut, Puts, HasRoom, Counts};
 
 use lag_ring::{Entry, LagRing, PairCells, Side};
 use std::alloc::{AllocError, Global};
@@ -181,12 +181,10 @@ fn pair_earlier<L: Ledger>(
     earlier: &Entry,
     steps: &mut Steps<L>,
 )
-    requires sized { length cells.old.cells ≡ coincidence_cells (coincidence_view set) }
     requires after { earlier.now.index < later.index }
-    requires fits { HasRoom (coincidence_view set) cells.old (λ c. pairs_of direction (coincidence_view set) c later.index later.count earlier.now) }
-    ensures cells { CountsMore (coincidence_view set) cells.old cells.new
-        (λ c. pairs_of direction (coincidence_view set) c later.index later.count earlier.now) }
-    ensures spends { Spends cells.old cells.new steps.old steps.new 1 }
+    requires room { HasRoom (coincidence_view set) cells.old (λ c. pairs_of direction (coincidence_view set) c later.index later.count earlier.now) }
+    ensures { Counts (coincidence_view set) cells.old cells.new steps.old steps.new
+        (λ c. pairs_of direction (coincidence_view set) c later.index later.count earlier.now) 1 }
 {
     let apart = later.index - earlier.index;
     if is_near(set, apart) {
@@ -206,13 +204,11 @@ fn pair_direction<L: Ledger>(
     entries: &[Entry],
     steps: &mut Steps<L>,
 )
-    requires sized { length cells.old.cells ≡ coincidence_cells (coincidence_view set) }
     requires after { AllByRecursion (λ e. e.index < later.index) entries.now }
-    requires fits { HasRoom (coincidence_view set) cells.old
+    requires room { HasRoom (coincidence_view set) cells.old
         (λ c. pairs_of_all direction (coincidence_view set) c later.index later.count entries.now) }
-    ensures cells { CountsMore (coincidence_view set) cells.old cells.new
-        (λ c. pairs_of_all direction (coincidence_view set) c later.index later.count entries.now) }
-    ensures spends { Spends cells.old cells.new steps.old steps.new (length entries.now) }
+    ensures { Counts (coincidence_view set) cells.old cells.new steps.old steps.new
+        (λ c. pairs_of_all direction (coincidence_view set) c later.index later.count entries.now) (length entries.now) }
 {
     if later.count > 0 {
         for earlier in entries {
@@ -229,11 +225,10 @@ fn pair_entries<L: Ledger>(
     entries: &[Entry],
     steps: &mut Steps<L>,
 )
-    requires sized { length cells.old.cells ≡ coincidence_cells (coincidence_view set.now) }
     requires after { AllByRecursion (λ e. e.index < later.now.index) entries.now }
-    requires fits { HasRoom (coincidence_view set.now) cells.old (λ c. pairs_with (coincidence_view set.now) c later.now entries.now) }
-    ensures cells { CountsMore (coincidence_view set.now) cells.old cells.new (λ c. pairs_with (coincidence_view set.now) c later.now entries.now) }
-    ensures spends { Spends cells.old cells.new steps.old steps.new (2 * length entries.now) }
+    requires room { HasRoom (coincidence_view set.now) cells.old (λ c. pairs_with (coincidence_view set.now) c later.now entries.now) }
+    ensures { Counts (coincidence_view set.now) cells.old cells.new steps.old steps.new
+        (λ c. pairs_with (coincidence_view set.now) c later.now entries.now) (2 * length entries.now) }
 {
     // A copy, so that no field is read again for each entry.
     let own = *set;
@@ -250,11 +245,10 @@ pub(crate) fn pair_inside<L: Ledger>(
     bin: &Bin,
     steps: &mut Steps<L>,
 )
-    requires sized { length cells.old.cells ≡ coincidence_cells (coincidence_view set.now) }
     requires both { bin.now.both ≤ bin.now.weights.a * bin.now.weights.b }
-    requires fits { HasRoom (coincidence_view set.now) cells.old (λ c. bin_pairs (coincidence_view set.now) c bin.now []) }
-    ensures cells { CountsMore (coincidence_view set.now) cells.old cells.new (λ c. bin_pairs (coincidence_view set.now) c bin.now []) }
-    ensures spends { Spends cells.old cells.new steps.old steps.new 1 }
+    requires room { HasRoom (coincidence_view set.now) cells.old (λ c. bin_pairs (coincidence_view set.now) c bin.now []) }
+    ensures { Counts (coincidence_view set.now) cells.old cells.new steps.old steps.new
+        (λ c. bin_pairs (coincidence_view set.now) c bin.now []) 1 }
 {
     let pairs = u128::from(bin.weights.a) * u128::from(bin.weights.b) - u128::from(bin.both);
     if pairs > 0 {
@@ -270,12 +264,11 @@ fn pair<L: Ledger>(
     bin: &Bin,
     steps: &mut Steps<L>,
 )
-    requires sized { length cells.old.cells ≡ coincidence_cells (coincidence_view set.now) }
     requires after { AllByRecursion (λ e. e.index < bin.now.weights.index) ring.now.entries }
     requires both { bin.now.both ≤ bin.now.weights.a * bin.now.weights.b }
-    requires fits { HasRoom (coincidence_view set.now) cells.old (λ c. bin_pairs (coincidence_view set.now) c bin.now ring.now.entries) }
-    ensures cells { CountsMore (coincidence_view set.now) cells.old cells.new (λ c. bin_pairs (coincidence_view set.now) c bin.now ring.now.entries) }
-    ensures spends { Spends cells.old cells.new steps.old steps.new (2 * length ring.now.entries + 1) }
+    requires room { HasRoom (coincidence_view set.now) cells.old (λ c. bin_pairs (coincidence_view set.now) c bin.now ring.now.entries) }
+    ensures { Counts (coincidence_view set.now) cells.old cells.new steps.old steps.new
+        (λ c. bin_pairs (coincidence_view set.now) c bin.now ring.now.entries) (2 * length ring.now.entries + 1) }
 {
     let (front, back) = ring.slices();
     pair_entries(cells, set, &bin.weights, front, steps);
@@ -283,27 +276,13 @@ fn pair<L: Ledger>(
     pair_inside(cells, set, bin, steps);
 }
 
-/// Puts a bin into the ring, in place of those that no later photon reaches.
-#[inline(always)]
-fn keep(ring: &mut LagRing, set: &CoincidenceSet, bin: &Bin)
-    requires stands { ∥ ((closed : History) × (xs : History) × CanKeep (coincidence_view set.now) ring.old bin.now closed xs) ∥₁ }
-    ensures ring { (closed xs : History)
-        → CanKeep (coincidence_view set.now) ring.old bin.now closed xs
-        → RingIs (coincidence_view set.now) ring.new (closed ++ xs) }
-{
-    let weights = bin.weights;
-    ring.retire(least_kept(set, weights.index));
-    ring.push(weights.index, weights.a, weights.b);
-}
-
 /// Pairs the photons of a bin with one another, and puts it into the ring, which has no other that it
 /// reaches.
 #[inline(always)]
 fn begin<L: Ledger>(pairing: &mut Pairing, set: &CoincidenceSet, bin: &Bin, steps: &mut Steps<L>)
     requires far { AllByRecursion (λ e. e.index + set.now.reach < bin.now.weights.index) pairing.old.ring.entries }
-    requires stands { MayShut (coincidence_view set.now) pairing.old bin.now }
-    ensures shuts { Shuts (coincidence_view set.now) pairing.old pairing.new bin.now }
-    ensures steps { Pays pairing.old pairing.new steps.old steps.new }
+    requires stands { MayClose (coincidence_view set.now) pairing.old (bin.now ∷ []) }
+    ensures { Closes (coincidence_view set.now) pairing.old pairing.new (bin.now ∷ []) steps.old steps.new }
 {
     pair_inside(&mut pairing.cells, set, bin, steps);
     pairing
@@ -314,26 +293,26 @@ fn begin<L: Ledger>(pairing: &mut Pairing, set: &CoincidenceSet, bin: &Bin, step
 /// Pairs the photons of a bin with one another and with those of the closed bins, and puts it among
 /// these.
 fn append<L: Ledger>(pairing: &mut Pairing, set: &CoincidenceSet, bin: &Bin, steps: &mut Steps<L>)
-    requires stands { MayShut (coincidence_view set.now) pairing.old bin.now }
-    ensures shuts { Shuts (coincidence_view set.now) pairing.old pairing.new bin.now }
-    ensures steps { Pays pairing.old pairing.new steps.old steps.new }
+    requires stands { MayClose (coincidence_view set.now) pairing.old (bin.now ∷ []) }
+    ensures { Closes (coincidence_view set.now) pairing.old pairing.new (bin.now ∷ []) steps.old steps.new }
 {
     pair(&mut pairing.cells, &pairing.ring, set, bin, steps);
-    keep(&mut pairing.ring, set, bin);
+    let Entry { index, a, b } = bin.weights;
+    pairing.ring.retire(least_kept(set, index));
+    pairing.ring.push(index, a, b);
 }
 
 /// Pairs the photons of a bin, and puts it among the closed ones. Where the last of those is out of
 /// reach, which is the most frequent case, no other pairs with it.
 #[inline(always)]
-pub(crate) fn shut<L: Ledger>(
+pub(crate) fn close<L: Ledger>(
     pairing: &mut Pairing,
     set: &CoincidenceSet,
     bin: &Bin,
     steps: &mut Steps<L>,
 )
-    requires stands { MayShut (coincidence_view set.now) pairing.old bin.now }
-    ensures shuts { Shuts (coincidence_view set.now) pairing.old pairing.new bin.now }
-    ensures steps { Pays pairing.old pairing.new steps.old steps.new }
+    requires stands { MayClose (coincidence_view set.now) pairing.old (bin.now ∷ []) }
+    ensures { Closes (coincidence_view set.now) pairing.old pairing.new (bin.now ∷ []) steps.old steps.new }
 {
     if bin.weights.index.saturating_sub(pairing.ring.newest()) > u64::from(set.reach) {
         begin(pairing, set, bin, steps);
@@ -354,8 +333,8 @@ pub(crate) fn put<L: Ledger>(
     bin: Bin,
     steps: &mut Steps<L>,
 ) -> Option<Bin>
-    requires stands { ∥ ((closed : History) × (open' : History) × (xs : History) × CanPut
-        (coincidence_view set.now) (pairing_of waiting pairing.old.ring pairing.old.cells) bin closed open' xs) ∥₁ }
+    requires stands { ∥ ((came : History) × (xs : History) × CanPut (coincidence_view set.now)
+        (Came (coincidence_view set.now) (pairing_of waiting pairing.old.ring pairing.old.cells)) bin came xs) ∥₁ }
     ensures follows { Puts (coincidence_view set.now) (pairing_of waiting pairing.old.ring pairing.old.cells)
         (pairing_of result pairing.new.ring pairing.new.cells) bin }
     ensures steps { Pays pairing.old pairing.new steps.old steps.new }
@@ -365,7 +344,7 @@ pub(crate) fn put<L: Ledger>(
             if open.weights.index == bin.weights.index {
                 Some(open.with(&bin))
             } else {
-                shut(pairing, set, &open, steps);
+                close(pairing, set, &open, steps);
                 Some(bin)
             }
         }
@@ -393,10 +372,10 @@ impl Pairing {
     pub fn end<L: Ledger>(&mut self, set: &CoincidenceSet, steps: &mut Steps<L>)
         requires stands { ∥ ((came : History) × CanEnd (coincidence_view set.now) self.old came) ∥₁ }
         ensures follows { (came : History) → CanEnd (coincidence_view set.now) self.old came → PairingDone (coincidence_view set.now) self.new came }
-        ensures steps { steps.new + self.old.cells.added ≡ steps.old + self.new.cells.added }
+        ensures steps { Pays self.old self.new steps.old steps.new }
     {
         if let Some(open) = self.open {
-            shut(self, set, &open, steps);
+            close(self, set, &open, steps);
             self.open = None;
         }
     }

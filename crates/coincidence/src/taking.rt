@@ -1,9 +1,8 @@
 // The photons of a block, for a table of coincidences.
-ghost use Rattle.std.specs.Prelude.{◌≡◌, ◌+◌};
-ghost use Rattle.tally_base.{specs.Settings.coincidence_view, specs.Tally.History, specs.Columns.{gathered, events_in, IsSorted}};
-ghost use Rattle.coincidence.specs.StandsFor.{CanTake, TakesOn};
+ghost use Rattle.tally_base.{specs.Settings.coincidence_view, specs.Columns.IsSorted};
+ghost use Rattle.coincidence.specs.StandsFor.{MayTake, Takes};
 
-use crate::closing::{MANY, shut_all};
+use crate::closing::{MANY, close_all};
 use crate::gathering::gather_block;
 use crate::lone::pass_lone;
 use crate::pairing::{Bin, Pairing, put};
@@ -20,14 +19,13 @@ pub(crate) fn take_block<L: Ledger>(
     steps: &mut Steps<L>,
 )
     requires sorted { IsSorted block.now }
-    requires stands { ∥ ((h : History) × CanTake (coincidence_view set.now) pairing.old (gathered block.now) h) ∥₁ }
-    ensures follows { TakesOn (coincidence_view set.now) pairing.old pairing.new (gathered block.now) (events_in block.now) }
-    ensures steps { steps.new + pairing.old.cells.added ≡ steps.old + pairing.new.cells.added }
+    requires stands { MayTake (coincidence_view set.now) pairing.old block.now }
+    ensures { Takes (coincidence_view set.now) pairing.old pairing.new block.now steps.old steps.new }
 {
     if pairing.ring.len() >= MANY {
         let mut bins = ArrayVec::new();
         let open = gather_block(set, pairing.open, block, &mut bins);
-        shut_all(pairing, set, &bins, steps);
+        close_all(pairing, set, &bins, steps);
         pairing.open = open;
     } else {
         take_each(pairing, set, block, steps);
@@ -42,9 +40,8 @@ fn take_each<L: Ledger>(
     steps: &mut Steps<L>,
 )
     requires sorted { IsSorted block.now }
-    requires stands { ∥ ((h : History) × CanTake (coincidence_view set.now) pairing.old (gathered block.now) h) ∥₁ }
-    ensures follows { TakesOn (coincidence_view set.now) pairing.old pairing.new (gathered block.now) (events_in block.now) }
-    ensures steps { steps.new + pairing.old.cells.added ≡ steps.old + pairing.new.cells.added }
+    requires stands { MayTake (coincidence_view set.now) pairing.old block.now }
+    ensures { Takes (coincidence_view set.now) pairing.old pairing.new block.now steps.old steps.new }
 {
     // Copies, so that no field is read again for each photon.
     let own = *set;

@@ -1,5 +1,5 @@
 -- The photons of bins.
-use Rattle.std.{proofs.Common.{◌≡◌, ℕ, zero, suc, ◌+◌, ◌<◌, ◌≤◌, Bool, true, false, ◌&&◌, cond, ltb, leb, eqb, List, [], ◌∷◌, ◌++◌, length, get_or, take, drop, filter, not, append-nil, arith, rules}, specs.List.{sum_by, AllByRecursion}, proofs.lemmas.List.Elements.filter-append, proofs.lemmas.List.Filters.sum_by-filter_both, proofs.lemmas.List.Sums.{sum_by_push, sum_by_more, sum_by-take-drop, sum_by-take-le, sum_by-le-sum_by}}
+use Rattle.std.{proofs.Common.{◌≡◌, ℕ, zero, suc, ◌+◌, ◌<◌, ◌≤◌, Bool, ◌&&◌, cond, ltb, leb, eqb, List, [], ◌∷◌, length, get_or, take, drop, filter, arith, rules}, specs.List.{sum_by, AllByRecursion}, proofs.lemmas.List.Filters.sum_by-filter_both, proofs.lemmas.List.Sums.{sum_by_more, sum_by-take-drop, sum_by-take-le, sum_by-le-sum_by}}
 use Rattle.lag_ring.{specs.declared.ring.Entry.Entry, specs.Ring.IsRising, proofs.Rising.all_weaker, proofs.Lists.{all_filter, all_passed}, proofs.Between.few_kept, proofs.Sums.{sum_by-zero, sum_by-filter, sum_by-same, sum_by-agree, part-le}}
 use Rattle.fold_count.specs.Folded.{photons_in, photons_of, photons_where}
 
@@ -9,21 +9,10 @@ where_at_most test bins = sum_by-le-sum_by (λ e. cond (test e.index) e.a 0) (λ
 pub not_before : (tick before : ℕ) (b : Bool) (n : ℕ) → before ≤ tick → cond (ltb tick before && b) n 0 ≡ 0
 not_before tick before b n late = search (rules, arith)
 
--- one that is before the tick counts, and another doesn't
-pub of_push : (before s : ℕ) (xs : List Entry) (e : Entry) → e.index < before
-    → photons_of before s (xs ++ e ∷ []) ≡ photons_of before s xs + cond (eqb e.b s) e.a 0
-of_push before s xs e lt = search (rules, arith, sum_by_push)
-
-pub of_late : (before s : ℕ) (xs : List Entry) (e : Entry) → before ≤ e.index → photons_of before s (xs ++ e ∷ []) ≡ photons_of before s xs
-of_late before s xs e late = omega (arith, sum_by_push (λ e. cond (ltb e.index before && eqb e.b s) e.a 0) xs e, not_before e.index before (eqb e.b s) e.a late)
-
 -- where each bin's set is known by its tick
 pub of_known : (set : ℕ → ℕ) (before s : ℕ) (bins : List Entry) → AllByRecursion (λ e. e.b ≡ set e.index) bins
     → photons_of before s bins ≡ photons_where (λ t. ltb t before && eqb (set t) s) bins
 of_known set before s bins known = search (rules, arith, sum_by-agree)
-
-pub where_push : (test : ℕ → Bool) (xs : List Entry) (e : Entry) → photons_where test (xs ++ e ∷ []) ≡ photons_where test xs + cond (test e.index) e.a 0
-where_push test xs e = sum_by_push (λ e. cond (test e.index) e.a 0) xs e
 
 -- the photons so far, and those of the next bin, are among all
 pub room_for_next : (test : ℕ → Bool) (bins : List Entry) (i : ℕ) (d : Entry) → i < length bins
@@ -50,25 +39,10 @@ pub where_kept : (test : ℕ → Bool) (before : ℕ) (bins : List Entry)
     → photons_where test (filter (λ e. leb before e.index) bins) ≡ photons_where (λ t. leb before t && test t) bins
 where_kept test before bins = search (rules, arith, sum_by-filter, sum_by-same, both)
 
-not_late : (tick before : ℕ) → ltb tick before ≡ not (leb before tick)
-not_late tick before = search (rules, arith)
-
 -- what is kept and what is before have all photons
 pub photons_kept : (before : ℕ) (bins : List Entry)
     → photons_in (filter (λ e. leb before e.index) bins) + photons_where (λ t. ltb t before) bins ≡ photons_in bins
-photons_kept before bins = omega (arith, sum_by-filter_both (λ (e : Entry). leb before e.index) (λ e. ltb e.index before) (λ e. not_late e.index before) (λ e. e.a) bins, sum_by-filter (λ (e : Entry). ltb e.index before) (λ e. e.a) bins)
-
--- ## What is kept from a tick on, of bins and an open one after them
-
--- the open one goes with those that are before the tick
-pub kept_short : (before : ℕ) (bins : List Entry) (bin : Entry) → bin.index < before
-    → filter (λ e. leb before e.index) bins ≡ filter (λ e. leb before e.index) (bins ++ bin ∷ [])
-kept_short before bins bin lt = search (rules, arith, filter-append, append-nil)
-
--- or stays with the others
-pub kept_long : (before : ℕ) (bins : List Entry) (bin : Entry) → before ≤ bin.index
-    → filter (λ e. leb before e.index) bins ++ bin ∷ [] ≡ filter (λ e. leb before e.index) (bins ++ bin ∷ [])
-kept_long before bins bin le = search (rules, arith, filter-append)
+photons_kept before bins = omega (arith, sum_by-filter_both (λ (e : Entry). leb before e.index) (λ e. ltb e.index before) (λ e. search (rules, arith)) (λ e. e.a) bins, sum_by-filter (λ (e : Entry). ltb e.index before) (λ e. e.a) bins)
 
 -- there is room for one more
 pub room_left : (before index reach : ℕ) (bins : List Entry) → IsRising (filter (λ e. leb before e.index) bins) → AllByRecursion (λ e. e.index < index) bins → before ≤ index → index < before + reach → length (filter (λ e. leb before e.index) bins) < reach

@@ -1,6 +1,6 @@
 -- Sets as numbers, and sets taken together.
 use Rattle.fold_count.specs.FoldCounts.{number_of}
-use Rattle.std.{proofs.Common.{◌≡◌, ℕ, zero, suc, ◌+◌, ◌*◌, ◌^◌, ◌<◌, Bool, true, false, cond, ltb, List, [], ◌∷◌, length, get_or, take, refl, arith, rules, ◌∙◌, ◌/◌, ◌%◌, max, ◌||◌, sym, ap, bit_or, ◌++◌}, specs.List.{list_any, count_by, AllByRecursion}, proofs.lemmas.Grind.pow_more, specs.Int.Bits.{or_step, or_self}, proofs.Math.Arith.bin_ind, proofs.lemmas.Nat.{or_shr, or_comm}, proofs.lemmas.List.Sums.{sum_by-cons, sum_by_push}, proofs.lemmas.List.Folds.list_any-append, proofs.lemmas.Grind.common_steps}
+use Rattle.std.{proofs.Common.{◌≡◌, ℕ, suc, ◌+◌, ◌*◌, ◌^◌, ◌<◌, Bool, false, cond, ltb, List, [], ◌∷◌, length, get_or, take, refl, arith, rules, ◌∙◌, ◌/◌, ◌||◌, sym, ap, bit_or, ◌++◌}, specs.List.{list_any, AllByRecursion}, proofs.lemmas.Grind.pow_more, specs.Int.Bits.{or_step, or_self}, proofs.Math.Arith.bin_ind, proofs.lemmas.Nat.{or_shr, or_comm}, proofs.lemmas.List.Folds.list_any-append, proofs.lemmas.Grind.common_steps}
 
 pow_suc : (i : ℕ) → 2 ^ suc i ≡ 2 * 2 ^ i
 pow_suc i = grind arith

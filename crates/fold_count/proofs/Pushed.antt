@@ -1,8 +1,8 @@
 -- One event more.
-use Rattle.std.{proofs.Common.{◌≡◌, ◌∙◌, ℕ, zero, suc, ◌+◌, ◌-◌, ◌<◌, ◌≤◌, Bool, true, false, ◌&&◌, ◌||◌, cond, ltb, leb, eqb, List, [], ◌∷◌, ◌++◌, length, get_or, replicate, refl, sym, ap, arith, slice_index, bit_or, rules, append-nil}, specs.List.{list_any, AllByRecursion, count_by}, proofs.lemmas.Bool.cases_lt, proofs.lemmas.Bool.Decides.nat_tests, proofs.lemmas.List.Sums.{sum_by-cons, sum_by_push}, proofs.lemmas.List.Elements.filter-append, proofs.lemmas.Grind.common_steps}
+use Rattle.std.{proofs.Common.{◌≡◌, ◌∙◌, ℕ, ◌+◌, ◌-◌, ◌<◌, ◌≤◌, Bool, true, false, ◌&&◌, ◌||◌, cond, ltb, leb, eqb, List, [], ◌∷◌, ◌++◌, get_or, refl, sym, ap, arith, slice_index, bit_or, rules, append-nil}, specs.List.{list_any, AllByRecursion}, proofs.lemmas.Bool.cases_lt, proofs.lemmas.List.Sums.{sum_by_push}, proofs.lemmas.List.Elements.filter-append}
 use Rattle.tally_base.{specs.declared.event.Event.Event, specs.Events.{is_photon, is_in}, specs.Settings.FoldView, specs.Tally.History, proofs.Sums.count_same}
-use Rattle.lag_ring.{specs.declared.ring.Entry.Entry, proofs.Rising.{all_push, all_weaker}, proofs.Lists.all_front, specs.Ring.Ring}
-use Rattle.fold_count.{specs.FoldCounts.{is_of, is_of_any, is_seen, number_of, seen_set}, specs.Folded.{is_from, met_from, joined, photons, Parted, Stands, Counts}, proofs.Numbers.{number_agree, number_none, number_or, any_push}, proofs.Bins.where_push, proofs.Nested.{where_joined, met_joined, last_of}}
+use Rattle.lag_ring.{specs.declared.ring.Entry.Entry, proofs.Rising.{all_push}, proofs.Lists.all_front, specs.Ring.Ring}
+use Rattle.fold_count.{specs.FoldCounts.{is_of_any, is_seen, number_of, seen_set}, specs.Folded.{is_from, met_from, met_in, photons, Parted, Stands, Counts}, proofs.Numbers.{number_agree, number_none, number_or, any_push}, proofs.Nested.{where_met_in, met_behind, last_of}}
 
 -- an event that is of none of the groups brings no photon
 pub photons_same : (set : FoldView) (h : History) (x : Event × ℕ) → is_of_any set.groups x ≡ false → photons set (h ++ x ∷ []) ≡ photons set h
@@ -18,9 +18,6 @@ parted_empty set cells zeros = record {
   upto = tt;
 }
 
-pub zeros : (n s : ℕ) → ◌≡◌ {A = ℕ} (get_or (replicate n 0) s 0) 0
-zeros n s = grind (arith, common_steps)
-
 -- Where a photon isn't seen, the set stays.
 set_same : (set : FoldView) (h : History) (x : Event × ℕ) (t : ℕ)
     → ((group : ℕ) → is_seen set.window t group x ≡ false) → seen_set set (h ++ x ∷ []) t ≡ seen_set set h t
@@ -34,15 +31,12 @@ met_more set h x t photon le =
     (λ k inside. search (rules, arith, any_push))
     ∙ number_or (λ group. list_any (is_from group t) h) (λ group. is_in x.1 group) set.groups
 
-one_photon : (b : Bool) (n : ℕ) → cond b (n + 1) 0 ≡ cond b n 0 + cond b 1 0
-one_photon b n = search (rules, arith)
-
 -- A photon of at least one of the groups joins the open bin.
 pub parted_photon : (set : FoldView) (cells : List ℕ) (kept : List Entry) (bin : Entry) (h : History) (x : Event × ℕ)
     → is_photon x.0 ≡ true → x.0.time ≡ bin.index → AllByRecursion (λ e. e.index < bin.index) kept
-    → Parted set cells (joined bin.b kept ++ bin ∷ []) bin.index h
+    → Parted set cells (met_in bin.b kept ++ bin ∷ []) bin.index h
     → (here : ℕ) → number_of (λ group. is_in x.1 group) set.groups ≡ here
-    → Parted set cells (joined (bit_or bin.b here) kept ++ record { index = bin.index; a = bin.a + 1; b = bit_or bin.b here } ∷ []) bin.index (h ++ x ∷ [])
+    → Parted set cells (met_in (bit_or bin.b here) kept ++ record { index = bin.index; a = bin.a + 1; b = bit_or bin.b here } ∷ []) bin.index (h ++ x ∷ [])
 parted_photon set cells kept bin h x photon at above is here is_here =
     let front : ℕ = bin.index - set.window in
     let bin' : Entry = record { index = bin.index; a = bin.a + 1; b = bit_or bin.b here } in
@@ -57,21 +51,18 @@ parted_photon set cells kept bin h x photon at above is here is_here =
       kept = λ test.
           let push = sum_by_push (λ (y : Event × ℕ). cond (leb front y.0.time && test y.0.time) 1 0) h x in
           let one : ◌≡◌ {A = ℕ} (cond (leb front x.0.time && test x.0.time) 1 0) (cond (test bin.index) 1 0) = search (rules, arith) in
-          omega (arith, is.kept test, where_push test (joined bin.b kept) bin, where_push test (joined bin'.b kept) bin', push, one, one_photon (test bin.index) bin.a, where_joined test bin.b kept, where_joined test bin'.b kept);
+          let more_here : cond (test bin.index) (bin.a + 1) 0 ≡ cond (test bin.index) bin.a 0 + cond (test bin.index) 1 0 = search (rules, arith) in
+          omega (arith, is.kept test, sum_by_push (λ (e : Entry). cond (test e.index) e.a 0) (met_in bin.b kept) bin, sum_by_push (λ (e : Entry). cond (test e.index) e.a 0) (met_in bin'.b kept) bin', push, one, more_here, where_met_in test bin.b kept, where_met_in test bin'.b kept);
       met =
-          all_push (λ e. e.b ≡ met_from set.groups (h ++ x ∷ []) e.index) (joined bin'.b kept) bin'
-          (met_joined (met_from set.groups h) (met_from set.groups (h ++ x ∷ [])) bin.b here bin.index (λ t lt. more t (omega (arith, lt))) kept above
-          (all_front (λ e. e.b ≡ met_from set.groups h e.index) (joined bin.b kept) (bin ∷ []) is.met))
-          (ap (λ n. bit_or n here) (last_of (λ e. e.b ≡ met_from set.groups h e.index) (joined bin.b kept) bin is.met) ∙ more bin.index (omega arith));
+          all_push (λ e. e.b ≡ met_from set.groups (h ++ x ∷ []) e.index) (met_in bin'.b kept) bin'
+          (met_behind (met_from set.groups h) (met_from set.groups (h ++ x ∷ [])) bin.b here bin.index (λ t lt. more t (omega (arith, lt))) kept above
+          (all_front (λ e. e.b ≡ met_from set.groups h e.index) (met_in bin.b kept) (bin ∷ []) is.met))
+          (ap (λ n. bit_or n here) (last_of (λ e. e.b ≡ met_from set.groups h e.index) (met_in bin.b kept) bin is.met) ∙ more bin.index (omega arith));
       upto = all_push (λ y. y.0.time ≤ bin.index) h x is.upto (omega (arith, at));
     }
 
--- ## A fold that is open
-
-pub open_counts : (closed : Bool) (set : FoldView) (cells : List ℕ) (ring : Ring) (bin : Entry) (h : History)
-    → closed ≡ false → Counts closed set cells ring bin (photons set h) → Stands set cells ring bin h
-open_counts closed set cells ring bin h is counts = search (rules, arith)
-
-pub counts_open : (closed : Bool) (set : FoldView) (cells : List ℕ) (ring : Ring) (bin : Entry) (h : History)
-    → closed ≡ false → Stands set cells ring bin h → Counts closed set cells ring bin (photons set h)
-counts_open closed set cells ring bin h is stands = search (rules, arith)
+-- what a fold that is open stands for once it stands for more
+pub open_follows : (closed : Bool) (set : FoldView) (cells cells' : List ℕ) (ring ring' : Ring) (bin bin' : Entry) (h h' : History)
+    → closed ≡ false → (Stands set cells ring bin h → Stands set cells' ring' bin' h')
+    → Counts closed set cells ring bin (photons set h) → Counts closed set cells' ring' bin' (photons set h')
+open_follows closed set cells cells' ring ring' bin bin' h h' is follows counts = search (rules, arith)

@@ -1,5 +1,5 @@
 -- The cells of a fold add up, and the first of them is 0.
-use Rattle.std.{proofs.Common.{rules}, proofs.Common.{◌≡◌, ◌∙◌, ℕ, ◌+◌, ◌*◌, ◌^◌, ◌<◌, Bool, true, false, ◌&&◌, ◌||◌, cond, eqb, leb, List, [], ◌∷◌, ◌++◌, length, refl, sym, ap, get_or, arith, append_assoc}, specs.List.{list_any, count_by, AllByRecursion}, proofs.lemmas.List.Folds.{list_any-append, list_any_at}, proofs.lemmas.Map.Views.any-filter_same}
+use Rattle.std.{proofs.Common.{rules}, proofs.Common.{◌≡◌, ◌∙◌, ℕ, ◌+◌, ◌^◌, ◌<◌, Bool, true, false, ◌&&◌, cond, eqb, leb, List, [], ◌∷◌, ◌++◌, length, refl, sym, ap, get_or, arith, append_assoc}, specs.List.{list_any, count_by, AllByRecursion}, proofs.lemmas.List.Folds.{list_any-append, list_any_at}, proofs.lemmas.Map.Views.any-filter_same}
 use Rattle.tally_base.{proofs.Sums.{sum_none, count_none, parts}, specs.declared.event.Event.Event, specs.Events.{is_photon, is_in}, specs.Settings.FoldView, specs.Tally.History}
 use Rattle.lag_ring.proofs.Sums.{sum_by-agree, sum_by-filter, sum_by-same}
 use Rattle.fold_count.{specs.FoldCounts.{is_of, is_of_any, is_seen, number_of, seen_set, in_set, in_all_sets}, specs.Folded.photons, proofs.Numbers.{number_below, number_agree, any_in}}
@@ -25,25 +25,19 @@ in_photons set s h =
     ∙ sum_by-same (λ x. cond (is_of_any set.groups x) (cond (eqb (seen_set set (photons set h) x.0.time) s) 1 0) 0) (λ x. cond (is_of_any set.groups x && eqb (seen_set set h x.0.time) s) 1 0) h
     (λ x. both (is_of_any set.groups x) (eqb (seen_set set (photons set h) x.0.time) s) (eqb (seen_set set h x.0.time) s) (ap (λ n. eqb n s) (seen x.0.time)))
 
-not_behind : (b : Bool) (a n : ℕ) → a < n → (b && leb n a) ≡ false
-not_behind b a n few = search (rules, arith)
-
 pub add_up : (set : FoldView) (h : History) → in_all_sets set h ≡ count_by (is_of_any set.groups) h
 add_up set h =
     let few : (x : Event × ℕ) → seen_set set h x.0.time < 2 ^ length set.groups =
     λ x. number_below (λ group. list_any (is_seen set.window x.0.time group) h) set.groups in
     let none = count_none (λ x. is_of_any set.groups x && leb (2 ^ length set.groups) (seen_set set h x.0.time))
-    (λ x. not_behind (is_of_any set.groups x) (seen_set set h x.0.time) (2 ^ length set.groups) (few x)) h in
+    (λ x. let below = few x in search (rules, arith)) h in
     omega (arith, none, parts (is_of_any set.groups) (λ x. seen_set set h x.0.time) (2 ^ length set.groups) h)
-
-or_true : (a b c : Bool) → b ≡ true → (a || (b || c)) ≡ true
-or_true a b c is = search (rules, arith)
 
 -- a test that an element of a list passes is passed by some element
 members : (front h : History) → AllByRecursion (λ x. (p : Event × ℕ → Bool) → p x ≡ true → list_any p (front ++ h) ≡ true) h
 members front [] = tt
 members front (x ∷ h) = (
-  (λ p is. list_any-append p front (x ∷ h) ∙ or_true (list_any p front) (p x) (list_any p h) is),
+  (λ p is. search (rules, arith, list_any-append)),
   rw append_assoc at (members (front ++ x ∷ []) h),
 )
 

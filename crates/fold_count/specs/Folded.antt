@@ -29,12 +29,12 @@ abbrev pub met_from : List ℕ → History → ℕ → ℕ
 met_from groups h tick = number_of (λ group. list_any (is_from group tick) h) groups
 
 -- the bins, where these groups were met in each too
-abbrev pub joined : ℕ → List Entry → List Entry
-joined groups bins = map (λ e. record { index = e.index; a = e.a; b = bit_or e.b groups }) bins
+abbrev pub met_in : ℕ → List Entry → List Entry
+met_in groups bins = map (λ e. record { index = e.index; a = e.a; b = bit_or e.b groups }) bins
 
 -- the bins that wait to be counted, with the groups of the open one met in those before it too
 abbrev pub as_met : Ring → Entry → List Entry
-as_met ring bin = joined bin.b ring.entries ++ bin ∷ []
+as_met ring bin = met_in bin.b ring.entries ++ bin ∷ []
 
 -- how many photons those of the bins before a tick have in which this set of groups was met
 abbrev pub photons_of : ℕ → ℕ → List Entry → ℕ

@@ -1,7 +1,7 @@
 // The bins of a fold that wait for their window to end.
 ghost use Rattle.std.{specs.Prelude.{◌≡◌, ◌+◌, ◌^◌, ◌<◌, ◌≤◌, ◌==◌, ℕ, filter, length, slice_index, sum, nat_lt, nat_le, if◌then◌else◌}, specs.List.{AllByRecursion}};
 ghost use Rattle.lag_ring.{specs.Ring.IsRising, specs.Ring.ring as ring_of};
-ghost use Rattle.fold_count.specs.Folded.{waiting, joined, as_met, AreHeld, GainsBefore, IsNested, photons_in, photons_of, photons_where};
+ghost use Rattle.fold_count.specs.Folded.{waiting, met_in, as_met, AreHeld, GainsBefore, IsNested, photons_in, photons_of, photons_where};
 
 use lag_ring::{Entry, LagRing};
 
@@ -12,7 +12,7 @@ use lag_ring::{Entry, LagRing};
 #[inline(always)]
 fn meet(ring: &mut LagRing, groups: u64)
     requires nested { IsNested ring.old.entries }
-    ensures met { ring.new ≡ ring_of (joined groups ring.old.entries) ring.old.reach }
+    ensures met { ring.new ≡ ring_of (met_in groups ring.old.entries) ring.old.reach }
 {
     let mut at = ring.len();
     'back: while at > 0 {

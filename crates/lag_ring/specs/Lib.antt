@@ -1,3 +1,4 @@
 pub mod Cells
 pub mod Ring
 pub mod Bytes
+pub mod Binned

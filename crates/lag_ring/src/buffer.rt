@@ -73,7 +73,8 @@ impl Buffered {
         }
     }
 
-    /// Appends entries, and removes those with an index below `before`, and no others.
+    /// Appends entries, and removes those with an index below `before`, and no others. All are near: none is the reach
+    /// or further above `before`, so that no more stay than there is room for.
     #[inline(always)]
     pub(crate) fn renew(&mut self, entries: &[Entry], before: u64)
         requires rising { IsRising (self.old.entries ++ entries.now) }

@@ -124,7 +124,8 @@ impl LagRing {
         self.last = Entry { index, a, b };
     }
 
-    /// Appends entries, and removes those with an index below `before`, and no others.
+    /// Appends entries, and removes those with an index below `before`, and no others. All are near: none is the reach
+    /// or further above `before`, so that no more stay than there is room for.
     #[inline(always)]
     pub fn renew(&mut self, entries: &[Entry], before: u64)
         requires some { 0 < length entries.now }

@@ -3,7 +3,7 @@ use Rattle.lag_ring.{specs.declared.ring.Entry.Entry, specs.Bytes.IsLight, proof
 use Rattle.coincidence.proofs.closing.weight_bound_of.Goals as goal
 
 lighter : (least most : ℕ) (es : List Entry) → least ≤ most → IsLight least es → IsLight most es
-lighter least most es upto light = all_weaker (λ (e : Entry). (e.a ≤ least) × (e.b ≤ least)) (λ (e : Entry). (e.a ≤ most) × (e.b ≤ most)) (λ e is. (omega (arith, is.0), omega (arith, is.1))) es light
+lighter least most es upto light = search (rules, arith, all_weaker)
 
 pub returns-clause-some : goal.returns-clause-some
 returns-clause-some c = search (rules, arith, le_or_l)

@@ -1,6 +1,6 @@
 use Rattle.std.{proofs.Props.props, proofs.Math.Logic.∥∥₁_elim, proofs.Common.{◌≡◌, ◌≢◌, ◌∙◌, ◌+◌, ◌^◌, ◌<◌, Some, None, List, [], ◌∷◌, ◌++◌, length, refl, sym, ap, arith, append-nil, append_assoc, length-append, rules}, specs.List.AllByRecursion, proofs.lemmas.List.Sums.count_by-le-length}
 use Rattle.tally_base.{specs.Settings.CoincidenceView, specs.Tally.History}
-use Rattle.coincidence.{specs.declared.pairing.Bin.Bin, specs.Pairing.{joined, BinIs}, specs.Closing.{BinsAre, Gathered, CanGather}, proofs.Visits.{joined_is, behind_bin}}
+use Rattle.coincidence.{specs.declared.pairing.Bin.Bin, specs.Pairing.{joined, BinIs, BinsAre, Gathered, CanPut}, proofs.Visits.{joined_is, behind_bin}}
 use Rattle.coincidence.proofs.gathering.gather_bin.Goals as goal
 
 -- photons that come after gathered bins
@@ -17,7 +17,7 @@ module _ (set : CoincidenceView) where
     bins_push bins bin (closed ++ are.0) are.1 ys are.5 is (rw (append_assoc closed are.0 are.1, ← are.2) after),
   )
 
-  module _ (last bin : Bin) (bins : List Bin) (closed came xs : History) (can : CanGather set (Some last) bins bin closed came xs) where
+  module _ (last bin : Bin) (bins : List Bin) (closed came xs : History) (can : CanPut set (Gathered set (Some last) bins closed) bin came xs) where
     gather_joins : last.weights.index ≡ bin.weights.index → Gathered set (Some (joined last bin)) bins closed (came ++ xs)
     gather_joins same =
         let was = can.was in
@@ -33,12 +33,12 @@ module _ (set : CoincidenceView) where
 
   -- the first photons of all are in the open bin
   gather_first : (bin : Bin) (bins : List Bin) (closed came xs : History)
-      → CanGather set None bins bin closed came xs → Gathered set (Some bin) bins closed (came ++ xs)
+      → CanPut set (Gathered set None bins closed) bin came xs → Gathered set (Some bin) bins closed (came ++ xs)
   gather_first bin bins closed came xs can = search (rules, arith, append-nil)
 
 module _ (set : CoincidenceView) (bin : Bin) (bins : List Bin) (closed came xs : History) where
   -- the open bin can take more photons of its tick
-  gather_fits : (last : Bin) → CanGather set (Some last) bins bin closed came xs
+  gather_fits : (last : Bin) → CanPut set (Gathered set (Some last) bins closed) bin came xs
       → (last.weights.a + bin.weights.a < 2 ^ 64) × (last.weights.b + bin.weights.b < 2 ^ 64) × (last.both + bin.both < 2 ^ 64)
   gather_fits last can =
       let was = can.was in

@@ -1,7 +1,7 @@
 use Rattle.std.{proofs.Common.{rules}, proofs.Common.{◌≤◌, ◌<◌, ◌+◌, ◌-◌, ◌++◌, ℕ, length, arith}, proofs.lemmas.List.{get_or-replicate}}
 use Rattle.tally_base.specs.Settings.{coincidence_view}
 use Rattle.lag_ring.{specs.declared.ring.Entry.Entry, proofs.Rising.all_weaker}
-use Rattle.coincidence.{specs.declared.lags.TheConstants.TOP, proofs.LagPairs.{window-lags}}
+use Rattle.coincidence.{specs.declared.lags.TheConstants.TOP, proofs.LagPairs.{window-lags}, proofs.Visits.{room_as, counts_as}}
 use Rattle.coincidence.proofs.lags.pair_side.Goals as goal
 
 pub fill-requires-clause-fit : goal.fill-requires-clause-fit
@@ -19,16 +19,10 @@ pair_window-requires-clause-window g c = record {
       (rw c.deref.ensures.0 (c.spots_of-spots.ensures.within 4095 (all_weaker (λ (e : Entry). (c.args.places.low ≤ e.index) × (e.index - c.args.places.low < 4096)) (λ (e : Entry). e.index - c.args.places.low ≤ 4095) (λ e is. omega (arith, is.1)) c.args.later.now c.requires.photons.0.near)));
 }
 
-pub pair_window-requires-clause-fits : goal.pair_window-requires-clause-fits
-pair_window-requires-clause-fits g c = λ at inside. rw (
-  c.deref.ensures.0,
-  window-lags c.args.direction (coincidence_view c.args.places.set) at c.args.places.low c.fill.new.window c.spots_of-spots.result.items (c.args.ring.now.entries ++ c.args.later.now) c.args.later.now c.requires.photons.0.reach
-      c.fill.ensures.same (rw c.earlier.ensures at c.fill.ensures.have) c.requires.photons.0.near (λ f. rw c.later.ensures at (c.spots_of-spots.ensures.sums f)),
-) (c.requires.fits at inside)
+pub pair_window-requires-clause-room : goal.pair_window-requires-clause-room
+pair_window-requires-clause-room g c = rw c.deref.ensures.0 (room_as _ _ _ _ c.requires.room (λ at. window-lags c.args.direction (coincidence_view c.args.places.set) at c.args.places.low c.fill.new.window c.spots_of-spots.result.items (c.args.ring.now.entries ++ c.args.later.now) c.args.later.now c.requires.photons.0.reach
+    c.fill.ensures.same (rw c.earlier.ensures at c.fill.ensures.have) c.requires.photons.0.near (λ f. rw c.later.ensures at (c.spots_of-spots.ensures.sums f))))
 
-pub returns-clause-cells : goal.returns-clause-cells
-returns-clause-cells g c = λ at inside. rw (
-  c.deref.ensures.0,
-  window-lags c.args.direction (coincidence_view c.args.places.set) at c.args.places.low c.fill.new.window c.spots_of-spots.result.items (c.args.ring.now.entries ++ c.args.later.now) c.args.later.now c.requires.photons.0.reach
-      c.fill.ensures.same (rw c.earlier.ensures at c.fill.ensures.have) c.requires.photons.0.near (λ f. rw c.later.ensures at (c.spots_of-spots.ensures.sums f)),
-) at (c.pair_window.ensures.cells at inside)
+pub returns : goal.returns
+returns g c = counts_as _ _ _ _ _ _ _ _ (rw c.deref.ensures.0 at c.pair_window.ensures) (λ at. window-lags c.args.direction (coincidence_view c.args.places.set) at c.args.places.low c.fill.new.window c.spots_of-spots.result.items (c.args.ring.now.entries ++ c.args.later.now) c.args.later.now c.requires.photons.0.reach
+    c.fill.ensures.same (rw c.earlier.ensures at c.fill.ensures.have) c.requires.photons.0.near (λ f. rw c.later.ensures at (c.spots_of-spots.ensures.sums f)))

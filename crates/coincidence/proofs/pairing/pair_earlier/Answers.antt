@@ -12,11 +12,11 @@ add_pairs-requires-clause-sum g c =
     let near : c.args.later.index - c.args.earlier.now.index ≤ c.args.set.reach = search rules in
     let at : ℕ = shifted_by c.args.direction c.args.set.reach (c.args.later.index - c.args.earlier.now.index) / c.args.set.width in
     let inside : at < coincidence_cells set = search (rules, arith, shifted_inside) in
-    let fits = (rw (pairs_near set c.args.later.index c.args.earlier.now c.requires.after near c.args.direction c.args.later.count at) at (c.requires.fits at inside)) in
+    let fits = (rw (pairs_near set c.args.later.index c.args.earlier.now c.requires.after near c.args.direction c.args.later.count at) at (c.requires.room.fits at inside)) in
     rw (c.shifted-shifted.ensures, c.weight-weight.ensures, c.earlier.ensures) (one_fits _ _ _ at fits)
 
-pub returns-then-is_near-clause-cells : goal.returns-then-is_near-clause-cells
-returns-then-is_near-clause-cells g c = search (rules, arith, pairs_near)
+pub returns-then-is_near : goal.returns-then-is_near
+returns-then-is_near g c = search (rules, arith, pairs_near)
 
-pub returns-else-is_near-clause-cells : goal.returns-else-is_near-clause-cells
-returns-else-is_near-clause-cells g c = search (rules, arith, pairs_far)
+pub returns-else-is_near : goal.returns-else-is_near
+returns-else-is_near g c = search (rules, arith, pairs_far)

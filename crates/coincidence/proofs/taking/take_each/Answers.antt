@@ -10,14 +10,16 @@ put-open-requires g c =
     let is_bin = rw (c.time.ensures, c.has_photon-first.ensures, c.has_photon-second.ensures) at c.of_photon-bin.ensures in
     record {
       stands = ∥∥₁_map c.requires.stands (λ w.
-          let came = c.loop-at.invariant.came w.0 w.1 in
-          (came.0, came.1, item c.args.block.now c.loop-at.at ∷ [], rw is_bin (put_row _ c.args.block.now w.0 c.loop-at.at either _ within w.1 _ came)));
+          (photons_of_groups (coincidence_view c.args.set.now) (w.0 ++ rows (item c.args.block.now) c.loop-at.at), item c.args.block.now c.loop-at.at ∷ [], rw is_bin (put_row _ c.args.block.now w.0 c.loop-at.at either _ within w.1 _ (c.loop-at.invariant.came w.0 w.1))));
     }
 
-pub returns-clause-follows : goal.returns-clause-follows
-returns-clause-follows g c = λ h can.
-    let end : c.loop-at.at ≡ c.args.block.now.len = search (rules, arith) in
-    rw end at (c.loop-at.invariant.came h can)
+pub returns : goal.returns
+returns g c = record {
+  follows = λ h can.
+      let end : c.loop-at.at ≡ c.args.block.now.len = search (rules, arith) in
+      rw end at (c.loop-at.invariant.came h can);
+  steps = c.loop-at.invariant.steps;
+}
 
 pub loop-at-preserved : goal.loop-at-preserved
 loop-at-preserved g c =
@@ -34,9 +36,8 @@ loop-at-preserved g c =
           let is_bin = rw (w.time.ensures, c.has_photon-first.ensures, c.has_photon-second.ensures) at w.of_photon-bin.ensures in
           rw (w.pairing-is, w.steps-is, w.open-is) (
             λ h can.
-                let came = inv.came h can in
-                rw (photons-more set b h at either, came.2)
-                (w.put-open.ensures.follows came.0 came.1 (item b at ∷ []) (rw is_bin (put_row set b h at either c.args.pairing.now within can _ came))),
+                rw (photons-more set b h at either)
+                (w.put-open.ensures.follows (photons_of_groups set (h ++ rows (item b) at)) (item b at ∷ []) (rw is_bin (put_row set b h at either c.args.pairing.now within can _ (inv.came h can)))),
             omega (arith, inv.steps, w.put-open.ensures.steps),
           )
       | else-first-second w ↦

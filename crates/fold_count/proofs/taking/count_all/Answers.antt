@@ -1,12 +1,10 @@
-use Rattle.std.proofs.Common.{◌+◌, ◌≤◌, length, arith}
+use Rattle.std.proofs.Common.{◌+◌, arith, rules}
 use Rattle.tally_base.specs.Settings.{fold_view}
-use Rattle.fold_count.{specs.Folded.{as_met, photons}, proofs.Nested.{sets_joined, sound_later}, proofs.Settled.counts_all}
+use Rattle.fold_count.{specs.Folded.{as_met, photons}, proofs.Nested.{can_settle, sound_later}, proofs.Settled.counts_all}
 use Rattle.fold_count.proofs.taking.count_all.Goals as goal
 
 pub settle-requires-clause-held : goal.settle-requires-clause-held
-settle-requires-clause-held c =
-    let sound = c.requires.sound in
-    record { inside = rw sound.sized (sets_joined (length (fold_view c.args.set.now).groups) c.args.ring.now.entries c.args.bin sound.sets); nested = sound.nested; within = sound.within; above = sound.above }
+settle-requires-clause-held c = search (rules, arith, can_settle)
 
 pub returns-clause-sound : goal.returns-clause-sound
 returns-clause-sound c =

@@ -1,13 +1,10 @@
-use Rattle.std.proofs.Common.{◌≡◌, ◌+◌, ◌-◌, ◌<◌, ◌≤◌, [], ◌∷◌, ◌++◌, filter, length, refl, ap, subst, rules, arith, nat_le}
+use Rattle.std.proofs.Common.{◌≡◌, ◌-◌, ◌<◌, filter, rules, arith, nat_le}
 use Rattle.tally_base.specs.Settings.{fold_view}
-use Rattle.lag_ring.{specs.declared.ring.Entry.Entry, specs.Ring.Ring}
-use Rattle.fold_count.{specs.Folded.{Parted, as_met, photons}, proofs.Nested.{joined_none, sets_joined, sound_later}, proofs.Settled.parted_later}
+use Rattle.fold_count.{specs.Folded.{as_met, photons}, proofs.Nested.{met_in_none, can_settle, sound_later}, proofs.Settled.parted_later}
 use Rattle.fold_count.proofs.taking.open_at.Goals as goal
 
 pub settle-requires-clause-held : goal.settle-requires-clause-held
-settle-requires-clause-held c =
-    let sound = c.requires.sound in
-    record { inside = rw sound.sized (sets_joined (length (fold_view c.args.set.now).groups) c.args.ring.now.entries c.args.bin sound.sets); nested = sound.nested; within = sound.within; above = sound.above }
+settle-requires-clause-held c = search (rules, arith, can_settle)
 
 pub returns-clause-sound : goal.returns-clause-sound
 returns-clause-sound c =
@@ -20,6 +17,6 @@ returns-clause-follows c = λ h is.
     let bins = as_met c.args.ring.now c.args.bin in
     let at_front : c.saturating_sub-before.result ≡ c.args.time - set.window = search (rules, arith) in
     let settled = rw at_front at c.settle.ensures in
-    rw (settled.kept, joined_none (filter (λ e. nat_le (c.args.time - set.window) e.index) bins))
+    rw (settled.kept, met_in_none (filter (λ e. nat_le (c.args.time - set.window) e.index) bins))
     (parted_later set c.args.cells.now bins c.args.bin.index (photons set h) is c.settle.new.cells c.args.time (omega (arith, c.if-time-bin.false, c.requires.after.0))
     (λ s inside. settled.cells.each s (rw c.requires.sound.sized inside)))

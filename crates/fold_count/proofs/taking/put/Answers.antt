@@ -1,6 +1,6 @@
-use Rattle.std.{proofs.lemmas.List.Elements.filter-append, proofs.Common.{◌≡◌, ◌++◌, ◌∷◌, [], ◌∙◌, ◌+◌, sym, ap, refl, bit_or, arith, rules}, proofs.lemmas.Nat.{or_lt}}
+use Rattle.std.{proofs.lemmas.List.Elements.filter-append, proofs.Common.{◌≡◌, ◌++◌, ◌∷◌, [], ◌∙◌, sym, refl, arith, rules}, proofs.lemmas.Nat.{or_lt}}
 use Rattle.tally_base.{specs.Settings.fold_view, specs.Events.is_photon}
-use Rattle.lag_ring.{specs.declared.ring.Entry.Entry, proofs.Lists.all_front, proofs.Rising.all_push}
+use Rattle.lag_ring.{proofs.Lists.all_front, proofs.Rising.all_push}
 use Rattle.fold_count.{specs.FoldCounts.is_of_any, specs.Folded.photons, proofs.Totals.first_true, proofs.Nested.last_of, proofs.Pushed.parted_photon}
 use Rattle.fold_count.proofs.taking.put.Goals as goal
 

@@ -1,6 +1,6 @@
-use Rattle.std.{proofs.Common.{◌≡◌, ◌∙◌, ◌<◌, ltb, true, false, sym, refl, arith, rules}, specs.List.list_any}
+use Rattle.std.{proofs.Common.{◌≡◌, ◌∙◌, ltb, true, false, sym, refl, arith, rules}}
 use Rattle.tally_base.{specs.Events.{is_photon, is_in}, specs.Settings.fold_view}
-use Rattle.fold_count.{specs.FoldCounts.{number_of, is_of_any}, proofs.Numbers.any_in, proofs.Pushed.photons_same}
+use Rattle.fold_count.{specs.FoldCounts.{number_of}, proofs.Numbers.any_in, proofs.Pushed.photons_same}
 use Rattle.fold_count.proofs.taking.put_event.Goals as goal
 
 pub returns-then-met-ne0-clause-follows : goal.returns-then-met-ne0-clause-follows

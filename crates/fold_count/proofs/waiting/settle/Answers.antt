@@ -1,13 +1,13 @@
-use Rattle.std.{proofs.Common.{◌<◌, [], ◌∷◌, filter, ap, arith, length-append, nat_lt, nat_le, rules}, proofs.lemmas.List.length-map, proofs.lemmas.List.Sums.{sum_by_push, length-filter, count_by-le-length}, proofs.lemmas.Grind.common_steps}
-use Rattle.lag_ring.{specs.declared.ring.Entry.Entry, specs.Ring.ring as ring_of, proofs.Lists.{all_front, all_filter, all_map}}
-use Rattle.fold_count.{specs.Folded.joined, proofs.Bins.{of_push, of_late, where_at_most, photons_kept, kept_short, kept_long, room_left}, proofs.Nested.{join, photons_joined, last_of}}
+use Rattle.std.{proofs.Common.{append-nil, ◌<◌, [], ◌∷◌, filter, arith, length-append, nat_lt, nat_le, rules}, proofs.lemmas.List.length-map, proofs.lemmas.List.Sums.{sum_by_push, length-filter, count_by-le-length}, proofs.lemmas.List.Elements.filter-append, proofs.lemmas.Grind.common_steps}
+use Rattle.lag_ring.{specs.declared.ring.Entry.Entry, proofs.Lists.{all_front, all_filter, all_map}}
+use Rattle.fold_count.{specs.Folded.met_in, proofs.Bins.{not_before, where_at_most, photons_kept, room_left}, proofs.Nested.{join, photons_met_in, last_of}}
 use Rattle.fold_count.proofs.waiting.settle.Goals as goal
 
 pub count_closed-requires-clause-inside : goal.count_closed-requires-clause-inside
 count_closed-requires-clause-inside c = grind (arith, common_steps, all_front)
 
 pub count_closed-requires-clause-room : goal.count_closed-requires-clause-room
-count_closed-requires-clause-room c = search (rules, arith, photons_joined, sum_by_push)
+count_closed-requires-clause-room c = search (rules, arith, photons_met_in, sum_by_push)
 
 pub count_bin-requires-clause-inside : goal.count_bin-requires-clause-inside
 count_bin-requires-clause-inside c = search (rules, arith, last_of)
@@ -15,58 +15,58 @@ count_bin-requires-clause-inside c = search (rules, arith, last_of)
 pub count_bin-requires-clause-room : goal.count_bin-requires-clause-room
 count_bin-requires-clause-room c =
     let counted = rw c.meet.ensures.met at c.count_closed.ensures.sum in
-    omega (arith, counted, where_at_most (λ tick. nat_lt tick c.args.before) (joined c.args.bin.now.b c.args.ring.now.entries), photons_joined c.args.bin.now.b c.args.ring.now.entries, sum_by_push (λ (e : Entry). e.a) c.args.ring.now.entries c.args.bin.now, c.requires.room)
+    omega (arith, counted, where_at_most (λ tick. nat_lt tick c.args.before) (met_in c.args.bin.now.b c.args.ring.now.entries), photons_met_in c.args.bin.now.b c.args.ring.now.entries, sum_by_push (λ (e : Entry). e.a) c.args.ring.now.entries c.args.bin.now, c.requires.room)
 
 pub push-requires-clause-above : goal.push-requires-clause-above
 push-requires-clause-above c =
     rw (c.retire.ensures.kept, c.meet.ensures.met)
-    (all_filter (λ e. e.index < c.args.bin.now.index) (λ e. nat_le c.args.before e.index) (joined c.args.bin.now.b c.args.ring.now.entries) (all_map (λ e. e.index < c.args.bin.now.index) (join c.args.bin.now.b) c.args.ring.now.entries c.requires.held.above))
+    (all_filter (λ e. e.index < c.args.bin.now.index) (λ e. nat_le c.args.before e.index) (met_in c.args.bin.now.b c.args.ring.now.entries) (all_map (λ e. e.index < c.args.bin.now.index) (join c.args.bin.now.b) c.args.ring.now.entries c.requires.held.above))
 
 pub push-requires-clause-room : goal.push-requires-clause-room
 push-requires-clause-room c =
     let rising = rw (c.retire.ensures.kept, c.meet.ensures.met) at c.retire.ensures.rising in
-    let few = room_left c.args.before c.args.bin.now.index c.args.ring.now.reach (joined c.args.bin.now.b c.args.ring.now.entries) rising
+    let few = room_left c.args.before c.args.bin.now.index c.args.ring.now.reach (met_in c.args.bin.now.b c.args.ring.now.entries) rising
     (all_map (λ e. e.index < c.args.bin.now.index) (join c.args.bin.now.b) c.args.ring.now.entries c.requires.held.above) c.if-bin-before.false c.requires.near in
     rw (c.retire.ensures.kept, c.meet.ensures.met) (omega (arith, few))
 
 pub returns-then-bin-before-clause-cells : goal.returns-then-bin-before-clause-cells
-returns-then-bin-before-clause-cells c = search (rules, arith, of_push)
+returns-then-bin-before-clause-cells c = search (rules, arith, sum_by_push)
 
 pub returns-then-bin-before-clause-kept : goal.returns-then-bin-before-clause-kept
 returns-then-bin-before-clause-kept c =
     rw (c.retire.ensures.kept, c.meet.ensures.met)
-    (ap (λ es. ring_of es c.args.ring.now.reach) (kept_short c.args.before (joined c.args.bin.now.b c.args.ring.now.entries) c.args.bin.now c.if-bin-before.true))
+    (search (rules, arith, filter-append, append-nil))
 
 pub returns-then-bin-before-clause-within : goal.returns-then-bin-before-clause-within
 returns-then-bin-before-clause-within c =
     let late = λ (e : Entry). nat_le c.args.before e.index in
-    let met = joined c.args.bin.now.b c.args.ring.now.entries in
+    let met = met_in c.args.bin.now.b c.args.ring.now.entries in
     rw (c.retire.ensures.kept, c.meet.ensures.met) (omega (arith, length-filter late met, count_by-le-length late met, length-map c.args.ring.now.entries (join c.args.bin.now.b), c.requires.held.within))
 
 pub returns-then-bin-before-clause-sum : goal.returns-then-bin-before-clause-sum
 returns-then-bin-before-clause-sum c =
     let counted = rw c.meet.ensures.met at c.count_closed.ensures.sum in
     rw (c.retire.ensures.kept, c.meet.ensures.met)
-    (omega (arith, c.count_bin.ensures.sum, counted, photons_kept c.args.before (joined c.args.bin.now.b c.args.ring.now.entries), photons_joined c.args.bin.now.b c.args.ring.now.entries, sum_by_push (λ (e : Entry). e.a) c.args.ring.now.entries c.args.bin.now))
+    (omega (arith, c.count_bin.ensures.sum, counted, photons_kept c.args.before (met_in c.args.bin.now.b c.args.ring.now.entries), photons_met_in c.args.bin.now.b c.args.ring.now.entries, sum_by_push (λ (e : Entry). e.a) c.args.ring.now.entries c.args.bin.now))
 
 pub returns-else-bin-before-clause-cells : goal.returns-else-bin-before-clause-cells
-returns-else-bin-before-clause-cells c = search (rules, arith, of_late)
+returns-else-bin-before-clause-cells c = search (rules, arith, sum_by_push, not_before)
 
 pub returns-else-bin-before-clause-kept : goal.returns-else-bin-before-clause-kept
 returns-else-bin-before-clause-kept c =
     rw (c.push.ensures.pushed, c.retire.ensures.kept, c.meet.ensures.met)
-    (ap (λ es. ring_of es c.args.ring.now.reach) (kept_long c.args.before (joined c.args.bin.now.b c.args.ring.now.entries) c.args.bin.now c.if-bin-before.false))
+    (search (rules, arith, filter-append))
 
 pub returns-else-bin-before-clause-within : goal.returns-else-bin-before-clause-within
 returns-else-bin-before-clause-within c =
     let rising = rw (c.retire.ensures.kept, c.meet.ensures.met) at c.retire.ensures.rising in
-    let few = room_left c.args.before c.args.bin.now.index c.args.ring.now.reach (joined c.args.bin.now.b c.args.ring.now.entries) rising
+    let few = room_left c.args.before c.args.bin.now.index c.args.ring.now.reach (met_in c.args.bin.now.b c.args.ring.now.entries) rising
     (all_map (λ e. e.index < c.args.bin.now.index) (join c.args.bin.now.b) c.args.ring.now.entries c.requires.held.above) c.if-bin-before.false c.requires.near in
     rw (c.push.ensures.pushed, c.retire.ensures.kept, c.meet.ensures.met)
-    (omega (arith, few, length-append (filter (λ e. nat_le c.args.before e.index) (joined c.args.bin.now.b c.args.ring.now.entries)) (c.args.bin.now ∷ [])))
+    (omega (arith, few, length-append (filter (λ e. nat_le c.args.before e.index) (met_in c.args.bin.now.b c.args.ring.now.entries)) (c.args.bin.now ∷ [])))
 
 pub returns-else-bin-before-clause-sum : goal.returns-else-bin-before-clause-sum
 returns-else-bin-before-clause-sum c =
     let counted = rw c.meet.ensures.met at c.count_closed.ensures.sum in
     rw (c.push.ensures.pushed, c.retire.ensures.kept, c.meet.ensures.met)
-    (omega (arith, counted, photons_kept c.args.before (joined c.args.bin.now.b c.args.ring.now.entries), photons_joined c.args.bin.now.b c.args.ring.now.entries, sum_by_push (λ (e : Entry). e.a) c.args.ring.now.entries c.args.bin.now, sum_by_push (λ (e : Entry). e.a) (filter (λ e. nat_le c.args.before e.index) (joined c.args.bin.now.b c.args.ring.now.entries)) c.args.bin.now))
+    (omega (arith, counted, photons_kept c.args.before (met_in c.args.bin.now.b c.args.ring.now.entries), photons_met_in c.args.bin.now.b c.args.ring.now.entries, sum_by_push (λ (e : Entry). e.a) c.args.ring.now.entries c.args.bin.now, sum_by_push (λ (e : Entry). e.a) (filter (λ e. nat_le c.args.before e.index) (met_in c.args.bin.now.b c.args.ring.now.entries)) c.args.bin.now))

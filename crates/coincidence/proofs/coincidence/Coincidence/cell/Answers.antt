@@ -1,4 +1,4 @@
-use Rattle.std.{proofs.Common.{◌∙◌, sym, ap, ◌≡◌, ℕ, ◌<◌, Bool, true, false, List, [], ◌∷◌, get_or, refl, arith, rules}, specs.List.{count_by, filter}, proofs.lemmas.Bool.false≢true}
+use Rattle.std.{proofs.Common.{◌∙◌, sym, ◌≡◌, ℕ, ◌<◌, Bool, true, false, List, [], ◌∷◌, get_or, refl, arith, rules}, specs.List.{count_by, filter}, proofs.lemmas.Bool.false≢true}
 use Rattle.tally_base.{proofs.Sums.{count_none}, specs.Settings.{CoincidenceView, coincidence_cells}, specs.Tally.History}
 use Rattle.lag_ring.proofs.Sums.{sum_by-same, sum_by-filter}
 use Rattle.coincidence.{proofs.Visits.work_within, specs.declared.pairing.Pairing.Pairing, specs.Pairs.{is_coincidence, coincidences, before_last, photons_of_groups}, proofs.Before.closed_come, specs.StandsFor.StandsFor, proofs.Blockwise.{mine}, proofs.Hits.{pairs_in}, proofs.Mirror.pairs_apart-in}
@@ -25,8 +25,7 @@ cell_is false shut set p count time h is c inside = absurd (false≢true shut)
 cell_is true shut set p count time h is c inside = is.photons.cells.pairs c inside ∙ coincidences-photons set c h
 
 open_is : (closed : Bool) → closed ≡ false → (set : CoincidenceView) (p : Pairing) (count time : ℕ) (h : History) → StandsFor closed set p count time h → (c : ℕ) → c < coincidence_cells set → get_or p.cells.cells c 0 ≡ coincidences set c (before_last (photons_of_groups set h))
-open_is true shut set p count time h is c inside = absurd (false≢true (sym shut))
-open_is false shut set p count time h is c inside = is.photons.3.cells.pairs c inside ∙ ap (coincidences set c) (sym (ap before_last is.photons.2 ∙ closed_come set p.open is.photons.0 is.photons.1 is.photons.3.opened))
+open_is closed shut set p count time h is c inside = search (rules, arith, false≢true, closed_come)
 
 pub returns : goal.returns
 returns c = record {

@@ -1,18 +1,15 @@
-use Rattle.std.{proofs.Common.{◌≡◌, ◌-◌, ◌∙◌, arith, ℕ, ◌^◌, ◌<◌, ◌≤◌, Bool, true, false, ◌&&◌, cond, nat_lt, ◌==◌, List, [], ◌∷◌, length, slice_index, rules, ap}, proofs.lemmas.List.get_or_read, specs.List.count_by, proofs.lemmas.List.Sums.sum_by-le-sum_by}
+use Rattle.std.{proofs.Common.{◌≡◌, ◌-◌, ◌∙◌, arith, ℕ, ◌^◌, ◌<◌, ◌≤◌, Bool, true, false, ◌&&◌, cond, nat_lt, ◌==◌, List, length, slice_index, rules}, proofs.lemmas.List.get_or_read, proofs.lemmas.List.Sums.sum_by-le-sum_by}
 use Rattle.tally_base.{specs.Settings.{fold_view, FoldView}, specs.Tally.History}
 use Rattle.lag_ring.{specs.declared.ring.Entry.Entry, specs.Ring.Ring}
-use Rattle.fold_count.{specs.FoldCounts.{is_of_any, seen_set, in_set}, specs.Folded.{Counts, photons}, proofs.Totals.in_photons}
+use Rattle.fold_count.{specs.FoldCounts.{seen_set, in_set}, specs.Folded.{Counts, photons}, proofs.Totals.in_photons}
 use Rattle.fold_count.proofs.fold.Fold.cell.Goals as goal
-
-second : (a b : Bool) → cond (a && b) 1 0 ≤ cond b 1 0
-second a b = search (rules, arith)
 
 -- a cell is its count, and no greater while photons wait
 cell_of : (closed : Bool) (set : FoldView) (cells : List ℕ) (ring : Ring) (bin : Entry) (s : ℕ) (h : History) → s < 2 ^ length set.groups
     → Counts closed set cells ring bin (photons set h) → (closed ≡ true → slice_index cells s ≡ in_set set s h) × (slice_index cells s ≤ in_set set s h)
 cell_of true set cells ring bin s h inside is = let e = is s inside ∙ in_photons set s h in ((λ closed. e), omega (arith, e))
 cell_of false set cells ring bin s h inside is =
-    let fewer = sum_by-le-sum_by (λ x. cond (nat_lt x.0.time (bin.index - set.window) && (seen_set set (photons set h) x.0.time == s)) 1 0) (λ x. cond (seen_set set (photons set h) x.0.time == s) 1 0) (photons set h) (λ x. second (nat_lt x.0.time (bin.index - set.window)) (seen_set set (photons set h) x.0.time == s)) in
+    let fewer = sum_by-le-sum_by (λ x. cond (nat_lt x.0.time (bin.index - set.window) && (seen_set set (photons set h) x.0.time == s)) 1 0) (λ x. cond (seen_set set (photons set h) x.0.time == s) 1 0) (photons set h) (λ x. search (rules, arith)) in
     ((λ closed. cc), omega (arith, is.counted s inside, in_photons set s h, fewer))
 
 pub returns-clause-photons : goal.returns-clause-photons

@@ -1,7 +1,7 @@
-use Rattle.std.proofs.Common.{◌≡◌, ◌∙◌, ◌^◌, ℕ, [], length, replicate, refl, ap, rules, arith, slice_index}
+use Rattle.std.{proofs.Common.{◌≡◌, ◌^◌, ℕ, [], length, replicate, refl, ap, rules, arith, slice_index}, proofs.lemmas.Grind.common_steps}
 use Rattle.tally_base.specs.Settings.{fold_view}
 use Rattle.lag_ring.{specs.declared.ring.Entry.Entry, specs.Ring.Ring}
-use Rattle.fold_count.{specs.Folded.{Parted, as_met}, proofs.Pushed.{parted_empty, zeros}}
+use Rattle.fold_count.{specs.Folded.{Parted, as_met}, proofs.Pushed.parted_empty}
 use Rattle.fold_count.proofs.fold.Fold.open.Goals as goal
 
 pub returns-clause-empty : goal.returns-clause-empty
@@ -12,6 +12,6 @@ returns-clause-empty c =
     let cells = c.in_ok-cells.cells.items in
     let empty : ring.entries ≡ [] = ap (λ (r : Ring). r.entries) c.in_ok-ring.ensures.empty in
     let filled : cells ≡ replicate (2 ^ length set.groups) 0 = search (rules, arith) in
-    let nothing : (s : ℕ) → slice_index cells s ≡ 0 = λ s. ap (λ xs. slice_index xs s) filled ∙ zeros (2 ^ length set.groups) s in
+    let nothing : (s : ℕ) → slice_index cells s ≡ 0 = λ s. grind (arith, common_steps) in
     let stands : Parted set cells (as_met ring none) 0 [] = rw empty (parted_empty set cells nothing) in
     record { counts = stands; taken = refl; floor = refl }

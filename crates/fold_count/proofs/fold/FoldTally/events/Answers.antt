@@ -1,6 +1,6 @@
 use Rattle.std.proofs.Common.{rules, arith, length-append}
 use Rattle.tally_base.{proofs.BlockRows.length-rows, proofs.Floors.{greatest_block, order-lower, floor-lower}, proofs.Sums.whole_slice}
-use Rattle.fold_count.proofs.Pushed.{open_counts, counts_open}
+use Rattle.fold_count.proofs.Pushed.{open_follows}
 use Rattle.fold_count.proofs.fold.FoldTally.events.Goals as goal
 
 pub put_block-self-requires-clause-comes : goal.put_block-self-requires-clause-comes
@@ -10,4 +10,4 @@ pub invariant_of-self : goal.invariant_of-self
 invariant_of-self g c = search (rules, arith, whole_slice, floor-lower)
 
 pub returns-clause-follows : goal.returns-clause-follows
-returns-clause-follows g c = search (rules, arith, open_counts, whole_slice, counts_open, length-append, length-rows, greatest_block)
+returns-clause-follows g c = search (rules, arith, open_follows, whole_slice, length-append, length-rows, greatest_block)
