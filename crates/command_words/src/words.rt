@@ -1,7 +1,7 @@
 // The words of the command line.
 ghost use Rattle.std.{specs.Prelude.{◌≡◌, ◌≤◌, ◌-◌, ◌^◌, [], ◌∷◌, map, string_bytes, IfSome}, specs.Str.{all_ascii_digits}};
 ghost use Rattle.ptu_made.specs.Generator.{photon_limit};
-ghost use Rattle.command_words.{specs.Commands.{demo_of, number_in, pick_of, request_of}, specs.Requests.{asked_for, AsksFew}};
+ghost use Rattle.command_words.{specs.Commands.{demo_of, is_numeral, number_in, pick_of, request_of}, specs.Requests.{asked_for, AsksFew}};
 
 use ptu_made::PHOTON_LIMIT;
 
@@ -56,12 +56,19 @@ fn are_digits(text: &[u8]) -> bool
     true
 }
 
+/// Whether a word is one to twenty digits.
+fn is_number(word: &str) -> bool
+    ensures { result ≡ is_numeral word.now }
+{
+    !word.is_empty() && word.len() <= 20 && are_digits(word.as_bytes())
+}
+
 /// The number that one to twenty digits write, where it is no greater than `most`.
 fn number(word: &str, most: u64) -> Option<u64>
     ensures value { result ≡ number_in most word.now }
     ensures small { IfSome result (λ n. n ≤ most) }
 {
-    if word.is_empty() || 20 < word.len() || !are_digits(word.as_bytes()) {
+    if !is_number(word) {
         return None;
     }
     match word.parse::<u64>() {

@@ -9,7 +9,7 @@ mod data;
 mod events;
 mod print;
 
-pub use command::Printing;
 pub use counting::Counting;
 pub use counts::write_counts;
+pub use data::Printing;
 pub use events::Listing;

@@ -5,7 +5,7 @@ use Rattle.ptu_header.specs.ReadHeader.{bytes_taken, is_open}
 use Rattle.list_out.specs.HeaderText.{header_text}
 use Rattle.command_work.specs.Outcomes.{SaysNoEnd, IsCut, InputsOnce}
 use Rattle.file_work.specs.BodyPieces.{Prints}
-use Rattle.file_work.proofs.data.print_data.Given as goal
+use Rattle.file_work.proofs.data.PrintingFileWork.read.Given as goal
 
 -- the text of the bytes that were taken is written
 abbrev pub invariant-pieces : goal.invariant-pieces
