@@ -15,7 +15,7 @@ from lmfit import lineshapes
 from scipy import stats
 
 import ptulab
-from ptulab import fits, segments
+from ptulab import _fitting, fits, segments
 from ptulab.pulsed import coincidences
 from ptulab.scans import Scan, cube
 from ptulab.tables import Measurement, empty_table
@@ -42,7 +42,7 @@ def within(fit: fits.Fit, name: str, known: float, errors: float = 4) -> bool:
 def test_a_tail_tells_its_lifetime() -> None:
     counts, _ = decayed(1, [2.6], [1.0], 100_000, background=3.0)
     axis = np.arange(BINS) * WIDTH
-    fit = fits.fit_tail(counts, axis, 3.0, stop=20.0)
+    fit = fits.fit_tail(counts, axis, (3.0, 20.0))
     assert within(fit, "lifetime_1", 2.6) and fit.errors["lifetime_1"] < 0.03
     assert 0.8 < fit.reduced < 1.2 and fit.axis[0] >= 3.0 and fit.axis[-1] < 20.0
     assert fit.lmfit.params["lifetime_1"].max == pytest.approx(100 * (fit.axis[-1] - fit.axis[0]))
@@ -51,7 +51,7 @@ def test_a_tail_tells_its_lifetime() -> None:
 
 def test_two_terms_of_a_tail() -> None:
     counts, _ = decayed(2, [0.6, 4.0], [0.5, 0.5], 1_000_000)
-    fit = fits.fit_tail(counts, np.arange(BINS) * WIDTH, 2.5, stop=22.0, terms=2)
+    fit = fits.fit_tail(counts, np.arange(BINS) * WIDTH, (2.5, 22.0), terms=2)
     times = sorted(fit.values[f"lifetime_{n}"] for n in (1, 2))
     assert times == pytest.approx([0.6, 4.0], rel=0.1)
     assert fits.mean_lifetime(fit) < fits.mean_lifetime(fit, by="intensity")
@@ -68,7 +68,7 @@ def test_reconvolution_tells_lifetimes_as_short_as_the_pulse() -> None:
 
 def test_a_decay_runs_over_into_the_next_period_and_without_one_over_the_end() -> None:
     counts, pulse = decayed(4, [9.0], [1.0], 500_000)
-    held = fits.fit_reconvolution(counts, pulse, WIDTH, period=PERIOD, shift=False)
+    held = fits.fit_reconvolution(counts, pulse, WIDTH, period=PERIOD, fixed={"shift": 0.0})
     assert held.values["lifetime_1"] == pytest.approx(9.0, rel=0.02) and held.values["shift"] == 0
     counts, pulse = decayed(4, [2.0], [1.0], 500_000, pulse_at=12.0)
     cut = slice(0, 300)
@@ -116,7 +116,7 @@ def test_a_decay_much_shorter_than_a_bin() -> None:
 def test_residuals_are_those_of_the_likelihood(count: float, expected: float) -> None:
     """Also of a part of a count, as where something was taken off."""
     twice = 2 * (expected - count + (count * np.log(count / expected) if count else 0))
-    ours = float(fits.deviance(np.array([float(count)]), np.array([expected]))[0])
+    ours = float(_fitting.deviance(np.array([float(count)]), np.array([expected]))[0])
     assert ours**2 == pytest.approx(twice, rel=1e-6, abs=1e-7 * max(count, 1)) and ours * (count - expected) >= 0
 
 
@@ -195,7 +195,7 @@ def test_g2_of_reports_and_of_events(program: str, tmp_path: Path, make_file: Ca
     assert np.allclose(fits.g2((report + report).table("coincidence"))[0], values)
 
 
-CELLS = {"reach": 700, "width": 301}  # five cells, the third around 0, the last of 197 differences
+CELLS: dict[str, Any] = {"reach": 700, "width": 301}  # five cells, the third around 0, the last of 197 differences
 
 
 def uncorrelated(seed: int, ticks: int, rate: float) -> Any:
@@ -248,7 +248,7 @@ def test_g2_of_what_has_none(program: str, tmp_path: Path, make_file: Callable[.
     table = bare.table("coincidence")
     table.measurements = tuple(one._replace(photons=None) for one in table.measurements)
     for none in (table, report.table("startstop")):
-        with pytest.raises(ptulab.NotKnown):
+        with pytest.raises(ptulab.NotKnownError):
             fits.g2(none)
     with np.errstate(all="raise"):
         empty = fits.g2(coincidences(path, 3, 4, 2))
@@ -257,7 +257,7 @@ def test_g2_of_what_has_none(program: str, tmp_path: Path, make_file: Callable[.
 
 def test_lmfit_is_named_where_it_is_missing(monkeypatch: pytest.MonkeyPatch) -> None:
     monkeypatch.setitem(cast(dict[str, Any], sys.modules), "lmfit", None)
-    with pytest.raises(ptulab.Missing, match="python3-lmfit"):
+    with pytest.raises(ptulab.MissingLibraryError, match="python3-lmfit"):
         fits.fit_tail(np.arange(10, 0, -1), np.arange(10.0), 0)
 
 
@@ -268,7 +268,7 @@ def test_fits_that_find_no_end_say_so(monkeypatch: pytest.MonkeyPatch) -> None:
     endless = types.SimpleNamespace(success=False, message="too many calls")
     for minimize, said in ((lambda *words, **more: endless, "too many calls"), (failing, "nan values")):
         monkeypatch.setattr(lmfit, "minimize", minimize)
-        with pytest.raises(ptulab.FitFailed, match=said):
+        with pytest.raises(ptulab.FitError, match=said):
             fits.fit_tail(np.arange(10, 0, -1), np.arange(10.0), 0)
 
 
@@ -293,7 +293,7 @@ def test_fits_that_cannot_be() -> None:
             call()
     few: list[Callable[[], object]] = [lambda: fits.fit_fcs(axis, axis * np.nan), lambda: fits.fit_tail(np.ones(10), axis, 7, terms=3)]
     for call in few:
-        with pytest.raises(ptulab.FitFailed):
+        with pytest.raises(ptulab.FitError):
             call()
 
 
@@ -394,10 +394,10 @@ def test_deviances_are_those_of_poissons_law(power: float) -> None:
     expected = 10.0**power
     counts = np.arange(0, int(expected + 12 * np.sqrt(expected)) + 20)
     twice = 2 * (stats.poisson.logpmf(counts, np.maximum(counts, 1e-300)) - stats.poisson.logpmf(counts, expected))
-    ours = fits.deviance(counts.astype(float), np.full(len(counts), expected))
+    ours = _fitting.deviance(counts.astype(float), np.full(len(counts), expected))
     assert ours**2 == pytest.approx(twice, rel=1e-5, abs=1e-8 * max(expected, 1))
     mean = float((twice * stats.poisson.pmf(counts, expected)).sum())
-    assert fits.mean_deviance(np.array([expected]))[0] == pytest.approx(mean, rel=3e-5)
+    assert _fitting.mean_deviance(np.array([expected]))[0] == pytest.approx(mean, rel=3e-5)
 
 
 @pytest.mark.parametrize("rate", [0.05, 0.5, 3.0])
@@ -450,7 +450,7 @@ def test_a_reconvolution_is_that_of_lmfits_own_models() -> None:
     """A Gaussian convolved with an exponential, as lmfit's lineshapes have it in closed form, also where it is shifted."""
     fine = np.arange(25_000) * 0.001 + 0.0005
     pulse = lineshapes.gaussian(fine, 1.0, 2.0, 0.12).reshape(-1, 10).sum(axis=1)
-    shape = fits._Convolved(pulse, 5, 0.05, None)
+    shape = fits.Convolved(pulse, 5, 0.05, None)
     for lifetime, shift in ((0.3, 0.0), (2.6, 0.113), (9.0, -0.4)):
         known = lineshapes.expgaussian(fine, 1.0, 2.0 + shift, 0.12, 1 / lifetime).reshape(-1, 50).sum(axis=1) * 0.001
         assert shape.decay(lifetime, shift) == pytest.approx(known, abs=4e-5)
@@ -524,7 +524,7 @@ def test_a_curve_has_six_points_and_those_at_the_ends_of_its_span() -> None:
     curve = fits.fcs_model(times, 2.5, 4e-4, structure=5.0)
     fit = fits.fit_fcs(times, curve, span=(times[1], times[6]))
     assert fit.axis.tolist() == times[1:7].tolist() and fit.values["number"] == pytest.approx(2.5, rel=1e-4)
-    with pytest.raises(ptulab.FitFailed, match="5 points"):
+    with pytest.raises(ptulab.FitError, match="5 points"):
         fits.fit_fcs(times, curve, span=(times[2], times[6]))
 
 
@@ -640,7 +640,7 @@ def test_given_photons_of_a_sum(program: str, tmp_path: Path, make_file: Callabl
         assert fits.g2(table, None, 4 * table.photons[1])[0] == pytest.approx(known / 4, rel=0.02)
         with pytest.raises(ValueError, match="3 measurements for 2"):
             fits.g2(table, [1, 2, 3], [1, 2, 3])
-        with pytest.raises(ptulab.NotKnown, match="written as one report"):
+        with pytest.raises(ptulab.NotKnownError, match="written as one report"):
             fits.g2(written_again(tmp_path, one + two).table(kind), *table.photons)
 
 

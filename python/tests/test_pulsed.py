@@ -150,7 +150,7 @@ def test_nothing_to_pair(make_file: Callable[..., Path]) -> None:
     path = make_file("HydraHarp2T3", [])
     ours = coincidences(path, 0, 1, 3)
     assert ours.counts.tolist() == [0] * 7 and ours.expected().tolist() == [0] * 7 and ours.seconds is None
-    with pytest.raises(ptulab.NotKnown):
+    with pytest.raises(ptulab.NotKnownError):
         ours.central_ratio()
     none = start_stops(path, 0, 1, 1, 2)
     assert (none.counts.tolist(), none.over, none.seconds) == ([0, 0], 0, None)
@@ -202,7 +202,8 @@ def test_the_error_of_a_ratio_is_its_scatter() -> None:
     A tenth of a photon a pulse: of more the pairs scatter less than by Poisson's law.
     """
     events = [pulsed_source(seed, pulses=80_000, bright=0.1) for seed in range(300)]
-    for words in ({"reach": 10}, {"reach": 10_600, "width": 20, "period": 1000}):
+    units: list[dict[str, Any]] = [{"reach": 10}, {"reach": 10_600, "width": 20, "period": 1000}]
+    for words in units:
         ratios, errors = np.array([coincidences(one, 0, 1, **words).central_ratio() for one in events]).T
         assert np.sqrt((errors**2).mean()) == pytest.approx(ratios.std(), rel=0.1)
         assert ratios.mean() == pytest.approx(ratio_of_source(0.3, 0.1), abs=4 * ratios.std() / np.sqrt(300))
@@ -217,9 +218,9 @@ def test_whole_peaks_have_the_ratio_of_pulses(period: float) -> None:
     for width in (1, 10, 77):
         ours, same = coincidences(events, 0, 1, reach, width=width, period=period).central_ratio()
         assert ours == pytest.approx(known, abs=0.01) and same == pytest.approx(error, rel=0.05)
-    with pytest.raises(ptulab.NotKnown, match="take finer ones"):
+    with pytest.raises(ptulab.NotKnownError, match="take finer ones"):
         coincidences(events, 0, 1, reach, width=int(period / 3), period=period).central_ratio()
-    with pytest.raises(ptulab.NotKnown, match="whole peaks"):
+    with pytest.raises(ptulab.NotKnownError, match="whole peaks"):
         coincidences(events, 0, 1, int(period), period=period).central_ratio()
 
 
@@ -228,7 +229,8 @@ def test_light_of_a_laser_has_a_ratio_of_1() -> None:
     events = np.zeros(60_000, ptulab.EVENT)
     events["time"], events["number"] = np.sort(draws.integers(0, 300_000, 60_000)), draws.integers(0, 2, 60_000)
     events["dtime"] = 50 + draws.exponential(60, 60_000)
-    for words in ({"reach": 10}, {"reach": 6600, "period": 1000}, {"reach": 6600, "width": 50, "period": 1000}):
+    units: list[dict[str, Any]] = [{"reach": 10}, {"reach": 6600, "period": 1000}, {"reach": 6600, "width": 50, "period": 1000}]
+    for words in units:
         ratio, error = coincidences(events, 0, 1, **words).central_ratio()
         assert abs(ratio - 1) < 4 * error and error < 0.02
 
@@ -241,17 +243,17 @@ def test_cables_of_other_lengths() -> None:
     assert pairs.central_ratio(delay=300, neighbours=6) == pytest.approx(known, abs=0.01)
     far = coincidences(pulsed_source(5, delay=2000), 0, 1, 8)
     assert far.central_ratio()[0] > 0.95 and far.central_ratio(delay=2, neighbours=6)[0] == pytest.approx(known[0], abs=0.01)
-    with pytest.raises(ptulab.NotKnown, match="no 7 whole peaks on either side of 2"):
+    with pytest.raises(ptulab.NotKnownError, match="no 7 whole peaks on either side of 2"):
         far.central_ratio(delay=2, neighbours=7)
 
 
 def test_cells_with_a_last_narrow_one() -> None:
     """A flat source in cells of which the last is narrow has a ratio of 1, or none, and never one by the number of cells."""
     flat = Coincidences(np.array([30, 30, 30, 30, 30, 30, 30, 10]), 11, 3, 9, 9, 100)
-    with pytest.raises(ptulab.NotKnown, match="take finer ones"):
+    with pytest.raises(ptulab.NotKnownError, match="take finer ones"):
         flat.central_ratio()
     tick = Coincidences(np.full(23, 10), 11, 1, 9, 9, 100, period=None)
-    with pytest.raises(ptulab.NotKnown, match="period isn't known"):
+    with pytest.raises(ptulab.NotKnownError, match="period isn't known"):
         tick.central_ratio()
     assert tick.central_ratio(period=7.5)[0] == pytest.approx(1)
     wide = Coincidences(np.append(np.full(50, 3), 1), 75, 3, 9, 9, 1000, period=None)
@@ -262,18 +264,18 @@ def test_two_ticks_of_a_t2_file_have_no_pulses(make_file: Callable[..., Path]) -
     path = make_file("HydraHarp2T2", [(1, 1), (8, 2), (18, 2), (27, 1), (38, 2)], tick=1e-9)
     pairs = coincidences(path, 1, 2, 35)
     assert pairs.period is None and coincidences(make_file("HydraHarp2T3", []), 1, 2, 35).period == 1
-    with pytest.raises(ptulab.NotKnown, match="period"):
+    with pytest.raises(ptulab.NotKnownError, match="period"):
         pairs.central_ratio()
     assert pairs.central_ratio(period=10.0)[0] == pytest.approx(0)
     for bad in (0, -1, float("nan"), float("inf")):
-        with pytest.raises(ptulab.NotKnown):
+        with pytest.raises(ptulab.NotKnownError):
             pairs.central_ratio(period=bad)
 
 
 def test_a_source_that_blinks_wants_near_neighbours() -> None:
     events = pulsed_source(6, blinks=20)
     for pairs in (coincidences(events, 0, 1, 100), coincidences(events, 0, 1, 100_500, width=100, period=1000)):
-        with pytest.raises(ptulab.NotKnown, match="blinks"):
+        with pytest.raises(ptulab.NotKnownError, match="blinks"):
             pairs.central_ratio()
         assert pairs.central_ratio(neighbours=1)[0] == pytest.approx(ratio_of_source(0.3, 0.1) / np.exp(-2 / 20), abs=0.04)
 

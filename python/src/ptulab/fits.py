@@ -7,29 +7,38 @@ of none, count as they should.
 Errors are of one standard deviation, by the inverse of Fisher's information at the best fit: the sum over the points of
 the products of the model's derivatives over the variance of the point, which is m of Poisson counts (Cowan, Statistical
 Data Analysis, Oxford 1998, chapter 6). A parameter that ended on its bound, as a background of 0, is held for that.
+
+Every fit is steered in one way: ``fixed={name: value}`` holds parameters, ``start={name: value}`` says where they begin, and
+``bounds={name: (least, most)}`` between what they are; one that is held by default is free where ``start`` or ``bounds`` names
+it. ``fit_together`` shares parameters between fits.
 """
 
 import math
-from collections.abc import Callable, Mapping
-from dataclasses import dataclass, field, replace
+from collections.abc import Mapping
 from typing import Any, Literal
 
 import numpy as np
 from numpy.typing import NDArray
 
-from .errors import FitFailed
+from .errors import FitError
+from ._fitting import (
+    Bounds, Fit, Numbers, Problem, Values, errors_of_cells, fit_model, fit_together, normal, parts_of, poisson, solved, steered
+)
 from ._optional import want
 from .pulsed import Coincidences
 from .tables import Given, Table, measured, weighted_sums
-from ._values import Compared
 
 __all__ = [
     "Fit",
     "fcs_model",
     "fit_fcs",
+    "fit_g2",
+    "fit_model",
     "fit_reconvolution",
     "fit_tail",
+    "fit_together",
     "g2",
+    "g2_model",
     "lifetimes_of_phasor",
     "mean_delays",
     "mean_lifetime",
@@ -37,138 +46,6 @@ __all__ = [
     "phasor_of_lifetime",
     "phasor_reference",
 ]
-
-Numbers = NDArray[np.float64]
-NEAR = 4  # neighbours on either side with which the scatter of segments at a delay is taken together
-LEAST = 3  # segments
-NO_NEARER = (6, 7, 8)  # of MINPACK's lmdif: the best fit is told as closely as numbers can tell it
-
-
-@dataclass(frozen=True, eq=False)
-class Fit(Compared):
-    """What a fit found.
-
-    - ``values`` and ``errors``: of each parameter by its name, in the unit of the axis that was given; an error is nan
-      where the fit doesn't tell it, of a parameter that was held, and of one that ended on its bound.
-    - ``axis``, ``data``, ``curve``: shape (points,), what was fitted where, and the best fit there.
-    - ``residuals``: shape (points,), in standard deviations, of counts the roots of their deviances; ``reduced``: the sum
-      of their squares over what it is in the mean if the model is right, so about 1 for a good fit, also where bins have
-      few counts. nan where no more is left to expect than there are parameters.
-    - ``lmfit``: lmfit's own result. Its errors are by the curvature of the residuals, and differ for few counts.
-    """
-
-    values: Mapping[str, float]
-    errors: Mapping[str, float]
-    axis: Numbers
-    data: Numbers
-    curve: Numbers
-    residuals: Numbers
-    reduced: float
-    lmfit: Any = field(repr=False, compare=False)
-
-
-@dataclass(frozen=True)
-class _Law:
-    """How data scatter around a curve: residuals in standard deviations, the variance of each point, and the square of a
-    residual in the mean."""
-
-    residuals: Callable[[Numbers], Numbers]
-    variances: Callable[[Numbers], Numbers]
-    squares: Callable[[Numbers], Numbers]
-
-
-def _poisson(counts: Numbers) -> _Law:
-    return _Law(lambda curve: deviance(counts, curve), lambda curve: np.maximum(curve, 1e-12), mean_deviance)
-
-
-def _normal(values: Numbers, errors: Numbers) -> _Law:
-    return _Law(lambda curve: np.asarray((values - curve) / errors), lambda curve: errors**2, np.ones_like)
-
-
-Model = Callable[[Mapping[str, float]], Numbers]
-
-
-def _fit(axis: Numbers, data: Numbers, model: Model, law: _Law, begin: Any) -> Fit:
-    """The fit of a model with parameters that begin so, by least squares of residuals in standard deviations."""
-    lmfit = want("lmfit", "fits")
-    free = sum(one.vary for one in begin.values())
-    if len(data) <= free:
-        raise FitFailed(f"{len(data)} points for {free} parameters")
-    try:
-        result = lmfit.minimize(lambda now: law.residuals(model(now.valuesdict())), begin, scale_covar=False)
-    except ValueError as error:
-        raise FitFailed(f"the fit failed: {error}") from error
-    if not result.success and getattr(result, "ier", 0) not in NO_NEARER:
-        raise FitFailed(f"the fit found no end: {result.message}")
-    values = {name: float(one.value) for name, one in result.params.items()}
-    curve = model(values)
-    left = law.residuals(curve)
-    expected = float(law.squares(curve).sum()) - free
-    reduced = float((left**2).sum()) / expected if expected > 0 else float("nan")
-    return Fit(values, _errors(model, law, result.params), axis, data, curve, left, reduced, result)
-
-
-def _errors(model: Model, law: _Law, parameters: Any) -> dict[str, float]:
-    """The standard deviation of each parameter that is free, by Fisher's information."""
-    errors = dict.fromkeys(parameters, float("nan"))
-    free, columns, sizes = _slopes(model, law, parameters)
-    if free:
-        try:
-            variances = np.diagonal(np.linalg.inv(columns @ columns.T)) / sizes**2
-        except np.linalg.LinAlgError:
-            return errors
-        errors |= {name: math.sqrt(one) if one > 0 else float("nan") for name, one in zip(free, variances, strict=True)}
-    return errors
-
-
-def _slopes(model: Model, law: _Law, parameters: Any) -> tuple[list[str], Numbers, Numbers]:
-    """The parameters that are free and not on their bound, the model's derivative by each in standard deviations of the
-    points and over its norm, shape (parameters, points), and these norms."""
-    values = {name: float(one.value) for name, one in parameters.items()}
-    scale = np.sqrt(law.variances(model(values)))
-    slopes = {name: _slope(model, values, name, one.brute_step) / scale for name, one in parameters.items() if one.vary}
-    sizes = {name: float(np.linalg.norm(slope)) for name, slope in slopes.items()}
-    free = [name for name, size in sizes.items() if not _on_bound(parameters[name], size)]
-    columns = [slopes[name] / sizes[name] for name in free]
-    return free, np.reshape(columns, (len(free), len(scale))), np.array([sizes[name] for name in free])
-
-
-def _slope(model: Model, values: Mapping[str, float], name: str, least: float | None) -> Numbers:
-    """The derivative of a model by one parameter, by a step of a ten-thousandth of it or of the size that matters."""
-    step = 1e-4 * (max(abs(values[name]), least or 0.0) or 1.0)
-    above, below = (model({**values, name: values[name] + one}) for one in (step, -step))
-    return (above - below) / (2 * step)
-
-
-def _on_bound(parameter: Any, slope: float) -> bool:
-    """Whether a parameter is as good as on its bound: nearer than a tenth of the error that it would have alone."""
-    return not slope * min(parameter.value - parameter.min, parameter.max - parameter.value) > 0.1
-
-
-def deviance(counts: Numbers, expected: Numbers) -> Numbers:
-    """The root of 2 (m - n + n ln(n / m)), with the sign of n - m, of n ``counts`` where m are ``expected``."""
-    likely = np.maximum(expected, 1e-12)
-    some = np.where(counts > 0, counts, 1.0)
-    x = np.where(counts > 0, likely, 1.0) / some - 1
-    y = np.clip(x, -0.01, 0.01)
-    near = -y * np.sqrt(some * (1 - y * (2 / 3 - y * (1 / 2 - y * 2 / 5))))  # where the logarithm would lose digits
-    far = -np.sign(x) * np.sqrt(2 * some * np.maximum(x - np.log1p(x), 0.0))
-    return np.asarray(np.where(counts > 0, np.where(np.abs(x) < 0.01, near, far), -np.sqrt(2 * likely)))
-
-
-def mean_deviance(expected: Numbers) -> Numbers:
-    """The mean of 2 (m - n + n ln(n / m)) over the counts n of Poisson's law where m are ``expected``: shape of it.
-
-    Far below 1 for a few counts in ten bins, at most 1.16 about 1.5 counts, and 1 + 1 / (6 m) + .. for many (McCullagh and
-    Nelder, Generalized Linear Models, 1989, chapter 2).
-    """
-    likely = np.maximum(expected, 1e-12)
-    few = np.minimum(likely, 30.0)
-    chance, mean = np.exp(-few), np.zeros_like(few)
-    for n in range(1, 120):
-        chance = chance * few / n
-        mean += 2 * chance * n * (math.log(n) - np.log(few))
-    return np.asarray(np.where(likely < 30, mean, 1 + 1 / (6 * likely) + 1 / (6 * likely**2)))
 
 
 def _names(terms: int) -> list[tuple[str, str]]:
@@ -194,31 +71,52 @@ def _good_counts(counts: Numbers, beside: Numbers) -> None:
 
 
 def fit_tail(
-    counts: NDArray[Any], axis: NDArray[Any], start: float, *, stop: float | None = None, terms: int = 1
+    counts: NDArray[Any],
+    axis: NDArray[Any],
+    span: float | tuple[float, float],
+    *,
+    terms: int = 1,
+    background: NDArray[Any] | None = None,
+    fixed: Values = None,
+    start: Values = None,
+    bounds: Bounds = None,
 ) -> Fit:
-    """A fit of a decay's tail: the sum of amplitude_n * exp(-(t - start) / lifetime_n), and a background.
+    """A fit of a decay's tail: the sum of amplitude_n * exp(-(t - t0) / lifetime_n), and a background.
 
     ``counts``: shape (bins,), a histogram; ``axis``: shape (bins,), where its bins begin, evenly spaced, in seconds or
-    ticks. The bins from ``start`` on and before ``stop`` are fitted; the pulse must be over by ``start``. Amplitudes and
-    ``background`` are counts a bin, lifetimes in the unit of the axis. Raises ``FitFailed`` and ``ValueError`` where
-    there are no such bins, or they have no counts, or one is less than 0.
+    ticks. ``span``: t0, from which on bins are fitted, or t0 and the time before which they are; the pulse must be over by
+    t0. Amplitudes and ``background`` are counts a bin, lifetimes in the unit of the axis. ``background``: shape (bins,), one
+    that was measured, of any height: its mean is taken as 1. Raises ``FitError`` and ``ValueError`` where there are no such
+    bins, or they have no counts, or one is less than 0.
     """
     axis, counts = np.asarray(axis, dtype=np.float64), np.asarray(counts, dtype=np.float64)
     _good_counts(counts, axis)
-    inside = (axis >= start) & (axis < (np.inf if stop is None else stop))
-    times, tail = axis[inside] - start, counts[inside]
+    first, last = span if isinstance(span, tuple) else (span, np.inf)
+    inside = (axis >= first) & (axis < last)
+    times, tail, level = axis[inside], counts[inside], _level(background, axis)[inside]
     if len(times) < 3 or not tail.sum() > 0:
         raise ValueError(f"a tail of {len(times)} bins and {tail.sum():g} counts")
-    names, span = _names(terms), float(times[-1] - times[0])
+    names, length, since = _names(terms), float(times[-1] - times[0]), times - first
     least = float(np.median(tail[-max(len(tail) // 10, 1) :]))
-    mean = float((times * tail).sum() / tail.sum())
-    begin = _begin_decay(terms, max(float(tail.max()) - least, 1.0), max(mean, span / 1000), 100 * span, max(least, 0.1))
+    mean = float((since * tail).sum() / tail.sum())
+    begin = _begin_decay(terms, max(float(tail.max()) - least, 1.0), max(mean, length / 1000), 100 * length, max(least, 0.1))
 
-    def model(now: Mapping[str, float]) -> Numbers:
-        decays = [now[size] * np.exp(-times / now[time]) for size, time in names]
-        return np.asarray(now["background"] + sum(decays))
+    def model(at: Numbers, now: Mapping[str, float]) -> Numbers:
+        decays = [now[size] * np.exp(-(at - first) / now[time]) for size, time in names]
+        return np.asarray(now["background"] * np.interp(at, times, level) + sum(decays))
 
-    return _fit(axis[inside], tail, model, _poisson(tail), begin)
+    return solved(Problem(times, tail, model, poisson(tail), steered(begin, fixed, start, bounds)))
+
+
+def _level(background: NDArray[Any] | None, beside: Numbers) -> Numbers:
+    """What a background of 1 count a bin has in each: that of a measured one, or the same in all."""
+    if background is None:
+        return np.ones(len(beside))
+    level = np.asarray(background, dtype=np.float64)
+    _good_counts(level, beside)
+    if not level.sum() > 0:
+        raise ValueError("a measured background without counts")
+    return level / float(level.mean())
 
 
 def decay_of_bins(delays: Numbers, lifetime: float, width: float, period: float | None = None) -> Numbers:
@@ -245,14 +143,26 @@ def _of_one_pulse(delays: Numbers, lifetime: float, width: float) -> Numbers:
 
 
 def fit_reconvolution(
-    counts: NDArray[Any], pulse: NDArray[Any], width: float, *, period: float | None = None, terms: int = 1, shift: bool = True
+    counts: NDArray[Any],
+    pulse: NDArray[Any],
+    width: float,
+    *,
+    period: float | None = None,
+    terms: int = 1,
+    scatter: bool = False,
+    background: NDArray[Any] | None = None,
+    span: tuple[float, float] = (-math.inf, math.inf),
+    fixed: Values = None,
+    start: Values = None,
+    bounds: Bounds = None,
 ) -> Fit:
     """A fit of a whole decay with the measured pulse: the pulse, shifted, convolved with a sum of decays.
 
     ``counts``: shape (bins,), a histogram of the sample, with equal bins of ``width``, in seconds or ticks; ``pulse``: that of
     the instrument's response, shape (bins,), or (bins * n,) where its bins are n times finer. Its background must have
     been taken off. ``period``: of the excitation, in the same unit, where its decay runs over into the next. It need be no
-    whole number of bins: the last bin then has what comes before the period ends.
+    whole number of bins: the last bin then has what comes before the period ends. ``span``: from when on and before when
+    bins are fitted, by where they begin; the decay is that of the whole pulse all the same.
 
     All is integrated over the bins, with each place in a bin of the pulse as likely. So bins of the pulse must be
     narrower than the pulse, at most its standard deviation, or a sixteenth of the lifetime. Wider ones make the pulse
@@ -260,8 +170,9 @@ def fit_reconvolution(
     lifetime), which ``reduced`` shows. Where the decay has such bins, as in a cube, give the pulse in finer ones.
 
     ``amplitude_n`` are photons, ``lifetime_n`` and ``shift`` are in the unit of ``width`` (any part of a bin), ``background`` is
-    counts a bin. Raises ``FitFailed`` and ``ValueError`` where the shapes don't go together, there are no counts, or one is
-    less than 0, or the last bin begins behind the period.
+    counts a bin, and with ``scatter`` there are photons of that name, of scattered light, which come with the shifted pulse. ``background``: shape (bins,), one that was measured, of any height: its mean is taken as 1. Raises ``FitError`` and
+    ``ValueError`` where the shapes don't go together, there are no counts, or one is less than 0, or the last bin begins
+    behind the period.
     """
     counts, pulse = np.asarray(counts, dtype=np.float64), np.asarray(pulse, dtype=np.float64)
     bins = len(counts) if counts.ndim == 1 and pulse.size and pulse.size % max(counts.size, 1) == 0 else 0
@@ -272,20 +183,25 @@ def fit_reconvolution(
         raise ValueError("a decay and a pulse need counts, in as many bins")
     if period is not None and not (bins - 1) * width < period:
         raise ValueError(f"{bins} bins of {width} are longer than a period of {period}: leave out those behind it")
-    names, axis, times = _names(terms), np.arange(bins) * width, np.arange(bins * finer) * (width / finer)
+    axis, times = np.arange(bins) * width, np.arange(bins * finer) * (width / finer)
     mean = max(float((axis * counts).sum() / counts.sum() - (times * pulse).sum() / pulse.sum()), width)
     begin = _begin_decay(terms, float(counts.sum()), mean, 100 * bins * width, max(float(counts.min()), 0.1))
-    begin.add("shift", value=0.0, min=-bins * width / 4, max=bins * width / 4, vary=shift, brute_step=width)
-    shape = _Convolved(pulse, finer, width, period)
+    begin.add("shift", value=0.0, min=-bins * width / 4, max=bins * width / 4, brute_step=width)
+    if scatter:
+        begin.add("scatter", value=0.01 * float(counts.sum()), min=0, brute_step=float(counts.sum()) / 100)
+    shape, inside = Convolved(pulse, finer, width, period), (axis >= span[0]) & (axis < span[1])
+    level = shape.parts if background is None else _level(background, axis)
 
-    def model(now: Mapping[str, float]) -> Numbers:
-        decay = sum((now[size] * shape.decay(now[time], now["shift"]) for size, time in names), np.zeros(bins))
-        return np.asarray(now["background"] * shape.parts + decay)
+    def model(_: Numbers, now: Mapping[str, float]) -> Numbers:
+        terms_of = [now[size] * shape.decay(now[time], now["shift"]) for size, time in _names(terms)]
+        if now.get("scatter"):
+            terms_of.append(now["scatter"] * shape.decay(1e-3 * shape.width, now["shift"]))
+        return np.asarray(now["background"] * level + sum(terms_of, np.zeros(bins)))[inside]
 
-    return _fit(axis, counts, model, _poisson(counts), begin)
+    return solved(Problem(axis[inside], counts[inside], model, poisson(counts[inside]), steered(begin, fixed, start, bounds)))
 
 
-class _Convolved:
+class Convolved:
     """A pulse, with its bins, to be convolved with decays."""
 
     def __init__(self, pulse: Numbers, finer: int, width: float, period: float | None) -> None:
@@ -322,19 +238,29 @@ def mean_lifetime(fit: Fit, *, by: Literal["amplitude", "intensity"] = "amplitud
 
 
 def mean_delays(
-    counts: NDArray[Any], axis: NDArray[Any], *, offset: float = 0.0, threshold: int = 1, width: float | None = None
+    counts: NDArray[Any],
+    axis: NDArray[Any],
+    *,
+    offset: float = 0.0,
+    threshold: int = 1,
+    width: float | None = None,
+    background: NDArray[Any] | float = 0.0,
 ) -> Numbers:
     """The mean delay of the photons of each pixel: a fast picture of lifetimes. Shape of ``counts`` without its last axis.
 
     ``counts``: shape (.., bins), as of a cube or a histogram; ``axis``: shape (bins,), where bins begin, evenly spaced,
     in seconds or ticks. A photon counts in the middle of its bin. ``offset``, in the same unit, is when the pulse comes,
     and is taken off; ``threshold``: with fewer photons a pixel is nan. ``width``: of a bin, where the axis has only one,
-    which doesn't tell it; ``ValueError`` without it. In seconds the middle of a bin is half a tick later than that of
+    which doesn't tell it; ``ValueError`` without it. ``background``: counts that are expected of it in each bin, a number, or
+    an array that goes with ``counts``, as (bins,); it is taken off photons and delays. In seconds the middle of a bin is half a tick later than that of
     ``mean_delays`` of a table, which counts whole ticks.
     """
     photons = counts.sum(axis=-1).astype(np.float64)
     middles = axis + _width(axis, width) / 2 - offset
     moments = weighted_sums(counts, middles)
+    if np.any(background):
+        dark = np.broadcast_to(np.asarray(background, dtype=np.float64), counts.shape)
+        photons, moments = photons - dark.sum(axis=-1), moments - dark @ middles
     means = np.full(np.shape(photons), np.nan)
     np.divide(moments, photons, out=means, where=photons >= max(threshold, 1))
     return means
@@ -429,20 +355,37 @@ def fcs_model(
     triplet: float = 0.0,
     triplet_time: float = 1.0,
     baseline: float = 1.0,
+    anomaly: float = 1.0,
+    flow_rate: float = 0.0,
+    part_2: float = 0.0,
+    diffusion_2: float = 1.0,
 ) -> Numbers:
     """A correlation of diffusing molecules: shape of ``delays``.
 
-    baseline + 1 / number * (1 + triplet / (1 - triplet) * exp(-t / triplet_time)) / (1 + t / diffusion), in two
-    dimensions; in three, with ``structure``, the ratio of the long to the short radius of the volume, also over
-    sqrt(1 + t / (structure^2 * diffusion)). ``number``: molecules in the volume; ``diffusion`` and ``triplet_time``: in the
-    unit of ``delays``; ``triplet``: the part of molecules in the triplet state. After Magde, Elson and Webb (Biopolymers
-    13, 29, 1974) and Widengren, Mets and Rigler (Journal of Physical Chemistry 99, 13368, 1995).
+    baseline + 1 / number * (1 + triplet / (1 - triplet) * exp(-t / triplet_time)) * ((1 - part_2) * M(diffusion) + part_2 *
+    M(diffusion_2)), where with x = (t / diffusion)^anomaly
+
+        M = exp(-(t * flow_rate)^2 / (1 + x)) / (1 + x),
+
+    in two dimensions; in three, with ``structure``, the ratio of the long to the short radius of the volume, also over
+    sqrt(1 + x / structure^2). ``number``: molecules in the volume; ``diffusion`` and ``triplet_time``: in the unit of ``delays``;
+    ``flow_rate``: the speed across the volume over its short radius; ``triplet``: the part of molecules in the triplet state;
+    ``anomaly``: below 1 of subdiffusion; ``part_2``: the part of the amplitude that is of a second species, which is that of
+    its molecules where both are as bright.
+
+    After Magde, Elson and Webb (Biopolymers 13, 29, 1974; with flow, 17, 361, 1978), Widengren, Mets and Rigler (Journal of
+    Physical Chemistry 99, 13368, 1995) and, of two species and of anomalous diffusion, Schwille, Korlach and Webb
+    (Cytometry 36, 176, 1999).
     """
-    shape = 1 / (1 + delays / diffusion)
-    if structure is not None:
-        shape = shape / np.sqrt(1 + delays / (structure**2 * diffusion))
+
+    def motion(time: float) -> Numbers:
+        x = (delays / time) ** anomaly
+        shape = np.exp(-np.square(delays * flow_rate) / (1 + x)) / (1 + x)
+        return np.asarray(shape if structure is None else shape / np.sqrt(1 + x / structure**2))
+
+    both = (1 - part_2) * motion(diffusion) + (part_2 * motion(diffusion_2) if part_2 else 0.0)
     dark = 1 + triplet / (1 - triplet) * np.exp(-delays / triplet_time)
-    return np.asarray(baseline + dark * shape / number)
+    return np.asarray(baseline + dark * both / number)
 
 
 def fit_fcs(
@@ -452,9 +395,12 @@ def fit_fcs(
     *,
     segments: NDArray[Any] | None = None,
     dimensions: Literal[2, 3] = 3,
-    structure: float = 5.0,
+    species: Literal[1, 2] = 1,
     triplet: bool = False,
     span: tuple[float, float] = (0.0, np.inf),
+    fixed: Values = None,
+    start: Values = None,
+    bounds: Bounds = None,
 ) -> Fit:
     """A fit of a normalised correlation by ``fcs_model``.
 
@@ -466,94 +412,186 @@ def fit_fcs(
     errors of parameters that are a quarter too small. Without both all points count alike, and the errors of parameters are scaled by the scatter.
 
     Points that are nan, without an error, at no delay or outside of ``span`` are left out, and segments without a value.
-    Parameters: ``number``, ``diffusion``, ``baseline``, with ``triplet`` also ``triplet`` and ``triplet_time``;
-    ``structure`` is held. Raises ``FitFailed``, and ``ValueError`` for other dimensions, fewer than three segments, and
+    Parameters: ``number``, ``diffusion``, ``baseline``, with ``triplet`` also ``triplet`` and ``triplet_time``, with two
+    ``species`` also ``part_2`` and ``diffusion_2``, the longer time. ``structure`` is held at 5, and ``anomaly``, at 1, and
+    ``flow_rate``, at 0, are there where they are named: ``start={"anomaly": 0.8}`` frees one. Another model is fitted by ``fit_model``. Raises ``FitError``, and ``ValueError`` for other dimensions, fewer than three segments, and
     ``segments`` beside ``errors``.
     """
-    if dimensions not in (2, 3):
-        raise ValueError(f"a model of {dimensions} dimensions")
+    if dimensions not in (2, 3) or species not in (1, 2):
+        raise ValueError(f"a model of {dimensions} dimensions and {species} species")
+    if segments is not None and errors is not None:
+        raise ValueError("segments beside errors")
     delays, values = np.asarray(delays, dtype=np.float64), np.asarray(values, dtype=np.float64)
-    parts = None if segments is None else _parts(segments, errors)
-    scale = _errors_of_cells(values, errors, parts)
+    parts = None if segments is None else parts_of(segments)
+    scale = errors_of_cells(values, errors, parts)
     kept = np.isfinite(values) & np.isfinite(scale) & (scale > 0) & (delays > 0) & (delays >= span[0]) & (delays <= span[1])
     times, curve, scale = delays[kept], values[kept], scale[kept]
     if len(times) < 6:
-        raise FitFailed(f"a curve of {len(times)} points with errors")
-    fixed = structure if dimensions == 3 else None
-    begin, law = _begin_fcs(times, curve, scale, fixed, triplet), _normal(curve, scale)
+        raise FitError(f"a curve of {len(times)} points with errors")
+    structure = {**(fixed or {}), **(start or {})}.get("structure", 5.0) if dimensions == 3 else None
+    more = {"anomaly": {"value": 1.0, "min": 0.1, "max": 2.0}, "flow_rate": {"value": 0.0, "brute_step": 1 / float(times[-1])}}
+    begin = steered(_begin_fcs(times, curve, scale, structure, triplet, species), fixed, start, bounds, more)
 
-    def model(now: Mapping[str, float]) -> Numbers:
-        return fcs_model(times, structure=fixed, **now)
+    def model(at: Numbers, now: Mapping[str, float]) -> Numbers:
+        return fcs_model(at, **now)
 
-    fit = _fit(times, curve, model, law, begin)
-    if parts is not None:
-        return replace(fit, errors=_errors_of_segments(model, law, fit.lmfit.params, parts[:, kept]))
-    return fit if errors is not None else _scaled(fit)
-
-
-def _parts(segments: NDArray[Any], errors: Any) -> Numbers:
-    """The curves of segments that have a value."""
-    parts = np.asarray(segments, dtype=np.float64)
-    parts = parts[np.isfinite(parts).any(axis=1)]
-    if errors is not None or len(parts) < LEAST:
-        raise ValueError(f"{len(parts)} segments beside errors" if errors is not None else f"errors by {len(parts)} segments")
-    return parts
+    kept_parts = None if parts is None else parts[:, kept]
+    return solved(Problem(times, curve, model, normal(curve, scale), begin, kept_parts, parts is None and errors is None))
 
 
-def _errors_of_cells(values: Numbers, errors: NDArray[Any] | None, parts: Numbers | None) -> Numbers:
-    """How points count: by what is given, by the scatter of segments with that of their neighbours, or alike."""
-    if parts is None:
-        return np.ones(len(values)) if errors is None else np.asarray(errors, dtype=np.float64)
-    squares = parts.var(axis=0, ddof=1) / len(parts)
-    known = np.isfinite(squares)
-    near = np.ones(min(2 * NEAR + 1, len(squares)))
-    sums, cells = (np.convolve(one, near, "same") for one in (np.where(known, squares, 0.0), known))
-    return np.asarray(np.where(known, np.sqrt(sums / np.maximum(cells, 1.0)), np.nan))
-
-
-def _errors_of_segments(model: Model, law: _Law, parameters: Any, parts: Numbers) -> dict[str, float]:
-    """The standard error of each parameter that is free, by what each segment's own curve moves it."""
-    free, columns, sizes = _slopes(model, law, parameters)
-    away = (parts - parts.mean(axis=0)) / np.sqrt(law.variances(parts[0]))
-    moved = np.linalg.lstsq(columns.T, away.T, rcond=None)[0] / sizes[:, None]
-    errors = np.sqrt((moved**2).sum(axis=1) / (len(parts) * (len(parts) - 1)))
-    return dict.fromkeys(parameters, float("nan")) | dict(zip(free, errors.tolist(), strict=True))
-
-
-def _begin_fcs(times: Numbers, curve: Numbers, scale: Numbers, structure: float | None, triplet: bool) -> Any:
+def _begin_fcs(
+    times: Numbers, curve: Numbers, scale: Numbers, structure: float | None, triplet: bool, species: int = 1
+) -> Any:
     """Where a fit of a correlation begins: at the best of a grid of times, over which the other parameters are linear."""
-    grid = np.geomspace(times[0], times[-1], 24)
-    tries = [(diffusion, dark) for diffusion in grid for dark in (grid[grid < diffusion / 3] if triplet else grid[:1])]
-    found = [_linear_fcs(times, curve, scale, structure, diffusion, dark if triplet else None) for diffusion, dark in tries]
+    grid = np.geomspace(times[0], times[-1], 24 if not triplet or species == 1 else 12)
+    tries = [
+        (diffusion, dark, slow)
+        for diffusion in grid
+        for dark in (grid[grid < diffusion / 3] if triplet else grid[:1])
+        for slow in (grid[grid > diffusion * 3] if species == 2 else grid[:1])
+    ]
+    found = [_linear_fcs(times, curve, scale, structure, (one[0], one[1] if triplet else None, one[2] if species == 2 else None)) for one in tries]
     best = min(range(len(tries)), key=lambda at: found[at][0])
-    (diffusion, dark), (baseline, height, *more) = tries[best], found[best][1]
+    (diffusion, dark, slow), (baseline, height, *more) = tries[best], found[best][1]
+    second = more[0] if species == 2 else 0.0
     begin = want("lmfit", "fits").Parameters()
-    begin.add("number", value=1 / max(height, 1e-6), min=1e-9)
+    begin.add("number", value=1 / max(height + second, 1e-6), min=1e-9)
     begin.add("diffusion", value=diffusion, min=float(times[0]) / 100, max=float(times[-1]) * 100)
     begin.add("baseline", value=baseline)
     if triplet:
-        begin.add("triplet", value=min(max(more[0] / (height + more[0]), 0.05), 0.9), min=0, max=0.95, brute_step=0.01)
+        part = more[-1] / (height + second + more[-1])
+        begin.add("triplet", value=min(max(part, 0.05), 0.9), min=0, max=0.95, brute_step=0.01)
         begin.add("triplet_time", value=dark, min=float(times[0]) / 100, max=float(times[-1]))
+    if species == 2:
+        begin.add("part_2", value=min(max(second / (height + second), 0.05), 0.95), min=0, max=1, brute_step=0.01)
+        begin.add("diffusion_2", value=slow, min=float(times[0]) / 100, max=float(times[-1]) * 100)
+    if structure is not None:
+        begin.add("structure", value=structure, min=0.5, max=100, vary=False)
     return begin
 
 
 def _linear_fcs(
-    times: Numbers, curve: Numbers, scale: Numbers, structure: float | None, diffusion: float, dark: float | None
+    times: Numbers, curve: Numbers, scale: Numbers, structure: float | None, tried: tuple[float, float | None, float | None]
 ) -> tuple[float, Numbers]:
-    """The least squares of a correlation with these times, and its baseline, its height and what a triplet adds to it."""
-    shape = fcs_model(times, 1.0, diffusion, structure=structure, baseline=0.0)
-    columns = [np.ones(len(times)), shape, *([] if dark is None else [shape * np.exp(-times / dark)])]
+    """The least squares of a correlation with these times, and its baseline, its height, that of a second species and what a
+    triplet adds to it."""
+    diffusion, dark, slow = tried
+    shapes = [fcs_model(times, 1.0, one, structure=structure, baseline=0.0) for one in (diffusion, slow) if one is not None]
+    columns = [np.ones(len(times)), *shapes, *([] if dark is None else [sum(shapes) * np.exp(-times / dark)])]
     scaled = np.stack(columns, axis=1) / scale[:, None]
     heights = np.linalg.lstsq(scaled, curve / scale, rcond=None)[0]
     squares = float(((scaled @ heights - curve / scale) ** 2).sum())
     return (squares if np.all(heights[1:] > 0) else math.inf), heights
 
 
-def _scaled(fit: Fit) -> Fit:
-    """The same fit with errors by the scatter of the points, which had none."""
-    scatter = float(np.sqrt(fit.reduced))
-    errors = {name: error * scatter for name, error in fit.errors.items()}
-    return replace(fit, errors=errors, residuals=fit.residuals / scatter, reduced=1.0)
+def g2_model(
+    differences: Numbers,
+    depth: float,
+    lifetime: float,
+    *,
+    centre: float = 0.0,
+    baseline: float = 1.0,
+    bunching: float = 0.0,
+    bunching_time: float = 1.0,
+    signal: float = 1.0,
+    jitter: float = 0.0,
+    width: float = 0.0,
+) -> Numbers:
+    """Antibunched light with bunching: shape of ``differences``.
+
+    baseline * (1 - depth * signal^2 * ((1 + bunching) * e(lifetime) - bunching * e(bunching_time))) with e(c) = exp(-|t -
+    centre| / c), so that g2 is 1 - depth at the ``centre`` where there is no background: 1 / depth emitters that are alike
+    (Kurtsiefer, Mayer, Zarda and Weinfurter, Physical Review Letters 85, 290, 2000). ``signal``: the part of photons that
+    are no background. ``jitter``: the standard deviation of a difference of times by the detectors, as of a normal law that e
+    is convolved with; ``width``: of a cell of which each place is as likely, over which e is integrated. Times are in the
+    unit of ``differences``.
+    """
+    at = differences - centre
+
+    def dip(time: float) -> Numbers:
+        wide = width or 1e-4 * time
+        return np.asarray((_under_dip(at + wide / 2, time, jitter) - _under_dip(at - wide / 2, time, jitter)) / wide)
+
+    dips = (1 + bunching) * dip(lifetime) - (bunching * dip(bunching_time) if bunching else 0.0)
+    return np.asarray(baseline * (1 - depth * signal**2 * dips))
+
+
+def _under_dip(at: Numbers, time: float, jitter: float) -> Numbers:
+    """The integral of exp(-|t| / time), convolved with a normal law, from 0 to a time."""
+    if not jitter:
+        return np.asarray(-np.sign(at) * time * np.expm1(-np.abs(at) / time))
+    special = want("scipy.special", "fits of g2")
+    wide, x, half = jitter / time, at / jitter, jitter**2 / (2 * time**2)
+    later, sooner = (np.exp(np.minimum(half + sign * at / time + special.log_ndtr(-sign * x - wide), 700)) for sign in (1, -1))
+    return np.asarray(time * (later - sooner + 2 * special.ndtr(x) - 1))
+
+
+def fit_g2(
+    pairs: Table | Coincidences,
+    first_photons: Given = None,
+    second_photons: Given = None,
+    *,
+    bunching: bool = False,
+    span: tuple[float, float] = (-math.inf, math.inf),
+    fixed: Values = None,
+    start: Values = None,
+    bounds: Bounds = None,
+) -> Fit:
+    """A fit of coincidences by ``g2_model``, integrated over the cells, by the likelihood of their pairs.
+
+    ``pairs`` and photons as of ``g2``. The fit is in seconds, in ticks where the file doesn't tell; ``data`` and ``curve`` are
+    g2. ``span``: the differences that are fitted. Parameters: ``centre``, where the dip is, so by how much the second input's
+    cable is longer; ``depth``, so 1 - depth is g2 at the dip and 1 / depth the number of emitters; ``lifetime``; ``baseline``; with
+    ``bunching`` also ``bunching`` and ``bunching_time``. Where they are named there are ``signal``, else 1, the part of photons
+    that are no background (the root of the product of both detectors'), and ``jitter``, else 0. Raises ``NotKnownError`` as ``g2``, and
+    ``FitError``.
+    """
+    expected, variances = _normal(pairs, first_photons, second_photons)
+    unit = 1.0 if pairs.seconds is None else float(np.ptp(pairs.seconds) / np.ptp(pairs.ticks))
+    axis, width = pairs.ticks * unit, (pairs.settings["width"] if isinstance(pairs, Table) else pairs.width) * unit
+    kept = (expected > 0) & (axis >= span[0]) & (axis <= span[1])
+    counts, axis, expected, variances = pairs.counts[kept].astype(np.float64), axis[kept], expected[kept], variances[kept]
+    if len(axis) < 6 or not counts.sum() > 0:
+        raise FitError(f"a dip of {len(axis)} cells and {counts.sum():g} pairs")
+    values, law = counts / expected, poisson(counts, expected, variances / np.maximum(counts, 1.0))
+    more = {"signal": {"value": 1.0, "min": 0.0, "max": 1.0}, "jitter": {"value": 0.0, "min": 0.0, "brute_step": width}}
+    begin = steered(_begin_g2(axis, values, np.sqrt(variances) / expected, width, bunching), fixed, start, bounds, more)
+    return solved(Problem(axis, values, lambda at, now: g2_model(at, width=width, **now), law, begin))
+
+
+def _begin_g2(axis: Numbers, values: Numbers, bars: Numbers, width: float, bunching: bool) -> Any:
+    """Where a fit of a dip begins: at the best of a grid of centres and lifetimes, over which the others are linear."""
+    step = max(1, len(axis) // 1000)
+    cells = slice(0, len(axis) // step * step)
+    times, levels, squares = (one[cells].reshape(-1, step).mean(axis=1) for one in (axis, values, bars**2))
+    near = np.ones(min(9, len(times)))
+    weights = np.convolve(np.ones(len(times)), near, "same") / np.convolve(squares, near, "same")
+    reach, missing = float(axis[-1] - axis[0]), (np.average(levels, weights=weights) - levels) * weights
+    best: tuple[float, Any] = (math.inf, None)
+    for time in np.geomspace(max(width / 2, reach / 1000), reach / 4, 16):
+        kernel = np.exp(-np.abs(np.arange(-((len(times) - 1) // 2), (len(times) - 1) // 2 + 1)) * width * step / time)
+        found = np.convolve(missing, kernel, "same") / np.sqrt(np.convolve(weights, kernel**2, "same"))
+        centre = float(times[int(np.argmax(found))])
+        for long in np.geomspace(3 * time, max(reach, 4 * time), 6) if bunching else np.zeros(1):
+            shapes = [-np.exp(-np.abs(times - centre) / time), *([np.exp(-np.abs(times - centre) / long)] if long else [])]
+            columns = np.stack([np.ones(len(times)), *shapes], axis=1) * np.sqrt(weights)[:, None]
+            heights = np.linalg.lstsq(columns, levels * np.sqrt(weights), rcond=None)[0]
+            left = float(((columns @ heights - levels * np.sqrt(weights)) ** 2).sum())
+            if left < best[0] and np.all(heights > 0):
+                best = left, (centre, float(time), float(long), *heights)
+    if best[1] is None:
+        raise FitError("no dip: nowhere are fewer pairs than beside it")
+    centre, time, long, level, down, *up = best[1]
+    rise = up[0] if up else 0.0
+    begin = want("lmfit", "fits").Parameters()
+    begin.add("depth", value=min(max((down - rise) / level, 0.05), 0.98), min=0, max=1, brute_step=0.01)
+    begin.add("lifetime", value=time, min=width / 100, max=reach)
+    begin.add("centre", value=centre, min=float(axis[0]), max=float(axis[-1]), brute_step=time)
+    begin.add("baseline", value=level, min=0)
+    if bunching:
+        begin.add("bunching", value=min(max(rise / max(down - rise, 0.01), 0.01), 50.0), min=0, max=100, brute_step=0.01)
+        begin.add("bunching_time", value=long, min=width / 100, max=100 * reach)
+    return begin
 
 
 def g2(
@@ -565,19 +603,23 @@ def g2(
     table are told by its plan (``read_report``), or given: of a sum for each measurement, or one number for all of it, as
     ``Table.expected`` takes them. A bar is the root of ``Coincidences.variances`` over what is expected, in cells of any
     width; groups of a report that share some photons but not all count as different. nan where no pair is expected.
-    Raises ``NotKnown`` for another table, and where photons or the length of the measurement aren't known.
+    Raises ``NotKnownError`` for another table, and where photons or the length of the measurement aren't known.
     """
-    counts = pairs.counts.astype(np.float64)
-    if isinstance(pairs, Table) and pairs.kind != "coincidence":
-        expected, variances = pairs.expected(first_photons, second_photons), np.maximum(counts, 1)
-    else:
-        each = [pairs] if isinstance(pairs, Coincidences) else _coincidences(pairs, first_photons, second_photons)
-        expected = sum((one.expected() for one in each), np.zeros(len(counts)))
-        variances = each[0].variances() if each else counts
-    values, bars = np.full(len(counts), np.nan), np.full(len(counts), np.nan)
-    np.divide(counts, expected, out=values, where=expected > 0)
+    expected, variances = _normal(pairs, first_photons, second_photons)
+    values, bars = np.full(len(expected), np.nan), np.full(len(expected), np.nan)
+    np.divide(pairs.counts.astype(np.float64), expected, out=values, where=expected > 0)
     np.divide(np.sqrt(variances), expected, out=bars, where=expected > 0)
     return values, bars
+
+
+def _normal(pairs: Table | Coincidences, first_photons: Given, second_photons: Given) -> tuple[Numbers, Numbers]:
+    """The pairs that each cell would have without correlation, and the variance of those that it has."""
+    counts = pairs.counts.astype(np.float64)
+    if isinstance(pairs, Table) and pairs.kind != "coincidence":
+        return pairs.expected(first_photons, second_photons), np.maximum(counts, 1)
+    each = [pairs] if isinstance(pairs, Coincidences) else _coincidences(pairs, first_photons, second_photons)
+    expected = sum((one.expected() for one in each), np.zeros(len(counts)))
+    return expected, each[0].variances() if each else counts
 
 
 def _coincidences(table: Table, first_photons: Given, second_photons: Given) -> list[Coincidences]:

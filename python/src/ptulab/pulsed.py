@@ -4,24 +4,28 @@ Times are sync periods (ticks in T2), or, with the period given in ticks of the 
 """
 
 import math
+import warnings
+from collections.abc import Mapping
 from dataclasses import dataclass
 from fractions import Fraction
+from typing import Any
 
 import numpy as np
 from numpy.typing import NDArray
 
-from .errors import NotKnown
+from .errors import NotKnownError
 from .events import Events
 from .groups import EventsLike, GroupLike, group_of, header_of, pieces_of, ticks_of
 from ._values import Compared
 
-__all__ = ["Coincidences", "StartStops", "coincidences", "start_stops"]
+__all__ = ["Coincidences", "StartStops", "coincidences", "start_stops", "without_background"]
 
 DENSE = 8  # where so few units of time come to each time that has photons, or to each pair, all of them are gone through
 BLOCK = 1 << 15  # units of time that are taken together then
 EXACT = 1 << 53  # sums of floating-point numbers below it are those of whole numbers
 SHORT = 64  # up to such a reach pairs of a block are added up one difference at a time, beyond by Fourier transforms
 
+Delays = Mapping[int, int] | None  # by inputs, in the unit of times
 Weights = tuple[NDArray[np.int64], NDArray[np.int64], NDArray[np.int64], NDArray[np.int64]]
 
 
@@ -104,7 +108,7 @@ class Coincidences(Compared):
         the second detector's cable is longer; ``neighbours``: how many peaks on either side are taken for the mean, None
         for all that are whole; ``period``: between two peaks, where it isn't told, as of T2 files.
 
-        An error is of one standard deviation; without a pair of one pulse it is that of one pair. Raises ``NotKnown``
+        An error is of one standard deviation; without a pair of one pulse it is that of one pair. Raises ``NotKnownError``
         where a period isn't known; where cells are wider than an eighth of it and don't begin where peaks do; where the
         reach doesn't have the whole peak of one pulse and those beside it; where these have no pairs; and where the nearer
         of them have more or fewer than the further ones, by five standard deviations, as of a source that blinks: take
@@ -116,10 +120,10 @@ class Coincidences(Compared):
         near = np.abs(np.arange(-peaks, peaks + 1)) <= peaks // 2
         centre, beside = float(areas[peaks]), float(areas.sum() - areas[peaks])
         if not beside > 0:
-            raise NotKnown("no pairs at other lags to compare with")
+            raise NotKnownError("no pairs at other lags to compare with")
         part = (near.sum() - 1) / (2 * peaks)  # of the peaks beside that are near
         if abs(areas[near].sum() - centre - part * beside) > 5 * math.sqrt(doubled * part * (1 - part) * beside):
-            raise NotKnown("pairs of two pulses depend on how far these are apart, as of a source that blinks: take some neighbours")
+            raise NotKnownError("pairs of two pulses depend on how far these are apart, as of a source that blinks: take some neighbours")
         mean = beside / (2 * peaks)
         ratio = centre / mean
         return ratio, math.sqrt(doubled * (max(centre, 1.0) / mean**2 + ratio**2 / beside))
@@ -127,16 +131,16 @@ class Coincidences(Compared):
     def _peaks(self, period: float | None, delay: float, neighbours: int | None) -> NDArray[np.float64]:
         """Where the peaks of so many neighbours begin and end, from the one of the least difference to the greatest."""
         if period is None or not 0 < period < math.inf:
-            raise NotKnown("peaks of pulses whose period isn't known: give it")
+            raise NotKnownError("peaks of pulses whose period isn't known: give it")
         whole = math.floor((self.reach + 0.5 - abs(delay)) / period - 0.5)
         peaks = whole if neighbours is None else neighbours
         if not 1 <= peaks <= whole:
-            raise NotKnown(f"a reach of {self.reach} has no {max(peaks, 1)} whole peaks on either side of {delay:g}")
+            raise NotKnownError(f"a reach of {self.reach} has no {max(peaks, 1)} whole peaks on either side of {delay:g}")
         edges = delay + period * (np.arange(-peaks, peaks + 2) - 0.5)
         cells = self._edges - 0.5
         off = np.abs(edges - cells[np.searchsorted((cells[1:] + cells[:-1]) / 2, edges)]).max()  # from the nearest cell's
         if 8 * self.width > period and (off > 0.5 or self.width > period):
-            raise NotKnown(f"cells of {self.width} don't begin where peaks with a period of {period:g} do: take finer ones")
+            raise NotKnownError(f"cells of {self.width} don't begin where peaks with a period of {period:g} do: take finer ones")
         return np.asarray(edges)
 
     def _areas(self, edges: NDArray[np.float64]) -> NDArray[np.float64]:
@@ -145,21 +149,46 @@ class Coincidences(Compared):
         return np.asarray(np.diff(np.interp(edges, self._edges - 0.5, so_far)))
 
 
+def without_background(values: Any, errors: Any, signal: float, signal_error: float = 0.0) -> tuple[Any, Any]:
+    """g2 or a correlation G of the light without its background, and its errors: shapes of what is given.
+
+    (g - 1 + signal^2) / signal^2, where ``signal`` is the part of the photons that are no background, S / (S + B), of two
+    detectors the root of the product of both (Brouri, Beveratos, Poizat and Grangier, Optics Letters 25, 1294, 2000; of
+    FCS Thompson, Topics in Fluorescence Spectroscopy 1, 337, 1991). A ratio of ``central_ratio`` and its error are
+    corrected so too. The error of ``signal`` counts as independent. Raises ``ValueError`` where it isn't above 0 and at most 1.
+    """
+    if not 0 < signal <= 1:
+        raise ValueError(f"a signal of {signal} of the photons")
+    away = (np.asarray(values) - 1) / signal**2
+    return 1 + away, np.hypot(np.asarray(errors) / signal**2, 2 * away * signal_error / signal)
+
+
 def coincidences(
-    source: EventsLike, first: GroupLike, second: GroupLike, reach: int, *, width: int = 1, period: float | None = None
+    source: EventsLike,
+    first: GroupLike,
+    second: GroupLike,
+    reach: int,
+    *,
+    width: int = 1,
+    period: float | None = None,
+    delays: Delays = None,
 ) -> Coincidences:
     """All pairs of a photon of the first group and another of the second, at most ``reach`` apart.
 
     A photon of both groups is paired with each other photon of either group and not with itself, as in a plan's
     coincidence. Without ``period`` the unit is the sync period (a tick in T2): lag 0 is two photons of one pulse, lag
     -1 a second photon one pulse earlier. With ``period``, the ticks of the dtime in a sync period, the unit is a tick.
+    ``delays``: by input, what is added to the times of its photons, in the same unit, as for cables of other lengths.
 
-    Raises ``ValueError`` for a reach or a width below 1, or times that can't be told apart: of 2^62 ticks or
+    Warns of a PicoHarp in T3, whose router's detectors share a dead time. Raises ``ValueError`` for a reach or a width below 1, or times that can't be told apart: of 2^62 ticks or
     more, with a period of any part of a tick 2^53.
     """
     if reach < 1 or width < 1:
         raise ValueError(f"coincidences with a reach of {reach} and a width of {width}")
-    (times, firsts, seconds, both), ends = _occupied(source, first, second, period)
+    header = header_of(source)
+    if header.record_type == "PicoHarpT3" and group_of(first).inputs != group_of(second).inputs:
+        warnings.warn("detectors of a PicoHarp's router share a dead time of some 90 ns: it has no pairs of one pulse", stacklevel=2)
+    (times, firsts, seconds, both), ends = _occupied(source, first, second, period, delays)
     later = pair_counts(times, firsts, seconds, reach)
     earlier = pair_counts(times, seconds, firsts, reach)
     later[0] -= both.sum()
@@ -167,7 +196,7 @@ def coincidences(
     pairs = np.add.reduceat(counts, np.arange(0, 2 * reach + 1, width))
     length = ends[1] - ends[0] + 1 if ends else 0
     one, two, in_both = (int(photons.sum()) for photons in (firsts, seconds, both))
-    between = period if period is not None else None if header_of(source).mode == "T2" else 1
+    between = period if period is not None else None if header.mode == "T2" else 1
     return Coincidences(pairs, reach, width, one, two, length, _unit(source, period), in_both, between)
 
 
@@ -197,8 +226,16 @@ def in_ticks(photons: Events, period: float | None) -> NDArray[np.int64]:
     return np.asarray(ticks + up + photons["dtime"])
 
 
+def _moved(events: Events, times: NDArray[np.int64], delays: Delays) -> NDArray[np.int64]:
+    """The times of events, those of photons moved by what their inputs are late."""
+    added = np.zeros(256, np.int64)
+    for number, late in (delays or {}).items():
+        added[number] = late
+    return np.asarray(times + np.where(events["marker"], 0, added[events.numbers])) if delays else times
+
+
 def _occupied(
-    source: EventsLike, first: GroupLike, second: GroupLike, period: float | None
+    source: EventsLike, first: GroupLike, second: GroupLike, period: float | None, delays: Delays = None
 ) -> tuple[Weights, tuple[int, int] | None]:
     """The times that have photons of either group, how many of each and of both, and the first and last time of all."""
     groups, parts, ends = (group_of(first), group_of(second)), [], []
@@ -206,7 +243,7 @@ def _occupied(
         one, two = (group.mask(piece) for group in groups)
         either = one | two
         times = in_ticks(piece, period)
-        parts.append((times[either], one[either], two[either]))
+        parts.append((_moved(piece, times, delays)[either], one[either], two[either]))
         inside = times[~piece["late"]]
         ends += [int(inside.min()), int(inside.max())] if len(inside) else []
     if not ends:
@@ -215,7 +252,7 @@ def _occupied(
     return occupied(times, one, two), (min(ends), max(ends))
 
 
-def occupied(times: NDArray[np.int64], first: NDArray[np.bool_], second: NDArray[np.bool_]) -> Weights:
+def occupied(times: NDArray[np.int64], first: NDArray[Any], second: NDArray[Any]) -> Weights:
     """Of photons by their times, and whether they are of either group: the times that have some, in order, and how many
     of the first group, of the second and of both each of them has."""
     if not len(times):
@@ -248,7 +285,7 @@ def _is_dense(times: NDArray[np.int64], firsts: NDArray[np.int64], seconds: NDAr
     """Whether there is less to do if all units of time are gone through."""
     if reach <= SHORT:
         return span < DENSE * len(times)
-    one, two = times[firsts > 0], times[seconds > 0]
+    one, two = times[firsts != 0], times[seconds != 0]
     pairs = np.searchsorted(two, one + reach, side="right") - np.searchsorted(two, one)
     return span < DENSE * int(pairs.sum())
 
@@ -261,7 +298,7 @@ def _pairs_of_sparse(
     cells, so that the seconds go with the times and the pairs that are found."""
     counts = np.zeros(reach + 1, np.int64)
     start, two = np.flatnonzero(firsts), np.flatnonzero(seconds)
-    stop = np.cumsum(seconds > 0)[start] - np.minimum(seconds[start], 1)
+    stop = np.cumsum(seconds != 0)[start] - (seconds[start] != 0)
     found: list[tuple[NDArray[np.int64], NDArray[np.int64]]] = []
     waiting = 0
     while len(start):
@@ -343,12 +380,19 @@ class StartStops(Compared):
 
 
 def start_stops(
-    source: EventsLike, start: GroupLike, stop: GroupLike, width: int, bins: int, *, period: float | None = None
+    source: EventsLike,
+    start: GroupLike,
+    stop: GroupLike,
+    width: int,
+    bins: int,
+    *,
+    period: float | None = None,
+    delays: Delays = None,
 ) -> StartStops:
     """Of the photons in either group, the times between each two neighbours of which the first starts and the second stops.
 
     As a plan's start-stop of a T2 file. With ``period``, the ticks of the dtime in a sync period, times of a T3 file
-    are in ticks, and photons are neighbours in the order of these times. Raises ``ValueError`` without a bin, and as
+    are in ticks, and photons are neighbours in the order of these times. ``delays`` as of ``coincidences``. Raises ``ValueError`` without a bin, and as
     ``coincidences`` does.
     """
     if width < 1 or bins < 1:
@@ -357,7 +401,7 @@ def start_stops(
     for piece in pieces_of(source):
         starts, stops = (group.mask(piece) for group in groups)
         either = starts | stops
-        parts.append((in_ticks(piece, period)[either], starts[either], stops[either]))
+        parts.append((_moved(piece, in_ticks(piece, period), delays)[either], starts[either], stops[either]))
     if not parts:
         return StartStops(np.zeros(bins, np.int64), width, 0, _unit(source, period))
     times, starts, stops = (np.concatenate(column) for column in zip(*parts, strict=True))

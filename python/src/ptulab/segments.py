@@ -6,6 +6,7 @@ Express 11, 3583 (2003).
 
 from collections.abc import Iterator
 from dataclasses import dataclass
+from typing import Any
 
 import numpy as np
 from numpy.typing import NDArray
@@ -15,6 +16,7 @@ from .groups import EventsLike, GroupLike, Part, group_of, header_of, pieces_of,
 from .pulsed import occupied, pair_counts
 from .tables import lags_of
 from ._values import Compared
+from ._xarrays import Axis, labelled
 
 __all__ = ["Curve", "correlation", "correlation_by_segments", "delays", "edges", "split", "window"]
 
@@ -47,6 +49,11 @@ class Curve(Compared):
     def seconds(self) -> NDArray[np.float64] | None:
         """The delays in seconds, None where the file doesn't tell."""
         return None if self.unit_seconds is None else self.ticks * self.unit_seconds
+
+    def to_xarray(self) -> Any:
+        """An ``xarray.Dataset`` of ``values`` and ``errors`` over ``delay``, in seconds where the file tells a tick. Raises
+        ``MissingLibraryError`` without xarray."""
+        return labelled({"values": self.values, "errors": self.errors}, [Axis("delay", self.ticks, self.seconds)], {"level": ("delay", self.levels)}, {})
 
 
 def window(source: EventsLike, start: int, stop: int) -> Events:
@@ -97,12 +104,12 @@ def delays(lags: int, levels: int) -> tuple[NDArray[np.int64], NDArray[np.int64]
 
 
 def correlation(
-    times: NDArray[np.int64], first: NDArray[np.bool_], second: NDArray[np.bool_], *, lags: int = 16, levels: int = 20
+    times: NDArray[np.int64], first: NDArray[Any], second: NDArray[Any], *, lags: int = 16, levels: int = 20
 ) -> NDArray[np.int64]:
     """The pairs of each cell of a correlation, in the order of ``delays``: what ``ptu run`` counts.
 
     ``times``: shape (photons,), 0 or more, in ticks or sync periods; ``first`` and ``second``: which photons are of
-    either group. On level L a bin has 2^L units of time and begins at a multiple of that.
+    either group, or whole numbers that each counts for. On level L a bin has 2^L units of time and begins at a multiple of that.
     """
     delays(lags, levels)
     bins, firsts, seconds, _ = occupied(times, first, second)
@@ -138,7 +145,7 @@ def correlation_by_segments(
     delay t must be short beside T: choose few segments for long delays. The errors of neighbouring delays go together, so
     many points can lie off by one error on the same side.
 
-    ``levels``: None for as many as have delays up to an eighth of a segment.
+    ``first`` and ``second`` may be ``fcs.Filtered``, whose photons count by their dtimes. ``levels``: None for as many as have delays up to an eighth of a segment.
 
     Raises ``ValueError`` where there is no event, for segments without time, and as ``delays`` does.
     """
@@ -157,8 +164,8 @@ def correlation_by_segments(
         curves.append(np.divide(pairs, expected, out=np.full(len(pairs), np.nan), where=expected > 0))
     values, errors = _mean(np.array(curves))
     unit = ticks_of(source).global_seconds
-    rates = (float(one.sum()) / (segments * length), float(two.sum()) / (segments * length))
-    return Curve(ticks, level, values, errors, np.array(curves), unit, rates)
+    rates = tuple(float(some.sum()) / (group_of(group).units * segments * length) for some, group in ((one, first), (two, second)))
+    return Curve(ticks, level, values, errors, np.array(curves), unit, (rates[0], rates[1]))
 
 
 def _mean(curves: NDArray[np.float64]) -> tuple[NDArray[np.float64], NDArray[np.float64]]:
@@ -174,13 +181,13 @@ def _mean(curves: NDArray[np.float64]) -> tuple[NDArray[np.float64], NDArray[np.
 
 def _photons(
     source: EventsLike, first: GroupLike, second: GroupLike
-) -> tuple[NDArray[np.int64], NDArray[np.bool_], NDArray[np.bool_], tuple[int, int]]:
-    """Times of the photons of either group in order, whether they are of the first and of the second, and the first and
+) -> tuple[NDArray[np.int64], NDArray[Any], NDArray[Any], tuple[int, int]]:
+    """Times of the photons of either group in order, what they count for in the first and in the second, and the first and
     last time of all events that aren't late."""
     groups, parts, ends = (group_of(first), group_of(second)), [], []
     for piece in pieces_of(source):
-        one, two = (group.mask(piece) for group in groups)
-        either = one | two
+        one, two = (group.weights(piece) for group in groups)
+        either = (one != 0) | (two != 0)
         parts.append((piece["time"][either], one[either], two[either]))
         inside = piece["time"][~piece["late"]]
         ends += [int(inside.min()), int(inside.max())] if len(inside) else []

@@ -1,0 +1,171 @@
+"""Correlations beyond a curve, against light that is known: a source that goes on and off, background, afterpulses, species."""
+
+from typing import Any
+
+import numpy as np
+import pytest
+
+import ptulab
+from ptulab import fcs, fits
+from ptulab.groups import Group
+from ptulab.segments import Curve, correlation_by_segments, delays
+
+PERIOD = 50e-9  # seconds of a sync period
+LASTS = 500e-6  # of which the correlation of the light that goes on and off falls by e
+
+
+def on_and_off(draws: Any, rate: float, seconds: float) -> Any:
+    """Times of photons, in seconds, of light that is on for half of the time, at random: G = 1 + exp(-t / LASTS)."""
+    turns = np.cumsum(draws.exponential(2 * LASTS, round(seconds / LASTS)))
+    times = draws.uniform(0, seconds, draws.poisson(2 * rate * seconds))
+    return times[np.searchsorted(turns, times) % 2 == 0]
+
+
+def level(draws: Any, rate: float, seconds: float) -> Any:
+    return draws.uniform(0, seconds, draws.poisson(rate * seconds))
+
+
+def events_of(parts: Any) -> Any:
+    """Events of T3 with ticks of 100 ps, of times in seconds, dtimes in ticks and an input for each part."""
+    times, dtimes, numbers = (np.concatenate(column) for column in zip(*parts))
+    order = np.argsort(times, kind="stable")
+    events = np.zeros(len(times), ptulab.EVENT)
+    events["time"], events["dtime"], events["number"] = (times[order] / PERIOD).astype(np.int64), dtimes[order], numbers[order]
+    return events
+
+
+def part(draws: Any, times: Any, lifetime: float | None, number: int = 1) -> Any:
+    late = draws.uniform(0, 500, len(times)) if lifetime is None else (draws.exponential(lifetime * 10, len(times)) + 20) % 500
+    return times, late.astype(np.int32), np.full(len(times), number)
+
+
+def height(curve: Curve) -> tuple[float, float]:
+    """The amplitude of exp(-t / LASTS) in a curve, with its error by the segments."""
+    times = curve.ticks * PERIOD
+    kept = (times > 2e-6) & (times < 0.02)
+    fit = fits.fit_model(
+        lambda axis, height, base: np.asarray(base + height * np.exp(-axis / LASTS)),
+        times[kept],
+        curve.values[kept],
+        {"height": 0.5, "base": 1.0},
+        segments=curve.segments[:, kept],
+    )
+    return fit.values["height"], fit.errors["height"]
+
+
+def test_background_makes_amplitudes_too_small_and_is_taken_off() -> None:
+    """10 seconds at 30 kHz, a third of which is background in one detector and a fifth in the other."""
+    draws, seconds = np.random.default_rng(1), 10.0
+    light = on_and_off(draws, 20_000 + 24_000, seconds)
+    first = draws.random(len(light)) < 20 / 44
+    dark = [level(draws, rate, seconds) for rate in (10_000, 6_000)]
+    parts = [(light[first], 1), (light[~first], 2), (dark[0], 1), (dark[1], 2)]
+    events = events_of([part(draws, times, 2.0, number) for times, number in parts])
+    curve = correlation_by_segments(events, 1, 2, segments=10)
+    signal = fcs.signal_of(curve, 10_000 * PERIOD, 6_000 * PERIOD)
+    assert signal == pytest.approx(np.sqrt(2 / 3 * 0.8), rel=0.01)
+    raw, _ = height(curve)
+    found, error = height(fcs.curve_without_background(curve, signal))
+    assert raw == pytest.approx(signal**2, rel=0.05) and found == pytest.approx(1, rel=0.03 + 4 * error) and error < 0.03
+    assert fcs.signal_of(curve, 10_000 * PERIOD) == pytest.approx(np.sqrt(2 / 3 * (1 - 1 / 3)), rel=0.01)
+
+
+def with_afterpulses(draws: Any, times: Any) -> Any:
+    """A count in thirty has an afterpulse, after 1 us in the mean."""
+    late = times[draws.random(len(times)) < 1 / 30]
+    return np.concatenate((times, late + draws.exponential(1e-6, len(late)) + PERIOD))
+
+
+def test_afterpulses_are_taken_off_by_those_of_a_lamp() -> None:
+    """Light of 20 kHz beside a lamp of 100 kHz: before, G rises to 2.6 at the first delays."""
+    draws = np.random.default_rng(2)
+    light = with_afterpulses(draws, on_and_off(draws, 20_000, 10.0))
+    lamp = with_afterpulses(draws, level(draws, 100_000, 8.0))
+    curve, pattern = (correlation_by_segments(events_of([part(draws, times, 2.0)]), 1, 1, levels=4) for times in (light, lamp))
+    early = (curve.ticks > 1) & (curve.ticks * PERIOD < 2e-6)
+    clean = fcs.without_afterpulsing(curve, pattern)
+    weights = 1 / clean.errors[early] ** 2
+    before, after = (np.average(one.values[early] - 1, weights=weights) for one in (curve, clean))
+    assert before > 1.3 and after == pytest.approx(1, abs=max(0.03, 4 * weights.sum() ** -0.5))
+    assert (clean.errors[early] >= curve.errors[early]).all() and clean.segments.shape == curve.segments.shape
+    with pytest.raises(ValueError, match="other delays"):
+        fcs.without_afterpulsing(curve, correlation_by_segments(events_of([part(draws, lamp, 2.0)]), 1, 1, lags=8))
+
+
+def patterns_of(*lifetimes: float | None) -> Any:
+    """The decays of species in bins of 1 ns: 100,000 photons each."""
+    draws = np.random.default_rng(9)
+    return np.array([np.bincount(part(draws, np.zeros(100_000), one, 1)[1] // 10, minlength=50) for one in lifetimes])
+
+
+def test_filters_tell_species_apart_by_their_lifetimes() -> None:
+    """Light of 1 ns that goes on and off, and a level light of 4 ns as bright: alone 1, both 1 / 4, across nothing."""
+    draws, seconds = np.random.default_rng(3), 6.0
+    events = events_of([part(draws, on_and_off(draws, 30_000, seconds), 1.0), part(draws, level(draws, 30_000, seconds), 4.0)])
+    rows = fcs.filters(patterns_of(1.0, 4.0), np.bincount(events["dtime"] // 10, minlength=50))
+    counted = [fcs.Filtered([1], filter=row, width=10).weights(events).sum() / 4096 for row in rows]
+    assert counted == pytest.approx([30_000 * seconds] * 2, rel=0.03)
+    groups = [fcs.Filtered(filter=row, width=10) for row in rows]
+    own, across = (correlation_by_segments(events, groups[0], other, levels=14) for other in groups)
+    assert own.rates[0] / PERIOD == pytest.approx(30_000, rel=0.03)
+    for curve, known in ((own, 1.0), (across, 0.0), (correlation_by_segments(events, 1, 1, levels=14), 0.25)):
+        found, error = height(curve)
+        assert abs(found - known) < max(4 * error, 0.01) and error < 0.05
+
+
+def test_filters_take_off_afterpulses() -> None:
+    """Afterpulses come at any delay: they are a species with a level decay."""
+    draws = np.random.default_rng(4)
+    light = on_and_off(draws, 30_000, 15.0)
+    late = light[draws.random(len(light)) < 1 / 20]
+    late = late + draws.exponential(1e-6, len(late)) + PERIOD
+    events = events_of([part(draws, light, 2.0), part(draws, late, None)])
+    rows = fcs.filters(patterns_of(2.0, None), np.bincount(events["dtime"] // 10, minlength=50))
+    curve = correlation_by_segments(events, *[fcs.Filtered(filter=rows[0], width=10)] * 2, levels=4)
+    early = (curve.ticks > 1) & (curve.ticks * PERIOD < 2e-6)
+    weights = 1 / curve.errors[early] ** 2
+    assert np.average(curve.values[early] - 1, weights=weights) == pytest.approx(1, abs=max(0.03, 4 * weights.sum() ** -0.5))
+
+
+def test_filters_are_those_of_the_formula() -> None:
+    patterns, decay = np.array([[8.0, 1, 1, 0], [2.0, 3, 5, 0]]), np.array([10.0, 4, 6, 0])
+    rows = fcs.filters(patterns, decay)
+    assert rows @ (patterns / 10).T == pytest.approx(np.eye(2), abs=1e-12) and (rows[:, 3] == 0).all()
+    for bad in (patterns[:, :3], -patterns, np.array([patterns[0], patterns[0]])):
+        with pytest.raises(ValueError):
+            fcs.filters(bad, decay)
+    plain = fcs.Filtered([1], [(0, 3)], filter=np.array([0.5, -2.0]), width=2)
+    events = np.zeros(5, ptulab.EVENT)
+    events["number"], events["dtime"] = (1, 1, 1, 2, 1), (0, 2, 3, 0, 9)
+    assert plain.weights(events).tolist() == [2048, -8192, 0, 0, 0]
+    assert Group([1]).weights(events).tolist() == [True, True, True, False, True]
+
+
+@pytest.mark.parametrize("dense", [True, False])
+def test_weights_of_either_sign_are_multiplied(dense: bool) -> None:
+    draws = np.random.default_rng(6)
+    times = np.sort(draws.choice(400 if dense else 40_000, 200, replace=False))
+    one, two = draws.integers(-3, 4, 200), draws.integers(-3, 4, 200)
+    ours = ptulab.segments.correlation(times, one, two, lags=8, levels=1)
+    steps = times[None] - times[:, None]
+    assert ours.tolist() == [int((np.outer(one, two) * (steps == lag)).sum()) for lag in range(1, 9)]
+
+
+def test_a_focus_is_calibrated_and_converts() -> None:
+    """By a dye of 430 um^2 a second in a focus of 0.25 um: errors of what is converted are as their scatter."""
+    known, draws, times = fcs.Focus(0.25e-6, 0.0, 5.0), np.random.default_rng(7), delays(16, 20)[0] * 1e-6
+    found = []
+    for _ in range(60):
+        fitted = []
+        for number, constant in ((3.0, 430e-12), (1.5, 60e-12)):
+            exact = fits.fcs_model(times, number, known.radius**2 / 4 / constant, structure=5.0)
+            fitted.append(fits.fit_fcs(times, draws.normal(exact, 0.004), np.full(len(times), 0.004)))
+        focus = fcs.Focus.calibrated(fitted[0], 430e-12)
+        found.append((*focus.constant(fitted[1]), *focus.concentration(fitted[1]), focus.radius, focus.radius_error))
+    values, errors = np.array(found)[:, ::2], np.array(found)[:, 1::2]
+    truth = [60e-12, 1.5 / (6.02214076e23 * 1e3 * np.pi**1.5 * 5 * 0.25e-6**3), 0.25e-6]
+    assert values.mean(axis=0) == pytest.approx(truth, rel=0.03)
+    assert np.sqrt((errors**2).mean(axis=0)) == pytest.approx(values.std(axis=0), rel=0.25)
+    assert known.litres == pytest.approx(0.435e-15, rel=0.01)
+    bright, error = fcs.brightness(fitted[1], 33_000.0, 3_000.0)
+    assert bright == pytest.approx(30_000 / fitted[1].values["number"]) and error / bright == pytest.approx(fitted[1].errors["number"] / fitted[1].values["number"])
