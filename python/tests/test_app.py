@@ -312,7 +312,7 @@ def test_the_script_prints_what_the_window_shows(file: str, name: str, second: s
     """By the plan and settings that were proposed; the script is run in another folder, by itself."""
     monkeypatch.setattr(sys, "argv", ["job"])
     asked = next(one for one in done_here("propose", folder / file, tmp_path)["questions"] if one["name"] == name)
-    settings = {one["key"]: one["value"] for one in asked["settings"]} | ({"rate": 200} if name == "bursts" else {}) | ({"segments": 2} if name == "correlation" else {})
+    settings = {one["key"]: one["value"] for one in asked["settings"]} | ({"rate": 200} if name == "bursts" else {}) | ({"segments": 3} if name == "correlation" else {})
     for each in ("one", "other"):
         (tmp_path / each).mkdir()
     others = {"analysis": name, "settings": settings, "second": str(folder / second) if second else None}
@@ -340,7 +340,13 @@ def test_a_page_and_a_session_of_a_result(served: Served, folder: Path) -> None:
     assert served.ask("keep", name="one", **asked) == {"folder": "ptulab-sessions/one"}
     assert {path.name for path in (folder / "ptulab-sessions" / "one").iterdir()} >= {"plan.toml", "analysis.py", "report.txt", "page.html", "decay.csv", "session.json"}
     assert served.ask("sessions") == {"sessions": ["one"]}
-    assert served.ask("session", name="one") == {"analysis": "decay", "settings": {"terms": 1}, "second": None, "file": "decay.ptu", "plan": DECAY}
+    opened = served.ask("session", name="one")
+    begun, names = opened.pop("begun"), opened.pop("names")
+    assert opened == {"analysis": "decay", "settings": {"terms": 1}, "second": None, "file": "decay.ptu", "files": None, "plan": DECAY}
+    assert {"plan.toml", "analysis.py", "analysis.ipynb", "report.txt", "page.html"} <= set(names)
+    shown = served.client.get(f"/result/{begun}/shown.json").json()
+    assert shown["numbers"] == told["result"]["numbers"] and shown["figures"] == told["result"]["figures"]
+    assert served.client.get(f"/result/{begun}/report.txt").text == (folder / "ptulab-sessions" / "one" / "report.txt").read_text()
     assert all("error" in served.ask("keep", name=name, **asked) for name in ("one", "../two", "", ".hidden", "a/b", "x" * 99))
     assert all("error" in served.ask("session", name=name) for name in ("../..", "two", ""))
     (folder / "ptulab-sessions" / "linked").symlink_to("/etc")
@@ -355,7 +361,7 @@ def test_a_page_and_a_session_of_a_result(served: Served, folder: Path) -> None:
         ({"settings": {"number": 2}}, "the report has no histogram 2"),
         ({"plan": DECAY.replace("bins = 250", "bins = 0")}, "the plan: histogram 1: bins = 0 isn't a whole number from 1 to 32,768 (rule 12)"),
         ({"plan": DECAY + "[[cube]]\n"}, "cube"),
-        ({"analysis": "nothing"}, "nothing"),
+        ({"analysis": "nothing"}, "there is no question 'nothing'"),
     ],
 )
 def test_a_run_that_cannot_be_says_why(change: dict[str, Any], said: str, served: Served) -> None:
@@ -366,7 +372,7 @@ def test_a_run_that_cannot_be_says_why(change: dict[str, Any], said: str, served
 def test_tables_that_take_too_much_are_refused_before_the_run(folder: Path, tmp_path: Path) -> None:
     """Two cubes of 512 MiB, each in the program and in Python."""
     plan = "version = 2\n" + DECAY + "[[cube]]\ngroup = 1\nwidth = 1024\nheight = 1024\ndwell = 1\nline = 1\ndwidth = 1\ndbins = 64\n" * 2
-    with pytest.raises(ptulab.BadPlan, match="its tables take some 2082 MiB, and 2081 may be taken: ask for fewer"):
+    with pytest.raises(ptulab.BadPlanError, match="its tables take some 2082 MiB, and 2081 may be taken: ask for fewer"):
         done_here("run", folder / "decay.ptu", tmp_path, plan=plan, analysis="decay", settings={}, megabytes=2081)
     assert not list(tmp_path.iterdir())
 
@@ -377,17 +383,139 @@ def test_what_a_script_is_told_stays_text(served: Served, folder: Path) -> None:
     (folder / name).write_bytes((folder / "pairs.ptu").read_bytes())
     told = served.work("run", file=name, plan="[[group]]\ninputs = [1]\n[[trace]]\ngroup = 1\nwidth = 100000\nbins = 20\n", analysis="trace", settings={})
     (folder / name).unlink()
-    assert told["result"]["numbers"].startswith("bins: 19\n")
+    assert told["result"]["numbers"].startswith("bins: 16\n")
 
 
 def test_little_memory_gets_a_line(folder: Path, program: str, tmp_path: Path) -> None:
     one = Served(folder, tmp_path / "results", program, megabytes=64)
     try:
-        told = one.work("run", file="pairs.ptu", plan="[[group]]\ninputs = [1]\n[[group]]\ninputs=[2]\n", analysis="correlation", settings={"segments": 2})
+        told = one.work("run", file="pairs.ptu", plan="[[group]]\ninputs = [1]\n[[group]]\ninputs=[2]\n", analysis="correlation", settings={"segments": 3})
         assert "memory" in told["error"].lower() or "allocate" in told["error"], told
         assert len(one.ask("files")["files"]) > 5
     finally:
         one.end()
+
+
+# ## Windows of time, regions, many files, and files for other programs
+
+
+def test_a_window_of_time_has_the_photons_of_its_records(folder: Path, tmp_path: Path) -> None:
+    from ptulab.app.scripts import part_of
+
+    for name in ("decay.ptu", "pairs.ptu", "scan.ptu"):
+        whole = ptulab.read_events(folder / name)
+        tick = whole.header.global_seconds
+        assert tick is not None
+        last = int(whole.times.max())
+        part = ptulab.read_events(part_of(folder / name, 0.3 * last * tick, 0.6 * last * tick))
+        kept = whole[(whole.times >= 0.3 * last) & (whole.times < 0.6 * last)]
+        assert part.numbers.tolist() == kept.numbers.tolist() and part.dtimes.tolist() == kept.dtimes.tolist() and 0 < len(kept) < len(whole)
+        assert np.diff(part.times).tolist() == np.diff(kept.times).tolist() and part.header.announced == part.header.records
+        assert part.header.global_seconds == tick and part.header.resolution_seconds == whole.header.resolution_seconds
+        assert ptulab.read_events(part_of(folder / name, 0.0)).times.tolist() == whole.times.tolist()
+        for start, stop in ((9e9, 9e10), (0.5 * last * tick, 0.5 * last * tick)):
+            with pytest.raises(ValueError, match="no event from"):
+                part_of(folder / name, start, stop)
+
+
+def test_a_window_of_time_without_a_tick_is_not_known(tmp_path: Path) -> None:
+    from ptulab.app.scripts import part_of
+
+    with pytest.raises(ptulab.errors.NotKnownError, match="how long a tick is"):
+        part_of(made.write(tmp_path / "odd.ptu", "PicoHarpT2", [(1, 1)]), 0.0, 1.0)
+
+
+def test_pixels_within_a_polygon() -> None:
+    from ptulab.app.scripts import inside
+
+    assert np.argwhere(inside([(1, 2), (3, 2), (3, 4), (1, 4)], 5, 6)).tolist() == [[2, 1], [2, 2], [3, 1], [3, 2]]
+    triangle = inside([(0, 0), (4, 0), (0, 4)], 4, 4)
+    assert triangle.sum(axis=1).tolist() == [3, 2, 1, 0] or triangle.sum(axis=1).tolist() == [4, 3, 2, 1]
+    assert not inside([(9, 9), (12, 9), (12, 12)], 4, 4).any() and inside([(-9, -9), (99, -9), (99, 99), (-9, 99)], 3, 2).all()
+    crossed = inside([(0, 0), (4, 4), (4, 0), (0, 4)], 4, 4)
+    assert crossed[0].tolist() != crossed[2].tolist() and crossed.sum() in range(4, 13)
+
+
+def test_numbers_without_an_error_say_so() -> None:
+    from ptulab.app.scripts import measured
+
+    nan = float("nan")
+    assert measured(1.5, 0.25, " ns") == "1.5 ns ± 0.25 ns" and measured(1.5, nan, " ns") == "1.5 ns, its error isn't known"
+    assert measured(nan, 1.0) == measured(nan) == "not known" and measured(1.5, unit=" ns") == "1.5 ns"
+
+
+def test_flat_light_gives_no_nan(folder: Path, tmp_path: Path) -> None:
+    """A correlation of light that doesn't fluctuate tells no diffusion: what isn't known isn't printed as nan, nor as what is held."""
+    groups = "[[group]]\ninputs = [1]\n\n[[group]]\ninputs = [2]\n"
+    told = done_here("run", folder / "pairs.ptu", tmp_path, plan=groups, analysis="correlation", settings={"segments": 3})
+    assert "nan" not in told["numbers"] and "number: " in told["numbers"] and "\nstructure: 5\n" in told["numbers"]
+
+
+def test_regions_are_counted_and_refused(served: Served) -> None:
+    asked = next(one for one in served.work("propose", file="scan.ptu")["result"]["questions"] if one["name"] == "image")
+    run = served.work("run", file="scan.ptu", plan=asked["plan"], analysis="image", settings={})
+    picture = next(one for one in run["result"]["figures"] if one["kind"] == "picture")
+    rows, columns = picture["rows"] * picture["block"], picture["columns"] * picture["block"]
+    whole = [[0, 0], [columns, 0], [columns, rows], [0, rows]]
+    told = served.work("region", result=run["begun"], regions=[whole, whole], threshold=0)["result"]
+    photons = re.findall(r"region \d: [0-9,]+ pixels, ([0-9,]+) photons", told["numbers"])
+    total = re.findall(r"photons in the picture: ([0-9,]+)", run["result"]["numbers"])
+    assert photons == total * 2 and {"regions.py", "regions.txt", "region-1.csv"} <= set(told["files"])
+    assert served.client.get(f"/result/{run['begun']}/regions.txt").text == told["numbers"]
+    wrong_regions: list[Any] = [[], None, [[[0, 0], [1, 1]]], [[[0, 0], [1, 1], ["x", 2]]], [[[0, 0], [1, 1], [1e999, 2]]], [whole] * 17, [[[0, 0]] * 513]]
+    for wrong in wrong_regions:
+        assert "region" in served.work("region", result=run["begun"], regions=wrong, threshold=0)["error"]
+    assert "threshold" in served.work("region", result=run["begun"], regions=[whole], threshold="1); import os")["error"]
+
+
+def test_what_a_result_has_not_is_said(served: Served) -> None:
+    groups = "[[group]]\ninputs = [1]\n\n[[group]]\ninputs = [2]\n"
+    told = served.work("run", file="pairs.ptu", plan=groups, analysis="correlation", settings={"segments": 3})
+    for kind, said in (("page", "has no report of the program"), ("images", "has no report of the program"), ("region", "has no lifetime image")):
+        assert said in served.work(kind, result=told["begun"], regions=[], threshold=0)["error"]
+    trace = "[[group]]\ninputs = [1]\n\n[[trace]]\ngroup = 1\nwidth = 1000\nbins = 2000\n"
+    told = served.work("run", file="pairs.ptu", plan=trace, analysis="trace", settings={"from_seconds": 0.0005, "to_seconds": 0.001})
+    assert "no image" in served.work("images", result=told["begun"])["error"] and "part_of(file, 0.0005, 0.001)" in told["result"]["script"]
+    assert "photons.hdf5" in served.work("photons", result=told["begun"])["result"]["files"]
+
+
+def test_many_files_give_a_table_and_their_sum(served: Served) -> None:
+    files = ["decay.ptu", "pulse.ptu", "pairs.ptu"]
+    told = served.work("many", files=files, plan=DECAY, analysis="decay", settings={})["result"]
+    heads, rows = told["table"]["heads"], told["table"]["rows"]
+    assert heads[:3] == ["file", "amplitude_1", "lifetime_1"] and [row[0] for row in rows] == files
+    assert "suit" in rows[2][heads.index("left out")] and {"many.py", "sum.py", "results.csv", "report.txt"} <= set(told["files"])
+    assert "== the sum of 3 files" in told["numbers"] and told["figures"][0]["curves"]
+    one = served.work("run", file="decay.ptu", plan=DECAY, analysis="decay", settings={})["result"]["numbers"]
+    assert told["numbers"].startswith(f"== decay.ptu\n{one}== pulse.ptu\n")
+    wrong_files: list[Any] = [[], ["../x.ptu"], ["link.ptu"], None, "decay.ptu", ["decay.ptu"] * 501]
+    for wrong in wrong_files:
+        assert "error" in served.work("many", files=wrong, plan=DECAY, analysis="decay", settings={})
+
+
+def test_the_notebook_prints_the_same(folder: Path, tmp_path: Path) -> None:
+    """Its code, run in the folder of the result."""
+    told = done_here("run", folder / "decay.ptu", tmp_path, plan=DECAY, analysis="decay", settings={})
+    cells = json.loads((tmp_path / "analysis.ipynb").read_text())["cells"]
+    source = str(Path(ptulab.__file__).resolve().parents[1])
+    done = subprocess.run([sys.executable, "-c", cells[1]["source"]], cwd=tmp_path, capture_output=True, text=True, check=False, env=os.environ | {"PYTHONPATH": source})
+    assert done.stdout == told["numbers"] == "".join(cells[1]["outputs"][0]["text"]), done.stderr
+
+
+def test_a_session_brings_no_links_and_no_other_files(served: Served, folder: Path) -> None:
+    told = served.work("run", file="decay.ptu", plan=DECAY, analysis="decay", settings={})
+    assert served.ask("keep", result=told["begun"], name="linked in") == {"folder": "ptulab-sessions/linked in"}
+    there = folder / "ptulab-sessions" / "linked in"
+    (there / "secret.txt").symlink_to("/etc/passwd")
+    (there / "other.sh.exe.x").write_text("no")
+    opened = served.ask("session", name="linked in")
+    assert "secret.txt" not in opened["names"] and "other.sh.exe.x" not in opened["names"] and "report.txt" in opened["names"]
+    assert served.client.get(f"/result/{opened['begun']}/secret.txt").status_code == 404
+    (there / "session.json").write_text(json.dumps({"file": "../x.ptu", "settings": {}, "analysis": "decay"}))
+    assert "error" in served.ask("session", name="linked in")
+
+
+# ## Two windows, many requests, and the end
 
 
 def begun(served: Served) -> int:

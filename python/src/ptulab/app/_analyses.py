@@ -36,6 +36,12 @@ class Setting:
     whole: bool = True
 
 
+WINDOW = [
+    Setting("from_seconds", "Only from so many seconds of the file on", 0.0, 0, 1e9, whole=False),
+    Setting("to_seconds", "and up to so many (0: to its end)", 0.0, 0, 1e9, whole=False),
+]
+
+
 @dataclass(frozen=True)
 class Analysis:
     """A question. ``wanting`` says why a file can't answer it, ``kinds`` are the tables of its plan, ``body`` makes its script."""
@@ -54,7 +60,15 @@ class Analysis:
 
     def script(self, path: str, document: Names, settings: Settings, second: str | None) -> str:
         """The script that answers the question of the file at ``path``, by the document of its plan."""
-        return HEAD.format(title=self.title, version=__version__, imports=self.imports, path=path) + self.body(document, settings, second)
+        start, stop = settings["from_seconds"], settings["to_seconds"] or math.inf
+        called = "measured" if start == 0 and stop == math.inf else "measured, part_of"
+        head = HEAD.format(title=self.title, version=__version__, imports=f"{self.imports}\nfrom ptulab.app.scripts import {called}", path=path)
+        window = "" if called == "measured" else f"file = part_of(file, {start!r}{'' if stop == math.inf else f', {stop!r}'})  # seconds\n"
+        return head + window + self.body(document, settings, second)
+
+    def all_settings(self, seen: Look) -> list[Setting]:
+        """Those of the question, and the window of time."""
+        return [*self.settings(seen), *WINDOW]
 
 
 HEAD = """\
@@ -70,8 +84,8 @@ file = sys.argv[1] if len(sys.argv) > 1 else {path!r}
 FIT = """\
 for name, value in fit.values.items():
     factor, unit = (1e9, " ns") if name.startswith(("lifetime", "shift")) else (1, "")
-    print(f"{name}: {value * factor:.5g} ± {fit.errors[name] * factor:.2g}{unit}")
-print(f"deviance over what is expected: {fit.reduced:.4g}")
+    print(f"{name}: {measured(value * factor, fit.errors[name] * factor, unit)}")
+print(f"deviance over what is expected: {measured(fit.reduced)}")
 """
 REPORT = 'report = ptulab.run(here / "plan.toml", file)\n'
 FIT_CURVE = '"fit": {"seconds": fit.axis, "photons": fit.data, "fit": fit.curve, "residuals": fit.residuals}'
@@ -80,7 +94,7 @@ FIT_CURVE = '"fit": {"seconds": fit.axis, "photons": fit.data, "fit": fit.curve,
 def settings_of(analysis: Analysis, given: Mapping[str, Any]) -> Settings:
     """The settings that were given, within their bounds. Raises ``ValueError`` for others."""
     settings: Settings = {}
-    for one in analysis.settings(Look(UNKNOWN)):
+    for one in analysis.all_settings(Look(UNKNOWN)):
         value = given.get(one.key, one.value)
         if isinstance(value, bool) or not isinstance(value, int | float) or not one.least <= value <= one.most:
             raise ValueError(f"{one.label}: a number from {one.least:g} to {one.most:g} is wanted")
@@ -91,8 +105,15 @@ def settings_of(analysis: Analysis, given: Mapping[str, Any]) -> Settings:
 def proposals(path: str) -> list[dict[str, Any]]:
     """Of a file each question, with the reason where it can't be asked, and the plan and the settings that suit."""
     seen = look(path)
-    text = plan_of(seen)
+    text = str(plan_of(seen))
     return [_proposal(one, seen, text) for one in ANALYSES.values()]
+
+
+def analysis_of(name: str) -> Analysis:
+    """A question by its name. Raises ``ValueError`` where there is none."""
+    if name not in ANALYSES:
+        raise ValueError(f"there is no question {name!r}")
+    return ANALYSES[name]
 
 
 def _proposal(one: Analysis, seen: Look, text: str) -> dict[str, Any]:
@@ -105,7 +126,7 @@ def _proposal(one: Analysis, seen: Look, text: str) -> dict[str, Any]:
         plan += _scan_of_marks(seen)
     if re.search(r"^\[\[(cube|fold)\]\]", plan, re.M) and "version" not in plan:
         plan = f"version = 2\n\n{plan}"
-    return told | {"plan": plan, "settings": [asdict(setting) for setting in one.settings(seen)]}
+    return told | {"plan": plan, "settings": [asdict(setting) for setting in one.all_settings(seen)]}
 
 
 def _of_kinds(text: str, kinds: Sequence[str]) -> str:
@@ -201,7 +222,7 @@ start = cube.seconds[decay.argmax()] + {settings['after']!r} * 1e-9
 fit = fits.fit_tail(decay, cube.seconds, start, terms={settings['terms']})
 print(f"photons in the picture: {{photons.sum():,}}")
 print(f"pixels with {{threshold:,}} photons or more: {{np.count_nonzero(~np.isnan(delays)):,}}")
-print(f"median of their mean delays: {{np.nanmedian(delays) * 1e9:.4g}} ns")
+print(f"median of their mean delays: {{measured(np.nanmedian(delays) * 1e9, unit=' ns')}}")
 {FIT}curves = {{"decay": {{"seconds": cube.seconds, "photons": decay}}, {FIT_CURVE}}}
 """
 
@@ -223,7 +244,8 @@ def _draw_image(names: Names) -> list[Drawn]:
 
 def _trace(document: Names, settings: Settings, second: str | None) -> str:
     return f"""{REPORT}trace = report.table("trace", {settings['number']})
-counts = trace.counts[:-1] if len(trace.counts) > 1 else trace.counts  # the last bin is longer than the file
+full = ((report.head.last or 0) - trace.settings["origin"]) // trace.settings["width"]
+counts = trace.counts[: max(1, full)]  # without the bins that are longer than the file
 frequencies, edges = np.histogram(counts, bins=min(64, int(np.ptp(counts)) + 1))
 print(f"bins: {{len(counts):,}}")
 print(f"mean: {{counts.mean():.5g}} photons in a bin")
@@ -243,11 +265,11 @@ def _correlation(document: Names, settings: Settings, second: str | None) -> str
     until = f"{settings['until']!r}" if settings["until"] else "np.inf"
     return f"""curve = segments.correlation_by_segments(file, {first}, {other}, segments={settings['segments']})
 span = ({settings['begin']!r} * 1e-6, {until})
-fit = fits.fit_fcs(curve.seconds, curve.values, curve.errors, dimensions={settings['dimensions']}, triplet={bool(settings['triplet'])}, span=span)
+fit = fits.fit_fcs(curve.seconds, curve.values, segments=curve.segments, dimensions={settings['dimensions']}, triplet={bool(settings['triplet'])}, span=span)
 for name, value in fit.values.items():
     factor, unit = (1e3, " ms") if name in ("diffusion", "triplet_time") else (1, "")
-    print(f"{{name}}: {{value * factor:.5g}} ± {{fit.errors[name] * factor:.2g}}{{unit}}")
-print(f"reduced chi-square: {{fit.reduced:.4g}}")
+    print(f"{{name}}: {{measured(value * factor, fit.errors[name] * factor if fit.lmfit.params[name].vary else None, unit)}}")
+print(f"reduced chi-square: {{measured(fit.reduced)}}")
 curves = {{"correlation": {{"seconds": curve.seconds, "G": curve.values, "error": curve.errors}}, "fit": {{"seconds": fit.axis, "G": fit.data, "fit": fit.curve}}}}
 """
 
@@ -257,7 +279,7 @@ def _correlation_settings(seen: Look) -> list[Setting]:
     return [
         Setting("first", "First group", groups[0], 1, 64),
         Setting("second", "Second group (the same again for one detector)", groups[min(1, len(groups) - 1)], 1, 64),
-        Setting("segments", "Segments, whose scatter tells the errors", 10, 2, 100),
+        Setting("segments", "Segments, whose scatter tells the errors", 10, 3, 100),
         Setting("dimensions", "Dimensions of the diffusion, 2 or 3", 3, 2, 3),
         Setting("triplet", "A triplet state in the fit: 1, none: 0", 0, 0, 1),
         Setting("begin", "The fit begins at so many µs", 1.0, 0, 1e9, whole=False),
@@ -282,8 +304,8 @@ def _g2(document: Names, settings: Settings, second: str | None) -> str:
     return f"""{REPORT}pairs = report.table("coincidence", 1)
 values, errors = fits.g2(pairs)
 middle, lowest = np.abs(pairs.ticks).argmin(), (values + errors).argmin()
-print(f"g2 at 0: {{values[middle]:.4g}} ± {{errors[middle]:.2g}}")
-print(f"lowest g2: {{values[lowest]:.4g}} ± {{errors[lowest]:.2g}} at {{pairs.seconds[lowest] * 1e9:.4g}} ns")
+print(f"g2 at 0: {{measured(values[middle], errors[middle])}}")
+print(f"lowest g2: {{measured(values[lowest], errors[lowest])}}, at {{pairs.seconds[lowest] * 1e9:.4g}} ns")
 curves = {{"g2": {{"seconds": pairs.seconds, "pairs": pairs.counts, "g2": values, "error": errors}}}}
 """
 
@@ -292,7 +314,7 @@ def _pulsed(document: Names, settings: Settings, second: str | None) -> str:
     first, other = (_group(document, settings[key]) for key in ("first", "second"))
     return f"""pairs = pulsed.coincidences(file, {first}, {other}, {settings['reach']})
 ratio, error = pairs.central_ratio(neighbours={settings['neighbours'] or None})
-print(f"g2(0), the pairs of one pulse over those of two: {{ratio:.4g}} ± {{error:.2g}}")
+print(f"g2(0), the pairs of one pulse over those of two: {{measured(ratio, error)}}")
 curves = {{"pairs": {{"periods": pairs.ticks, "pairs": pairs.counts}}}}
 """
 
@@ -372,7 +394,7 @@ curves = {{"patterns": {{"groups": [' and '.join(map(str, groups)) for groups in
 
 def _scanned(seen: Look) -> str:
     wanting = _only("T3", "pixels have delays after the sync")(seen)
-    if not wanting and "[[cube]]" not in plan_of(seen) and not _scan_of_marks(seen):
+    if not wanting and "[[cube]]" not in str(plan_of(seen)) and not _scan_of_marks(seen):
         return "neither its header nor its markers tell of the lines of a scan"
     return wanting
 

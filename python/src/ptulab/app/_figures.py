@@ -29,7 +29,7 @@ def curve(label: str, xs: NDArray[Any], ys: NDArray[Any], errors: NDArray[Any] |
 def figure(name: str, title: str, summary: str, xaxis: tuple[str, str], yaxis: tuple[str, str], curves: Sequence[Drawn], **more: Any) -> Drawn:
     """A figure of curves: the axes are their labels and units; ``more`` has ``xlog``, ``log``, ``level`` and ``start``."""
     axes = {"xlabel": xaxis[0], "xunit": xaxis[1], "ylabel": yaxis[0], "yunit": yaxis[1]}
-    usual = {"xlog": False, "log": None, "level": None, "start": None, "names": None}
+    usual = {"xlog": False, "log": None, "level": None, "start": None, "names": None, "drag": None}
     return {"kind": "curves", "name": name, "title": title, "summary": summary, **axes, **usual, **more, "curves": list(curves)}
 
 
@@ -81,7 +81,7 @@ def figures_of_look(seen: Info) -> list[Drawn]:
     traces = [curve(f"input {one.number}", starts * factor, one.trace[: len(starts)] * rate) for one in seen.inputs]
     told = f"The light of each input over the file, in {len(starts)} bins of {seen.bin_ticks * factor:.4g} {unit}."
     ylabel = ("photons a second", "a second") if tick else ("photons in a bin", "photons")
-    figures = [figure("look-trace", "Over the time", told, (f"time ({unit})", unit), ylabel, traces)]
+    figures = [figure("look-trace", "Over the time", told, (f"time ({unit})", unit), ylabel, traces, drag="time" if tick else None)]
     return figures + ([_decays(seen)] if mode == "T3" else [])
 
 
@@ -94,7 +94,7 @@ def _decays(seen: Info) -> Drawn:
     curves = [curve(f"input {number}", xs, decay[:depth]) for number, decay in decays]
     told = f"The photons of each input by their delay after the sync, in {depth:,} bins of {factor:.4g} {unit}."
     axes = (f"delay after the sync ({unit})", unit), ("photons", "photons")
-    return figure("look-decay", "By the delay after the sync", told, *axes, curves, log=True, tick=factor)
+    return figure("look-decay", "By the delay after the sync", told, *axes, curves, log=True, tick=factor, drag="gate")
 
 
 def write_curves(folder: Path, names: dict[str, Any]) -> None:

@@ -7,8 +7,8 @@ from collections.abc import Sequence
 from typing import Any
 
 from .._documents import read_plan
-from .._plan_rules import Finding, Plan, broken_rules, is_whole
-from ..errors import BadPlan
+from .._plan_rules import Finding, Document, broken_rules, is_whole
+from ..errors import BadPlanError
 from ..many import _megabytes
 
 HEADER = re.compile(r"^\s*\[\[\s*(\w+)\s*\]\]\s*(?:#\s*(.*?)\s*)?$")
@@ -20,12 +20,12 @@ def looked_over(text: str) -> dict[str, Any]:
     """The groups of a plan, whether they can be written from a table, and what is wrong with it, each with its line."""
     try:
         document = read_plan(text.encode("utf-8", errors="replace"))
-    except BadPlan as error:
+    except BadPlanError as error:
         place = AT_LINE.search(str(error))
         line = int(place[1]) if place else len(text.splitlines()) or 1
         return {"groups": None, "findings": [{"line": line, "text": str(error), "refused": True}]}
     found = [told(one, text) for one in broken_rules(document)]
-    groups = Plan(document).tables("group")
+    groups = Document(document).tables("group")
     names = [match[2] or "" for match in map(HEADER.match, text.splitlines()) if match and match[1] == "group"]
     inline = len(names) != len(groups)
     return {"groups": None if inline else [_group(table, name) for table, name in zip(groups, names)], "findings": found}
@@ -67,10 +67,10 @@ def _line_with(lines: Sequence[str], key: str, begin: int, end: int) -> int | No
 def with_groups(text: str, groups: Sequence[dict[str, Any]]) -> str:
     """The plan with these groups in the place of its own; all else stays as it is written.
 
-    Raises ``BadPlan`` for a plan that is no TOML, or whose groups are written inline, and ``ValueError`` for no groups.
+    Raises ``BadPlanError`` for a plan that is no TOML, or whose groups are written inline, and ``ValueError`` for no groups.
     """
     if looked_over(text)["groups"] is None:
-        raise BadPlan("the groups of this plan can only be changed in its text")
+        raise BadPlanError("the groups of this plan can only be changed in its text")
     kept: list[str] = []
     place: int | None = None
     inside = False
@@ -114,9 +114,9 @@ def _in_version_2(text: str) -> str:
 
 
 def bounded(text: str, megabytes: int) -> dict[str, Any]:
-    """The document of a plan. Raises ``BadPlan`` where it breaks a rule, or its tables take more memory than there may be."""
+    """The document of a plan. Raises ``BadPlanError`` where it breaks a rule, or its tables take more memory than there may be."""
     plan = text.encode("utf-8", errors="replace")
     needed = 2 * _megabytes(plan, "the plan")  # in the program, and here
     if needed > megabytes:
-        raise BadPlan(f"its tables take some {needed} MiB, and {megabytes} may be taken: ask for fewer or smaller ones")
+        raise BadPlanError(f"its tables take some {needed} MiB, and {megabytes} may be taken: ask for fewer or smaller ones")
     return read_plan(plan)

@@ -22,6 +22,7 @@ from typing import IO, Any
 
 EVERY = 0.2  # seconds between two lines on progress
 ENOUGH = 1 << 20  # bytes that are printed by a script, at most
+SHOWN = "shown.json"  # of a result, what the page drew
 Request = dict[str, Any]
 
 
@@ -32,7 +33,7 @@ class Work:
         self.request, self.out = request, out
         self.path: str = request["path"]
         self.size = max(1, os.path.getsize(self.path))
-        self.words, self.done, self.begin = "reads", 0.0, 0.0
+        self.words, self.done, self.begin, self.end = "reads", 0.0, 0.0, 1.0
         self.talking, self.ended = threading.Lock(), threading.Event()
 
     def say(self, **told: Any) -> None:
@@ -45,13 +46,19 @@ class Work:
         """So many bytes were looked at, before the program counts them once more."""
         self.done = 0.5 * size / self.size
 
+    def goes_on_with(self, number: int, many: int, path: str) -> None:
+        """Begins with one of many files."""
+        self.path, self.size = path, max(1, os.path.getsize(path))
+        self.begin, self.end = number / many, (number + 1) / many
+        self.done, self.words = self.begin, f"file {number + 1} of {many}"
+
     def watch(self) -> None:
         """Tells again and again how far the programs that this process started have read."""
         from ..program import _position
 
         while not self.ended.wait(EVERY):
             read = max((_position(child, self.path) for child in _children()), default=0)
-            done = max(self.done, self.begin + (1 - self.begin) * read / self.size if read else 0.0)
+            done = max(self.done, self.begin + (self.end - self.begin) * read / self.size if read else 0.0)
             self.say(progress=round(min(1.0, done), 3) if done else None, words=self.words)
 
 
@@ -95,50 +102,169 @@ def check(work: Work) -> Any:
 
 def run(work: Work) -> Any:
     """Runs the script of an analysis, whose printed lines are the numbers that are shown."""
-    from ._analyses import ANALYSES, settings_of
+    from ._analyses import analysis_of
+
+    folder, analysis = Path(work.request["out"]), analysis_of(work.request["analysis"])
+    script = _prepared(work, folder)
+    work.words = "counts in Python" if analysis.by_python else "counts"
+    names, numbers = _ran(folder, "analysis.py")
+    work.words = "draws"
+    _written(folder, names, numbers)
+    from ._more import notebook_of
+
+    (folder / "analysis.ipynb").write_text(notebook_of(analysis.title, script, work.path, numbers), "utf-8", errors="surrogateescape")
+    return _shown(folder, {"figures": analysis.draw(names), "numbers": numbers, "script": script})
+
+
+def _prepared(work: Work, folder: Path) -> str:
+    """Puts the plan and the script of an analysis into its folder."""
+    from ._analyses import analysis_of, settings_of
     from ._groups import bounded
 
-    request, folder = work.request, Path(work.request["out"])
-    analysis = ANALYSES[request["analysis"]]
+    request = work.request
+    analysis = analysis_of(request["analysis"])
     document = bounded(request["plan"], request["megabytes"])
     script = analysis.script(work.path, document, settings_of(analysis, request["settings"]), request.get("second"))
     (folder / "plan.toml").write_text(request["plan"], "utf-8")
     (folder / "analysis.py").write_text(script, "utf-8", errors="surrogateescape")
-    work.words = "counts in Python" if analysis.by_python else "counts"
-    printed = io.StringIO()
+    return script
+
+
+def _ran(folder: Path, script: str, out: io.StringIO | None = None) -> tuple[dict[str, Any], str]:
+    """What a script named, and what it printed."""
+    printed = io.StringIO() if out is None else out
     with contextlib.redirect_stdout(printed):
-        sys.argv[:] = [str(folder / "analysis.py")]
+        sys.argv[:] = [str(folder / script)]
         names = runpy.run_path(sys.argv[0])
-    work.words = "draws"
-    numbers = printed.getvalue()[:ENOUGH]
-    (folder / "numbers.txt").write_text(numbers, "utf-8")
-    return {"figures": analysis.draw(names), "numbers": numbers, "script": script, "files": _written(folder, names)}
+    return names, printed.getvalue()[:ENOUGH]
 
 
-def _written(folder: Path, names: dict[str, Any]) -> list[str]:
-    """The files of a result; its report too, and its curves."""
+def _written(folder: Path, names: dict[str, Any], numbers: str) -> None:
+    """Writes what a script told: its numbers, its report and its curves."""
     from ..texts import write_report
     from ._figures import write_curves
 
+    (folder / "numbers.txt").write_text(numbers, "utf-8", errors="surrogateescape")
     if "report" in names:
         write_report(names["report"], folder / "report.txt")
     write_curves(folder, names)
-    return sorted(path.name for path in folder.iterdir())
+
+
+def _shown(folder: Path, told: dict[str, Any]) -> dict[str, Any]:
+    """What is shown of a result, which is kept with it for a session that opens again."""
+    (folder / SHOWN).write_text(json.dumps(told, allow_nan=False), "utf-8")
+    return told | {"files": files_of(folder)}
+
+
+def files_of(folder: Path) -> list[str]:
+    """The files of a result that are handed out."""
+    return sorted(path.name for path in folder.iterdir() if path.name != SHOWN)
+
+
+def region(work: Work) -> Any:
+    """The decays of regions of a result's image."""
+    from ._analyses import ANALYSES, settings_of
+    from ._figures import write_curves
+    from ._more import draw_regions, region_script, regions_of
+
+    folder, threshold = Path(work.request["out"]), work.request["threshold"]
+    if not _is_report(folder) or "cube" not in (folder / "plan.toml").read_text("utf-8"):
+        raise ValueError("this result has no lifetime image, so it has no regions")
+    if not isinstance(threshold, int) or isinstance(threshold, bool) or not 0 <= threshold < 1 << 63:
+        raise ValueError("a threshold is a whole number of photons")
+    given = {word: value for word, value in work.request["settings"].items() if word in ("terms", "after")}
+    script = region_script(regions_of(work.request["regions"]), settings_of(ANALYSES["image"], given), threshold)
+    (folder / "regions.py").write_text(script, "utf-8")
+    names, numbers = _ran(folder, "regions.py")
+    (folder / "regions.txt").write_text(numbers, "utf-8")
+    write_curves(folder, names)
+    return {"figures": draw_regions(names), "numbers": numbers, "files": files_of(folder)}
+
+
+class _Heard(io.StringIO):
+    """What is printed, of which each line that begins a file is said."""
+
+    def __init__(self, begun: Callable[[int], None]) -> None:
+        super().__init__()
+        self.begun, self.many = begun, 0
+
+    def write(self, text: str) -> int:
+        if text.startswith("== "):
+            self.begun(self.many)
+            self.many += 1
+        return super().write(text)
+
+
+def many(work: Work) -> Any:
+    """The same analysis over many files: a table of their numbers, and the same of their sum."""
+    import csv
+
+    from ._analyses import analysis_of
+    from ._more import many_script, results_of, sum_script
+
+    folder, files = Path(work.request["out"]), work.request["files"]
+    analysis = analysis_of(work.request["analysis"])
+    script = _prepared(work, folder)
+    (folder / "many.py").write_text(many_script(analysis, files), "utf-8", errors="surrogateescape")
+    _, numbers = _ran(folder, "many.py", _Heard(lambda number: work.goes_on_with(number, len(files) + 1, files[number])))
+    heads, rows = results_of(numbers)
+    with open(folder / "results.csv", "w", encoding="utf-8", errors="surrogateescape", newline="") as out:
+        csv.writer(out, lineterminator="\n").writerows([heads, *rows])
+    figures: list[Any] = []
+    names: dict[str, Any] = {}
+    if whole := sum_script(script, files):
+        work.done, work.words = len(files) / (len(files) + 1), "counts the sum"
+        (folder / "sum.py").write_text(whole, "utf-8", errors="surrogateescape")
+        names, more = _ran(folder, "sum.py")
+        figures, numbers = analysis.draw(names), f"{numbers}== the sum of {len(files)} files\n{more}"
+    _written(folder, names, numbers)
+    return _shown(folder, {"figures": figures, "numbers": numbers, "script": script, "table": {"heads": heads, "rows": rows}})
+
+
+def _is_report(folder: Path) -> bool:
+    return (folder / "report.txt").is_file()
 
 
 def page(work: Work) -> Any:
     """The page of a result's report."""
     from ..page import write_page
     from ..program import find_program
-    from ..report import read_report
 
     folder = Path(work.request["out"])
-    report = read_report(folder / "report.txt", folder / "plan.toml")
-    write_page(report, folder / "page.html", file=work.path, plan=folder / "plan.toml", program=find_program())
-    return {"files": sorted(path.name for path in folder.iterdir())}
+    write_page(_report(folder), folder / "page.html", file=work.path, plan=folder / "plan.toml", program=find_program())
+    return {"files": files_of(folder)}
 
 
-KINDS: dict[str, Callable[[Work], Any]] = {"look": look, "propose": propose, "check": check, "run": run, "page": page}
+def _report(folder: Path) -> Any:
+    from ..report import read_report
+
+    if not _is_report(folder):
+        raise ValueError("this result has no report of the program: Python counted it")
+    return read_report(folder / "report.txt", folder / "plan.toml")
+
+
+def images(work: Work) -> Any:
+    """The images of a result as OME-TIFF."""
+    from ..headers import read_header
+    from ._more import write_images
+
+    folder = Path(work.request["out"])
+    write_images(folder, _report(folder), read_header(work.path))
+    return {"files": files_of(folder)}
+
+
+def photons(work: Work) -> Any:
+    """The photons of a result's file as Photon-HDF5."""
+    from ._more import write_photons
+
+    folder = Path(work.request["out"])
+    write_photons(folder, work.path, os.path.basename(work.path), work.request["settings"])
+    return {"files": files_of(folder)}
+
+
+KINDS: dict[str, Callable[[Work], Any]] = {
+    one.__name__: one for one in (look, propose, check, run, many, region, page, images, photons)
+}
 
 
 def main() -> int:
@@ -178,7 +304,7 @@ def _said(error: BaseException, request: Request) -> str:
         return f"{os.path.basename(str(error.filename or request['path']))}: {error.strerror or error}"
     text = " ".join(str(error).split()) or type(error).__name__
     text = text if isinstance(error, PtulabError | ValueError) else f"{type(error).__name__}: {text}"
-    for path in (request["path"], request.get("second") or ""):
+    for path in (request["path"], request.get("second") or "", *request.get("files", ())):
         text = text.replace(path, os.path.basename(path)) if path else text
     return text
 

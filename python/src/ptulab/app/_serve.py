@@ -34,11 +34,15 @@ __all__ = ["make_app", "serve"]
 FEATURE = "the window"
 LONGEST = 1 << 18  # bytes that a page may send
 KEPT = 8  # results whose files are kept
+KEPT_BYTES = 1 << 30  # of a session that is opened, at most
+MANY = 500  # files of one analysis, at most
+RUNS = ("run", "many")  # work that makes a result
+OF_A_RESULT = ("page", "images", "photons", "region")  # and work with one
 MEGABYTES = 3072  # that a piece of work may have
-SCRIPTS = ("app.js", "server.js", "dom.js", "files.js", "look.js", "plan.js", "questions.js", "plots.js")
+SCRIPTS = ("app.js", "server.js", "dom.js", "files.js", "look.js", "plan.js", "questions.js", "plots.js", "take.js")
 TYPES = {".js": "text/javascript; charset=utf-8", ".css": "text/css; charset=utf-8"}
 RESULT = re.compile(r"[0-9a-f]{16}")
-FILE = re.compile(r"[A-Za-z0-9_]{1,60}\.[a-z]{2,4}")
+FILE = re.compile(r"[A-Za-z0-9_-]{1,60}(\.ome)?\.[a-z0-9]{2,5}")
 SESSIONS = "ptulab-sessions"
 SESSION = re.compile(r"[\w][\w .()+-]{0,79}")
 
@@ -48,7 +52,7 @@ class Window:
 
     def __init__(self, folder: str | os.PathLike[str], program: str, work: str, megabytes: int) -> None:
         self.folder, self.work, self.jobs = Folder(folder), Path(work), Jobs(program, megabytes)
-        self.results: dict[str, str] = {}  # of each the name of its file
+        self.results: dict[str, dict[str, Any]] = {}  # of each what was asked: its file, settings ..
 
     # ## Files
 
@@ -83,20 +87,38 @@ class Window:
     def request(self, kind: str, asked: dict[str, Any]) -> dict[str, Any]:
         """What a piece of work is told. A run gets a folder for its files, the oldest of which is removed."""
         request: dict[str, Any] = {"kind": kind}
-        if kind == "page":
+        if kind in OF_A_RESULT:
             folder = self._result(asked)
-            return request | {"path": self.folder.path(self.results[folder.name]), "out": str(folder)}
-        request["path"] = self.folder.path(asked.get("file"))
-        if kind in ("check", "run"):
-            result = secrets.token_hex(8)
-            (self.work / result).mkdir()
-            request |= {"out": str(self.work / result), "plan": _text(asked, "plan")}
-            if kind == "run":
-                self.results[result] = asked["file"]
+            told = self.results[folder.name]
+            if kind == "region":
+                request |= {"regions": asked["regions"], "threshold": asked["threshold"]}
+            return request | {"path": self.folder.path(told["file"]), "out": str(folder), "settings": told["settings"]}
+        if kind == "many":
+            request["files"] = self._files(asked)
+        request["path"] = request["files"][0] if kind == "many" else self.folder.path(asked.get("file"))
+        if kind in ("check", *RUNS):
+            request |= {"plan": _text(asked, "plan")}
+            if kind in RUNS:
                 request |= {"analysis": _text(asked, "analysis"), "settings": dict(asked["settings"])}
                 request["second"] = self.folder.path(asked["second"]) if asked.get("second") else None
-                self._forget()
+            request["out"] = str(self._new(asked, kind))
         return request
+
+    def _files(self, asked: dict[str, Any]) -> list[str]:
+        names = asked.get("files")
+        if not isinstance(names, list) or not 1 <= len(names) <= MANY:
+            raise ValueError(f"one to {MANY} files are wanted")
+        return [self.folder.path(name) for name in names]
+
+    def _new(self, asked: dict[str, Any], kind: str) -> Path:
+        """The folder of a new result."""
+        result = secrets.token_hex(8)
+        (self.work / result).mkdir()
+        if kind in RUNS:
+            told = {key: asked.get(key) for key in ("analysis", "settings", "second", "files")}
+            self.results[result] = told | {"file": asked["files"][0] if kind == "many" else asked["file"]}
+            self._forget()
+        return self.work / result
 
     def _forget(self) -> None:
         while len(self.results) > KEPT:
@@ -128,7 +150,7 @@ class Window:
         folder = os.path.join(home, name)
         if os.path.realpath(home) != home or os.path.lexists(folder):
             raise ValueError(f"there is a session {name}: take another name")
-        told = {key: asked.get(key) for key in ("analysis", "settings", "second")} | {"file": self.results[result.name]}
+        told = self.results[result.name]
         os.makedirs(folder)
         try:
             for path in sorted(result.iterdir()):
@@ -146,7 +168,7 @@ class Window:
         return {"sessions": [name for name in names if SESSION.fullmatch(name)]}
 
     def session(self, asked: dict[str, Any]) -> Any:
-        """What a session asked: file, analysis, settings and plan."""
+        """What a session asked: file, analysis, settings and plan; its files are those of a new result, which is shown again."""
         name = _text(asked, "name")
         folder = os.path.join(self.folder.root, SESSIONS, name)
         if not SESSION.fullmatch(name) or os.path.realpath(folder) != folder:
@@ -156,8 +178,31 @@ class Window:
             with open(os.path.join(folder, file), encoding="utf-8", errors="replace") as opened:
                 texts.append(opened.read(LONGEST))
         told = json.loads(texts[0])
-        self.folder.path(told["file"])
-        return {key: told.get(key) for key in ("analysis", "settings", "second", "file")} | {"plan": texts[1]}
+        told = {key: told.get(key) for key in ("analysis", "settings", "second", "file", "files")} | {"plan": texts[1]}
+        for file in told["files"] or [told["file"]]:
+            self.folder.path(file)
+        if not isinstance(told["settings"], dict):
+            raise ValueError("this session has no settings")
+        result = self._new(told, "run")
+        try:
+            names = _copied(Path(folder), result)
+        except OSError:
+            shutil.rmtree(result, ignore_errors=True)
+            raise
+        return told | {"begun": result.name, "names": [name for name in names if name not in ("shown.json", "session.json")]}
+
+
+def _copied(folder: Path, result: Path) -> list[str]:
+    """Copies the files of a session, links and what is too long left out; gives their names."""
+    names, size = [], 0
+    for path in sorted(folder.iterdir()):
+        if FILE.fullmatch(path.name) and path.is_file() and not path.is_symlink():
+            size += path.stat().st_size
+            if size > KEPT_BYTES:
+                break
+            shutil.copyfile(path, result / path.name)
+            names.append(path.name)
+    return names
 
 
 def _text(asked: dict[str, Any], key: str) -> str:
@@ -171,7 +216,7 @@ def make_app(folder: str | os.PathLike[str], *, token: str, port: int, work: str
     """The application of a folder, for a server on this port.
 
     ``token`` is in the first address, ``work`` an empty folder for results, ``megabytes`` what a piece of work may have for its
-    data. Raises ``Missing`` without Starlette or Jinja, ``NoProgram``, and ``OSError`` for a folder that can't be read.
+    data. Raises ``MissingLibraryError`` without Starlette or Jinja, ``NoProgramError``, and ``OSError`` for a folder that can't be read.
     """
     want("starlette.applications", FEATURE)
     want("jinja2", FEATURE)
@@ -199,7 +244,7 @@ def make_app(folder: str | os.PathLike[str], *, token: str, port: int, work: str
             except (PtulabError, ValueError, KeyError, TypeError, OSError) as error:
                 return JSONResponse({"error": _said(error)}, 404 if isinstance(error, NotHere) else 400)
             begun = json.dumps({"begun": os.path.basename(told.get("out", ""))}).encode() + b"\n"
-            return _stream(begun, window.jobs.lines(told, kind == "run"))
+            return _stream(begun, window.jobs.lines(told, kind in RUNS))
 
         return endpoint
 
@@ -233,7 +278,7 @@ def make_app(folder: str | os.PathLike[str], *, token: str, port: int, work: str
                 Route("/static/{name}", script),
                 Route("/result/{result}/{name}", download),
                 *(Route(f"/api/{name}", answered(answer), methods=["POST"]) for name, answer in asked.items()),
-                *(Route(f"/api/{kind}", worked(kind), methods=["POST"]) for kind in ("look", "propose", "check", "run", "page")),
+                *(Route(f"/api/{kind}", worked(kind), methods=["POST"]) for kind in ("look", "propose", "check", *RUNS, *OF_A_RESULT)),
             ]
         ),
         token,
@@ -297,7 +342,7 @@ def _page(values: dict[str, Any]) -> str:
 def serve(folder: str | os.PathLike[str] = ".", *, port: int = 0, browser: bool = True, program: str | None = None) -> None:
     """Serves the window of a folder on 127.0.0.1 till it is ended, and opens the browser at it.
 
-    ``port`` 0 takes a free one. Raises as ``make_app`` does, and ``Missing`` without uvicorn.
+    ``port`` 0 takes a free one. Raises as ``make_app`` does, and ``MissingLibraryError`` without uvicorn.
     """
     uvicorn = want("uvicorn", FEATURE)
     listening = socket.socket(socket.AF_INET, socket.SOCK_STREAM)

@@ -4,6 +4,7 @@ import { list, lookAround, mark } from "./files.js";
 import { look } from "./look.js";
 import { open, questions, stop } from "./questions.js";
 import { ask } from "./server.js";
+import { show } from "./take.js";
 
 let chosen = new AbortController();
 
@@ -23,6 +24,7 @@ async function choose(name, session = null) {
     const these = await questions(name, told.info, mine.signal);
     const one = session && these.find((each) => each.name === session.analysis);
     if (one) await open(one, session);
+    if (one && session.begun) await again(session);
   } catch (error) {
     if (mine.signal.aborted) return;
     const said = error instanceof Error ? error.message : String(error);
@@ -30,6 +32,12 @@ async function choose(name, session = null) {
     byId("look-said").className = "wrong";
     byId("questions").hidden = true;
   }
+}
+
+/** Shows the result that a session kept. @param {any} session */
+async function again(session) {
+  const answer = await fetch(`/result/${session.begun}/shown.json`);
+  if (answer.ok) show({ ...await answer.json(), begun: session.begun, files: session.names }, session);
 }
 
 async function sessions() {

@@ -25,6 +25,7 @@ export async function look(name, signal) {
 
 /** @param {any} told */
 function show(told) {
+  document.dispatchEvent(new Event("looked"));
   const info = told.info;
   const warned = [info.is_cut ? `The file is ${info.whole}.` : "", info.late ? `${short(info.late)} events are late, and in no count.` : ""].filter((some) => some);
   byId("look-said").textContent = warned.join(" ") || `${short(info.photons)} photons in ${short(info.seconds)} s; the file is ${info.is_cut ? "cut" : info.whole.split(":")[0]}.`;

@@ -12,6 +12,7 @@ let asked = 0;
 let timer;
 /** @type {{inputs: number[], gates: boolean}} */
 let of = { inputs: [], gates: false };
+let target = 0; // the group that gets a gate that is dragged
 
 export const plan = () => text.value;
 
@@ -19,6 +20,7 @@ export const plan = () => text.value;
 export function show(written, inputs, gates) {
   of = { inputs, gates };
   before = [];
+  target = 0;
   text.value = written;
   return follow();
 }
@@ -37,10 +39,22 @@ function shown(told, keep = false) {
   /** @type {HTMLButtonElement} */ (byId("add-group")).disabled = !groups;
   byId("groups-said").textContent = groups ? "" : "These groups can only be changed in the text.";
   if (!keep) byId("groups").replaceChildren(...(groups || []).map(fields));
+  document.dispatchEvent(new CustomEvent("gates", { detail: of.gates && groups ? groups.flatMap((group) => group.gates) : [] }));
+}
+
+/** The numbers of the lines, those with findings marked. @param {any[]} findings */
+function numbered(findings) {
+  const refused = new Set(findings.filter((one) => one.refused).map((one) => one.line)), said = new Set(findings.map((one) => one.line));
+  byId("lines").replaceChildren(...text.value.split("\n").flatMap((_, at) => {
+    const number = String(at + 1);
+    return [refused.has(at + 1) ? make("b", { text: number }) : said.has(at + 1) ? make("i", { text: number }) : number, "\n"];
+  }));
+  byId("lines").scrollTop = text.scrollTop;
 }
 
 /** Lists what is wrong with the plan; a click goes to the line. @param {any[]} findings @param {string} none */
 export function say(findings, none) {
+  numbered(findings);
   text.setAttribute("aria-invalid", String(findings.some((one) => one.refused)));
   const items = findings.map((one) => make("li", {}, make("button", { type: "button", class: one.refused ? "wrong" : "", text: `line ${one.line}: ${one.text}`, on: { click: () => go(one.line) } })));
   byId("findings").replaceChildren(...(items.length || !none ? items : [make("li", { text: none })]));
@@ -75,7 +89,7 @@ function fields(group, at) {
   });
   const gates = of.gates ? [...group.gates.map((gate, place) => gateFields(group, gate, place, label, change)),
     make("button", { type: "button", text: "Add a gate", "aria-label": `Add a gate to ${label}`, on: { click: () => { group.gates.push([0, 32768]); again(); } } }), " ",
-    make("button", { type: "button", text: "Gate by the zoom", "aria-label": `Give ${label} the part of the decay that is zoomed in as its gate`, on: { click: () => zoomed(group) } })] : [];
+    make("label", {}, goal(at), " gets the gates that are dragged")] : [];
   const remove = make("button", { type: "button", text: "Remove", "aria-label": `Remove ${label}`, on: { click: () => { groups?.splice(at, 1); again(); } } });
   return make("fieldset", {}, make("legend", { text: label }), make("p", {}, make("label", {}, "name ", name), remove), make("p", {}, ...ticks), ...gates);
 }
@@ -88,13 +102,24 @@ function gateFields(group, gate, place, label, change) {
   return make("p", {}, ...ends, remove);
 }
 
-/** The gate of a group becomes what is shown of the first look's decay, as zooming drags it. @param {{gates: number[][]}} group */
-function zoomed(group) {
-  const plot = /** @type {any} */ (document.getElementById("figure-look-decay-plot")), range = plot?.layout?.xaxis?.range, tick = Number(plot?.dataset.tick);
-  if (!range || plot.layout.xaxis.autorange || !tick) return trouble("Zoom into the decay of the first look first: drag over the part that is the gate.");
+/** Which group gets a gate that is dragged on the decay. @param {number} at */
+function goal(at) {
+  const radio = /** @type {HTMLInputElement} */ (make("input", { type: "radio", name: "goal", value: String(at), "aria-label": `group ${at + 1} gets the gates that are dragged on the decay` }));
+  radio.checked = at === target;
+  radio.addEventListener("change", () => { target = at; });
+  return radio;
+}
+
+/** A part of the first look's decay, which was dragged, becomes a gate. @param {[number, number]} range @param {number} tick */
+function dragged(range, tick) {
+  const group = (groups || [])[Math.min(target, (groups || []).length - 1)];
+  if (!group || byId("ask").hidden) return trouble("Open a question first: gates belong to the groups of its plan.");
   trouble("");
-  const [from, to] = range.map((/** @type {number} */ x) => Math.min(32768, Math.max(0, Math.round(x / tick))));
-  if (from < to) group.gates = [[from, to]];
+  const [from, to] = range.map((x) => Math.min(32768, Math.max(0, Math.round(x / tick))));
+  if (from >= to) return;
+  const apart = group.gates.filter(([begin, end]) => end < from || begin > to), joined = group.gates.filter(([begin, end]) => end >= from && begin <= to);
+  group.gates = [...apart, [Math.min(from, ...joined.map(([begin]) => begin)), Math.max(to, ...joined.map(([, end]) => end))]].sort((one, other) => one[0] - other[0]);
+  /** @type {HTMLDetailsElement} */ (byId("plan")).open = true;
   again();
 }
 
@@ -111,4 +136,9 @@ byId("undo").addEventListener("click", () => {
   if (was === undefined) return;
   text.value = was;
   follow().catch((error) => trouble(error.message));
+});
+text.addEventListener("scroll", () => { byId("lines").scrollTop = text.scrollTop; });
+document.addEventListener("chosen", (heard) => {
+  const { what, range, tick } = /** @type {CustomEvent} */ (heard).detail;
+  if (what === "gate") dragged(range, tick);
 });

@@ -5,7 +5,7 @@ import { make, short, table } from "./dom.js";
 /**
  * @typedef {{label: string, x: number[], y: (number | null)[], errors: (number | null)[] | null, shape: string}} Curve
  * @typedef {{kind: "curves", name: string, title: string, summary: string, xlabel: string, xunit: string, ylabel: string, yunit: string,
- *   xlog: boolean, log: boolean | null, level: number | null, start: number | null, names: string[] | null, curves: Curve[], tick?: number}} Curves
+ *   xlog: boolean, log: boolean | null, level: number | null, start: number | null, names: string[] | null, curves: Curve[], tick?: number, drag?: string}} Curves
  * @typedef {{kind: "picture", name: string, title: string, summary: string, rows: number, columns: number, block: number, label: string,
  *   unit: string, micrometres: number | null, photons: any, values: any, threshold: number, most: number, zmin: number, zmax: number, colours: string}} Picture
  */
@@ -14,7 +14,7 @@ const Plotly = /** @type {any} */ (window).Plotly;
 const dark = window.matchMedia("(prefers-color-scheme: dark)"), narrow = window.matchMedia("(max-width: 45rem)");
 const times = /** @type {[number, string][]} */ ([[1, "s"], [1e-3, "ms"], [1e-6, "\u00b5s"], [1e-9, "ns"], [1e-12, "ps"]]);
 const KEYS = "With the keys: arrows go from point to point, Home and End to the first and the last.";
-const ROWS = 100;
+const ROWS = 100, REGION = "#ff4d3d"; // which stands out of all colours of pictures
 /** @type {Map<HTMLElement, () => void>} plots on the page, and how each is drawn anew */
 const drawn = new Map();
 /** @param {string} name */
@@ -22,8 +22,15 @@ const colour = (name) => getComputedStyle(document.documentElement).getPropertyV
 /** @param {any} text */
 const plain = (text) => String(text).replace(/&/g, "&amp;").replace(/</g, "&lt;").replace(/>/g, "&gt;");
 
+/** What is shown over the plots of the page: gates in ticks of the delay, and regions of images in pixels. */
+const over = { gates: /** @type {number[][]} */ ([]), time: /** @type {number[] | null} */ (null), regions: /** @type {number[][][]} */ ([]) };
+const again_all = () => { for (const [place, again] of drawn) if (place.isConnected) again(); else drawn.delete(place); };
+document.addEventListener("gates", (heard) => { over.gates = /** @type {CustomEvent} */ (heard).detail; again_all(); });
+document.addEventListener("looked", () => Object.assign(over, { gates: [], time: null, regions: [] }));
+document.addEventListener("regions", (heard) => { over.regions = /** @type {CustomEvent} */ (heard).detail; again_all(); });
+
 for (const media of [dark, narrow]) media.addEventListener("change", () => {
-  for (const [place, again] of drawn) if (place.isConnected) again(); else drawn.delete(place);
+  again_all();
 });
 
 /** A number with its unit; seconds with the one that makes it short. @param {number | null} value @param {string} unit */
@@ -53,40 +60,79 @@ const layout = () => ({
   legend: { orientation: "h", y: 1.12, x: 0 }, showlegend: false,
 });
 
-/** The section of a figure, drawn once it is on the page. @param {Curves | Picture} figure */
-export function draw(figure) {
+/** The section of a figure, drawn once it is on the page; `of` is the question whose result it is. @param {any} figure @param {{of?: string}} [told] */
+export function draw(figure, { of = "" } = {}) {
   const id = `figure-${figure.name}`;
   const plot = make("div", { id: `${id}-plot`, class: `plot ${figure.kind}`, tabindex: "0", role: "application", "aria-label": figure.title, "aria-describedby": `${id}-summary ${id}-keys` });
   if (figure.kind === "curves" && figure.tick) plot.dataset.tick = String(figure.tick);
+  if (figure.kind === "picture") plot.dataset.picture = `${figure.rows} ${figure.columns} ${figure.block} ${figure.micrometres}`;
   const said = make("p", { class: "said", role: "status", "aria-live": "polite" }), controls = make("div", { class: "controls" });
-  const section = make("figure", { id, "aria-labelledby": `${id}-title` }, make("h3", { id: `${id}-title`, text: figure.title }), make("p", { id: `${id}-summary`, text: figure.summary }),
-    controls, plot, said, make("p", { id: `${id}-keys`, class: "faint", text: KEYS }));
-  section.style.margin = "0";
   const shape = figure.kind === "picture" ? picture(figure, controls, id) : curves(figure, controls);
+  const drags = figure.drag === "time" ? "chooses a time window" : figure.drag === "gate" ? "chooses a gate" : figure.kind === "picture" && of === "image" ? "draws a region" : "";
+  const drag = drags ? /** @type {HTMLSelectElement} */ (make("select", { "aria-label": `What dragging does in ${figure.title}` }, make("option", { value: "zoom", text: "zooms" }), make("option", { value: "choose", text: drags }))) : null;
+  const tools = make("p", { class: "controls tools" }, ...(drag ? [make("label", {}, "Dragging ", drag)] : []), ...["png", "svg"].map((format) => make("button", { type: "button", text: `Save as ${format.toUpperCase()}`,
+    "aria-label": `Save ${figure.title} as ${format.toUpperCase()}`, on: { click: () => Plotly.downloadImage(plot, { format, filename: figure.name, width: 1000, height: figure.kind === "picture" ? 800 : 600 }) } })));
+  const section = make("figure", { id, "aria-labelledby": `${id}-title` }, make("h3", { id: `${id}-title`, text: figure.title }), make("p", { id: `${id}-summary`, text: figure.summary }),
+    controls, tools, plot, said, make("p", { id: `${id}-keys`, class: "faint", text: KEYS }));
+  section.style.margin = "0";
   section.append(make("details", {}, make("summary", { text: "Values as a table" }), shape.table()));
-  const again = () => Plotly.react(plot, ...shape.draw(), { responsive: true, displaylogo: false, displayModeBar: narrow.matches ? false : "hover" });
+  const again = () => {
+    const [traces, look] = shape.draw();
+    if (drag?.value === "choose") Object.assign(look, figure.kind === "picture" ? { dragmode: "drawclosedpath", newshape: { line: { color: REGION, width: 2 }, drawdirection: "diagonal" } } : { dragmode: "select", selectdirection: "h" });
+    return Plotly.react(plot, traces, look, { responsive: true, displaylogo: false, displayModeBar: narrow.matches ? false : "hover" });
+  };
   controls.addEventListener("input", again);
+  drag?.addEventListener("change", again);
   requestAnimationFrame(async () => {
     if (!plot.isConnected) return;
     drawn.set(plot, again);
     await again();
     const heard = /** @type {any} */ (plot);
     heard.on("plotly_hover", (/** @type {any} */ event) => { said.textContent = shape.told(event.points[0].curveNumber, event.points[0].pointNumber); });
-    heard.on("plotly_relayout", (/** @type {any} */ event) => linked(figure, plot, event));
+    heard.on("plotly_relayout", (/** @type {any} */ event) => { linked(figure, plot, event); if (event.shapes && figure.kind === "picture") outlined(figure, event.shapes); });
+    heard.on("plotly_selected", (/** @type {any} */ event) => { if (event?.range) chosen(figure, event.range.x); });
     plot.addEventListener("keydown", (event) => walk(event, plot, shape, said));
     plot.dataset.drawn = "yes";
   });
   return section;
 }
 
-/** The figures whose names begin alike, as a decay and its residuals, have one zoom. @param {any} figure @param {HTMLElement} plot @param {any} event */
+/** What was chosen by dragging over a figure. @param {any} figure @param {number[]} range */
+function chosen(figure, range) {
+  const [from, to] = [Math.min(...range), Math.max(...range)];
+  if (figure.drag === "time") over.time = [from, to];
+  document.dispatchEvent(new CustomEvent("chosen", { detail: { what: figure.drag, range: [from, to], tick: figure.tick } }));
+  again_all();
+}
+
+/** Regions that were drawn on a picture, in pixels of the file. @param {Picture} figure @param {any[]} shapes */
+function outlined(figure, shapes) {
+  const pixel = figure.micrometres || 1;
+  over.regions = shapes.filter((shape) => shape.type === "path").map((shape) => [...shape.path.matchAll(/(-?[\d.]+(?:e-?\d+)?),(-?[\d.]+(?:e-?\d+)?)/g)].map(([, x, y]) => [Number(x) / pixel + 0.5, Number(y) / pixel + 0.5]));
+  over.regions = over.regions.map((corners) => { const step = Math.ceil(corners.length / 400); return corners.filter((_, at) => at % step === 0); }).filter((corners) => corners.length > 2);
+  document.dispatchEvent(new CustomEvent("drawn", { detail: over.regions }));
+  again_all();
+}
+
+/** A decay and its residuals have one zoom of their delays, the pictures of a scan one of both axes. @param {any} figure @param {HTMLElement} plot @param {any} event */
 function linked(figure, plot, event) {
-  const range = event["xaxis.range[0]"] === undefined ? null : [event["xaxis.range[0]"], event["xaxis.range[1]"]];
-  if (!range && !event["xaxis.autorange"]) return;
-  const other = document.getElementById(figure.name.endsWith("-rest") ? `figure-${figure.name.slice(0, -5)}-plot` : `figure-${figure.name}-rest-plot`);
-  const there = /** @type {any} */ (other)?.layout?.xaxis;
-  if (!other || other === plot || (range && there?.range && there.range[0] === range[0] && there.range[1] === range[1]) || (!range && there?.autorange)) return;
-  Plotly.relayout(other, range ? { "xaxis.range": range } : { "xaxis.autorange": true });
+  for (const [other] of drawn) {
+    const axes = other !== plot && other.isConnected ? shared(plot, other) : [];
+    const changes = /** @type {Record<string, any>} */ ({}), there = /** @type {any} */ (other).layout;
+    for (const name of axes) {
+      const range = event[`${name}.range[0]`] === undefined ? null : [event[`${name}.range[0]`], event[`${name}.range[1]`]], now = there?.[name]?.range;
+      if (range && !(now && now[0] === range[0] && now[1] === range[1])) changes[`${name}.range`] = range;
+      else if (event[`${name}.autorange`] && !there?.[name]?.autorange) changes[`${name}.autorange`] = name === "yaxis" ? "reversed" : true;
+    }
+    if (Object.keys(changes).length) Plotly.relayout(other, changes);
+  }
+}
+
+/** The axes that two plots share. @param {HTMLElement} one @param {HTMLElement} other @returns {string[]} */
+function shared(one, other) {
+  if (one.dataset.picture) return one.dataset.picture === other.dataset.picture ? ["xaxis", "yaxis"] : [];
+  const stem = (/** @type {HTMLElement} */ plot) => plot.id.replace(/(-rest)?-plot$/, "");
+  return !other.dataset.picture && stem(one) === stem(other) ? ["xaxis"] : [];
 }
 
 /** @param {KeyboardEvent} event @param {HTMLElement} plot @param {any} shape @param {HTMLElement} said */
@@ -115,7 +161,8 @@ function box(controls, words, checked) {
 
 /** @param {Curves} figure @param {HTMLElement} controls */
 function curves(figure, controls) {
-  const log = figure.log === null ? null : box(controls, "logarithmic counts", figure.log);
+  const log = figure.names ? null : box(controls, figure.log === null ? "logarithmic values" : "logarithmic counts", Boolean(figure.log));
+  const xlog = figure.names ? null : box(controls, `logarithmic ${figure.xlabel.replace(/ \(.*/, "")}`, figure.xlog);
   const all = figure.start === null ? null : box(controls, "all delays", false);
   const first = figure.curves[0] || { x: [], y: [], errors: null };
   /** @param {Curve} one @param {number} at */
@@ -131,7 +178,7 @@ function curves(figure, controls) {
       return table(`${figure.title}: every ${step === 1 ? "value" : `${step}th value`}`, [figure.xlabel, ...figure.curves.map((one) => one.label)], rows);
     },
     draw() {
-      const logarithmic = Boolean(log?.checked), look = /** @type {any} */ (layout());
+      const logarithmic = Boolean(log?.checked), across = Boolean(xlog?.checked), look = /** @type {any} */ (layout());
       const traces = figure.curves.map((one, at) => ({
         type: figure.names ? "bar" : "scatter", name: plain(one.label), x: figure.names ? figure.names.map(plain) : one.x, text: one.y.map((_, place) => plain(words(one, place))),
         y: logarithmic ? one.y.map((y) => (y !== null && y > 0 ? y : null)) : one.y, hovertemplate: "%{text}<extra></extra>", textposition: figure.names ? "none" : undefined,
@@ -140,7 +187,7 @@ function curves(figure, controls) {
         error_y: one.errors ? { type: "data", array: one.errors, color: colour("faint"), thickness: 1, width: 0 } : undefined,
       }));
       look.showlegend = traces.length > 1;
-      look.xaxis = axis(figure.xlabel, figure.xlog);
+      look.xaxis = axis(figure.xlabel, across);
       if (figure.names) look.xaxis.type = "category";
       look.yaxis = axis(figure.ylabel, logarithmic);
       labelled(look.xaxis, figure.curves.flatMap((one) => one.x));
@@ -150,13 +197,20 @@ function curves(figure, controls) {
         const ends = [figure.start, first.x[first.x.length - 1]], start = figure.start;
         const seen = figure.curves.flatMap((one) => one.y.filter((y, at) => y !== null && one.x[at] >= start)), least = Math.min(figure.level ?? 0, ...seen.map(Number));
         const most = Math.max(figure.level ?? 0, ...seen.map(Number));
-        look.xaxis.range = figure.xlog ? ends.map(Math.log10) : ends;
-        look.yaxis.range = [least - 0.05 * (most - least), most + 0.08 * (most - least)];
+        look.xaxis.range = across ? ends.map(Math.log10) : ends;
+        if (!logarithmic) look.yaxis.range = [least - 0.05 * (most - least), most + 0.08 * (most - least)];
       }
-      if (figure.level !== null) look.shapes = [{ type: "line", xref: "paper", x0: 0, x1: 1, y0: figure.level, y1: figure.level, line: { color: colour("faint"), width: 1, dash: "dot" } }];
+      look.shapes = bands(figure);
+      if (figure.level !== null && !(logarithmic && figure.level <= 0)) look.shapes.push({ type: "line", xref: "paper", x0: 0, x1: 1, y0: figure.level, y1: figure.level, line: { color: colour("faint"), width: 1, dash: "dot" } });
       return [traces, look];
     },
   };
+}
+
+/** What was chosen by dragging, as bands over a figure. @param {Curves} figure @returns {any[]} */
+function bands(figure) {
+  const tick = figure.tick || 1, those = figure.drag === "gate" ? over.gates.map((gate) => gate.map((end) => end * tick)) : figure.drag === "time" && over.time ? [over.time] : [];
+  return those.map(([x0, x1]) => ({ type: "rect", yref: "paper", y0: 0, y1: 1, x0, x1, fillcolor: colour("accent"), opacity: 0.18, line: { width: 0 } }));
 }
 
 /** @param {{kind: string, base64: string}} packed */
@@ -196,6 +250,7 @@ function picture(figure, controls, id) {
       const [across, down] = figure.micrometres ? ["x (\u00b5m)", "y (\u00b5m)"] : ["column (pixels)", "row (pixels)"];
       look.xaxis = Object.assign(axis(across, false), { constrain: "domain", showgrid: false, zeroline: false });
       look.yaxis = Object.assign(axis(down, false), { autorange: "reversed", scaleanchor: "x", constrain: "domain", showgrid: false, zeroline: false });
+      look.shapes = over.regions.map((corners) => ({ type: "path", line: { color: REGION, width: 2 }, path: `M${corners.map(([x, y]) => `${(x - 0.5) * pixel},${(y - 0.5) * pixel}`).join("L")}Z` }));
       return [[{ type: "heatmap", z: cells, text: words, hovertemplate: "%{text}<extra></extra>", x0: pixel * (figure.block - 1) / 2, dx: pixel * figure.block,
         y0: pixel * (figure.block - 1) / 2, dy: pixel * figure.block, colorscale: figure.colours, zmin: figure.zmin, zmax: figure.zmax,
         colorbar: { title: { text: plain(figure.label), side: "right" }, thickness: narrow.matches ? 8 : 14, tickfont: { color: colour("ink") } } }], look];

@@ -1,14 +1,16 @@
 // What can be asked of a file: the questions, the settings of one, its run and its result.
-import { byId, make, trouble } from "./dom.js";
+import { byId, make, short, trouble } from "./dom.js";
 import { alone, files } from "./files.js";
 import * as plans from "./plan.js";
-import { draw } from "./plots.js";
-import { ask, bar, work } from "./server.js";
+import { bar, work } from "./server.js";
+import { show } from "./take.js";
 
 /** @type {{file: string, inputs: number[], mode: string, asked: any, settings: HTMLInputElement[], second: HTMLSelectElement | null, run: AbortController | null}} */
 const now = { file: "", inputs: [], mode: "", asked: null, settings: [], second: null, run: null };
 /** @type {Map<string, any[]>} */
 const proposed = new Map();
+/** @type {Map<string, [number, number]>} windows of time that were chosen on a trace, by the files */
+const windows = new Map();
 const button = (/** @type {string} */ id) => /** @type {HTMLButtonElement} */ (byId(id));
 
 /** Shows what can be asked of a file. @param {string} file @param {any} info @param {AbortSignal} signal */
@@ -45,7 +47,7 @@ export async function open(one, kept = null) {
   byId("result").hidden = true;
   byId("ask-title").textContent = one.title;
   byId("ask-means").textContent = one.means + (one.python ? " This is counted by Python, which is tested; not by the proved program." : "");
-  const values = kept?.settings || {};
+  const [from_seconds, to_seconds] = windows.get(now.file) || [0, 0], values = { from_seconds, to_seconds, ...kept?.settings };
   now.settings = one.settings.map((/** @type {any} */ each) => /** @type {HTMLInputElement} */ (make("input", {
     type: "number", id: `setting-${each.key}`, "data-key": each.key, min: each.least, max: each.most, step: each.whole ? "1" : "any", value: values[each.key] ?? each.value, required: true })));
   const fields = now.settings.map((input, at) => make("p", {}, make("label", { for: input.id, text: one.settings[at].label }), input));
@@ -53,6 +55,7 @@ export async function open(one, kept = null) {
   if (now.second) fields.push(make("p", {}, make("label", { for: "second", text: "The measured pulse, for a fit of the whole decay" }), now.second));
   byId("settings").replaceChildren(...fields);
   byId("run-said").textContent = "";
+  others(kept?.files || []);
   await plans.show(kept?.plan || one.plan, now.inputs, now.mode === "T3");
   byId("ask-title").focus();
 }
@@ -67,70 +70,67 @@ function second(chosen) {
 
 const settings = () => Object.fromEntries(now.settings.map((input) => [input.dataset.key, Number(input.value)]));
 
-async function run() {
+/** The files over which the same can be done. @param {string[]} ticked */
+function others(ticked) {
+  const type = files.find((file) => file.name === now.file)?.type;
+  const same = files.filter((file) => !file.wrong && file.type === type);
+  byId("many-list").replaceChildren(...same.map((file) => {
+    const box = /** @type {HTMLInputElement} */ (make("input", { type: "checkbox", value: file.name }));
+    box.checked = file.name === now.file || ticked.includes(file.name);
+    return make("li", {}, make("label", {}, box, ` ${file.name}`));
+  }));
+  byId("many-said").textContent = `${same.length} of the files are of the type ${type}.`;
+}
+
+const boxes = () => /** @type {HTMLInputElement[]} */ ([...document.querySelectorAll("#many-list input")]);
+/** @param {boolean} checked */
+const tick = (checked) => boxes().forEach((box) => { box.checked = checked; });
+
+/** Runs the question over the file, or over many. @param {"run" | "many"} kind */
+async function run(kind) {
   const wrong = now.settings.find((input) => !input.reportValidity());
   if (wrong) return wrong.focus();
   trouble("");
-  const mine = now.run = new AbortController(), asked = { file: now.file, plan: plans.plan(), analysis: now.asked.name, settings: settings(), second: now.second?.value || null };
-  button("run").disabled = true;
+  const chosen = boxes().filter((box) => box.checked).map((box) => box.value);
+  if (kind === "many" && !chosen.length) return trouble("Tick at least one file.");
+  const mine = now.run = new AbortController(), more = kind === "many" ? { files: chosen } : {};
+  const asked = { file: now.file, plan: plans.plan(), analysis: now.asked.name, settings: settings(), second: now.second?.value || null, ...more };
+  for (const id of ["run", "run-many"]) button(id).disabled = true;
   button("stop").disabled = false;
   byId("run-said").textContent = "Runs ..";
   const progress = bar(byId("run-progress"), "How far the run is");
   try {
-    const told = await alone(() => work("run", asked, (line) => { progress.heard(line); if (line.words) byId("run-said").textContent = `${line.words} ..`; }, mine.signal));
+    const told = await alone(() => work(kind, asked, (line) => { progress.heard(line); if (line.words) byId("run-said").textContent = `${line.words} ..`; }, mine.signal));
     byId("run-said").textContent = "Done.";
     show(told, asked);
   } catch (error) {
     byId("run-said").textContent = mine.signal.aborted ? "Stopped." : `It didn't work: ${error instanceof Error ? error.message : error}`;
   } finally {
     progress.end();
-    button("run").disabled = false;
+    for (const id of ["run", "run-many"]) button(id).disabled = false;
     button("stop").disabled = true;
     now.run = null;
   }
 }
 
-/** Shows a result. @param {any} told @param {any} asked */
-function show(told, asked) {
-  byId("result").hidden = false;
-  const links = make("ul", {}), page = make("button", { type: "button", text: "Make a page of the report" });
-  page.hidden = !told.files.includes("report.txt");
-  const list = (/** @type {string[]} */ names) => links.replaceChildren(...names.map((name) => make("li", {}, make("a", { href: `/result/${told.begun}/${name}`, download: name, text: name }))));
-  list(told.files);
-  page.addEventListener("click", async () => {
-    page.toggleAttribute("disabled", true);
-    try {
-      list((await alone(() => work("page", { result: told.begun }, () => {}, new AbortController().signal))).files);
-    } catch (error) {
-      trouble(error instanceof Error ? error.message : String(error));
-    } finally {
-      page.toggleAttribute("disabled", false);
-    }
-  });
-  byId("result-told").replaceChildren(
-    make("h3", { text: "Numbers" }), make("pre", { id: "numbers", tabindex: "0", text: told.numbers }), ...told.figures.map(draw), make("h3", { text: "Take it along" }), links, make("p", {}, page), keep(told, asked),
-    make("details", {}, make("summary", { text: "The Python script that does the same" }), make("pre", { id: "script", tabindex: "0", text: told.script })));
-  byId("result-title").focus();
+/** A window of time that was dragged on the trace goes into the settings. @param {[number, number]} range */
+function windowed([from, to]) {
+  const ends = [Math.max(0, from), Math.max(0, to)].map((value) => Number(value.toPrecision(6)));
+  windows.set(now.file, /** @type {[number, number]} */ (ends));
+  ["from_seconds", "to_seconds"].forEach((key, at) => { const input = now.settings.find((one) => one.dataset.key === key); if (input) input.value = String(ends[at]); });
+  byId("look-said").textContent = `Chosen: from ${short(ends[0])} s to ${short(ends[1])} s, for what is run next.`;
 }
 
-/** A form that keeps a result as a session. @param {any} told @param {any} asked */
-function keep(told, asked) {
-  const name = /** @type {HTMLInputElement} */ (make("input", { type: "text", id: "session-name", maxlength: "80", value: `${asked.file.replace(/^.*\//, "").replace(/\.ptu$/i, "").replace(/[^\w .()+-]/g, "_")} ${asked.analysis}` }));
-  const said = make("p", { role: "status" });
-  const button = make("button", { type: "button", text: "Keep it as a session", on: { click: async () => {
-    try {
-      said.textContent = `It is in ${(await ask("keep", { ...asked, result: told.begun, name: name.value })).folder}.`;
-      document.dispatchEvent(new Event("kept"));
-    } catch (error) {
-      said.textContent = error instanceof Error ? error.message : String(error);
-    }
-  } } });
-  return make("div", {}, make("p", {}, make("label", { for: "session-name", text: "Name of the session " }), name, " ", button), said);
-}
-
-byId("run").addEventListener("click", run);
+document.addEventListener("chosen", (heard) => {
+  const { what, range } = /** @type {CustomEvent} */ (heard).detail;
+  if (what === "time") windowed(range);
+});
+byId("run-many").addEventListener("click", () => run("many"));
+byId("tick-all").addEventListener("click", () => tick(true));
+byId("tick-none").addEventListener("click", () => tick(false));
+byId("run").addEventListener("click", () => run("run"));
 byId("stop").addEventListener("click", () => now.run?.abort());
-byId("settings").addEventListener("submit", (event) => { event.preventDefault(); run(); });
+byId("settings").addEventListener("submit", (event) => { event.preventDefault(); run("run"); });
 byId("check").addEventListener("click", async () => {
   plans.say([], "Checks it ..");
   try {

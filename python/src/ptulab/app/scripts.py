@@ -1,0 +1,106 @@
+"""What the scripts call that the window hands out: a time window of a file, regions of an image, and numbers with their errors."""
+
+from __future__ import annotations
+
+import math
+import os
+import tempfile
+from collections.abc import Sequence
+from typing import IO, Any
+
+import numpy as np
+from numpy.typing import NDArray
+
+from ..errors import NotKnownError
+from ..events import iter_events
+from ..headers import PREAMBLE, TAG, WITH_BODY, read_header
+
+__all__ = ["inside", "measured", "part_of"]
+
+PathLike = str | os.PathLike[str]
+PIECE = 1 << 20
+COUNT = b"TTResult_NumberOfRecords"
+_parts: list[IO[bytes]] = []  # which the system removes when the process ends, however it ends
+
+
+def measured(value: float, error: float | None = None, unit: str = "") -> str:
+    """A number with its error of one standard deviation, nan where a fit doesn't tell it, None of what has none; ``unit``
+    begins with a blank."""
+    if math.isnan(value):
+        return "not known"
+    if error is None:
+        return f"{value:.5g}{unit}"
+    return f"{value:.5g}{unit}" + (", its error isn't known" if math.isnan(error) else f" ± {error:.2g}{unit}")
+
+
+def inside(corners: Sequence[tuple[float, float]], rows: int, columns: int) -> NDArray[np.bool_]:
+    """Which pixels have their middle within a polygon: shape (rows, columns).
+
+    ``corners`` are places (x, y) in pixels, so pixel (0, 0) reaches from (0, 0) to (1, 1) and its middle is (0.5, 0.5). Where
+    sides cross, what is surrounded an odd number of times is within.
+    """
+    xs, ys = np.arange(columns) + 0.5, (np.arange(rows) + 0.5)[:, None]
+    within = np.zeros((rows, columns), bool)
+    for (x0, y0), (x1, y1) in zip(corners, [*corners[1:], *corners[:1]], strict=True):
+        if y0 != y1:
+            crossed = (ys >= min(y0, y1)) & (ys < max(y0, y1))
+            within ^= crossed & (xs < x0 + (ys - y0) * (x1 - x0) / (y1 - y0))
+    return within
+
+
+def part_of(file: PathLike, start: float, stop: float = math.inf) -> str:
+    """The path of a PTU file with the records of ``file`` from the second ``start`` on and before the second ``stop``.
+
+    It is a temporary file that is gone when this process ends. Its header is that of ``file``, with its own number of records.
+    Its records are those of ``file`` from the first event of the window up to the first one behind it, markers too, so its
+    times begin anew, before one unit of a wrap. Raises ``NotKnownError`` where the header doesn't tell how long a tick is, and
+    ``ValueError`` where no event is in the window.
+    """
+    header = read_header(file)
+    tick = header.global_seconds
+    if tick is None or not 0 < tick < math.inf:
+        raise NotKnownError("the header doesn't tell how long a tick is, so there is no window of seconds")
+    first, last = _records(file, start / tick, stop / tick, header.records)
+    if first >= last:
+        raise ValueError(f"no event from {start:g} s on" + ("" if stop == math.inf else f" and before {stop:g} s"))
+    part = tempfile.TemporaryFile(prefix="ptulab-part-")
+    with open(file, "rb") as source:
+        part.write(_announcing(source.read(header.length_bytes), last - first))
+        source.seek(4 * first, os.SEEK_CUR)
+        left = 4 * (last - first)
+        while left and (piece := source.read(min(PIECE, left))):
+            part.write(piece)
+            left -= len(piece)
+    part.flush()
+    _parts.append(part)
+    return f"/proc/{os.getpid()}/fd/{part.fileno()}"
+
+
+def _records(file: PathLike, begin: float, end: float, records: int) -> tuple[int, int]:
+    """The places of the first record of the window and of the one behind its last."""
+    first: int | None = None
+    for piece in iter_events(file):
+        if first is None:
+            first = _place(piece, piece.times >= begin)
+        if first is not None:
+            last = _place(piece, piece.times >= end)
+            if last is not None:
+                return first, last
+    return (records, records) if first is None else (first, records)
+
+
+def _place(piece: Any, there: NDArray[np.bool_]) -> int | None:
+    """The place of the first record among some, from 0."""
+    at = int(there.argmax()) if there.any() else None
+    return None if at is None else int(piece.records[at]) - 1
+
+
+def _announcing(head: bytes, records: int) -> bytes:
+    """A header that announces so many records, where it announces any."""
+    at, data = PREAMBLE, bytearray(head)
+    while at + TAG.size <= len(data):
+        name, index, code, value = TAG.unpack_from(data, at)
+        if name.rstrip(b"\0") == COUNT:
+            TAG.pack_into(data, at, name, index, code, records)
+        at += TAG.size + (value if code in WITH_BODY else 0)
+    return bytes(data)
