@@ -30,7 +30,7 @@ import numpy
 
 sys.path.insert(0, os.path.join(os.path.dirname(os.path.dirname(os.path.abspath(__file__))), "examples"))
 from made_file import t2_words, write  # noqa: E402
-from ptu_report import read_report  # noqa: E402
+from ptulab import read_report  # noqa: E402
 
 LAGS, LEVELS = 16, 14
 TICKS = 2**23  # of the measurement, a multiple of the widest bin

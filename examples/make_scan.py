@@ -1,11 +1,11 @@
 #!/usr/bin/env python3
 """Makes the sample of a scan: make_scan.py FILE
 
-The file is of type HydraHarp2T3 and has two frames of 64 lines of 64 pixels. On a dark ground stands a ring that
-shines for 4 ns, and in it are three beads of different brightness that shine for 1.5 ns. Photons come at random,
+The file is of type HydraHarp2T3 and has two frames of 64 lines of 64 pixels. On a dark background is a ring with a
+lifetime of 4 ns, and in it are three beads of different brightness with one of 1.5 ns. Photons come at random,
 at a rate that is the brightness of the place where the scanner is, and the same ones each time.
 
-A line takes 64 * 300 sync periods, and the way back 4,800, on which only the ground shines. Marker 1 begins a line,
+A line takes 64 * 300 sync periods, and the way back 4,800, on which there is only background. Marker 1 begins a line,
 marker 4 ends it, and marker 3 begins a line that is a frame's first.
 """
 

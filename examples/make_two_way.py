@@ -2,7 +2,7 @@
 """Makes a sample of a scan in both directions, seen by two detectors: make_two_way.py FILE
 
 The file is of type HydraHarp2T3 and has one frame of 48 lines of 48 pixels of 100 sync periods. Marker 1 begins a line,
-and the scanner has no way back: odd lines run from right to left. A letter F shines for 3 ns on a dark ground. Its photons
+and the scanner has no way back: odd lines run from right to left. A letter F with a lifetime of 3 ns stands on a dark background. Its photons
 come to the inputs 0 and 1 alike, but the cable of the input 1 is 8 ns longer. The same photons come each time.
 """
 

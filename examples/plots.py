@@ -3,7 +3,7 @@
 
 It makes the samples of two detectors and of single molecules, runs ptu over them and over the sample of a scan, and
 puts decay.png, trace.png, image.png, startstop.png, coincidence.png, correlation.png and bursts.png into FOLDER, and
-overview.png, the picture of the README: what its three recipes count. Each plot is a function of a few lines, meant to be
+overview.png, the picture of the README: what the three recipes of docs/start.md count. Each plot is a function of a few lines, meant to be
 copied. PROGRAM is the ptu that counts, by default ./ptu of this folder's tree. It needs NumPy and
 Matplotlib.
 """
@@ -21,13 +21,14 @@ matplotlib.use("Agg")
 import matplotlib.pyplot as plt  # noqa: E402
 import numpy as np  # noqa: E402
 
+sys.path.append(os.path.join(os.path.dirname(os.path.dirname(os.path.abspath(__file__))), "python", "src"))  # where ptulab isn't installed
+
 import make_bursts  # noqa: E402
 import make_samples  # noqa: E402
 from make_pairs import photons  # noqa: E402
 from make_pairs import TICK  # noqa: E402
 from made_file import t2_words, write  # noqa: E402
-from ptu_report import read_report  # noqa: E402
-from ptulab import read_trace  # noqa: E402
+from ptulab import read_report, read_trace  # noqa: E402
 from ptulab.fits import g2  # noqa: E402
 
 HERE = os.path.dirname(os.path.abspath(__file__))
@@ -54,15 +55,12 @@ def image(report: Any, axes: Any) -> None:
 def startstop(report: Any, axes: Any) -> None:
     table = report.table("startstop")
     axes.plot(table.seconds * 1e9, table.counts, drawstyle="steps-post")
-    axes.set(xlabel="time from a photon of input 1 to the next of input 2 (ns)", ylabel="pairs")
+    axes.set(xlabel="from a photon of input 1 to the next photon,\nif that is of input 2 (ns)", ylabel="pairs")
 
 
 def coincidence(report: Any, axes: Any) -> None:
     table = report.table("coincidence")
-    first, second = (int(report.table("trace", number).counts[0]) for number in (1, 2))
-    length = report.head["last"] - report.head["first"]
-    even = first * second * table.settings["width"] / length  # pairs in a cell without correlation
-    axes.plot(table.seconds * 1e9, table.counts.astype(float) / even, drawstyle="steps-mid")
+    axes.plot(table.seconds * 1e9, g2(table)[0], drawstyle="steps-mid")
     axes.set(xlabel="difference (ns)", ylabel="g2", ylim=(0, None))
 
 
@@ -74,14 +72,21 @@ def correlation(report: Any, axes: Any) -> None:
     axes.set(xlabel="lag (s)", ylabel="G", ylim=(0, 3))
 
 
-def lifetimes(report: Any, axes: Any, pulse: float = 2e-9, least: int = 25) -> None:
-    """The mean delay of each pixel after the pulse, of those with enough photons."""
+def lifetimes(report: Any, axes: Any, pulse: float = 2e-9, late: float = 30e-9, least: int = 25) -> None:
+    """The mean delay of each pixel after the pulse, without the background, of those with enough photons.
+
+    The background is even over the picture and the sync period: that of the late bins, in which no decay is left. The last
+    bin is left out, since the period cuts it.
+    """
     table = report.table("cube")
-    delays = table.mean_delays() * report.head["resolution"] - pulse
-    delays = np.where(table.counts.sum(axis=2) < least, np.nan, delays * 1e9)
-    low, high = np.nanpercentile(delays, (1, 98))  # a few pixels at the edge are mostly background
+    counts, begins = table.counts[:, :, :-1], table.seconds[:-1]
+    signal = counts - counts[:, :, begins > late].mean()
+    middles = begins + table.settings["dwidth"] * report.head["resolution"] / 2 - pulse
+    photons_of = signal.sum(axis=2)
+    delays = np.where(photons_of < least, np.nan, (signal * middles).sum(axis=2) / photons_of * 1e9)
+    low, high = np.nanpercentile(delays, (4, 96))  # a few pixels at the edge have few photons
     shown = axes.imshow(delays, cmap="viridis", interpolation="nearest", vmin=low, vmax=high)
-    axes.figure.colorbar(shown, ax=axes, label="mean delay (ns)")
+    axes.figure.colorbar(shown, ax=axes, label="mean delay less background (ns)")
     axes.set(xlabel="column", ylabel="row", facecolor="0.9")
 
 
@@ -104,7 +109,7 @@ def diffusion(report: Any, axes: Any) -> None:
 
 
 def overview(folder: str, program: str) -> None:
-    """What the three recipes of the README count."""
+    """What the three recipes of docs/start.md count."""
     with tempfile.TemporaryDirectory() as made:
         molecules, pairs = os.path.join(made, "diffusion.ptu"), os.path.join(made, "steady.ptu")
         make_samples.diffusion(molecules)

@@ -11,7 +11,7 @@ from hypothesis import HealthCheck, settings
 
 import ptulab
 
-settings.register_profile("any machine", deadline=None, suppress_health_check=[HealthCheck.too_slow])
+settings.register_profile("any machine", deadline=None, suppress_health_check=[HealthCheck.too_slow, HealthCheck.data_too_large])
 settings.load_profile("any machine")
 
 ROOT = Path(__file__).resolve().parents[2]  # the checkout

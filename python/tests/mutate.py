@@ -34,7 +34,8 @@ import pytest
 
 ROOT = Path(__file__).resolve().parents[2]
 MODULES = {  # with the tests of each
-    "fits": ["test_fits.py"],
+    "fits": ["test_fits.py", "test_steered.py"],
+    "_fitting": ["test_steered.py", "test_fits.py"],
     "segments": ["test_segments.py", "test_edges.py"],
     "pulsed": ["test_pulsed.py", "test_edges.py", "test_segments.py"],
     "scans": ["test_scans.py", "test_edges.py"],

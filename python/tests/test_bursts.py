@@ -92,7 +92,7 @@ def test_corrections_of_e_and_s() -> None:
     passed = 50 - 10 - 3
     assert corrected.E[0] == pytest.approx(passed / (passed + 50)) and np.asarray(corrected.S)[0] == pytest.approx((passed + 50) / (passed + 110))
     assert fret(*counts[:2]).S is None
-    with pytest.raises(ptulab.NotKnown):
+    with pytest.raises(ptulab.NotKnownError):
         fret(*counts[:2]).histogram_2d()
     with pytest.raises(ValueError):
         fret(*counts, gamma=0)

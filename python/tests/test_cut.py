@@ -1,5 +1,6 @@
 """Files that were cut: between two records, which only the number of records in the header tells, and within one."""
 
+import math
 import subprocess
 from pathlib import Path
 
@@ -7,7 +8,7 @@ import made
 import pytest
 
 import ptulab
-from ptulab import BadFile
+from ptulab import BadFileError, _progress
 from ptulab.__main__ import main
 
 PLAN = "group = [{ inputs = [1] }]\ntrace = [{ group = 1, width = 100, bins = 8 }]\n"
@@ -31,9 +32,9 @@ def test_check_and_plan_say_that_a_file_was_cut(cut: Path, program: str) -> None
     plan = cut.with_name("plan.toml")
     (found,) = ptulab.check_plan(plan, cut, program=program)
     assert (str(found), found.refused) == (f"the file: {SAID}", False)
-    assert f"# {SAID}\n" in ptulab.plan_for(cut)
+    assert f"# {SAID}\n" in str(ptulab.plan_for(cut))
     whole = cut.with_name("whole.ptu")
-    assert not ptulab.check_plan(plan, whole, program=program) and "announces" not in ptulab.plan_for(whole)
+    assert not ptulab.check_plan(plan, whole, program=program) and "announces" not in str(ptulab.plan_for(whole))
 
 
 @pytest.mark.parametrize("announced", [0, None])
@@ -42,11 +43,14 @@ def test_a_header_that_announces_nothing_is_not_odd(cut: Path, program: str, ann
     made.write(cut, "MultiHarpT2", [(5, 1), (6, 1)])
     cut.write_bytes(cut.read_bytes().replace(made.tag("TTResult_NumberOfRecords", 2), b"" if announced is None else made.tag("TTResult_NumberOfRecords", 0)))
     assert ptulab.read_header(cut).announced == announced
-    assert not ptulab.check_plan(cut.with_name("plan.toml"), cut, program=program) and "announces" not in ptulab.plan_for(cut)
+    assert not ptulab.check_plan(cut.with_name("plan.toml"), cut, program=program) and "announces" not in str(ptulab.plan_for(cut))
 
 
-def test_count_and_sum_name_the_files_that_were_cut(cut: Path, program: str, capsys: pytest.CaptureFixture[str]) -> None:
+def test_count_and_sum_name_the_files_that_were_cut(
+    cut: Path, program: str, capsys: pytest.CaptureFixture[str], monkeypatch: pytest.MonkeyPatch
+) -> None:
     """They are in the sum, so the list says so, on standard error and in the file of those that are left."""
+    monkeypatch.setattr(_progress, "EVERY", math.inf)  # a slow machine has lines of how far it is
     folder = cut.parent
     files = [str(folder / name) for name in ("whole.ptu", "cut.ptu")]
     left, out = folder / "left", folder / "sum.txt"
@@ -65,7 +69,7 @@ def test_count_and_sum_name_the_files_that_were_cut(cut: Path, program: str, cap
 
 def test_the_whole_records_of_a_file_that_was_cut_within_one(cut: Path) -> None:
     odd = cut.with_name("odd.ptu")
-    with pytest.raises(BadFile, match=r"2 bytes of a record at the end .*partial=True.*head -c -2 ") as fault:
+    with pytest.raises(BadFileError, match=r"2 bytes of a record at the end .*partial=True.*head -c -2 ") as fault:
         ptulab.read_events(odd)
     assert (fault.value.status, fault.value.line) == (17, "2 bytes of a record at the end")
     events = ptulab.read_events(odd, partial=True)
@@ -77,7 +81,7 @@ def test_the_whole_records_of_a_file_that_was_cut_within_one(cut: Path) -> None:
 def test_a_file_is_saved_by_the_words_of_its_fault(cut: Path, program: str) -> None:
     """What the message says is done in a shell, and the program reads what it gives."""
     odd = cut.with_name("odd.ptu")
-    with pytest.raises(BadFile) as fault:
+    with pytest.raises(BadFileError) as fault:
         ptulab.read_events(odd)
     command = str(fault.value).partition("head")[2].partition(" >")[0].split()
     saved = subprocess.run(["head", *command], capture_output=True, check=True).stdout
@@ -90,7 +94,7 @@ def test_a_file_is_saved_by_the_words_of_its_fault(cut: Path, program: str) -> N
 def test_events_before_a_record_that_passes_the_greatest_time(tmp_path: Path, before: int) -> None:
     words = [*range(before), *[0xFE000000 | 0x1FFFFFF] * 5000, 7]
     path = made.write_words(tmp_path / "far.ptu", "HydraHarp2T2", words)
-    with pytest.raises(BadFile, match="passes the greatest time"):
+    with pytest.raises(BadFileError, match="passes the greatest time"):
         ptulab.read_events(path)
     assert ptulab.read_events(path, partial=True).times.tolist() == list(range(before))
     assert len(ptulab.read_events(path, start=before, partial=True)) == 0
@@ -98,5 +102,5 @@ def test_events_before_a_record_that_passes_the_greatest_time(tmp_path: Path, be
 
 def test_a_header_that_was_cut_has_no_events(cut: Path) -> None:
     cut.write_bytes(cut.read_bytes()[:60])
-    with pytest.raises(BadFile, match="header cut after 60 bytes"):
+    with pytest.raises(BadFileError, match="header cut after 60 bytes"):
         ptulab.read_events(cut, partial=True)

@@ -6,7 +6,7 @@ from pathlib import Path
 from typing import Any
 
 from ptulab._documents import LONGEST, older, read_plan
-from ptulab.errors import BadPlan
+from ptulab.errors import BadPlanError
 
 GOOD = [
     b"",
@@ -64,7 +64,7 @@ def test_what_the_program_reads(tmp_path: Path, ptu: Callable[..., Any], text: b
 def test_what_the_program_does_not_read(tmp_path: Path, ptu: Callable[..., Any], text: bytes) -> None:
     (tmp_path / "plan.toml").write_bytes(text)
     assert ptu("run", tmp_path / "plan.toml", "/dev/null").returncode == 7
-    with pytest.raises(BadPlan, match="not TOML"):
+    with pytest.raises(BadPlanError, match="not TOML"):
         read_plan(text)
 
 
@@ -77,11 +77,11 @@ def test_values_of_the_newer_words() -> None:
 def test_a_plan_that_is_too_long(tmp_path: Path, ptu: Callable[..., Any]) -> None:
     (tmp_path / "plan.toml").write_bytes(b"#" * (LONGEST + 1))
     assert ptu("run", tmp_path / "plan.toml", "/dev/null").returncode == 6
-    with pytest.raises(BadPlan, match="longer than 65536 bytes"):
+    with pytest.raises(BadPlanError, match="longer than 65536 bytes"):
         read_plan(tmp_path / "plan.toml")
     assert read_plan(b"#" * LONGEST) == {}
 
 
 def test_the_line_that_is_told_is_that_of_the_plan() -> None:
-    with pytest.raises(BadPlan, match="line 5"):
+    with pytest.raises(BadPlanError, match="line 5"):
         read_plan(b"group = [{\n inputs = [0],\n}]\n\norder = drop\n")

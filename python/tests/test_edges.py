@@ -3,7 +3,7 @@
 Each is compared with a count in Python's own whole numbers.
 """
 
-import warnings
+import logging
 from collections import Counter
 from fractions import Fraction
 from typing import Any
@@ -61,7 +61,7 @@ def test_coincidences_are_those_of_each_two_photons(events: Any, reach: int, wid
     try:
         ratio, error = ours.central_ratio()
         assert ratio >= 0 and error > 0 and width == 1
-    except ptulab.NotKnown:
+    except ptulab.NotKnownError:
         pass
 
 
@@ -112,13 +112,17 @@ def test_segments_are_correlated_as_pairs_of_bins(events: Any, segments: int, la
 def test_every_photon_is_in_a_picture_or_outside(events: Any, width: int, time: float | None, frame: int | None) -> None:
     scan = Scan(width, 2, 1, stop=2, frame=frame, time=time, frames=frame is None)
     seen = len(photons(events, 0, 1, 2))
-    with warnings.catch_warnings(record=True) as said:
-        warnings.simplefilter("always")
-        try:
-            flat, deep = image(events, scan), cube(events, scan, 7, 5)
-        except (ValueError, MemoryError) as error:
-            assert "too long" in str(error)
-            return
+    said: list[logging.LogRecord] = []
+    noted = logging.Handler()
+    setattr(noted, "emit", said.append)
+    logging.getLogger("ptulab.scans").addHandler(noted)
+    try:
+        flat, deep = image(events, scan), cube(events, scan, 7, 5)
+    except (ValueError, MemoryError) as error:
+        assert "too long" in str(error)
+        return
+    finally:
+        logging.getLogger("ptulab.scans").removeHandler(noted)
     assert flat.counts.sum() + flat.outside == deep.counts.sum() + deep.outside + deep.over == seen
     assert bool(said) == bool(seen and flat.outside == seen)
 
@@ -163,7 +167,7 @@ def test_fits_and_phasors_are_those_of_any_tick(tick: float, period: float, seed
     axis, lifetimes = np.arange(bins) * 1.0, []
     for unit in (1.0, tick):
         whole = fits.fit_reconvolution(counts, pulse, unit, period=period * unit)
-        tail = fits.fit_tail(counts, axis * unit, 18 * unit, stop=124 * unit)
+        tail = fits.fit_tail(counts, axis * unit, (18 * unit, 124 * unit))
         turned = fits.phasor(counts, axis * unit, 1 / (period * unit), offset=12 * unit)
         shifted = [fit.values[name] for fit, name in ((whole, "lifetime_1"), (whole, "shift"), (tail, "lifetime_1"))]
         errors = [fit.errors["lifetime_1"] for fit in (whole, tail)]

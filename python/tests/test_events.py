@@ -18,11 +18,11 @@ import made
 import numpy as np
 import pytest
 from conftest import EXAMPLES, ROOT
-from hypothesis import HealthCheck, example, given, settings
+from hypothesis import example, given, settings
 from hypothesis import strategies as st
 
 import ptulab
-from ptulab import BadFile, headers
+from ptulab import BadFileError, headers
 from ptulab import events as module
 
 
@@ -45,7 +45,7 @@ def ended(path: Path, **bounds: Any) -> tuple[list[str], int, str]:
     try:
         for piece in ptulab.iter_events(path, **bounds):
             said += lines(piece)
-    except BadFile as fault:
+    except BadFileError as fault:
         return said, fault.status, f"ptu: {fault.line}\n"
     return said, 0, ""
 
@@ -59,7 +59,7 @@ def agrees(program: str, path: Path) -> None:
     if status == 0:
         assert said == run.stdout.splitlines() == lines(ptulab.read_events(path).array)
     else:
-        with pytest.raises(BadFile) as fault:
+        with pytest.raises(BadFileError) as fault:
             ptulab.read_events(path)
         assert fault.value.status == status
 
@@ -76,7 +76,7 @@ HYDRA: Any = st.builds(
 WORDS = st.lists(st.one_of(st.integers(0, 2**32 - 1), PICO, LOW, HYDRA), max_size=60)
 
 
-@settings(max_examples=25, deadline=None, suppress_health_check=[HealthCheck.data_too_large])
+@settings(max_examples=25, deadline=None)
 @given(words=WORDS, left=st.binary(max_size=3))
 @example(words=[], left=b"")
 @example(words=[0xFE000000], left=b"\0")
@@ -258,7 +258,7 @@ def test_a_file_whose_wraps_pass_the_greatest_time(tmp_path: Path, program: str,
     for words in ([7, *wraps, 0xFE001001, 5], [7, *wraps, 0xFE001000, 0xFE000000, 5], [7, *[0xFFFFFFFF] * 20000]):
         made.write_words(tmp_path / "far.ptu", "HydraHarp2T2", words)
         agrees(program, tmp_path / "far.ptu")
-        with pytest.raises(BadFile, match="passes the greatest time") as fault:
+        with pytest.raises(BadFileError, match="passes the greatest time") as fault:
             ptulab.read_events(tmp_path / "far.ptu")
         assert fault.value.status == 21
     made.write_words(tmp_path / "old.ptu", old, [*[made.wrap_word(old)] * 3, 5])
@@ -290,7 +290,7 @@ TYPE = b"TTResultFormat_TTTRRecType"
 def test_headers_that_are_refused(tmp_path: Path, program: str, data: bytes, status: int) -> None:
     (tmp_path / "some.ptu").write_bytes(data)
     agrees(program, tmp_path / "some.ptu")
-    with pytest.raises(BadFile, match="some.ptu: ") as fault:
+    with pytest.raises(BadFileError, match="some.ptu: ") as fault:
         ptulab.read_header(tmp_path / "some.ptu")
     assert fault.value.status == status
 
@@ -323,7 +323,7 @@ def test_paths_that_are_no_file(tmp_path: Path) -> None:
         ptulab.read_events(tmp_path)
     os.mkfifo(tmp_path / "pipe")
     for path, status in ((Path("/dev/null"), 11), (tmp_path / "pipe", 3)):
-        with pytest.raises(BadFile) as fault:
+        with pytest.raises(BadFileError) as fault:
             ptulab.read_events(path)
         assert fault.value.status == status
 
@@ -334,6 +334,6 @@ def test_left_over_bytes_are_told_at_the_end(make_file: Callable[..., Path]) -> 
     assert len(ptulab.read_events(path, stop=1).array) == 1
     pieces = ptulab.iter_events(path, records=1)
     assert len(next(pieces)) == len(next(pieces)) == 1
-    with pytest.raises(BadFile, match="2 bytes of a record at the end") as fault:
+    with pytest.raises(BadFileError, match="2 bytes of a record at the end") as fault:
         next(pieces)
     assert fault.value.status == 17 and fault.value.path == str(path)

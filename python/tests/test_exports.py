@@ -101,7 +101,7 @@ def test_curves_that_cannot_be_exported(curves: Any, tmp_path: Path) -> None:
         lambda: exports.write_pycorrfit(report.table("correlation"), tmp_path / "no.csv", traces=[report.table("correlation")]),
     )
     for call in calls:
-        with pytest.raises(ptulab.NotKnown):
+        with pytest.raises(ptulab.NotKnownError):
             call()
     assert not (tmp_path / "no.csv").exists()
 
@@ -343,7 +343,7 @@ def test_a_file_without_photons_is_a_photon_hdf5_file_too(make_file: Callable[..
 def test_a_library_that_is_missing_is_named(monkeypatch: pytest.MonkeyPatch, make_file: Callable[..., Path], tmp_path: Path, library: Any) -> None:
     monkeypatch.setitem(cast(dict[str, Any], sys.modules), library, None)
     events = ptulab.read_events(make_file("HydraHarp2T3", [(1, 0, 1)], tick=1e-8, resolution=1e-11))
-    with pytest.raises(ptulab.Missing, match=f"python3-{library}"):
+    with pytest.raises(ptulab.MissingLibraryError, match=f"python3-{library}"):
         if library == "h5py":
             exports.write_photon_hdf5(events, tmp_path / "no.h5", description="d")
         exports.write_ome_tiff(np.ones((2, 2)), tmp_path / "no.tif")
@@ -354,7 +354,7 @@ def test_photons_without_seconds_are_not_exported(make_file: Callable[..., Path]
     some: tuple[dict[str, float], ...] = ({}, {"tick": 1e-8}, {"tick": 0.0, "resolution": 1e-11}, {"tick": 1e-8, "resolution": -1.0})
     for tags in some:
         events = ptulab.read_events(make_file("HydraHarp2T3", [(1, 0, 1)], **tags))
-        with pytest.raises(ptulab.NotKnown):
+        with pytest.raises(ptulab.NotKnownError):
             exports.write_photon_hdf5(events, tmp_path / "no.h5", description="")
     assert not (tmp_path / "no.h5").exists()
 
@@ -383,20 +383,20 @@ def test_picked_files_get_their_resolutions_back(program: str, ptu: Callable[...
 def test_what_cannot_be_picked(program: str, make_file: Callable[..., Path], make_plan: Callable[..., Path], tmp_path: Path) -> None:
     path = make_file("HydraHarp2T3", [(5, 1, 3)])
     plan = make_plan("group = [{ inputs = [1] }]\n")
-    with pytest.raises(ptulab.Refusal) as refused:
+    with pytest.raises(ptulab.RefusalError) as refused:
         picked.pick(plan, 2, path, tmp_path / "no.ptu", program=program)
     assert refused.value.status == 23 and sorted(os.listdir(tmp_path)) == ["data.ptu", "plan.toml"]
     with pytest.raises(FileNotFoundError):
         picked.read_picked(path)
     for text in ("{", "[]", '{"global_seconds": "1"}', '{"global_seconds": 1}'):
         picked.sidecar_of(path).write_text(text, encoding="utf-8")
-        with pytest.raises(ptulab.NotKnown, match="no sidecar"):
+        with pytest.raises(ptulab.NotKnownError, match="no sidecar"):
             picked.read_picked(path)
     odd = tmp_path / "odd.ptu"
     end = made.tag("Header_End", "a text")
     odd.write_bytes(path.read_bytes()[:64] + end)
     picked.write_sidecar(path, odd)
-    with pytest.raises(ptulab.NotKnown, match="no header of ptu pick"):
+    with pytest.raises(ptulab.NotKnownError, match="no header of ptu pick"):
         picked.write_with_resolutions(odd, tmp_path / "no.ptu")
 
 

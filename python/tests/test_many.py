@@ -31,8 +31,8 @@ from ptulab._lock import Lock
 from ptulab._parts import File, Part
 from ptulab._processes import Here, Processes
 from ptulab._work import Work, keep
-from ptulab.errors import BadPlan, Missing, PtulabError, Refusal, Unlike
-from ptulab.many import Left, Sum, count_files, megabytes_of, sum_files
+from ptulab.errors import BadPlanError, MissingLibraryError, PtulabError, RefusalError, UnlikeError
+from ptulab.many import LeftFile, SummedFiles, count_files, megabytes_of, sum_files
 from ptulab.texts import report_lines, summed_head, write_report
 
 PLAN = """
@@ -78,8 +78,8 @@ def check(whole: Any, folder: Path, program: str) -> None:
     assert whole.added == tuple(str(folder / f"{number}.ptu") for number in (0, 1, 2, 4, 6, 7))
     host = socket.gethostname()
     assert whole.left == (
-        Left(str(folder / "3.ptu"), 17, "3 bytes of a record at the end", host),
-        Left(str(folder / "5.ptu"), None, "global 2e-12, not 1e-12", host),
+        LeftFile(str(folder / "3.ptu"), 17, "3 bytes of a record at the end", host),
+        LeftFile(str(folder / "5.ptu"), None, "global 2e-12, not 1e-12", host),
     )
 
 
@@ -104,7 +104,7 @@ def test_files_by_dask_with_a_scheduler_and_three_workers(folder: Path, program:
         with distributed.Client(scheduler_file=str(place), timeout=180) as client:
             client.wait_for_workers(3, timeout=180)
             check(count_files(folder / "plan.toml", files_of(folder), program=program, client=client), folder, program)
-            with pytest.raises(Refusal, match="rule 1 "):
+            with pytest.raises(RefusalError, match="rule 1 "):
                 (folder / "plan.toml").write_text("colour = 1")
                 count_files(folder / "plan.toml", files_of(folder), program=program, client=client)
     finally:
@@ -136,7 +136,7 @@ def test_what_the_processes_do(folder: Path, program: str) -> None:
 
 def test_a_fault_of_the_plan_stops_it(folder: Path, program: str) -> None:
     (folder / "plan.toml").write_text("version = 3")
-    with pytest.raises(Refusal, match="rule 2"):
+    with pytest.raises(RefusalError, match="rule 2"):
         HandOut(Here(*work_of(folder, program)), list(map(str, files_of(folder))), Part(), None, None).run()
 
 
@@ -151,7 +151,7 @@ def script(folder: Path, program: str, words: Any) -> Any:
     return path
 
 
-def text_of(whole: Sum) -> str:
+def text_of(whole: SummedFiles) -> str:
     assert whole.report is not None
     return b"".join(report_lines(whole.report)).decode()
 
@@ -473,13 +473,13 @@ def test_a_bar_on_a_terminal(folder: Path, capsys: pytest.CaptureFixture[str], m
 def test_without_dask_it_says_what_to_install(folder: Path, program: str, monkeypatch: pytest.MonkeyPatch) -> None:
     monkeypatch.setitem(cast(dict[str, Any], sys.modules), "distributed", None)
     client = type("Client", (), {"status": "running", "nthreads": lambda self: {}})()
-    with pytest.raises(Missing, match="python3-distributed"):
+    with pytest.raises(MissingLibraryError, match="python3-distributed"):
         count_files(folder / "plan.toml", files_of(folder), program=program, client=client)
 
 
 def test_a_plan_that_is_refused_ends_it(folder: Path, program: str) -> None:
     (folder / "plan.toml").write_text("version = 3")
-    with pytest.raises(Refusal, match="rule 2"):
+    with pytest.raises(RefusalError, match="rule 2"):
         count_files(folder / "plan.toml", files_of(folder), program=program)
 
 
@@ -497,9 +497,9 @@ def test_a_plan_of_other_tables_leaves_a_report_as_it_is(folder: Path, program: 
     text = (folder / "plan.toml").read_text()
     (folder / "more.toml").write_text(text.replace("bins = 1 }]", "bins = 1 }, { group = 1, width = 77, bins = 3 }]"))
     (folder / "bad.toml").write_text("order = 1" + text)
-    with pytest.raises(Unlike):
+    with pytest.raises(UnlikeError):
         ptulab.run(folder / "more.toml", folder / "0.ptu", program=program, whole=one)
-    with pytest.raises(Refusal, match="rule 3"):
+    with pytest.raises(RefusalError, match="rule 3"):
         ptulab.run(folder / "bad.toml", folder / "0.ptu", program=program, whole=one)
     assert same(one + ptulab.run(folder / "plan.toml", folder / "0.ptu", program=program), before)
 
@@ -636,7 +636,7 @@ def test_reports_of_other_tables_are_left(folder: Path, program: str) -> None:
     paths = [str(folder / f"{name}.txt") for name in "abc"]
     for given_plan, why in ((None, "other tables"), (folder / "plan.toml", "the plan has other tables than the report")):
         whole = sum_files(paths, given_plan)
-        assert whole.left == (Left(paths[1], None, why, socket.gethostname()),) and same(whole.report, sum_files(paths[::2], given_plan).report)
+        assert whole.left == (LeftFile(paths[1], None, why, socket.gethostname()),) and same(whole.report, sum_files(paths[::2], given_plan).report)
 
 
 # ## Texts
@@ -688,7 +688,7 @@ def test_the_memory_that_is_asked_for(tmp_path: Path, plan: Any, least: Any, mos
 @pytest.mark.parametrize("plan", ["cube = 1", "cube = [{ group = 1 }]", "coincidence = [{ reach = 3, width = 0 }]", "fold = ["])
 def test_no_memory_is_told_of_a_bad_plan(tmp_path: Path, plan: Any) -> None:
     (tmp_path / "plan.toml").write_text(plan)
-    with pytest.raises(BadPlan):
+    with pytest.raises(BadPlanError):
         megabytes_of(tmp_path / "plan.toml")
 
 
@@ -762,7 +762,7 @@ def test_words_that_are_no_command(capsys: pytest.CaptureFixture[str]) -> None:
     from ptulab.__main__ import main
 
     assert main([]) == 2 and main(["paint"]) == 2 and main(["--help"]) == 0
-    assert capsys.readouterr().out.count("\n  ") == 7
+    assert "\n    export " in capsys.readouterr().out
     with pytest.raises(SystemExit):
         main(["page", "-"])
 
@@ -773,4 +773,4 @@ def test_a_page_of_standard_input(folder: Path, program: str) -> None:
     assert (folder / "page.html").stat().st_size > 1_000_000
     said = command("page", "-", "-o", folder / "other.html", input="no report\n")
     assert said.returncode == 1 and said.stderr.startswith("ptulab: ") and not (folder / "other.html").exists()
-    assert issubclass(Refusal, PtulabError)
+    assert issubclass(RefusalError, PtulabError)

@@ -45,7 +45,7 @@ def test_odd_files_go_the_whole_way(folder: Path, program: str, kind: str, recor
     events = ptulab.read_events(path)
     assert sum(map(len, ptulab.iter_events(path, records=3))) == len(events)
     plan = folder / "odd.toml"
-    plan.write_text(ptulab.plan_for(path))
+    ptulab.plan_for(path).write(plan)
     assert not [found for found in ptulab.check_plan(plan, path, program=program) if found.refused]
     report = ptulab.run(plan, path, program=program)
     photons = ~events["marker"]

@@ -17,7 +17,7 @@ import ptulab
 from conftest import EXAMPLES
 from made import Bits as made_bits
 from matplotlib.axes import Axes
-from ptulab.errors import Missing
+from ptulab.errors import MissingLibraryError
 from ptulab.fits import g2
 from ptulab.page import _document as document, _figures as figures, checksum, page, write_page
 from ptulab.page._figures import Curve, Picture, begin_of, blocks, start_of, thinned, unit_of
@@ -155,7 +155,7 @@ def test_a_page_appears_when_it_is_whole(small: Any, tmp_path: Path, monkeypatch
 def test_without_plotly_it_says_what_to_install(monkeypatch: pytest.MonkeyPatch) -> None:
     monkeypatch.setitem(__import__("sys").modules, "plotly", None)
     monkeypatch.setitem(__import__("sys").modules, "plotly.offline", None)
-    with pytest.raises(Missing, match="python3-plotly"):
+    with pytest.raises(MissingLibraryError, match="python3-plotly"):
         page(Report(HEAD, ()))
 
 

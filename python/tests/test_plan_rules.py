@@ -67,7 +67,7 @@ def plans(draw: st.DrawFn) -> dict[str, Any]:
     return plan
 
 
-@settings(max_examples=100, deadline=None, suppress_health_check=[HealthCheck.function_scoped_fixture])
+@settings(max_examples=100, deadline=None, suppress_health_check=[HealthCheck.function_scoped_fixture, HealthCheck.too_slow])
 @given(plan=plans())
 def test_the_least_broken_rule_is_the_programs(tmp_path: Path, ptu: Callable[..., Any], plan: Any) -> None:
     (tmp_path / "plan.toml").write_text("\n".join(f"{key} = {toml(value)}" for key, value in plan.items()))

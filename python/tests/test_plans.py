@@ -10,7 +10,7 @@ import made
 from conftest import EXAMPLES
 from made import Bits
 from ptulab._documents import read_plan
-from ptulab.errors import BadFile
+from ptulab.errors import BadFileError
 from ptulab._looks import look
 from ptulab.plans import check_plan, plan_for
 from ptulab.program import run
@@ -32,7 +32,7 @@ def proposed(make_plan: Callable[..., Path], program: str) -> Any:
     """The plan for a file and its report; the plan must be good for it."""
 
     def propose(path: Any) -> Any:
-        text = plan_for(path)
+        text = str(plan_for(path))
         plan = make_plan(text)
         assert check_plan(plan, path, program=program) == []
         return text, run(plan, path, program=program)
@@ -110,13 +110,13 @@ def test_the_plan_of_one_input_correlates_it_with_itself(make_file: Callable[...
 
 
 def test_late_events_and_no_photons(make_file: Callable[..., Path], proposed: Any) -> None:
-    assert plan_for(make_file(T3, [(3, Bits(1))])) == "# no photons\n"
-    assert "# 1 events are late: with version = 2, try settle" in plan_for(make_file(T3, [(9, 0, 1), (5, 0, 1), (9, 0, 1)]))
+    assert str(plan_for(make_file(T3, [(3, Bits(1))]))) == "# no photons\n"
+    assert "# 1 events are late: try settle" in str(plan_for(make_file(T3, [(9, 0, 1), (5, 0, 1), (9, 0, 1)])))
 
 
 def test_no_plan_for_a_file_that_is_refused(tmp_path: Path) -> None:
     (tmp_path / "bad.ptu").write_text("no such file")
-    with pytest.raises(BadFile, match="not a PTU file"):
+    with pytest.raises(BadFileError, match="not a PTU file"):
         plan_for(tmp_path / "bad.ptu")
 
 
@@ -199,5 +199,5 @@ def test_a_check_without_a_program_says_so(make_file: Callable[..., Path], make_
 
 
 def test_the_proposed_plan_is_a_document() -> None:
-    assert read_plan(plan_for(EXAMPLES / "scan.ptu").encode())["group"] == [{"inputs": [0]}]
+    assert read_plan(plan_for(EXAMPLES / "scan.ptu"))["group"] == [{"inputs": [0]}]
     assert made.CODES["HydraHarp2T3"] == 0x01010304

@@ -135,8 +135,10 @@ def test_fits_are_drawn_over_their_data() -> None:
     fit = fits.fit_tail(counts, axis, 1e-9)
     axes = plots.plot_decay(counts, axis, fit=fit)
     assert axes.lines[1].get_xdata()[0] == pytest.approx(1.0) and axes.get_ylim()[0] > 0
-    above, below = plots.plot_fit(fit, "delay (s)", "photons a bin")
-    assert labels(below) == ("delay (s)", "residuals (σ)") and above.get_ylabel() == "photons a bin"
+    above, below, like = plots.plot_fit(fit, "delay (s)", "photons a bin", logarithmic=True)
+    assert labels(below) == ("delay (s)", "residuals (σ)") and above.get_ylabel() == "photons a bin" and above.get_yscale() == "log"
+    assert labels(like) == ("points between residuals", "autocorrelation") and like.lines[0].get_ydata()[0] == pytest.approx(1)
+    assert len(plots.plot_fit(fit, axes=axes.figure.subplots(2))) == 2
     delays = np.logspace(-6, 0, 60)
     curve = fits.fit_fcs(delays, fits.fcs_model(delays, 2.0, 1e-3, structure=5.0) + np.random.default_rng(5).normal(0, 0.001, 60))
     assert plots.plot_fit(curve, logarithmic_x=True)[0].get_xscale() == "log"
@@ -155,6 +157,11 @@ def test_correlations_with_a_fit(make_file: Callable[..., Path]) -> None:
 def test_phasors_and_bursts() -> None:
     circle = plots.plot_phasors(fits.phasor_of_lifetime(np.linspace(1, 5, 50), 0.05))
     assert labels(circle) == ("g", "s") and bar(circle) == ["pixels"]
+    region = plots.plot_phasors(fits.phasor_of_lifetime(np.linspace(1, 5, 50), 0.05), corners=[0.2 + 0.2j, 0.6 + 0.2j, 0.4 + 0.6j])
+    assert len(region.patches) == 1
+    coloured = plots.plot_coloured(np.array([[1.0, np.nan], [2.0, 3.0]]), np.array([[9, 9], [0, 5]]), "lifetime (ns)")
+    shown = np.asarray(coloured.images[0].get_array())
+    assert bar(coloured) == ["lifetime (ns)"] and shown[0, 1] == pytest.approx([0.5] * 3) and (shown[1, 0] == 0).all()
     counts = [np.random.default_rng(n).poisson(30, 200) for n in range(3)]
     both = plots.plot_fret(fret(*counts))
     assert labels(both) == ("E", "S") and bar(both) == ["bursts a bin"]
@@ -163,7 +170,7 @@ def test_phasors_and_bursts() -> None:
 
 def test_matplotlib_is_named_where_it_is_missing(monkeypatch: pytest.MonkeyPatch) -> None:
     monkeypatch.setitem(cast(dict[str, Any], sys.modules), "matplotlib.pyplot", None)
-    with pytest.raises(ptulab.Missing, match="python3-matplotlib"):
+    with pytest.raises(ptulab.MissingLibraryError, match="python3-matplotlib"):
         plots.plot_decay(np.ones(3))
 
 

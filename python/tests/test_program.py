@@ -16,7 +16,7 @@ import pytest
 from conftest import EXAMPLES
 
 import ptulab
-from ptulab import BadReport, Missing, NoProgram, Refusal, program as module
+from ptulab import BadReportError, MissingLibraryError, NoProgramError, RefusalError, _refusals, program as module
 from ptulab._optional import want
 
 SCAN = EXAMPLES / "scan.toml", EXAMPLES / "scan.ptu"
@@ -39,34 +39,35 @@ def test_the_report_is_that_of_the_program(program: str, ptu: Callable[..., Any]
 
 def test_refusals_say_what_the_documents_say(program: str, make_plan: Callable[..., Path], make_file: Callable[..., Path]) -> None:
     plan, data = make_plan("order = 'stop'\n"), make_file("HydraHarp2T3", [(20, 1), (15, 1)])
-    with pytest.raises(Refusal) as fault:
+    with pytest.raises(RefusalError) as fault:
         ptulab.run(EXAMPLES / "broken.toml", data, program=program)
     assert (fault.value.status, fault.value.line) == (8, "ptu: plan breaks rule 10 at 2")
     assert fault.value.meaning.startswith("A group's `gate`, if present, is a list of two whole numbers from 0 to 32768")
-    with pytest.raises(Refusal, match=r"status 19") as fault:
+    with pytest.raises(RefusalError, match=r"status 19") as fault:
         ptulab.run(plan, data, program=program)
     assert fault.value.line == "ptu: record 2 goes back from 20 to 15" and fault.value.meaning.startswith("an event that is out of order")
-    with pytest.raises(Refusal, match="PLAN can't be opened"):
+    with pytest.raises(RefusalError, match="PLAN can't be opened"):
         ptulab.run("nothing.toml", data, program=program)
-    with pytest.raises(Refusal, match="FILE can't be opened"):
+    with pytest.raises(RefusalError, match="FILE can't be opened"):
         ptulab.run(plan, "nothing.ptu", program=program)
-    with pytest.raises(Refusal, match="a read of FILE failed"):
+    with pytest.raises(RefusalError, match="a read of FILE failed"):
         ptulab.run(plan, plan.parent, program=program)
-    with pytest.raises(Refusal, match="isn.t a TOML document"):
+    with pytest.raises(RefusalError, match="isn.t a TOML document"):
         ptulab.run(make_plan("= 5"), data, program=program)
 
 
 def test_words_are_those_of_the_documents() -> None:
     subprocess.run([sys.executable, EXAMPLES.parent / "docs" / "make_references.py", "--check"], check=True)
-    words = module._words()
+    words = _refusals._words()
     assert sorted(map(int, words["rules"])) == list(range(1, 32)) and sorted(map(int, words["statuses"])) == list(range(1, 25))
-    assert module.refusal(8, "ptu: plan breaks rule 31 at 1").meaning == words["rules"]["31"]
+    assert module.refusal(8, "ptu: plan breaks rule 31 at 1").meaning == words["rules"]["31"] == _refusals.rule_of(31)
+    assert module.refusal(8, "ptu: plan breaks rule x").meaning == _refusals.rule_of(99) == ""
     assert module.refusal(127, "no status of the program").meaning == ""
     assert module.refusal(-9, "").meaning == "signal 9 ended the program"
 
 
 def test_exceptions_go_through_processes() -> None:
-    for fault in (Refusal(8, "a", "b"), ptulab.BadFile(10, "a", "b")):
+    for fault in (RefusalError(8, "a", "b"), ptulab.BadFileError(10, "a", "b")):
         copy = pickle.loads(pickle.dumps(fault))
         assert type(copy) is type(fault) and str(copy) == str(fault) and vars(copy) == vars(fault)
 
@@ -94,7 +95,7 @@ def test_the_position_of_a_file_that_is_read(tmp_path: Path) -> None:
             return bool(super().update(n))
 
     monkeypatch = pytest.MonkeyPatch()
-    with monkeypatch.context() as patch, pytest.raises(Refusal):
+    with monkeypatch.context() as patch, pytest.raises(RefusalError):
         patch.setattr(tqdm, "tqdm", lambda **words: Bar(file=io.StringIO(), **words))
         ptulab.run("plan", tmp_path / "data", program=script(tmp_path, slow), progress=True)
     assert max(seen) == 300
@@ -107,15 +108,15 @@ def test_the_position_in_a_process_that_is_gone() -> None:
 def test_a_bar_without_tqdm(monkeypatch: pytest.MonkeyPatch, program: str) -> None:
     monkeypatch.setitem(cast(dict[str, Any], sys.modules), "tqdm", None)
     assert ptulab.run(*SCAN, program=program).head.photons == 97492
-    with pytest.raises(Missing, match=r"the progress of a run needs tqdm: install python3-tqdm \(Debian\), or the extra ptulab\[many\]"):
+    with pytest.raises(MissingLibraryError, match=r"the progress of a run needs tqdm: install python3-tqdm \(Debian\), or the extra ptulab\[many\]"):
         ptulab.run(*SCAN, program=program, progress=True)
 
 
 def test_libraries_that_are_there_and_not() -> None:
     assert want("json", "a test") is sys.modules["json"]
-    with pytest.raises(Missing, match="a test needs nosuchlibrary"):
+    with pytest.raises(MissingLibraryError, match="a test needs nosuchlibrary"):
         want("nosuchlibrary.part", "a test")
-    assert issubclass(Missing, ImportError)
+    assert issubclass(MissingLibraryError, ImportError)
 
 
 def test_a_library_that_is_broken_says_so_itself(tmp_path: Path, monkeypatch: pytest.MonkeyPatch) -> None:
@@ -123,7 +124,7 @@ def test_a_library_that_is_broken_says_so_itself(tmp_path: Path, monkeypatch: py
     monkeypatch.syspath_prepend(tmp_path)
     with pytest.raises(ModuleNotFoundError, match="nosuchlibrary") as fault:
         want("brokenlibrary", "a test")
-    assert not isinstance(fault.value, Missing)
+    assert not isinstance(fault.value, MissingLibraryError)
 
 
 def test_where_the_program_is(tmp_path: Path, monkeypatch: pytest.MonkeyPatch) -> None:
@@ -136,7 +137,7 @@ def test_where_the_program_is(tmp_path: Path, monkeypatch: pytest.MonkeyPatch) -
     for named in others[:2]:
         assert module.find_program(named) == str(path)
     for named in others[2:]:
-        with pytest.raises(NoProgram):
+        with pytest.raises(NoProgramError):
             module.find_program(named)
     monkeypatch.setenv("PATH", str(tmp_path))
     monkeypatch.chdir("/")
@@ -167,16 +168,16 @@ def test_a_folder_of_data_brings_no_program(tmp_path: Path, monkeypatch: pytest.
             monkeypatch.delenv("PTU")
     for folders in ("", ".", str(tmp_path)):
         monkeypatch.setenv("PATH", folders)
-        with pytest.raises(NoProgram):
+        with pytest.raises(NoProgramError):
             module.find_program()
     (tmp_path / "checkout" / "out" / "ptu").chmod(0o755)
     assert module.find_program() == str(tmp_path / "checkout" / "out" / "ptu")
 
 
 def test_a_program_that_answers_otherwise(tmp_path: Path) -> None:
-    with pytest.raises(BadReport):
+    with pytest.raises(BadReportError):
         ptulab.run("plan", "data", program=script(tmp_path, "print('something else' * 100_000)"))
-    with pytest.raises(Refusal, match="signal 9"):
+    with pytest.raises(RefusalError, match="signal 9"):
         ptulab.run("plan", "data", program=script(tmp_path, "import os\nos.kill(os.getpid(), 9)"))
 
 
@@ -219,7 +220,7 @@ def test_what_is_cut_or_unlike_in_the_middle_adds_nothing(program: str, tmp_path
     text = subprocess.run([program, "run", plan, path], capture_output=True, text=True, check=True).stdout
     told = tmp_path / "none.toml" if piped else plan
     for printed, end in ((text[: text.index("trace 2")], "os.kill(os.getpid(), 9)"), (text.replace("width 3", "width 4"), "")):
-        with pytest.raises(Refusal if end else ptulab.Unlike):
+        with pytest.raises(RefusalError if end else ptulab.UnlikeError):
             ptulab.run(told, path, program=script(tmp_path, f"import os\nprint({printed!r}, end='', flush=True)\n{end}\n"), whole=one)
         assert one == as_it_was
     assert ptulab.run(plan, path, program=program, whole=one) == as_it_was + as_it_was

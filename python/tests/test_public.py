@@ -96,7 +96,7 @@ assert scans.image(file, scans.Scan(64, 64, line=1, frame=2, time=64 * 300)).cou
 exports.write_npz(whole, folder + "/report.npz")
 ptulab.write_report(whole, folder + "/sum.txt")
 assert (ptulab.read_report(folder + "/sum.txt").table("image").counts == whole.table("image").counts).all()
-assert ptulab.plan_for(file).startswith(("#", "version")) and ptulab.read_header(file) == read.header
+assert str(ptulab.plan_for(file)).startswith(("#", "version")) and ptulab.read_header(file) == read.header
 """
 
 

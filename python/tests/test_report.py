@@ -14,7 +14,7 @@ from hypothesis import given, settings
 from hypothesis import strategies as st
 
 import ptulab
-from ptulab import BadReport, NotKnown, NoTable, Report, Unlike
+from ptulab import BadReportError, NotKnownError, NoTableError, Report, UnlikeError
 from ptulab import report as module
 from ptulab._digits import whole_numbers
 from ptulab.tables import KINDS, lags_of
@@ -76,7 +76,7 @@ def test_tables_of_pairs(pairs: Callable[..., Report]) -> None:
     assert correlation.counts.dtype == np.int64
     fold = report.table("fold")
     assert fold.patterns() == [(), (1,), (2,), (1, 2)] and fold.seconds is None and fold.counts.sum() == 7
-    with pytest.raises(NoTable):
+    with pytest.raises(NoTableError):
         report.table("cube")
 
 
@@ -88,9 +88,9 @@ def test_a_curve_by_its_plan(pairs: Callable[..., Report], tmp_path: Path, ptu: 
     bare = ptulab.read_report(text).table("correlation")
     assert bare.photons is None and bare.groups is None
     assert np.array_equal(bare.normalised(2, 5), curve.normalised(), equal_nan=True)
-    with pytest.raises(NotKnown, match="photons of the two groups"):
+    with pytest.raises(NotKnownError, match="photons of the two groups"):
         bare.normalised()
-    with pytest.raises(NotKnown):
+    with pytest.raises(NotKnownError):
         ptulab.read_report(text).table("trace").expected()
 
 
@@ -115,7 +115,7 @@ def test_a_scan(program: str) -> None:
     # the middle of a bead shines for 1.5 ns, a place on the ring for 4 ns
     assert cube.mean_delays()[26, 24] < 150 < cube.mean_delays()[10, 32] < 300
     for table, function in ((image, "mean_delays"), (cube, "patterns"), (image, "normalised")):
-        with pytest.raises(NotKnown):
+        with pytest.raises(NotKnownError):
             getattr(table, function)()
 
 
@@ -147,11 +147,14 @@ def printed(report: Report) -> list[str]:
 def test_tables_as_xarray(pairs: Callable[..., Report], program: str) -> None:
     curve = pairs([0, 1], [3, 4, 6, 7, 8]).table("correlation")
     array = curve.to_xarray()
-    assert array.dims == ("cell",) and array.sel(cell=array.ticks == 6).item() == 4 and array.attrs == {"lags": 4, "levels": 2}
-    assert array.level.values.tolist() == [0, 0, 0, 0, 1, 1] and array.seconds.values[0] == 1e-12
+    assert array.dims == ("delay",) and array.sel(delay=6e-12, method="nearest").item() == 4 and array.attrs == {"lags": 4, "levels": 2}
+    assert array.level.values.tolist() == [0, 0, 0, 0, 1, 1] and array.delay.values[0] == 1e-12 and array.delay.attrs == {"units": "s"}
+    frame = curve.to_pandas()
+    assert list(frame.columns) == ["delay", "delay_ticks", "level", "count"] and frame["count"].tolist() == curve.counts.tolist()
     cube = ptulab.run(EXAMPLES / "lifetimes.toml", EXAMPLES / "scan.ptu", program=program).table("cube").to_xarray()
-    assert cube.dims == ("row", "column", "bin") and cube.sizes == {"row": 64, "column": 64, "bin": 40}
-    assert cube.name == "cube 1" and cube.ticks.values[2] == 32 and "over" in cube.attrs
+    assert cube.dims == ("row", "column", "delay") and cube.sizes == {"row": 64, "column": 64, "delay": 40}
+    assert cube.name == "cube 1" and cube.delay_ticks.values[2] == 32 and cube.delay.values[2] == 32 * 32e-12 and "over" in cube.attrs
+    assert cube.row.attrs == {"units": "number"}
 
 
 def test_axes_beyond_64_bits() -> None:
@@ -215,9 +218,9 @@ def test_reports_that_do_not_add_up(tmp_path: Path, change: tuple[str, str]) -> 
     other = text.replace(*change)
     assert other != text
     (tmp_path / "other.txt").write_text(other)
-    with pytest.raises(Unlike, match="other.txt"):
+    with pytest.raises(UnlikeError, match="other.txt"):
         ptulab.sum_reports([text, tmp_path / "other.txt"])
-    with pytest.raises(Unlike):
+    with pytest.raises(UnlikeError):
         ptulab.read_report(text) + ptulab.read_report(other)
 
 
@@ -236,7 +239,7 @@ def test_plans_of_other_reports(tmp_path: Path, pairs: Callable[..., Report], pt
     text = ptu("run", tmp_path / "plan.toml", tmp_path / "data.ptu").stdout
     assert ptulab.read_report(text, tmp_path / "plan.toml").tables[0].groups == (1,)
     (tmp_path / "plan.toml").write_text(plan)
-    with pytest.raises(Unlike):
+    with pytest.raises(UnlikeError):
         ptulab.read_report(text, tmp_path / "plan.toml")
 
 
@@ -302,13 +305,13 @@ BAD = [
 @pytest.mark.parametrize("piece", [1, 1 << 16])
 def test_texts_that_are_no_report(text: str, piece: int, monkeypatch: pytest.MonkeyPatch) -> None:
     monkeypatch.setattr(module, "PIECE", piece)
-    with pytest.raises(BadReport):
+    with pytest.raises(BadReportError):
         ptulab.read_report(text.encode())
 
 
 def test_a_fault_names_the_file_and_the_line(tmp_path: Path) -> None:
     (tmp_path / "bad.txt").write_text(HEAD + "histogram 1 width 1 bins 9\n0 1\n4 1\n3 1\nover 1\n")
-    with pytest.raises(BadReport, match=r"bad\.txt: line 16: "):
+    with pytest.raises(BadReportError, match=r"bad\.txt: line 16: "):
         ptulab.read_report(tmp_path / "bad.txt")
     with pytest.raises(FileNotFoundError):
         ptulab.read_report(tmp_path / "nothing.txt")

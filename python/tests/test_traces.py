@@ -9,7 +9,7 @@ import pytest
 from conftest import EXAMPLES
 
 import ptulab
-from ptulab import BadReport, traces
+from ptulab import BadReportError, traces
 
 LINES = ["trace 1 origin 10 width 5", "0 2", "1 1", "198 1", "before 1", "frequency 0 196", "frequency 1 2", "frequency 2 1", "above 0", ""]
 
@@ -36,7 +36,7 @@ def test_a_trace_that_was_cut(many: int) -> None:
                                   f"trace 1 origin 0 width {2**62 + 1}\n", f"trace 1 origin 0 width {2**62}\n1 1\n2 5\n",
                                   f"trace 1 origin {2**62} width 9\n{10**18 - 1} 5\n"])
 def test_texts_that_are_no_trace(text: str) -> None:
-    with pytest.raises(BadReport):
+    with pytest.raises(BadReportError):
         ptulab.read_trace(text.encode())
 
 
@@ -52,7 +52,7 @@ def test_numbers_that_no_trace_has(number: str) -> None:
     for line in (5, 1):
         text = [*LINES]
         text[line] = text[line].replace(" 0 " if line == 5 else "0 ", f" {number} " if line == 5 else f"{'9' * 30} ")
-        with pytest.raises(BadReport):
+        with pytest.raises(BadReportError):
             ptulab.read_trace("\n".join(text))
 
 
@@ -64,7 +64,7 @@ def test_a_long_text_is_read_in_pieces(monkeypatch: pytest.MonkeyPatch) -> None:
         trace = ptulab.read_trace("\n".join([LINES[0], *rows, *LINES[4:]]))
         assert trace.bins.tolist() == [3 * n for n in range(400)] and trace.counts.tolist() == [n % 1000 + 1 for n in range(400)]
         assert trace.frequencies is not None and trace.frequencies[:3].tolist() == [196, 2, 1]
-        with pytest.raises(BadReport):
+        with pytest.raises(BadReportError):
             ptulab.read_trace("\n".join([LINES[0], *rows, rows[-1], ""]))
 
 

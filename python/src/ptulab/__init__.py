@@ -10,6 +10,7 @@ from . import (
     errors,
     events,
     exports,
+    fcs,
     first_look,
     fits,
     groups,
@@ -18,6 +19,7 @@ from . import (
     page,
     photon_hdf5,
     picked,
+    pixels,
     plans,
     plots,
     program,
@@ -29,13 +31,26 @@ from . import (
     texts,
     traces,
 )
-from .errors import BadFile, BadPlan, BadReport, FitFailed, Missing, NoProgram, NotKnown, NoTable, PtulabError, Refusal, Unlike
+from .errors import (
+    BadFileError,
+    BadPlanError,
+    BadReportError,
+    FitError,
+    MissingLibraryError,
+    NoProgramError,
+    NoTableError,
+    NotKnownError,
+    PlanUnlikeError,
+    PtulabError,
+    RefusalError,
+    UnlikeError,
+)
 from .events import EVENT, Events, iter_events, read_events
 from .first_look import Info, info
 from .headers import Header, read_header
-from .many import Left, Sum, count_files, sum_files
+from .many import LeftFile, SummedFiles, count_files, sum_files
 from .page import write_page
-from .plans import Finding, check_plan, plan_for, read_plan
+from .plans import Finding, Plan, check_plan, plan_for, read_plan
 from .program import find_program, run
 from .report import Head, Report, read_report, sum_reports
 from .tables import Table
@@ -44,28 +59,30 @@ from .traces import LongTrace, read_trace
 from ._versions import __version__, versions
 
 __all__ = [
-    "BadFile",
-    "BadPlan",
-    "BadReport",
+    "BadFileError",
+    "BadPlanError",
+    "BadReportError",
     "EVENT",
     "Events",
     "Finding",
-    "FitFailed",
+    "FitError",
     "Head",
     "Header",
     "Info",
-    "Left",
+    "LeftFile",
     "LongTrace",
-    "Missing",
-    "NoProgram",
-    "NoTable",
-    "NotKnown",
+    "MissingLibraryError",
+    "NoProgramError",
+    "NoTableError",
+    "NotKnownError",
+    "Plan",
+    "PlanUnlikeError",
     "PtulabError",
-    "Refusal",
+    "RefusalError",
     "Report",
-    "Sum",
+    "SummedFiles",
     "Table",
-    "Unlike",
+    "UnlikeError",
     "__version__",
     "app",
     "bursts",
@@ -74,6 +91,7 @@ __all__ = [
     "errors",
     "events",
     "exports",
+    "fcs",
     "find_program",
     "first_look",
     "fits",
@@ -85,6 +103,7 @@ __all__ = [
     "page",
     "photon_hdf5",
     "picked",
+    "pixels",
     "plan_for",
     "plans",
     "plots",

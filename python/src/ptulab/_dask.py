@@ -18,10 +18,10 @@ from contextlib import suppress
 from dataclasses import dataclass, field
 from typing import Any, NamedTuple
 
-from ._hand_out import Event, Gone, Lane
+from ._hand_out import Event, GoneError, Lane
 from ._optional import want
 from ._parts import Kind, Part, added
-from ._work import HostFails, Work, check, count, free_megabytes
+from ._work import HostError, Work, check, count, free_megabytes
 
 LOOKS = 1.0  # seconds between two questions for the workers
 LOST = 3  # times that a worker may be lost before it has counted anything
@@ -140,7 +140,7 @@ class Dask:
     def look(self) -> None:
         """Checks new workers, and sees which were lost."""
         if self.client.status in ("closing", "closed"):
-            raise Gone("the scheduler of dask is gone")
+            raise GoneError("the scheduler of dask is gone")
         if self.there is None:
             return
         for address in self.there - self.workers.keys():
@@ -176,7 +176,7 @@ class Dask:
             self.lose(address, "its check was lost")
             return
         except Exception as error:
-            said = str(error) if isinstance(error, HostFails) else f"{type(error).__name__}: {error}"
+            said = str(error) if isinstance(error, HostError) else f"{type(error).__name__}: {error}"
             self.events.put(Event(lost=said, host=address))
             return
         for _ in range(0 if worker.host in self.out else number):

@@ -1,4 +1,4 @@
-"""Plans as documents: what the program reads as TOML, read in Python.
+"""Plans wherever one is wanted: a path, a text, bytes or a ``Plan``, and what the program reads as TOML, read in Python.
 
 The program reads TOML 1.1 in UTF-8, with or without a byte order mark, of at most 65,536 bytes. Python's own reader
 knows TOML 1.0, so what 1.1 has more is written in the words of 1.0 before it reads: newlines, comments and a last comma
@@ -10,12 +10,16 @@ from __future__ import annotations
 
 import os
 import re
+import tempfile
 import tomllib
 from collections.abc import Iterator
+from contextlib import contextmanager
 from typing import Any
 
-from .errors import BadPlan
+from ._made_plans import PathLike, Plan, Ticked
+from .errors import BadPlanError
 
+PlanLike = Plan | str | os.PathLike[str] | bytes  # a plan, a path, or the text of one: bytes, or more than one line
 LONGEST = 65_536  # bytes of a plan
 DEEPEST = 80  # arrays and inline tables in one another
 
@@ -29,34 +33,69 @@ _ESCAPE = re.compile(r"\\(?:x([0-9A-Fa-f]{2})|(e)|(.))", re.DOTALL)
 _CLOCK = re.compile(r"(?<![\d:+-])(\d\d:\d\d)(?![\d:])")
 
 
-def read_plan(source: str | os.PathLike[str] | bytes) -> dict[str, Any]:
+def read_plan(source: PlanLike, file: PathLike | Ticked | None = None) -> dict[str, Any]:
     """The document of a plan: its keys with whole numbers, texts, truth values, lists and tables.
 
-    ``source`` is a path, or the plan's bytes. Raises BadPlan where it is longer than 65,536 bytes or no TOML, with
-    the path, the line and the column; whether it keeps the rules is for ``check_plan``.
+    ``source`` is a path, the plan's bytes, its text (of more than one line), or a ``Plan``, whose times become ticks by
+    ``file``. Raises ``BadPlanError`` where it is longer than 65,536 bytes or no TOML, with the path, the line and the column;
+    whether it keeps the rules is for ``check_plan``.
     """
-    if isinstance(source, bytes):
-        return _document(source)
-    with open(source, "rb") as file:
-        text = file.read(LONGEST + 1)
     try:
-        return _document(text)
-    except BadPlan as error:
-        raise BadPlan(f"{os.fspath(source)}: {error}") from error.__cause__
+        return _document(plan_bytes(source, file))
+    except BadPlanError as error:
+        if not is_path(source):
+            raise
+        raise BadPlanError(f"{name_of(source)}: {error}") from error.__cause__
+
+
+def is_path(plan: PlanLike) -> bool:
+    """Whether a plan is given by its path."""
+    return isinstance(plan, os.PathLike) or (isinstance(plan, str) and "\n" not in plan)
+
+
+def name_of(plan: PlanLike) -> str:
+    """What a plan is called: its path, or in words."""
+    return os.fspath(plan) if isinstance(plan, str | os.PathLike) and is_path(plan) else "the plan"
+
+
+def plan_bytes(plan: PlanLike, file: PathLike | Ticked | None = None) -> bytes:
+    """The bytes of a plan, and of one at a path not many more than a plan may have; times become ticks by a file."""
+    if isinstance(plan, Plan):
+        return plan.text(file).encode("utf-8")
+    if isinstance(plan, bytes):
+        return plan
+    if isinstance(plan, str) and not is_path(plan):
+        return plan.encode("utf-8")
+    with open(plan, "rb") as opened:
+        return opened.read(LONGEST + 1)
+
+
+@contextmanager
+def plan_path(plan: PlanLike, file: PathLike | Ticked | None = None) -> Iterator[str]:
+    """The path of a plan for the program: its own, or one of a file that is gone afterwards."""
+    if isinstance(plan, str | os.PathLike) and is_path(plan):
+        yield os.fspath(plan)
+        return
+    content = plan_bytes(plan, file)
+    with tempfile.TemporaryDirectory(prefix="ptulab-") as folder:
+        path = os.path.join(folder, "plan.toml")
+        with open(path, "wb") as out:
+            out.write(content)
+        yield path
 
 
 def _document(source: bytes) -> dict[str, Any]:
     if len(source) > LONGEST:
-        raise BadPlan(f"the plan is longer than {LONGEST} bytes")
+        raise BadPlanError(f"the plan is longer than {LONGEST} bytes")
     try:
         text = source.decode("utf-8").removeprefix("\ufeff")
         if _deepest(text) > DEEPEST:
-            raise BadPlan(f"the plan is not TOML for the program: it is more than {DEEPEST} deep")
+            raise BadPlanError(f"the plan is not TOML for the program: it is more than {DEEPEST} deep")
         document = _parsed(text)
     except UnicodeDecodeError as error:
-        raise BadPlan(f"the plan is not TOML: byte {error.start} is no UTF-8") from error
+        raise BadPlanError(f"the plan is not TOML: byte {error.start} is no UTF-8") from error
     except (tomllib.TOMLDecodeError, RecursionError) as error:
-        raise BadPlan(f"the plan is not TOML: {error}") from error
+        raise BadPlanError(f"the plan is not TOML: {error}") from error
     _within_limits(document)
     return document
 
@@ -114,7 +153,7 @@ def _older_escape(found: re.Match[str]) -> str:
 def _within_limits(value: Any) -> None:
     """The program reads whole numbers of 64 bits, with their signs."""
     if isinstance(value, int) and not -(1 << 63) <= value < 1 << 63:
-        raise BadPlan(f"the plan is not TOML for the program: {value} has more than 64 bits")
+        raise BadPlanError(f"the plan is not TOML for the program: {value} has more than 64 bits")
     if isinstance(value, dict | list):
         for part in value.values() if isinstance(value, dict) else value:
             _within_limits(part)

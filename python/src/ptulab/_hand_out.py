@@ -30,7 +30,7 @@ HOLD = 2.0  # seconds for which those who are ready wait for the others before a
 LOOKS = 0.2  # seconds between two looks at who counts
 
 
-class Gone(PtulabError):
+class GoneError(PtulabError):
     """Nobody can be asked any more, as when a scheduler has ended."""
 
 
@@ -61,7 +61,7 @@ class Engine(Protocol):
     events: queue.SimpleQueue[Event]
 
     def look(self) -> None:
-        """Sees who came and who was lost. Raises ``Gone`` where nobody can come any more."""
+        """Sees who came and who was lost. Raises ``GoneError`` where nobody can come any more."""
 
     def pending(self) -> bool:
         """Whether somebody is being checked."""
@@ -110,7 +110,7 @@ class HandOut:
                 self.take_events()
                 self.collect_in_time()
                 self.shown.look()
-        except Gone as gone:
+        except GoneError as gone:
             self.leave_all(str(gone))
 
     def is_open(self) -> bool:

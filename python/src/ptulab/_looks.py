@@ -52,7 +52,7 @@ class Look:
 def look(path: str | os.PathLike[str]) -> Look:
     """Looks at all events of a file, in the memory of one piece and of its markers.
 
-    Raises ``BadFile`` for a file that ``ptu events`` refuses.
+    Raises ``BadFileError`` for a file that ``ptu events`` refuses.
     """
     seen = Look(read_header(path))
     photons, values = np.zeros(INPUTS, np.int64), np.zeros(16, np.int64)

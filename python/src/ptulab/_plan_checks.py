@@ -6,11 +6,11 @@ import os
 from collections.abc import Iterator
 from typing import Any
 
-from ._documents import read_plan
-from .errors import NoProgram, Refusal
+from ._documents import PlanLike, read_plan
+from .errors import NoProgramError, RefusalError
 from .headers import other_records
 from ._looks import Look, look
-from ._plan_rules import Finding, Plan, broken_rules
+from ._plan_rules import Finding, Document, broken_rules
 from .program import find_program, run
 from .report import Report
 from .tables import Table
@@ -27,29 +27,29 @@ OUTSIDE = {
 PathLike = str | os.PathLike[str]
 
 
-def check_plan(plan: PathLike | bytes, file: PathLike | None = None, *, program: PathLike | None = None) -> list[Finding]:
+def check_plan(plan: PlanLike, file: PathLike | None = None, *, program: PathLike | None = None) -> list[Finding]:
     """What is wrong with a plan, the gravest first; nothing where it is good.
 
-    ``plan`` is a path or the bytes of the plan, read as the program reads it. Of a plan that breaks rules each key
-    whose value is out of its range is named. With a ``file`` it is looked at whole: a part that doesn't suit its mode,
+    ``plan`` is a path, a text or the bytes of one, read as the program reads it, or a ``Plan``. Of a plan that breaks rules
+    each key whose value is out of its range is named. With a ``file`` it is looked at whole: a part that doesn't suit its mode,
     inputs and marker bits that don't occur, a correlation longer than the file, a file that may be cut; and where the program is found
     (``program``, else as ``run`` finds it) the plan is run, and tables that leave out more than a tenth of their photons
     are told. Findings that aren't ``refused`` are warnings.
 
-    Raises ``BadPlan`` for a plan that is no TOML, ``BadFile`` for a file that the program refuses, ``OSError``.
+    Raises ``BadPlanError`` for a plan that is no TOML, ``BadFileError`` for a file that the program refuses, ``OSError``.
     """
-    document = read_plan(plan)
+    document = read_plan(plan, file)
     found = broken_rules(document)
     if found:
         return found
-    checked = Plan(document)
+    checked = Document(document)
     found += _cells(checked)
     if file is None:
         return found
     seen = look(file)
     unsuited = list(_modes(checked, seen))
     found = [*unsuited, *found, *_records(seen), *_inputs(checked, seen), *_markers(checked, seen), *_delays(checked, seen)]
-    if not unsuited and not isinstance(plan, bytes):
+    if not unsuited:
         found += _counted(plan, file, program)
     return found
 
@@ -58,13 +58,13 @@ def _warning(part: str, key: str, text: str) -> Finding:
     return Finding(0, int(part.rpartition(" ")[2]) if part[-1:].isdigit() else 0, part, key, text, refused=False)
 
 
-def _tables(plan: Plan, *kinds: str) -> Iterator[tuple[str, dict[str, Any]]]:
+def _tables(plan: Document, *kinds: str) -> Iterator[tuple[str, dict[str, Any]]]:
     for kind in kinds:
         for number, table in enumerate(plan.tables(kind), 1):
             yield f"{kind} {number}", table
 
 
-def _cells(plan: Plan) -> Iterator[Finding]:
+def _cells(plan: Document) -> Iterator[Finding]:
     """Coincidences whose cells aren't all alike."""
     for part, table in _tables(plan, "coincidence"):
         reach, width = table["reach"], table["width"]
@@ -76,7 +76,7 @@ def _cells(plan: Plan) -> Iterator[Finding]:
             yield _warning(part, "width", f"width = {width} is even, so no cell is centred on 0: {better}")
 
 
-def _modes(plan: Plan, seen: Look) -> Iterator[Finding]:
+def _modes(plan: Document, seen: Look) -> Iterator[Finding]:
     """Parts that don't suit the mode of the file, for which the program refuses it with status 9."""
     mode = seen.header.mode
     for part, table in _tables(plan, "group"):
@@ -93,7 +93,7 @@ def _records(seen: Look) -> Iterator[Finding]:
         yield _warning("the file", "", odd)
 
 
-def _inputs(plan: Plan, seen: Look) -> Iterator[Finding]:
+def _inputs(plan: Document, seen: Look) -> Iterator[Finding]:
     there = ", ".join(map(str, seen.inputs)) or "none"
     for part, table in _tables(plan, "group"):
         for number in table["inputs"]:
@@ -104,7 +104,7 @@ def _inputs(plan: Plan, seen: Look) -> Iterator[Finding]:
             yield _warning(part, "input", f"input {table['input']} doesn't occur in the file; these do: {there}")
 
 
-def _markers(plan: Plan, seen: Look) -> Iterator[Finding]:
+def _markers(plan: Document, seen: Look) -> Iterator[Finding]:
     there = ", ".join(map(str, seen.bits)) or "none"
     for part, table in _tables(plan, "image", "cube"):
         for key in ("line", "frame", "stop"):
@@ -112,7 +112,7 @@ def _markers(plan: Plan, seen: Look) -> Iterator[Finding]:
                 yield _warning(part, key, f"{key} = {table[key]}: this marker bit doesn't occur in the file; these do: {there}")
 
 
-def _delays(plan: Plan, seen: Look) -> Iterator[Finding]:
+def _delays(plan: Document, seen: Look) -> Iterator[Finding]:
     for part, table in _tables(plan, "correlation"):
         longest = table["lags"] << (table["levels"] - 1)
         if longest > seen.length:
@@ -123,14 +123,14 @@ def _delays(plan: Plan, seen: Look) -> Iterator[Finding]:
             yield _warning(part, "origin", f"origin = {origin:,} is behind the last event, at {seen.last:,}")
 
 
-def _counted(plan: PathLike, file: PathLike, program: PathLike | None) -> Iterator[Finding]:
+def _counted(plan: PlanLike, file: PathLike, program: PathLike | None) -> Iterator[Finding]:
     """What a run of the program shows: late events, and tables that leave many photons out."""
     try:
         report = run(plan, file, program=find_program(program))
-    except NoProgram as error:
+    except NoProgramError as error:
         yield _warning("", "", f"photons that are in no cell weren't counted: {error}")
         return
-    except Refusal as refusal:
+    except RefusalError as refusal:
         yield Finding(0, 0, "the file", "", f"the program refuses it: {refusal}")
         return
     if report.head.late:

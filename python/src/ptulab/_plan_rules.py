@@ -7,14 +7,16 @@ proved; the program's word is the one that counts.
 
 from __future__ import annotations
 
+import difflib
 import math
-from collections.abc import Callable, Iterator, Mapping
+from collections.abc import Callable, Iterable, Iterator, Mapping
 from dataclasses import dataclass, field
 from typing import Any, TypeGuard
 
 KINDS = ("group", "histogram", "trace", "startstop", "coincidence", "image", "correlation", "shift", "cube", "fold")
 MOST = {"group": 64, "histogram": 32, "trace": 32, "startstop": 16, "coincidence": 16, "image": 8, "correlation": 16,
         "shift": 65, "cube": 2, "fold": 8}
+TOP = ("version", "order", "reserved", "limits", "period", "settle", *KINDS)  # keys of the document
 SECOND = ("period", "shift", "settle", "cube", "fold")  # keys of the document in version 2 alone
 LONG = 1 << 62
 BINS_OF_CUBE = 1 << 26
@@ -41,11 +43,11 @@ class Finding:
         return f"{said} (rule {self.rule})" if self.rule else said
 
 
-Test = Callable[[Any, "Plan"], str]  # what is wrong with a value, or nothing
+Test = Callable[[Any, "Document"], str]  # what is wrong with a value, or nothing
 
 
 @dataclass(frozen=True)
-class Plan:
+class Document:
     """A plan's document, with what the rules of its parts ask: its version, and how many groups there are."""
 
     document: Mapping[str, Any]
@@ -70,33 +72,33 @@ def is_whole(value: Any) -> TypeGuard[int]:
 
 
 def whole(least: int, most: int) -> Test:
-    def test(value: Any, plan: Plan) -> str:
+    def test(value: Any, plan: Document) -> str:
         return "" if is_whole(value) and least <= value <= most else f"isn't a whole number from {least:,} to {most:,}"
 
     return test
 
 
 def one_of(*words: Any) -> Test:
-    def test(value: Any, plan: Plan) -> str:
+    def test(value: Any, plan: Document) -> str:
         return "" if any(type(value) is type(word) and value == word for word in words) else f"isn't one of {list(words)}"
 
     return test
 
 
-def group(value: Any, plan: Plan) -> str:
+def group(value: Any, plan: Document) -> str:
     if is_whole(value) and 1 <= value <= plan.groups:
         return ""
     return f"is no group: the plan has the groups 1 to {plan.groups}" if plan.groups else "is no group: the plan has none"
 
 
-def even(value: Any, plan: Plan) -> str:
+def even(value: Any, plan: Document) -> str:
     return "" if is_whole(value) and value in range(2, 129, 2) else "isn't an even number from 2 to 128"
 
 
 def rising(least: int, most: int, count: int) -> Test:
     """A list of up to ``count`` whole numbers, each greater than the one before it."""
 
-    def test(value: Any, plan: Plan) -> str:
+    def test(value: Any, plan: Document) -> str:
         numbers = value if isinstance(value, list) else []
         good = bool(numbers) and len(numbers) <= count and all(map(is_whole, numbers))
         if not good or not least <= min(numbers) <= max(numbers) <= most:
@@ -110,22 +112,22 @@ def is_gate(value: Any) -> bool:
     return isinstance(value, list) and len(value) == 2 and all(map(is_whole, value)) and 0 <= value[0] < value[1] <= 32768
 
 
-def gate(value: Any, plan: Plan) -> str:
+def gate(value: Any, plan: Document) -> str:
     return "" if is_gate(value) else "isn't two whole numbers from 0 to 32,768, the second greater than the first"
 
 
-def gates(value: Any, plan: Plan) -> str:
+def gates(value: Any, plan: Document) -> str:
     if not isinstance(value, list) or not 1 <= len(value) <= 8 or not all(map(is_gate, value)):
         return "isn't a list of 1 to 8 gates, each two whole numbers from 0 to 32,768, the second greater than the first"
     follow = all(before[1] <= after[0] for before, after in zip(value, value[1:]))
     return "" if follow else "overlaps: each gate must begin at the end of the one before or later"
 
 
-def of_groups(value: Any, plan: Plan) -> str:
+def of_groups(value: Any, plan: Document) -> str:
     return rising(1, plan.groups, 6)(value, plan)
 
 
-def shifted(value: Any, plan: Plan) -> str:
+def shifted(value: Any, plan: Document) -> str:
     period = plan.document.get("period")
     if not is_whole(period) or not 1 <= period <= 32768:
         return ""  # that is told of the period
@@ -172,7 +174,7 @@ SHAPES = {
 
 def broken_rules(document: Mapping[str, Any]) -> list[Finding]:
     """Each rule that a document breaks, the least first as the program tells it; none of a good plan."""
-    plan = Plan(document)
+    plan = Document(document)
     found = [*_document(plan), *_lists(plan)]
     for kind in KINDS:
         for number, table in enumerate(plan.tables(kind), 1):
@@ -182,11 +184,11 @@ def broken_rules(document: Mapping[str, Any]) -> list[Finding]:
     return sorted(found, key=lambda finding: (finding.rule, finding.index))
 
 
-def _document(plan: Plan) -> Iterator[Finding]:
+def _document(plan: Document) -> Iterator[Finding]:
     document = plan.document
     for key in document:
-        if key not in ("version", "order", "reserved", "limits", *SECOND, *KINDS):
-            yield Finding(1, 0, "the plan", key, f"{key} is no key of a plan")
+        if key not in TOP:
+            yield Finding(1, 0, "the plan", key, f"{key} is no key of a plan{_meant(key, TOP)}")
         elif key in SECOND and plan.version != 2:
             yield Finding(1, 0, "the plan", key, f"{key} is a key of a plan in version 2 only")
     tests = ((2, "version", one_of(1, 2)), (3, "order", one_of("drop", "stop")), (4, "reserved", one_of("skip", "stop")))
@@ -198,19 +200,19 @@ def _document(plan: Plan) -> Iterator[Finding]:
     yield from _limits(plan)
 
 
-def _limits(plan: Plan) -> Iterator[Finding]:
+def _limits(plan: Document) -> Iterator[Finding]:
     limits = plan.document.get("limits", {})
     if not isinstance(limits, dict):
         yield Finding(5, 0, "the plan", "limits", "limits isn't a table")
         return
     for key, value in limits.items():
         if key != "records":
-            yield Finding(5, 0, "limits", key, f"{key} is no key of limits")
+            yield Finding(5, 0, "limits", key, f"{key} is no key of limits{_meant(key, ('records',))}")
         elif text := whole(1, 1 << 40)(value, plan):
             yield Finding(5, 0, "limits", key, f"{key} = {shown(value)} {text}")
 
 
-def _lists(plan: Plan) -> Iterator[Finding]:
+def _lists(plan: Document) -> Iterator[Finding]:
     for index, kind in enumerate(KINDS, 1):
         tables = plan.document.get(kind, [])
         if not isinstance(tables, list) or not all(isinstance(table, dict) for table in tables):
@@ -219,12 +221,12 @@ def _lists(plan: Plan) -> Iterator[Finding]:
             yield Finding(7, index, "the plan", kind, f"there are {len(tables)} of {kind}, and at most {MOST[kind]} may be")
 
 
-def _keys(plan: Plan, kind: str, number: int, table: Mapping[str, Any]) -> Iterator[Finding]:
+def _keys(plan: Document, kind: str, number: int, table: Mapping[str, Any]) -> Iterator[Finding]:
     """Keys that aren't known where they stand, and those that are wanting."""
     shape, part = SHAPES[kind], f"{kind} {number}"
     for key in table:
         if key not in shape.keys:
-            yield Finding(shape.rule, number, part, key, f"{key} is no key of a {kind}")
+            yield Finding(shape.rule, number, part, key, f"{key} is no key of a {kind}{_meant(key, shape.keys)}")
         elif shape.keys[key].version not in (0, plan.version):
             yield Finding(shape.rule, number, part, key, f"{key} is a key of a {kind} in version {shape.keys[key].version} only")
     for key, known in shape.keys.items():
@@ -232,7 +234,7 @@ def _keys(plan: Plan, kind: str, number: int, table: Mapping[str, Any]) -> Itera
             yield Finding(shape.rule, number, part, key, f"{key} is wanting")
 
 
-def _values(plan: Plan, kind: str, number: int, table: Mapping[str, Any]) -> Iterator[Finding]:
+def _values(plan: Document, kind: str, number: int, table: Mapping[str, Any]) -> Iterator[Finding]:
     """Values that are out of their ranges."""
     shape, part = SHAPES[kind], f"{kind} {number}"
     for key, known in shape.keys.items():
@@ -245,12 +247,18 @@ def _values(plan: Plan, kind: str, number: int, table: Mapping[str, Any]) -> Ite
             yield Finding(29, number, part, "dbins", f"width * height * dbins is {bins:,}, and at most {BINS_OF_CUBE:,} may be")
 
 
-def _shifts(plan: Plan) -> Iterator[Finding]:
+def _shifts(plan: Document) -> Iterator[Finding]:
     """Shifts stand in the order of their inputs."""
     inputs = [table.get("input") for table in plan.tables("shift")]
     for number, (before, after) in enumerate(zip(inputs, inputs[1:]), 2):
         if is_whole(before) and is_whole(after) and after <= before:
             yield Finding(25, number, f"shift {number}", "input", f"input = {after} isn't greater than {before}, the one before")
+
+
+def _meant(key: str, known: Iterable[str]) -> str:
+    """A word on the key that may be meant by one that looks like it."""
+    near = difflib.get_close_matches(key, known, 1)
+    return f": is {near[0]} meant?" if near else ""
 
 
 def shown(value: Any) -> str:

@@ -18,9 +18,9 @@ from collections.abc import Iterator, Sequence
 from contextlib import suppress
 from typing import IO, Any
 
-from ._hand_out import Event, Gone, Lane
+from ._hand_out import Event, GoneError, Lane
 from ._parts import Kind, Part
-from ._work import HostFails, Work, check, count, free_megabytes
+from ._work import HostError, Work, check, count, free_megabytes
 from .errors import PtulabError
 
 LOST = 10  # processes that may be lost in a row before a file was counted
@@ -82,7 +82,7 @@ class Processes:
     def look(self) -> None:
         """Begins processes that are missing."""
         if not self.lanes and self.lost >= LOST:
-            raise Gone(self.why)
+            raise GoneError(self.why)
         while len(self.lanes) < self.number and self.lost < LOST:
             lane = Lane("")
             self.lanes[lane] = _Process(self, lane)
@@ -143,7 +143,7 @@ class _Process:
             while True:
                 words = self.asked.get()
                 self.owner_heard(self.hear(words))
-        except HostFails as error:
+        except HostError as error:
             self.owner.lost = LOST
             why = str(error)
         except Exception as error:  # whatever it is: nobody may wait for this one

@@ -4,7 +4,7 @@ import os
 
 import ptulab_program
 
-from .errors import NoProgram
+from .errors import NoProgramError
 from .program import find_program
 
 __version__ = "0.1.0"
@@ -17,6 +17,6 @@ def versions(program: str | os.PathLike[str] | None = None) -> dict[str, str | N
     told: dict[str, str | None] = {"ptulab": __version__, "program": None, "sha256": None, "made_from": None}
     try:
         told["program"] = path = find_program(program)
-    except NoProgram:
+    except NoProgramError:
         return told
     return told | {"sha256": ptulab_program.checksum(path), "made_from": ptulab_program.made_from(path)}

@@ -26,7 +26,7 @@ from pathlib import Path
 
 from ._documents import read_plan
 from ._parts import File, Kind, Part, left_as_other, with_report
-from .errors import BadPlan, BadReport, PtulabError, Refusal, Unlike
+from .errors import BadPlanError, BadReportError, PtulabError, RefusalError, UnlikeError
 from .program import _read, refusal
 from .report import Report, read_stream
 
@@ -40,11 +40,11 @@ REFUSED = re.compile(rb"refused (\d+) ([^\n]*)\n")  # what may stand in the plac
 Stopped = Callable[[], bool]
 
 
-class NotWanted(PtulabError):
+class NotWantedError(PtulabError):
     """Nobody waits for this any more."""
 
 
-class HostFails(PtulabError):
+class HostError(PtulabError):
     """This process can't count: something that it needs isn't here."""
 
 
@@ -83,7 +83,7 @@ class Work:
         """The plan; one that is bad is for the program to refuse."""
         try:
             return None if self.plan is None else read_plan(self.plan)
-        except BadPlan:
+        except BadPlanError:
             if self.program:
                 return None
             raise
@@ -122,7 +122,7 @@ def path_of(name: str, passed: list[int]) -> str:
     try:
         kept = _contents[name]
     except KeyError:
-        raise HostFails("the process was started anew") from None
+        raise HostError("the process was started anew") from None
     if isinstance(kept, str):
         return kept
     passed.append(kept)
@@ -135,15 +135,15 @@ def path_of(name: str, passed: list[int]) -> str:
 def check(work: Work, program: bytes | None, room: int | None) -> str:
     """The name of this host, once it is known that it can do this work in ``room`` MiB.
 
-    Raises ``HostFails`` where it can't.
+    Raises ``HostError`` where it can't.
     """
     if version() != work.version:
-        raise HostFails(f"it has ptulab {version()}, not {work.version}")
+        raise HostError(f"it has ptulab {version()}, not {work.version}")
     if room is not None and work.need() > room:
-        raise HostFails(f"the work takes {work.need()} MiB of memory, and {room} are free")
+        raise HostError(f"the work takes {work.need()} MiB of memory, and {room} are free")
     if program is not None:
         if keep(program) != work.program:
-            raise HostFails("the program came with other bytes")
+            raise HostError("the program came with other bytes")
         _try(work.program)
     return socket.gethostname()
 
@@ -155,10 +155,10 @@ def _try(name: str) -> None:
     try:
         run = subprocess.run(words, pass_fds=passed, capture_output=True, timeout=WAIT_BEFORE_EXEC, stdin=subprocess.DEVNULL, check=False)
     except (OSError, subprocess.TimeoutExpired) as error:
-        raise HostFails(f"the program can't be run: {error}") from None
+        raise HostError(f"the program can't be run: {error}") from None
     if run.returncode != 1 or not run.stderr.startswith(b"ptu: "):
         said = run.stderr.decode(errors="replace").strip()[:200]
-        raise HostFails(f"the program ends with status {run.returncode} {said}".strip())
+        raise HostError(f"the program ends with status {run.returncode} {said}".strip())
 
 
 def free_megabytes() -> int | None:
@@ -223,7 +223,7 @@ def one_file(work: Work, path: str, child_of: list[subprocess.Popen[bytes]]) -> 
 
 
 def _left(file: File, error: PtulabError) -> File:
-    if isinstance(error, Refusal):
+    if isinstance(error, RefusalError):
         line = error.line.removeprefix("ptu: ") or error.meaning
         return replace(file, status=error.status, why=line, again=error.status not in (*OF_FILE, *OF_PLAN))
     return replace(file, why=str(error))
@@ -269,11 +269,11 @@ def _stored(work: Work, descriptor: int) -> Report | PtulabError:
     """A report on disk, or the line of a refusal that stands in its place."""
     with open(descriptor, "rb", closefd=False) as source:
         if refused := REFUSED.fullmatch(source.read(4096)):
-            return Refusal(int(refused[1]), refused[2].decode(errors="replace"), "")
+            return RefusalError(int(refused[1]), refused[2].decode(errors="replace"), "")
         source.seek(0)
         try:
             return read_stream(source, work.document)
-        except (BadReport, Unlike) as error:
+        except (BadReportError, UnlikeError) as error:
             return error
 
 
@@ -308,7 +308,7 @@ def _look(ended: threading.Event, stopped: Stopped, running: list[subprocess.Pop
 def count(work: Work, part: Part, files: Sequence[tuple[int, str]], kind: Kind | None, stopped: Stopped | None = None) -> Part:
     """Counts files into a part, and gives what came of these.
 
-    With a ``kind`` only files of this kind are added. Raises ``NotWanted`` once ``stopped`` says so.
+    With a ``kind`` only files of this kind are added. Raises ``NotWantedError`` once ``stopped`` says so.
     """
     latest = Part()
     if kind is not None:
@@ -317,7 +317,7 @@ def count(work: Work, part: Part, files: Sequence[tuple[int, str]], kind: Kind |
         for place, path in files:
             file, report = one_file(work, path, running)
             if stopped is not None and stopped():
-                raise NotWanted("nobody waits for it")
+                raise NotWantedError("nobody waits for it")
             if kind is not None and file.kind not in (None, kind):
                 file, report = left_as_other(file, kind), None
             latest.files[place] = file

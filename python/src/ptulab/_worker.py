@@ -11,7 +11,7 @@ from typing import IO, Any
 
 from ._parts import Part
 from ._processes import get, put
-from ._work import HostFails, Work, check, count
+from ._work import HostError, Work, check, count
 
 
 def serve(source: IO[bytes], out: IO[bytes]) -> None:
@@ -40,10 +40,10 @@ def serve(source: IO[bytes], out: IO[bytes]) -> None:
             part = Part()
 
 
-def _or_error(work: Work, program: bytes | None) -> str | HostFails:
+def _or_error(work: Work, program: bytes | None) -> str | HostError:
     try:
         return check(work, program, None)
-    except HostFails as error:
+    except HostError as error:
         return error
 
 

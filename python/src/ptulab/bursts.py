@@ -10,7 +10,7 @@ from dataclasses import dataclass
 import numpy as np
 from numpy.typing import NDArray
 
-from .errors import NotKnown
+from .errors import NotKnownError
 from .groups import GroupLike, Part, group_of
 from ._values import Compared
 
@@ -107,10 +107,10 @@ class Fret(Compared):
     def histogram_2d(self, bins: int = 48, span: tuple[float, float] = (-0.1, 1.1)) -> Counted:
         """How many bursts have each S and E, shape (bins, bins) with S first, and the edges of both, shape (bins + 1,).
 
-        Raises ``NotKnown`` without S.
+        Raises ``NotKnownError`` without S.
         """
         if self.S is None:
-            raise NotKnown("no stoichiometry: there were no photons of the acceptor's own excitation")
+            raise NotKnownError("no stoichiometry: there were no photons of the acceptor's own excitation")
         known = ~(np.isnan(self.E) | np.isnan(self.S))
         counts, edges, _ = np.histogram2d(self.S[known], self.E[known], bins=bins, range=(span, span))
         return counts.astype(np.int64), edges

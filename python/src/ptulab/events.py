@@ -16,10 +16,11 @@ from typing import Any, overload
 import numpy as np
 from numpy.typing import NDArray
 
-from .errors import BadFile
+from .errors import BadFileError
 from .headers import Header, read_header
 from ._layouts import RESERVED, WRAP, Words, layout_of
 from ._scratch import keep_scratch
+from ._optional import want
 from ._values import Compared
 
 __all__ = ["EVENT", "Events", "events_of", "iter_events", "read_events"]
@@ -130,6 +131,10 @@ class Events(Compared):
         """The same as rows: an array with one element of the type ``EVENT``, 24 bytes, for each event, made anew."""
         return np.asarray(self)
 
+    def to_pandas(self) -> Any:
+        """The same as a ``pandas.DataFrame``, a line for each event. Raises ``MissingLibraryError`` without pandas."""
+        return want("pandas", "events as a list").DataFrame({name: self[name] for name in EVENT.names or ()})
+
     @property
     def photons(self) -> "Events":
         """The photons that aren't late."""
@@ -168,7 +173,7 @@ def read_events(
 
     Times and late marks are those of the whole file. An event takes 14 bytes, of T2 10, and a record one bit. With
     ``partial`` a file whose records are refused has the events before that, as one that was cut within a record. Raises
-    ``BadFile``, with the status and the line of the program, for a file that ``ptu events`` refuses.
+    ``BadFileError``, with the status and the line of the program, for a file that ``ptu events`` refuses.
     """
     header = read_header(path)
     first, last = _bounds(header, start, stop)
@@ -179,7 +184,7 @@ def read_events(
         walk.fill(room, last)
         if last == header.records:
             _ends_whole(path, header)
-    except BadFile:
+    except BadFileError:
         if not partial:
             raise
         if walk.refused > first:
@@ -214,7 +219,7 @@ def _bounds(header: Header, start: int, stop: int | None) -> tuple[int, int]:
 
 def _ends_whole(path: str | os.PathLike[str], header: Header) -> None:
     if header.left_over_bytes:
-        raise BadFile(17, f"{header.left_over_bytes} bytes of a record at the end", os.fspath(path))
+        raise BadFileError(17, f"{header.left_over_bytes} bytes of a record at the end", os.fspath(path))
 
 
 class _Room:
@@ -307,7 +312,7 @@ class _Walk:
         np.cumsum(added, out=added)  # a wrap is less than 2^51, so the first sum beyond 2^62 is no more than that
         if len(wraps) and int(added.max()) > GREATEST or int(added.min()) < 0:
             self.refused = self.at + int(np.argmax((added > GREATEST) | (added < 0)))
-            raise BadFile(21, f"record {self.refused + 1} passes the greatest time", self.path)
+            raise BadFileError(21, f"record {self.refused + 1} passes the greatest time", self.path)
         self.base = int(added[-1])
         added += words & self.layout.field
         return added

@@ -6,14 +6,15 @@ Every file appears when it is whole.
 import json
 import math
 import os
-from collections.abc import Sequence
+from collections.abc import Iterable, Iterator, Sequence
 from typing import Any, Literal
 from xml.etree import ElementTree
 
 import numpy as np
 from numpy.typing import NDArray
 
-from .errors import NotKnown
+from .errors import NotKnownError
+from .fits import g2
 from ._optional import want
 from .photon_hdf5 import write_photon_hdf5
 from .report import Report
@@ -22,10 +23,73 @@ from .segments import Curve
 from .tables import Table
 from ._whole import whole_path, written_whole
 
-__all__ = ["write_npz", "write_ome_tiff", "write_photon_hdf5", "write_pycorrfit", "written_whole"]
+__all__ = ["write_csv", "write_json", "write_npz", "write_ome_tiff", "write_photon_hdf5", "write_pycorrfit", "written_whole"]
 
 PathLike = str | os.PathLike[str]
 SPACES = {"": "http://www.openmicroscopy.org/Schemas/OME/2016-06", "xsi": "http://www.w3.org/2001/XMLSchema-instance"}
+
+
+LEADING = {"image": ("row",), "cube": ("row", "column")}  # axes before the last one
+
+
+def write_csv(tables: Table | Iterable[Table], folder: PathLike) -> None:
+    """A file of each table in a folder, ``KIND_NUMBER.csv``: a line for each cell, those of 0 too, with the axes in ticks and
+    seconds, and, where the plan told the photons of its groups, g2 or a normalised correlation, each with its Poisson error.
+    Raises ``OSError``."""
+    os.makedirs(folder, exist_ok=True)
+    for table in [tables] if isinstance(tables, Table) else tables:
+        with written_whole(os.path.join(folder, f"{table.kind}_{table.number}.csv")) as out:
+            out.writelines(line.encode("ascii") for line in csv_lines(table))
+
+
+def write_json(report: Report, path: PathLike, tables: Iterable[Table] | None = None) -> None:
+    """A report, or some of its tables, as one text of JSON: its head, and of each table settings, axes, counts, what is in no
+    cell, and normalised values where they are known. Raises ``OSError``."""
+    told = [
+        {
+            "kind": table.kind,
+            "number": table.number,
+            **table.settings,
+            "ticks": table.ticks.tolist(),
+            "seconds": None if table.seconds is None else table.seconds.tolist(),
+            "counts": table.counts.tolist(),
+            **{name: [value if math.isfinite(value) else None for value in values.tolist()] for name, values in normalised(table).items()},
+            **table.rest,
+        }
+        for table in (report.tables if tables is None else tables)
+    ]
+    with written_whole(path) as out:
+        out.write(json.dumps({"head": dict(report.head.items()), "tables": told}).encode("ascii"))
+
+
+def csv_lines(table: Table) -> Iterator[str]:
+    """The lines of a CSV file of all cells of a table, with their names first."""
+    columns, more = along(table), normalised(table)
+    yield ",".join([*LEADING.get(table.kind, ()), *columns, "count", *more]) + "\n"
+    middles = ["".join(f"{value}," for value in values) for values in zip(*(array.tolist() for array in columns.values()))]
+    ends = ["".join(f",{value}" for value in values) + "\n" for values in zip(*(array.tolist() for array in more.values()))]
+    for place in np.ndindex(table.counts.shape[:-1]):
+        front = "".join(f"{number}," for number in place)
+        counts = table.counts[place].tolist()
+        yield "".join([f"{front}{middle}{count}{end}" for middle, count, end in zip(middles, counts, ends or ["\n"] * len(middles))])
+
+
+def along(table: Table) -> dict[str, NDArray[Any]]:
+    """The columns that go by the table's last axis, an array of each."""
+    if table.kind == "image":
+        return {"column": np.arange(len(table.ticks))}
+    if table.kind == "fold":
+        return {"set": table.ticks, "groups": np.array([" ".join(map(str, groups)) for groups in table.patterns()])}
+    columns = {"ticks": table.ticks, "seconds": table.seconds, "level": table.levels}
+    return {name: array for name, array in columns.items() if array is not None}
+
+
+def normalised(table: Table) -> dict[str, NDArray[np.float64]]:
+    """The column that is 1 without correlation, and its error, an array of each: none where photons or length aren't known."""
+    if table.photons is None or None in (one.length for one in table.measurements):
+        return {}
+    name = {"coincidence": "g2", "correlation": "normalised"}.get(table.kind)
+    return dict(zip((name, "error"), g2(table))) if name else {}
 
 
 def write_npz(report: Report, path: PathLike) -> None:
@@ -62,7 +126,7 @@ def write_pycorrfit(
     ``curve``: a correlation of a report that was read with its plan, or what ``correlation_by_segments`` gives; points
     that are nan, or without an error where others have one, are left out. ``kind``: as the groups say, where a plan
     told them, else a cross-correlation. ``traces``: one of an autocorrelation, one of each group of a
-    cross-correlation, in kHz over seconds. Raises ``NotKnown`` where the file didn't tell how long a tick is, or nothing
+    cross-correlation, in kHz over seconds. Raises ``NotKnownError`` where the file didn't tell how long a tick is, or nothing
     told the photons of the groups.
     """
     seconds, values, errors = _points(curve)
@@ -83,7 +147,7 @@ def write_pycorrfit(
 def _points(curve: Curve | Table) -> tuple[NDArray[np.float64], NDArray[np.float64], NDArray[np.float64] | None]:
     """Delays in seconds, values that are 0 without correlation, and errors, without the points that aren't known."""
     if curve.seconds is None:
-        raise NotKnown("the file doesn't tell how many seconds a tick has")
+        raise NotKnownError("the file doesn't tell how many seconds a tick has")
     values = curve.normalised() if isinstance(curve, Table) else curve.values
     errors = None if isinstance(curve, Table) or np.isnan(curve.errors).all() else curve.errors
     kept = np.isfinite(values) & (True if errors is None else np.isfinite(errors))
@@ -92,7 +156,7 @@ def _points(curve: Curve | Table) -> tuple[NDArray[np.float64], NDArray[np.float
 
 def _trace_lines(trace: Table) -> list[str]:
     if trace.kind != "trace" or trace.seconds is None or len(trace.seconds) < 2:
-        raise NotKnown("a trace of some bins, in seconds, is needed")
+        raise NotKnownError("a trace of some bins, in seconds, is needed")
     rates = trace.counts.astype(np.float64) / float(trace.seconds[1] - trace.seconds[0]) / 1000
     return [f"{time:.10e},{rate:.10e}" for time, rate in zip(trace.seconds, rates, strict=True)]
 
@@ -106,7 +170,7 @@ def write_ome_tiff(
     rows, columns), as of mean lifetimes. Whole numbers are stored with 16 bits, or 32 where one needs them, others as
     floating-point numbers of 32 bits. ``pixel_micrometres``: how long and wide a pixel is, by default what the header of
     an image's or a cube's file tells (``ImgHdr_PixResol``). Raises ``ValueError`` for other tables and shapes, no pixels,
-    and counts that pass 32 bits, and ``Missing`` without tifffile.
+    and counts that pass 32 bits, and ``MissingLibraryError`` without tifffile.
     """
     tifffile = want("tifffile", "OME-TIFF")
     array, axes = _with_axes(pixels)

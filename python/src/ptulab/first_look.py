@@ -23,8 +23,9 @@ from numpy.typing import NDArray
 
 from ._layouts import MARKER, RESERVED, WRAP, layout_of
 from ._looks import BITS
+from ._optional import want
 from ._values import Compared
-from .errors import Unlike
+from .errors import UnlikeError
 from .headers import Header, other_records, read_header
 from .program import run
 from .report import Head
@@ -180,6 +181,12 @@ class Info(Compared):
             "tags": {name: _tag(value) for name, value in header.tags.items() if name not in ("Header_End", "File_CreatingTime")},
         }
 
+    def to_pandas(self) -> Any:
+        """The inputs as a ``pandas.DataFrame``: ``number``, ``photons`` and ``rate_hertz`` of each. Raises
+        ``MissingLibraryError`` without pandas."""
+        names = ["number", "photons", "rate_hertz"]
+        return want("pandas", "inputs as a list").DataFrame([[getattr(one, name) for name in names] for one in self.inputs], columns=names)
+
     def json(self) -> str:
         """The same as a text; numbers that JSON doesn't have, as infinity, are null."""
         return json.dumps(self.as_json(), allow_nan=False, ensure_ascii=False)
@@ -230,7 +237,7 @@ def info(path: PathLike, *, program: PathLike | None = None, progress: Progress 
 
     Of a file that ends within a record the whole records are counted. ``program`` is the ptu that counts, by default the one
     that ``run`` takes. ``progress`` is called with the bytes that were looked at before the program counts. Raises
-    ``BadFile`` for a header that is refused, ``Refusal`` for records that are, ``NoProgram``, and ``OSError``.
+    ``BadFileError`` for a header that is refused, ``RefusalError`` for records that are, ``NoProgramError``, and ``OSError``.
     """
     header, name = read_header(path), os.fspath(path)
     seen = _words(name, header, progress or (lambda looked_at: None))
@@ -244,7 +251,7 @@ def info(path: PathLike, *, program: PathLike | None = None, progress: Progress 
                 out.write(_plan(numbers, width, -(-seen.until // width), header.mode))
             report = run(plan, read(), program=program)
             if head is not None and report.head != head:
-                raise Unlike(f"{name} was changed while it was looked at")
+                raise UnlikeError(f"{name} was changed while it was looked at")
             head = report.head
             seconds = _seconds(head, _positive(header.global_seconds))
             for place, number in enumerate(numbers, 1):

@@ -3,7 +3,7 @@
 import os
 from collections.abc import Collection, Iterable, Iterator, Mapping
 from dataclasses import dataclass, replace
-from typing import NamedTuple
+from typing import Any, ClassVar, NamedTuple
 
 import numpy as np
 from numpy.typing import NDArray
@@ -31,6 +31,7 @@ class Group:
 
     inputs: Collection[int] | None = None
     gates: Collection[tuple[int, int]] | None = None
+    units: ClassVar[int] = 1  # of ``weights``, that count as one photon
 
     def __post_init__(self) -> None:
         for number in self.inputs or ():
@@ -51,6 +52,10 @@ class Group:
         if self.gates is not None:
             found &= np.logical_or.reduce([(events.dtimes >= start) & (events.dtimes < stop) for start, stop in self.gates])
         return found
+
+    def weights(self, events: Part) -> NDArray[Any]:
+        """What each of these events counts for in a correlation: shape (events,)."""
+        return self.mask(events)
 
 
 GroupLike = Group | int | Iterable[int] | None  # a group, an input, some inputs, or None for all photons

@@ -16,7 +16,7 @@ from typing import Any
 
 import numpy as np
 
-from .errors import BadFile
+from .errors import BadFileError
 from ._values import Compared
 
 __all__ = ["Header", "read_header"]
@@ -98,11 +98,11 @@ def other_records(announced: int | None, records: int) -> str:
 def read_header(path: str | os.PathLike[str]) -> Header:
     """The header of the PTU file at ``path``, which must be a file and no pipe.
 
-    Raises ``BadFile`` with the status and the line of the program (10 to 16) where the program would refuse it, and with
+    Raises ``BadFileError`` with the status and the line of the program (10 to 16) where the program would refuse it, and with
     3 for a pipe; ``OSError`` where it can't be opened.
     """
     if stat.S_ISFIFO(os.stat(path).st_mode):
-        raise BadFile(3, "cannot read the data: a pipe can't be mapped", os.fspath(path))
+        raise BadFileError(3, "cannot read the data: a pipe can't be mapped", os.fspath(path))
     with open(path, "rb") as file:
         whole = os.fstat(file.fileno()).st_size
         if not whole:
@@ -115,15 +115,15 @@ def parse_header(start: bytes, whole: int, path: str = "", data: mmap.mmap | Non
     """The header that ``start`` begins with, of a file of ``whole`` bytes; ``data`` is that file, for a long header."""
     try:
         values, firsts, length = _tags(start, whole)
-    except BadFile as fault:
+    except BadFileError as fault:
         if fault.status in (11, 16) and data is not None and len(start) < min(whole, LONGEST):
             return parse_header(data[:LONGEST], whole, path)
-        raise BadFile(fault.status, fault.line, path) from None
+        raise BadFileError(fault.status, fault.line, path) from None
     code = firsts.get(("TTResultFormat_TTTRRecType", INTEGER))
     if code is None:
-        raise BadFile(14, "no record type", path)
+        raise BadFileError(14, "no record type", path)
     if code not in RECORD_TYPES:
-        raise BadFile(15, f"record type {code % 2**64:016X}", path)
+        raise BadFileError(15, f"record type {code % 2**64:016X}", path)
     return Header(
         RECORD_TYPES[code],
         values,
@@ -139,7 +139,7 @@ def parse_header(start: bytes, whole: int, path: str = "", data: mmap.mmap | Non
 def _tags(data: bytes, whole: int) -> tuple[dict[str, Any], dict[tuple[str, int], Any], int]:
     """Of a header the values by name, the first value of each name and type, and its length."""
     if len(data) >= 6 and data[:6] != b"PQTTTR":
-        raise BadFile(10, "not a PTU file")
+        raise BadFileError(10, "not a PTU file")
     values: dict[str, Any] = {}
     firsts: dict[tuple[str, int], Any] = {}
     at, number, name = PREAMBLE, 0, ""
@@ -150,10 +150,10 @@ def _tags(data: bytes, whole: int) -> tuple[dict[str, Any], dict[tuple[str, int]
         raw, index, code, bits = TAG.unpack_from(data, at)
         name, at = raw.split(b"\0")[0].decode("latin-1"), at + TAG.size
         if code not in WITH_BODY and code not in WITHOUT_BODY:
-            raise BadFile(12, f"tag {number} has type {code:08X}")
+            raise BadFileError(12, f"tag {number} has type {code:08X}")
         length = bits if code in WITH_BODY else 0
         if length < 0:
-            raise BadFile(13, f"tag {number} has length {length}")
+            raise BadFileError(13, f"tag {number} has length {length}")
         if at + length > len(data):
             raise _ended(whole)
         value = _value(code, bits, data[at : at + length])
@@ -168,10 +168,10 @@ def _tags(data: bytes, whole: int) -> tuple[dict[str, Any], dict[tuple[str, int]
     return values, firsts, at
 
 
-def _ended(whole: int) -> BadFile:
+def _ended(whole: int) -> BadFileError:
     if whole >= LONGEST:
-        return BadFile(16, f"header longer than {LONGEST} bytes")
-    return BadFile(11, f"header cut after {whole} bytes")
+        return BadFileError(16, f"header longer than {LONGEST} bytes")
+    return BadFileError(11, f"header cut after {whole} bytes")
 
 
 def _value(code: int, bits: int, body: bytes) -> Any:

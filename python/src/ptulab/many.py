@@ -14,25 +14,28 @@ from dataclasses import dataclass
 from typing import Any, NamedTuple
 
 from ._dask import Dask
-from ._documents import LONGEST, read_plan
+from ._documents import LONGEST, PlanLike, is_path, name_of, plan_bytes, read_plan
+from ._made_plans import Plan, Ticked
 from ._hand_out import Engine, HandOut
 from ._manifest import Manifest
+from ._optional import want
 from ._parts import File, Part
 from ._plan_rules import broken_rules
 from ._processes import Here, Processes, processors
 from ._progress import Progress
 from ._work import Work, check, content_of, sha256
-from .errors import BadPlan
+from .errors import BadPlanError, PtulabError
+from .headers import read_header
 from .program import find_program
-from .report import Report
+from .report import Report, read_head
 
-__all__ = ["Left", "Sum", "count_files", "megabytes_of", "sum_files"]
+__all__ = ["LeftFile", "SummedFiles", "count_files", "megabytes_of", "sum_files"]
 
 PathLike = str | os.PathLike[str]
 
 
 @dataclass(frozen=True, order=True)
-class Left:
+class LeftFile:
     """A file that isn't in a sum, and why: ``status`` is the program's, None where it isn't the program that says so, and
     ``host`` the host that says so, or those that tried."""
 
@@ -43,7 +46,7 @@ class Left:
 
 
 @dataclass(frozen=True)
-class Sum:
+class SummedFiles:
     """A sum over files: ``report`` is None where none could be added. ``added`` and ``left`` are in the order of the files.
 
     Reports of other record types, seconds of a tick or tables than those of the first file that can be added are left too,
@@ -55,15 +58,23 @@ class Sum:
 
     report: Report | None
     added: tuple[str, ...]
-    left: tuple[Left, ...]
+    left: tuple[LeftFile, ...]
     odd: tuple[tuple[str, str], ...] = ()
     left_out: tuple[tuple[str, str], ...] = ()
     plan: str = ""
     program: str = ""
 
+    def to_pandas(self) -> Any:
+        """All files as a ``pandas.DataFrame``: ``path``, whether it is ``added``, and ``why`` it is left or odd. Raises
+        ``MissingLibraryError`` without pandas."""
+        odd = dict(self.odd)
+        lines = [{"path": path, "added": True, "why": odd.get(path, "")} for path in self.added]
+        lines += [{"path": one.path, "added": False, "why": one.why} for one in self.left]
+        return want("pandas", "files as a list").DataFrame(lines, columns=["path", "added", "why"])
+
 
 def count_files(
-    plan: PathLike,
+    plan: PlanLike,
     files: Iterable[PathLike],
     *,
     program: PathLike | None = None,
@@ -72,10 +83,11 @@ def count_files(
     progress: bool = False,
     out: PathLike | None = None,
     patience: float = 120.0,
-) -> Sum:
-    """Counts files by one plan and adds up their reports: ``Sum`` with the report, the files in it, and those left.
+) -> SummedFiles:
+    """Counts files by one plan and adds up their reports: ``SummedFiles`` with the report, the files in it, and those left.
 
-    Plan and program are read once, and go as bytes to all who count. ``processes`` is how many run side by side, by
+    Plan and program are read once, and go as bytes to all who count; the times of a ``Plan`` become ticks by the header of
+    the first file that has one. ``processes`` is how many run side by side, by
     default one for each processor that this process may use. With a ``client`` of dask.distributed its workers count: the
     files must be seen by them under the same paths. A file that one host can't open or read is tried on others, and one
     whose process or worker is lost is tried again, by itself; after three tries it is left. ``progress`` shows files and
@@ -86,10 +98,11 @@ def count_files(
     goes on where it was ended, or counts only the files that are new: where plan and program are the same, and the files of
     the sum are as they were. While it runs, ``OUT.lock`` says so.
 
-    Raises ``Refusal`` where the plan is refused, ``NoProgram``, ``Missing``, ``OSError`` where plan or program can't be
+    Raises ``RefusalError`` where the plan is refused, ``NoProgramError``, ``MissingLibraryError``, ``OSError`` where plan or program can't be
     read or the sum can't be written, and ``PtulabError`` where another run makes it, or this machine can't count.
     """
-    these = content_of(plan, LONGEST + 1), content_of(find_program(program))
+    files = list(files)
+    these = _content(plan, read_header, files), content_of(find_program(program))
     work = Work(these[0], sha256(these[1]), _megabytes_or_none(these[0]), guarded=client is not None)
     paths = [os.path.abspath(file) for file in files]
 
@@ -104,23 +117,23 @@ def count_files(
 
 def sum_files(
     reports: Iterable[PathLike],
-    plan: PathLike | None = None,
+    plan: PlanLike | None = None,
     *,
     processes: int = 1,
     client: Any = None,
     progress: bool = False,
     out: PathLike | None = None,
     patience: float = 120.0,
-) -> Sum:
+) -> SummedFiles:
     """Adds up reports on disk as ``count_files`` adds up files, by default in this process, one at a time.
 
     In the place of a report a line ``refused STATUS LINE`` may stand. Such a file is left, and so are one that can't be
     read, a text that is no whole report, and a report of other tables than those of the first or of the plan. Raises
-    ``BadPlan`` for a plan that is no TOML, and what ``count_files`` raises.
+    ``BadPlanError`` for a plan that is no TOML, and what ``count_files`` raises.
     """
-    text = None
+    text, reports = None, list(reports)
     if plan is not None:
-        read_plan(text := content_of(plan, LONGEST + 1))
+        read_plan(text := _content(plan, read_head, reports))
     work = Work(text, megabytes=_megabytes_or_none(text or b""), guarded=client is not None)
     paths = [os.path.abspath(report) for report in reports]
 
@@ -134,6 +147,16 @@ def sum_files(
     return _made(work, paths, engine, _Wishes(progress, out, patience))
 
 
+def _content(plan: PlanLike, read: Callable[[PathLike], Ticked], paths: Iterable[PathLike]) -> bytes:
+    """The bytes of a plan, where a pipe is not waited for; the times of a ``Plan`` by the first of some files that tells ticks."""
+    if is_path(plan):
+        return content_of(name_of(plan), LONGEST + 1)
+    for path in paths if isinstance(plan, Plan) else ():
+        with suppress(PtulabError, OSError):
+            return plan_bytes(plan, read(path))
+    return plan_bytes(plan)
+
+
 class _Wishes(NamedTuple):
     """What is the same of counts and sums, as ``count_files`` tells."""
 
@@ -142,7 +165,7 @@ class _Wishes(NamedTuple):
     patience: float
 
 
-def _made(work: Work, paths: Sequence[str], engine_of: Callable[[], Engine], wishes: _Wishes) -> Sum:
+def _made(work: Work, paths: Sequence[str], engine_of: Callable[[], Engine], wishes: _Wishes) -> SummedFiles:
     """The sum by an engine, which is closed however it ends."""
     plan = sha256(work.plan) if work.plan is not None else ""
     with ExitStack() as ends:
@@ -170,28 +193,28 @@ def _made(work: Work, paths: Sequence[str], engine_of: Callable[[], Engine], wis
     return found
 
 
-def _sum_of(whole: Part, paths: Sequence[str], left_out: tuple[tuple[str, str], ...], plan: str, program: str) -> Sum:
+def _sum_of(whole: Part, paths: Sequence[str], left_out: tuple[tuple[str, str], ...], plan: str, program: str) -> SummedFiles:
     """A sum of one kind, and the files that aren't in it."""
     files: list[File] = [whole.files[place] for place in range(len(paths))]
     report = next((report for report, _ in whole.sums.values()), None)
-    left = tuple(Left(file.path, file.status, file.why, file.host) for file in files if not file.is_added)
+    left = tuple(LeftFile(file.path, file.status, file.why, file.host) for file in files if not file.is_added)
     added = tuple(file.path for file in files if file.is_added)
-    return Sum(report, added, left, tuple((file.path, file.odd) for file in files if file.odd), left_out, plan, program)
+    return SummedFiles(report, added, left, tuple((file.path, file.odd) for file in files if file.odd), left_out, plan, program)
 
 
-def megabytes_of(plan: PathLike) -> int:
+def megabytes_of(plan: PlanLike, file: PathLike | None = None) -> int:
     """How many MiB a run of this plan takes at most, with something to spare: what to ask a queue for.
 
     By the entries of its tables (docs/run.md, "Memory"): 8 bytes for a count and 16 for one of pairs, and of what pairs keep
-    24 bytes for each bin. Raises ``BadPlan`` for a plan that is no TOML, or breaks a rule.
+    24 bytes for each bin. The times of a ``Plan`` become ticks by ``file``. Raises ``BadPlanError`` for a plan that is no TOML,
+    or breaks a rule.
     """
-    with open(plan, "rb") as text:
-        return _megabytes(text.read(), os.fspath(plan))
+    return _megabytes(plan_bytes(plan, file), name_of(plan))
 
 
 def _megabytes_or_none(plan: bytes) -> int:
     """The same, or 0 of a bad plan, which is for the program to say."""
-    with suppress(BadPlan):
+    with suppress(BadPlanError):
         return _megabytes(plan, "")
     return 0
 
@@ -199,7 +222,7 @@ def _megabytes_or_none(plan: bytes) -> int:
 def _megabytes(plan: bytes, name: str) -> int:
     document = read_plan(plan)
     if found := broken_rules(document):
-        raise BadPlan(f"{name}: {found[0]}")
+        raise BadPlanError(f"{name}: {found[0]}")
     size = 16 << 20
     for kind, entries in BYTES.items():
         size += sum(entries(table) for table in document.get(kind, []))

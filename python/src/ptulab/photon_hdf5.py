@@ -9,7 +9,7 @@ from typing import Any, Literal
 
 import numpy as np
 
-from .errors import NotKnown
+from .errors import NotKnownError
 from .events import Events
 from .groups import GroupLike, photons_of
 from ._optional import want
@@ -91,7 +91,7 @@ def write_photon_hdf5(
     periods, ``detectors`` the inputs, and of T3 ``nanotimes`` in units of ``tcspc_unit`` seconds. Markers aren't written.
     ``setup``: what the measurement was, by default a "generic" one of one spectral channel. ``filename``: of the file the
     events were read from. Raises ``ValueError`` for photons of inputs that have no channel and times that no laser has,
-    ``NotKnown`` where the header doesn't tell the seconds of a tick, and ``Missing`` without h5py.
+    ``NotKnownError`` where the header doesn't tell the seconds of a tick, and ``MissingLibraryError`` without h5py.
     """
     h5py = want("h5py", "Photon-HDF5")
     setup = Setup() if setup is None else setup
@@ -115,7 +115,7 @@ def write_photon_hdf5(
 
 def _positive(seconds: float | None) -> float:
     if seconds is None or not seconds > 0:
-        raise NotKnown("the header doesn't tell how many seconds a tick has")
+        raise NotKnownError("the header doesn't tell how many seconds a tick has")
     return seconds
 
 

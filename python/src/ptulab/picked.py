@@ -12,7 +12,9 @@ from dataclasses import replace
 from pathlib import Path
 from typing import Any
 
-from .errors import NotKnown
+from ._documents import PlanLike, name_of, plan_path
+from ._made_plans import Plan
+from .errors import NotKnownError
 from .events import Events, read_events
 from .headers import FLOAT, INTEGER, TAG, read_header
 from .program import find_program, refusal
@@ -25,17 +27,19 @@ PathLike = str | os.PathLike[str]
 END = b"Header_End"
 
 
-def pick(plan: PathLike, group: int, file: PathLike, picked: PathLike, *, program: PathLike | None = None) -> Path:
+def pick(plan: PlanLike, group: int | str, file: PathLike, picked: PathLike, *, program: PathLike | None = None) -> Path:
     """Runs ``ptu pick PLAN GROUP FILE`` into the file ``picked``, and writes its sidecar, whose path it gives.
 
-    Both files appear when they are whole. Raises ``Refusal`` where the program refuses, ``NoProgram`` and ``OSError``.
+    ``group`` is a number, or the name of a group of a ``Plan``. Both files appear when they are whole. Raises ``RefusalError``
+    where the program refuses, ``NoProgramError`` and ``OSError``.
     """
-    words = [find_program(program), "pick", os.fspath(plan), str(group), os.fspath(file)]
-    with written_whole(picked) as out:
+    number = plan.number_of(group) if isinstance(plan, Plan) else int(group)
+    with plan_path(plan, file) as path, written_whole(picked) as out:
+        words = [find_program(program), "pick", path, str(number), os.fspath(file)]
         ended = subprocess.run(words, stdout=out, stderr=subprocess.PIPE, check=False)
         if ended.returncode != 0:
             raise refusal(ended.returncode, ended.stderr.decode(errors="replace").strip())
-        return write_sidecar(file, picked, plan=Path(plan).name, group=group, **versions(words[0]) | {"program": Path(words[0]).name})
+        return write_sidecar(file, picked, plan=Path(name_of(plan)).name, group=number, **versions(words[0]) | {"program": Path(words[0]).name})
 
 
 def sidecar_of(picked: PathLike) -> Path:
@@ -48,7 +52,7 @@ def write_sidecar(file: PathLike, picked: PathLike, **more: Any) -> Path:
     """Writes the sidecar of a file that was picked from ``file``, and gives its path.
 
     It is JSON, with ``picked_from``, ``global_seconds`` and ``resolution_seconds`` (null where the header doesn't tell), in
-    decimal digits that give the same number of 64 bits, the version of ``ptulab``, and what else is told. Raises ``BadFile`` and ``OSError``.
+    decimal digits that give the same number of 64 bits, the version of ``ptulab``, and what else is told. Raises ``BadFileError`` and ``OSError``.
     """
     header = read_header(file)
     seconds = {"global_seconds": header.global_seconds, "resolution_seconds": header.resolution_seconds}
@@ -63,17 +67,17 @@ def _sidecar(picked: PathLike) -> dict[str, Any]:
     try:
         told = json.loads(path.read_text(encoding="utf-8"))
     except ValueError as error:
-        raise NotKnown(f"{path}: this is no sidecar: {error}") from error
+        raise NotKnownError(f"{path}: this is no sidecar: {error}") from error
     names = ("global_seconds", "resolution_seconds")
     if not isinstance(told, dict) or not all(isinstance(told.get(name, ""), float | int | None) for name in names):
-        raise NotKnown(f"{path}: this is no sidecar")
+        raise NotKnownError(f"{path}: this is no sidecar")
     return {name: None if told[name] is None else float(told[name]) for name in names}
 
 
 def read_picked(picked: PathLike) -> Events:
     """The events of a picked file, in whose header the resolutions are those of its sidecar.
 
-    Raises ``NotKnown`` for a sidecar that is none, and ``OSError`` where it isn't there, besides what ``read_events`` does.
+    Raises ``NotKnownError`` for a sidecar that is none, and ``OSError`` where it isn't there, besides what ``read_events`` does.
     """
     events = read_events(picked)
     return replace(events, header=replace(events.header, **_sidecar(picked)))
@@ -93,7 +97,7 @@ def write_with_resolutions(picked: PathLike, path: PathLike) -> None:
         before = source.read(header.length_bytes - TAG.size)
         end = source.read(TAG.size)
         if not end.startswith(END):
-            raise NotKnown(f"{os.fspath(picked)}: this is no header of ptu pick")
+            raise NotKnownError(f"{os.fspath(picked)}: this is no header of ptu pick")
         out.write(before + b"".join(tags) + end)
         while piece := source.read(1 << 20):
             out.write(piece)

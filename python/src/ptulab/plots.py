@@ -1,6 +1,6 @@
 """Pictures by Matplotlib, each with labels and units. Every function gives the axes it drew on, to be changed further."""
 
-from collections.abc import Callable
+from collections.abc import Callable, Sequence
 from typing import Any
 
 import numpy as np
@@ -16,6 +16,7 @@ from .tables import Table, enough
 
 __all__ = [
     "plot",
+    "plot_coloured",
     "plot_correlation",
     "plot_decay",
     "plot_fit",
@@ -52,7 +53,7 @@ def plot(what: Table | Image | Cube | Curve | Coincidences | StartStops, axes: A
     """A picture of a table of a report, or of what this package counted, as its kind asks.
 
     Of a cube the mean delays are drawn, of a correlation the normalised curve, where it is known, and of coincidences g2
-    likewise. ``axes``: Matplotlib's axes to draw on; without them a new figure is made. Gives the axes. Raises ``Missing``
+    likewise. ``axes``: Matplotlib's axes to draw on; without them a new figure is made. Gives the axes. Raises ``MissingLibraryError``
     without Matplotlib.
     """
     if isinstance(what, Table):
@@ -87,12 +88,19 @@ def plot_decay(
     return axes
 
 
-def plot_fit(fit: Fit, xlabel: str = "axis", ylabel: str = "counts", *, logarithmic_x: bool = False, axes: Any = None) -> Any:
-    """A fit over its data, with its residuals in standard deviations below. Gives both axes, shape (2,)."""
+def plot_fit(
+    fit: Fit, xlabel: str = "axis", ylabel: str = "counts", *, logarithmic_x: bool = False, logarithmic: bool = False, axes: Any = None
+) -> Any:
+    """A fit over its data, below it its residuals in standard deviations, and their autocorrelation over the points.
+
+    ``logarithmic``: the counts. ``axes``: two or three of Matplotlib's; without the third the autocorrelation isn't drawn.
+    Gives the axes, shape (3,) where they were made here.
+    """
     if axes is None:
         pyplot = want("matplotlib.pyplot", "plots")
-        axes = pyplot.subplots(2, 1, sharex=True, gridspec_kw={"height_ratios": (3, 1)}, layout="constrained")[1]
-    above, below = axes
+        axes = pyplot.subplots(3, 1, gridspec_kw={"height_ratios": (3, 1, 1)}, layout="constrained")[1]
+        axes[1].sharex(axes[0])
+    above, below, *more = axes
     above.plot(fit.axis, fit.data, ".", markersize=3, label="data")
     above.plot(fit.axis, fit.curve, color="tab:red", label=f"fit, reduced chi-square {fit.reduced:.3g}")
     above.set_ylabel(ylabel)
@@ -100,8 +108,14 @@ def plot_fit(fit: Fit, xlabel: str = "axis", ylabel: str = "counts", *, logarith
     below.plot(fit.axis, fit.residuals, linewidth=0.8)
     below.axhline(0, color="grey", linewidth=0.6)
     below.set(xlabel=xlabel, ylabel="residuals (σ)")
+    for one in more[:1]:
+        one.plot(fit.autocorrelation, linewidth=0.8)
+        one.set(xlabel="points between residuals", ylabel="autocorrelation", ylim=(-0.5, 1.05))
     if logarithmic_x:
         above.set_xscale("log")
+        below.set_xscale("log")
+    if logarithmic:
+        above.set_yscale("log", nonpositive="mask")
     return axes
 
 
@@ -256,8 +270,25 @@ def _shown(counts: NDArray[Any]) -> NDArray[np.float64]:
     return np.where(counts == 0, np.nan, counts.astype(np.float64))
 
 
-def plot_phasors(phasors: NDArray[np.complex128], axes: Any = None, *, bins: int = 200) -> Any:
-    """How many pixels have which phasor, with the half circle of single exponentials and a colour bar."""
+def plot_coloured(values: NDArray[Any], brightness: NDArray[Any], label: str, *, axes: Any = None, cmap: str = "turbo") -> Any:
+    """Pixels of shape (rows, columns) whose colours are their values, from the 2nd to the 98th percentile of those that are
+    known, and whose brightness is that of the pixels, up to the 99th percentile; values that are nan are grey."""
+    axes, pyplot = _axes(axes), want("matplotlib.pyplot", "plots")
+    known = values[np.isfinite(values)]
+    norm = pyplot.Normalize(*(np.percentile(known, (2, 98)) if len(known) else (0, 1)))
+    light = np.clip(brightness / max(float(np.percentile(brightness, 99)), 1e-300), 0, 1)[..., None]
+    colours = np.where(np.isfinite(values)[..., None], pyplot.get_cmap(cmap)(norm(np.nan_to_num(values)))[..., :3], 0.5)
+    axes.imshow(colours * light, interpolation="nearest")
+    axes.figure.colorbar(pyplot.cm.ScalarMappable(norm, cmap), ax=axes, label=label)
+    axes.set(xlabel="column (pixels)", ylabel="row (pixels)")
+    return axes
+
+
+def plot_phasors(
+    phasors: NDArray[np.complex128], axes: Any = None, *, bins: int = 200, corners: Sequence[complex] | None = None
+) -> Any:
+    """How many pixels have which phasor, with the half circle of single exponentials, a colour bar, and the outline of a
+    region with these ``corners``, as of ``pixels.inside``."""
     axes = _axes(axes)
     known = phasors[np.isfinite(phasors)]
     counts, across, up = np.histogram2d(known.real, known.imag, bins=bins, range=((-0.1, 1.1), (-0.1, 0.7)))
@@ -265,6 +296,8 @@ def plot_phasors(phasors: NDArray[np.complex128], axes: Any = None, *, bins: int
     axes.figure.colorbar(drawn, ax=axes, label="pixels")
     circle = 0.5 + 0.5 * np.exp(1j * np.linspace(0, np.pi, 200))
     axes.plot(circle.real, circle.imag, color="grey", linewidth=0.8)
+    if corners is not None:
+        axes.fill([one.real for one in corners], [one.imag for one in corners], fill=False, edgecolor="tab:red")
     axes.set(xlabel="g", ylabel="s", aspect="equal")
     return axes
 

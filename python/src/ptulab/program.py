@@ -1,6 +1,5 @@
 """Runs of the program ``ptu``, whose counts are proved. What it refuses is an exception here."""
 
-import json
 import os
 import shutil
 import subprocess
@@ -8,13 +7,13 @@ import tempfile
 import threading
 from collections.abc import Callable, Iterator
 from contextlib import contextmanager
-from importlib import resources
 from typing import IO, Any
 
 import ptulab_program
 
-from ._documents import read_plan
-from .errors import BadPlan, BadReport, NoProgram, Refusal, Unlike
+from ._documents import PlanLike, plan_path, read_plan
+from ._refusals import meaning_of
+from .errors import BadPlanError, BadReportError, NoProgramError, RefusalError, UnlikeError
 from ._optional import want
 from .report import Report, read_stream
 
@@ -27,7 +26,7 @@ def find_program(program: str | os.PathLike[str] | None = None) -> str:
     """The path of ``ptu``: the one that is given, that of the environment variable PTU, the one that goes with this package
     (in a checkout what was built there, else the one of the wheel or of ``bin/`` for this processor), or the one on the PATH.
     A text without a slash is the name of one on the PATH, and one in the working directory is found by no name alone, so that
-    a folder of data brings no program along. Raises ``NoProgram`` where there is none."""
+    a folder of data brings no program along. Raises ``NoProgramError`` where there is none."""
     named = program or os.environ.get("PTU") or ptulab_program.find() or "ptu"
     if isinstance(named, str) and not os.path.dirname(named):
         folders = filter(os.path.isabs, os.environ.get("PATH", os.defpath).split(os.pathsep))
@@ -35,30 +34,41 @@ def find_program(program: str | os.PathLike[str] | None = None) -> str:
     else:
         found = shutil.which(os.path.abspath(named))
     if found is None:
-        raise NoProgram(f"no program {os.fspath(named)}: name it by program= or by the environment variable PTU")
+        raise NoProgramError(f"no program {os.fspath(named)}: name it by program= or by the environment variable PTU")
     return found
 
 
 def run(
-    plan: str | os.PathLike[str],
+    plan: PlanLike,
     file: str | os.PathLike[str],
     *,
     program: str | os.PathLike[str] | None = None,
     progress: bool = False,
     whole: Report | None = None,
 ) -> Report:
-    """The report of ``ptu run PLAN FILE``, whose tables know their groups by the plan.
+    """The report of ``ptu run PLAN FILE``, whose tables know their groups by the plan: a path, a text, bytes or a ``Plan``.
 
     With ``progress`` tqdm shows a bar of the bytes of the file that the program has read. The report is read while it
     is printed, so the memory is that of its tables. With ``whole``, a report of the same plan, it is added into the
-    arrays of that one once it is whole, and the sum is given; a file that is refused and what is ``Unlike`` it, as a plan
-    of other tables or a file of another record type or tick, leave it as it is. Raises ``Refusal`` where the program ends
-    with another status than 0, with its line and its meaning; ``NoProgram``; and ``Missing`` where a bar is wanted and tqdm
+    arrays of that one once it is whole, and the sum is given; a file that is refused and what is ``UnlikeError`` it, as a plan
+    of other tables or a file of another record type or tick, leave it as it is. Raises ``RefusalError`` where the program ends
+    with another status than 0, with its line and its meaning; ``NoProgramError``; and ``MissingLibraryError`` where a bar is wanted and tqdm
     isn't there.
     """
-    words = [find_program(program), "run", os.fspath(plan), os.fspath(file)]
+    named = find_program(program)
     bar = want("tqdm", "the progress of a run").tqdm if progress else None
-    document = _document(plan)
+    with plan_path(plan, file) as path:
+        report = _counted([named, "run", path, os.fspath(file)], _document(path), bar)
+    if not isinstance(report, Report):
+        raise report
+    if whole is None:
+        return report
+    whole += report
+    return whole
+
+
+def _counted(words: list[str], document: dict[str, Any] | None, bar: Callable[..., Any] | None) -> Report | BadReportError | UnlikeError:
+    """The report that the program prints."""
     with tempfile.TemporaryFile() as told:
         with subprocess.Popen(words, stdout=subprocess.PIPE, stderr=told) as child, _shown(bar, child, words[-1]):
             try:
@@ -70,46 +80,29 @@ def run(
         told.seek(0)
         if child.returncode != 0:
             raise refusal(child.returncode, told.read().decode(errors="replace").strip())
-    if not isinstance(report, Report):
-        raise report
-    if whole is None:
-        return report
-    whole += report
-    return whole
+    return report
 
 
-def refusal(status: int, line: str) -> Refusal:
+def refusal(status: int, line: str) -> RefusalError:
     """What the program says by a status and a line: the words of the rule of a plan that is broken (status 8), and
     else when it ends so, as docs/plan.md and docs/formats.md have them."""
-    if status < 0:
-        return Refusal(status, line, f"signal {-status} ended the program")
-    words = line.split()
-    if status == 8 and "rule" in words[:-1]:
-        return Refusal(status, line, _words()["rules"].get(words[words.index("rule") + 1], ""))
-    meanings: dict[str, str] = _words()["statuses"].get(str(status), {})
-    return Refusal(status, line, meanings.get(line, next(iter(meanings.values()), "")))
+    return RefusalError(status, line, meaning_of(status, line))
 
 
-def _words() -> dict[str, Any]:
-    """The words of the rules of a plan by their numbers, and of the statuses by status and line."""
-    words: dict[str, Any] = json.loads(resources.files(__package__).joinpath("refusals.json").read_text("utf-8"))
-    return words
-
-
-def _document(plan: str | os.PathLike[str]) -> dict[str, Any] | None:
+def _document(path: str) -> dict[str, Any] | None:
     """The plan, where it can be read twice; what is wrong with it is for the program to say."""
     try:
-        return read_plan(plan) if os.path.isfile(plan) else None
-    except (OSError, BadPlan):
+        return read_plan(path) if os.path.isfile(path) else None
+    except (OSError, BadPlanError):
         return None
 
 
-def _read(stream: IO[bytes] | None, document: dict[str, Any] | None) -> Report | BadReport | Unlike:
+def _read(stream: IO[bytes] | None, document: dict[str, Any] | None) -> Report | BadReportError | UnlikeError:
     """The report, or what is wrong with it: of a run that was refused there is none, or a part."""
     assert stream is not None
     try:
         return read_stream(stream, document)
-    except (BadReport, Unlike) as error:
+    except (BadReportError, UnlikeError) as error:
         while stream.read(1 << 16):
             pass
         return error

@@ -15,9 +15,10 @@ import numpy as np
 from numpy.typing import NDArray
 
 from ._digits import whole_numbers
-from ._documents import read_plan
+from ._documents import PlanLike, read_plan
+from ._made_plans import Plan
 from ._plan_rules import MOST
-from .errors import BadReport, NoTable, Unlike
+from .errors import BadReportError, NoTableError, PlanUnlikeError, UnlikeError
 from .headers import RECORD_TYPES
 from ._scratch import keep_scratch
 from ._values import Compared
@@ -79,11 +80,11 @@ class Report(Compared):
     tables: tuple[Table, ...]
 
     def table(self, kind: str, number: int = 1) -> Table:
-        """The table of this kind with this number, as its first line has them. Raises ``NoTable`` where there is none."""
+        """The table of this kind with this number, as its first line has them. Raises ``NoTableError`` where there is none."""
         for table in self.tables:
             if (table.kind, table.number) == (kind, number):
                 return table
-        raise NoTable(f"the report has no {kind} {number}")
+        raise NoTableError(f"the report has no {kind} {number}")
 
     def __add__(self, other: "Report") -> "Report":
         """The sum of two reports, as ``sum_reports`` makes it."""
@@ -102,34 +103,47 @@ class Report(Compared):
         return _added(self, other)
 
 
-def read_report(source: ReportLike, plan: str | os.PathLike[str] | None = None) -> Report:
+def read_report(source: ReportLike, plan: PlanLike | None = None) -> Report:
     """The report in the file at a path, or in the text of a report itself (bytes, or a text of more than one line).
 
-    With the path of its plan the tables know their groups, and the photons of these, where the plan also has a
+    With its plan (a path, a text, bytes or a ``Plan``) the tables know their groups, and the photons of these, where the plan also has a
     histogram, a trace, an image or a cube of each. The text is read in pieces, so the memory is that of the tables.
-    Raises ``BadReport`` for a text that is no whole report, and ``Unlike`` for a plan of other tables.
+    Raises ``BadReportError`` for a text that is no whole report, and ``PlanUnlikeError`` for a plan of other tables.
     """
-    return read_stream(source, None if plan is None else read_plan(plan))
+    return read_stream(source, document_of(plan, source))
 
 
-def read_head(path: str | os.PathLike[str]) -> Head:
-    """The head of the report in the file at a path, without its tables. Raises ``BadReport`` where there is none."""
-    with open(path, "rb") as file:
-        return _Reader(file, os.fspath(path), None, None).head()
+def document_of(plan: PlanLike | None, source: Report | ReportLike) -> dict[str, Any] | None:
+    """The document of a plan, with the ticks of a report."""
+    if not isinstance(plan, Plan):
+        return None if plan is None else read_plan(plan)
+    return read_plan(plan, source.head if isinstance(source, Report) else read_head(source))
 
 
-def sum_reports(reports: Iterable[Report | ReportLike], plan: str | os.PathLike[str] | None = None) -> Report:
+def read_head(source: ReportLike) -> Head:
+    """The head of the report at a path or in a text, without its tables. Raises ``BadReportError`` where there is none."""
+    if isinstance(source, str) and "\n" in source:
+        source = source.encode("utf-8")
+    if isinstance(source, bytes):
+        return _Reader(io.BytesIO(source), "", None, None).head()
+    with open(source, "rb") as file:
+        return _Reader(file, os.fspath(source), None, None).head()
+
+
+def sum_reports(reports: Iterable[Report | ReportLike], plan: PlanLike | None = None) -> Report:
     """The sum of reports of one plan, each given as a report, a path or a text; at least one.
 
     Every line of a table is a count, so the counts of several files add up exactly. Paths and texts are read one at a
     time into the same arrays, so the memory is that of one; with ``plan`` their tables know their groups. In the sum
     ``announced`` is a number where each report has one, and ``first`` and ``last`` are None; correlations are
-    normalised by what each measurement expects. Raises ``Unlike`` for a report of another record type, other seconds
-    of a tick or other tables, and ``BadReport``; there is no sum then.
+    normalised by what each measurement expects. Raises ``UnlikeError`` for a report of another record type, other seconds
+    of a tick or other tables, and ``BadReportError``; there is no sum then.
     """
     whole: Report | None = None
-    document = None if plan is None else read_plan(plan)
+    document = None if plan is None or isinstance(plan, Plan) else read_plan(plan)
     for one in reports:
+        if document is None:
+            document = document_of(plan, one)
         if isinstance(one, Report):
             whole = _copy(one) if whole is None else _added(whole, one)
         else:
@@ -153,14 +167,14 @@ def read_stream(source: ReportLike | IO[bytes], plan: dict[str, Any] | None = No
 
 
 def groups_of(plan: dict[str, Any], tables: Sequence[Table]) -> list[tuple[int, ...]]:
-    """The groups of each table by the plan. Raises ``Unlike`` where it has other tables than the report."""
+    """The groups of each table by the plan. Raises ``PlanUnlikeError`` where it has other tables than the report."""
     if any(len(plan.get(kind, ())) != sum(table.kind == kind for table in tables) for kind in KINDS):
-        raise Unlike("the plan has other tables than the report")
+        raise PlanUnlikeError("the plan has other tables than the report")
     groups = []
     for table in tables:
         told = plan[table.kind][table.number - 1]
         if any(told.get(word, 0) != value for word, value in table.settings.items() if word != "sets"):
-            raise Unlike(f"the plan has another {table.kind} {table.number} than the report")
+            raise PlanUnlikeError(f"the plan has another {table.kind} {table.number} than the report")
         groups.append(names_of_groups(table.kind, told))
     return groups
 
@@ -174,7 +188,7 @@ def _added(whole: Report, report: Report) -> Report:
     """Adds a report to another one, in whose arrays the sums are then."""
     _alike(whole.head, report.head, "")
     if first_lines(whole) != first_lines(report):
-        raise Unlike("other tables")
+        raise UnlikeError("other tables")
     for table, more in zip(whole.tables, report.tables):
         table.counts = _sum(table.counts, more.counts)
         table.rest = {word: count + more.rest[word] for word, count in table.rest.items()}
@@ -198,7 +212,7 @@ def _alike(whole: Head, head: Head, name: str) -> None:
     """Only reports of one record type and of the same seconds of a tick add up."""
     for word in ("type", "global", "resolution"):
         if repr(head[word]) != repr(whole[word]):
-            raise Unlike(f"{name}{word} {head[word]}, not {whole[word]}")
+            raise UnlikeError(f"{name}{word} {head[word]}, not {whole[word]}")
 
 
 def _head_of_sum(one: Head, other: Head) -> Head:
@@ -221,8 +235,8 @@ class _Reader:
         self.beyond = -1  # the place of its last cell
         keep_scratch()
 
-    def bad(self, why: str) -> BadReport:
-        return BadReport(f"{self.name}line {self.line}: {why}" if self.line else self.name + why)
+    def bad(self, why: str) -> BadReportError:
+        return BadReportError(f"{self.name}line {self.line}: {why}" if self.line else self.name + why)
 
     def report(self) -> Report:
         """Reads all of it."""
@@ -231,7 +245,7 @@ class _Reader:
             self.piece(head, piece + self.file.readline(LONGEST_LINE))
         self.ended()
         if self.whole is not None and len(self.tables) != len(self.whole.tables):
-            raise Unlike(f"{self.name}other tables")
+            raise UnlikeError(f"{self.name}other tables")
         if head.photons or head.markers or self.plan is not None:  # nothing is told of a file without events
             self.measured(None if head.first is None or head.last is None else head.last - head.first)
         return Report(head if self.whole is None else _head_of_sum(self.whole.head, head), tuple(self.tables))
@@ -244,8 +258,8 @@ class _Reader:
             return
         try:
             groups = groups_of(self.plan, self.tables)
-        except (Unlike, KeyError, TypeError, AttributeError) as error:
-            raise Unlike(f"{self.name}{error}" if isinstance(error, Unlike) else f"{self.name}the plan is none of this report") from error
+        except (UnlikeError, KeyError, TypeError, AttributeError) as error:
+            raise PlanUnlikeError(f"{self.name}{error}" if isinstance(error, UnlikeError) else f"{self.name}the plan is none of this report") from error
         photons = {
             these[0]: total for table, these, total in zip(self.tables, groups, self.totals) if table.kind in OF_ONE_GROUP
         }
@@ -329,11 +343,11 @@ class _Reader:
         if self.whole is None:
             try:
                 return empty_table(words[0], number, settings, head.resolution_seconds if words[0] in BY_DTIME else head.global_seconds)
-            except BadReport as error:
+            except BadReportError as error:
                 raise self.bad(str(error)) from None
         more = self.whole.tables[len(self.tables) : len(self.tables) + 1]
         if [(one.kind, one.number, one.settings) for one in more] != [(words[0], number, settings)]:
-            raise Unlike(f"{self.name}other tables")
+            raise UnlikeError(f"{self.name}other tables")
         return more[0]
 
     def follows(self, kind: str, number: int) -> bool:

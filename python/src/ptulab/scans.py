@@ -5,7 +5,7 @@ it, and its counts are proved. What stands here is tested to give the same count
 """
 
 import math
-import warnings
+import logging
 from dataclasses import dataclass, replace
 from fractions import Fraction
 from typing import Any, Literal
@@ -13,13 +13,15 @@ from typing import Any, Literal
 import numpy as np
 from numpy.typing import NDArray
 
-from .errors import NotKnown
+from .errors import NotKnownError
 from .events import Events, joined
 from .groups import EventsLike, GroupLike, group_of, header_of, pieces_of
 from .headers import Header
 from ._values import Compared
+from ._xarrays import Axis, labelled, pixels
 
 __all__ = ["LINE", "Cube", "Image", "Scan", "best_phase", "cube", "image", "lines_of", "scan_of"]
+LOG = logging.getLogger("ptulab.scans")
 
 LINE = np.dtype([("record", "<i8"), ("until", "<i8"), ("start", "<i8"), ("length", "<i8"), ("row", "<i8"), ("frame", "<i8")])
 FOREVER = np.iinfo(np.int64).max
@@ -73,20 +75,20 @@ def scan_of(header: Header, **other: Any) -> Scan:
     """The scan that a header tells of, by the tags ImgHdr_PixX, PixY, LineStart, LineStop, Frame and BiDirect.
 
     A line lasts from its marker to its stop marker, and where there is none PixX * ImgHdr_TimePerPixel (in milliseconds).
-    ``other``: settings of ``Scan`` that the header doesn't tell, or tells wrong. Raises ``NotKnown`` where the columns, the
+    ``other``: settings of ``Scan`` that the header doesn't tell, or tells wrong. Raises ``NotKnownError`` where the columns, the
     rows or the marker of a line aren't told, and ``ValueError`` as ``Scan`` does. Warns of a sine correction
     (ImgHdr_SinCorrection, of a resonant mirror), which isn't made: columns are of equal time.
     """
     if header.tags.get("ImgHdr_SinCorrection"):
         said = f"ImgHdr_SinCorrection = {header.tags['ImgHdr_SinCorrection']}"
-        warnings.warn(f"the header tells of a mirror that swings like a sine ({said}): columns aren't straightened", stacklevel=2)
+        LOG.warning("the header tells of a mirror that swings like a sine (%s): columns aren't straightened", said)
     tags = {name: header.tags.get(f"ImgHdr_{tag}") for name, tag in TAGS.items()}
     told: dict[str, Any] = {name: value for name, value in tags.items() if isinstance(value, int) and value > 0}
     pixel = header.tags.get("ImgHdr_TimePerPixel")
     told |= {"serpentine": bool(header.tags.get("ImgHdr_BiDirect"))} | other
     missing = [TAGS[name] for name in ("width", "height", "line") if name not in told]
     if missing:
-        raise NotKnown(f"the header has no ImgHdr_{missing[0]}")
+        raise NotKnownError(f"the header has no ImgHdr_{missing[0]}")
     if "stop" not in told and isinstance(pixel, int | float) and header.global_seconds:
         told.setdefault("time", told["width"] * pixel * 1e-3 / header.global_seconds)
     return Scan(**told)
@@ -105,6 +107,13 @@ class Image(Compared):
     outside: int
     global_seconds: float | None = None
     pixel_micrometres: float | None = None
+
+    def to_xarray(self) -> Any:
+        """The counts as an ``xarray.DataArray`` over ``row`` and ``column``, in micrometres where the file tells the size of a
+        pixel, and ``frame``. Raises ``MissingLibraryError`` without xarray."""
+        found = labelled({"photons": self.counts}, _axes(self), {}, {})["photons"]
+        found.attrs["outside"] = self.outside
+        return found
 
 
 @dataclass(frozen=True, eq=False)
@@ -139,6 +148,19 @@ class Cube(Compared):
         """All photons of each pixel within the bins: the shape of ``counts`` without its last axis."""
         return np.asarray(self.counts.sum(axis=-1))
 
+    def to_xarray(self) -> Any:
+        """The counts as an ``xarray.DataArray`` over the axes of an image and ``delay``, in seconds where the file tells a tick.
+        Raises ``MissingLibraryError`` without xarray."""
+        found = labelled({"photons": self.counts}, [*_axes(self), Axis("delay", self.ticks, self.seconds)], {}, {})["photons"]
+        found.attrs |= {"outside": self.outside, "over": self.over}
+        return found
+
+
+def _axes(picture: Image | Cube) -> list[Axis]:
+    """The axes of a picture, with that of its frames where it has one."""
+    shape = picture.counts.shape if isinstance(picture, Image) else picture.counts.shape[:-1]
+    frames = [Axis("frame", np.arange(shape[0]), None, counted="number")] if len(shape) > 2 else []
+    return [*frames, *pixels(shape[-2], shape[-1], picture.pixel_micrometres)]
 
 def lines_of(source: EventsLike, scan: Scan) -> NDArray[np.void]:
     """The lines of a scan, one element each, with the fields
@@ -261,7 +283,7 @@ def _say_if_empty(scan: Scan, lines: NDArray[np.void], placed: int, outside: int
         why = f"no marker before a line has the bit {scan.frame}, which begins a frame; without frame= the rows are counted from the first line"
     elif scan.time is None and not lines["length"].any():
         why = f"no line has a marker with the bit {scan.stop}, which ends it; with time= all last as long as that"
-    warnings.warn(f"all {outside} photons are outside of the image: {why}", stacklevel=3)
+    LOG.warning("all %d photons are outside of the image: %s", outside, why)
 
 
 def _shape(lines: NDArray[np.void], scan: Scan) -> tuple[int, ...]:

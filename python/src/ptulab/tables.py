@@ -7,9 +7,11 @@ from typing import Any, NamedTuple
 import numpy as np
 from numpy.typing import NDArray
 
-from .errors import BadReport, NotKnown
+from .errors import BadReportError, NotKnownError
 from ._optional import want
 from ._values import Compared
+from ._xarrays import Axis, labelled, pixels
+from .headers import Header
 
 __all__ = ["Measurement", "Table"]
 
@@ -70,11 +72,11 @@ class Table(Compared):
         nothing. 0 where a delay is longer than the measurement.
 
         Photons are those that a plan tells, or that are given: a number for each measurement of a sum, or one for all of
-        it, which then is shared by their lengths, as of light of one rate. Raises ``NotKnown`` where photons or a length
+        it, which then is shared by their lengths, as of light of one rate. Raises ``NotKnownError`` where photons or a length
         aren't known, or the table is no correlation.
         """
         if self.kind != "correlation" or self.levels is None:
-            raise NotKnown(f"a {self.kind} has no expected pairs")
+            raise NotKnownError(f"a {self.kind} has no expected pairs")
         whole = np.zeros(len(self.ticks))
         for length, first, second in measured(self, first_photons, second_photons):
             free = np.maximum(length - self.ticks.astype(float), 0)
@@ -91,38 +93,51 @@ class Table(Compared):
         """Of each pixel of a cube the mean of its dtimes in ticks, ``(rows, columns)``; nan where it has none.
 
         A dtime is taken in the middle of its bin. What lies past the last bin is told for all pixels together, so it
-        is left out. Raises ``NotKnown`` for other tables.
+        is left out. Raises ``NotKnownError`` for other tables.
         """
         if self.kind != "cube":
-            raise NotKnown(f"a {self.kind} has no dtimes by pixels")
+            raise NotKnownError(f"a {self.kind} has no dtimes by pixels")
         photons = self.counts.sum(axis=2)
         middles = self.ticks + (self.settings["dwidth"] - 1) / 2
         return np.where(photons > 0, weighted_sums(self.counts, middles) / np.where(photons > 0, photons, 1), np.nan)
 
     def patterns(self) -> list[tuple[int, ...]]:
         """Of each cell of a fold the groups that have a photon in the window: their numbers, where a plan told them,
-        and else their places in the fold, from 1. Raises ``NotKnown`` for other tables."""
+        and else their places in the fold, from 1. Raises ``NotKnownError`` for other tables."""
         if self.kind != "fold":
-            raise NotKnown(f"a {self.kind} has no sets of groups")
+            raise NotKnownError(f"a {self.kind} has no sets of groups")
         groups = self.groups or range(1, len(self.counts).bit_length())
         return [tuple(group for k, group in enumerate(groups) if s >> k & 1) for s in range(len(self.counts))]
 
-    def to_xarray(self) -> Any:
-        """The counts as an ``xarray.DataArray`` with the axes as coordinates, settings and rest as attributes.
+    def to_xarray(self, header: Header | None = None) -> Any:
+        """The counts as an ``xarray.DataArray`` over named axes, with settings and rest as attributes.
 
-        Dimensions: ``cell``, ``row`` and ``column`` of an image, and ``bin`` beside these of a cube. Raises ``Missing``
-        without xarray.
+        ``delay``, or ``time`` of a trace, is in seconds where the file tells a tick, else in ticks (of a trace, an image and
+        pairs of T3 in sync periods); ``row`` and ``column`` are in micrometres by the ``header`` of the file, where that tells
+        the size of a pixel, else numbers; ``set`` of a fold. The attribute ``units`` of an axis says which. Raises
+        ``MissingLibraryError`` without xarray.
         """
-        xarray = want("xarray", "a table as xarray")
-        axes = {"image": ("row", "column"), "cube": ("row", "column", "bin")}.get(self.kind, ("cell",))
-        along = axes[-1]
-        places: dict[str, Any] = {"ticks": (along, self.ticks)}
-        if self.seconds is not None:
-            places["seconds"] = (along, self.seconds)
-        if self.levels is not None:
-            places["level"] = (along, self.levels)
-        name = f"{self.kind} {self.number}"
-        return xarray.DataArray(self.counts, dims=axes, coords=places, name=name, attrs={**self.settings, **self.rest})
+        name = {"trace": "time", "fold": "set"}.get(self.kind, "delay")
+        along = Axis(name, self.ticks, self.seconds, counted="number" if self.kind == "fold" else "ticks")
+        axes = [along]
+        if self.kind in ("image", "cube"):
+            rows, columns = self.counts.shape[:2]
+            size = header.pixel_micrometres(columns) if header is not None else None
+            axes = [*pixels(rows, columns, size), *([along] if self.kind == "cube" else [])]
+        more = {"level": (name, self.levels)} if self.levels is not None else {}
+        title = f"{self.kind} {self.number}"
+        found = labelled({title: self.counts}, axes, more, {})[title]
+        found.attrs = {**self.settings, **self.rest}
+        return found
+
+    def to_pandas(self) -> Any:
+        """The cells as a ``pandas.DataFrame``, a line for each, with the axes of ``to_xarray`` and the column ``count``. Raises
+        ``MissingLibraryError`` without pandas or xarray."""
+        want("pandas", "a table as a list")
+        frame = self.to_xarray().to_dataframe(name="count").reset_index()
+        if self.kind == "fold":
+            frame.insert(1, "groups", self.patterns())
+        return frame
 
 
 def measured(table: Table, first: Given = None, second: Given = None) -> list[tuple[int, float, float]]:
@@ -132,7 +147,7 @@ def measured(table: Table, first: Given = None, second: Given = None) -> list[tu
     """
     some = [one for one in table.measurements if one.photons is None or any(one.photons)]
     if any(one.length is None for one in some):
-        raise NotKnown("pairs of measurements without a known length, as of a sum that was written as one report")
+        raise NotKnownError("pairs of measurements without a known length, as of a sum that was written as one report")
     firsts, seconds = (_shares(some, place, given) for place, given in enumerate((first, second)))
     return [(one.length, float(a), float(b)) for one, a, b in zip(some, firsts, seconds) if one.length is not None]
 
@@ -142,7 +157,7 @@ def _shares(measurements: Sequence[Measurement], place: int, given: Given) -> Se
     if given is None:
         known = [one.photons[place] for one in measurements if one.photons is not None and len(one.photons) == 2]
         if len(known) < len(measurements):
-            raise NotKnown("the photons of the two groups are not known: give them, or read the report with its plan")
+            raise NotKnownError("the photons of the two groups are not known: give them, or read the report with its plan")
         return known
     if not isinstance(given, int | np.integer):
         if len(given) != len(measurements):
@@ -275,17 +290,17 @@ KINDS = {
 def empty_table(kind: str, number: int, settings: dict[str, int], seconds: float | None) -> Table:
     """A table without counts; ``seconds`` is what a tick of its axis lasts.
 
-    Raises ``BadReport`` where its settings are none that a plan can have.
+    Raises ``BadReportError`` where its settings are none that a plan can have.
     """
     few = min(settings.values()) < (0 if kind == "trace" else 1) or settings.get("width", 1) < 1 or settings.get("bins", 1) < 1
     if few or settings.get("levels", 1) > 40 or settings.get("reach", 1) > MOST_REACH:  # delays and differences have 64 bits
-        raise BadReport(f"a {kind} with settings that no plan has")
+        raise BadReportError(f"a {kind} with settings that no plan has")
     shape = KINDS[kind].shape(settings)
     cells = 1
     for size in shape:
         cells *= size
     if cells > MOST_CELLS:
-        raise BadReport(f"a {kind} of {cells} cells, which no plan has")
+        raise BadReportError(f"a {kind} of {cells} cells, which no plan has")
     ticks = KINDS[kind].ticks(settings)
     with np.errstate(all="ignore"):  # a header may tell any floating-point number
         axis = None if seconds is None or kind == "fold" else np.asarray(ticks * seconds, dtype=np.float64)

@@ -5,14 +5,15 @@ import os
 import re
 from collections.abc import Iterator
 from dataclasses import dataclass, replace
-from typing import IO
+from typing import Any, IO
 
 import numpy as np
 from numpy.typing import NDArray
 
 from ._digits import MOST_DIGITS, whole_numbers
-from .errors import BadReport
+from .errors import BadReportError
 from ._values import Compared
+from ._xarrays import Axis, labelled
 
 __all__ = ["LongTrace", "read_trace"]
 
@@ -42,12 +43,18 @@ class LongTrace(Compared):
         """Where each of the bins begins, (n,), in ticks of T2, in sync periods of T3."""
         return np.asarray(self.origin + self.bins * self.width)
 
+    def to_xarray(self, global_seconds: float | None = None) -> Any:
+        """The counts of the bins that aren't empty as an ``xarray.DataArray`` over ``time``, in seconds where it is given how
+        long a tick or a sync period is. Raises ``MissingLibraryError`` without xarray."""
+        known = None if global_seconds is None else self.ticks * global_seconds
+        return labelled({"photons": self.counts}, [Axis("time", self.ticks, known)], {}, {})["photons"]
+
 
 def read_trace(source: str | os.PathLike[str] | bytes) -> LongTrace:
     """What ``ptu trace`` printed into the file at a path, or the text itself, also where it was cut behind a line.
 
     The text is read in pieces, so the memory is that of the arrays, 16 bytes for each bin that isn't empty. Raises
-    ``BadReport`` for another text.
+    ``BadReportError`` for another text.
     """
     if isinstance(source, str) and "\n" in source:
         source = source.encode()
@@ -60,7 +67,7 @@ def read_trace(source: str | os.PathLike[str] | bytes) -> LongTrace:
 def _trace(file: IO[bytes]) -> LongTrace:
     first = FIRST.fullmatch(file.readline(LONGEST_LINE))
     if not first or max(map(int, first.groups())) > GREATEST:
-        raise BadReport("this is nothing that ptu trace printed")
+        raise BadReportError("this is nothing that ptu trace printed")
     parts = [np.zeros((0, 2), dtype=np.int64)]
     end = b""
     for text in _pieces(file):
@@ -72,7 +79,7 @@ def _trace(file: IO[bytes]) -> LongTrace:
             break
     bins, counts = (np.concatenate([part[:, column] for part in parts]) for column in (0, 1))
     if int(first[1]) + int(bins.max(initial=0)) * int(first[2]) >= 1 << 63:
-        raise BadReport("a bin of this trace begins after the greatest time")
+        raise BadReportError("a bin of this trace begins after the greatest time")
     trace = LongTrace(int(first[1]), int(first[2]), bins, counts)
     return _with_end(trace, end) if end else trace
 
@@ -87,7 +94,7 @@ def _bins(text: bytes, before: int) -> NDArray[np.int64]:
     """The bins of some lines and their counts, (n, 2); each bin stands behind the one before."""
     lines = whole_numbers(text, 2)
     if lines is None or lines[0, 0] <= before or np.any(lines[1:, 0] <= lines[:-1, 0]):
-        raise BadReport("a bin or a count of this trace is none of a trace")
+        raise BadReportError("a bin or a count of this trace is none of a trace")
     return lines
 
 
@@ -95,14 +102,14 @@ def _with_end(trace: LongTrace, end: bytes) -> LongTrace:
     """The same trace with what stands behind its bins, of which a text that was cut may have a part."""
     found = LAST.fullmatch(end)
     if not found:
-        raise BadReport("this is nothing that ptu trace printed")
+        raise BadReportError("this is nothing that ptu trace printed")
     if found[3] is None:
         return trace
     frequencies = np.zeros(COUNTS, dtype=np.int64)
     for _, count, many in (line.split() for line in found[2].splitlines()):
         if len(count) > 4 or int(count) >= COUNTS or len(many) > MOST_DIGITS:
-            raise BadReport("a frequency of this trace is none of a trace")
+            raise BadReportError("a frequency of this trace is none of a trace")
         frequencies[int(count)] = int(many)
     if max(len(found[1]), len(found[3])) > MOST_DIGITS:
-        raise BadReport("a count of this trace is none of a trace")
+        raise BadReportError("a count of this trace is none of a trace")
     return replace(trace, before=int(found[1]), frequencies=frequencies, above=int(found[3]))

@@ -11,6 +11,7 @@ import os
 
 from ptulab_program import checksum
 
+from .._documents import PlanLike, is_path, name_of, plan_bytes
 from .._optional import want
 from ..headers import Header, read_header
 from ..report import Report
@@ -23,7 +24,7 @@ __all__ = ["checksum", "page", "write_page"]
 PathLike = str | os.PathLike[str]
 
 
-def page(report: Report, *, file: PathLike | None = None, plan: PathLike | None = None, program: PathLike | None = None) -> str:
+def page(report: Report, *, file: PathLike | None = None, plan: PlanLike | None = None, program: PathLike | None = None) -> str:
     """The page of a report as a text of HTML, some nine megabytes, of which eight are Plotly's.
 
     The heading has the names of the ``file`` and the ``plan``, with the plan's text, and of the ``program`` its SHA-256 and the
@@ -31,16 +32,16 @@ def page(report: Report, *, file: PathLike | None = None, plan: PathLike | None 
     its header tells the size of a pixel, pictures are in micrometres. Correlations and coincidences are normalised where the
     report knows the photons of their groups, as one that was read with its plan does.
 
-    Raises ``Missing`` without Plotly or Matplotlib, and ``OSError`` for a plan or a program that can't be read.
+    Raises ``MissingLibraryError`` without Plotly or Matplotlib, and ``OSError`` for a plan or a program that can't be read.
     """
     plotly = str(want("plotly.offline", "the page").get_plotlyjs())
     told, plan_text = [], None
     if file is not None:
         told.append(("file", os.path.basename(os.fspath(file))))
     if plan is not None:
-        with open(plan, "rb") as opened:
-            plan_text = opened.read().decode("utf-8", errors="replace").removeprefix("\ufeff").replace("\r\n", "\n")
-        told.append(("plan", os.path.basename(os.fspath(plan))))
+        plan_text = plan_bytes(plan, report.head).decode("utf-8", errors="replace").removeprefix("\ufeff").replace("\r\n", "\n")
+        if is_path(plan):
+            told.append(("plan", os.path.basename(name_of(plan))))
     if program is not None:
         told.append(("program", f"{os.path.basename(os.fspath(program))}, SHA-256 {checksum(program)}"))
         told.append(("made from", versions(program)["made_from"] or "not known"))
@@ -58,7 +59,7 @@ def _header(file: PathLike | None) -> Header | None:
 
 
 def write_page(
-    report: Report, path: PathLike, *, file: PathLike | None = None, plan: PathLike | None = None, program: PathLike | None = None
+    report: Report, path: PathLike, *, file: PathLike | None = None, plan: PlanLike | None = None, program: PathLike | None = None
 ) -> None:
     """Writes the page of a report, as ``page`` makes it, to a path; the file appears when it is whole."""
     with written_whole(path) as out:

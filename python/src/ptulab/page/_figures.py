@@ -14,7 +14,7 @@ from typing import Any, NamedTuple
 import numpy as np
 from numpy.typing import NDArray
 
-from ..errors import NotKnown
+from ..errors import NotKnownError
 from ..fits import g2
 from ..headers import Header
 from ..report import Head, Report
@@ -221,7 +221,7 @@ def _coincidence(table: Table, scale: Scale) -> list[Figure]:
     common: dict[str, Any] = {"xs": xs, "xlabel": f"difference of times ({unit})", "xunit": unit, "shape": "hvh"}
     try:
         values, errors = g2(table)
-    except NotKnown:
+    except NotKnownError:
         named = _named(table, "Coincidence")
         return [Curve(**named, summary=f"{summary} {UNKNOWN}", ys=counts_of(table), ylabel="pairs", yunit="pairs", **common)]
     there = np.isfinite(values)
@@ -259,7 +259,7 @@ def _correlation(table: Table, scale: Scale) -> list[Figure]:
     summary = f"{count(counts_of(table).sum())} pairs of photons by their delay, at {len(xs)} delays."
     try:
         values, errors = g2(table)
-    except NotKnown:
+    except NotKnownError:
         pairs = np.asarray(counts_of(table) / 2.0**levels, dtype=np.float64)
         return [Curve(**_named(table, "Correlation"), summary=f"{summary} {UNKNOWN}", xs=xs, ys=pairs, ylabel="pairs / 2^level", yunit="", **common)]
     there = np.isfinite(values)

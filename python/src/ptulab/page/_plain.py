@@ -15,7 +15,7 @@ INCHES, DOTS = (6.4, 3.6), 80
 
 
 def plain_picture(figure: Figure) -> str:
-    """A PNG of a figure as a data address. Raises ``Missing`` without Matplotlib."""
+    """A PNG of a figure as a data address. Raises ``MissingLibraryError`` without Matplotlib."""
     want("matplotlib", "the page")
     drawing = want("matplotlib.figure", "the page").Figure(figsize=INCHES, dpi=DOTS, layout="constrained")
     axes = drawing.subplots()
