@@ -12,7 +12,7 @@ A page is README.md, CONTRIBUTING.md, CHANGELOG.md, a page of docs/ or examples/
 - in the man page the lines between .nf and .fi are console.
 
 The blocks of a page are tried in their order, in a folder of their own that has what the pages speak of: the folders
-examples, docs, bench and python, ./ptu, FILE and PLAN, which are the sample of a scan and its plan, the same as big.ptu,
+examples, docs, bench and python, ./ptu, ./ptulab, FILE and PLAN, which are the sample of a scan and its plan, the same as big.ptu,
 big.ptu.gz and plan.toml, and the folder data with three such files. A block with a program that isn't on this machine is
 left out, and that is said. PROGRAM is ./ptu of this tree by default. What differs is shown, and so is each link to a
 file or a title that isn't there and each name of a crate's file, as `ptu_cli/specs/Runs.antt`, that none has; it ends with 1 if there is any. The scripts of examples/ want what ptulab
@@ -136,6 +136,7 @@ def furnish(program: str) -> None:
     for name in ("a", "b", "c"):
         shutil.copy(scan, f"data/{name}.ptu")
     os.symlink(program, "bin/ptu")
+    os.symlink(os.path.join(ROOT, "ptulab"), "ptulab")
     with open("bin/python3", "w", encoding="utf-8") as out:
         out.write(f'#!/bin/sh\nexec "{sys.executable}" "$@"\n')
     os.chmod("bin/python3", 0o755)

@@ -1,7 +1,7 @@
 #!/usr/bin/env python3
-"""Makes the tables of proved.md of the sources: make_proved.py [--check]
+"""Makes the tables of contracts.md of the sources: make_proved.py [--check]
 
-A part of proved.md begins with a line that names crates:
+A part of contracts.md begins with a line that names crates:
 
     <!-- made by docs/make_proved.py: abs_time settle -->
 
@@ -11,8 +11,8 @@ of its values, each trait, and the laws, which are functions that do nothing and
 stand the wrong bodies that the proofs refuse, those that the gate tries (crates/*/must-fail) and the others (bench/edits).
 
 A crate that no part names is put behind the crate before it in crates.txt, and one that is gone, or has nothing to show, is
-left out: nothing here knows a crate by heart. The facts of the main theorem are told by hand; each field of the record
-`Runs` must be a row there. With --check nothing is written, and it ends with 1 where the page isn't current.
+left out: nothing here knows a crate by heart. The facts of the main theorem are told by hand in proved.md; each field of the
+record `Runs` must be a row there. With --check nothing is written, and it ends with 1 where the page isn't current.
 """
 
 import re
@@ -21,7 +21,8 @@ from dataclasses import dataclass, field
 
 from made_parts import ROOT, finish, read
 
-PAGE = "docs/proved.md"
+PAGE = "docs/contracts.md"
+FACTS = "docs/proved.md"
 PART = re.compile(r"<!-- made by docs/make_proved\.py: ([\w ]+?) -->\n.*?<!-- end -->\n", re.S)
 ITEM = re.compile(r"( *)(pub )?(?:final )?(?:const )?(fn|trait|struct|enum|impl)\b(.*)")
 CLAUSE = re.compile(r" *(requires|ensures)\*?(?: (\w+))? \{")
@@ -226,7 +227,7 @@ def check_facts(text: str) -> None:
     facts = [fact for record in records for fact in re.findall(r"^  pub (\w+) :", record, flags=re.M)]
     told = re.findall(r"^\| `(\w+)` \|", text.split("## The main theorem", 1)[1].split("\n## ", 1)[0], flags=re.M)
     if len(records) != 1 or sorted(facts) != sorted(told):
-        raise SystemExit(f"{PAGE}: the main theorem has the facts {sorted(facts)}, and the page tells {sorted(told)}")
+        raise SystemExit(f"{FACTS}: the main theorem has the facts {sorted(facts)}, and the page tells {sorted(told)}")
 
 
 def check_laws(found: Iterator[Row]) -> None:
@@ -234,13 +235,13 @@ def check_laws(found: Iterator[Row]) -> None:
     laws = {word for row in found for word in [*re.findall(r"`(\w+)`", row.name), *row.ensures]}
     for path in [ROOT / "README.md", *sorted((ROOT / "docs").glob("*.md"))]:
         for law in re.findall(r"\blaw `(\w+)`", path.read_text("utf-8")):
-            if law not in laws and path.name != "proved.md":
+            if law not in laws and path.name != "contracts.md":
                 raise SystemExit(f"{path.relative_to(ROOT)}: there is no law {law}")
 
 
 def main() -> None:
     text = read(PAGE)
-    check_facts(text)
+    check_facts(read(FACTS))
     names = [line.split(":")[0].strip() for line in read("crates.txt").split("\n") if ":" in line.split("#")[0]]
     found = {crate: list(rows(crate)) for crate in names}
     check_laws(row for crate in names for row in found[crate])

@@ -183,7 +183,7 @@ def help_text(found: Iterable[Ending]) -> str:
     wide = max(len(usage) for usage, _ in shown)
     lines = [f"  {usage:{wide}}  {does[0].lower()}{does[1:]}" for usage, does in shown]
     said = [f"  {one.status:2} {one.line.removeprefix('ptu: ')}" for one in found if one.line]
-    return f"""ptu {read('VERSION').strip()} turns PicoQuant PTU time-tag files into exact tables of counts.
+    return f"""ptu {read('VERSION').strip()} counts decays, lifetime images, correlations and coincidences in PicoQuant .ptu files.
 
 {chr(10).join(lines)}
 
