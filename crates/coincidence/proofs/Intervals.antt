@@ -125,6 +125,6 @@ pairs-cons set test x h =
     omega (arith, split, others, first_row set test x h, next-ends set test x h)
 
 -- The intervals between neighbours are the pairs of places.
-pub intervals-are-pairs : (set : StartStopView) (test : ℕ → Bool) (h : History) → count_intervals set test h ≡ count_pairs set test h
-intervals-are-pairs set test [] = refl
-intervals-are-pairs set test (x ∷ h) = grind (arith, common_steps, pairs-cons, sum_by-cons, intervals-are-pairs set test h)
+pub intervals_are_pairs : (set : StartStopView) (test : ℕ → Bool) (h : History) → count_intervals set test h ≡ count_pairs set test h
+intervals_are_pairs set test [] = refl
+intervals_are_pairs set test (x ∷ h) = grind (arith, common_steps, pairs-cons, sum_by-cons, intervals_are_pairs set test h)

@@ -147,9 +147,9 @@ window-lags d set c low window spots es later small full have near photons =
     ap (λ n. cond (eqb (shifted_by d set.reach lag / set.width) c) n 0) (photons (behind window (4096 - lag)) ∙ same))
 
 -- a sum over three lists
-pub three-sums : (f : Entry → ℕ) (front back ring later : List Entry) → front ++ back ≡ ring
+pub three_sums : (f : Entry → ℕ) (front back ring later : List Entry) → front ++ back ≡ ring
     → sum_by f (ring ++ later) ≡ sum_by f front + sum_by f back + sum_by f later
-three-sums f front back ring later is = search (rules, arith, sum_by-append)
+three_sums f front back ring later is = search (rules, arith, sum_by-append)
 
 -- entries after others rise with them
 pub rising_join : (es later : List Entry) → IsRising es → IsRising later

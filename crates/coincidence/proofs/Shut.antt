@@ -1,8 +1,8 @@
 -- What a bin brings when it is closed.
-use Rattle.std.{proofs.Common.{◌≡◌, ℕ, ◌+◌, ◌-◌, ◌*◌, ◌/◌, ◌<◌, ◌≤◌, Bool, true, false, ◌&&◌, leb, eqb, cond, List, [], ◌∷◌, ◌++◌, length, refl, ◌∙◌, arith, length-append, append-nil, rules}, specs.List.{sum_by, filter, AllByRecursion}, proofs.Math.Nat.{mul-le-mul, mul-le-mul_right}, proofs.lemmas.Grind.common_steps}
+use Rattle.std.{proofs.Common.{◌≡◌, sym, ℕ, ◌+◌, ◌-◌, ◌*◌, ◌/◌, ◌<◌, ◌≤◌, Bool, true, false, ◌&&◌, leb, eqb, cond, List, [], ◌∷◌, ◌++◌, length, refl, ◌∙◌, arith, length-append, append-nil, rules}, specs.List.{sum_by, filter, AllByRecursion}, proofs.Math.Nat.{mul-le-mul, mul-le-mul_right}, proofs.lemmas.Grind.common_steps}
 use Rattle.tally_base.{specs.Settings.{CoincidenceView}, specs.Tally.History, specs.Limits.record_limit}
-use Rattle.lag_ring.{specs.declared.ring.Entry.Entry, specs.Cells.Cells, specs.Ring.{Ring, ring, IsRising, weight_where, IsInReach}, proofs.Kept.{room_after, kept_after, kept_left}, proofs.Lists.{all_filter}, proofs.Rising.{all_weaker, rising_push}, proofs.Sums.{sum_by-same, sum_by-times, sum_by-zero}}
-use Rattle.coincidence.{specs.declared.pairing.Bin.Bin, specs.declared.pairing.Direction.Direction, specs.declared.pairing.Direction.TheVariants.{Forward, Backward}, specs.Pairs.{in_first, in_second, is_in_cell, is_coincidence, coincidences}, specs.Pairing.{pairs_of_all, pairs_with, bin_pairs, BinIs, RingIs, CellsAre, CanClose, HasRoom, Counts}, specs.declared.pairing.Pairing.Pairing, specs.Closing.Reaches, proofs.Hits.{pairs_in, hits-append, pairs_in-one, pairs_in-le}, proofs.Mirror.pairs_apart-in, proofs.Visits.{pairs_far, room_as}}
+use Rattle.lag_ring.{specs.declared.ring.Entry.Entry, specs.Cells.Cells, specs.Ring.{Ring, ring, IsRising, weight_where, IsInReach}, proofs.Kept.{HasWeights, weights_of, room_after, kept_after}, proofs.Lists.{all_filter}, proofs.Rising.{all_weaker, rising_push, rising_filter}, proofs.Sums.{sum_by-same, sum_by-times, sum_by-zero}}
+use Rattle.coincidence.{specs.declared.pairing.Bin.Bin, specs.declared.pairing.Direction.Direction, specs.declared.pairing.Direction.TheVariants.{Forward, Backward}, specs.Pairs.{in_first, in_second, is_in_cell, is_coincidence, coincidences}, specs.Pairing.{pairs_of_all, pairs_with, bin_pairs, BinIs, RingIs, CellsAre, CanClose, HasRoom, Counts}, specs.declared.pairing.Pairing.Pairing, proofs.Hits.{pairs_in, hits-append, pairs_in-one, pairs_in-le}, proofs.Mirror.pairs_apart-in, proofs.Visits.{pairs_far, room_as, counts_as}}
 
 scaled : (test : Entry → Bool) (f : Entry → ℕ) (w : ℕ) (es : List Entry) → sum_by (λ e. cond (test e) (f e * w) 0) es ≡ sum_by (λ e. cond (test e) (f e) 0) es * w
 scaled test f w es = sum_by-same _ (λ e. cond (test e) (f e) 0 * w) es (λ e. search (rules, arith)) ∙ sum_by-times (λ e. cond (test e) (f e) 0) w es
@@ -26,9 +26,28 @@ more_work r few more n some is = omega (arith, mul-le-mul_right (2 * r + 1) some
 pub bin_both : (set : CoincidenceView) (bin : Bin) (xs : History) → BinIs set bin xs → bin.both ≤ bin.weights.a * bin.weights.b
 bin_both set bin xs is = grind (arith, common_steps, pairs_in-one (in_first set) (in_second set) xs)
 
-rising_filter : (p : Entry → Bool) (es : List Entry) → IsRising es → IsRising (filter p es)
-rising_filter p [] rising = tt
-rising_filter p (e ∷ es) rising = search (rules, arith, all_filter, rising_filter p es rising.1)
+-- entries have the weights of the closed photons in reach
+abbrev pub Weights : CoincidenceView → List Entry → History → Type 0
+Weights set es closed = HasWeights (in_first set) (in_second set) (λ x. x.0.time) set.reach es closed
+
+pub ring_weights : (set : CoincidenceView) (r : Ring) (closed : History) → RingIs set r closed → Weights set r.entries closed
+ring_weights set r closed were = rw (← were.reach) (weights_of (in_first set) (in_second set) (λ x. x.0.time) r closed were.keeps)
+
+module _ (set : CoincidenceView) (bin : Bin) (closed xs : History) (is : BinIs set bin xs) where
+  window : (test : ℕ → Bool) → AllByRecursion (λ x. x.0.time < bin.weights.index) closed → ((i : ℕ) → test i ≡ true → bin.weights.index ≤ i + set.reach) → IsInReach (λ x. x.0.time) set.reach test closed
+  window test after near = search (rules, arith, all_weaker)
+
+  inside : pairs_in (λ x y. in_first set x && in_second set y) xs ≡ bin.weights.a * bin.weights.b - bin.both
+  inside = grind (arith, common_steps, pairs_in-one (in_first set) (in_second set) xs)
+
+  -- what each cell counts more
+  pub grown_by : (es : List Entry) → Weights set es closed → AllByRecursion (λ x. x.0.time < bin.weights.index) closed → (c : ℕ) → coincidences set c (closed ++ xs) ≡ coincidences set c closed + bin_pairs set c bin es
+  grown_by es were after c =
+      let n : ℕ = bin.weights.index in
+      let firsts = were.firsts (λ i. is_in_cell set c i n) (window (λ i. is_in_cell set c i n) after (λ i is. grind (arith, common_steps, is))) in
+      let seconds = were.seconds (λ i. is_in_cell set c n i) (window (λ i. is_in_cell set c n i) after (λ i is. grind (arith, common_steps, is))) in
+      let more = hits-append (in_first set) (in_second set) (λ x. x.0.time) (is_in_cell set c) n closed xs is.weighs.here in
+      pairs_apart-in (is_coincidence set c) (closed ++ xs) ∙ more ∙ rw (pairs_apart-in (is_coincidence set c) closed, by_weights set c bin.weights es, firsts, seconds, inside, is.weighs.a, is.weighs.b, same_tick set c n) (omega arith)
 
 -- a bin of the photons xs may be put after the closed ones
 pub record CanKeep (set : CoincidenceView) (r : Ring) (bin : Bin) (closed xs : History) : Type 0 where
@@ -37,23 +56,11 @@ pub record CanKeep (set : CoincidenceView) (r : Ring) (bin : Bin) (closed xs : H
   pub were : RingIs set r closed
 
 module _ (set : CoincidenceView) (r : Ring) (bin : Bin) (closed xs : History) (can : CanKeep set r bin closed xs) where
-  window : (test : ℕ → Bool) → ((i : ℕ) → test i ≡ true → bin.weights.index ≤ i + set.reach) → IsInReach (λ x. x.0.time) r.reach test closed
-  window test near = search (rules, arith, all_weaker)
-
-  inside : pairs_in (λ x y. in_first set x && in_second set y) xs ≡ bin.weights.a * bin.weights.b - bin.both
-  inside = grind (arith, common_steps, pairs_in-one (in_first set) (in_second set) xs)
-
   pub both_fit : bin.both ≤ bin.weights.a * bin.weights.b
   both_fit = bin_both set bin xs can.is
 
-  -- what each cell counts more
   pub grown : (c : ℕ) → coincidences set c (closed ++ xs) ≡ coincidences set c closed + bin_pairs set c bin r.entries
-  grown c =
-      let n : ℕ = bin.weights.index in
-      let firsts = can.were.keeps.firsts (λ i. is_in_cell set c i n) (window (λ i. is_in_cell set c i n) (λ i is. grind (arith, common_steps, is))) in
-      let seconds = can.were.keeps.seconds (λ i. is_in_cell set c n i) (window (λ i. is_in_cell set c n i) (λ i is. grind (arith, common_steps, is))) in
-      let more = hits-append (in_first set) (in_second set) (λ x. x.0.time) (is_in_cell set c) n closed xs can.is.weighs.here in
-      pairs_apart-in (is_coincidence set c) (closed ++ xs) ∙ more ∙ rw (pairs_apart-in (is_coincidence set c) closed, by_weights set c bin.weights r.entries, firsts, seconds, inside, can.is.weighs.a, can.is.weighs.b, same_tick set c n) (omega arith)
+  grown = grown_by set bin closed xs can.is r.entries (ring_weights set r closed can.were) can.after
 
   pub before : AllByRecursion (λ e. e.index < bin.weights.index) r.entries
   before = can.were.keeps.bounded bin.weights.index can.after
@@ -97,13 +104,16 @@ module _ (set : CoincidenceView) (r : Ring) (bin : Bin) (closed xs : History) (c
     pub ring_alone : 0 < set.reach → RingIs set (ring (bin.weights ∷ []) r.reach) (closed ++ xs)
     ring_alone some = search (rules, arith, filter_none, all_weaker, ring_shut)
 
--- a ring keeps the bins in reach, once those are gone that nothing after a tick reaches, where photons came from there on
-pub ring_left : (set : CoincidenceView) (r : Ring) (closed : History) (index : ℕ) → 0 < set.reach → Reaches index closed → RingIs set r closed
-    → RingIs set (ring (filter (λ f. leb (index - (set.reach - 1)) f.index) r.entries) r.reach) closed
-ring_left set r closed index some reaches were = record {
-  reach = were.reach;
-  rising = rising_filter (λ f. leb (index - (set.reach - 1)) f.index) r.entries were.rising;
-  keeps = rw (← were.reach) (kept_left (in_first set) (in_second set) (λ x. x.0.time) r closed index (omega (arith, some, were.reach)) reaches were.keeps);
+-- no sum passes the greatest count
+pub sums_fit : (set : CoincidenceView) (p : Pairing) (bins : List Bin) (closed xs : History) → CanClose set p bins closed xs
+    → (f : ℕ → ℕ) → ((c : ℕ) → coincidences set c (closed ++ xs) ≡ coincidences set c closed + f c) → HasRoom set p.cells f
+sums_fit set p bins closed xs can f grows = record {
+  sized = can.cells.count;
+  fits = λ c in_range.
+      let few : length (closed ++ xs) ≤ record_limit = rw (length-append closed xs) can.few in
+      let square : length (closed ++ xs) * length (closed ++ xs) ≤ record_limit * record_limit = mul-le-mul few few in
+      let most = pairs_in-le (is_coincidence set c) (closed ++ xs) in
+      omega (arith, grows c, can.cells.pairs c in_range, pairs_apart-in (is_coincidence set c) (closed ++ xs), most, square);
 }
 
 module _ (set : CoincidenceView) (p : Pairing) (bin : Bin) (closed xs : History) (can : CanClose set p (bin ∷ []) closed xs) where
@@ -111,16 +121,8 @@ module _ (set : CoincidenceView) (p : Pairing) (bin : Bin) (closed xs : History)
   pub keep : CanKeep set p.ring bin closed xs
   keep = search (rules, arith, append-nil)
 
-  -- no sum passes the greatest count
   pub may_fit : HasRoom set p.cells (λ c. bin_pairs set c bin p.ring.entries)
-  may_fit = record {
-    sized = can.cells.count;
-    fits = λ c in_range.
-        let few : length (closed ++ xs) ≤ record_limit = rw (length-append closed xs) can.few in
-        let square : length (closed ++ xs) * length (closed ++ xs) ≤ record_limit * record_limit = mul-le-mul few few in
-        let most = pairs_in-le (is_coincidence set c) (closed ++ xs) in
-        omega (arith, grown set p.ring bin closed xs keep c, can.cells.pairs c in_range, pairs_apart-in (is_coincidence set c) (closed ++ xs), most, square);
-  }
+  may_fit = sums_fit set p (bin ∷ []) closed xs can _ (grown set p.ring bin closed xs keep)
 
   module _ (new : Cells) (before' now : ℕ) where
     -- the cells count the pairs of the bin too
@@ -133,7 +135,4 @@ module _ (set : CoincidenceView) (p : Pairing) (bin : Bin) (closed xs : History)
     alone_fits = search (rules, arith, room_as, may_fit, alone, keep)
 
     pub cells_alone : (new : Cells) (before' now : ℕ) → Counts set p.cells new before' now (λ c. bin_pairs set c bin []) 1 → CellsAre set new (closed ++ xs)
-    cells_alone new before' now is = cells_shut new before' now (record {
-      cells = λ c in_range. omega (arith, is.cells c in_range, alone set p.ring bin closed xs keep far c);
-      spends = record { same = is.spends.same; added = omega (arith, is.spends.added); steps = is.spends.steps };
-    })
+    cells_alone new before' now is = cells_shut new before' now (counts_as set p.cells new before' now _ _ 1 _ is (λ c. sym (alone set p.ring bin closed xs keep far c)) (omega arith))

@@ -29,8 +29,8 @@ shifted_inside d reach apart width some near = search (rules, arith)
 pub room_as : (set : CoincidenceView) (cells : Cells) (f g : ℕ → ℕ) → HasRoom set cells f → ((c : ℕ) → g c ≡ f c) → HasRoom set cells g
 room_as set cells f g room same = record { sized = room.sized; fits = λ c inside. omega (arith, room.fits c inside, same c) }
 
-pub counts_as : (set : CoincidenceView) (old new : Cells) (before now : ℕ) (f g : ℕ → ℕ) (n : ℕ) → Counts set old new before now f n → ((c : ℕ) → f c ≡ g c) → Counts set old new before now g n
-counts_as set old new before now f g n is same = record { cells = λ c inside. omega (arith, is.cells c inside, same c); spends = is.spends }
+pub counts_as : (set : CoincidenceView) (old new : Cells) (before now : ℕ) (f g : ℕ → ℕ) (n k : ℕ) → Counts set old new before now f n → ((c : ℕ) → f c ≡ g c) → n ≤ k → Counts set old new before now g k
+counts_as set old new before now f g n k is same upto = search (rules, arith, same)
 
 -- what is counted after what was counted
 module _ (set : CoincidenceView) (old mid : Cells) (before then' : ℕ) (f g h : ℕ → ℕ) (n : ℕ) (one : Counts set old mid before then' f n) where

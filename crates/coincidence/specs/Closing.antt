@@ -1,21 +1,12 @@
 -- Bins that are closed together.
-use Rattle.std.{specs.Prelude.{ℕ, ◌+◌, ◌-◌, ◌^◌, ◌<◌, ◌≤◌, ◌==◌, ◌/◌, ◌*◌, min, slice_index, List, [], ◌∷◌, ◌++◌, length, map, sum_by, if◌then◌else◌}, specs.List.{AllByRecursion, range_with_len}}
-use Rattle.tally_base.{specs.Settings.CoincidenceView, specs.Tally.History}
+use Rattle.std.{specs.Prelude.{ℕ, ◌+◌, ◌-◌, ◌^◌, ◌<◌, ◌≤◌, ◌==◌, ◌/◌, ◌*◌, min, slice_index, List, ◌++◌, length, map, sum_by, if◌then◌else◌}, specs.List.{AllByRecursion, range_with_len}}
+use Rattle.tally_base.{specs.Settings.CoincidenceView}
 use Rattle.lag_ring.{specs.declared.ring.Entry.Entry, specs.declared.window.Side.{Side, TheVariants.{First, Second}}, specs.Bytes.{weight_of, weight_at, weight_before, IsLight, behind}}
-use Rattle.coincidence.{specs.declared.pairing.Bin.Bin, specs.declared.pairing.Direction.Direction, specs.declared.pairing.Direction.TheVariants.{Forward, Backward}, specs.Pairing.{bin_pairs, earlier_side, later_side, shifted_by}}
-
--- A photon came at this tick or later, or the tick is 0.
-abbrev pub Reaches : ℕ → History → Type 0
-Reaches index closed = (m : ℕ) → 0 < m → AllByRecursion (λ x. x.0.time < m) closed → index < m
+use Rattle.coincidence.{specs.declared.pairing.Bin.Bin, specs.declared.pairing.Direction.Direction, specs.declared.pairing.Direction.TheVariants.{Forward, Backward}, specs.Pairing.{earlier_side, later_side, shifted_by}}
 
 -- the entries of bins
 abbrev pub weights_in : List Bin → List Entry
 weights_in bins = map (λ bin. bin.weights) bins
-
--- the pairs of bins, each with itself and with the entries before it, that the cell counts
-abbrev pub all_pairs : CoincidenceView → ℕ → List Entry → List Bin → ℕ
-all_pairs set c es [] = 0
-all_pairs set c es (bin ∷ bins) = bin_pairs set c bin es + all_pairs set c (es ++ bin.weights ∷ []) bins
 
 -- the pairs of the photons of later entries with those of the entry so many ticks before, where the cell is that of their difference
 abbrev pub lag_pairs : Direction → CoincidenceView → ℕ → List Entry → List Entry → ℕ → ℕ

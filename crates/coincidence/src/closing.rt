@@ -34,6 +34,7 @@ fn put_weights(entries: &mut ArrayVec<Entry, TABLE_BLOCK>, bins: &[Bin])
 }
 
 /// A number that no weight of the entries in a ring and of later ones is above. It is not 0.
+#[tactic(auto, using(std::proofs::lemmas::Nat::le_or_l))]
 fn weight_bound_of(ring: &LagRing, later: &[Entry]) -> u64
     ensures some { 0 < result }
     ensures light { IsLight result (ring.now.entries ++ later.now) }

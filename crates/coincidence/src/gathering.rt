@@ -55,6 +55,7 @@ fn pick(set: CoincidenceSet, block: &Block<TABLE_BLOCK>, rows: &mut [u16; TABLE_
 
 /// Takes the photons of a block, and puts the bins that they close into a list. The answer is the bin
 /// that is open then.
+#[tactic(auto, using(crate::proofs::Picked::next_within))]
 pub(crate) fn gather_block(
     set: &CoincidenceSet,
     waiting: Option<Bin>,

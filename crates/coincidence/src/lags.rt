@@ -104,6 +104,7 @@ fn pair_window<L: Ledger>(
 }
 
 /// Adds the weights that the entries in a ring and later ones have on one side to a window.
+#[tactic(auto, using(lag_ring::proofs::Lists::all_back, crate::proofs::LagPairs::three_sums))]
 fn fill(window: &mut [u8], side: Side, ring: &LagRing, low: u64, later: &[Entry])
     requires early { AllByRecursion (λ e. e.index + TOP < 2 ^ 64) ring.now.entries }
     requires early_later { AllByRecursion (λ e. e.index + TOP < 2 ^ 64) later.now }

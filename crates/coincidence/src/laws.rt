@@ -5,11 +5,13 @@ ghost use Rattle.coincidence.{specs.declared.coincidence.Coincidence.Coincidence
 
 /// The intervals are the pairs of places i before j in the list of events, with a photon of the start
 /// group at i, one of the stop group at j, and no photon of either group at a place between them.
+#[tactic(auto, using(crate::proofs::Intervals::intervals_are_pairs))]
 pub fn intervals_are_pairs_of_places()
     ensures { (set : StartStopView) (test : ℕ → Bool) (h : History) → count_intervals set test h ≡ count_pairs set test h }
 {}
 
 /// No table of coincidences keeps more closed bins than its reach.
+#[tactic(auto, using(crate::specs::Coincidence::few_bins))]
 pub fn few_bins()
     ensures { (t : Coincidence) → bins_kept t ≤ (set_of t).reach }
 {}

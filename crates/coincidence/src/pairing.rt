@@ -173,6 +173,7 @@ struct Photons {
 
 /// Pairs the photons of an earlier entry with later ones, where the two ticks are in reach of one another.
 #[inline(always)]
+#[tactic(auto, using(crate::proofs::Visits::pairs_near, crate::proofs::Visits::pairs_far, crate::proofs::Visits::shifted_inside))]
 fn pair_earlier<L: Ledger>(
     cells: &mut PairCells,
     set: CoincidenceSet,
@@ -196,6 +197,7 @@ fn pair_earlier<L: Ledger>(
 
 /// Pairs the photons of earlier entries with later ones.
 #[inline(always)]
+#[tactic(auto, using(std::proofs::lemmas::List::Sums::sum_by_more_le))]
 fn pair_direction<L: Ledger>(
     cells: &mut PairCells,
     set: CoincidenceSet,
@@ -257,6 +259,7 @@ pub(crate) fn pair_inside<L: Ledger>(
 }
 
 /// Pairs the photons of a bin with one another, and with those of the closed bins.
+#[tactic(auto, using(lag_ring::proofs::Lists::all_back))]
 fn pair<L: Ledger>(
     cells: &mut PairCells,
     ring: &LagRing,
@@ -305,6 +308,7 @@ fn append<L: Ledger>(pairing: &mut Pairing, set: &CoincidenceSet, bin: &Bin, ste
 /// Pairs the photons of a bin, and puts it among the closed ones. Where the last of those is out of
 /// reach, which is the most frequent case, no other pairs with it.
 #[inline(always)]
+#[tactic(auto, using(lag_ring::proofs::Rising::all_weaker))]
 pub(crate) fn close<L: Ledger>(
     pairing: &mut Pairing,
     set: &CoincidenceSet,

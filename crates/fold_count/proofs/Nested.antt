@@ -68,11 +68,11 @@ pub partly_none : (groups : ℕ) (bins : List Entry) → partly (length bins) gr
 partly_none groups [] = refl
 partly_none groups (e ∷ bins) = ap (λ xs. e ∷ xs) (partly_none groups bins)
 
-pub length-partly : (i groups : ℕ) (bins : List Entry) → length (partly i groups bins) ≡ length bins
-length-partly zero groups [] = refl
-length-partly zero groups (e ∷ bins) = ap suc (length-partly zero groups bins)
-length-partly (suc i) groups [] = refl
-length-partly (suc i) groups (e ∷ bins) = ap suc (length-partly i groups bins)
+pub length_partly : (i groups : ℕ) (bins : List Entry) → length (partly i groups bins) ≡ length bins
+length_partly zero groups [] = refl
+length_partly zero groups (e ∷ bins) = ap suc (length_partly zero groups bins)
+length_partly (suc i) groups [] = refl
+length_partly (suc i) groups (e ∷ bins) = ap suc (length_partly i groups bins)
 
 pub partly_step : (i groups : ℕ) (bins : List Entry) (e : Entry) → slice_get (partly (suc i) groups bins) i ≡ Some e
     → slice_set (partly (suc i) groups bins) i (join groups e) ≡ partly i groups bins

@@ -4,6 +4,7 @@ ghost use Rattle.tally_base.{specs.Settings.FoldView, specs.Tally.History};
 ghost use Rattle.fold_count.specs.FoldCounts.{is_of_any, in_set, in_all_sets};
 
 /// Each photon of at least one of the groups is in one cell.
+#[tactic(auto, using(crate::proofs::Totals::add_up))]
 pub fn the_cells_add_up()
     ensures { (set : FoldView) (h : History)
         → in_all_sets set h ≡ count_by (is_of_any set.groups) h }

@@ -37,6 +37,7 @@ fn open_at(cells: &mut [u64], ring: &mut LagRing, bin: Entry, set: &FoldSet, tim
 /// Puts a photon of this set of the groups, which is not that of none, into the bin of its time, which is not
 /// before the open one, and answers the bin that is open then.
 #[inline(always)]
+#[tactic(auto, using(lag_ring::proofs::Rising::all_push, lag_ring::proofs::Lists::all_front, std::proofs::lemmas::Nat::or_lt, crate::proofs::Nested::last_of))]
 fn put(
     cells: &mut [u64],
     ring: &mut LagRing,

@@ -10,6 +10,7 @@ use lag_ring::{Entry, LagRing};
 /// at most six groups at least, so it changes at most six times while it waits, and all walks together take
 /// at most seven steps for each bin, whatever the window.
 #[inline(always)]
+#[tactic(auto, using(crate::proofs::Nested::partly_none, crate::proofs::Nested::length_partly, crate::proofs::Nested::ring_is, crate::proofs::Nested::partly_all))]
 fn meet(ring: &mut LagRing, groups: u64)
     requires nested { IsNested ring.old.entries }
     ensures met { ring.new ≡ ring_of (met_in groups ring.old.entries) ring.old.reach }
@@ -61,6 +62,7 @@ fn count_front(cells: &mut [u64], bins: &[Entry], before: u64)
 
 /// Counts those of the closed bins that are before a tick.
 #[inline(always)]
+#[tactic(auto, using(lag_ring::proofs::Lists::all_front, lag_ring::proofs::Rising::rising_front, lag_ring::proofs::Rising::rising_back))]
 fn count_closed(cells: &mut [u64], ring: &LagRing, before: u64)
     requires inside { AllByRecursion (λ e. e.b < length cells.old) ring.now.entries }
     requires room { sum cells.old + photons_in ring.now.entries < 2 ^ 64 }
@@ -77,6 +79,7 @@ fn count_closed(cells: &mut [u64], ring: &LagRing, before: u64)
 
 /// Counts the bins that are before a tick, with the groups of the open one met in those before it too, and
 /// keeps the others, the open one as the last.
+#[tactic(auto, using(lag_ring::proofs::Lists::all_front, crate::proofs::Nested::photons_met_in, std::proofs::lemmas::List::Sums::sum_by_push, crate::proofs::Nested::last_of, crate::proofs::Bins::not_before))]
 pub(crate) fn settle(cells: &mut [u64], ring: &mut LagRing, bin: &Entry, before: u64)
     requires held { AreHeld cells.old ring.old bin.now }
     requires near { bin.now.index < before + ring.old.reach }

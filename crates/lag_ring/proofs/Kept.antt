@@ -1,6 +1,6 @@
 -- What a ring keeps once a bin more is put into it.
-use Rattle.std.{proofs.Common.{rules}, proofs.Common.{◌≡◌, ℕ, ◌+◌, ◌-◌, ◌<◌, ◌≤◌, Bool, true, false, ◌&&◌, leb, cond, List, [], ◌∷◌, ◌++◌, length, refl, ◌∙◌, arith}, specs.List.{sum_by, count_by, filter, AllByRecursion}, proofs.lemmas.Grind.common_steps, proofs.lemmas.List.Sums.{sum_by-append, sum_by_push, length-filter, count_by-le-length}}
-use Rattle.lag_ring.{specs.declared.ring.Entry.Entry, specs.Ring.{Ring, ring, IsRising, weight_where, IsInReach, Weighs, Keeps}, proofs.Rising.all_push, proofs.Lists.{all_front, all_back, all_filter, all_passed, of_some}, proofs.Sums.{sum_by-agree, sum_by-same, sum_by-zero, sum_by-filter}, proofs.Between.few_kept}
+use Rattle.std.{proofs.Common.{rules}, proofs.Common.{◌≡◌, ℕ, ◌+◌, ◌-◌, ◌<◌, ◌≤◌, Bool, true, false, ◌&&◌, leb, cond, List, [], ◌∷◌, ◌++◌, length, refl, ◌∙◌, arith}, specs.List.{sum_by, count_by, filter, AllByRecursion}, proofs.lemmas.Grind.common_steps, proofs.lemmas.List.Elements.filter-append, proofs.lemmas.List.Sums.{sum_by-append, sum_by_push}}
+use Rattle.lag_ring.{specs.declared.ring.Entry.Entry, specs.Ring.{Ring, ring, IsRising, weight_where, IsInReach, Weighs, Keeps}, proofs.Rising.{all_push, all_weaker, rising_filter}, proofs.Lists.{all_front, all_back, all_filter, all_passed, of_some}, proofs.Sums.{sum_by-agree, sum_by-same, sum_by-zero, sum_by-filter}, proofs.Between.few_kept}
 
 module _ {X : Type 0} (group : X → Bool) (at : X → ℕ) (weight : Entry → ℕ) where
   near : (test : ℕ → Bool) (i w n reach : ℕ) → 0 < reach → (test i ≡ true → n < i + reach)
@@ -31,18 +31,48 @@ module _ {X : Type 0} (group : X → Bool) (at : X → ℕ) (weight : Entry → 
       → weight_where weight test (filter (λ f. leb (n - (reach - 1)) f.index) es) ≡ weight_where weight test es
   weights_left reach es n some test window = search (rules, arith, sum_by-filter, sum_by-same, near)
 
-  -- one weight, once the bin e is in and what is further back than the reach is gone
-  weights_pushed : (reach : ℕ) (es : List Entry) (old xs : List X) (e : Entry) → 0 < reach
-      → ((test : ℕ → Bool) → IsInReach at reach test old → weight_where weight test es ≡ count_by (λ x. group x && test (at x)) old)
-      → 0 < length xs → AllByRecursion (λ x. at x ≡ e.index) xs → weight e ≡ count_by group xs
-      → (test : ℕ → Bool) → IsInReach at reach test (old ++ xs)
-      → weight_where weight test (filter (λ f. leb (e.index - (reach - 1)) f.index) es ++ e ∷ []) ≡ count_by (λ x. group x && test (at x)) (old ++ xs)
-  weights_pushed reach es old xs e some were any here is test window =
-      let f : Entry → ℕ = λ x. cond (test x.index) (weight x) 0 in
-      let more = weights_more reach es old xs e were here is test window in
-      let left = weights_left reach es e.index some test
-      (λ i passes. of_some at e.index (λ m. m < i + reach) xs any here (all_back (λ y. at y < i + reach) old xs (window i passes))) in
-      rw (sum_by_push f (filter (λ g. leb (e.index - (reach - 1)) g.index) es) e, left, ← sum_by_push f es e) more
+module _ {X : Type 0} (first second : X → Bool) (at : X → ℕ) where
+  -- entries have the weights of all elements in reach, as those that a ring keeps
+  pub record HasWeights (reach : ℕ) (es : List Entry) (xs : List X) : Type 0 where
+    pub firsts : (test : ℕ → Bool) → IsInReach at reach test xs → weight_where (λ e. e.a) test es ≡ count_by (λ x. first x && test (at x)) xs
+    pub seconds : (test : ℕ → Bool) → IsInReach at reach test xs → weight_where (λ e. e.b) test es ≡ count_by (λ x. second x && test (at x)) xs
+    pub bounded : (n : ℕ) → AllByRecursion (λ x. at x < n) xs → AllByRecursion (λ e. e.index < n) es
+
+  pub weights_of : (r : Ring) (xs : List X) → Keeps first second at r xs → HasWeights r.reach r.entries xs
+  weights_of r xs is = record { firsts = is.firsts; seconds = is.seconds; bounded = is.bounded }
+
+  -- a bin more
+  pub weights_on : (reach : ℕ) (es : List Entry) (old xs : List X) (e : Entry) → HasWeights reach es old → Weighs first second at e xs → HasWeights reach (es ++ e ∷ []) (old ++ xs)
+  weights_on reach es old xs e were weighs = record {
+    firsts = weights_more first at (λ f. f.a) reach es old xs e were.firsts weighs.here weighs.a;
+    seconds = weights_more second at (λ f. f.b) reach es old xs e were.seconds weighs.here weighs.b;
+    bounded = λ n below. all_push (λ f. f.index < n) es e (were.bounded n (all_front (λ x. at x < n) old xs below))
+        (of_some at e.index (λ m. m < n) xs weighs.some weighs.here (all_back (λ x. at x < n) old xs below));
+  }
+
+  module _ (reach : ℕ) (es : List Entry) (xs : List X) (n : ℕ) (some : 0 < reach) (reaches : (m : ℕ) → 0 < m → AllByRecursion (λ x. at x < m) xs → n < m) (were : HasWeights reach es xs) where
+    -- without what is further back from n than the reach, where an element came from there on
+    pub weights_late : HasWeights reach (filter (λ f. leb (n - (reach - 1)) f.index) es) xs
+    weights_late =
+        let near : (test : ℕ → Bool) → IsInReach at reach test xs → (i : ℕ) → test i ≡ true → n < i + reach =
+        λ test window i passes. reaches (i + reach) (omega (arith, some)) (window i passes) in
+        record {
+          firsts = λ test window. weights_left first at (λ f. f.a) reach es n some test (near test window) ∙ were.firsts test window;
+          seconds = λ test window. weights_left second at (λ f. f.b) reach es n some test (near test window) ∙ were.seconds test window;
+          bounded = λ m below. all_filter (λ f. f.index < m) (λ f. leb (n - (reach - 1)) f.index) es (were.bounded m below);
+        }
+
+    -- a ring keeps what is left of rising entries that aren't after n
+    pub kept_late : IsRising es → AllByRecursion (λ e. e.index ≤ n) es → Keeps first second at (ring (filter (λ f. leb (n - (reach - 1)) f.index) es) reach) xs
+    kept_late rising upto =
+        let stays : Entry → Bool = λ f. leb (n - (reach - 1)) f.index in
+        let below : AllByRecursion (λ e. e.index < n + 1) (filter stays es) = all_filter (λ e. e.index < n + 1) stays es (all_weaker (λ e. e.index ≤ n) (λ e. e.index < n + 1) (λ e le. omega (arith, le)) es upto) in
+        record {
+          within = omega (arith, some, few_kept (filter stays es) (n - (reach - 1)) (n + 1) (rising_filter stays es rising) (all_passed stays es) below);
+          firsts = weights_late.firsts;
+          seconds = weights_late.seconds;
+          bounded = weights_late.bounded;
+        }
 
 module _ {X : Type 0} (first second : X → Bool) (at : X
     → ℕ) (r : Ring) (e : Entry) (old : List X) (some : 0 < r.reach) (was : Keeps first second at r old) (after : AllByRecursion (λ x. at x < e.index) old) where
@@ -57,32 +87,11 @@ module _ {X : Type 0} (first second : X → Bool) (at : X
 
   -- What the ring keeps once the bin e is in.
   pub kept_after : (xs : List X) → Weighs first second at e xs → (es : List Entry) → es ≡ filter (λ f. leb (e.index - (r.reach - 1)) f.index) r.entries → length es + 1 ≤ r.reach → Keeps first second at (ring (es ++ e ∷ []) r.reach) (old ++ xs)
-  kept_after xs weighs es kept room = record {
-    within = grind (arith, common_steps);
-    firsts =
-        λ test window. rw kept (weights_pushed first at (λ f. f.a) r.reach r.entries old xs e some was.firsts weighs.some weighs.here weighs.a test window);
-    seconds =
-        λ test window. rw kept (weights_pushed second at (λ f. f.b) r.reach r.entries old xs e some was.seconds weighs.some weighs.here weighs.b test window);
-    bounded = λ n below.
-        let front = all_front (λ x. at x < n) old xs below in
-        let back = all_back (λ x. at x < n) old xs below in
-        let here : e.index < n = of_some at e.index (λ m. m < n) xs weighs.some weighs.here back in
-        all_push (λ f. f.index < n) es e
-        (rw kept (all_filter (λ f. f.index < n) (λ f. leb (e.index - (r.reach - 1)) f.index) r.entries (was.bounded n front))) here;
-  }
-
--- What the ring keeps once what is further back from n than the reach is gone, where one that came is no less than n.
-pub kept_left : {X : Type 0} (first second : X → Bool) (at : X → ℕ) (r : Ring) (old : List X) (n : ℕ) → 0 < r.reach
-    → ((m : ℕ) → 0 < m → AllByRecursion (λ x. at x < m) old → n < m) → Keeps first second at r old
-    → Keeps first second at (ring (filter (λ f. leb (n - (r.reach - 1)) f.index) r.entries) r.reach) old
-kept_left first second at r old n some reaches was =
-    let near : (test : ℕ → Bool) → IsInReach at r.reach test old → (i : ℕ) → test i ≡ true → n < i + r.reach =
-    λ test window i passes. reaches (i + r.reach) (omega (arith, some)) (window i passes) in
-    record {
-      within =
-          let stays : Entry → Bool = λ f. leb (n - (r.reach - 1)) f.index in
-          omega (arith, was.within, length-filter stays r.entries, count_by-le-length stays r.entries);
-      firsts = λ test window. weights_left first at (λ f. f.a) r.reach r.entries n some test (near test window) ∙ was.firsts test window;
-      seconds = λ test window. weights_left second at (λ f. f.b) r.reach r.entries n some test (near test window) ∙ was.seconds test window;
-      bounded = λ m below. all_filter (λ f. f.index < m) (λ f. leb (n - (r.reach - 1)) f.index) r.entries (was.bounded m below);
-    }
+  kept_after xs weighs es kept room =
+      let stays : Entry → Bool = λ f. leb (e.index - (r.reach - 1)) f.index in
+      let more = weights_on first second at r.reach r.entries old xs e (weights_of first second at r old was) weighs in
+      let late = weights_late first second at r.reach (r.entries ++ e ∷ []) (old ++ xs) e.index some (λ m any all. of_some at e.index (λ k. k < m) xs weighs.some weighs.here (all_back (λ x. at x < m) old xs all)) more in
+      let stay : leb (e.index - (r.reach - 1)) e.index ≡ true = search (rules, arith) in
+      let split : filter stays (r.entries ++ e ∷ []) ≡ es ++ e ∷ [] = filter-append stays r.entries (e ∷ []) ∙ rw (stay, kept) refl in
+      let now : HasWeights first second at r.reach (es ++ e ∷ []) (old ++ xs) = (rw split at late) in
+      record { within = grind (arith, common_steps); firsts = now.firsts; seconds = now.seconds; bounded = now.bounded }

@@ -41,6 +41,7 @@ fn put_byte(window: &mut [u8], at: usize, weight: u64)
 
 /// Adds the weights of entries in one of the two groups to the places of their indices in a window: place `p` is that
 /// of the index which is `top` below `low + p`. An index without a place counts nowhere.
+#[tactic(auto, using(std::proofs::lemmas::List::Sums::sum_by_more_le))]
 pub fn put_side(window: &mut [u8], side: Side, top: u64, low: u64, entries: &[Entry])
     requires early { AllByRecursion (λ e. e.index + top < 2 ^ 64) entries.now }
     requires fit { Fit side top low window.old entries.now }

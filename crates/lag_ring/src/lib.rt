@@ -3,13 +3,14 @@
 //! `fold_count` and `tau_cascade` stand on it.
 #![tactic(auto)]
 
-mod buffer;
 mod bytes;
 mod cells;
+mod pairings;
 mod ring;
 mod window;
 
 pub use bytes::{BYTE_LAGS, MOST_SPOTS, byte_lag_sums, put_side, spots_of, weight_bound};
 pub use cells::PairCells;
+pub use pairings::Pairings;
 pub use ring::{Entry, LagRing};
 pub use window::{Side, total_weight};

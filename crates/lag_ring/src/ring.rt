@@ -1,8 +1,9 @@
 // The recent occupied bins.
 ghost use Rattle.std.{specs.Prelude.{◌≡◌, ◌+◌, ◌<◌, ◌≤◌, [], ◌∷◌, ◌++◌, IfOk, filter, length, nat_le, slice_get, slice_set, Some, true}, specs.List.AllByRecursion};
+ghost use Rattle.circular_buffer.specs.Buffer.{buffer};
 ghost use Rattle.lag_ring.specs.Ring.{IsRising, spare, ring, kept_or};
 
-use crate::buffer::Buffered;
+use circular_buffer::HeapCircularBuffer;
 use std::alloc::{AllocError, Global};
 use std::marker::Model;
 use std::slice;
@@ -35,10 +36,10 @@ impl Default for Entry {
 /// Contracts see a list of entries, and the reach. A ring that began anew has its only entry beside
 /// the buffer, which is empty until another comes.
 ///
-/// The lists that it keeps: the buffer.
+/// The lists that it keeps: `kept`.
 #[derive(Drop)]
 pub struct LagRing {
-    kept: Buffered,
+    kept: HeapCircularBuffer<Entry>,
     /// The entry that was appended last.
     last: Entry,
     /// It is the only one, and the buffer is empty.
@@ -46,29 +47,47 @@ pub struct LagRing {
 }
 
 impl Model for LagRing {
-    ghost use Rattle.std.{specs.Prelude.{◌≡◌, ◌<◌, ◌≤◌, ◌^◌, [], true}, specs.List.{AllByRecursion}};
-    ghost use Rattle.lag_ring.specs.Ring.{Ring, ring, kept_or, ring_code};
+    ghost use Rattle.std.{specs.Prelude.{◌≡◌, ◌<◌, ◌≤◌, ◌^◌, [], length, true}, specs.List.{AllByRecursion}};
+    ghost use Rattle.lag_ring.specs.Ring.{Ring, ring, IsRising, kept_or, ring_code};
 
     ghost Value = { Ring };
 
     ghost coded = { ring_code };
 
-    ghost view = { λ r. ring (kept_or r.alone r.last r.kept.entries) r.kept.reach };
+    ghost view = { λ r. ring (kept_or r.alone r.last r.kept.items) r.kept.capacity };
 
-    ghost invariant = { λ r. AllByRecursion (λ e. e.index ≤ r.last.index) (kept_or r.alone r.last r.kept.entries)
-        × (0 < r.kept.reach) × (r.kept.reach < 2 ^ 32)
-        × (r.alone ≡ true → r.kept.entries ≡ []) };
+    ghost invariant = { λ r. AllByRecursion (λ e. e.index ≤ r.last.index) (kept_or r.alone r.last r.kept.items)
+        × IsRising (kept_or r.alone r.last r.kept.items) × (length (kept_or r.alone r.last r.kept.items) ≤ r.kept.capacity)
+        × (0 < r.kept.capacity) × (r.kept.capacity < 2 ^ 32)
+        × (r.alone ≡ true → r.kept.items ≡ []) };
 }
 
 /// Puts the only entry of a ring that began anew into the buffer, so that another can stand after it.
 #[inline(always)]
-fn lay_out(kept: &mut Buffered, last: &Entry, alone: bool)
-    requires some { 0 < kept.old.reach }
-    requires empty { alone ≡ true → kept.old.entries ≡ [] }
-    ensures entries { kept.new ≡ ring (kept_or alone last.now kept.old.entries) kept.old.reach }
+fn lay_out(kept: &mut HeapCircularBuffer<Entry>, last: &Entry, alone: bool)
+    requires room { length (kept_or alone last.now kept.old.items) ≤ kept.old.capacity }
+    requires empty { alone ≡ true → kept.old.items ≡ [] }
+    ensures { kept.new ≡ buffer (kept_or alone last.now kept.old.items) kept.old.capacity }
 {
     if alone {
-        kept.push(last.index, last.a, last.b);
+        kept.push_back(*last);
+    }
+}
+
+/// Removes the entries with an index below `before`, and no others.
+#[inline(always)]
+fn drop_before(kept: &mut HeapCircularBuffer<Entry>, before: u64)
+    requires rising { IsRising kept.old.items }
+    ensures kept { kept.new.items ≡ filter (λ e. nat_le before e.index) kept.old.items }
+    ensures same { kept.new.capacity ≡ kept.old.capacity }
+    ensures rising { IsRising kept.new.items }
+    ensures within { length kept.new.items ≤ length kept.old.items }
+{
+    while let Some(e) = kept.front() {
+        if e.index >= before {
+            break;
+        }
+        kept.pop_front();
     }
 }
 
@@ -81,7 +100,7 @@ impl LagRing {
         ensures empty { IfOk result (λ r. r ≡ ring [] reach) }
     {
         Ok(LagRing {
-            kept: Buffered::open(alloc, reach)?,
+            kept: HeapCircularBuffer::with_capacity(alloc, reach as usize)?,
             last: Entry {
                 index: 0,
                 a: 0,
@@ -97,18 +116,23 @@ impl LagRing {
         ensures rising { IsRising self.now.entries }
         ensures within { length self.now.entries ≤ self.now.reach }
     {
-        if self.alone { 1 } else { self.kept.len() }
+        if self.alone {
+            1
+        } else {
+            self.kept.len() as u32
+        }
     }
 
     /// Removes the entries with an index below `before`, and no others.
     #[inline(always)]
+    #[tactic(auto, using(crate::proofs::Lists::all_filter))]
     pub fn retire(&mut self, before: u64)
         ensures kept { self.new ≡ ring (filter (λ e. nat_le before e.index) self.old.entries) self.old.reach }
         ensures rising { IsRising self.new.entries }
     {
         lay_out(&mut self.kept, &self.last, self.alone);
         self.alone = false;
-        self.kept.retire(before);
+        drop_before(&mut self.kept, before);
     }
 
     /// Appends an entry. Its index is above all that are kept, and a place is free.
@@ -120,8 +144,8 @@ impl LagRing {
     {
         lay_out(&mut self.kept, &self.last, self.alone);
         self.alone = false;
-        self.kept.push(index, a, b);
         self.last = Entry { index, a, b };
+        self.kept.push_back(self.last);
     }
 
     /// Appends entries, and removes those with an index below `before`, and no others. All are near: none is the reach
@@ -135,7 +159,8 @@ impl LagRing {
     {
         lay_out(&mut self.kept, &self.last, self.alone);
         self.alone = false;
-        self.kept.renew(entries, before);
+        self.kept.extend_from_slice(entries);
+        drop_before(&mut self.kept, before);
         self.last = entries[entries.len() - 1];
     }
 
@@ -161,12 +186,14 @@ impl LagRing {
 
     /// Removes all entries, and puts these into their place.
     #[inline(always)]
+    #[tactic(auto, using(crate::proofs::Rising::upto_end))]
     pub fn refill(&mut self, entries: &[Entry])
         requires rising { IsRising entries.now }
         requires room { length entries.now ≤ self.old.reach }
         ensures filled { self.new ≡ ring entries.now self.old.reach }
     {
-        self.kept.refill(entries);
+        self.kept.clear();
+        self.kept.extend_from_slice(entries);
         self.alone = false;
         if let Some(last) = entries.last() {
             self.last = *last;
@@ -182,7 +209,7 @@ impl LagRing {
         if self.alone {
             self.last
         } else {
-            self.kept.visit(i)
+            *self.kept.get(i as usize).unwrap()
         }
     }
 
@@ -198,7 +225,9 @@ impl LagRing {
     {
         lay_out(&mut self.kept, &self.last, self.alone);
         self.alone = false;
-        self.kept.set_b(i, b);
+        if let Some(entry) = self.kept.get_mut(i as usize) {
+            entry.b = b;
+        }
     }
 
     /// The entries in two slices, which hold them one after the other.
@@ -210,7 +239,7 @@ impl LagRing {
         if self.alone {
             (slice::from_ref(&self.last), &[])
         } else {
-            self.kept.slices()
+            self.kept.as_slices()
         }
     }
 }

@@ -68,7 +68,7 @@ module _ (set : CorrelationView) (level : ℕ) where
     all_more : (p : ℕ) → p < set.lags - skipped
         → correlation set level (p + skipped + 1) (closed ++ xs) ≡ get_or cells.cells p 0 + paired (p + skipped + 1) r.entries es
     all_more p inside =
-        let was : get_or cells.cells p 0 ≡ correlation set level (p + skipped + 1) closed = rw is_skipped (can.cells.pairs p (rw (← is_skipped) inside)) in
+        let was : get_or cells.cells p 0 ≡ correlation set level (p + skipped + 1) closed = rw is_skipped (can.cells.counts.pairs p (rw (← is_skipped) inside)) in
         rw was (correlation_paired (p + skipped + 1) (omega arith) (omega arith) es r.entries closed xs (ring_counts r closed can.ring) can.bins)
 
     pub all_rising : IsRising (r.entries ++ es)
@@ -80,14 +80,16 @@ module _ (set : CorrelationView) (level : ℕ) where
         omega (arith, all_more p inside, correlation-le set level (p + skipped + 1) (closed ++ xs), mul-le-mul all all)
 
     work_all : cells.added + (set.lags - skipped) * length es ≤ lag_count set level * occupied level (closed ++ xs)
-    work_all = rw (is_skipped, occupied_all es closed xs can.bins) (let was = can.cells.work in grind arith)
+    work_all = rw (is_skipped, occupied_all es closed xs can.bins) (let was = can.cells.counts.work in grind arith)
 
     pub cells_all : (new : Cells) → ((p : ℕ) → p < set.lags - skipped → get_or new.cells p 0 ≡ get_or cells.cells p 0 + paired (p + skipped + 1) r.entries es)
         → length new.cells ≡ length cells.cells → new.added ≤ cells.added + (set.lags - skipped) * length es
         → ((p : ℕ) → added_at new p ≤ added_at cells p + length es) → CellsAre set level new (closed ++ xs)
     cells_all new pairs same added each = record {
-      count = same ∙ can.cells.count;
-      pairs = λ p inside. rw (← is_skipped) (pairs p (rw is_skipped inside) ∙ sym (all_more p (rw is_skipped inside)));
-      work = omega (arith, added, work_all);
+      counts = record {
+        count = same ∙ can.cells.counts.count;
+        pairs = λ p inside. rw (← is_skipped) (pairs p (rw is_skipped inside) ∙ sym (all_more p (rw is_skipped inside)));
+        work = omega (arith, added, work_all);
+      };
       each = λ p. omega (arith, each p, can.cells.each p, occupied_all es closed xs can.bins);
     }

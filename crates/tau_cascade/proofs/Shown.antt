@@ -2,7 +2,7 @@
 use Rattle.std.{proofs.Common.{◌≡◌, ℕ, suc, zero, ◌+◌, ◌-◌, ◌<◌, ◌≤◌, Bool, true, false, ◌&&◌, ◌||◌, eqb, cond, List, [], ◌∷◌, length, get_or, refl, sym, ◌∙◌, zero-add, add-zero, arith, None, Some, rules}, specs.List.{count_by, slice_get}, specs.declared.option.Option.Option, specs.Option.option_map, proofs.lemmas.Bool.false≢true}
 use Rattle.tally_base.{specs.declared.settings.CorrelationSet.CorrelationSet, specs.Settings.{CorrelationView, correlation_view}, specs.Tally.History}
 use Rattle.lag_ring.{specs.Cells.Cells, specs.Ring.Ring, proofs.Sums.{sum_by-times, sum_by-same, sum_by-filter}}
-use Rattle.tau_cascade.{specs.declared.level.Level.Level, specs.Correlation.{Given, bin, in_first, in_second, is_pair, correlation, skipped_lags, lag_count, photons_of}, specs.StandsFor.StandsFor, specs.Levels.{RingIs, CellsAre, Chain, Complete}}
+use Rattle.tau_cascade.{specs.declared.level.Level.Level, specs.Correlation.{Given, bin, in_first, in_second, is_pair, correlation, skipped_lags, lag_count, photons_of}, specs.StandsFor.StandsFor, specs.Levels.{CellsAre, ClosedAre, Chain, Complete}}
 
 -- other events are in no pair
 pub correlation-photons : (set : CorrelationView) (level k : ℕ) (h : History) → correlation set level k (photons_of set h) ≡ correlation set level k h
@@ -19,26 +19,22 @@ correlation-photons set level k h =
     ∙ sum_by-same (λ x. cond (mine x) (pairs x) 0) pairs h outer
 
 -- what is read at a level, whether or not the correlation is closed
-pub record Reads (set : CorrelationView) (level : ℕ) (l : Level) (closed : History) : Type 0 where
-  pub ring : RingIs set level l.ring closed
-  pub cells : CellsAre set level l.cells closed
-
 open_level : (set : CorrelationView) (level : ℕ) (ls : List Level) (came : History) → Chain set level ls came
-    → (i : ℕ) (l : Level) → slice_get ls i ≡ Some l → (closed : History) × Reads set (level + i) l closed
+    → (i : ℕ) (l : Level) → slice_get ls i ≡ Some l → (closed : History) × ClosedAre set (level + i) l.ring l.cells l.paired closed
 open_level set level [] came is i l read = cc
-open_level set level (x ∷ ls) came is zero l read = let same : x ≡ l = cc in (is.0, rw (add-zero, ← same) (record { ring = is.3.ring; cells = is.3.cells }))
+open_level set level (x ∷ ls) came is zero l read = let same : x ≡ l = cc in (is.0, rw (add-zero, ← same) is.3.has)
 open_level set level (x ∷ ls) came is (suc i) l read =
     let next : suc level + i ≡ level + suc i = omega arith in
     let rest = open_level set (suc level) ls is.0 is.4 i l read in
     (rest.0, (rw next at rest.1))
 
 done_level : (set : CorrelationView) (level : ℕ) (ls : List Level) (came : History)
-    → Complete set level ls came → (i : ℕ) (l : Level) → slice_get ls i ≡ Some l → Reads set (level + i) l came
+    → Complete set level ls came → (i : ℕ) (l : Level) → slice_get ls i ≡ Some l → ClosedAre set (level + i) l.ring l.cells l.paired came
 done_level set level [] came is i l read = cc
-done_level set level (x ∷ ls) came is zero l read = let same : x ≡ l = cc in rw (add-zero, ← same) (record { ring = is.0.ring; cells = is.0.cells })
+done_level set level (x ∷ ls) came is zero l read = let same : x ≡ l = cc in rw (add-zero, ← same) is.0.has
 done_level set level (x ∷ ls) came is (suc i) l read = search (rules, arith, done_level set (suc level) ls came is.1 i l read)
 
-pub any_level : (closed : Bool) (set : CorrelationSet) (ls : List Level) (count time : ℕ) (h : History) → StandsFor closed set ls count time h → (i : ℕ) (l : Level) → slice_get ls i ≡ Some l → (came : History) × Reads (correlation_view set) i l came
+pub any_level : (closed : Bool) (set : CorrelationSet) (ls : List Level) (count time : ℕ) (h : History) → StandsFor closed set ls count time h → (i : ℕ) (l : Level) → slice_get ls i ≡ Some l → (came : History) × ClosedAre (correlation_view set) i l.ring l.cells l.paired came
 any_level true set ls count time h is i l read =
     (photons_of (correlation_view set) h, (rw zero-add at (done_level (correlation_view set) 0 ls (photons_of (correlation_view set) h) is.through i l read)))
 any_level false set ls count time h is i l read =
@@ -46,7 +42,7 @@ any_level false set ls count time h is i l read =
     (found.0, (rw zero-add at found.1))
 
 pub level_count : (closed : Bool) (set : CorrelationSet) (ls : List Level) (count time : ℕ) (h : History) → StandsFor closed set ls count time h → (i : ℕ) (l : Level) → slice_get ls i ≡ Some l → length l.cells.cells ≡ lag_count (correlation_view set) i
-level_count closed set ls count time h is i l read = (any_level closed set ls count time h is i l read).1.cells.count
+level_count closed set ls count time h is i l read = (any_level closed set ls count time h is i l read).1.cells.counts.count
 
 pub level_ring : (closed : Bool) (set : CorrelationSet) (ls : List Level) (count time : ℕ) (h : History)
     → StandsFor closed set ls count time h → (i : ℕ) (l : Level) → slice_get ls i ≡ Some l → length l.ring.entries ≤ set.lags

@@ -2,8 +2,8 @@
 use Rattle.std.{proofs.Common.{rules}, proofs.Common.{◌≡◌, ◌≢◌, ℕ, zero, suc, ◌+◌, ◌-◌, ◌*◌, ◌^◌, ◌<◌, ◌≤◌, Option, Some, List, [], ◌∷◌, ◌++◌, length, map, take, drop, set, get_or, refl, sym, ap, subst, ◌∙◌, append_assoc, append-nil, length-append, arith}, specs.List.{sum_by, AllByRecursion, AllByRecursion-prop}, specs.Bool.{⊤}, proofs.Math.Seq.{take-nil, take-append-add, take-append_seam, drop-append_seam}, proofs.Math.Nat.{div-mul-le_self, mul-le-mul_right}, proofs.Props.props, proofs.Math.Logic.{∥∥₁_elim}, proofs.lemmas.Nat.shl-shr, proofs.lemmas.List.{take_more, take_more_set, map_push, drop-set-add, drop-drop, length-drop, length-map, length-take-le, take-append-drop, map-append, drop-map, take-map, take-take, drop-take}, proofs.lemmas.List.Sums.{sum_by-cons, sum_by-take-drop, count_by-le-length}}
 use native.Mathlib.Numerals.{unary_clauses}
 use Rattle.tally_base.{specs.Settings.CorrelationView, specs.Tally.History, specs.Limits.record_limit}
-use Rattle.lag_ring.{specs.declared.ring.Entry.Entry, specs.Ring.{Ring, IsRising}, proofs.Lists.{all_back, all_join, of_some}, proofs.Rising.all_weaker}
-use Rattle.tau_cascade.{specs.declared.level.Level.Level, specs.Correlation.{bin, in_first, in_second}, specs.Work.occupied, specs.Levels.{IsBin, OpenIs, RingIs, CellsAre, paired_of, PairsMore}, specs.Bins.{raised, onto, merged_all, FitCounts, stretch, IsSpaced, Come, Follow, CanShutAll, CanTake, Took, ComeAlike, near}, proofs.Paired.occupied_all, proofs.Few.near_put, proofs.Follows.{rest_at, merged_follow, come_weigh, come_merged, stretch_more}, proofs.Passes.{spaced_upto, far_place, spaced-rising, spaced_behind, spaced_take, spaced_nearer}}
+use Rattle.lag_ring.{specs.declared.ring.Entry.Entry, specs.Pairings.{Paired, paired_by}, specs.Ring.{Ring, IsRising}, proofs.Lists.{all_back, all_join, of_some}, proofs.Rising.all_weaker}
+use Rattle.tau_cascade.{specs.declared.level.Level.Level, specs.Correlation.{bin, in_first, in_second}, specs.Work.occupied, specs.Levels.{IsBin, OpenIs, RingIs, ClosedAre, PairsMore}, specs.Bins.{raised, onto, merged_all, FitCounts, stretch, IsSpaced, Come, Follow, CanShutAll, CanTake, Took, ComeAlike, near}, proofs.Paired.occupied_all, proofs.Few.near_put, proofs.Follows.{rest_at, merged_follow, come_weigh, come_merged, stretch_more}, proofs.Passes.{spaced_upto, far_place, spaced-rising, spaced_behind, spaced_take, spaced_nearer}}
 
 -- The entries of a list before others, so many levels down.
 
@@ -241,7 +241,7 @@ module _ {set : CorrelationView} {level : ℕ} {l : Level} {es : List Entry} {cl
   behind = before_onto set level l.open es closed open' can.was.opened
 
   sorted : IsSpaced 0 (l.ring.entries ++ onto l.open es)
-  sorted = ring_sorted set level l.ring (onto l.open es) closed (open' ++ xs) can.was.ring behind all_come
+  sorted = ring_sorted set level l.ring (onto l.open es) closed (open' ++ xs) can.was.has.ring behind all_come
 
   pub here_sorted : IsSpaced 0 (onto l.open es)
   here_sorted = come_sorted set level (onto l.open es) closed (open' ++ xs) all_come
@@ -263,8 +263,8 @@ module _ {set : CorrelationView} {level : ℕ} {l : Level} {es : List Entry} {cl
     pub may_close : CanShutAll set level l.ring l.cells (merged_all front) closed parts.0
     may_close = record {
       few = omega (arith, can.few, ap length parts.2, length-append open' xs, length-append parts.0 parts.1);
-      ring = can.was.ring;
-      cells = can.was.cells;
+      ring = can.was.has.ring;
+      cells = can.was.has.cells;
       bins = merged_comes set level front closed parts.0 (search (rules, arith, behind)) parts.3;
     }
 
@@ -272,20 +272,20 @@ module _ {set : CorrelationView} {level : ℕ} {l : Level} {es : List Entry} {cl
     front_fit = come_fit set level (merged_all front) closed parts.0 (omega (arith, can.few, ap length parts.2, length-append open' xs, length-append parts.0 parts.1)) (come_merged set level front closed parts.0 parts.3)
 
     -- where there are none, all stays
-    pub none_closed : n ≤ 0 → RingIs set level l.ring (closed ++ parts.0) × CellsAre set level l.cells (closed ++ parts.0) × PairsMore 0 (paired_of l) (occupied level (closed ++ parts.0))
-    none_closed none = rw (come_none set level n (onto l.open es) closed parts.0 none parts.3, append-nil) (can.was.ring, can.was.cells, can.was.paired)
+    pub none_closed : n ≤ 0 → ClosedAre set level l.ring l.cells l.paired (closed ++ parts.0)
+    none_closed none = rw (come_none set level n (onto l.open es) closed parts.0 none parts.3, append-nil) can.was.has
 
     -- lists that were paired for all bins
-    pub paired_closed : (paired : ℕ) → PairsMore (paired_of l) paired (length (merged_all front)) → PairsMore 0 paired (occupied level (closed ++ parts.0))
-    paired_closed paired more = omega (arith, more, can.was.paired, occupied_all set level (merged_all front) closed parts.0 may_close.bins)
+    pub paired_closed : (paired : Paired) → PairsMore l.paired paired (length (merged_all front)) → PairsMore (paired_by 0 0) paired (occupied level (closed ++ parts.0))
+    paired_closed paired more = omega (arith, more, can.was.has.paired, occupied_all set level (merged_all front) closed parts.0 may_close.bins)
 
     -- and those after it are open then
-    pub take_took : (l' : Level) → l'.open ≡ Some last → RingIs set level l'.ring (closed ++ parts.0) × CellsAre set level l'.cells (closed ++ parts.0) × PairsMore 0 (paired_of l') (occupied level (closed ++ parts.0))
+    pub take_took : (l' : Level) → l'.open ≡ Some last → ClosedAre set level l'.ring l'.cells l'.paired (closed ++ parts.0)
         → (shut : List Entry) → ComeAlike front shut → Took set level l' shut closed open' xs parts.0 parts.1
-    take_took l' opened is' shut alike =
+    take_took l' opened has shut alike =
         let here : IsBin set level last parts.1 = one_bin set level (drop n (onto l.open es)) last (closed ++ parts.0) parts.1 (omega (arith, is.few, length-drop n (onto l.open es))) is.here is.a is.b parts.4 in
         let before : AllByRecursion (λ x. bin level x < last.index) (closed ++ parts.0) = all_join (λ x. bin level x < last.index) closed parts.0 (before_last set level (onto l.open es) n last closed is behind) (come_all set level (λ m. m < last.index) front closed parts.0 is.before parts.3) in
-        record { all = parts.2; is = record { opened = rw opened (here, before); ring = is'.0; cells = is'.1; paired = is'.2 }; bins = alike set level closed parts.0 parts.3 }
+        record { all = parts.2; is = record { opened = rw opened (here, before); has = has }; bins = alike set level closed parts.0 parts.3 }
 
 -- What is put down before those that came fits, since it is not above the first of these.
 pub stretch_fit : (set : CorrelationView) (level : ℕ) (l : Level) (from count levels : ℕ) (list : List Entry) (none : Entry) → 0 < count → from + count ≤ length list → (get_or list from none).index < 2 ^ 64

@@ -1,8 +1,8 @@
 -- A level's additions are at most its lags times its occupied bins, and those at a lag at most its occupied bins.
 use Rattle.tally_base.{specs.declared.settings.CorrelationSet.CorrelationSet, specs.Settings.{CorrelationView, correlation_view}, specs.Tally.History}
-use Rattle.tau_cascade.{specs.declared.level.Level.Level, specs.declared.cascade.Cascade.Cascade, specs.Cascade.{Holds, set_of, spent_by, added_below}, specs.StandsFor.{StandsFor, WentThrough}, specs.Correlation.{bin, lag_count, correlation}, specs.Work.{occupied, IsWithinLevelWork, IsPaired, lags_at, work_from, work, appears, distinct}, specs.Levels.{Chain, Complete, CellsAre, paired_of, PairsMore, spent}}
+use Rattle.tau_cascade.{specs.declared.level.Level.Level, specs.declared.cascade.Cascade.Cascade, specs.Cascade.{Holds, set_of, spent_by, added_below}, specs.StandsFor.{StandsFor, WentThrough}, specs.Correlation.{bin, lag_count, correlation}, specs.Work.{occupied, IsWithinLevelWork, IsPaired, lags_at, work_from, work, appears, distinct}, specs.Levels.{Chain, Complete, CellsAre, PairsMore, spent}}
 use Rattle.std.{proofs.Common.{rules, ◌≡◌, ℕ, zero, suc, ◌+◌, ◌*◌, ◌%◌, ◌<◌, ◌≤◌, take, slice_get, Bool, true, false, List, [], ◌∷◌, ◌++◌, length, map, sym, ap, ◌∙◌, refl, append_assoc, append-nil, zero-add, add-zero, Some, arith, cond, ◌||◌, eqb}, proofs.Math.Nat.mul-le-mul_left, specs.Option.{option_map, option_map_or}, proofs.lemmas.Grind.common_steps, proofs.lemmas.List.{map-append, take_all, length-map}, proofs.lemmas.List.Sums.{sum_by-cons, sum_by-le, count_by-le-length}, specs.List.{AllByRecursion}, specs.Bool.{⊤}}
-use Rattle.lag_ring.proofs.Lists.{all_map}
+use Rattle.lag_ring.{specs.Pairings.{Paired, paired_by}, proofs.Lists.{all_map}}
 
 -- How many different numbers a list has.
 
@@ -50,21 +50,21 @@ one_level : (set : CorrelationView) (level : ℕ) (l : Level) (all front back : 
     → all ≡ front ++ back → CellsAre set level l.cells front → IsWithinLevelWork set level l.cells all
 one_level set level l all front back same cells =
     let fewer = occupied-le level all front back same in
-    record { all = omega (arith, cells.work, mul-le-mul_left (lag_count set level) fewer); each = λ p. omega (arith, cells.each p, fewer) }
+    record { all = omega (arith, cells.counts.work, mul-le-mul_left (lag_count set level) fewer); each = λ p. omega (arith, cells.each p, fewer) }
 
-open_level : (level n : ℕ) (all front back : History) → all ≡ front ++ back → PairsMore 0 n (occupied level front) → IsPaired false n (occupied level all)
-open_level level n all front back same are = record { few = omega (arith, are, occupied-le level all front back same); all = λ closed. cc }
+open_level : (level : ℕ) (paired : Paired) (all front back : History) → all ≡ front ++ back → PairsMore (paired_by 0 0) paired (occupied level front) → IsPaired false paired (occupied level all)
+open_level level paired all front back same are = (let more = occupied-le level all front back same in record { few = omega (arith, are, more); windows = omega (arith, are, more); all = λ closed. cc })
 
 -- each level's additions are within its own work, and the bins that it paired
 abbrev AreWithin : Bool → CorrelationView → ℕ → List Level → History → Type 0
 AreWithin closed set level [] all = ⊤
-AreWithin closed set level (l ∷ ls) all = IsWithinLevelWork set level l.cells all × IsPaired closed (paired_of l) (occupied level all) × AreWithin closed set (suc level) ls all
+AreWithin closed set level (l ∷ ls) all = IsWithinLevelWork set level l.cells all × IsPaired closed l.paired (occupied level all) × AreWithin closed set (suc level) ls all
 
 open_within : (set : CorrelationView) (level : ℕ) (ls : List Level) (all came later : History) → all ≡ came ++ later → Chain set level ls came → AreWithin false set level ls all
 open_within set level [] all came later same chain = tt
 open_within set level (l ∷ ls) all came later same chain =
     let split : all ≡ chain.0 ++ (chain.1 ++ later) = same ∙ ap (λ xs. xs ++ later) chain.2 ∙ append_assoc chain.0 chain.1 later in
-    (one_level set level l all chain.0 (chain.1 ++ later) split chain.3.cells, open_level level (paired_of l) all chain.0 (chain.1 ++ later) split chain.3.paired, open_within set (suc level) ls all chain.0 (chain.1 ++ later) split chain.4)
+    (one_level set level l all chain.0 (chain.1 ++ later) split chain.3.has.cells, open_level level l.paired all chain.0 (chain.1 ++ later) split chain.3.has.paired, open_within set (suc level) ls all chain.0 (chain.1 ++ later) split chain.4)
 
 shut_within : (set : CorrelationView) (level : ℕ) (ls : List Level) (all : History) → Complete set level ls all → AreWithin true set level ls all
 shut_within set level [] all is = tt
@@ -74,13 +74,13 @@ all_within : (closed : Bool) (set : CorrelationView) (ls : List Level) (xs : His
 all_within false set ls xs is = open_within set 0 ls xs xs [] (sym (append-nil xs)) is
 all_within true set ls xs is = shut_within set 0 ls xs is
 
-within_at : (closed : Bool) (set : CorrelationView) (level : ℕ) (ls : List Level) (all : History) → AreWithin closed set level ls all → (i : ℕ) (l : Level) → slice_get ls i ≡ Some l → IsWithinLevelWork set (level + i) l.cells all × IsPaired closed (paired_of l) (occupied (level + i) all)
+within_at : (closed : Bool) (set : CorrelationView) (level : ℕ) (ls : List Level) (all : History) → AreWithin closed set level ls all → (i : ℕ) (l : Level) → slice_get ls i ≡ Some l → IsWithinLevelWork set (level + i) l.cells all × IsPaired closed l.paired (occupied (level + i) all)
 within_at closed set level [] all are i l read = cc
 within_at closed set level (x ∷ ls) all are zero l read = let same : x ≡ l = cc in rw (add-zero, ← same) (are.0, are.1)
 within_at closed set level (x ∷ ls) all are (suc i) l read = (let one : level + suc i ≡ suc level + i = omega arith in rw one (within_at closed set (suc level) ls all are.2 i l read))
 
 pub level_within : (closed : Bool) (set : CorrelationView) (ls : List Level) (xs : History)
-    → WentThrough closed set ls xs → (i : ℕ) (l : Level) → slice_get ls i ≡ Some l → IsWithinLevelWork set i l.cells xs × IsPaired closed (paired_of l) (occupied i xs)
+    → WentThrough closed set ls xs → (i : ℕ) (l : Level) → slice_get ls i ≡ Some l → IsWithinLevelWork set i l.cells xs × IsPaired closed l.paired (occupied i xs)
 level_within closed set ls xs is i l read = (rw zero-add at (within_at closed set 0 ls xs (all_within closed set ls xs is) i l read))
 
 spent_all : (closed : Bool) (set : CorrelationView) → set.lags % 2 ≡ 0 → (level : ℕ) (ls : List Level) (all : History) → AreWithin closed set level ls all → spent ls ≤ work_from set level (length ls) all

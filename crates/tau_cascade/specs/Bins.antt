@@ -2,7 +2,7 @@
 use Rattle.std.{specs.Prelude.{◌≡◌, ℕ, ◌+◌, ◌-◌, ◌/◌, ◌^◌, ◌<◌, ◌≤◌, ◌==◌, ⊤, false, Option, None, Some, List, [], ◌∷◌, ◌++◌, map, take, drop, length, filter, nat_le, nat_lt, sum_by, if◌then◌else◌}, specs.List.{AllByRecursion}}
 use Rattle.tally_base.{specs.Settings.CorrelationView, specs.Tally.{History, greatest_time, InOrder}, specs.Limits.record_limit, specs.declared.block.Block.Block, specs.Columns.{gathered, events_in}}
 use Rattle.lag_ring.{specs.declared.ring.Entry.Entry, specs.Ring.{Ring, IsRising}, specs.Cells.Cells}
-use Rattle.tau_cascade.{specs.declared.level.Level.Level, specs.Correlation.{Given, bin, in_first, in_second, photons_of}, specs.Levels.{IsBin, LevelIs, RingIs, CellsAre, Chain, paired_of, PairsMore}}
+use Rattle.tau_cascade.{specs.declared.level.Level.Level, specs.Correlation.{Given, bin, in_first, in_second, photons_of}, specs.Levels.{IsBin, LevelIs, RingIs, CellsAre, Chain, PairsMore}}
 
 -- the bin so many levels up in which a bin lies
 abbrev pub raised : ℕ → Entry → Entry
@@ -103,7 +103,7 @@ module _ (set : CorrelationView) (level : ℕ) where
 
 -- these bins were closed on a level
 pub record Shuts (set : CorrelationView) (level : ℕ) (old new : Level) (es : List Entry) : Type 0 where
-  pub paired : PairsMore (paired_of old) (paired_of new) (length es)
+  pub paired : PairsMore old.paired new.paired (length es)
   pub ring : HoldsOfAll set level old.ring old.cells es (RingIs set level new.ring)
   pub cells : HoldsOfAll set level old.ring old.cells es (CellsAre set level new.cells)
   pub opened : new.open ≡ old.open

@@ -1,8 +1,8 @@
 -- What a correlation shows.
 use Rattle.std.{specs.Prelude.{ℕ, ◌+◌, zero, suc, Option, slice_get}, specs.Option.{option_map, option_map_or}}
 use Rattle.tally_base.{specs.declared.settings.CorrelationSet.CorrelationSet, specs.Settings.{PartSettings, correlation_view}, specs.Settings.PartSettings.CorrelationSettings, specs.Tally.History}
-use Rattle.lag_ring.{specs.declared.ring.Entry.Entry, specs.Cells.Cells, specs.Ring.Ring}
-use Rattle.tau_cascade.{specs.declared.cascade.Cascade.Cascade, specs.StandsFor.StandsFor, specs.Levels.{spent, paired_of}}
+use Rattle.lag_ring.{specs.declared.ring.Entry.Entry, specs.Cells.Cells, specs.Pairings.{Paired, paired_by}, specs.Ring.Ring}
+use Rattle.tau_cascade.{specs.declared.cascade.Cascade.Cascade, specs.StandsFor.StandsFor, specs.Levels.spent}
 
 -- what it was opened with
 abbrev pub set_of : Cascade → CorrelationSet
@@ -23,9 +23,9 @@ cells_at t level = option_map (λ l. l.cells) (slice_get t.levels.items level)
 abbrev pub ring_at : Cascade → ℕ → Option Ring
 ring_at t level = option_map (λ l. l.ring) (slice_get t.levels.items level)
 
--- how many bins the lists had together that a level paired
-abbrev pub paired_at : Cascade → ℕ → ℕ
-paired_at t level = option_map_or paired_of (slice_get t.levels.items level) 0
+-- how many bins the lists had together that a level paired, and those of which it began a window
+abbrev pub paired_at : Cascade → ℕ → Paired
+paired_at t level = option_map_or (λ l. l.paired) (slice_get t.levels.items level) (paired_by 0 0)
 
 -- the open bin of a level, where there is such a level
 abbrev pub open_at : Cascade → ℕ → Option (Option Entry)

@@ -1,6 +1,6 @@
 -- Pairs of bins with what stands in a window.
-use Rattle.std.{specs.Prelude.{ℕ, ◌≡◌, ◌+◌, ◌-◌, ◌*◌, ◌^◌, ◌<◌, ◌≤◌, min, List, [], ◌∷◌, slice_index, sum_by, ◌++◌, length, map, take, drop}, specs.List.{AllByRecursion}}
-use Rattle.lag_ring.{specs.declared.ring.Entry.Entry, specs.declared.window.Side.TheVariants.First, specs.Cells.{Cells, added_at}, specs.Bytes.{weight_at, IsLight}}
+use Rattle.std.{specs.Prelude.{ℕ, ◌≡◌, ◌+◌, ◌-◌, ◌*◌, ◌^◌, ◌<◌, ◌≤◌, min, List, [], ◌∷◌, slice_index, ◌++◌, length, map, take, drop}, specs.List.{AllByRecursion}}
+use Rattle.lag_ring.{specs.declared.ring.Entry.Entry, specs.declared.window.Side.TheVariants.First, specs.Cells.{Cells, added_at}, specs.Pairings.Paired, specs.Bytes.{weight_at, IsLight}}
 use Rattle.tau_cascade.{specs.Levels.weight_before, specs.declared.laid.Laying.Laying, specs.declared.bins.{Bins.Bins, LagRange.LagRange}, specs.Bins.{raised, IsSpaced}}
 
 -- the bins of a list as they are meant
@@ -12,6 +12,10 @@ pub record AreBins (b : Bins) : Type 0 where
   pub within : b.start ≤ length b.list.now
   pub levels : b.levels < 64
   pub sorted : IsSpaced 0 (bins_of b)
+
+-- how many of them are paired
+abbrev pub bins_paired : Bins → ℕ
+bins_paired b = length b.list.now - b.start
 
 -- What bins add to the cell of a lag.
 
@@ -36,9 +40,13 @@ FitPairs range b old = (p : ℕ) → p < range.last - range.skipped → slice_in
 abbrev pub AddsAtMost : ℕ → Cells → Cells → Type 0
 AddsAtMost most old new = (p : ℕ) → added_at new p ≤ added_at old p + most
 
--- so much is noted more
-abbrev pub Notes : List ℕ → List ℕ → ℕ → Type 0
-Notes old new n = sum_by (λ n. n) new ≡ sum_by (λ n. n) old + n
+-- lists with so many bins more are noted, and windows for so many
+abbrev pub Notes : Paired → Paired → ℕ → ℕ → Type 0
+Notes old new lists windows = (new.lists ≡ old.lists + lists) × (new.windows ≡ old.windows + windows)
+
+-- lists with so many bins more are noted, and windows for no more than those
+abbrev pub NotesOnce : Paired → Paired → ℕ → Type 0
+NotesOnce old new bins = (new.lists ≡ old.lists + bins) × (new.windows ≤ old.windows + bins)
 
 -- Bins that are laid close together.
 

@@ -1,20 +1,16 @@
 -- What levels stand for: photons that came to them, in order, and how far they are paired.
-use Rattle.std.{specs.Prelude.{◌≡◌, ℕ, ◌+◌, ◌*◌, ◌<◌, ◌≤◌, suc, ⊤, ◌==◌, sum_by, Option, None, Some, List, [], ◌∷◌, ◌++◌, length, slice_index}, specs.List.{AllByRecursion}}
+use Rattle.std.{specs.Prelude.{◌≡◌, ℕ, ◌+◌, ◌*◌, ◌≤◌, suc, ⊤, ◌==◌, sum_by, Option, None, List, [], ◌∷◌, ◌++◌, length}}
 use Rattle.tally_base.{specs.Settings.CorrelationView, specs.Tally.History, specs.Limits.record_limit}
-use Rattle.lag_ring.{specs.declared.ring.Entry.Entry, specs.Ring.{Ring, IsRising, weight_where, Weighs, Keeps}, specs.Cells.{Cells, added_at}}
+use Rattle.lag_ring.{specs.declared.ring.Entry.Entry, specs.Ring.{Ring, weight_where, Weighs}, specs.Cells.{Cells, added_at}, specs.Pairings.{Paired, paired_by}, specs.Binned.{IsOpen, KeepsReach, CellsCount}}
 use Rattle.tau_cascade.{specs.declared.level.Level.Level, specs.Correlation.{bin, in_first, in_second, correlation, skipped_lags, lag_count}, specs.Work.occupied}
 
 -- the first weight of the entry that stands k before the index, or 0
 abbrev pub weight_before : ℕ → ℕ → List Entry → ℕ
 weight_before k index es = weight_where (λ e. e.a) (λ i. i + k == index) es
 
--- how many bins the lists had together that a level paired
-abbrev pub paired_of : Level → ℕ
-paired_of l = sum_by (λ n. n) l.paired.items
-
--- lists that were paired more have at least a quarter as many bins together as these, and at most twice as many
-abbrev pub PairsMore : ℕ → ℕ → ℕ → Type 0
-PairsMore old new bins = (4 * old + bins ≤ 4 * new) × (new ≤ old + 2 * bins)
+-- lists that were paired more have at least a quarter as many bins together as these and at most twice as many, and those of which a window was begun more at most twice as many
+abbrev pub PairsMore : Paired → Paired → ℕ → Type 0
+PairsMore old new bins = (4 * old.lists + bins ≤ 4 * new.lists) × (new.lists ≤ old.lists + 2 * bins) × (new.windows ≤ old.windows + 2 * bins)
 
 module _ (set : CorrelationView) (level : ℕ) where
   -- the entry is the bin of these photons, of which there is one at least
@@ -23,28 +19,27 @@ module _ (set : CorrelationView) (level : ℕ) where
 
   -- the open bin has the photons that are not in closed ones, and is after those
   abbrev pub OpenIs : Option Entry → History → History → Type 0
-  OpenIs None closed open' = (closed ≡ []) × (open' ≡ [])
-  OpenIs (Some e) closed open' = IsBin e open' × AllByRecursion (λ x. bin level x < e.index) closed
+  OpenIs last closed open' = IsOpen IsBin (λ e. e.index) (bin level) last closed open'
 
   -- the ring has the closed bins of the last lags
-  pub record RingIs (ring : Ring) (closed : History) : Type 0 where
-    pub reach : ring.reach ≡ set.lags
-    pub rising : IsRising ring.entries
-    pub keeps : Keeps (in_first set) (in_second set) (bin level) ring closed
+  abbrev pub RingIs : Ring → History → Type 0
+  RingIs ring closed = KeepsReach (in_first set) (in_second set) (bin level) set.lags ring closed
 
   -- the cells count the pairs of photons in closed bins, each bin paired once with each lag at most
   pub record CellsAre (cells : Cells) (closed : History) : Type 0 where
-    pub count : length cells.cells ≡ lag_count set level
-    pub pairs : (p : ℕ) → p < lag_count set level → slice_index cells.cells p ≡ correlation set level (p + skipped_lags set level + 1) closed
-    pub work : cells.added ≤ lag_count set level * occupied level closed
+    pub counts : CellsCount (lag_count set level) (λ p. correlation set level (p + skipped_lags set level + 1) closed) (lag_count set level * occupied level closed) cells
     pub each : (p : ℕ) → added_at cells p ≤ occupied level closed
 
-  -- a level to which the photons of closed bins, and after them those of the open one, came
+  -- what a level has of the photons of closed bins
+  pub record ClosedAre (r : Ring) (cs : Cells) (p : Paired) (closed : History) : Type 0 where
+    pub ring : RingIs r closed
+    pub cells : CellsAre cs closed
+    pub paired : PairsMore (paired_by 0 0) p (occupied level closed)
+
+  -- a level to which those came, and after them the photons of the open one
   pub record LevelIs (l : Level) (closed open' : History) : Type 0 where
     pub opened : OpenIs l.open closed open'
-    pub ring : RingIs l.ring closed
-    pub cells : CellsAre l.cells closed
-    pub paired : PairsMore 0 (paired_of l) (occupied level closed)
+    pub has : ClosedAre l.ring l.cells l.paired closed
 
   -- its open bin may be closed
   pub record CanFinish (l : Level) (closed open' : History) : Type 0 where
@@ -54,13 +49,10 @@ module _ (set : CorrelationView) (level : ℕ) where
   -- no bin is open, and all that came is in closed ones
   pub record LevelDone (l : Level) (came : History) : Type 0 where
     pub none : l.open ≡ None
-    pub ring : RingIs l.ring came
-    pub cells : CellsAre l.cells came
-    pub paired : PairsMore 0 (paired_of l) (occupied level came)
+    pub has : ClosedAre l.ring l.cells l.paired came
 
   abbrev pub Finished : Level → Option Entry → History → History → Type 0
-  Finished l None closed open' = LevelDone l (closed ++ open') × (closed ≡ []) × (open' ≡ [])
-  Finished l (Some e) closed open' = LevelDone l (closed ++ open') × IsBin e open' × AllByRecursion (λ x. bin level x < e.index) closed
+  Finished l last closed open' = LevelDone l (closed ++ open') × OpenIs last closed open'
 
 -- from a level upwards: what came to one, and is in its closed bins, came to the next
 abbrev pub Chain : CorrelationView → ℕ → List Level → History → Type 0

@@ -1,7 +1,7 @@
 -- How many additions a correlation of these events may make.
 use Rattle.std.specs.Prelude.{◌≡◌, true, ℕ, ◌+◌, ◌*◌, ◌/◌, ◌≤◌, zero, suc, Bool, false, ◌||◌, ◌==◌, List, [], ◌∷◌, map, if◌then◌else◌}
 use Rattle.tally_base.{specs.Settings.CorrelationView, specs.Tally.History}
-use Rattle.lag_ring.specs.Cells.{Cells, added_at}
+use Rattle.lag_ring.specs.{Cells.{Cells, added_at}, Pairings.Paired}
 use Rattle.tau_cascade.specs.Correlation.{bin, lag_count, photons_of}
 
 -- whether a number is in a list
@@ -23,10 +23,11 @@ pub record IsWithinLevelWork (set : CorrelationView) (level : ℕ) (cells : Cell
   pub all : cells.added ≤ lag_count set level * occupied level h
   pub each : (p : ℕ) → added_at cells p ≤ occupied level h
 
--- The lists that a level paired have together at most twice as many bins as are occupied, and once it is closed at least a quarter as many.
-pub record IsPaired (closed : Bool) (paired bins : ℕ) : Type 0 where
-  pub few : paired ≤ 2 * bins
-  pub all : closed ≡ true → bins ≤ 4 * paired
+-- The lists that a level paired have together at most twice as many bins as are occupied, and once it is closed at least a quarter as many. Those of which it began a window have at most twice as many.
+pub record IsPaired (closed : Bool) (paired : Paired) (bins : ℕ) : Type 0 where
+  pub few : paired.lists ≤ 2 * bins
+  pub windows : paired.windows ≤ 2 * bins
+  pub all : closed ≡ true → bins ≤ 4 * paired.lists
 
 -- how many lags a level has, by an even number of lags
 abbrev pub lags_at : CorrelationView → ℕ → ℕ

@@ -62,6 +62,7 @@ fn end_first<L: Ledger>(
             levels: 1,
             apart: 0,
             gaps: Gaps::unknown(),
+            most: last.a | last.b,
         };
         carry_all(rest, set, &mut list, one, &mut scratch, steps);
     }

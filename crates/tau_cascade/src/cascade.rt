@@ -74,9 +74,10 @@ impl Cascade {
     }
 
     /// The cells of a level, one for each of its lags from the least on. Beside them a level keeps its open bin and at
-    /// most `lags` closed ones. The lists that it paired had together at most twice as many bins as have photons, and once
-    /// it is closed at least a quarter as many, where four places of a grid count as a bin: what multiplies notes them,
-    /// but for windows that it gives up.
+    /// most `lags` closed ones. By its notes the lists that it paired had together at most twice as many bins as have
+    /// photons, and once it is closed at least a quarter as many, where four places of a grid count as a bin. Those of
+    /// which it began a window had at most twice as many; if a bin is too heavy for the window, the list is paired bin by
+    /// bin.
     pub fn level(&self, level: u32) -> &PairCells
         requires { level < (set_of self.now).levels }
         ensures cells { cells_at self.now level ≡ Some result.now }
@@ -152,6 +153,7 @@ fn give_block<L: Ledger>(
         levels: 0,
         apart: spacing(&list[FIRST_PLACE..FIRST_PLACE + count]),
         gaps: Gaps::unknown(),
+        most: block.len() as u64,
     };
     carry_all(levels, set, &mut list, all, &mut scratch, steps);
 }

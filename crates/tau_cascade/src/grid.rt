@@ -2,12 +2,11 @@
 // level.
 ghost use Rattle.std.{specs.Prelude.{◌≡◌, ℕ, ◌+◌, ◌-◌, ◌*◌, ◌/◌, ◌%◌, ◌^◌, ◌<◌, ◌≤◌, ◌==◌, true, false, List, [], ◌++◌, length, map, take, drop, nat_le, slice_index, sum_by, if◌then◌else◌}, specs.List.{AllByRecursion, range_with_len}, specs.Option.ForSome};
 ghost use Rattle.lag_ring.{specs.declared.window.Side.TheVariants.{First, Second}, specs.Bytes.weight_at};
-ghost use Rattle.tau_cascade.{specs.Bins.{raised, onto, IsSpaced, merged_all}, specs.Dense.{bins_of, AreBins, Notes, ArePaired, IsZero}, specs.Grid.{HaveWeights, Stands, IsEmpty, photons, IsGrid, halved, product, dots, bins_from, filled, FewFirsts, counted}};
+ghost use Rattle.tau_cascade.{specs.Bins.{raised, onto, IsSpaced, merged_all}, specs.Dense.{bins_of, bins_paired, AreBins, Notes, ArePaired, IsZero}, specs.Grid.{HaveWeights, Stands, IsEmpty, photons, IsGrid, halved, product, dots, bins_from, filled, FewFirsts, counted}};
 
 use crate::bins::{Bins, LIST, LagRange, Last, MOST_LAGS};
 use crate::laid::{PLACES, TOP, clear_window};
-use lag_ring::Entry;
-use noted::Noted;
+use lag_ring::{Entry, Pairings};
 use std::simd::Simd;
 
 /// How many places a grid has.
@@ -416,18 +415,22 @@ impl Grid {
     }
 
     /// Puts into the sum of each lag of a range the products of the weights in the second group with those so far before
-    /// them in a window.
+    /// them in a window, and notes a quarter as many bins as there are places.
     fn put_dots(
         &self,
         sums: &mut [u128; MOST_LAGS],
+        paired: &mut Pairings,
         window: &[u16; PLACES],
         range: LagRange,
-        rows: usize,
     )
-        requires rows { LANES * rows ≤ SPAN }
+        requires { self.now.len ≤ SPAN }
         ensures sums { (p : ℕ) → p < range.last - range.skipped → slice_index sums.new p
-            ≡ dots window.now (TOP - (p + range.skipped + 1)) self.now.seconds (LANES * rows) }
+            ≡ dots window.now (TOP - (p + range.skipped + 1)) self.now.seconds (LANES * ((self.now.len + LANES - 1) / LANES)) }
+        ensures noted { Notes paired.old paired.new ((self.now.len + 3) / 4) 0 }
     {
+        paired.note(self.len.div_ceil(4));
+        // After the last place there are zeros.
+        let rows = (self.len + LANES - 1) / LANES;
         let len = LANES * rows;
         let behind = &self.seconds[..len];
         let near = &window[TOP - range.last as usize..TOP + len];
@@ -449,7 +452,7 @@ impl Grid {
     pub(crate) fn sum(
         &self,
         sums: &mut [u128; MOST_LAGS],
-        paired: &mut Noted<usize>,
+        paired: &mut Pairings,
         window: &mut [u16; PLACES],
         range: LagRange,
         bins: Bins,
@@ -458,11 +461,9 @@ impl Grid {
             × (0 < self.now.len) × FewFirsts (take bins.start (bins_of bins)) }
         requires zeros { IsZero window.old × ((p : ℕ) → slice_index sums.old p ≡ 0) }
         ensures sums { ArePaired range bins.entry.start sums.old sums.new (bins_of bins.entry) }
-        ensures noted { Notes paired.old.items paired.new.items
-            (counted self.now (length bins.entry.list.now - bins.entry.start)) }
+        ensures noted { Notes paired.old paired.new (counted self.now (bins_paired bins.entry)) 0 }
         ensures zeros { IsZero window.new }
     {
-        paired.note(&[self.counted(bins.list.len() - bins.start)]);
         window[TOP..TOP + self.len].copy_from_slice(&self.firsts[..self.len]);
         put_firsts(
             &mut window[..TOP + self.len],
@@ -470,9 +471,7 @@ impl Grid {
             &bins.list[..bins.start],
             bins.levels,
         );
-        // After the last place there are zeros.
-        let rows = (self.len + LANES - 1) / LANES;
-        self.put_dots(sums, window, range, rows);
+        self.put_dots(sums, paired, window, range);
         clear_window(window, self.len as u64 - 1);
     }
 

@@ -18,7 +18,7 @@ pub(crate) const TOP: usize = 192;
 pub(crate) const PLACES: usize = 8640;
 
 /// How many photons of one group are too many for a bin that is laid.
-const TOO_HEAVY: u64 = 2048;
+pub(crate) const TOO_HEAVY: u64 = 2048;
 
 /// How many photons of one group are too many where products are summed in 16 bits.
 const NOT_LIGHT: u64 = 32;

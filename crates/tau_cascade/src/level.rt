@@ -9,10 +9,10 @@ use crate::bins::{
     known_gaps, lay_out, lower_open, lower_ring, merge,
 };
 use crate::grid::{Grid, SPAN, TOO_MANY};
+use crate::laid::TOO_HEAVY;
 use crate::pairing::pair_all;
 use crate::scratch::Scratch;
-use lag_ring::{Entry, LagRing, PairCells, Side, total_weight};
-use noted::Noted;
+use lag_ring::{Entry, LagRing, PairCells, Pairings, Side, total_weight};
 use std::alloc::{AllocError, Global};
 use std::sync::ledger::Ledger;
 use tally_base::{CorrelationSet, Steps};
@@ -26,8 +26,8 @@ pub struct Level {
     pub(crate) ring: LagRing,
     /// The pairs of each lag.
     pub(crate) cells: PairCells,
-    /// How many bins each list had that was paired, or a quarter as many as the grid had places.
-    pub(crate) paired: Noted<usize>,
+    /// How many bins the lists had that were paired, where four places of a grid are a bin.
+    pub(crate) paired: Pairings,
     /// No bin of the ring has more photons of either group. Nothing that is counted depends on it.
     heaviest: u64,
 }
@@ -47,11 +47,9 @@ pub(crate) struct Coming {
     pub(crate) apart: u64,
     /// How near they are to one another, as they stand in the list.
     pub(crate) gaps: Gaps,
+    /// Neither group has more photons in all of them. Nothing that is counted depends on it.
+    pub(crate) most: u64,
 }
-
-/// A list may stay unmerged where each bin that waits has fewer photons of a group than this. A window nearly always takes
-/// it then; where one place has too many, bins are summed one by one.
-const LIGHT: u64 = 1024;
 
 /// From this level on a grid is begun only where bins were in one: more would cost more seconds than it spares.
 const DENSE_LEVELS: u32 = 4;
@@ -109,7 +107,7 @@ fn keep_dense(
 
 /// Merges neighbours of one index among the bins that a level closes, in their list, and answers where they are then. They
 /// stay as they are if they are in a grid, if they are too far apart to share an index, or if at most half of them do and
-/// they are light, as far as the first of them and those of the ring, by `heaviest`, tell.
+/// a window takes them: neither all of them nor a bin of the ring, by `heaviest`, have too many photons for one place.
 fn merge_many(list: &mut [Entry], closing: Coming, grid: &Grid, heaviest: u64) -> Coming
     requires comes { IsClosing closing list.old }
     requires bins { CanClose grid.now (coming_bins closing list.old) }
@@ -132,7 +130,7 @@ fn merge_many(list: &mut [Entry], closing: Coming, grid: &Grid, heaviest: u64) -
         closing.gaps,
         levels == closing.level,
     );
-    let light = (heaviest | list[from].a | list[from].b) < LIGHT;
+    let light = (heaviest | closing.most) < TOO_HEAVY;
     if light && gaps.usual >> levels > 0 && gaps.nearer <= count / 2 {
         return Coming { gaps, ..closing };
     }
@@ -144,6 +142,7 @@ fn merge_many(list: &mut [Entry], closing: Coming, grid: &Grid, heaviest: u64) -
         levels: 0,
         apart: 0,
         gaps: Gaps::unknown(),
+        most: closing.most,
     }
 }
 
@@ -159,7 +158,7 @@ impl Level {
             open: None,
             ring: LagRing::open(alloc, set.lags)?,
             cells: PairCells::open(alloc, set.lags - skipped_lags(set, level))?,
-            paired: Noted::new(),
+            paired: Pairings::open(alloc),
             heaviest: 0,
         })
     }
@@ -271,6 +270,7 @@ impl Level {
             from,
             count,
             apart,
+            most: came.most.saturating_add(heaviest_of(&list[from..first])),
             ..came
         };
         closing.gaps.nearer = came.gaps.nearer.saturating_add(1);

@@ -1,13 +1,12 @@
 // Pairs of bins with those before them.
-ghost use Rattle.std.{specs.Prelude.{◌≡◌, true, false, ℕ, ◌+◌, ◌-◌, ◌*◌, ◌^◌, ◌<◌, ◌≤◌, length, map, take, drop, slice_index, if◌then◌else◌}, specs.List.{AllByRecursion}};
+ghost use Rattle.std.{specs.Prelude.{◌≡◌, true, false, ℕ, ◌+◌, ◌-◌, ◌*◌, ◌^◌, ◌<◌, ◌≤◌, length, nat_le, map, take, drop, slice_index, if◌then◌else◌}, specs.List.{AllByRecursion}};
 ghost use Rattle.lag_ring.specs.Cells.{Spends};
-ghost use Rattle.tau_cascade.{specs.Levels.weight_before, specs.Dense.{bins_of, AreBins, FitPairs, Notes, ArePaired, AddsAtMost, IsZero, HavePaired, AreWithin, HaveRoom}, specs.Bins.{IsSpaced, raised}, specs.Grid.{IsGrid, FewFirsts, counted}};
+ghost use Rattle.tau_cascade.{specs.Levels.weight_before, specs.Dense.{bins_of, bins_paired, AreBins, FitPairs, Notes, NotesOnce, ArePaired, AddsAtMost, IsZero, HavePaired, AreWithin, HaveRoom}, specs.Bins.{IsSpaced, raised}, specs.Grid.{IsGrid, FewFirsts, counted}};
 
 use crate::bins::{Bins, LagRange, MOST_LAGS, first_kept};
 use crate::laid::{CLOSE_PART, PLACES, sum_part};
 use crate::scratch::Scratch;
-use lag_ring::{Entry, PairCells};
-use noted::Noted;
+use lag_ring::{Entry, PairCells, Pairings};
 use std::sync::ledger::Ledger;
 use tally_base::Steps;
 
@@ -74,10 +73,11 @@ fn turn(sums: &mut [u128; MOST_LAGS], at: u32, count: u32, close: &[u32])
 
 /// Puts the pairs of bins with those before them into sums, over a window in which they are laid close together, notes how
 /// many they are, and answers true. Where there are too many bins, or they are too heavy for it, the sums stay as they are,
-/// and the answer is false. The lags are summed `N` at once, in two parts where there are more.
+/// and the answer is false; that a window was begun is noted too. The lags are summed `N` at once, in two parts where there
+/// are more.
 fn sum_close<const N: usize>(
     sums: &mut [u128; MOST_LAGS],
-    paired: &mut Noted<usize>,
+    paired: &mut Pairings,
     window: &mut [u16; PLACES],
     range: LagRange,
     bins: Bins,
@@ -86,13 +86,15 @@ fn sum_close<const N: usize>(
     requires bins { AreBins bins × IsZero window.old × ((p : ℕ) → slice_index sums.old p ≡ 0) }
     ensures sums { result ≡ true → ArePaired range bins.entry.start sums.old sums.new (bins_of bins.entry) }
     ensures none { result ≡ false → sums.new ≡ sums.old }
-    ensures noted { Notes paired.old.items paired.new.items (if result then length bins.entry.list.now - bins.entry.start else 0) }
+    ensures noted { let n = bins_paired bins.entry in
+        Notes paired.old paired.new (if result then n else 0) (if nat_le n CLOSE_LIST then n else 0) }
     ensures zeros { IsZero window.new }
 {
     let count = bins.list.len() - bins.start;
     if count > CLOSE_LIST {
         return false;
     }
+    paired.begin_window(count);
     let LagRange { skipped, last, .. } = range;
     let middle = last.min(skipped + N as u32);
     let mut near = [0; N];
@@ -121,14 +123,14 @@ fn sum_close<const N: usize>(
     }
     turn(sums, 0, middle - skipped, &near);
     turn(sums, middle - skipped, last - middle, &far);
-    paired.note(&[count]);
+    paired.note(count);
     true
 }
 
 /// The same, by the number of lags.
 fn sum_lanes(
     sums: &mut [u128; MOST_LAGS],
-    paired: &mut Noted<usize>,
+    paired: &mut Pairings,
     window: &mut [u16; PLACES],
     range: LagRange,
     bins: Bins,
@@ -136,7 +138,8 @@ fn sum_lanes(
     requires bins { AreBins bins × IsZero window.old × ((p : ℕ) → slice_index sums.old p ≡ 0) }
     ensures sums { result ≡ true → ArePaired range bins.entry.start sums.old sums.new (bins_of bins.entry) }
     ensures none { result ≡ false → sums.new ≡ sums.old }
-    ensures noted { Notes paired.old.items paired.new.items (if result then length bins.entry.list.now - bins.entry.start else 0) }
+    ensures noted { let n = bins_paired bins.entry in
+        Notes paired.old paired.new (if result then n else 0) (if nat_le n CLOSE_LIST then n else 0) }
     ensures zeros { IsZero window.new }
 {
     match range.last - range.skipped {
@@ -173,12 +176,12 @@ fn sum_one(
 }
 
 /// Adds the pairs of bins with those before them to sums as those of `sum_one`, and notes how many they are.
-fn sum_each(sums: &mut [u128; MOST_LAGS], paired: &mut Noted<usize>, range: LagRange, bins: Bins)
+fn sum_each(sums: &mut [u128; MOST_LAGS], paired: &mut Pairings, range: LagRange, bins: Bins)
     requires bins { AreBins bins × FitPairs range bins sums.old }
     ensures sums { ArePaired range bins.entry.start sums.old sums.new (bins_of bins.entry) }
-    ensures noted { Notes paired.old.items paired.new.items (length bins.entry.list.now - bins.entry.start) }
+    ensures noted { Notes paired.old paired.new (bins_paired bins.entry) 0 }
 {
-    paired.note(&[bins.list.len() - bins.start]);
+    paired.note(bins.list.len() - bins.start);
     for at in bins.start..bins.list.len() {
         let bin = bins.list[at];
         let index = bin.index >> bins.levels;
@@ -203,11 +206,11 @@ fn add_each<L: Ledger>(cells: &mut PairCells, count: u32, sums: &[u128], steps: 
 }
 
 /// Puts the pairs of bins with those before them, at the lags of a range, into sums: over a grid, if they are in one, over
-/// a window in which they are laid close together, or else bin by bin. What sums them notes how many they are, or a quarter
-/// as many as the grid has places.
+/// a window in which they are laid close together, or else bin by bin, as only merged ones are. What sums them notes how
+/// many they are, or a quarter as many as the grid has places.
 fn sum_all(
     sums: &mut [u128; MOST_LAGS],
-    paired: &mut Noted<usize>,
+    paired: &mut Pairings,
     scratch: &mut Scratch,
     range: LagRange,
     bins: Bins,
@@ -216,8 +219,7 @@ fn sum_all(
     requires grid { IsGrid scratch.old.grid (drop bins.start (bins_of bins))
         × (0 < scratch.old.grid.len → FewFirsts (take bins.start (bins_of bins))) }
     ensures sums { ArePaired range bins.entry.start sums.old sums.new (bins_of bins.entry) }
-    ensures noted { Notes paired.old.items paired.new.items
-        (counted scratch.old.grid (length bins.entry.list.now - bins.entry.start)) }
+    ensures noted { NotesOnce paired.old paired.new (counted scratch.old.grid (bins_paired bins.entry)) }
     ensures scratch { IsZero scratch.new.window × (scratch.new.grid ≡ scratch.old.grid) }
 {
     let window = &mut scratch.window;
@@ -235,7 +237,7 @@ fn sum_all(
 /// has places. Where they are out of reach of one another, there are no pairs.
 pub(crate) fn pair_all<L: Ledger>(
     cells: &mut PairCells,
-    paired: &mut Noted<usize>,
+    paired: &mut Pairings,
     scratch: &mut Scratch,
     range: LagRange,
     bins: Bins,
@@ -247,15 +249,14 @@ pub(crate) fn pair_all<L: Ledger>(
     requires grid { IsGrid scratch.old.grid (drop bins.start (bins_of bins))
         × (0 < scratch.old.grid.len → FewFirsts (take bins.start (bins_of bins))) }
     ensures cells { ArePaired range bins.entry.start cells.old.cells cells.new.cells (bins_of bins.entry) }
-    ensures noted { Notes paired.old.items paired.new.items
-        (counted scratch.old.grid (length bins.entry.list.now - bins.entry.start)) }
+    ensures noted { NotesOnce paired.old paired.new (counted scratch.old.grid (bins_paired bins.entry)) }
     ensures spends { Spends cells.old cells.new steps.old steps.new (range.last - range.skipped)
         × AddsAtMost 1 cells.old cells.new }
     ensures scratch { IsZero scratch.new.window × (scratch.new.grid ≡ scratch.old.grid) }
 {
     let Bins { apart, levels, .. } = bins;
     if apart >> levels > u64::from(range.last) {
-        paired.note(&[scratch.grid.counted(bins.list.len() - bins.start)]);
+        paired.note(scratch.grid.counted(bins.list.len() - bins.start));
         return;
     }
     let mut sums = [0; MOST_LAGS];

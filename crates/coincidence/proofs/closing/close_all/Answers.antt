@@ -1,18 +1,33 @@
-use Rattle.std.proofs.Common.{rules}
-use Rattle.std.{proofs.Common.{arith}, proofs.lemmas.List.take-append-drop, proofs.lemmas.Bool.Decides.nat_tests}
-use Rattle.coincidence.proofs.Together.{leads_start, leads_may, leads_on, leads_end}
+use Rattle.std.{proofs.Common.{rules, arith, ◌≡◌, ◌∙◌, ◌++◌, ℕ, List, [], ◌∷◌, refl, sym, take, drop, length, append_assoc, append-nil}, proofs.lemmas.List.take-append-drop, proofs.lemmas.Bool.Decides.nat_tests}
+use Rattle.coincidence.{specs.declared.pairing.Bin.Bin, proofs.Together.{closes_none, closes_on, rest_may, part_may}}
 use Rattle.coincidence.proofs.closing.close_all.Goals as goal
 
+parts : (bins done rest part behind : List Bin) (n : ℕ) → done ++ rest ≡ bins → part ≡ take n rest → behind ≡ drop n rest → bins ≡ done ++ (part ++ behind)
+parts bins done rest part behind n is front back = rw (front, back, take-append-drop n rest) (sym is)
+
+all_done : (bins done rest : List Bin) → length rest ≡ 0 → done ++ rest ≡ bins → done ≡ bins
+all_done bins done [] none is = sym (append-nil done) ∙ is
+all_done bins done (bin ∷ rest) none is = absurd (omega (arith, none))
+
 pub loop-rest-init : goal.loop-rest-init
-loop-rest-init g c = search (rules, arith, leads_start)
+loop-rest-init g c = record { few = search rules; closes = ([], refl, closes_none _ _ _) }
 
 pub close_part-requires-clause-stands : goal.close_part-requires-clause-stands
-close_part-requires-clause-stands g c = search (rules, arith, leads_may, take-append-drop)
+close_part-requires-clause-stands g c =
+    let inv = c.loop-rest.invariant.closes in
+    let split = c.split_at in
+    part_may _ _ split.result.0.now split.result.1.now (rest_may _ _ _ inv.0 (split.result.0.now ++ split.result.1.now) _ _ inv.2 (rw (parts c.args.bins.now inv.0 c.loop-rest.rest.now split.result.0.now split.result.1.now _ inv.1 split.ensures.front split.ensures.back) at c.requires.stands))
 
 pub loop-rest-preserved : goal.loop-rest-preserved
-loop-rest-preserved g c = search (rules, arith, leads_on, take-append-drop)
+loop-rest-preserved g c =
+    let inv = c.loop-rest.invariant.closes in
+    let split = c.split_at in
+    record {
+      few = search (rules, arith);
+      closes = (inv.0 ++ split.result.0.now, append_assoc inv.0 split.result.0.now split.result.1.now ∙ sym (parts _ inv.0 c.loop-rest.rest.now _ _ _ inv.1 split.ensures.front split.ensures.back), closes_on _ _ _ _ _ _ _ inv.2 _ _ c.close_part.ensures);
+    }
 
 pub returns : goal.returns
 returns g c =
-    let end = leads_end _ _ _ _ _ (grind (arith, nat_tests, c.loop-rest-test.false, c.is_empty.ensures)) c.loop-rest.invariant.leads in
-    record { ring = λ closed xs can. (end closed xs can).0; cells = λ closed xs can. (end closed xs can).1; steps = c.loop-rest.invariant.steps }
+    let inv = c.loop-rest.invariant.closes in
+    rw (all_done _ inv.0 _ (grind (arith, nat_tests, c.loop-rest-test.false, c.is_empty.ensures)) inv.1) at inv.2

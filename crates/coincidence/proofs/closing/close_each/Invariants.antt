@@ -1,10 +1,7 @@
-use Rattle.std.proofs.Common.{drop}
+use Rattle.std.proofs.Common.{take}
 use Rattle.tally_base.specs.Settings.{coincidence_view}
-use Rattle.coincidence.{specs.Pairing.Pays, proofs.Together.Leads}
+use Rattle.coincidence.specs.Pairing.{Closes}
 use Rattle.coincidence.proofs.closing.close_each.Given as goal
 
 abbrev pub invariant-loop-bin : goal.invariant-loop-bin
-invariant-loop-bin g l = record {
-  leads : Leads (coincidence_view l.set) l.initial.pairing l.pairing l.bins (drop l.bin-index l.bins);
-  steps : Pays l.initial.pairing l.pairing l.initial.steps l.steps;
-}
+invariant-loop-bin g l = Closes (coincidence_view l.set) l.initial.pairing l.pairing (take l.bin-index l.bins) l.initial.steps l.steps

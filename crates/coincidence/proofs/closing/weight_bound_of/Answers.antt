@@ -5,9 +5,6 @@ use Rattle.coincidence.proofs.closing.weight_bound_of.Goals as goal
 lighter : (least most : ℕ) (es : List Entry) → least ≤ most → IsLight least es → IsLight most es
 lighter least most es upto light = search (rules, arith, all_weaker)
 
-pub returns-clause-some : goal.returns-clause-some
-returns-clause-some c = search (rules, arith, le_or_l)
-
 pub returns-clause-light : goal.returns-clause-light
 returns-clause-light c =
     let a : ℕ = c.weight_bound.result in

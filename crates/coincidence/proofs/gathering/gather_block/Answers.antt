@@ -1,6 +1,6 @@
 use Rattle.std.{proofs.Common.{append-nil, rules, arith}, proofs.lemmas.List.{length-take}, proofs.Math.Logic.{∥∥₁_map}}
 use Rattle.tally_base.specs.Settings.{coincidence_view}
-use Rattle.coincidence.{specs.Pairs.photons_of_groups, proofs.Together.gathered_none, proofs.Picked.{next_within, may_gather, gathers_more, gathered_end}}
+use Rattle.coincidence.{specs.Pairs.photons_of_groups, proofs.Together.gathered_none, proofs.Picked.{may_gather, gathers_more, gathered_end}}
 use Rattle.coincidence.proofs.gathering.gather_block.Goals as goal
 
 pub loop-row-init : goal.loop-row-init
@@ -16,19 +16,6 @@ loop-row-init c =
       };
       few = omega (arith, c.requires.empty.1);
     }
-
-pub has_photon-first-requires : goal.has_photon-first-requires
-has_photon-first-requires c =
-    let inside = next_within _ _ _ _ _ _ _ c.loop-row.invariant.came c.loop-row-test.true in
-    search (rules, arith)
-
-pub has_photon-second-requires : goal.has_photon-second-requires
-has_photon-second-requires c =
-    let inside = next_within _ _ _ _ _ _ _ c.loop-row.invariant.came c.loop-row-test.true in
-    search (rules, arith)
-
-pub time-requires : goal.time-requires
-time-requires c = search (rules, arith, next_within)
 
 pub gather_bin-open-requires-clause-room : goal.gather_bin-open-requires-clause-room
 gather_bin-open-requires-clause-room c = search (rules, arith, length-take)

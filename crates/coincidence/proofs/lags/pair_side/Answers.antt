@@ -24,5 +24,5 @@ pair_window-requires-clause-room g c = rw c.deref.ensures.0 (room_as _ _ _ _ c.r
     c.fill.ensures.same (rw c.earlier.ensures at c.fill.ensures.have) c.requires.photons.0.near (λ f. rw c.later.ensures at (c.spots_of-spots.ensures.sums f))))
 
 pub returns : goal.returns
-returns g c = counts_as _ _ _ _ _ _ _ _ (rw c.deref.ensures.0 at c.pair_window.ensures) (λ at. window-lags c.args.direction (coincidence_view c.args.places.set) at c.args.places.low c.fill.new.window c.spots_of-spots.result.items (c.args.ring.now.entries ++ c.args.later.now) c.args.later.now c.requires.photons.0.reach
-    c.fill.ensures.same (rw c.earlier.ensures at c.fill.ensures.have) c.requires.photons.0.near (λ f. rw c.later.ensures at (c.spots_of-spots.ensures.sums f)))
+returns g c = counts_as _ _ _ _ _ _ _ _ _ (rw c.deref.ensures.0 at c.pair_window.ensures) (λ at. window-lags c.args.direction (coincidence_view c.args.places.set) at c.args.places.low c.fill.new.window c.spots_of-spots.result.items (c.args.ring.now.entries ++ c.args.later.now) c.args.later.now c.requires.photons.0.reach
+    c.fill.ensures.same (rw c.earlier.ensures at c.fill.ensures.have) c.requires.photons.0.near (λ f. rw c.later.ensures at (c.spots_of-spots.ensures.sums f))) (omega arith)

@@ -1,10 +1,7 @@
 use Rattle.std.proofs.Common.{rules, ℕ, ◌-◌, ◌/◌, ◌<◌, ◌≤◌, arith}
 use Rattle.tally_base.specs.Settings.{coincidence_view, coincidence_cells}
-use Rattle.coincidence.{specs.Pairing.shifted_by, proofs.Visits.{pairs_near, pairs_far, shifted_inside, one_fits}}
+use Rattle.coincidence.{specs.Pairing.shifted_by, proofs.Visits.{pairs_near, shifted_inside, one_fits}}
 use Rattle.coincidence.proofs.pairing.pair_earlier.Goals as goal
-
-pub add_pairs-requires-clause-inside : goal.add_pairs-requires-clause-inside
-add_pairs-requires-clause-inside g c = search (rules, arith, shifted_inside)
 
 pub add_pairs-requires-clause-sum : goal.add_pairs-requires-clause-sum
 add_pairs-requires-clause-sum g c =
@@ -14,9 +11,3 @@ add_pairs-requires-clause-sum g c =
     let inside : at < coincidence_cells set = search (rules, arith, shifted_inside) in
     let fits = (rw (pairs_near set c.args.later.index c.args.earlier.now c.requires.after near c.args.direction c.args.later.count at) at (c.requires.room.fits at inside)) in
     rw (c.shifted-shifted.ensures, c.weight-weight.ensures, c.earlier.ensures) (one_fits _ _ _ at fits)
-
-pub returns-then-is_near : goal.returns-then-is_near
-returns-then-is_near g c = search (rules, arith, pairs_near)
-
-pub returns-else-is_near : goal.returns-else-is_near
-returns-else-is_near g c = search (rules, arith, pairs_far)

@@ -1,11 +1,7 @@
-use Rattle.std.{proofs.lemmas.List.Elements.filter-append, proofs.Common.{◌≡◌, ◌++◌, ◌∷◌, [], ◌∙◌, sym, refl, arith, rules}, proofs.lemmas.Nat.{or_lt}}
+use Rattle.std.{proofs.lemmas.List.Elements.filter-append, proofs.Common.{◌≡◌, ◌++◌, ◌∷◌, [], ◌∙◌, sym, refl}}
 use Rattle.tally_base.{specs.Settings.fold_view, specs.Events.is_photon}
-use Rattle.lag_ring.{proofs.Lists.all_front, proofs.Rising.all_push}
-use Rattle.fold_count.{specs.FoldCounts.is_of_any, specs.Folded.photons, proofs.Totals.first_true, proofs.Nested.last_of, proofs.Pushed.parted_photon}
+use Rattle.fold_count.{specs.FoldCounts.is_of_any, specs.Folded.photons, proofs.Totals.first_true, proofs.Pushed.parted_photon}
 use Rattle.fold_count.proofs.taking.put.Goals as goal
-
-pub returns-clause-sound : goal.returns-clause-sound
-returns-clause-sound c = search (rules, arith, all_push, all_front, or_lt, last_of)
 
 pub returns-clause-follows : goal.returns-clause-follows
 returns-clause-follows c = λ h x any time met is.

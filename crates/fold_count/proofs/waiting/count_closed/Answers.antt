@@ -1,20 +1,11 @@
-use Rattle.std.{proofs.Common.{◌<◌, ap, arith, length, nat_lt, rules}, proofs.lemmas.List.Sums.sum_by-append}
-use Rattle.lag_ring.{specs.declared.ring.Entry.Entry, proofs.Lists.{all_front, all_back}, proofs.Rising.{rising_front, rising_back}}
+use Rattle.std.{proofs.Common.{◌<◌, ap, arith, length, nat_lt}, proofs.lemmas.List.Sums.sum_by-append}
+use Rattle.lag_ring.{specs.declared.ring.Entry.Entry, proofs.Lists.{all_back}}
 use Rattle.fold_count.{specs.Folded.photons_in, proofs.Bins.{where_at_most}}
 use Rattle.fold_count.proofs.waiting.count_closed.Goals as goal
-
-pub count_front-requires-clause-inside : goal.count_front-requires-clause-inside
-count_front-requires-clause-inside c = search (rules, arith, all_front)
 
 pub count_front-requires-2-clause-inside : goal.count_front-requires-2-clause-inside
 count_front-requires-2-clause-inside c = rw c.count_front.ensures.same
     (all_back (λ e. e.b < length c.args.cells.now) c.slices.result.0.now c.slices.result.1.now (rw c.slices.ensures.entries c.requires.inside))
-
-pub count_front-requires-clause-rising : goal.count_front-requires-clause-rising
-count_front-requires-clause-rising c = rising_front c.slices.result.0.now c.slices.result.1.now (rw c.slices.ensures.entries c.slices.ensures.rising)
-
-pub count_front-requires-2-clause-rising : goal.count_front-requires-2-clause-rising
-count_front-requires-2-clause-rising c = rising_back c.slices.result.0.now c.slices.result.1.now (rw c.slices.ensures.entries c.slices.ensures.rising)
 
 pub count_front-requires-2-clause-room : goal.count_front-requires-2-clause-room
 count_front-requires-2-clause-room c =

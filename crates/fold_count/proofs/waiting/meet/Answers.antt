@@ -1,18 +1,6 @@
 use Rattle.std.proofs.Common.{◌<◌, rules, arith}
-use Rattle.fold_count.{proofs.Nested.{join, partly_none, partly_step, partly_all, length-partly, ring_is}}
+use Rattle.fold_count.{proofs.Nested.{join, partly_step}}
 use Rattle.fold_count.proofs.waiting.meet.Goals as goal
-
-pub back-init : goal.back-init
-back-init c = search (rules, arith, partly_none)
-
-pub visit-bin-requires : goal.visit-bin-requires
-visit-bin-requires c = search (rules, arith, length-partly)
-
-pub set_b-requires : goal.set_b-requires
-set_b-requires c = search (rules, arith, length-partly)
-
-pub returns-then-met-bin : goal.returns-then-met-bin
-returns-then-met-bin c = search (rules, arith, ring_is, partly_all)
 
 pub back-preserved : goal.back-preserved
 back-preserved c =

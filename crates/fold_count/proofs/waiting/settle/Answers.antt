@@ -1,16 +1,7 @@
-use Rattle.std.{proofs.Common.{append-nil, ◌<◌, [], ◌∷◌, filter, arith, length-append, nat_lt, nat_le, rules}, proofs.lemmas.List.length-map, proofs.lemmas.List.Sums.{sum_by_push, length-filter, count_by-le-length}, proofs.lemmas.List.Elements.filter-append, proofs.lemmas.Grind.common_steps}
-use Rattle.lag_ring.{specs.declared.ring.Entry.Entry, proofs.Lists.{all_front, all_filter, all_map}}
-use Rattle.fold_count.{specs.Folded.met_in, proofs.Bins.{not_before, where_at_most, photons_kept, room_left}, proofs.Nested.{join, photons_met_in, last_of}}
+use Rattle.std.{proofs.Common.{append-nil, ◌<◌, [], ◌∷◌, filter, arith, length-append, nat_lt, nat_le, rules}, proofs.lemmas.List.length-map, proofs.lemmas.List.Sums.{sum_by_push, length-filter, count_by-le-length}, proofs.lemmas.List.Elements.filter-append}
+use Rattle.lag_ring.{specs.declared.ring.Entry.Entry, proofs.Lists.{all_filter, all_map}}
+use Rattle.fold_count.{specs.Folded.met_in, proofs.Bins.{where_at_most, photons_kept, room_left}, proofs.Nested.{join, photons_met_in}}
 use Rattle.fold_count.proofs.waiting.settle.Goals as goal
-
-pub count_closed-requires-clause-inside : goal.count_closed-requires-clause-inside
-count_closed-requires-clause-inside c = grind (arith, common_steps, all_front)
-
-pub count_closed-requires-clause-room : goal.count_closed-requires-clause-room
-count_closed-requires-clause-room c = search (rules, arith, photons_met_in, sum_by_push)
-
-pub count_bin-requires-clause-inside : goal.count_bin-requires-clause-inside
-count_bin-requires-clause-inside c = search (rules, arith, last_of)
 
 pub count_bin-requires-clause-room : goal.count_bin-requires-clause-room
 count_bin-requires-clause-room c =
@@ -29,9 +20,6 @@ push-requires-clause-room c =
     (all_map (λ e. e.index < c.args.bin.now.index) (join c.args.bin.now.b) c.args.ring.now.entries c.requires.held.above) c.if-bin-before.false c.requires.near in
     rw (c.retire.ensures.kept, c.meet.ensures.met) (omega (arith, few))
 
-pub returns-then-bin-before-clause-cells : goal.returns-then-bin-before-clause-cells
-returns-then-bin-before-clause-cells c = search (rules, arith, sum_by_push)
-
 pub returns-then-bin-before-clause-kept : goal.returns-then-bin-before-clause-kept
 returns-then-bin-before-clause-kept c =
     rw (c.retire.ensures.kept, c.meet.ensures.met)
@@ -48,9 +36,6 @@ returns-then-bin-before-clause-sum c =
     let counted = rw c.meet.ensures.met at c.count_closed.ensures.sum in
     rw (c.retire.ensures.kept, c.meet.ensures.met)
     (omega (arith, c.count_bin.ensures.sum, counted, photons_kept c.args.before (met_in c.args.bin.now.b c.args.ring.now.entries), photons_met_in c.args.bin.now.b c.args.ring.now.entries, sum_by_push (λ (e : Entry). e.a) c.args.ring.now.entries c.args.bin.now))
-
-pub returns-else-bin-before-clause-cells : goal.returns-else-bin-before-clause-cells
-returns-else-bin-before-clause-cells c = search (rules, arith, sum_by_push, not_before)
 
 pub returns-else-bin-before-clause-kept : goal.returns-else-bin-before-clause-kept
 returns-else-bin-before-clause-kept c =

@@ -26,9 +26,9 @@ end-ended-requires g c = record {
 pub carry_all-requires-clause-stands : goal.carry_all-requires-clause-stands
 carry_all-requires-clause-stands g c = ∥∥₁_map c.requires.stands (λ w.
     let end = c.in-Some.ensures.follows w.1.chain.0 w.1.chain.1 (can_finish (correlation_view c.args.set.now) c.args.level _ _ w.0 w.1) in
-    (w.1.chain.0, w.1.chain.1, next_come _ _ _ _ _ w.1 c.in-Some.last c.end-ended.new.list (omega arith) end.1 end.2))
+    (w.1.chain.0, w.1.chain.1, next_come _ _ _ _ _ w.1 c.in-Some.last c.end-ended.new.list (omega arith) end.1.0 end.1.1))
 
 pub returns-in-Some-clause-rest : goal.returns-in-Some-clause-rest
 returns-in-Some-clause-rest g c = λ came given.
     let end = c.in-Some.ensures.follows given.chain.0 given.chain.1 (can_finish (correlation_view c.args.set.now) c.args.level _ _ came given) in
-    record { few = given.few; chain = rw given.chain.2 (c.carry_all.ensures.follows given.chain.0 given.chain.1 (next_come _ _ _ _ _ given c.in-Some.last c.end-ended.new.list (omega arith) end.1 end.2)) }
+    record { few = given.few; chain = rw given.chain.2 (c.carry_all.ensures.follows given.chain.0 given.chain.1 (next_come _ _ _ _ _ given c.in-Some.last c.end-ended.new.list (omega arith) end.1.0 end.1.1)) }

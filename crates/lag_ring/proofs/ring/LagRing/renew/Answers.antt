@@ -1,11 +1,26 @@
-use Rattle.std.{proofs.Common.{arith, rules, ◌≡◌, ◌-◌, length, get_or, slice_get, Some}, proofs.lemmas.Option.{slice_get-get_or}}
-use Rattle.lag_ring.{specs.declared.ring.Entry.Entry, proofs.Lists.all_filter, proofs.Rising.{upto_join}}
+use Rattle.std.{proofs.Common.{arith, rules, ◌≡◌, ◌-◌, ◌≤◌, ◌++◌, length, get_or, slice_get, List, Some, refl}, specs.List.AllByRecursion, proofs.lemmas.Option.{slice_get-get_or}, proofs.lemmas.List.{length-drop}}
+use Rattle.lag_ring.{specs.declared.ring.Entry.Entry, specs.Ring.kept_or, proofs.Lists.all_filter, proofs.Rising.{upto_join, rising_drop}, proofs.Between.cut_front}
 use Rattle.lag_ring.proofs.ring.LagRing.renew.Goals as goal
+
+pub drop_before-requires : goal.drop_before-requires
+drop_before-requires c = rw (c.extend_from_slice.ensures, c.lay_out.ensures) (record { rising = rising_drop _ _ (rw (← c.self.view_is) at c.requires.rising) })
 
 pub invariant_of-self : goal.invariant_of-self
 invariant_of-self c =
+    let r = c.self.inside in
     let fs = c.args.entries.now in
+    let xs : List Entry = kept_or r.alone r.last r.kept.items ++ fs in
     let none : Entry = record { index = 0; a = 0; b = 0 } in
     let end : slice_get fs (length fs - 1) ≡ Some (get_or fs (length fs - 1) none) = slice_get-get_or fs (length fs - 1) none (omega (arith, c.requires.some)) in
-    let upto = upto_join c.args.self.now.entries fs (get_or fs (length fs - 1) none) c.requires.rising end in
-    search (rules, arith, all_filter)
+    let upto : AllByRecursion (λ (e : Entry). e.index ≤ (get_or fs (length fs - 1) none).index) xs = upto_join _ fs (get_or fs (length fs - 1) none) (rw (← c.self.view_is) at c.requires.rising) end in
+    let cut = cut_front c.args.before r.kept.capacity xs (rw (← c.self.view_is) at c.requires.rising) (rw (← c.self.view_is) at c.requires.near) in
+    let all : AllByRecursion (λ (e : Entry). e.index ≤ (get_or fs (length fs - 1) none).index) c.drop_before.new.kept.items =
+    rw (c.drop_before.ensures.kept, c.extend_from_slice.ensures, c.lay_out.ensures, cut) (all_filter _ _ xs upto) in
+    search (rules, arith, length-drop)
+
+pub returns : goal.returns
+returns c =
+    let r = c.self.inside in
+    let xs : List Entry = kept_or r.alone r.last r.kept.items ++ c.args.entries.now in
+    let cut = cut_front c.args.before r.kept.capacity xs (rw (← c.self.view_is) at c.requires.rising) (rw (← c.self.view_is) at c.requires.near) in
+    record { kept = rw (← c.self.view_is, c.drop_before.ensures.kept, c.drop_before.ensures.same, c.extend_from_slice.ensures, c.lay_out.ensures, cut) refl }

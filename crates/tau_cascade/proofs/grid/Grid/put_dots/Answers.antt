@@ -1,4 +1,4 @@
-use Rattle.std.{proofs.Common.{rules, ◌≡◌, ℕ, ◌+◌, ◌-◌, ◌*◌, ◌≤◌, List, length, refl, get_or, take, drop, arith}, specs.List.{sum_by, range_with_len}, proofs.Math.Nat.mul-le-mul, proofs.lemmas.List.{get_or_past, length-take, length-take-le, length-drop, get_or-take}, proofs.lemmas.List.Edits.fill_by_more}
+use Rattle.std.{proofs.Common.{rules, ◌≡◌, ℕ, ◌+◌, ◌-◌, ◌*◌, ◌/◌, ◌≤◌, List, length, refl, get_or, take, drop, arith}, specs.List.{sum_by, range_with_len}, proofs.Math.Nat.mul-le-mul, proofs.lemmas.List.{get_or_past, length-take, length-take-le, length-drop, get_or-take}, proofs.lemmas.List.Edits.fill_by_more}
 use Rattle.lag_ring.proofs.Sums.{part-at}
 use Rattle.tau_cascade.{specs.Grid.{product, dots}, proofs.Dots.range_agree}
 use Rattle.tau_cascade.proofs.grid.Grid.put_dots.Goals as goal
@@ -18,7 +18,7 @@ dot_parts window seconds from n m fit = range_agree _ _ m (λ q inside. rw (part
 pub dot_light-requires-clause-light : goal.dot_light-requires-clause-light
 dot_light-requires-clause-light c =
     let from : ℕ = 192 - (c.loop-p.p + c.args.range.skipped + 1) in
-    let len : ℕ = 16 * c.args.rows in
+    let len : ℕ = 16 * ((c.args.self.now.len + 16 - 1) / 16) in
     let near = part_few c.args.window.now from (from + len - from) (192 - c.args.range.last) (192 + len - (192 - c.args.range.last)) c.most_of.result
     (omega (arith, c.loop-p-test.true)) (omega (arith, c.loop-p-test.true, c.args.range.within)) c.most_of.ensures in
     ∣ (_, c.if-light.true, λ i. mul-le-mul (omega (arith, near i, c.from.ensures)) (omega (arith, c.most_of-2.ensures i, c.from-2.ensures))) ∣₁
@@ -27,7 +27,7 @@ pub loop-p-preserved : goal.loop-p-preserved
 loop-p-preserved c =
     let window : List ℕ = c.args.window.now in
     let from : ℕ = 192 - (c.loop-p.p + c.args.range.skipped + 1) in
-    let len : ℕ = 16 * c.args.rows in
+    let len : ℕ = 16 * ((c.args.self.now.len + 16 - 1) / 16) in
     let parts = dot_parts window c.args.self.now.seconds from (from + len - from) len (omega arith) in
     let long : length (take (from + len - from) (drop from window)) ≡ len = search (rules, arith, length-take-le, length-drop) in
     let here : c.from-in-loop-p.result ≡ dots window from c.args.self.now.seconds len = search (rules, arith, parts, long) in

@@ -4,7 +4,7 @@ use Rattle.tau_cascade.{specs.Bins.{raised}, proofs.{Paired.occupied_all, Follow
 use Rattle.tau_cascade.proofs.level.Level.end.Goals as goal
 
 inside : (g : Over) (c : After-lay_out-from g) → c.lay_out-from.result < length c.lay_out-from.new.list
-inside g c = ∥∥₁_elim c.requires.stands (hlevel props) (λ w. omega (arith, w.2.was.ring.keeps.within, w.2.was.ring.reach, c.args.set.now.some_lags, c.requires.room))
+inside g c = ∥∥₁_elim c.requires.stands (hlevel props) (λ w. omega (arith, w.2.was.has.ring.keeps.within, w.2.was.has.ring.reach, c.args.set.now.some_lags, c.requires.room))
 
 -- the ring's entries and the bin after them
 put : (g : Over) (c : After-lay_out-from g) → map (raised 0) (take (c.lay_out-from.result + 1) (slice_set c.lay_out-from.new.list c.lay_out-from.result c.in-Some.last)) ≡ c.args.self.now.ring.entries ++ c.in-Some.last ∷ []
@@ -24,7 +24,7 @@ shut-requires g c =
           within = omega (arith, long);
           levels = omega arith;
           sorted = rw (put g at') (∥∥₁_elim c.requires.stands (spaced-prop _) (λ w.
-              spaced_join _ c.in-Some.last [] w.2.was.ring.rising (w.2.was.ring.keeps.bounded _ (finish_open _ _ _ _ c.in-Some.is _ _ w.2).1) (tt, tt)));
+              spaced_join _ c.in-Some.last [] w.2.was.has.ring.rising (w.2.was.has.ring.keeps.bounded _ (finish_open _ _ _ _ c.in-Some.is _ _ w.2).1) (tt, tt)));
         },
         rw (put g at', c.lay_out-from.ensures.count) (take-append_seam c.args.self.now.ring.entries (c.in-Some.last ∷ [])),
         λ none. absurd (omega arith),
@@ -40,4 +40,4 @@ returns-in-Some-clause-follows g c = λ closed open' can.
     let one = alone g (goal.at.returns-in-Some-clause-follows g c).After-lay_out-from in
     let may = finish_shut _ _ _ _ c.in-Some.is closed open' can in
     let was = finish_open _ _ _ _ c.in-Some.is closed open' can in
-    (record { none = refl; ring = c.shut.ensures.shuts.ring closed open' (rw one may); cells = c.shut.ensures.shuts.cells closed open' (rw one may); paired = omega (arith, (rw one at c.shut.ensures.shuts.paired), can.was.paired, occupied_all (correlation_view c.args.set.now) c.args.level (c.in-Some.last ∷ []) closed open' may.bins) }, was.0, was.1)
+    (record { none = refl; has = record { ring = c.shut.ensures.shuts.ring closed open' (rw one may); cells = c.shut.ensures.shuts.cells closed open' (rw one may); paired = omega (arith, (rw one at c.shut.ensures.shuts.paired), can.was.has.paired, occupied_all (correlation_view c.args.set.now) c.args.level (c.in-Some.last ∷ []) closed open' may.bins) } }, was)

@@ -1,6 +1,6 @@
-use Rattle.std.{specs.List.sum_by, proofs.lemmas.List.{length-drop, length-map}, proofs.Common.{◌≡◌, ◌+◌, ◌-◌, length, map, drop, refl, arith, rules}, proofs.Props.props, proofs.Math.Logic.∥∥₁_elim, proofs.lemmas.Grind.common_steps}
+use Rattle.std.{proofs.lemmas.List.{length-drop, length-map}, proofs.Common.{◌≡◌, ◌+◌, ◌-◌, length, map, drop, refl, arith, rules}, proofs.Props.props, proofs.Math.Logic.∥∥₁_elim, proofs.lemmas.Grind.common_steps}
 use Rattle.tally_base.specs.Settings.{correlation_view}
-use Rattle.tau_cascade.{specs.Bins.{raised, merged_all}, specs.Levels.{paired_of, PairsMore}, proofs.Few.counts_all, proofs.Passes.spaced_drop, proofs.Paired.all_fit, proofs.Near.{Standing, paired_merged, cells_near, keeps_near, dense_near, keeps_stand, dense_stands}, proofs.level.Level.shut.Given.{Over}, proofs.level.Level.shut.Goals.{in-Some, in-None, After-saturating_sub-before}}
+use Rattle.tau_cascade.{specs.Bins.{raised, merged_all}, specs.Levels.PairsMore, proofs.Few.counts_all, proofs.Passes.spaced_drop, proofs.Paired.all_fit, proofs.Near.{Standing, paired_merged, cells_near, keeps_near, dense_near, keeps_stand, dense_stands}, proofs.level.Level.shut.Given.{Over}, proofs.level.Level.shut.Goals.{in-Some, in-None, After-saturating_sub-before}}
 use Rattle.tau_cascade.proofs.level.Level.shut.Goals as goal
 
 standing : (g : Over) (c : After-saturating_sub-before g) → Standing (correlation_view c.args.set.now) c.args.level c.skipped_lags-skipped.result c.args.self.now.ring c.args.bins.levels c.args.bins.start c.args.bins.list.now c.saturating_sub-before.result
@@ -37,7 +37,7 @@ returns-clause-shuts g c =
     let es = drop c.args.bins.start (map (raised c.args.bins.levels) c.args.bins.list.now) in
     let long : length es ≡ length c.args.bins.list.now - c.args.bins.start = omega (arith, length-drop c.args.bins.start (map (raised c.args.bins.levels) c.args.bins.list.now), length-map c.args.bins.list.now (raised c.args.bins.levels)) in
     let all = (rw long at (counts_all c.args.scratch.now.grid es c.requires.grid.0 (spaced_drop 0 c.args.bins.start _ c.requires.list.0.sorted))) in
-    let more : PairsMore (paired_of c.args.self.now) (sum_by (λ n. n) c.pair_all.new.paired.items) (length (merged_all es)) = omega (arith, c.pair_all.ensures.noted, c.requires.few, all) in
+    let more : PairsMore c.args.self.now.paired c.pair_all.new.paired (length (merged_all es)) = omega (arith, c.pair_all.ensures.noted, c.requires.few, all) in
     elim c.match-place_from.branch [
       | in-Some w ↦
           let at = c.place_from.ensures w.in-Some.place w.in-Some.is in

@@ -80,7 +80,7 @@ close-requires-clause-comes g c =
 
 pub close-requires-clause-room : goal.close-requires-clause-room
 close-requires-clause-room g c =
-    let few : length c.args.self.now.ring.entries ≤ c.args.set.now.lags = ∥∥₁_elim c.requires.stands (hlevel props) (λ w. omega (arith, w.3.was.ring.keeps.within, w.3.was.ring.reach)) in (
+    let few : length c.args.self.now.ring.entries ≤ c.args.set.now.lags = ∥∥₁_elim c.requires.stands (hlevel props) (λ w. omega (arith, w.3.was.has.ring.keeps.within, w.3.was.has.ring.reach)) in (
       (grid_here g (goal.at.close-requires-clause-room g c).Joined-dense).3,
       omega (arith, few, c.requires.comes.0.bins.places, c.args.set.now.some_lags, onto_few c.args.self.now.open, c.lower_open-from.ensures.place),
       all_front (λ e. e.index * 2 ^ c.args.came.levels < 2 ^ 64) c.args.self.now.ring.entries (onto c.args.self.now.open [])
@@ -112,7 +112,7 @@ returns-then-count-gt0-clause-follows g c = λ closed open' xs can.
     let shuts = (rw (front_here put _ few) at c.close.ensures.shuts) in (
       whole.0,
       whole.1,
-      take_took can is _ shuts.opened (shuts.ring closed whole.0 may, shuts.cells closed whole.0 may, paired_closed can is _ shuts.paired)
+      take_took can is _ shuts.opened (record { ring = shuts.ring closed whole.0 may; cells = shuts.cells closed whole.0 may; paired = paired_closed can is _ shuts.paired })
           _ (rw (front_here put _ few) at c.close.ensures.comes.3),
     )
 
