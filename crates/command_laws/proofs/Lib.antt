@@ -1,11 +1,4 @@
 pub mod Rows
-pub mod CaseSteps
-pub mod PickPhotons
-pub mod PickCases
-pub mod Prints
-pub mod CaseShapes
-pub mod FaultStatuses
-pub mod Cases
-pub mod Proved
-pub mod Causes
 pub mod Shown
+pub mod Proved
+pub mod PickEnds

@@ -1,23 +1,18 @@
 -- What the laws show of each command, told once.
-use Rattle.std.{proofs.Common.{None, Some, ◌≡◌, ◌↔◌, arith, rules, ℕ, List, ◌≤◌, length}, specs.declared.option.Option.Option}
+use Rattle.std.{proofs.Common.{None, Some, ◌≡◌, ◌↔◌, arith, rules, ℕ, List, ◌≤◌, length, refl, sym, subst}, specs.declared.option.Option.Option}
 use Rattle.bench_io.specs.Inputs.{File}
-use Rattle.command_work.{specs.Endings.outcome, specs.Outcomes.Outcome, proofs.RestEnds.declined-stays}
-use Rattle.ptu_cli.specs.Behaviours.{behaviour}
-use Rattle.command_words.specs.Commands.{Request, Count, Events, Run, Trace, Pick, Demo, Header as HeaderOf}
-use Rattle.tally_base.{specs.declared.event.Event.Event, specs.declared.header.Mode.Mode, specs.declared.header.Mode.TheVariants.{T2, T3}}
+use Rattle.command_work.{specs.Endings.outcome, specs.Outcomes.{Outcome, status}, proofs.RestEnds.declined-stays}
+use Rattle.ptu_cli.{specs.Behaviours.behaviour, specs.Commands.{Request, Count, Events, Run, Trace, Pick, Demo}, specs.Commands.Header as HeaderOf, specs.Tables.{Phase, HasStatus}, specs.CommandCases.{cases, IsOutcome}, proofs.Tables.exactly, proofs.Told.{told, some-status, usage}}
+use Rattle.tally_base.{specs.declared.event.Event.Event, specs.declared.header.Mode.Mode, specs.declared.header.Mode.TheVariants.{T2, T3}, specs.declared.fault.Fault.Fault, specs.declared.fault.Fault.TheVariants.{Usage}, specs.Faults.status_of}
 use Rattle.ptu_definitions.{specs.Streams.streamed, specs.Words.record_limit}
 use Rattle.gate_plan.{specs.Histories.reading_by, specs.Shifting.sorting}
 use Rattle.file_work.{specs.FileOutcomes.{counts, listing, lists_by}, specs.CountLaws.counts-law, specs.EventLaws.lists-law}
-use Rattle.report_work.{specs.Reports.reports_by, specs.RunLaws.reports-law}
+use Rattle.report_work.{specs.Reports.{reports_by}, specs.RunLaws.reports-law}
 use Rattle.trace_work.{specs.TraceOutcomes.{trace_of, traces_by}, specs.TraceTexts.refused-ends}
 use Rattle.pick_work.{specs.PickOutcomes.{chosen_by, picks_by}, specs.PickLaws.picks-law}
-use Rattle.command_laws.{specs.Ends.{EndsStay, Lists}, specs.CommandCases.{cases, IsOutcome}, proofs.CaseShapes.{MeetsCases, told-holds, told-only}, proofs.Shown.{headed-shows, print-shows}, proofs.PickCases.pick-told, proofs.Cases.{count-told, events-told, run-told, trace-told, demo-same}}
-use Rattle.minimal_file.{specs.ShortFiles.minimal_file, proofs.ShortHeaders.{short-answer, words_of-bytes_in, rest_of-bytes_in}}
+use Rattle.command_laws.{specs.Ends.{EndsStay, EndsWhere, EndsWithFault, Lists}, proofs.Shown.{headed-shows, print-shows}}
+use Rattle.minimal_file.{specs.ShortFiles.{minimal_file}, proofs.ShortHeaders.{short-answer, words_of-bytes_in, rest_of-bytes_in}}
 use Rattle.record_write.{specs.Picked.{CanBePicked, picked_words, picked_file}, proofs.ReadBack.{small-words, unrefused, given-events}}
-
--- It ends as the cases of its shape call for.
-pub told : (request : Option Request) → MeetsCases (behaviour request) (cases request)
-told request = search (rules, arith, count-told, events-told, run-told, trace-told, pick-told, demo-same)
 
 -- An end that its bytes show stays.
 pub ends-stay : (request : Option Request) → EndsStay (behaviour request)
@@ -34,7 +29,26 @@ ends-stay (Some (Demo seed count)) = tt
 
 pub one-outcome : (request : Option Request) (plan_file data_file : File) (end : Outcome)
     → IsOutcome request plan_file data_file end ↔ (outcome (behaviour request) plan_file data_file ≡ end)
-one-outcome request plan_file data_file end = search (rules, arith, told-only, told, told-holds)
+one-outcome request plan_file data_file end = search (rules, arith, told)
+
+pub exactly-where : (phase : Phase) → EndsWhere phase
+exactly-where phase request plan_file data_file fault = exactly _ (cases request) _ (told request) phase plan_file data_file fault tt
+
+pub called-status : (request : Option Request) (plan_file data_file : File) (fault : Fault) → EndsWithFault request plan_file data_file fault → HasStatus (cases request) (status_of fault)
+called-status request plan_file data_file fault ends =
+    subst (λ (o : Option Fault). HasStatus (cases request) (status o)) ends (some-status request plan_file data_file)
+
+-- A bad command line is told exactly where the words are no command.
+
+no-words : (plan_file data_file : File) → EndsWithFault None plan_file data_file Usage
+unfolding outcome
+no-words plan_file data_file = refl
+
+pub exactly-words : (request : Option Request) (plan_file data_file : File) → EndsWithFault request plan_file data_file Usage ↔ (request ≡ None)
+exactly-words request plan_file data_file = (
+  λ ends. usage request (called-status request plan_file data_file Usage ends),
+  λ none. subst (λ (r : Option Request). EndsWithFault r plan_file data_file Usage) (sym none) (no-words plan_file data_file),
+)
 
 -- The file of photons that can be written, as `events` lists it.
 

@@ -4,8 +4,7 @@ use Rattle.tally_base.{specs.declared.slot.Slot.TheVariants.Data, specs.declared
 use Rattle.ptu_definitions.{specs.TagList.{name_in, code_in, value_in, has_body, is_known}, specs.Endings.{walk, ending}, specs.Fields.{value_under, found_in, header_of}, specs.Headers.{header_answer, seen, seen_preamble}, specs.Layouts.hydra_t3, specs.Words.{counted, records_of}}
 use Rattle.list_out.specs.HeaderText.{shown_text, header_text}
 use Rattle.file_work.specs.FileOutcomes.{counts_text}
-use Rattle.command_words.specs.Commands.{Count, Header, Events, Run, Trace, Pick, Demo, number_in, request_of}
-use Rattle.ptu_cli.specs.Behaviours.{behaviour}
+use Rattle.ptu_cli.{specs.Commands.{Count, Header, Events, Run, Trace, Pick, Demo, number_in, request_of}, specs.Behaviours.behaviour}
 use Rattle.command_work.specs.Endings.{outcome}
 
 abbrev known : List ℕ

@@ -1,11 +1,12 @@
 -- The ends that bytes of FILE show by themselves.
-use Rattle.std.{proofs.Common.{◌≡◌, ◌≢◌, ◌^◌, ℕ, List, [], length, true, None, Some, Ok, Err, refl, sym, ap, ◌∙◌, subst, inl, inr, arith, append-nil, ◌⊎◌}, specs.declared.option.Option.Option, proofs.lemmas.List.length-take}
+use Rattle.std.{proofs.Common.{◌≡◌, ◌≢◌, ◌^◌, ℕ, List, [], length, None, Some, Ok, Err, refl, sym, ap, ◌∙◌, inl, inr, arith, rules, append-nil, ◌⊎◌}, specs.declared.option.Option.Option, proofs.lemmas.List.length-take}
 use Rattle.tally_base.{specs.declared.fault.Fault.Fault, specs.declared.fault.Fault.TheVariants.TruncatedHeader, specs.declared.header.Header.Header, specs.Faults.fault_in}
 use Rattle.ptu_definitions.{specs.Headers.{header_answer, Shows}, proofs.SeenLaws.cut-size, proofs.Stays.{refused-stays, headed-stays}}
 use Rattle.list_out.specs.HeaderText.{header_text}
-use Rattle.command_work.{specs.Outcomes.{ends_early}, specs.Tellings.{Telling, RefusalStays, HeadedGoes, headed_end, headed_work}, proofs.RestEnds.end_with}
+use Rattle.command_work.{specs.Tellings.{Telling, RefusalStays, HeadedGoes, headed_end, headed_work}, proofs.RestEnds.end_with}
 use Rattle.file_work.{specs.FileOutcomes.printing, proofs.Ends.{outcome-done, outcome-refused}}
-use Rattle.command_laws.{specs.Ends.GoesOnOrShows, proofs.CaseSteps.Answer}
+use Rattle.ptu_cli.proofs.Shapes.{Answer}
+use Rattle.command_laws.specs.Ends.{GoesOnOrShows}
 
 -- A fault is that of a header that is cut, or it isn't.
 cut-or : (fault : Fault) → ((count : ℕ) × (fault ≡ TruncatedHeader count)) ⊎ ((count : ℕ) → fault ≢ TruncatedHeader count)
@@ -24,8 +25,7 @@ module _ (tells : Header → Telling) (stays : (header : Header) → RefusalStay
 
   failed : (fault : Fault) → header_answer bytes ≡ Err fault → ((count : ℕ) × (fault ≡ TruncatedHeader count)) ⊎ ((count : ℕ) → fault ≢ TruncatedHeader count)
       → HeadedGoes tells (Err fault) ⊎ Shows (λ b. headed_end tells (header_answer b)) bytes (headed_end tells (Err fault))
-  failed fault e (inl cut) = inl (subst (λ (f : Fault). ends_early f ≡ true) (sym cut.1) refl)
-  failed fault e (inr other) = inr (λ more. ap (headed_end tells) (refused-stays bytes more fault e other))
+  failed fault e h = search (rules, arith, refused-stays)
 
   pub headed-shows : GoesOnOrShows (headed_work tells (λ file. Unit {0})) bytes
   headed-shows = by (header_answer bytes) refl

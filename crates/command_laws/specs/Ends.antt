@@ -1,26 +1,51 @@
 -- How commands end over their files, in words that the laws share.
-use Rattle.std.{specs.Prelude.{ℕ, ◌≡◌, ◌≤◌, ◌⊎◌, ◌↔◌, List, None, Some, false, length, map}, specs.declared.option.Option.{Option}}
-use Rattle.tally_base.{specs.declared.event.Event.Event, specs.declared.fault.Fault.Fault, specs.declared.fault.Fault.TheVariants.NoGroup, specs.declared.header.Header.Header, specs.declared.header.Mode.Mode, specs.RecordTypes.mode_of}
+use Rattle.std.{specs.Prelude.{ℕ, ◌≡◌, ◌≤◌, ◌⊎◌, ◌↔◌, List, [], None, Some, Ok, false, length, map}, specs.declared.option.Option.{Option}}
+use Rattle.tally_base.{specs.declared.event.Event.Event, specs.declared.fault.Fault.Fault, specs.declared.header.Header.Header, specs.declared.header.Mode.Mode, specs.RecordTypes.mode_of, specs.Faults.status_of}
 use Rattle.bench_io.specs.Inputs.{File}
-use Rattle.ptu_definitions.{specs.Words.record_limit, specs.Headers.Shows}
+use Rattle.ptu_definitions.{specs.Words.{words_of, rest_of, record_limit}, specs.Headers.{HasAnswer, Shows}}
 use Rattle.plan_text.specs.Plan.{PlanView}
 use Rattle.gate_plan.specs.Histories.{reading_by}
 use Rattle.photon_pick.{specs.Ends.photons_of, specs.Late.writable}
 use Rattle.pick_work.specs.PickOutcomes.{chosen_by}
 use Rattle.list_out.specs.Lines.{events_text}
 use Rattle.record_write.specs.Picked.{picked_words, picked_events}
-use Rattle.command_words.specs.Commands.{Request, Events}
-use Rattle.ptu_cli.specs.Behaviours.{behaviour}
-use Rattle.command_work.{specs.Endings.outcome, specs.Outcomes.{Outcome, written, StatusIn}, specs.Behaviours.{Work, Behaviour, Alone, OnFile, ByPlan}}
-use Rattle.command_laws.{specs.Cases.HasGroup, specs.CommandCases.{CommandCases, Needs, Suits, cases}, specs.Causes.{Headed, IsPlanWith, EndsWithFault, TooLate}}
+use Rattle.ptu_cli.{specs.Commands.{Request, Events}, specs.Behaviours.behaviour, specs.Tables.{Phase, AtLate, InPhase, Cause, HasStatus}, specs.Cases.{NoneRefused, HasGroup}, specs.CommandCases.{IsValidPlan, Suits, cases}}
+use Rattle.command_work.{specs.Endings.outcome, specs.Outcomes.{Outcome, written, IsIn}, specs.Behaviours.{Work, Behaviour, Alone, OnFile, ByPlan}}
 
 -- how a command ends over its files, where nothing outside fails
 abbrev pub ends_with : Request → File → File → Outcome
 ends_with request = outcome (behaviour (Some request))
 
--- A command ends with a fault of these statuses exactly where its files are as said.
-abbrev pub EndsWhere : ℕ → ℕ → (CommandCases → File → File → Fault → Type 0) → Type 0
-EndsWhere low high as_said = (request : Option Request) (plan_file data_file : File) (fault : Fault) → StatusIn low high fault → EndsWithFault request plan_file data_file fault ↔ as_said (cases request) plan_file data_file fault
+-- the command ends with this fault, where nothing outside fails
+abbrev pub EndsWithFault : Option Request → File → File → Fault → Type 0
+EndsWithFault request plan_file data_file fault = (outcome (behaviour request) plan_file data_file).fault ≡ Some fault
+
+-- A command ends with a fault of this phase exactly where a line of its table with this phase calls for it.
+abbrev pub EndsWhere : Phase → Type 0
+EndsWhere phase = (request : Option Request) (plan_file data_file : File) (fault : Fault) → InPhase phase (status_of fault)
+    → EndsWithFault request plan_file data_file fault ↔ Cause phase (cases request) plan_file data_file fault
+
+-- The statuses of what fails outside, by the shape of the command: writes and memory, of one that reads no file and ends well; calls on FILE and writes; and by a plan these and memory.
+abbrev pub FailsWith : Behaviour → ℕ → Type 0
+FailsWith (Alone end) n = (end.fault ≡ None) × IsIn 4 5 n
+FailsWith (OnFile file writing work) n = IsIn 2 4 n
+FailsWith (ByPlan plan file writing memory lacks work) n = IsIn 2 5 n
+
+-- the statuses that a run of a command may end with, whatever fails
+abbrev pub MayEndWith : Option Request → ℕ → Type 0
+MayEndWith request n = FailsWith (behaviour request) n ⊎ HasStatus (cases request) n
+
+-- The file is there, and has this header, with these bytes after it.
+pub record Headed (data_file : File) (header : Header) (behind : List ℕ) : Type 0 where
+  pub bytes : List ℕ
+  pub present : data_file ≡ Some bytes
+  pub is_header : HasAnswer bytes (Ok (header, behind))
+
+-- The plan has the group and suits FILE, whose records are whole and of which none is refused.
+abbrev pub IsPickable : ℕ → File → File → Type 0
+IsPickable group plan_file data_file =
+    (view : PlanView) × (header : Header) × (behind : List ℕ) × IsValidPlan plan_file view × Headed data_file header behind × HasGroup group view × Suits view header
+    × NoneRefused (reading_by view header) (words_of behind) × (rest_of behind ≡ [])
 
 -- `events` lists the file as these photons, at their places in it, and none of them as late.
 abbrev pub Lists : List ℕ → List ℕ → Mode → List Event → Type 0
@@ -33,7 +58,7 @@ photons_written group plan header bytes = writable (mode_of header.record_type) 
 -- Where the plan has the group and suits a file with a header, and the words of its written photons are few enough for `events`, this lists just them in the text.
 abbrev pub ListsWritten : ℕ → File → File → List ℕ → List ℕ → Type 0
 ListsWritten group plan_file data_file name text = (view : PlanView) (header : Header) (behind : List ℕ)
-    → IsPlanWith (Needs (HasGroup group) (NoGroup group)) plan_file view → Headed data_file header behind → Suits view header
+    → IsValidPlan plan_file view → HasGroup group view → Headed data_file header behind → Suits view header
     → length (picked_words (mode_of header.record_type) (photons_written group view header behind)) ≤ record_limit
     → Lists name text (mode_of header.record_type) (photons_written group view header behind)
 
@@ -41,7 +66,7 @@ ListsWritten group plan_file data_file name text = (view : PlanView) (header : H
 abbrev pub EndsWellOrLate : Request → File → File → Type 0
 EndsWellOrLate request plan_file data_file =
     ((ends_with request plan_file data_file).fault ≡ None)
-    ⊎ ((fault : Fault) × EndsWithFault (Some request) plan_file data_file fault × TooLate (cases (Some request)) plan_file data_file fault)
+    ⊎ ((fault : Fault) × EndsWithFault (Some request) plan_file data_file fault × Cause AtLate (cases (Some request)) plan_file data_file fault)
 
 -- The bytes call for no end by themselves, or for one that stays whatever comes after them.
 abbrev pub GoesOnOrShows : Work → List ℕ → Type 0

@@ -3,7 +3,7 @@ use Rattle.std.{specs.Prelude.{ℕ, ◌≡◌, ◌⊎◌, ◌≤◌, ◌<◌, tr
 use Rattle.tally_base.{specs.declared.slot.Slot.Slot, specs.declared.fault.Fault.Fault, specs.declared.fault.Fault.TheVariants.{OpenFault, ReadFault, WriteFault, OutOfMemory}, specs.FaultCounts.Rose}
 use Rattle.bench_io.{specs.Inputs.File, specs.Given.IsAtEnd}
 use Rattle.plan_text.specs.Plan.{PlanView}
-use Rattle.command_words.specs.Commands.{Request}
+use Rattle.ptu_cli.specs.Commands.{Request}
 use Rattle.ptu_cli.{specs.Runs.{Around, TellsOn, EndsIn, NothingFailed}, specs.Behaviours.behaviour}
 use Rattle.command_work.{specs.Outcomes.status, specs.Behaviours.Behaviour, specs.Endings.{outcome, IsPlan, AreItsFiles, Tells, Reaches, LeavesUnread, CutsShort, RunsOut, Asks, LacksMemory, IsGood}}
 

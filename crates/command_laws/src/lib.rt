@@ -1,6 +1,6 @@
-//! Laws over all commands, which the program doesn't need: their outcomes as a table of cases, where each fault
+//! Laws over all commands, which the program doesn't need: their outcomes by a table for each, where each fault
 //! comes from, and the statuses of their runs, each as the contract of a function that does nothing. Begin with
-//! `specs/CommandCases.antt`.
+//! `specs/CommandCases.antt` of `ptu_cli`.
 #![tactic(auto)]
 
 ghost use Rattle.std.{specs.Prelude.{◌≡◌, ◌≤◌, ◌↔◌, ℕ, List, None, Some, length}, specs.declared.option.Option.{Option}};
@@ -8,12 +8,12 @@ ghost use Rattle.bench_io.specs.Inputs.{File};
 ghost use Rattle.ptu_definitions.specs.Words.{record_limit};
 ghost use Rattle.record_write.specs.Picked.{CanBePicked, picked_words, picked_file};
 ghost use Rattle.ptu_made.{specs.Records.made_file, specs.Generator.photon_limit};
-ghost use Rattle.tally_base.{specs.declared.event.Event.Event, specs.declared.header.Mode.Mode, specs.declared.fault.Fault.Fault, specs.declared.fault.Fault.TheVariants.Usage};
-ghost use Rattle.command_words.specs.Commands.{Request, Run, Pick, Demo};
+ghost use Rattle.tally_base.{specs.declared.event.Event.Event, specs.declared.header.Mode.Mode, specs.declared.fault.Fault.Fault, specs.declared.fault.Fault.TheVariants.Usage, specs.Faults.status_of};
+ghost use Rattle.ptu_cli.{specs.Commands.{Request, Run, Pick, Demo}, specs.Tables.{AtFile, AtPlan, AtNeed, AtMode, AtHeader, AtCut, AtRecord, AtLate, HasStatus, Sound}, specs.CommandCases.{cases, IsOutcome}};
 ghost use Rattle.ptu_cli.{specs.Runs.{Around, Runs}, specs.Behaviours.behaviour};
 ghost use Rattle.report_work.specs.Demo.{demo_text};
 ghost use Rattle.command_work.{specs.Outcomes.Outcome, specs.Endings.outcome};
-ghost use Rattle.command_laws.{specs.CommandCases.{cases, IsOutcome}, specs.Causes.{EndsWithFault, Absent, NoPlan, Misfits, NoHeader, Cut, Refused, Lacking, TooLate, IsPickable, MayCallFor, MayEndWith}, specs.Ends.{ends_with, EndsWhere, Lists, ListsWritten, EndsWellOrLate, EndsStay}, specs.ToldFiles.OverToldFiles};
+ghost use Rattle.command_laws.{specs.Ends.{ends_with, EndsWithFault, EndsWhere, MayEndWith, IsPickable, Lists, ListsWritten, EndsWellOrLate, EndsStay}, specs.ToldFiles.OverToldFiles};
 
 /// A `demo` ends as `run` does on the text of its plan and the made file.
 pub fn demo_is_a_run()
@@ -39,14 +39,14 @@ pub fn what_is_picked_is_listed()
         (ends_with (Pick plan_name group file) plan_file data_file).text }
 {}
 
-/// The outcome of a command over its files is the one that the table of cases calls for, and no other.
+/// The outcome of a command over its files is the one that a line of its table (`cases`) calls for, and no other.
 pub fn one_outcome()
     ensures { (request : Option Request) (plan_file data_file : File) (end : Outcome)
         → IsOutcome request plan_file data_file end
         ↔ (outcome (behaviour request) plan_file data_file ≡ end) }
 {}
 
-/// A command ends with a fault exactly where its cause stands, which its line of `cases` tells: with status 1 where the words are no command,
+/// A command ends with a fault exactly where a line of its table (`cases`) calls for it: with status 1 where the words are no command,
 /// with 2 where a file is not there, 6 to 8 where PLAN is no plan, 9 where a part of it doesn't suit, 10 to
 /// 16 where FILE is refused as a header, 17 where it ends within a record, 18 to 21 where a record is refused, 22 and 23
 /// where the plan lacks what the command needs (a trace, or the group of the number), and 24 where a photon of the
@@ -54,15 +54,14 @@ pub fn one_outcome()
 pub fn exactly_where()
     ensures words { (request : Option Request) (plan_file data_file : File)
         → EndsWithFault request plan_file data_file Usage ↔ (request ≡ None) }
-    ensures absent { EndsWhere 2 2 Absent }
-    ensures plan { EndsWhere 6 8 (λ of plan_file data_file fault. NoPlan of plan_file fault) }
-    ensures lacking { EndsWhere 22 23
-        (λ of plan_file data_file fault. Lacking of plan_file fault) }
-    ensures mode { EndsWhere 9 9 Misfits }
-    ensures header { EndsWhere 10 16 NoHeader }
-    ensures cut { EndsWhere 17 17 Cut }
-    ensures refused { EndsWhere 18 21 Refused }
-    ensures late { EndsWhere 24 24 TooLate }
+    ensures absent { EndsWhere AtFile }
+    ensures plan { EndsWhere AtPlan }
+    ensures lacking { EndsWhere AtNeed }
+    ensures mode { EndsWhere AtMode }
+    ensures header { EndsWhere AtHeader }
+    ensures cut { EndsWhere AtCut }
+    ensures refused { EndsWhere AtRecord }
+    ensures late { EndsWhere AtLate }
 {}
 
 /// `pick` ends well by a plan that has the group, over a file that suits it and whose records are whole and not refused,
@@ -74,11 +73,13 @@ pub fn pick_ends_well_or_late()
 {}
 
 /// The faults that the words and files of each command may call for, by their statuses: usage where there is no command,
-/// none for `demo`, else those of its shape and its own (`cases`). Beside these a run may end with 0, and with 2 to 5
-/// for what fails outside.
+/// none for `demo`, else those of the lines of its table (`cases`). The bounds of a line are those of its phase or nearer,
+/// and hold all its ends. Beside these a run may end with 0, and with 2 to 5 for what fails outside.
 pub fn statuses_of_commands()
-    ensures { (request : Option Request) (plan_file data_file : File) (fault : Fault)
-        → EndsWithFault request plan_file data_file fault → MayCallFor (cases request) fault }
+    ensures lines { (request : Option Request) → Sound (cases request) }
+    ensures faults { (request : Option Request) (plan_file data_file : File) (fault : Fault)
+        → EndsWithFault request plan_file data_file fault
+        → HasStatus (cases request) (status_of fault) }
 {}
 
 /// Bytes of FILE call for no end by themselves, or the run ends as they say whatever comes after them: a
@@ -93,7 +94,7 @@ pub fn an_end_that_is_shown_stays()
 /// 21 for `run`; 0 and 2 to 22 for `trace`; 0, 2 to 21, 23 and 24 for `pick`; 0, 4 and 5 for `demo`.
 pub fn statuses_of_runs()
     ensures { (request : Option Request) (run : Around) (result : ℕ) → Runs request run result
-        → MayEndWith (cases request) result }
+        → MayEndWith request result }
 {}
 
 /// What is promised of a run holds over the files that its inputs tell, as those in memory do: where nothing outside

@@ -1,3 +1,11 @@
-pub mod Complete
 pub mod ByteFaults
+pub mod Tables
+pub mod Shapes
+pub mod CaseSteps
+pub mod PickPhotons
+pub mod PickCases
+pub mod Prints
+pub mod Cases
+pub mod Told
 pub mod Sound
+pub mod Complete

@@ -7,7 +7,7 @@ use Rattle.file_work.specs.FileOutcomes.{counting, printing, events_so_far, list
 use Rattle.report_work.{specs.Reports.{any_plan, reporting}, specs.Demo.demo_report}
 use Rattle.trace_work.specs.TraceOutcomes.{no_trace, trace_so_far, tracing}
 use Rattle.pick_work.specs.PickOutcomes.{no_group, pick_so_far, picking}
-use Rattle.command_words.specs.Commands.{Request, request_of, Count, Events, Run, Trace, Pick, Demo, Header as HeaderOf}
+use Rattle.ptu_cli.{specs.Commands.{Request, request_of, Count, Events, Run, Trace, Pick, Demo}, specs.Commands.Header as HeaderOf}
 
 abbrev pub behaviour : Option Request → Behaviour
 behaviour None = Alone (refused Usage)

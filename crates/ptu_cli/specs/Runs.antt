@@ -2,8 +2,7 @@
 use Rattle.std.{specs.Prelude.{ℕ, ◌≡◌, ◌⊎◌, ◌↔◌, ◌≤◌, ◌<◌, List, None, Some}, specs.declared.option.Option.{Option}}
 use Rattle.tally_base.{specs.declared.slot.Slot.Slot, specs.declared.fault.Fault.Fault, specs.declared.fault.Fault.TheVariants.{OpenFault, ReadFault, WriteFault, OutOfMemory}, specs.FaultCounts.Rose}
 use Rattle.bench_io.{specs.Inputs.{File, InputState}, specs.declared.inputs.Inputs.Ghosts as InputGhosts, specs.declared.sink.Sink.Ghosts as SinkGhosts}
-use Rattle.command_words.specs.Commands.{Request}
-use Rattle.ptu_cli.specs.Behaviours.{behaviour}
+use Rattle.ptu_cli.{specs.Commands.Request, specs.Behaviours.behaviour}
 use Rattle.command_work.{specs.Outcomes.{InputsOnce, OutOnce, Outcome, status}, specs.Endings.{HasPlan, AreItsFiles, ForItsFiles, ToldAreIts, TellsFault, EndsBy, FailsOpening, FailsReading, CutsOutcome, RunsOut, Asks, LacksMemory, NoneRose, IsGood}}
 
 -- The states before a run and after it: of the inputs, of standard output and of standard error, each with the count of its failed writes.

@@ -1,15 +1,14 @@
 // The whole program: the words of its command line, the command that they ask for, and its exit status.
 ghost use Rattle.std.{specs.Prelude.{◌≡◌, drop, false, None, Some, Ok, Err, IsOk, IfOk, IfErr}, specs.Process.exit_status, specs.IoError.error_kind, specs.Vec.Iter.into_iter_items};
 ghost use Rattle.tally_base.{specs.declared.slot.Slot.Slot, specs.declared.fault.Fault.TheVariants.OutOfMemory, specs.Faults.status_of};
-ghost use Rattle.file_edge.specs.Edge.{fault_of_kind};
 ghost use Rattle.command_work.specs.Endings.{IsMeant, TellsFault, Does, span};
-ghost use Rattle.ptu_cli.{specs.Behaviours.{request_in, behaviour_of}, specs.Runs.{Runs, around}};
+ghost use Rattle.ptu_cli.{specs.Edge.fault_of_kind, specs.Behaviours.{request_in, behaviour_of}, specs.Runs.{Runs, around}};
 
+use crate::edge::{FileInputs, StreamSink};
+use crate::words::{Command, read_words};
 use arrayvec::ArrayVec;
 use bench_io::{Inputs, Sink, write_all};
-use command_words::{Command, read_words};
 use command_work::{by_plan, on_file};
-use file_edge::{FileInputs, StreamSink};
 use file_work::{Counting, Listing, Printing};
 use pick_work::Picking;
 use report_work::{Reporting, demo};
@@ -183,9 +182,9 @@ pub fn exit_of<I: Inputs, O: Sink, E: Sink>(
 {
     match words {
         Ok(words) => ExitCode::from(ptu_main(alloc, words.as_slice(), inputs, out, err)),
-        Err(no_words) => {
-            tell(&no_words, err);
-            ExitCode::from(no_words.status())
+        Err(refusal) => {
+            tell(&refusal, err);
+            ExitCode::from(refusal.status())
         }
     }
 }

@@ -2,7 +2,7 @@ use Rattle.std.{proofs.Common.{ℕ, List, inl, inr, arith, rules}, specs.declare
 use Rattle.tally_base.{specs.declared.slot.Slot.Slot, specs.declared.slot.Slot.TheVariants.Plan, specs.declared.fault.Fault.Fault}
 use Rattle.bench_io.specs.Inputs.{File, InputState}
 use Rattle.plan_text.specs.Plan.{PlanView}
-use Rattle.command_words.specs.Commands.{Request}
+use Rattle.ptu_cli.specs.Commands.{Request}
 use Rattle.ptu_cli.{specs.Runs.{Around, Runs}, specs.Behaviours.behaviour}
 use Rattle.command_work.{specs.Behaviours.{Behaviour, Alone, OnFile, ByPlan}, specs.Endings.{FileOf, AreItsFiles, HasPlan, Reaches, LeavesUnread, RunsOut, Asks}, proofs.Told.told-are-its}
 use Rattle.command_laws.specs.ToldFiles.{IsGoodPlan, OverToldFiles}

@@ -1,15 +1,14 @@
--- What `pick` ends with is what the table of cases calls for.
-use Rattle.std.{proofs.Common.{◌≡◌, ℕ, List, [], ◌∷◌, ◌++◌, length, Bool, true, false, None, Some, Err, refl, sym, ap, ◌∙◌, subst, inl, inr, ◌≢◌, append-nil, arith, append_assoc, ◌⊎◌, ◌==◌, nat_le, ◌&&◌, rules}, specs.declared.option.Option.Option}
+-- What `pick` ends with is what its table calls for.
+use Rattle.std.{proofs.Common.{◌≡◌, ℕ, List, [], ◌∷◌, ◌++◌, length, Bool, true, false, None, Some, Err, refl, sym, ap, ◌∙◌, inl, inr, ◌≢◌, append-nil, arith, append_assoc, ◌⊎◌, ◌==◌, nat_le, ◌&&◌, rules}, specs.declared.option.Option.Option}
 use Rattle.tally_base.{specs.declared.fault.Fault.Fault, specs.declared.fault.Fault.TheVariants.{TruncatedRecord, NoGroup, PickTime}, specs.declared.header.Header.Header, specs.Faults.fault_in, specs.declared.event.Event.Event}
-use Rattle.ptu_definitions.{specs.Words.{words_of, rest_of}, specs.Streams.{IsFirst, StreamSettings, record_refusal, refusal}, proofs.Firsts.{first-refusal, refused-first, none-refused}}
+use Rattle.ptu_definitions.{specs.Words.{words_of, rest_of}, specs.Streams.{IsFirst, StreamSettings, record_refusal}, proofs.Firsts.{first-refusal, refused-first, none-refused}}
 use Rattle.record_stream.proofs.Lasts.{streamed-refused}
 use Rattle.plan_text.specs.Plan.{PlanView}
 use Rattle.gate_plan.specs.Histories.{reading_by}
 use Rattle.photon_pick.{specs.Late.too_late, specs.Ends.photons_by, specs.Texts.photons_in}
-use Rattle.pick_work.specs.PickOutcomes.{no_group, chosen_by, picks_of, picking}
-use Rattle.command_work.specs.Outcomes.{Outcome, StatusIn}
-use Rattle.ptu_cli.proofs.ByteFaults.{least-status}
-use Rattle.command_laws.{specs.Cases.{NoneRefused, HasGroup, settled_photons, kept_photons, FirstLate, LateAtRecord, LateAtEnd, RefusedInTime, SettledInTime, AllPicked, pick_end, PickedCase}, specs.CommandCases.{pick_statuses, NamesLate, pick_cases, Needs}, proofs.FaultStatuses.{of-written, of-end, range-as, wider}, proofs.CaseShapes.{Call, IsCut, IsRefused, IsLate, CallsBy, PlanMeets, needs-by}, proofs.PickPhotons.{late-ends, none-or-late, late-more, picked_end, end-late, end-in_time, in-settled, in-before, least-late, clear-front, all-end}, proofs.CaseSteps.{empty-true, empty-false, true-empty, false-empty, whole_answer, streamed-clear}}
+use Rattle.pick_work.specs.PickOutcomes.{no_group, chosen_by, picks_of}
+use Rattle.command_work.specs.Outcomes.{Outcome}
+use Rattle.ptu_cli.{proofs.ByteFaults.{least-status}, specs.Tables.Applies, specs.Cases.{NoneRefused, HasGroup, settled_photons, kept_photons, FirstLate, LateAtRecord, LateAtEnd, RefusedInTime, SettledInTime, AllPicked, pick_end, pick_lines}, proofs.Tables.{Meets, as-status}, proofs.PickPhotons.{late-ends, none-or-late, late-more, picked_end, end-late, end-in_time, in-settled, in-before, least-late, clear-front, all-end}, proofs.CaseSteps.{empty-true, empty-false, true-empty, false-empty, whole_answer, streamed-clear}}
 
 -- ## The records
 
@@ -25,6 +24,9 @@ module _ (view : PlanView) (group : ℕ) (header : Header) (behind : List ℕ) w
 
   abbrev whole_end : Outcome
   whole_end = (picks_of group view header).ends behind
+
+  abbrev Picked : Outcome → Type 0
+  Picked = Applies (pick_lines group) view (header, behind)
 
   abbrev settled : List ℕ → List Event
   settled = settled_photons view group header
@@ -81,99 +83,58 @@ module _ (view : PlanView) (group : ℕ) (header : Header) (behind : List ℕ) w
   all-picked all =
       clear-end ((none-refused how words).1 all.unrefused) true (true-empty (rest_of behind) all.whole) ∙ end-in_time how.mode kept None all.in_time
 
-  pub picked-holds : PickedCase view group header behind whole_end
+  pub picked-holds : Picked whole_end
   picked-holds = by (record_refusal how words) refl
     where
       stopped : (fault : Fault) (least : IsFirst how fault [] words)
-          → (too_late how.mode (settled least.front) ≡ []) ⊎ FirstLate how.mode (settled least.front) → PickedCase view group header behind whole_end
+          → (too_late how.mode (settled least.front) ≡ []) ⊎ FirstLate how.mode (settled least.front) → Picked whole_end
       stopped fault least (inr h) = let late = first-settled least.front (least.word ∷ least.more) least.parts least.unrefused h in inl (late, late-first late)
       stopped fault least (inl none) = let refusal : RefusedInTime view group header words fault =
           record { least = least; in_time = none } in inr (inl (fault, refusal, refused-end fault refusal))
 
       left : NoneRefused how words → rest_of behind ≢ [] → (too_late how.mode (settled words) ≡ []) ⊎ FirstLate how.mode (settled words)
-          → PickedCase view group header behind whole_end
+          → Picked whole_end
       left clear some (inr h) = let late = first-settled words [] (sym (append-nil words)) clear h in inl (late, late-first late)
       left clear some (inl none) = let soon : SettledInTime view group header words =
           record { unrefused = clear; in_time = none } in inr (inr (inl (soon, some, cut-end soon some)))
 
-      whole : NoneRefused how words → rest_of behind ≡ [] → (too_late how.mode (settled words) ≡ []) ⊎ FirstLate how.mode (settled words) → (too_late how.mode kept ≡ []) ⊎ FirstLate how.mode kept → PickedCase view group header behind whole_end
+      whole : NoneRefused how words → rest_of behind ≡ [] → (too_late how.mode (settled words) ≡ []) ⊎ FirstLate how.mode (settled words) → (too_late how.mode kept ≡ []) ⊎ FirstLate how.mode kept → Picked whole_end
       whole clear all (inr s) h = let late = first-settled words [] (sym (append-nil words)) clear s in inl (late, late-first late)
       whole clear all (inl soon) (inr h) = let late : LateAtEnd view group header behind =
           record { unrefused = clear; whole = all; none_settled = soon; first = h } in inr (inr (inr (inl (late, late-last late))))
       whole clear all (inl soon) (inl none) = let all : AllPicked view group header behind =
-          record { unrefused = clear; whole = all; in_time = none } in inr (inr (inr (inr (all, all-picked all))))
+          record { unrefused = clear; whole = all; in_time = none } in inr (inr (inr (inr (inl (all, all-picked all)))))
 
-      ends : NoneRefused how words → (b : Bool) → (length (rest_of behind) == 0) ≡ b → PickedCase view group header behind whole_end
+      ends : NoneRefused how words → (b : Bool) → (length (rest_of behind) == 0) ≡ b → Picked whole_end
       ends clear true is = whole clear (empty-true (rest_of behind) is) (none-or-late how.mode (settled words)) (none-or-late how.mode kept)
       ends clear false is = left clear (empty-false (rest_of behind) is) (none-or-late how.mode (settled words))
 
-      by : (o : Option Fault) → record_refusal how words ≡ o → PickedCase view group header behind whole_end
+      by : (o : Option Fault) → record_refusal how words ≡ o → Picked whole_end
       by (Some fault) e = let least = first-refusal how words fault e in stopped fault least (none-or-late how.mode (settled least.front))
       by None e = ends ((none-refused how words).0 e) (length (rest_of behind) == 0) refl
 
-  picked-only : (end : Outcome) → PickedCase view group header behind end → whole_end ≡ end
+  picked-only : (end : Outcome) → Picked end → whole_end ≡ end
   picked-only end (inl h) = late-first h.0 ∙ sym h.1
   picked-only end (inr (inl h)) = refused-end h.0 h.1 ∙ sym h.2
   picked-only end (inr (inr (inl h))) = cut-end h.0 h.1 ∙ sym h.2
   picked-only end (inr (inr (inr (inl h)))) = late-last h.0 ∙ sym h.1
-  picked-only end (inr (inr (inr (inr h)))) = all-picked h.0 ∙ sym h.1
+  picked-only end (inr (inr (inr (inr (inl h))))) = all-picked h.0 ∙ sym h.1
+  picked-only end (inr (inr (inr (inr (inr never))))) = absurd never
 
 -- ## The group
 
 abbrev has_group : ℕ → PlanView → Bool
 has_group group view = nat_le 1 group && nat_le group (length view.groups)
 
-group-decides : (group : ℕ) (view : PlanView)
+pub group-decides : (group : ℕ) (view : PlanView)
     → (HasGroup group view × (no_group group view ≡ None)) ⊎ ((HasGroup group view → ⊥) × (no_group group view ≡ Some (NoGroup group)))
 group-decides group view = search (rules, arith, has_group)
 
--- ## What is told
+-- ## What is met
 
-picked-cause : (group : ℕ) (view : PlanView) (header : Header) (behind : List ℕ) (end : Outcome) (fault : Fault)
-    → PickedCase view group header behind end → end.fault ≡ Some fault
-    → (call : Call) × CallsBy call (pick_cases group view) header behind fault
-picked-cause group view header behind end fault (inl h) e = (IsLate, inl (h.0, of-end end _ _ fault h.1 e))
-picked-cause group view header behind end fault (inr (inl h)) e =
-    (IsRefused, subst (RefusedInTime view group header (words_of behind)) (sym (of-end end _ h.0 fault h.2 e)) h.1)
-picked-cause group view header behind end fault (inr (inr (inl h))) e = (IsCut, (h.0, h.1, of-end end _ _ fault h.2 e))
-picked-cause group view header behind end fault (inr (inr (inr (inl h)))) e = (IsLate, inr (h.0, of-end end _ _ fault h.1 e))
-picked-cause group view header behind end fault (inr (inr (inr (inr h)))) e = absurd (of-written end _ fault h.1 e)
-
-abbrev with_photons : Header → List Event → Fault → Outcome
-with_photons header photons further = pick_end header photons (Some further)
-
-picked-ends : (group : ℕ) (view : PlanView) (call : Call) (header : Header) (behind : List ℕ) (fault : Fault)
-    → CallsBy call (pick_cases group view) header behind fault
-    → (end : Outcome) × PickedCase view group header behind end × (end.fault ≡ Some fault)
-picked-ends group view IsCut header behind fault cut =
-    let photons = settled_photons view group header (words_of behind) in
-    (with_photons header photons fault, inr (inr (inl (cut.0, cut.1, ap (with_photons header photons) cut.2))), refl)
-picked-ends group view IsRefused header behind fault refusal =
-    (with_photons header (settled_photons view group header refusal.least.front) fault, inr (inl (fault, refusal, refl)), refl)
-picked-ends group view IsLate header behind fault (inl late) =
-    (with_photons header late.0.first.before fault, inl (late.0, ap (with_photons header late.0.first.before) late.1), refl)
-picked-ends group view IsLate header behind fault (inr late) =
-    (with_photons header late.0.first.before fault, inr (inr (inr (inl (late.0, ap (with_photons header late.0.first.before) late.1)))), refl)
-
-names-status : (group : ℕ) (view : PlanView) (header : Header) (behind : List ℕ) (fault : Fault)
-    → NamesLate group view header behind fault → StatusIn 24 24 fault
-names-status group view header behind fault h1 = search (rules, arith, range-as)
-
-pub pick-told : (group : ℕ) → PlanMeets pick_statuses (Needs (HasGroup group) (NoGroup group)) (pick_cases group) (no_group group) (picking group)
-pick-told group = record {
-  needs = needs-by pick_statuses (HasGroup group) (NoGroup group) (no_group group)
-      (group-decides group) ((omega arith, omega arith), inr (omega arith, omega arith));
-  works = λ view has. record {
-    tells = picks_of group view;
-    is = λ bytes. refl;
-    told = record {
-      holds = picked-holds view group;
-      only = picked-only view group;
-      cause = picked-cause group view;
-      ends = picked-ends group view;
-      refuses_status = λ header behind fault h. let s = least-status (reading_by view header) behind fault h.least in (s, inl s);
-      late_status = λ header behind fault h. let s =
-          names-status group view header behind fault h in (s, inr (wider 24 24 23 24 fault s (omega arith) (omega arith)));
-    };
-  };
+pub pick-meets : (group : ℕ) → Meets (HasGroup group) (pick_lines group) (λ view found. (picks_of group view found.0).ends found.1)
+pick-meets group = record {
+  holds = λ view found has. picked-holds view group found.0 found.1;
+  only = λ view found end has h. picked-only view group found.0 found.1 end h;
+  sound = (λ n s. s, λ end view found e. as-status 24 24 end _ e.1 (omega arith, omega arith), (λ n s. s, λ end view found e. as-status 18 21 end _ e.2 (least-status (reading_by view found.0) found.1 e.0 e.1.least), (λ n s. s, λ end view found e. as-status 17 17 end _ e.2 (omega arith, omega arith), (λ n s. s, λ end view found e. as-status 24 24 end _ e.1 (omega arith, omega arith), (λ n s. s, λ end view found e. as-status 0 0 end _ e.1 (omega arith, omega arith), tt)))));
 }

@@ -1,11 +1,11 @@
--- What `header` ends with is what the table of cases calls for.
-use Rattle.std.{proofs.Common.{◌≡◌, ℕ, List, [], ◌∷◌, ◌++◌, None, Some, refl, sym, ap, ◌∙◌, subst, inl, inr, ◌⊎◌, flat_map, arith, rules}, specs.declared.option.Option.{Option}}
-use Rattle.tally_base.specs.Faults.{fault_in}
+-- What `header` ends with is what its table calls for.
+use Rattle.std.{proofs.Common.{◌≡◌, ℕ, List, [], ◌∷◌, ◌++◌, None, Some, Ok, Err, refl, sym, ap, ◌∙◌, subst, inl, inr, ◌⊎◌, flat_map, arith, rules}, specs.declared.option.Option.{Option}}
+use Rattle.tally_base.{specs.declared.fault.Fault.Fault, specs.Faults.{fault_in}}
 use Rattle.ptu_definitions.{specs.TagList.Item, specs.Endings.HasHeader, specs.Headers.{header_answer, head_of, seen, seen_preamble, HasNoFront, HasLongestFront}, proofs.Sound.one_answer, proofs.SeenLemmas.{seen-header, seen_preamble-header}, proofs.SeenLaws.{seen-longest, seen-none}, proofs.Longest.some-longest}
 use Rattle.list_out.specs.HeaderText.{preamble_part, item_text, shown_text, header_text}
-use Rattle.command_laws.specs.Cases.{Prints, PrintCase}
-use Rattle.command_work.{specs.Outcomes.Outcome, proofs.RestEnds.same-end}
+use Rattle.command_work.{specs.Outcomes.{Outcome, IsIn, status}, proofs.RestEnds.same-end}
 use Rattle.file_work.specs.FileOutcomes.{header_outcome}
+use Rattle.ptu_cli.{specs.Tables.Applies, specs.Cases.{Prints, PrintCase, print_lines}, proofs.Tables.Meets, proofs.Shapes.{Answer, header-status}}
 
 shown-at : (bytes : List ℕ) (start : Option (List ℕ)) (items : List Item) → seen_preamble bytes ≡ start
     → seen bytes ≡ items → shown_text bytes ≡ preamble_part start ++ flat_map item_text items
@@ -39,15 +39,28 @@ prints-only bytes text (inr (inr h)) =
     shown-header bytes (h.inner ++ h.last ∷ []) (record { start = h.start; inner = h.inner; last = h.last; header = h.header; rest = h.rest; is_header = h.is_header; items_are = refl; bytes_are = h.bytes_are })
     ∙ sym h.text_is
 
-pub print-holds : (bytes : List ℕ) → PrintCase bytes (header_outcome bytes)
-print-holds bytes = record {
-  answer = header_answer bytes;
-  is_answer = (one_answer bytes (header_answer bytes)).1 refl;
-  fault_is = refl;
-  prints = subst (Prints (head_of bytes)) (sym (head-text bytes)) (prints-holds (head_of bytes));
+pub print-meets : {K : Type 0} → Meets {K = K} (λ known. Unit {0}) print_lines (λ known bytes. header_outcome bytes)
+print-meets = record {
+  holds = λ known bytes given. holds known bytes (header_answer bytes) refl;
+  only = λ known bytes end given h. elim h [
+    | inl e ↦ only bytes (Err e.0) end e.1
+    | inr e ↦ elim e [ inl e ↦ only bytes (Ok e.0) end e.1 | inr never ↦ absurd never ]
+  ];
+  sound = (λ n s. s, λ end known bytes e. subst (λ (o : Option Fault). IsIn 10 16 (status o)) (sym e.1.fault_is) (header-status bytes e.0 e.1.is_answer), (λ n s. s, λ end known bytes e. subst (λ (o : Option Fault). IsIn 0 0 (status o)) (sym e.1.fault_is) (omega arith, omega arith), tt));
 }
+  where
+    printed : (bytes : List ℕ) (answer : Answer) → header_answer bytes ≡ answer → PrintCase bytes answer (header_outcome bytes)
+    printed bytes answer e = record {
+      is_answer = (one_answer bytes answer).1 e;
+      fault_is = ap fault_in e;
+      prints = subst (Prints (head_of bytes)) (sym (head-text bytes)) (prints-holds (head_of bytes));
+    }
 
-pub print-only : (bytes : List ℕ) (end : Outcome) → PrintCase bytes end → header_outcome bytes ≡ end
-print-only bytes end h =
-    same-end (header_outcome bytes) end.text end.fault (head-text bytes ∙ prints-only (head_of bytes) end.text h.prints)
-    (ap fault_in ((one_answer bytes h.answer).0 h.is_answer) ∙ sym h.fault_is)
+    holds : {K : Type 0} (known : K) (bytes : List ℕ) (answer : Answer) → header_answer bytes ≡ answer → Applies print_lines known bytes (header_outcome bytes)
+    holds known bytes (Err fault) e = inl (fault, printed bytes (Err fault) e)
+    holds known bytes (Ok found) e = inr (inl (found, printed bytes (Ok found) e))
+
+    only : (bytes : List ℕ) (answer : Answer) (end : Outcome) → PrintCase bytes answer end → header_outcome bytes ≡ end
+    only bytes answer end h =
+        same-end (header_outcome bytes) end.text end.fault (head-text bytes ∙ prints-only (head_of bytes) end.text h.prints)
+        (ap fault_in ((one_answer bytes answer).0 h.is_answer) ∙ sym h.fault_is)

@@ -1,7 +1,6 @@
 -- How commands end by the header and the records of FILE, as cases over whole lists: relations, plain counts and the texts of lines. No function is cited that finds an answer for the program (`header_answer`, `plan_answer`, `fits`, `counted`, `record_refusal`, `streamed`, `given`, `seen`).
 use Rattle.std.{specs.Prelude.{ℕ, ◌≡◌, ◌≢◌, ◌⊎◌, ◌<◌, ◌≤◌, List, [], ◌∷◌, ◌++◌, length, take, get_or, map, flat_map, codes, decimal, nat_le, count_by, ◌+◌, ◌/◌, ◌==◌, true, None, Some, Result, Ok, Err}, specs.List.filter, specs.declared.option.Option.Option}
-use Rattle.tally_base.{specs.declared.slot.Slot.TheVariants.Data, specs.declared.event.Event.Event, specs.declared.fault.Fault.Fault, specs.declared.fault.Fault.TheVariants.{OpenFault, RecordLimit, TruncatedRecord, PickTime}, specs.declared.header.Header.Header, specs.declared.header.Mode.Mode, specs.Faults.fault_in, specs.RecordTypes.mode_of, specs.Settings.{PartSettings, StartStopView, TraceView}, specs.Settings.PartSettings.StartStopSettings}
-use Rattle.bench_io.specs.Inputs.{File}
+use Rattle.tally_base.{specs.declared.event.Event.Event, specs.declared.fault.Fault.Fault, specs.declared.fault.Fault.TheVariants.{RecordLimit, TruncatedRecord, PickTime}, specs.declared.header.Header.Header, specs.declared.header.Mode.Mode, specs.Faults.fault_in, specs.RecordTypes.mode_of, specs.Settings.{PartSettings, StartStopView, TraceView}, specs.Settings.PartSettings.StartStopSettings}
 use Rattle.ptu_definitions.{specs.declared.records.Summary.Summary, specs.TagList.{Item, IsHeader}, specs.Headers.{HasAnswer, head_of, begun, IsLongestFront, HasNoFront}, specs.Words.{words_of, rest_of, record_limit}, specs.Layouts.meaning_of, specs.Kinds.counts_of, specs.Prefixes.each, specs.Settled.{kept_by, settled_by}, specs.Times.events, specs.Streams.{StreamSettings, refusal, events_in, summary_of, IsFirst}}
 use Rattle.plan_text.specs.Plan.{PlanView, parts_of}
 use Rattle.coincidence.specs.Intervals.{count_pairs}
@@ -15,25 +14,9 @@ use Rattle.pick_work.specs.PickOutcomes.{chosen_by}
 use Rattle.record_write.specs.Picked.{is_too_late, picked_file}
 use Rattle.photon_pick.specs.Late.{too_late}
 use Rattle.long_trace.specs.Texts.{open_text, whole_text}
+use Rattle.ptu_cli.specs.Tables.{AtHeader, AtCut, AtRecord, AtLate, Well, Lines, NoLine, Line, within}
 
--- ## Files, headers and records
-
--- There is no such file, or it is these bytes and they end so.
-abbrev pub FileCase : (List ℕ → Outcome → Type 0) → File → Outcome → Type 0
-FileCase case None end = end ≡ refused (OpenFault Data)
-FileCase case (Some bytes) end = case bytes end
-
--- The bytes are refused as a header, or have one, and end as it and the bytes after it do.
-abbrev pub HeaderCase : (Header → List ℕ → Outcome → Type 0) → List ℕ → Outcome → Type 0
-HeaderCase case bytes end =
-    ((fault : Fault) × HasAnswer bytes (Err fault) × (end ≡ refused fault))
-    ⊎ ((header : Header) × (behind : List ℕ) × HasAnswer bytes (Ok (header, behind)) × case header behind end)
-
--- Bytes of a record that is cut are refused. Where there are none the text is written.
-abbrev pub WholeCase : List ℕ → List ℕ → Outcome → Type 0
-WholeCase behind text end =
-    ((rest_of behind ≢ []) × (end ≡ refused (TruncatedRecord (length (rest_of behind)))))
-    ⊎ ((rest_of behind ≡ []) × (end ≡ written text))
+-- ## Records
 
 -- No word is refused after those before it.
 abbrev pub NoneRefused : StreamSettings → List ℕ → Type 0
@@ -41,11 +24,13 @@ NoneRefused how words = (k d : ℕ) → k < length words → refusal how (take k
 
 -- ## count
 
-abbrev pub CountCase : Header → List ℕ → Outcome → Type 0
-CountCase header behind end =
-    ((record_limit < length (words_of behind)) × (end ≡ refused (RecordLimit record_limit)))
-    ⊎ ((length (words_of behind) ≤ record_limit)
-    × WholeCase behind (counts_text header (counts_of (map (meaning_of header.record_type) (words_of behind)))) end)
+-- Too many records are refused, and then one that is cut. Else their counts are written.
+abbrev pub count_lines : {K : Type 0} → Lines K (Header × List ℕ)
+count_lines =
+    Line AtRecord 20 20 (λ known found end. (record_limit < length (words_of found.1)) × (end ≡ refused (RecordLimit record_limit)))
+    (Line AtCut 17 17 (λ known found end. (length (words_of found.1) ≤ record_limit) × (rest_of found.1 ≢ []) × (end ≡ refused (TruncatedRecord (length (rest_of found.1)))))
+    (Line Well 0 0 (λ known found end. (length (words_of found.1) ≤ record_limit) × (rest_of found.1 ≡ [])
+    × (end ≡ written (counts_text found.0 (counts_of (map (meaning_of found.0.record_type) (words_of found.1)))))) NoLine))
 
 -- ## header
 
@@ -72,28 +57,30 @@ pub record PrintsHeader (bytes text : List ℕ) : Type 0 where
 abbrev pub Prints : List ℕ → List ℕ → Type 0
 Prints bytes text = (HasNoFront bytes × (text ≡ [])) ⊎ (PrintsFront bytes text ⊎ PrintsHeader bytes text)
 
--- Whatever the answer is, the first bytes are printed as far as they go.
-pub record PrintCase (bytes : List ℕ) (end : Outcome) : Type 0 where
-  pub answer : Result (Header × List ℕ) Fault
+-- By the answer the run ends with its fault, or well. The first bytes are printed as far as they go.
+pub record PrintCase (bytes : List ℕ) (answer : Result (Header × List ℕ) Fault) (end : Outcome) : Type 0 where
   pub is_answer : HasAnswer bytes answer
   pub fault_is : end.fault ≡ fault_in answer
   pub prints : Prints (head_of bytes) end.text
 
+abbrev pub print_lines : {K : Type 0} → Lines K (List ℕ)
+print_lines =
+    Line AtHeader 10 16 (λ known bytes end. (fault : Fault) × PrintCase bytes (Err fault) end)
+    (Line Well 0 0 (λ known bytes end. (found : Header × List ℕ) × PrintCase bytes (Ok found) end) NoLine)
+
 -- ## events
 
--- The end of a stream that is read so: at the least record that is refused, with the text of those before it; at one that is cut, with that of all whole ones; or well, with the whole text.
-abbrev pub StreamCase : StreamSettings → (List ℕ → List ℕ) → List ℕ → List ℕ → Outcome → Type 0
-StreamCase how text_of whole_text behind end =
-    ((fault : Fault) × (least : IsFirst how fault [] (words_of behind)) × (end ≡ record { text = text_of least.front; fault = Some fault }))
-    ⊎ ((NoneRefused how (words_of behind) × (rest_of behind ≢ []) × (end ≡ record { text = text_of (words_of behind); fault = Some (TruncatedRecord (length (rest_of behind))) }))
-    ⊎ (NoneRefused how (words_of behind) × (rest_of behind ≡ []) × (end ≡ written whole_text)))
+-- A stream that is read so ends at the least record that is refused, with the text of those before it; at one that is cut, with that of all whole ones; or well, with the whole text.
+abbrev pub stream_lines : {K : Type 0} → ℕ → ℕ → (K → Header → StreamSettings) → (K → Header → List ℕ → List ℕ) → (K → Header → List ℕ → List ℕ) → Lines K (Header × List ℕ)
+stream_lines low high how text whole_text =
+    Line AtRecord low high (λ known found end. (fault : Fault) × (least : IsFirst (how known found.0) fault [] (words_of found.1)) × (end ≡ record { text = text known found.0 least.front; fault = Some fault }))
+    (Line AtCut 17 17 (λ known found end. NoneRefused (how known found.0) (words_of found.1) × (rest_of found.1 ≢ [])
+    × (end ≡ record { text = text known found.0 (words_of found.1); fault = Some (TruncatedRecord (length (rest_of found.1))) }))
+    (Line Well 0 0 (λ known found end. NoneRefused (how known found.0) (words_of found.1) × (rest_of found.1 ≡ []) × (end ≡ written (whole_text known found.0 (words_of found.1)))) NoLine))
 
 -- the lines of the events of these words
 abbrev pub list_text : Header → List ℕ → List ℕ
 list_text header words = events_text (events_in (listing header) words)
-
-abbrev pub ListCase : Header → List ℕ → Outcome → Type 0
-ListCase header behind = StreamCase (listing header) (list_text header) (list_text header (words_of behind)) behind
 
 -- ## run
 
@@ -126,27 +113,26 @@ words_report view header words =
     let how = reading_by view header in
     report_by_places header (summary_of how.policy.settle how.mode (map how.meaning words) (events (map how.meaning words))) (with_events (parts_of view) (history (sorting view) how words))
 
--- The report is written at a good end only.
-abbrev pub ReportCase : PlanView → Header → List ℕ → Outcome → Type 0
-ReportCase view header behind = StreamCase (reading_by view header) (λ words. []) (words_report view header (words_of behind)) behind
-
 -- ## trace
-
--- the lines of what these words have settled
-abbrev pub trace_text : TraceView → PlanView → Header → List ℕ → List ℕ
-trace_text set view header words = open_text set (settled_history (sorting view) (reading_by view header) words)
-
-abbrev pub TraceCase : TraceView → PlanView → Header → List ℕ → Outcome → Type 0
-TraceCase set view header behind =
-    StreamCase (reading_by view header) (trace_text set view header) (whole_text set (history (sorting view) (reading_by view header) (words_of behind))) behind
 
 -- A plan has a trace.
 abbrev pub HasTrace : PlanView → Type 0
 HasTrace view = (set : TraceView) × (trace_of view ≡ Some set)
 
--- The plan's first trace is printed.
-abbrev pub TracedCase : PlanView → Header → List ℕ → Outcome → Type 0
-TracedCase view header behind end = (set : TraceView) × (trace_of view ≡ Some set) × TraceCase set view header behind end
+-- the lines of what these words have settled, and those of all at a good end
+abbrev pub trace_text : PlanView × TraceView → Header → List ℕ → List ℕ
+trace_text known header words = open_text known.1 (settled_history (sorting known.0) (reading_by known.0 header) words)
+
+abbrev pub whole_trace : PlanView × TraceView → Header → List ℕ → List ℕ
+whole_trace known header words = whole_text known.1 (history (sorting known.0) (reading_by known.0 header) words)
+
+-- The lines for a plan's first trace.
+abbrev pub traced_lines : Lines (PlanView × TraceView) (Header × List ℕ) → Lines PlanView (Header × List ℕ)
+traced_lines lines = within (λ view found set. trace_of view ≡ Some set) (λ view found set. (view, set)) (λ view found set. found) lines
+
+-- A plan's first trace is printed.
+abbrev pub trace_lines : Lines PlanView (Header × List ℕ)
+trace_lines = traced_lines (stream_lines 18 21 (λ known. reading_by known.0) trace_text whole_trace)
 
 -- ## pick
 
@@ -213,10 +199,12 @@ abbrev pub pick_end : Header → List Event → Option Fault → Outcome
 pick_end header photons fault = record { text = picked_file (mode_of header.record_type) photons; fault = fault }
 
 -- The first photon that is too late is named, and those before it are written. At a record that is refused, or where the last one is cut, those are written that are settled by the records before. At a good end all are.
-abbrev pub PickedCase : PlanView → ℕ → Header → List ℕ → Outcome → Type 0
-PickedCase view group header behind end =
-    ((late : LateAtRecord view group header (words_of behind)) × (end ≡ pick_end header late.first.before (Some (PickTime late.first.photon.place))))
-    ⊎ (((fault : Fault) × (refusal : RefusedInTime view group header (words_of behind) fault) × (end ≡ pick_end header (settled_photons view group header refusal.least.front) (Some fault)))
-    ⊎ ((SettledInTime view group header (words_of behind) × (rest_of behind ≢ []) × (end ≡ pick_end header (settled_photons view group header (words_of behind)) (Some (TruncatedRecord (length (rest_of behind))))))
-    ⊎ (((late : LateAtEnd view group header behind) × (end ≡ pick_end header late.first.before (Some (PickTime late.first.photon.place))))
-    ⊎ (AllPicked view group header behind × (end ≡ pick_end header (kept_photons view group header (words_of behind)) None)))))
+abbrev pub pick_lines : ℕ → Lines PlanView (Header × List ℕ)
+pick_lines group =
+    Line AtLate 24 24 (λ view found end. (late : LateAtRecord view group found.0 (words_of found.1)) × (end ≡ pick_end found.0 late.first.before (Some (PickTime late.first.photon.place))))
+    (Line AtRecord 18 21 (λ view found end. (fault : Fault) × (refusal : RefusedInTime view group found.0 (words_of found.1) fault)
+    × (end ≡ pick_end found.0 (settled_photons view group found.0 refusal.least.front) (Some fault)))
+    (Line AtCut 17 17 (λ view found end. SettledInTime view group found.0 (words_of found.1) × (rest_of found.1 ≢ [])
+    × (end ≡ pick_end found.0 (settled_photons view group found.0 (words_of found.1)) (Some (TruncatedRecord (length (rest_of found.1))))))
+    (Line AtLate 24 24 (λ view found end. (late : LateAtEnd view group found.0 found.1) × (end ≡ pick_end found.0 late.first.before (Some (PickTime late.first.photon.place))))
+    (Line Well 0 0 (λ view found end. AllPicked view group found.0 found.1 × (end ≡ pick_end found.0 (kept_photons view group found.0 (words_of found.1)) None)) NoLine))))

@@ -1,6 +1,6 @@
 use Rattle.std.{proofs.Common.{◌<◌, ◌≤◌, ◌≡◌, ◌∙◌, ◌^◌, ◌&&◌, ℕ, Bool, true, false, None, Some, Ok, Err, List, length, sym, ap, refl, arith, rules, inl, inr, nat_le, if◌then◌else◌}, specs.Str.all_ascii_digits, proofs.lemmas.Bool.Decides.nat_tests, specs.Str.Parse.{ParsesUnsigned, digits_value}, proofs.lemmas.Bool.cases_lt, proofs.lemmas.Str.Parse.{IsNumeralModel, numerals_by_value, tells_all_ascii_digits, parse_digits}}
-use Rattle.command_words.specs.Commands.{is_numeral, number_in}
-use Rattle.command_words.proofs.words.number.Goals as goal
+use Rattle.ptu_cli.specs.Commands.{is_numeral, number_in}
+use Rattle.ptu_cli.proofs.words.number.Goals as goal
 
 -- the number that a word writes
 own : IsNumeralModel (λ ds. all_ascii_digits ds ≡ true) (digits_value 10)

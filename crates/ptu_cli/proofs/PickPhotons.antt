@@ -6,7 +6,7 @@ use Rattle.minimal_file.specs.ShortFiles.{short_header, minimal_file, bytes_in}
 use Rattle.record_write.specs.Picked.{is_too_late, picked_words, picked_file}
 use Rattle.photon_pick.{specs.Late.{too_late, writable}, specs.Texts.{photons_in, late_or}, specs.Ends.{photons_by, photons_of, end_text, end_fault}, proofs.Parts.chosen-more, proofs.Ends.{kept-are, clear-from_ok}}
 use Rattle.command_work.specs.Outcomes.{Outcome}
-use Rattle.command_laws.specs.Cases.{FirstLate}
+use Rattle.ptu_cli.specs.Cases.{FirstLate}
 
 -- ## The first that is too late
 
@@ -15,8 +15,7 @@ module _ (mode : Mode) where
   late-clear ps qs none = filter-append (λ (e : Event). is_too_late mode e.time) ps qs ∙ ap (λ l. l ++ too_late mode qs) none
 
   split-late : (b : Bool) (e : Event) (late : List Event) → cond b (e ∷ late) late ≡ [] → (b ≡ false) × (late ≡ [])
-  split-late true e late none = cc
-  split-late false e late none = (refl, none)
+  split-late b e late none = search (rules, arith)
 
   writable-clear : (ps qs : List Event) → too_late mode ps ≡ [] → writable mode (ps ++ qs) ≡ ps ++ writable mode qs
   writable-clear [] qs none = refl
@@ -144,11 +143,7 @@ module _ (chooses : Event → Bool) (how : StreamSettings) where
 
   -- the records before one that is not refused are not refused
   pub clear-front : (words more now : List ℕ) → now ≡ words ++ more → record_refusal how now ≡ None → record_refusal how words ≡ None
-  clear-front words more now parts clear = by (record_refusal how words) refl
-    where
-      by : (o : Option Fault) → record_refusal how words ≡ o → o ≡ None
-      by None e = refl
-      by (Some fault) e = let refused : record_refusal how now ≡ Some fault = ap (record_refusal how) parts ∙ refused-more how words more fault e in cc
+  clear-front words more now parts clear = search (rules, arith, refused-more)
 
   -- what all bytes after a header end with
   abbrev pub all_end : List ℕ → Outcome
