@@ -1,5 +1,6 @@
 """Fixtures of all tests: the program, and small files."""
 
+import os
 import subprocess
 from collections.abc import Callable, Iterable
 from pathlib import Path
@@ -16,6 +17,23 @@ settings.load_profile("any machine")
 
 ROOT = Path(__file__).resolve().parents[2]  # the checkout
 EXAMPLES = ROOT / "examples"
+
+
+LONG = ("test_many_hosts", "test_app", "test_app_browser", "test_many", "test_browser", "test_notebook", "test_smfret", "test_fits")
+
+
+def pytest_collection_modifyitems(items: list[pytest.Item]) -> None:
+    """The longest files first: each runs in one process, and the last one to begin would be waited for."""
+    items.sort(key=lambda item: LONG.index(item.path.stem) if item.path.stem in LONG else len(LONG))
+
+
+def pytest_sessionfinish(session: pytest.Session) -> None:
+    """In the gate a test that is skipped is a fault: what it needs isn't there."""
+    reporter: Any = session.config.pluginmanager.get_plugin("terminalreporter")
+    skipped = reporter.stats.get("skipped", []) if reporter else []
+    if skipped and os.environ.get("PTULAB_NONE_SKIPPED"):
+        reporter.write_line(f"skipped, and PTULAB_NONE_SKIPPED is set: {', '.join(one.nodeid for one in skipped)}")
+        session.exitstatus = pytest.ExitCode.TESTS_FAILED
 
 
 @pytest.fixture(scope="session")

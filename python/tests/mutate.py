@@ -37,9 +37,13 @@ MODULES = {  # with the tests of each
     "fits": ["test_fits.py", "test_steered.py"],
     "_fitting": ["test_steered.py", "test_fits.py"],
     "segments": ["test_segments.py", "test_edges.py"],
-    "pulsed": ["test_pulsed.py", "test_edges.py", "test_segments.py"],
+    "antibunching": ["test_antibunching.py", "test_edges.py", "test_fits.py", "test_segments.py", "test_steered.py"],
+    "intensity": ["test_intensity.py"],
+    "phasors": ["test_fits.py", "test_edges.py", "test_pixels.py"],
     "scans": ["test_scans.py", "test_edges.py"],
-    "bursts": ["test_bursts.py", "test_edges.py"],
+    "bursts": ["test_bursts.py", "test_smfret.py", "test_edges.py"],
+    "smfret": ["test_smfret.py"],
+    "photon_hdf5": ["test_photon_hdf5.py"],
     "events": ["test_events.py", "test_cut.py", "test_edges.py"],
 }
 LIBRARIES = ("hypothesis", "lmfit", "multipletau", "numpy", "scipy.stats")  # of the tests, but ptulab

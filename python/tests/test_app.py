@@ -1,16 +1,19 @@
 """The window's server: who may ask it, what it sees, and that no file, request or run ends it."""
 
+import base64
+import errno
 import io
 import json
 import os
 import re
+import shutil
 import signal
 import socket
 import subprocess
 import sys
 import threading
 import time
-from collections.abc import Iterator
+from collections.abc import Callable, Iterator
 from concurrent.futures import ThreadPoolExecutor
 from pathlib import Path
 from typing import Any
@@ -18,6 +21,7 @@ from typing import Any
 import made
 import numpy as np
 import pytest
+import simulated
 
 import ptulab
 from conftest import EXAMPLES
@@ -62,7 +66,7 @@ class Served:
         """The last line of a piece of work, with the name of its result."""
         answer = self.client.post(f"/api/{what}", content=json.dumps(asked))
         lines = [json.loads(line) for line in answer.text.splitlines() if line]
-        return {"begun": lines[0].get("begun"), **lines[-1]}
+        return {"begun": next((line["begun"] for line in lines if "begun" in line), None), **lines[-1]}
 
 
 def jobs_of(served: Served) -> Any:
@@ -188,7 +192,7 @@ BAD_NAMES = ["../outside/secret.ptu", "link.ptu", "away/secret.ptu", "more/../..
 
 
 @pytest.mark.parametrize("name", BAD_NAMES)
-@pytest.mark.parametrize("kind", ["look", "propose", "check", "run"])
+@pytest.mark.parametrize("kind", ["look", "check", "run"])
 def test_no_path_outside_the_folder(name: Any, kind: str, served: Served) -> None:
     answer = served.client.post(f"/api/{kind}", content=json.dumps({"file": name, "plan": DECAY, "analysis": "decay", "settings": {}}))
     assert answer.status_code == 404 and answer.json() == {"error": "there is no such file in the folder"}
@@ -244,7 +248,7 @@ def test_broken_files_get_a_line_and_end_nothing(served: Served, folder: Path) -
     assert served.work("look", file="pairs.ptu")["result"]["info"]["photons"] == 8000
 
 
-@pytest.mark.parametrize("body", [b"[]", b"{", b"\xff", b"3", b'{"file": {}}', b'{"plan": 1}', b"x" * (1 << 18) + b"yy"])
+@pytest.mark.parametrize("body", [b"[]", b"{", b"\xff", b"3", b'{"file": {}}', b'{"plan": 1}', b"[" * 100_000, b"x" * (1 << 18) + b"yy"])
 @pytest.mark.parametrize("path", ["/api/plan", "/api/run", "/api/keep", "/api/session", "/api/groups", "/api/page"])
 def test_odd_requests_are_refused(body: bytes, path: str, served: Served) -> None:
     answer = served.client.post(path, content=body)
@@ -284,8 +288,8 @@ def test_a_plan_is_checked_for_its_file(served: Served) -> None:
 
 
 def test_what_suits_no_file_says_why(served: Served) -> None:
-    t3 = {one["name"]: one for one in served.work("propose", file="decay.ptu")["result"]["questions"]}
-    t2 = {one["name"]: one for one in served.work("propose", file="pairs.ptu")["result"]["questions"]}
+    t3 = {one["name"]: one for one in served.work("look", file="decay.ptu")["result"]["questions"]}
+    t2 = {one["name"]: one for one in served.work("look", file="pairs.ptu")["result"]["questions"]}
     assert not t3["decay"]["reason"] and "[[histogram]]" in t3["decay"]["plan"] and "T2" in t3["antibunching"]["reason"]
     assert not t2["antibunching"]["reason"] and "[[coincidence]]" in t2["antibunching"]["plan"] and "T3" in t2["decay"]["reason"]
     assert "lines of a scan" in t3["image"]["reason"] and t3["pulsed"]["python"] and not t3["decay"]["python"]
@@ -311,7 +315,7 @@ def done_here(kind: str, path: Path, out: Path, **asked: Any) -> Any:
 def test_the_script_prints_what_the_window_shows(file: str, name: str, second: str | None, folder: Path, tmp_path: Path, monkeypatch: pytest.MonkeyPatch) -> None:
     """By the plan and settings that were proposed; the script is run in another folder, by itself."""
     monkeypatch.setattr(sys, "argv", ["job"])
-    asked = next(one for one in done_here("propose", folder / file, tmp_path)["questions"] if one["name"] == name)
+    asked = next(one for one in done_here("look", folder / file, tmp_path)["questions"] if one["name"] == name)
     settings = {one["key"]: one["value"] for one in asked["settings"]} | ({"rate": 200} if name == "bursts" else {}) | ({"segments": 3} if name == "correlation" else {})
     for each in ("one", "other"):
         (tmp_path / each).mkdir()
@@ -369,6 +373,36 @@ def test_a_run_that_cannot_be_says_why(change: dict[str, Any], said: str, served
     assert said in served.work("run", **(asked | change))["error"]
 
 
+@pytest.mark.parametrize(("name", "file", "given"), [("decay", "decay.ptu", {"background": [2.0, True], "lifetime_1": [3e-9, False]}), ("correlation", "pairs.ptu", {"diffusion": [0.001, True]})])
+def test_parameters_of_a_fit_are_held_and_begun(name: str, file: str, given: dict[str, Any], folder: Path, tmp_path: Path) -> None:
+    """As a script of one's own would, and the window is told of each what it is and whether it is held."""
+    groups = "[[group]]\ninputs = [1]\n\n[[group]]\ninputs = [2]\n"
+    asked = {"plan": DECAY if name == "decay" else groups, "analysis": name}
+    told = done_here("run", folder / file, tmp_path, **asked, settings={"segments": 3, "fit": given})
+    held = {one["name"]: one["held"] for one in told["fit"]}
+    assert {name: held[name] for name in given} == {name: is_held for name, (_, is_held) in given.items()}
+    if name == "decay":
+        assert "fixed={'background': 2.0}, start={'lifetime_1': 3e-09})" in told["script"] and "\nbackground: 2\n" in told["numbers"]
+        free = done_here("run", folder / file, tmp_path, **asked, settings={})
+        assert " ± " in re.findall(r"^amplitude_1: .*", free["numbers"], re.M)[0] and not any(one["held"] for one in free["fit"])
+        lifetime = next(one for one in told["fit"] if one["name"] == "lifetime_1")
+        assert lifetime["unit"] == "ns" and lifetime["value"] == pytest.approx(3.5, rel=0.1)
+    else:
+        assert "fixed={'diffusion': 0.001})" in told["script"] and "\ndiffusion: 1 ms\n" in told["numbers"] and held["structure"]
+
+
+@pytest.mark.parametrize("given", [[], {"x": 1}, {"x": [1]}, {"x": ["1", True]}, {"x": [1, 1]}, {"x": [True, True]}, {"x); import os": [1, True]}, {"x": [1e999, True]}, {f"x{at}": [1, True] for at in range(21)}])
+def test_odd_steering_of_a_fit_is_refused(given: Any) -> None:
+    from ptulab.app._analyses import ANALYSES, settings_of
+
+    if not given:
+        assert settings_of(ANALYSES["decay"], {"fit": given})["fit"] == {}
+        return
+    with pytest.raises(ValueError, match="parameter"):
+        settings_of(ANALYSES["decay"], {"fit": given})
+    assert settings_of(ANALYSES["trace"], {"fit": given})["fit"] == {}  # which has no fit
+
+
 def test_tables_that_take_too_much_are_refused_before_the_run(folder: Path, tmp_path: Path) -> None:
     """Two cubes of 512 MiB, each in the program and in Python."""
     plan = "version = 2\n" + DECAY + "[[cube]]\ngroup = 1\nwidth = 1024\nheight = 1024\ndwell = 1\nline = 1\ndwidth = 1\ndbins = 64\n" * 2
@@ -387,7 +421,7 @@ def test_what_a_script_is_told_stays_text(served: Served, folder: Path) -> None:
 
 
 def test_little_memory_gets_a_line(folder: Path, program: str, tmp_path: Path) -> None:
-    one = Served(folder, tmp_path / "results", program, megabytes=64)
+    one = Served(folder, tmp_path / "results", program, megabytes=40)
     try:
         told = one.work("run", file="pairs.ptu", plan="[[group]]\ninputs = [1]\n[[group]]\ninputs=[2]\n", analysis="correlation", settings={"segments": 3})
         assert "memory" in told["error"].lower() or "allocate" in told["error"], told
@@ -452,7 +486,7 @@ def test_flat_light_gives_no_nan(folder: Path, tmp_path: Path) -> None:
 
 
 def test_regions_are_counted_and_refused(served: Served) -> None:
-    asked = next(one for one in served.work("propose", file="scan.ptu")["result"]["questions"] if one["name"] == "image")
+    asked = next(one for one in served.work("look", file="scan.ptu")["result"]["questions"] if one["name"] == "image")
     run = served.work("run", file="scan.ptu", plan=asked["plan"], analysis="image", settings={})
     picture = next(one for one in run["result"]["figures"] if one["kind"] == "picture")
     rows, columns = picture["rows"] * picture["block"], picture["columns"] * picture["block"]
@@ -466,6 +500,45 @@ def test_regions_are_counted_and_refused(served: Served) -> None:
     for wrong in wrong_regions:
         assert "region" in served.work("region", result=run["begun"], regions=wrong, threshold=0)["error"]
     assert "threshold" in served.work("region", result=run["begun"], regions=[whole], threshold="1); import os")["error"]
+
+
+def test_regions_of_phasors_take_the_pixels_of_their_lifetime(served: Served, folder: Path, tmp_path: Path) -> None:
+    """A scan of two lifetimes, in its left and its right half, whose phasors are known; the script of the regions prints the same by itself."""
+    simulated.scan(folder / "halves.ptu")
+    plan = next(one for one in served.work("look", file="halves.ptu")["result"]["questions"] if one["name"] == "image")["plan"]
+    run = served.work("run", file="halves.ptu", plan=plan, analysis="image", settings={})
+    plane = next(one for one in run["result"]["figures"] if one["kind"] == "plane")
+    assert unpacked(plane["counts"]).sum() == 256 and len(plane["marks"]) > 3 and all(abs(abs(complex(one["g"], one["s"]) - 0.5) - 0.5) < 1e-9 for one in plane["marks"])
+    regions = [phasor_region(simulated.SHORT), phasor_region(simulated.LONG)]
+    told = served.work("region", result=run["begun"], regions=[], phasors=regions, threshold=1)["result"]
+    paint = unpacked(told["paint"]).reshape(16, 16)
+    assert (paint[:, :8] == 1).sum() >= 124 and (paint[:, 8:] == 2).sum() >= 124 and not (paint[:, :8] == 2).any() and not (paint[:, 8:] == 1).any()
+    pixels = [int(many) for many in re.findall(r"phasor region \d: (\d+) pixels", told["numbers"])]
+    assert pixels == [np.count_nonzero(paint == number) for number in (1, 2)]
+    lifetimes = [float(one) for one in re.findall(r"lifetime_1: ([0-9.]+) ns", told["numbers"])]
+    assert lifetimes == pytest.approx([1e9 * simulated.SHORT, 1e9 * simulated.LONG], rel=0.06)
+    assert [one["label"] for one in told["figures"][0]["curves"]] == ["phasor region 1", "fit of phasor region 1", "phasor region 2", "fit of phasor region 2"]
+    for name in ("regions.py", "report.txt", "plan.toml"):
+        (tmp_path / name).write_bytes(served.client.get(f"/result/{run['begun']}/{name}").content)
+    source = str(Path(ptulab.__file__).resolve().parents[1])
+    done = subprocess.run([sys.executable, "regions.py"], cwd=tmp_path, capture_output=True, text=True, check=False, env=os.environ | {"PYTHONPATH": source})
+    assert done.stdout == told["numbers"] and done.returncode == 0, done.stderr
+    both = served.work("region", result=run["begun"], regions=[[[0, 0], [16, 0], [16, 16], [0, 16]]], phasors=regions[:1], threshold=0)["result"]
+    assert "region 1: 256 pixels, 25,600 photons" in both["numbers"] and "phasor-region-1.csv" in both["files"]
+    wrong_phasors: list[Any] = [[], None, "x", [[[0, 0], [1, 1]]], [[[0, 0], [1, 1], [None, 2]]], [regions[0]] * 17]
+    for wrong in wrong_phasors:
+        assert "region" in served.work("region", result=run["begun"], regions=[], phasors=wrong, threshold=0)["error"]
+    (folder / "halves.ptu").unlink()
+
+
+def phasor_region(lifetime: float) -> list[list[float]]:
+    """A square around the phasor of a lifetime in the scan, by its formula."""
+    at = 1 / (1 - 2j * np.pi * lifetime / 50e-9)
+    return [[at.real + x, at.imag + y] for x, y in ((-0.1, -0.1), (0.1, -0.1), (0.1, 0.1), (-0.1, 0.1))]
+
+
+def unpacked(packed: dict[str, str]) -> Any:
+    return np.frombuffer(base64.b64decode(packed["base64"]), f"<{packed['kind']}")
 
 
 def test_what_a_result_has_not_is_said(served: Served) -> None:
@@ -513,6 +586,29 @@ def test_a_session_brings_no_links_and_no_other_files(served: Served, folder: Pa
     assert served.client.get(f"/result/{opened['begun']}/secret.txt").status_code == 404
     (there / "session.json").write_text(json.dumps({"file": "../x.ptu", "settings": {}, "analysis": "decay"}))
     assert "error" in served.ask("session", name="linked in")
+
+
+def test_a_session_reads_no_link_and_waits_for_no_pipe(served: Served, folder: Path, tmp_path: Path) -> None:
+    secret = tmp_path / "secret.txt"
+    secret.write_text("a secret")
+    ways: list[Callable[[Path], Any]] = [lambda plan: plan.symlink_to(secret), os.mkfifo, os.mkdir]
+    for number, bring in enumerate(ways):
+        there = folder / "ptulab-sessions" / f"brought {number}"
+        there.mkdir(parents=True)
+        (there / "session.json").write_text(json.dumps({"file": "decay.ptu", "settings": {}, "analysis": "decay"}))
+        bring(there / "plan.toml")
+        begun_at = time.monotonic()
+        told = served.ask("session", name=there.name)
+        assert told.keys() == {"error"} and "a secret" not in str(told) and time.monotonic() - begun_at < 5
+    (there / "session.json").write_text("[]")
+    assert "error" in served.ask("session", name=there.name)
+
+
+def test_long_lines_of_a_plan_take_no_time(served: Served) -> None:
+    begun_at = time.monotonic()
+    served.ask("plan", plan=f"[[group]] # a{' ' * 200_000}b\ninputs = [0]\n")
+    assert served.ask("groups", plan="[[group]]\ninputs = [0]\n", groups=[{"name": "", "inputs": [1e999], "gates": []}]).keys() == {"error"}
+    assert time.monotonic() - begun_at < 5
 
 
 # ## Two windows, many requests, and the end
@@ -564,7 +660,7 @@ def test_fifty_requests_at_once(served: Served) -> None:
     def one(number: int) -> Any:
         with httpx.Client(base_url=served.origin, verify=False, headers={"origin": served.origin}, cookies=served.client.cookies, timeout=SECONDS) as client:
             if number % 25 == 0:
-                lines = client.post("/api/look", content=json.dumps({"file": "pairs.ptu"})).text.splitlines()
+                lines = client.post("/api/look", content=json.dumps({"file": "pairs.ptu"})).text.strip().splitlines()
                 return json.loads(lines[-1])
             return client.post("/api/plan", content=json.dumps({"plan": DECAY})).json()
 
@@ -573,6 +669,140 @@ def test_fifty_requests_at_once(served: Served) -> None:
     assert all(answer["findings"] == [] for at, answer in enumerate(answers) if at % 25)
     assert all(look["result"]["info"]["photons"] == 8000 for look in answers[::25])
     assert jobs_of(served).waiting == 0 and not jobs_of(served).is_running
+
+
+def test_fifty_runs_at_once(served: Served) -> None:
+    """One runs at a time: the others are refused, and nothing is left over."""
+    asked = json.dumps({"file": "decay.ptu", "plan": DECAY, "analysis": "decay", "settings": {}})
+
+    def one(number: int) -> Any:
+        headers = {"origin": served.origin if number % 2 else "http://evil.example"}
+        with httpx.Client(base_url=served.origin, verify=False, headers=headers, cookies=served.client.cookies, timeout=SECONDS) as client:
+            answer = client.post("/api/run", content=asked)
+            return json.loads(answer.text.strip().splitlines()[-1]) if number % 2 else answer.status_code
+
+    with ThreadPoolExecutor(50) as pool:
+        answers = list(pool.map(one, range(50)))
+    assert answers[::2] == [403] * 25
+    runs = [answer for answer in answers[1::2] if "result" in answer]
+    refused = [answer for answer in answers[1::2] if "Something else is running" in answer.get("error", "")]
+    assert runs and len(runs) + len(refused) == 25, answers
+    assert all(run["result"]["numbers"] == runs[0]["result"]["numbers"] for run in runs)
+    assert jobs_of(served).waiting == 0 and not jobs_of(served).is_running and jobs_of(served).process is None
+
+
+def test_a_run_that_was_stopped_leaves_the_next_one_whole(served: Served) -> None:
+    asked = {"file": "decay.ptu", "plan": DECAY, "analysis": "decay", "settings": {}}
+    for _ in range(3):
+        with served.client.stream("POST", "/api/run", content=json.dumps(asked)) as first:
+            process = begun(served)
+            first.close()
+        assert gone(process)
+    assert "numbers" in served.work("run", **asked)["result"]
+
+
+def test_a_mother_that_was_ended_is_made_anew(served: Served) -> None:
+    """As by a system that is short of memory."""
+    mother = jobs_of(served).mother
+    first = mother.child.pid
+    os.kill(first, signal.SIGKILL)
+    mother.child.wait(SECONDS)
+    assert served.work("look", file="pairs.ptu")["result"]["info"]["photons"] == 8000 and mother.child.pid != first
+
+
+def test_work_that_the_system_ends_gets_a_line(served: Served) -> None:
+    with served.client.stream("POST", "/api/look", content=json.dumps({"file": "pairs.ptu"})) as look:
+        os.killpg(begun(served), signal.SIGKILL)
+        lines = [json.loads(line) for line in look.iter_lines() if line.strip()]
+    assert lines[-1] == {"error": "The work was ended by the system; there may have been too little memory."}
+    assert served.work("look", file="pairs.ptu")["result"]["info"]["photons"] == 8000
+
+
+# ## Files that are large, that change, and a disk that is full
+
+
+def test_a_huge_file_tells_how_far_it_is_and_can_be_stopped(served: Served, folder: Path) -> None:
+    """Half a terabyte, nearly all of which is a hole."""
+    huge = folder / "huge.ptu"
+    huge.write_bytes((folder / "pairs.ptu").read_bytes())
+    os.truncate(huge, 1 << 39)
+    try:
+        with served.client.stream("POST", "/api/look", content=json.dumps({"file": "huge.ptu"})) as look:
+            told = (json.loads(line) for line in look.iter_lines() if line.strip())
+            line = next(line for line in told if line.get("progress"))
+            assert 0 < line["progress"] < 0.2
+            process = jobs_of(served).process
+            pages = int(Path(f"/proc/{process}/statm").read_text("ascii").split()[1])
+            assert pages * os.sysconf("SC_PAGESIZE") < 300e6
+            look.close()
+        assert gone(process)
+    finally:
+        huge.unlink()
+    assert "pairs.ptu" in [one["name"] for one in served.ask("files")["files"]]
+
+
+def test_a_file_that_grows_or_is_cut_meanwhile_ends_nothing(served: Served, folder: Path) -> None:
+    whole = (folder / "pairs.ptu").read_bytes()
+    for size in (len(whole) // 2, len(whole) + 4000, 0):
+        path = folder / "moves.ptu"
+        path.write_bytes(whole)
+        with served.client.stream("POST", "/api/look", content=json.dumps({"file": "moves.ptu"})) as look:
+            process = begun(served)
+            os.truncate(path, size)
+            os.killpg(process, signal.SIGCONT)
+            last = json.loads([line for line in look.iter_lines() if line.strip()][-1])
+        assert ("error" in last) != ("result" in last) and str(folder) not in json.dumps(last)
+        path.unlink()
+    assert served.work("look", file="pairs.ptu")["result"]["info"]["photons"] == 8000
+
+
+def test_a_header_that_lies_is_read_in_little_memory(served: Served, folder: Path) -> None:
+    """Tags of a petabyte, of a negative length, and 17 MiB of tags without an end."""
+    start = (folder / "pairs.ptu").read_bytes()[:16]
+    tag = b"File_Comment".ljust(32, b"\0") + b"\xff\xff\xff\xff" + b"\xff\xff\x01\x40"
+    lies = {"long": tag + (1 << 50).to_bytes(8, "little"), "less": tag + b"\xff" * 8, "many": made.tag("Odd", 1) * ((17 << 20) // 48)}
+    for name, lie in lies.items():
+        (folder / f"{name}.ptu").write_bytes(start + lie)
+    files = {one["name"]: one["wrong"] for one in served.ask("files")["files"]}
+    for name, said in (("long", "header cut after"), ("less", "tag 1 has length -1"), ("many", "header longer than")):
+        assert said in files[f"{name}.ptu"] and said in served.work("look", file=f"{name}.ptu")["error"]
+        (folder / f"{name}.ptu").unlink()
+
+
+def test_a_full_disk_gets_a_line_and_leaves_no_half(served: Served, folder: Path, tmp_path: Path, monkeypatch: pytest.MonkeyPatch) -> None:
+    from ptulab.app import _job
+
+    told = served.work("run", file="decay.ptu", plan=DECAY, analysis="decay", settings={})
+
+    def full(*given: Any, **more: Any) -> Any:
+        raise OSError(errno.ENOSPC, os.strerror(errno.ENOSPC), str(tmp_path / "analysis.py"))
+
+    with monkeypatch.context() as patched:
+        patched.setattr(shutil, "copyfile", full)
+        assert served.ask("keep", result=told["begun"], name="full") == {"error": "analysis.py: No space left on device"}
+        patched.setattr(Path, "mkdir", full)
+        assert "No space left" in served.work("run", file="decay.ptu", plan=DECAY, analysis="decay", settings={})["error"]
+        patched.setattr(Path, "write_text", full)
+        request = {"kind": "run", "path": str(folder / "decay.ptu"), "out": str(tmp_path), "megabytes": 3072, "plan": DECAY, "analysis": "decay", "settings": {}}
+        assert _job._done(request, io.BytesIO()) == {"error": "analysis.py: No space left on device"}
+    assert not (folder / "ptulab-sessions" / "full").exists()
+    assert served.ask("keep", result=told["begun"], name="full") == {"folder": "ptulab-sessions/full"}
+    shutil.rmtree(folder / "ptulab-sessions" / "full")
+
+
+def test_a_link_that_is_turned_meanwhile_leads_nowhere(served: Served, folder: Path) -> None:
+    """A link within the folder is good; turned outside, it is no file any more, whatever was listed."""
+    link = folder / "turned.ptu"
+    link.symlink_to(folder / "pairs.ptu")
+    assert "turned.ptu" in [one["name"] for one in served.ask("files")["files"]]
+    link.unlink()
+    link.symlink_to("/etc/passwd")
+    assert served.client.post("/api/look", content=json.dumps({"file": "turned.ptu"})).status_code == 404
+    link.unlink()
+    link.symlink_to(link)
+    assert served.client.post("/api/look", content=json.dumps({"file": "turned.ptu"})).status_code == 404
+    assert "turned.ptu" not in [one["name"] for one in served.ask("files")["files"]]
+    link.unlink()
 
 
 def test_work_beyond_what_may_wait_is_refused(served: Served) -> None:

@@ -243,3 +243,22 @@ def test_the_script_at_the_top(tmp_path: Path) -> None:
     (tmp_path / "link").symlink_to(ROOT / "ptulab")
     run = subprocess.run([tmp_path / "link", "plan", SCAN], cwd=tmp_path, env=os.environ | {"PYTHON": sys.executable}, capture_output=True, text=True, check=False)
     assert (run.returncode, run.stderr) == (0, "") and run.stdout == str(ptulab.plan_for(SCAN))
+
+
+def test_a_python_without_numpy(tmp_path: Path) -> None:
+    """The script at the top tells of it in one line, and knows its words all the same."""
+    bare = tmp_path / "python3"
+    bare.write_text(f'#!/bin/sh\nexec "{sys.executable}" -S "$@"\n')  # without what is installed
+    bare.chmod(0o755)
+
+    def told(python: str | Path, *words: str) -> subprocess.CompletedProcess[str]:
+        surroundings = {"PYTHON": str(python), "PATH": os.environ["PATH"], "COLUMNS": "80"}
+        return subprocess.run([ROOT / "ptulab", *words], capture_output=True, text=True, env=surroundings, check=False)
+
+    run = told(bare, "info", str(SCAN))
+    assert (run.returncode, run.stdout) == (1, "") and run.stderr.count("\n") == 1
+    assert "has no NumPy: apt install python3-numpy" in run.stderr and "PYTHON=/usr/bin/python3" in run.stderr
+    for words in (["--version"], ["--help"], ["count", "--help"]):
+        with_it, without = told(sys.executable, *words), told(bare, *words)
+        assert (without.returncode, without.stdout, without.stderr) == (0, with_it.stdout, "") and with_it.stdout
+    assert told(bare, "nothing").returncode == told(sys.executable, "nothing").returncode == 2

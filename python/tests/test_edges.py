@@ -14,10 +14,10 @@ from hypothesis import given, settings
 from hypothesis import strategies as st
 
 import ptulab
-from ptulab import fits
+from ptulab import fits, phasors
 from ptulab.bursts import find_bursts, fused, photons_in
 from ptulab.groups import photons_of
-from ptulab.pulsed import coincidences, in_ticks, start_stops
+from ptulab.antibunching import coincidences, in_ticks, start_stops
 from ptulab.scans import Scan, cube, image
 from ptulab.segments import correlation_by_segments, split, window
 
@@ -168,10 +168,10 @@ def test_fits_and_phasors_are_those_of_any_tick(tick: float, period: float, seed
     for unit in (1.0, tick):
         whole = fits.fit_reconvolution(counts, pulse, unit, period=period * unit)
         tail = fits.fit_tail(counts, axis * unit, (18 * unit, 124 * unit))
-        turned = fits.phasor(counts, axis * unit, 1 / (period * unit), offset=12 * unit)
+        turned = phasors.phasor(counts, axis * unit, 1 / (period * unit), offset=12 * unit)
         shifted = [fit.values[name] for fit, name in ((whole, "lifetime_1"), (whole, "shift"), (tail, "lifetime_1"))]
         errors = [fit.errors["lifetime_1"] for fit in (whole, tail)]
-        by_phase = float(fits.lifetimes_of_phasor(turned, 1 / (period * unit), unit)[0])
-        lifetimes.append(np.array([*shifted, *errors, by_phase, float(fits.mean_delays(counts, axis * unit))]) / unit)
+        by_phase = float(phasors.lifetimes_of_phasor(turned, 1 / (period * unit), unit)[0])
+        lifetimes.append(np.array([*shifted, *errors, by_phase, float(phasors.mean_delays(counts, axis * unit))]) / unit)
     assert lifetimes[1] == pytest.approx(lifetimes[0], rel=2e-3, abs=0.01)  # far less than the errors
     assert abs(lifetimes[0][0] - 15) < 6 * lifetimes[0][3] and abs(lifetimes[0][2] - 15) < 6 * lifetimes[0][4]

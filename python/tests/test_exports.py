@@ -16,7 +16,7 @@ from lxml import etree
 
 import ptulab
 from ptulab import exports, picked
-from ptulab.fits import mean_delays
+from ptulab.phasors import mean_delays
 from ptulab.scans import Cube, Scan, cube, image
 from ptulab.segments import correlation_by_segments
 from ptulab._whole import whole_path, written_whole

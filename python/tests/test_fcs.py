@@ -152,20 +152,19 @@ def test_weights_of_either_sign_are_multiplied(dense: bool) -> None:
 
 
 def test_a_focus_is_calibrated_and_converts() -> None:
-    """By a dye of 430 um^2 a second in a focus of 0.25 um: errors of what is converted are as their scatter."""
-    known, draws, times = fcs.Focus(0.25e-6, 0.0, 5.0), np.random.default_rng(7), delays(16, 20)[0] * 1e-6
+    """By a dye of 430 um^2 a second in a focus of 0.25 um: errors of what is converted are as their scatter, within a tenth."""
+    known, draws, times = fcs.Focus(0.25e-6, 0.0, 5.0), np.random.default_rng(7), delays(8, 20)[0] * 1e-6
     found = []
-    for _ in range(60):
+    for _ in range(200):
         fitted = []
         for number, constant in ((3.0, 430e-12), (1.5, 60e-12)):
             exact = fits.fcs_model(times, number, known.radius**2 / 4 / constant, structure=5.0)
             fitted.append(fits.fit_fcs(times, draws.normal(exact, 0.004), np.full(len(times), 0.004)))
         focus = fcs.Focus.calibrated(fitted[0], 430e-12)
-        found.append((*focus.constant(fitted[1]), *focus.concentration(fitted[1]), focus.radius, focus.radius_error))
+        bright = fcs.brightness(fitted[1], 33_000.0, 3_000.0)
+        found.append((*focus.constant(fitted[1]), *focus.concentration(fitted[1]), focus.radius, focus.radius_error, *bright))
     values, errors = np.array(found)[:, ::2], np.array(found)[:, 1::2]
-    truth = [60e-12, 1.5 / (6.02214076e23 * 1e3 * np.pi**1.5 * 5 * 0.25e-6**3), 0.25e-6]
+    truth = [60e-12, 1.5 / (6.02214076e23 * 1e3 * np.pi**1.5 * 5 * 0.25e-6**3), 0.25e-6, 20_000]
     assert values.mean(axis=0) == pytest.approx(truth, rel=0.03)
-    assert np.sqrt((errors**2).mean(axis=0)) == pytest.approx(values.std(axis=0), rel=0.25)
+    assert np.sqrt((errors**2).mean(axis=0)) == pytest.approx(values.std(axis=0), rel=0.1)
     assert known.litres == pytest.approx(0.435e-15, rel=0.01)
-    bright, error = fcs.brightness(fitted[1], 33_000.0, 3_000.0)
-    assert bright == pytest.approx(30_000 / fitted[1].values["number"]) and error / bright == pytest.approx(fitted[1].errors["number"] / fitted[1].values["number"])

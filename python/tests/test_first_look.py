@@ -12,7 +12,11 @@ import pytest
 
 import ptulab
 from conftest import EXAMPLES
+from ptulab import first_look
 from ptulab.__main__ import main
+from ptulab._layouts import MARKER, WRAP, layout_of
+from ptulab._looks import look
+from ptulab._words import words_of
 from ptulab.first_look import sparkline
 
 MakeFile = Callable[..., Path]
@@ -133,6 +137,59 @@ def test_the_command(capsys: Any, tmp_path: Path) -> None:
     (tmp_path / "text.ptu").write_text("no PTU file")
     assert main(["info", str(tmp_path / "text.ptu")]) == 1
     assert "not a PTU file" in capsys.readouterr().err
+
+
+@pytest.mark.parametrize("is_late", [False, True])
+def test_a_plan_is_made_of_what_the_look_counted(is_late: bool, record_type: str, make_file: MakeFile) -> None:
+    """What a plan has to know is the same as by a look at each event, also where events are late."""
+    draws, is_t3, unit = np.random.default_rng(5), record_type.endswith("T3"), made.unit(record_type)
+    times = np.sort(draws.integers(0, 60_000 if is_t3 else 9 * unit, 500)) // 16 * 16
+    events: list[tuple[int, ...]] = []
+    for time, is_marker in zip(times.tolist(), draws.random(500) < 0.2):
+        bits = int(draws.integers(1, 16))
+        photon = (time, int(draws.integers(1, 4)), *([int(draws.integers(0, 3000))] if is_t3 else []))
+        events.append((time + (bits if record_type == "PicoHarpT2" else 0), made.Bits(bits)) if is_marker else photon)
+    if is_late:
+        photons = [at for at, event in enumerate(events) if not isinstance(event[1], made.Bits)]
+        at = next(at for at in photons if at + 1 in photons and 0 < events[at + 1][0] - events[at][0] and events[at][0] // unit == events[at + 1][0] // unit)
+        events[at], events[at + 1] = events[at + 1], events[at]
+    path = make_file(record_type, events, tick=50e-9, resolution=25e-12)
+    seen, known = first_look.look_at(path)
+    wanted = look(path)
+    assert (seen.head.late > 0) == is_late and known.late == wanted.late == seen.head.late
+    for name in ("inputs", "bits", "deepest", "first", "last"):
+        assert getattr(known, name) == getattr(wanted, name), name
+    assert all(np.array_equal(np.asarray(one), np.asarray(other)) for one, other in zip(known.marks, wanted.marks)) and len(known.marks[0]) > 50
+
+
+def test_inputs_that_no_sample_meets_are_counted(make_file: MakeFile, monkeypatch: pytest.MonkeyPatch) -> None:
+    """The program's count of all photons tells that some are of none of the inputs that were met."""
+    monkeypatch.setattr(first_look, "words_of", lambda path, header, progress, sample=8: words_of(path, header, progress, sample))
+    path = make_file("HydraHarp2T3", [(at, at % 3 if at < 50 else 5 + at % 2, at) for at in range(100)], tick=1e-7)
+    met = words_of(str(path), ptulab.read_header(path), lambda size: None, sample=8).inputs
+    seen, known = first_look.look_at(path)
+    assert met == [0, 1, 2] and {one.number: one.photons for one in seen.inputs} == known.inputs == {0: 17, 1: 17, 2: 16, 5: 25, 6: 25}
+
+
+def test_words_that_may_be_wraps_or_markers(record_type: str) -> None:
+    """No word below the least special one is a wrap or a marker."""
+    layout = layout_of(record_type)
+    words = np.random.default_rng(3).integers(0, 1 << 32, 1 << 16, dtype=np.uint32)
+    meanings = layout.read(words)
+    special = (meanings == WRAP) | (meanings & 0xF0 == MARKER)
+    assert 0 < np.count_nonzero(special) and words[special].min() >= layout.special
+
+
+def test_parts_of_a_long_file_are_counted_at_the_same_time(make_file: MakeFile, monkeypatch: pytest.MonkeyPatch) -> None:
+    """The same as by one program, also of a file that ends within a record."""
+    path = make_file("HydraHarp2T3", [(at, at % 5, at) for at in range(1000)], tick=1e-7)
+    for cut in (0, 3):
+        path.write_bytes(path.read_bytes()[: -cut or None])
+        monkeypatch.setattr(first_look, "LONG", 1 << 22)
+        whole = ptulab.info(path)
+        monkeypatch.setattr(first_look, "LONG", 10)
+        monkeypatch.setattr(first_look, "workers", lambda: 4)
+        assert len(first_look._parted([0, 1, 2, 3, 4], 1000)) == 2 and ptulab.info(path) == whole and len(whole.inputs) == 5
 
 
 def test_a_sparkline() -> None:

@@ -15,8 +15,8 @@ from lmfit import lineshapes
 from scipy import stats
 
 import ptulab
-from ptulab import _fitting, fits, segments
-from ptulab.pulsed import coincidences
+from ptulab import _fitting, antibunching, fits, phasors, segments
+from ptulab.antibunching import coincidences
 from ptulab.scans import Scan, cube
 from ptulab.tables import Measurement, empty_table
 
@@ -123,21 +123,21 @@ def test_residuals_are_those_of_the_likelihood(count: float, expected: float) ->
 def test_mean_arrivals_of_pixels(make_file: Callable[..., Path]) -> None:
     events = [(0, made.Bits(1)), (1, 0, 0), (2, 0, 9), (12, 0, 20), (13, 0, 25), (14, 0, 26), (100, 0, 3)]
     found = cube(make_file("HydraHarp2T3", events), Scan(2, 1, 1, time=20), 5, 6)
-    means = fits.mean_delays(found.counts, found.ticks, offset=2.5)
+    means = phasors.mean_delays(found.counts, found.ticks, offset=2.5)
     assert means.tolist() == [[2.5, (22.5 + 27.5 + 27.5) / 3 - 2.5]]
-    assert np.isnan(fits.mean_delays(found.counts, found.ticks, threshold=3)).tolist() == [[True, False]]
-    assert fits.mean_delays(found.counts[0, 1], found.ticks) == pytest.approx((22.5 + 55) / 3)
+    assert np.isnan(phasors.mean_delays(found.counts, found.ticks, threshold=3)).tolist() == [[True, False]]
+    assert phasors.mean_delays(found.counts[0, 1], found.ticks) == pytest.approx((22.5 + 55) / 3)
 
 
 def test_phasors_of_single_decays_are_on_the_half_circle() -> None:
     counts, pulse = decayed(6, [3.0], [1.0], 400_000)
     axis, frequency = np.arange(BINS) * WIDTH, 1 / PERIOD
-    found = fits.phasor(counts, axis, frequency, reference=complex(fits.phasor(pulse, axis, frequency)))
-    assert abs(found - fits.phasor_of_lifetime(3.0, frequency)) < 0.005
-    assert [float(one) for one in fits.lifetimes_of_phasor(found, frequency)] == pytest.approx([3.0, 3.0], rel=0.02)
-    circle = fits.phasor_of_lifetime(np.array([0.5, 2.0, 9.0]), frequency)
+    found = phasors.phasor(counts, axis, frequency, reference=complex(phasors.phasor(pulse, axis, frequency)))
+    assert abs(found - phasors.phasor_of_lifetime(3.0, frequency)) < 0.005
+    assert [float(one) for one in phasors.lifetimes_of_phasor(found, frequency)] == pytest.approx([3.0, 3.0], rel=0.02)
+    circle = phasors.phasor_of_lifetime(np.array([0.5, 2.0, 9.0]), frequency)
     assert np.allclose(np.abs(circle - 0.5), 0.5)
-    few = fits.phasor(np.stack([counts, counts * 0]), axis, frequency, threshold=10)
+    few = phasors.phasor(np.stack([counts, counts * 0]), axis, frequency, threshold=10)
     assert np.isnan(few).tolist() == [False, True]
 
 
@@ -185,14 +185,14 @@ def report_of_pairs(program: str, tmp_path: Path, make_file: Callable[..., Path]
 
 def test_g2_of_reports_and_of_events(program: str, tmp_path: Path, make_file: Callable[..., Path]) -> None:
     report, path = report_of_pairs(program, tmp_path, make_file)
-    values, bars = fits.g2(report.table("coincidence"))
+    values, bars = antibunching.g2(report.table("coincidence"))
     assert (np.abs(values - 1) < 4.5 * bars).all() and (0.01 < bars).all() and (bars < 0.2).all()
-    ours, same = fits.g2(coincidences(path, 1, 2, 52, width=10))
+    ours, same = antibunching.g2(coincidences(path, 1, 2, 52, width=10))
     assert np.allclose(ours, values, rtol=1e-12) and np.allclose(same, bars, rtol=1e-12)
     table = report.table("coincidence")
-    assert np.allclose(fits.g2(table, 2 * table.photons[0], table.photons[1])[0], values / 2)
-    assert np.allclose(fits.g2(report.table("correlation"))[0], report.table("correlation").normalised())
-    assert np.allclose(fits.g2((report + report).table("coincidence"))[0], values)
+    assert np.allclose(antibunching.g2(table, 2 * table.photons[0], table.photons[1])[0], values / 2)
+    assert np.allclose(antibunching.g2(report.table("correlation"))[0], report.table("correlation").normalised())
+    assert np.allclose(antibunching.g2((report + report).table("coincidence"))[0], values)
 
 
 CELLS: dict[str, Any] = {"reach": 700, "width": 301}  # five cells, the third around 0, the last of 197 differences
@@ -211,7 +211,7 @@ def uncorrelated(seed: int, ticks: int, rate: float) -> Any:
 @pytest.mark.parametrize(("first", "second"), [(1, 2), (1, 1), ((1, 2), (1, 2)), ((1, 2), 2)])
 def test_bars_of_wide_cells_are_as_their_scatter(first: Any, second: Any) -> None:
     """Over many measurements the mean of g2 is 1 in each cell, and its scatter is the bar that is told."""
-    found = [fits.g2(coincidences(uncorrelated(seed, 40_000, 0.003), first, second, **CELLS)) for seed in range(150)]
+    found = [antibunching.g2(coincidences(uncorrelated(seed, 40_000, 0.003), first, second, **CELLS)) for seed in range(150)]
     values, bars = (np.array(column) for column in zip(*found))
     assert np.abs(values.mean(axis=0) - 1).max() < 0.02
     assert (values.std(axis=0) / np.sqrt((bars**2).mean(axis=0))) == pytest.approx(np.ones(5), abs=0.22)
@@ -236,7 +236,7 @@ def test_bars_of_levels_are_as_their_scatter(group: Any) -> None:
         table = empty_table("correlation", 1, {"lags": 8, "levels": 5}, None)
         table.counts = segments.correlation(events["time"], first, second, lags=8, levels=5).astype(np.int64)
         table.measurements = (Measurement(4000, (int(first.sum()), int(second.sum()))),)
-        found.append(fits.g2(table))
+        found.append(antibunching.g2(table))
     values, bars = (np.array(column) for column in zip(*found))
     scatter = values.std(axis=0) / np.sqrt((bars**2).mean(axis=0))
     assert scatter.mean() == pytest.approx(1, abs=0.07) and np.abs(scatter - 1).max() < 0.25
@@ -249,9 +249,9 @@ def test_g2_of_what_has_none(program: str, tmp_path: Path, make_file: Callable[.
     table.measurements = tuple(one._replace(photons=None) for one in table.measurements)
     for none in (table, report.table("startstop")):
         with pytest.raises(ptulab.NotKnownError):
-            fits.g2(none)
+            antibunching.g2(none)
     with np.errstate(all="raise"):
-        empty = fits.g2(coincidences(path, 3, 4, 2))
+        empty = antibunching.g2(coincidences(path, 3, 4, 2))
     assert np.isnan(empty).all()
 
 
@@ -548,12 +548,12 @@ def test_phasors_of_bins_of_any_width_are_on_the_half_circle(bins: int, at: int)
     width, frequency = PERIOD / bins, 1 / PERIOD
     axis, lifetimes = np.arange(bins) * width, np.array([0.3, 1.0, 4.0, 11.0])
     counts = np.array([np.roll(of_period(lifetime, width, PERIOD, 1000.0), at) for lifetime in lifetimes])
-    found = fits.phasor(counts, axis, frequency, offset=at * width)
+    found = phasors.phasor(counts, axis, frequency, offset=at * width)
     assert np.abs(found - 0.5) == pytest.approx(np.full(4, 0.5), rel=1e-9)
-    assert found == pytest.approx(fits.phasor_of_lifetime(lifetimes, frequency, width), rel=1e-9)
-    for ours in fits.lifetimes_of_phasor(found, frequency, width):
+    assert found == pytest.approx(phasors.phasor_of_lifetime(lifetimes, frequency, width), rel=1e-9)
+    for ours in phasors.lifetimes_of_phasor(found, frequency, width):
         assert ours == pytest.approx(lifetimes, rel=1e-6)
-    assert fits.phasor(counts[:2].sum(axis=0), axis, frequency, offset=at * width) == pytest.approx(found[:2].mean(), rel=1e-9)
+    assert phasors.phasor(counts[:2].sum(axis=0), axis, frequency, offset=at * width) == pytest.approx(found[:2].mean(), rel=1e-9)
 
 
 def test_phasors_by_a_pulse_or_a_known_dye() -> None:
@@ -562,36 +562,36 @@ def test_phasors_by_a_pulse_or_a_known_dye() -> None:
     draws = np.random.default_rng(5)
     dye, sample = (decayed(seed, [lifetime], [1.0], 400_000)[0] for seed, lifetime in ((1, 4.1), (2, 2.6)))
     pulse = np.histogram(draws.normal(2.0, 0.12, 400_000), edges)[0]
-    turned = fits.phasor(sample, axis, frequency)
+    turned = phasors.phasor(sample, axis, frequency)
     assert abs(turned - 0.5) > 0.55
-    for reference in (fits.phasor_reference(pulse, axis, frequency), fits.phasor_reference(dye, axis, frequency, 4.1)):
-        found = fits.phasor(sample, axis, frequency, reference=reference)
-        assert abs(found - fits.phasor_of_lifetime(2.6, frequency)) < 0.005
-    by_time = fits.phasor(sample, axis, frequency, offset=2.0)
-    assert abs(by_time - fits.phasor_of_lifetime(2.6, frequency)) < 0.005
-    assert fits.phasor(sample, axis, frequency, offset=2.0) == pytest.approx(turned * np.exp(-2j * np.pi * frequency * 2.0))
+    for reference in (phasors.phasor_reference(pulse, axis, frequency), phasors.phasor_reference(dye, axis, frequency, 4.1)):
+        found = phasors.phasor(sample, axis, frequency, reference=reference)
+        assert abs(found - phasors.phasor_of_lifetime(2.6, frequency)) < 0.005
+    by_time = phasors.phasor(sample, axis, frequency, offset=2.0)
+    assert abs(by_time - phasors.phasor_of_lifetime(2.6, frequency)) < 0.005
+    assert phasors.phasor(sample, axis, frequency, offset=2.0) == pytest.approx(turned * np.exp(-2j * np.pi * frequency * 2.0))
     with pytest.raises(ValueError, match="without photons"):
-        fits.phasor_reference(pulse * 0, axis, frequency)
-    one = fits.phasor_reference(np.array([0, 1, 0, 0]), np.arange(4.0), 0.25)
+        phasors.phasor_reference(pulse * 0, axis, frequency)
+    one = phasors.phasor_reference(np.array([0, 1, 0, 0]), np.arange(4.0), 0.25)
     assert one == pytest.approx(np.exp(2j * np.pi * 1.5 / 4) * np.cos(np.pi / 4))
 
 
 def test_lifetimes_that_no_phasor_has_are_nan() -> None:
     with np.errstate(invalid="raise"):
-        phase, modulation = fits.lifetimes_of_phasor(np.array([0.99 + 0.01j, 1.1 + 0.1j]), 0.04, 3.0)
+        phase, modulation = phasors.lifetimes_of_phasor(np.array([0.99 + 0.01j, 1.1 + 0.1j]), 0.04, 3.0)
     assert np.isnan(phase).all() and np.isnan(modulation).all()
 
 
 def test_the_middle_of_one_bin_wants_its_width() -> None:
     with pytest.raises(ValueError, match="one bin"):
-        fits.mean_delays(np.array([[5]]), np.array([0.0]))
+        phasors.mean_delays(np.array([[5]]), np.array([0.0]))
     with pytest.raises(ValueError, match="one bin"):
-        fits.phasor(np.array([[5]]), np.array([0.0]), 0.04)
-    assert fits.mean_delays(np.array([[5]]), np.array([10.0]), width=4.0, offset=1.0).tolist() == [11.0]
+        phasors.phasor(np.array([[5]]), np.array([0.0]), 0.04)
+    assert phasors.mean_delays(np.array([[5]]), np.array([10.0]), width=4.0, offset=1.0).tolist() == [11.0]
 
 
 def test_means_of_pythons_own_numbers() -> None:
-    assert fits.mean_delays(np.array([[2**70, 2**70]], object), np.array([0.0, 0.4])).tolist() == pytest.approx([0.4])
+    assert phasors.mean_delays(np.array([[2**70, 2**70]], object), np.array([0.0, 0.4])).tolist() == pytest.approx([0.4])
 
 
 # Sums.
@@ -620,12 +620,12 @@ def test_a_file_without_events_leaves_a_sum_as_it_was(program: str, tmp_path: Pa
     assert whole is not None
     bare = ptulab.sum_reports([written_again(tmp_path, report) for report in (empty, one, two)])
     for kind in ("coincidence", "correlation"):
-        known, bars = fits.g2((one + two).table(kind))
-        assert np.array_equal(fits.g2(whole.table(kind))[0], known) and np.abs(known - 1).max() < 5 * bars.max()
-        assert np.array_equal(fits.g2((empty + one + two).table(kind))[1], bars)
+        known, bars = antibunching.g2((one + two).table(kind))
+        assert np.array_equal(antibunching.g2(whole.table(kind))[0], known) and np.abs(known - 1).max() < 5 * bars.max()
+        assert np.array_equal(antibunching.g2((empty + one + two).table(kind))[1], bars)
         each = [tuple(report.table(kind).photons[place] for report in (one, two)) for place in (0, 1)]
-        assert fits.g2(bare.table(kind), *each)[0] == pytest.approx(known)
-        assert np.isnan(fits.g2(empty.table(kind))[0]).all()
+        assert antibunching.g2(bare.table(kind), *each)[0] == pytest.approx(known)
+        assert np.isnan(antibunching.g2(empty.table(kind))[0]).all()
     assert np.array_equal(whole.table("correlation").normalised(), (one + two).table("correlation").normalised())
 
 
@@ -634,14 +634,14 @@ def test_given_photons_of_a_sum(program: str, tmp_path: Path, make_file: Callabl
     (one, two, _), *_ = a_sum(program, tmp_path, make_file)
     for kind in ("coincidence", "correlation"):
         table = (one + two).table(kind)
-        known = fits.g2(table)[0]
-        assert fits.g2(table, *table.photons)[0] == pytest.approx(known, rel=0.02)
-        assert fits.g2(table, 2 * table.photons[0])[0] == pytest.approx(known / 2, rel=0.02)
-        assert fits.g2(table, None, 4 * table.photons[1])[0] == pytest.approx(known / 4, rel=0.02)
+        known = antibunching.g2(table)[0]
+        assert antibunching.g2(table, *table.photons)[0] == pytest.approx(known, rel=0.02)
+        assert antibunching.g2(table, 2 * table.photons[0])[0] == pytest.approx(known / 2, rel=0.02)
+        assert antibunching.g2(table, None, 4 * table.photons[1])[0] == pytest.approx(known / 4, rel=0.02)
         with pytest.raises(ValueError, match="3 measurements for 2"):
-            fits.g2(table, [1, 2, 3], [1, 2, 3])
+            antibunching.g2(table, [1, 2, 3], [1, 2, 3])
         with pytest.raises(ptulab.NotKnownError, match="written as one report"):
-            fits.g2(written_again(tmp_path, one + two).table(kind), *table.photons)
+            antibunching.g2(written_again(tmp_path, one + two).table(kind), *table.photons)
 
 
 def test_a_cube_is_not_copied_to_floating_point() -> None:
@@ -650,11 +650,11 @@ def test_a_cube_is_not_copied_to_floating_point() -> None:
     axis = np.arange(512.0)
     tracemalloc.start()
     try:
-        means, phasors = fits.mean_delays(counts, axis), fits.phasor(counts, axis, 1 / 512)
+        means, points = phasors.mean_delays(counts, axis), phasors.phasor(counts, axis, 1 / 512)
         most = tracemalloc.get_traced_memory()[1]
     finally:
         tracemalloc.stop()
     assert most < 4 << 20
     assert means == pytest.approx(np.average(np.broadcast_to(axis + 0.5, counts.shape), axis=-1, weights=counts))
     turns = np.exp(2j * np.pi * (axis + 0.5) / 512) * np.cos(np.pi / 512)
-    assert phasors == pytest.approx(counts @ turns / counts.sum(axis=-1))
+    assert points == pytest.approx(counts @ turns / counts.sum(axis=-1))

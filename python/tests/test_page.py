@@ -18,7 +18,7 @@ from conftest import EXAMPLES
 from made import Bits as made_bits
 from matplotlib.axes import Axes
 from ptulab.errors import MissingLibraryError
-from ptulab.fits import g2
+from ptulab.antibunching import g2
 from ptulab.page import _document as document, _figures as figures, checksum, page, write_page
 from ptulab.page._figures import Curve, Picture, begin_of, blocks, start_of, thinned, unit_of
 from ptulab.report import Head, Report

@@ -13,8 +13,8 @@ import pytest
 from conftest import ROOT
 
 import ptulab
-from ptulab.groups import Group
-from ptulab.photon_hdf5 import Setup, write_photon_hdf5
+from ptulab.groups import Alternated, Group
+from ptulab.photon_hdf5 import Setup, read_photon_hdf5, write_photon_hdf5
 
 ALWAYS = {
     "acquisition_duration",
@@ -195,3 +195,86 @@ def test_delays_of_more_than_16_bits_stay_as_they_are(molecules: ptulab.Events, 
     found = written(far, tmp_path / "far.h5", setup=Setup())
     assert (found["photon_data/nanotimes"] == molecules.photons.dtimes + 70_000).all()
     assert written(molecules, tmp_path / "near.h5", setup=Setup())["photon_data/nanotimes"].dtype == np.uint16
+
+
+def listed(setup: Setup) -> Setup:
+    """With its channels and times as lists, as they are read."""
+    lists = {name: [list(one) for one in getattr(setup, name)] or () for name in ("spectral", "polarization", "excitation")}
+    return replace(setup, **lists)
+
+
+@pytest.mark.parametrize("kind", ["ns", "us", "one", "generic"])
+def test_what_is_written_is_read(molecules: ptulab.Events, stream: ptulab.Events, tmp_path: Path, kind: str) -> None:
+    """The photons, the setup, and groups of the same photons as the specification has."""
+    waves = {"excitation_wavelengths": [532e-9, 640e-9], "detection_wavelengths": [580e-9, 680e-9]}
+    setup = {"ns": replace(NS, repetition_rates=[1e7, 1e7], **waves), "us": US, "one": Setup("smFRET", spectral=[[0], [1]], repetition_rates=[4e7]),
+             "generic": Setup(spectral=[[0, 1], [2, 3]], polarization=[[0, 2], [1, 3]], repetition_rates=[1e7])}[kind]  # fmt: skip
+    events = molecules if kind in ("ns", "generic") else stream
+    found = written(events, tmp_path / "some.h5", setup=setup)
+    read, told = read_photon_hdf5(tmp_path / "some.h5")
+    photons = events.photons
+    for name in ("times", "dtimes", "numbers", "flags"):
+        assert np.array_equal(getattr(read, name), getattr(photons, name)), name
+    assert read.records.tolist() == list(range(1, len(photons) + 1)) and read.header.mode == events.header.mode
+    assert (read.header.global_seconds, read.header.resolution_seconds) == (events.header.global_seconds, events.header.resolution_seconds)
+    assert told == listed(setup) and read.header.tags["File_Comment"] == "some molecules"
+    if kind == "generic":
+        with pytest.raises(ptulab.NotKnownError, match="generic"):
+            print(told.groups)
+    elif kind == "one":
+        assert told.groups == (Group([0]), Group([1]))
+    else:
+        masks = classes(found)
+        for group, key in zip(told.groups, ((1, 1), (1, 2), (2, 2)), strict=True):
+            assert np.array_equal(group.mask(read), masks[key]) and isinstance(group, Alternated) == (kind == "us")
+
+
+def made_file(path: Path, **fields: Any) -> Path:
+    """A file of these fields, by names whose places are divided by __."""
+    with h5py.File(path, "w") as file:
+        for name, value in fields.items():
+            file[name.replace("__", "/")] = value
+    return path
+
+
+PLAIN: dict[str, Any] = {"photon_data__timestamps": np.array([5, 9, 7, 12]), "photon_data__timestamps_specs__timestamps_unit": 1e-8}
+SPECS = "photon_data__measurement_specs__"
+
+
+def test_files_of_others_are_read(tmp_path: Path, caplog: pytest.LogCaptureFixture) -> None:
+    read, setup = read_photon_hdf5(made_file(tmp_path / "a.h5", **PLAIN))
+    assert read.numbers.tolist() == [0] * 4 and read["late"].tolist() == [False, False, True, False] and read.header.mode == "T2" and setup == Setup()
+    assert len(read.photons) == 3 and read.header.created is None and read.header.resolution_seconds is None
+    told = {f"{SPECS}measurement_type": np.array([b"smFRET-usALEX"]), f"{SPECS}alex_period": 4000, f"{SPECS}alex_excitation_period1": [2180, 3900],
+            f"{SPECS}alex_excitation_period2": [3950, 1800], f"{SPECS}detectors_specs__spectral_ch1": 0, f"{SPECS}detectors_specs__spectral_ch2": 1,
+            "provenance__creation_time": "2026-01-31 12:00:00", "provenance__software": b"some program", "setup__excitation_wavelengths": [532.0, 640e-9]}  # fmt: skip
+    read, setup = read_photon_hdf5(made_file(tmp_path / "b.h5", **PLAIN, **told))
+    assert setup == Setup("smFRET-usALEX", [[0], [1]], (), [[(2180, 3900)], [(3950, 4000), (0, 1800)]], 4000) and "wavelengths" in caplog.text
+    assert str(read.header.created) == "2026-01-31 12:00:00" and read.header.tags["CreatorSW_Name"] == "some program"
+    write_photon_hdf5(read, tmp_path / "again.h5", description="again", setup=setup)
+    assert read_photon_hdf5(tmp_path / "again.h5")[1] == setup
+    _, setup = read_photon_hdf5(made_file(tmp_path / "c.h5", **PLAIN, **{f"{SPECS}measurement_type": "smFRET-PAX"}))
+    assert setup.kind == "generic" and "smFRET-PAX" in caplog.text
+    several = {name.replace("photon_data", "photon_data1"): value for name, value in PLAIN.items()}
+    assert len(read_photon_hdf5(made_file(tmp_path / "d.h5", **several), spot=1)[0]) == 4
+    for spot, why in ((None, "no photon_data; it has photon_data1"), (3, "photon_data3")):
+        with pytest.raises(ptulab.NotKnownError, match=why):
+            read_photon_hdf5(tmp_path / "d.h5", spot=spot)
+
+
+def test_numbers_that_events_do_not_hold_are_refused(tmp_path: Path) -> None:
+    for n, (more, why) in enumerate((
+        ({"photon_data__detectors": np.array([0, 1, 256, 3])}, "255"),
+        ({"photon_data__detectors": np.array([0, 1, 2])}, "4 timestamps"),
+        ({"photon_data__nanotimes": np.array([0, 1, 2, 1 << 31])}, "31 bits"),
+        ({"photon_data__nanotimes": np.array([0, 1])}, "4 timestamps"),
+    )):  # fmt: skip
+        with pytest.raises(ValueError, match=why):
+            read_photon_hdf5(made_file(tmp_path / f"{n}.h5", **PLAIN, **more))
+    largest = read_photon_hdf5(made_file(tmp_path / "largest.h5", **PLAIN, photon_data__detectors=np.array([0, 255, 0, 0]), photon_data__nanotimes=np.full(4, 2**31 - 1)))[0]
+    assert largest.numbers.max() == 255 and largest.dtimes.max() == 2**31 - 1 and largest.header.mode == "T3"
+    with pytest.raises(ptulab.NotKnownError, match="unit"):
+        read_photon_hdf5(made_file(tmp_path / "none.h5", photon_data__timestamps=[1]))
+    (tmp_path / "text.h5").write_text("no HDF5")
+    with pytest.raises(OSError):
+        read_photon_hdf5(tmp_path / "text.h5")

@@ -5,7 +5,7 @@ from typing import Any
 import numpy as np
 import pytest
 
-from ptulab import fits, pixels
+from ptulab import fits, phasors, pixels
 
 BINS, WIDTH, PERIOD = 64, 25 / 64, 25.0
 PULSE = np.histogram(np.random.default_rng(1).normal(2.0, 0.12, 1_000_000), BINS * 8, (0, PERIOD))[0]
@@ -23,12 +23,12 @@ SETTINGS: dict[str, Any] = {"period": PERIOD, "shift": 0.03}
 
 @pytest.mark.parametrize(("lifetime", "photons", "background"), [(2.5, 100, 0.0), (2.5, 300, 0.5), (0.4, 300, 0.2), (8.0, 1000, 1.0)])
 def test_lifetimes_of_pixels_and_their_errors(lifetime: float, photons: int, background: float) -> None:
-    """Of 1600 pixels the mean is right to 2 %, and told errors are as the scatter."""
-    counts = picture(3, 40, {lifetime: photons}, background)
+    """Of 4900 pixels the mean is right to 2 %, and told errors are as the scatter, within a tenth."""
+    counts = picture(3, 70, {lifetime: photons}, background)
     found = pixels.fit_pixels(counts, PULSE, WIDTH, [1.0], background=background, **SETTINGS)
     times, errors = found.lifetimes[..., 0], found.errors[..., 0]
-    assert times.shape == (40, 40) and np.median(times) == pytest.approx(lifetime, rel=0.02)
-    assert np.sqrt((errors**2).mean()) == pytest.approx(times.std(), rel=0.12)
+    assert times.shape == (70, 70) and np.median(times) == pytest.approx(lifetime, rel=0.02)
+    assert np.sqrt((errors**2).mean()) == pytest.approx(times.std(), rel=0.1)
     assert found.amplitudes.mean() == pytest.approx(photons, rel=0.02) and found.mean == pytest.approx(times)
     one = fits.fit_reconvolution(counts[3, 4], PULSE, WIDTH, period=PERIOD, fixed={"shift": 0.03, "background": background})
     assert times[3, 4] == pytest.approx(one.values["lifetime_1"], rel=2e-3) and errors[3, 4] == pytest.approx(one.errors["lifetime_1"], rel=0.03)
@@ -55,17 +55,48 @@ def test_shared_lifetimes_of_pixels_that_have_one_alone() -> None:
     assert found.lifetimes[0, 0] == pytest.approx([1.5, 3.5], rel=0.02)
 
 
-def test_shared_lifetimes_have_the_errors_of_their_scatter() -> None:
-    found = [pixels.fit_pixels(picture(seed, 8, {0.8: 200, 3.2: 200}), PULSE, WIDTH, [0.5, 4.0], kind="shared", **SETTINGS) for seed in range(12)]
+def test_shared_lifetimes_have_the_errors_of_their_scatter(monkeypatch: pytest.MonkeyPatch) -> None:
+    curves = pixels._Curves(SHAPE, SETTINGS["shift"], WIDTH, BINS)
+    monkeypatch.setattr(pixels, "_Curves", lambda *_: curves)  # the same for all, made once
+    found = [pixels.fit_pixels(picture(seed, 8, {0.8: 200, 3.2: 200}), PULSE, WIDTH, [0.5, 4.0], kind="shared", **SETTINGS) for seed in range(200)]
     values, errors = np.array([one.lifetimes[0, 0] for one in found]), np.array([one.errors[0, 0] for one in found])
-    assert np.sqrt((errors**2).mean(axis=0)) == pytest.approx(values.std(axis=0), rel=0.35)
+    assert np.sqrt((errors**2).mean(axis=0)) == pytest.approx(values.std(axis=0), rel=0.1)
     assert values.mean(axis=0) == pytest.approx([0.8, 3.2], rel=0.02)
 
 
 def test_two_lifetimes_of_each_pixel() -> None:
-    found = pixels.fit_pixels(picture(6, 12, {0.6: 20_000, 4.0: 20_000}), PULSE, WIDTH, [0.5, 3.0], **SETTINGS)
+    found = pixels.fit_pixels(picture(6, 40, {0.6: 20_000, 4.0: 20_000}), PULSE, WIDTH, [0.5, 3.0], **SETTINGS)
     assert found.lifetimes.mean(axis=(0, 1)) == pytest.approx([0.6, 4.0], rel=0.02)
-    assert found.errors.mean(axis=(0, 1)) == pytest.approx(found.lifetimes.std(axis=(0, 1)), rel=0.25)
+    assert found.errors.mean(axis=(0, 1)) == pytest.approx(found.lifetimes.std(axis=(0, 1)), rel=0.1)
+
+
+def test_a_lone_photon_before_the_pulse_moves_no_pixel_to_and_fro() -> None:
+    """Of few photons without background some come where one decay has next to nothing: the likelihood is as great as by 1000
+    steps that raise it each (expectation and maximisation), with lifetimes that are held; shared ones settle in some turns."""
+    part = np.random.default_rng(0).random((40, 40))
+    counts = picture(2, 40, {0.8: 150 * (1 - part), 3.2: 150 * part})
+    found = pixels.fit_pixels(counts, PULSE, WIDTH, [0.8, 3.2], kind="fixed", **SETTINGS).amplitudes
+    parts, best = np.stack([SHAPE.decay(lifetime, SETTINGS["shift"]) for lifetime in (0.8, 3.2)]), np.full(found.shape, 75.0)
+    for _ in range(1000):
+        best *= counts / np.maximum(best @ parts, 1e-300) @ parts.T / parts.sum(axis=1)
+    likely = [(counts * np.log(np.maximum(one @ parts, 1e-12)) - one @ parts).sum(axis=-1) for one in (found, best)]
+    assert (likely[1] - likely[0]).max() < 0.01
+
+
+def test_shared_lifetimes_settle(monkeypatch: pytest.MonkeyPatch) -> None:
+    """Of a picture of 150 photons a pixel, in at most six turns over it."""
+    turns: list[int] = []
+    efficient = pixels._efficient
+
+    def noted(*words: Any) -> Any:
+        turns.append(len(words[0]))
+        return efficient(*words)
+
+    monkeypatch.setattr(pixels, "_efficient", noted)
+    part = np.random.default_rng(0).random((128, 128))
+    counts = picture(1, 128, {0.8: 150 * (1 - part), 3.2: 150 * part})
+    found = pixels.fit_pixels(counts, PULSE, WIDTH, [0.5, 4.0], kind="shared", **SETTINGS)
+    assert sum(turns) <= 6 * 128 * 128 and (np.abs(found.lifetimes[0, 0] - [0.8, 3.2]) < 4 * found.errors[0, 0]).all()
 
 
 def test_pixels_with_few_photons_and_shapes_that_do_not_fit() -> None:
@@ -86,9 +117,9 @@ def test_mean_delays_without_background() -> None:
     """A background of a count in each bin pulls the mean to the middle of the period; taken off, it is the lifetime again."""
     counts = picture(9, 30, {2.5: 400}, 1.0)
     axis, offset = np.arange(BINS) * WIDTH, 2.03
-    raw = fits.mean_delays(counts, axis, offset=offset)
+    raw = phasors.mean_delays(counts, axis, offset=offset)
     levels: tuple[Any, Any] = (1.0, np.ones(BINS))
-    clean = [fits.mean_delays(counts, axis, offset=offset, background=dark) for dark in levels]
+    clean = [phasors.mean_delays(counts, axis, offset=offset, background=dark) for dark in levels]
     assert raw.mean() > 3.2
     for one in clean:
         assert one.mean() == pytest.approx(2.5, rel=0.02) and one.shape == (30, 30)

@@ -10,11 +10,12 @@ import pytest
 from conftest import EXAMPLES
 
 import ptulab
-from ptulab import fits, plots
+from ptulab import fits, phasors, plots
 from ptulab.bursts import fret
-from ptulab.pulsed import coincidences, start_stops
+from ptulab.antibunching import coincidences, start_stops
 from ptulab.scans import Cube, Scan, cube, image
 from ptulab.segments import correlation_by_segments
+from ptulab.smfret import BurstVariance
 
 matplotlib.use("Agg")
 
@@ -84,7 +85,7 @@ def test_tables_of_a_scan(t3: Any) -> None:
     lifetimes = plots.plot_lifetimes(report.table("cube"), threshold=20)
     assert bar(lifetimes) == ["mean delay (ns)"] and lifetimes.images[0].get_array().mask.any()
     table = report.table("cube")
-    means = fits.mean_delays(table.counts, table.seconds, threshold=20) * 1e9
+    means = phasors.mean_delays(table.counts, table.seconds, threshold=20) * 1e9
     assert np.allclose(lifetimes.images[0].get_array().filled(np.nan), means, equal_nan=True)
     curve = plots.plot(report.table("correlation"))
     assert labels(curve) == ("delay (s)", "G (1 without correlation)") and curve.get_xscale() == "log"
@@ -155,9 +156,9 @@ def test_correlations_with_a_fit(make_file: Callable[..., Path]) -> None:
 
 
 def test_phasors_and_bursts() -> None:
-    circle = plots.plot_phasors(fits.phasor_of_lifetime(np.linspace(1, 5, 50), 0.05))
+    circle = plots.plot_phasors(phasors.phasor_of_lifetime(np.linspace(1, 5, 50), 0.05))
     assert labels(circle) == ("g", "s") and bar(circle) == ["pixels"]
-    region = plots.plot_phasors(fits.phasor_of_lifetime(np.linspace(1, 5, 50), 0.05), corners=[0.2 + 0.2j, 0.6 + 0.2j, 0.4 + 0.6j])
+    region = plots.plot_phasors(phasors.phasor_of_lifetime(np.linspace(1, 5, 50), 0.05), corners=[0.2 + 0.2j, 0.6 + 0.2j, 0.4 + 0.6j])
     assert len(region.patches) == 1
     coloured = plots.plot_coloured(np.array([[1.0, np.nan], [2.0, 3.0]]), np.array([[9, 9], [0, 5]]), "lifetime (ns)")
     shown = np.asarray(coloured.images[0].get_array())
@@ -166,6 +167,12 @@ def test_phasors_and_bursts() -> None:
     both = plots.plot_fret(fret(*counts))
     assert labels(both) == ("E", "S") and bar(both) == ["bursts a bin"]
     assert labels(plots.plot_fret(fret(*counts[:2]))) == ("E", "bursts a bin")
+    ratio = np.array([0.3, 0.32, 0.5, np.nan])
+    varied = plots.plot_burst_variance(BurstVariance(ratio, np.array([0.2, 0.22, 0.3, np.nan]), np.array([9, 8, 7, 0]), 5), bins=10)
+    assert labels(varied) == ("proximity ratio", "deviation over pieces of 5 photons") and bar(varied) == ["bursts a bin"]
+    middles, deviations = varied.containers[0].lines[0].get_data()
+    assert middles[3] == pytest.approx((8 * 0.3 + 7 * 0.32) / 15) and 0.2 < deviations[3] < 0.22 and np.isfinite(middles).sum() == 1
+    assert varied.lines[-1].get_ydata().max() == pytest.approx(np.sqrt(0.05), rel=1e-3)
 
 
 def test_matplotlib_is_named_where_it_is_missing(monkeypatch: pytest.MonkeyPatch) -> None:

@@ -10,10 +10,10 @@ import pytest
 from conftest import EXAMPLES
 
 import ptulab
-from ptulab import fits
+from ptulab import fits, intensity, phasors
 from ptulab.bursts import find_bursts, fret, fused, photons_in
 from ptulab.groups import Group, photons_of
-from ptulab.pulsed import coincidences, start_stops
+from ptulab.antibunching import coincidences, start_stops
 from ptulab.scans import Scan, best_phase, cube, image
 from ptulab.segments import correlation, correlation_by_segments
 
@@ -48,7 +48,7 @@ def test_the_letter_stands_still(folder: Path) -> None:
 
 def test_lifetimes_of_the_letter(folder: Path) -> None:
     found = cube(ptulab.read_events(folder / "two_ways.ptu"), Scan(**TWO_WAYS, time=64 * 8.4, phase=12.6), 10, 200)
-    means = fits.mean_delays(found.counts, np.asarray(found.seconds), offset=5e-9, threshold=15)
+    means = phasors.mean_delays(found.counts, np.asarray(found.seconds), offset=5e-9, threshold=15)
     assert np.nanmean(means[10:18]) == pytest.approx(1.5e-9, rel=0.05) and np.nanmean(means[28:36]) == pytest.approx(4e-9, rel=0.05)
 
 
@@ -73,8 +73,8 @@ def test_the_emitter_gives_single_photons_of_its_lifetime(folder: Path) -> None:
     assert abs(fit.values["lifetime_1"] - 3.5e-9) < 4 * fit.errors["lifetime_1"] and fit.reduced == pytest.approx(1, abs=0.15)
     tail = fits.fit_tail(decay, TICK * np.arange(PERIOD), 6e-9)
     assert abs(tail.values["lifetime_1"] - 3.5e-9) < 4 * tail.errors["lifetime_1"]
-    phasor = fits.phasor(decay, np.arange(PERIOD) * TICK, 1 / SYNC, reference=complex(fits.phasor(pulse, np.arange(PERIOD) * TICK, 1 / SYNC)))
-    assert abs(phasor / (200 / 210) - fits.phasor_of_lifetime(3.5e-9, 1 / SYNC)) < 0.01
+    phasor = phasors.phasor(decay, np.arange(PERIOD) * TICK, 1 / SYNC, reference=complex(phasors.phasor(pulse, np.arange(PERIOD) * TICK, 1 / SYNC)))
+    assert abs(phasor / (200 / 210) - phasors.phasor_of_lifetime(3.5e-9, 1 / SYNC)) < 0.01
 
 
 def test_t3_correlations_of_the_emitter(program: str, folder: Path) -> None:
@@ -109,3 +109,15 @@ def test_the_molecules_are_of_two_kinds(folder: Path) -> None:
     result = fret(*(photons_in(bursts, photons, group) for group in groups))
     assert len(bursts) == 400 and np.median(np.asarray(result.S)) == pytest.approx(0.5, abs=0.03)
     assert [np.median(result.E[n::2]) for n in (0, 1)] == pytest.approx([0.7, 0.2], abs=0.03)
+
+
+def test_the_source_that_blinks(folder: Path) -> None:
+    """Its times on and off come out by its levels, and its rates."""
+    times = ptulab.read_events(folder / "blinking.ptu").photons["time"]
+    levels = intensity.change_points(times, level=0.01)
+    on, off = intensity.on_and_off(levels, 12e3 * 1e-9)
+    for some, known in ((on, 0.02), (off, 0.04)):
+        fit = intensity.fit_durations(some * 1e-9, span=(5e-3, 1.0))
+        assert abs(fit.values["time"] - known) < 4 * fit.errors["time"] + 0.1 * known and fit.reduced < 2.5
+    bright = levels.rates > 12e3 * 1e-9
+    assert np.average(levels.rates[bright], weights=levels.durations[bright]) == pytest.approx(30e3 * 1e-9, rel=0.03)

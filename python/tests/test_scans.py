@@ -16,7 +16,7 @@ from hypothesis import strategies as st
 import ptulab
 from ptulab import groups
 from ptulab.groups import Group, photons_of, shifted
-from ptulab.pulsed import coincidences
+from ptulab.antibunching import coincidences
 from ptulab.scans import Cube, Image, Scan, _likeness, best_phase, cube, image, lines_of, scan_of
 from ptulab.segments import window
 

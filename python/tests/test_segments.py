@@ -11,7 +11,7 @@ from hypothesis import given, settings
 from hypothesis import strategies as st
 
 import ptulab
-from ptulab import pulsed
+from ptulab import antibunching
 from ptulab.segments import correlation, correlation_by_segments, delays, edges, split, window
 
 GROUPS = st.sampled_from([(1,), (2,), (1, 2), (2, 3)])
@@ -175,7 +175,7 @@ def test_weights_of_any_size_are_counted_exactly() -> None:
     """Bins of so many photons that no floating-point number holds their products, dense and far apart."""
     great = np.array([2**29 + 1, 2**29 + 3, 2**29 + 5], np.int64)
     for step in (1, 1000):
-        counts = pulsed.pair_counts(step * np.arange(3, dtype=np.int64), great, great, 2 * step)
+        counts = antibunching.pair_counts(step * np.arange(3, dtype=np.int64), great, great, 2 * step)
         one, two = int(great[0] * great[1] + great[1] * great[2]), int(great[0] * great[2])
         assert [int(counts[0]), int(counts[step]), int(counts[2 * step])] == [int((great**2).sum()), one, two]
 

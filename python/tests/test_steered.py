@@ -10,8 +10,8 @@ import numpy as np
 import pytest
 
 import ptulab
-from ptulab import fits
-from ptulab.pulsed import Coincidences, coincidences, start_stops, without_background
+from ptulab import antibunching, fits
+from ptulab.antibunching import Coincidences, coincidences, start_stops, without_background
 
 TIMES = np.logspace(-6, 0, 120)
 AXIS = np.arange(200) * 0.1  # nanoseconds
@@ -100,16 +100,16 @@ def test_residuals_of_a_wrong_model_are_like_their_neighbours() -> None:
 
 
 def test_shared_lifetimes_are_told_better() -> None:
-    """Errors of a shared lifetime are those of their weighted mean, and in 25 pairs of decays as their scatter."""
+    """Errors of a shared lifetime are those of their weighted mean, and in 200 pairs of decays as their scatter."""
     found, alone = [], []
-    for seed in range(25):
+    for seed in range(200):
         each = [fits.fit_tail(tail(2 * seed + n, 2.5, height), AXIS, 0.0) for n, height in enumerate((100.0, 300.0))]
         one, other = fits.fit_together(each, ["lifetime_1"])
         assert one.values["lifetime_1"] == other.values["lifetime_1"] and one.errors["lifetime_1"] == other.errors["lifetime_1"]
         found.append((one.values["lifetime_1"], one.errors["lifetime_1"]))
         alone.append([fit.errors["lifetime_1"] for fit in each])
     values, errors = np.transpose(found)
-    assert np.mean(errors) == pytest.approx(values.std(), rel=0.3) and values.mean() == pytest.approx(2.5, rel=0.02)
+    assert np.mean(errors) == pytest.approx(values.std(), rel=0.1) and values.mean() == pytest.approx(2.5, rel=0.02)
     assert np.mean(errors) == pytest.approx(float(np.mean((np.array(alone) ** -2.0).sum(axis=1) ** -0.5)), rel=0.03)
     assert one.values["amplitude_1"] == pytest.approx(100, rel=0.1) and other.values["amplitude_1"] == pytest.approx(300, rel=0.1)
     assert set(one.lmfit.params) == {"lifetime_1", *(f"{name}_of_{n}" for name in ("amplitude_1", "background") for n in (1, 2))}
@@ -164,6 +164,8 @@ def test_a_model_of_ones_own() -> None:
     assert abs(by_parts.values["rate"] - 0.4) < 4 * by_parts.errors["rate"] and by_parts.errors["rate"] < 0.01
     gap = np.where(AXIS == AXIS[7], np.nan, tail())
     assert len(fits.fit_model(two, AXIS, gap, start).axis) == 199
+    some = fits.fit_model(two, AXIS, tail(), start, counts=True, span=(AXIS[20], AXIS[150]))
+    assert some.axis.tolist() == AXIS[20:150].tolist() and 1 / some.values["rate"] == pytest.approx(2.5, abs=4 * some.errors["rate"] * 2.5**2)
     with pytest.raises(ValueError, match="told by"):
         fits.fit_model(two, AXIS, tail(), start, counts=True, errors=np.ones(200))
 
@@ -223,12 +225,12 @@ def test_models_of_motion_are_those_of_the_formulas() -> None:
 
 
 def pairs_of(seed: int, pairs: float, **known: float) -> Coincidences:
-    """Cells of 100 ps up to 50 ns on both sides, in ticks of 1 ps, with so many pairs a cell without correlation."""
-    ticks = np.arange(1001) * 100.0 - 50_000 + 49.5
-    exact = fits.g2_model(ticks * 1e-12, width=1e-10, **known) * pairs
-    exact[-1] *= 0.01  # the last cell has one difference
-    photons = np.sqrt(pairs / 100 * 1e14)
-    return Coincidences(np.random.default_rng(seed).poisson(exact), 50_000, 100, photons, photons, 10**14, 1e-12)
+    """Cells of 250 ps up to 50 ns on both sides, in ticks of 1 ps, with so many pairs a cell without correlation."""
+    ticks = np.arange(401) * 250.0 - 50_000 + 124.5
+    exact = antibunching.g2_model(ticks * 1e-12, width=2.5e-10, **known) * pairs
+    exact[-1] *= 0.004  # the last cell has one difference
+    photons = np.sqrt(pairs / 250 * 1e14)
+    return Coincidences(np.random.default_rng(seed).poisson(exact), 50_000, 250, photons, photons, 10**14, 1e-12)
 
 
 @pytest.mark.parametrize("bunching", [False, True])
@@ -237,27 +239,37 @@ def test_a_dip_is_found_and_its_errors_are_its_scatter(bunching: bool) -> None:
     known = {"depth": 0.5, "lifetime": 3e-9, "centre": 12.3e-9, "signal": 0.9, "jitter": 3e-10}
     known |= {"bunching": 0.6, "bunching_time": 2e-8} if bunching else {}
     held = {"signal": 0.9, "jitter": 3e-10}
-    found = [fits.fit_g2(pairs_of(seed, 400, **known), bunching=bunching, fixed=held) for seed in range(30)]
+    found = [antibunching.fit_g2(pairs_of(seed, 1000, **known), bunching=bunching, fixed=held) for seed in range(200)]
     for name in known.keys() - held.keys():
         values, errors = (np.array([getattr(fit, what)[name] for fit in found]) for what in ("values", "errors"))
-        assert values.mean() == pytest.approx(known[name], abs=5 * values.std() / np.sqrt(30))
-        assert np.sqrt((errors**2).mean()) == pytest.approx(values.std(), rel=0.4)
+        assert values.mean() == pytest.approx(known[name], abs=5 * values.std() / np.sqrt(200))
+        assert np.sqrt((errors**2).mean()) == pytest.approx(values.std(), rel=0.1)
     assert np.mean([fit.reduced for fit in found]) == pytest.approx(1, abs=0.05)
 
 
+@pytest.mark.parametrize("known", [{"depth": 0.5, "lifetime": 3e-9, "centre": 12.3e-9}, {"depth": 0.5, "lifetime": 2e-9, "centre": -12.3e-9, "bunching": 0.6, "bunching_time": 1.5e-8}])
+def test_a_fit_of_a_dip_begins_near_it(known: dict[str, float]) -> None:
+    """Where nothing is told: at the cell of the dip, with a depth and times that are roughly right."""
+    begun = antibunching.fit_g2(pairs_of(1, 100_000, **known), bunching="bunching" in known).lmfit.init_values
+    assert begun["centre"] == pytest.approx(known["centre"], abs=2.5e-10) and begun["depth"] == pytest.approx(0.5, rel=0.1)
+    assert begun["lifetime"] == pytest.approx(known["lifetime"], rel=0.15) and begun["baseline"] == pytest.approx(1, abs=0.03)
+    assert begun.get("bunching", 0) == pytest.approx(known.get("bunching", 0), rel=0.3)
+    assert begun.get("bunching_time", 0) == pytest.approx(known.get("bunching_time", 0), rel=0.5)
+
+
 def test_few_pairs_tell_where_the_dip_is() -> None:
-    fit = fits.fit_g2(pairs_of(1, 4, depth=0.8, lifetime=5e-9, centre=-2e-8))
+    fit = antibunching.fit_g2(pairs_of(1, 10, depth=0.8, lifetime=5e-9, centre=-2e-8))
     assert abs(fit.values["centre"] + 2e-8) < 1e-9 and abs(fit.values["depth"] - 0.8) < 4 * fit.errors["depth"]
     with pytest.raises(ptulab.FitError):
-        fits.fit_g2(pairs_of(1, 4, depth=0.95, lifetime=5e-9), span=(0.0, 3e-10))
+        antibunching.fit_g2(pairs_of(1, 10, depth=0.95, lifetime=5e-9), span=(0.0, 7.5e-10))
 
 
 def test_a_dip_is_that_of_the_formula() -> None:
     at = np.linspace(-20, 20, 4001)
-    dip = fits.g2_model(at, 0.8, 3.0, centre=1.0, bunching=0.5, bunching_time=9.0)
+    dip = antibunching.g2_model(at, 0.8, 3.0, centre=1.0, bunching=0.5, bunching_time=9.0)
     known = 1 - 0.8 * (1.5 * np.exp(-np.abs(at - 1) / 3) - 0.5 * np.exp(-np.abs(at - 1) / 9))
     assert dip == pytest.approx(known, abs=1e-3)
-    wide = fits.g2_model(at, 0.8, 3.0, jitter=0.7, width=0.5)
+    wide = antibunching.g2_model(at, 0.8, 3.0, jitter=0.7, width=0.5)
     steps = np.arange(-600, 601) * 0.01
     normal = np.exp(-((steps / 0.7) ** 2) / 2)
     whole = np.convolve(1 - 0.8 * np.exp(-np.abs(np.arange(-3000, 3001) * 0.01) / 3), normal / normal.sum(), "same")
@@ -287,11 +299,11 @@ def an_emitter(seed: int, background: float = 0.0, late: int = 0, seconds: float
 def test_a_cable_is_found_by_the_dip_and_taken_off() -> None:
     """A cable that is 12.345 ns longer, in ticks of 1 ps, at 1.7 million photons a second with a fifth of background."""
     events = an_emitter(1, background=0.2, late=12_345)
-    fit = fits.fit_g2(coincidences(events, 1, 2, 50_000, width=100), fixed={"signal": 0.8})
+    fit = antibunching.fit_g2(coincidences(events, 1, 2, 50_000, width=100), fixed={"signal": 0.8})
     assert within(fit, "centre", 12_345) and within(fit, "lifetime", 30e3 / 11) and fit.errors["lifetime"] < 300
     assert abs(fit.values["depth"] - 1) < max(4 * fit.errors["depth"], 0.1) or np.isnan(fit.errors["depth"])
     at_zero = coincidences(events, 1, 2, 50_000, width=100, delays={2: -round(fit.values["centre"])})
-    assert abs(fits.fit_g2(at_zero, fixed={"signal": 0.8}).values["centre"]) < 4 * fit.errors["centre"]
+    assert abs(antibunching.fit_g2(at_zero, fixed={"signal": 0.8}).values["centre"]) < 4 * fit.errors["centre"]
     known = an_emitter(1, background=0.2)
     for delays in ({2: -12_345}, {1: 12_345}):
         ours = coincidences(events, 1, 2, 5_000, width=100, delays=delays)

@@ -10,7 +10,7 @@ import pytest
 from conftest import EXAMPLES
 
 import ptulab
-from ptulab import bursts, fits, pulsed, scans, segments
+from ptulab import antibunching, bursts, fits, scans, segments
 
 PLAN = """
 version = 2
@@ -42,8 +42,8 @@ def test_a_difference_of_counts_can_be_below_zero(counted: Callable[..., ptulab.
     ours: list[Any] = [
         scans.image(photons, scan),
         scans.cube(photons, scan, 4, 4),
-        pulsed.coincidences(photons, 1, 1, 2),
-        pulsed.start_stops(photons, 1, 1, 1, 4),
+        antibunching.coincidences(photons, 1, 1, 2),
+        antibunching.start_stops(photons, 1, 1, 1, 4),
     ]
     for one in ours:
         assert one.counts.dtype == np.int64
@@ -67,8 +67,8 @@ def different() -> list[tuple[Callable[[], Any], Any]]:
         (lambda: ptulab.read_header(EXAMPLES / "scan.ptu"), ptulab.read_header(EXAMPLES / "bench.ptu")),
         (lambda: scans.image(photons, scan), scans.image(more, scan)),
         (lambda: scans.cube(photons, scan, 4, 4), scans.cube(more, scan, 4, 4)),
-        (lambda: pulsed.coincidences(photons, 0, 0, 3), pulsed.coincidences(more, 0, 0, 3)),
-        (lambda: pulsed.start_stops(photons, 0, 0, 1, 4), pulsed.start_stops(more, 0, 0, 1, 4)),
+        (lambda: antibunching.coincidences(photons, 0, 0, 3), antibunching.coincidences(more, 0, 0, 3)),
+        (lambda: antibunching.start_stops(photons, 0, 0, 1, 4), antibunching.start_stops(more, 0, 0, 1, 4)),
         (lambda: fits.fit_tail(tail, axis, 0.0), fits.fit_tail(tail + 1, axis, 0.0)),
         (lambda: segments.correlation_by_segments(photons, 0, 0, segments=2, lags=4, levels=2),
          segments.correlation_by_segments(more, 0, 0, segments=2, lags=4, levels=2)),

@@ -76,7 +76,7 @@ def _of_mode(part: str, plan: PlanLike, file: str) -> Iterator[str]:
     suits = SUITS.get(part, "T3")
     yield f"{file} is a {'T2' if suits == 'T3' else 'T3'} file, and {name_of(plan)} a plan for {suits} files: ptulab plan {file} proposes one that suits"
     if part == "coincidence":
-        yield "pairs of photons of a T3 file are counted by ptulab.pulsed.coincidences in Python"
+        yield "pairs of photons of a T3 file are counted by ptulab.antibunching.coincidences in Python"
 
 
 def _of_other_file(file: str) -> Iterator[str]:

@@ -234,6 +234,7 @@ def fit_model(
     errors: NDArray[Any] | None = None,
     counts: bool = False,
     segments: NDArray[Any] | None = None,
+    span: tuple[float, float] = (-math.inf, math.inf),
     fixed: Values = None,
     bounds: Bounds = None,
 ) -> Fit:
@@ -242,7 +243,7 @@ def fit_model(
     ``axis``, ``data``: shape (points,). ``start``: where each parameter begins, but what ``fixed`` holds. ``counts``: whether
     the data are counts by Poisson's law; else they have ``errors``, or those by the scatter of ``segments``, shape
     (segments, points), as of ``fit_fcs``, or, without both, all count alike and the scatter of the points tells errors.
-    Points that are nan or have no error are left out. Raises ``FitError``, and ``ValueError`` for errors told twice.
+    ``span``: from where on and before where points are fitted, by the axis. Points that are nan or have no error are left out. Raises ``FitError``, and ``ValueError`` for errors told twice.
     """
     call = getattr(model, "func", model)
     axis, data = np.asarray(axis, dtype=np.float64), np.asarray(data, dtype=np.float64)
@@ -250,7 +251,7 @@ def fit_model(
     if sum((errors is not None, counts, parts is not None)) > 1:
         raise ValueError("errors are told by errors, by counts or by segments")
     scale = np.sqrt(np.maximum(data, 1.0)) if counts else errors_of_cells(data, errors, parts)
-    kept = np.isfinite(data) & np.isfinite(scale) & (scale > 0)
+    kept = np.isfinite(data) & np.isfinite(scale) & (scale > 0) & (axis >= span[0]) & (axis < span[1])
     data, scale = data[kept], scale[kept]
     begin = want("lmfit", "fits").Parameters()
     for name, value in {**start, **(fixed or {})}.items():

@@ -3,6 +3,7 @@
 After PicoQuant's documentation of the TTTR format and its demo readers; docs/formats.md has the layouts as tables.
 """
 
+import functools
 from dataclasses import dataclass
 
 import numpy as np
@@ -22,6 +23,12 @@ class Layout:
     unit: int  # what a wrap adds to the time
     wraps_count: bool = False  # the time field of a wrap says how many units
     dtime: tuple[int, int] = (0, 0)  # by how many bits a dtime is shifted, and its bits
+
+    @functools.cached_property
+    def special(self) -> int:
+        """The least word that can be a marker or a wrap."""
+        least = min(key for key, meaning in enumerate(self.meanings) if meaning == WRAP or meaning & MARKER)
+        return (least if self.key[1] is None else least & 0xF0) << 24
 
     def read(self, words: Words) -> NDArray[np.uint8]:
         """The meaning of each word, ``(n,)``."""

@@ -4,8 +4,8 @@ import os
 
 import ptulab_program
 
+from ._found import find_program
 from .errors import NoProgramError
-from .program import find_program
 
 __version__ = "0.1.0"
 

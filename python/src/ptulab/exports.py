@@ -14,7 +14,7 @@ import numpy as np
 from numpy.typing import NDArray
 
 from .errors import NotKnownError
-from .fits import g2
+from .antibunching import g2
 from ._optional import want
 from .photon_hdf5 import write_photon_hdf5
 from .report import Report

@@ -13,7 +13,7 @@ from numpy.typing import NDArray
 from .events import events_of
 from .fits import Fit
 from .groups import Group, Part
-from .pulsed import without_background
+from .antibunching import without_background
 from .segments import Curve
 
 __all__ = ["Filtered", "Focus", "brightness", "curve_without_background", "filters", "signal_of", "without_afterpulsing"]
@@ -85,7 +85,7 @@ def without_afterpulsing(curve: Curve, pattern: Curve) -> Curve:
 
     ``pattern``: measured with the same detector, cells and unit of time, as of a lamp, at any rate: an afterpulse follows a
     count with the density (G0 - 1) * rate0, so G has (G0 - 1) * rate0 / rate too much, to the first order of its probability
-    (Zhao, Jin, Lee, Soper and others, Applied Optics 42, 4031, 2003). Errors of both count. Where the pattern has no delay
+    (Zhao, Jin, Chen, Ding, Ma and Chen, Applied Optics 42, 4031, 2003). Errors of both count. Where the pattern has no delay
     nothing is taken off. Raises ``ValueError`` for other cells.
     """
     many = min(len(curve.ticks), len(pattern.ticks))

@@ -13,6 +13,7 @@ import os
 import tempfile
 import threading
 from collections.abc import Callable, Iterator, Sequence
+from concurrent.futures import ThreadPoolExecutor
 from contextlib import contextmanager, suppress
 from dataclasses import dataclass, field
 from datetime import datetime
@@ -21,14 +22,14 @@ from typing import Any
 import numpy as np
 from numpy.typing import NDArray
 
-from ._layouts import MARKER, RESERVED, WRAP, layout_of
-from ._looks import BITS
+from ._looks import Look, look
 from ._optional import want
 from ._values import Compared
+from ._words import PIECE, Told, words_of, workers
 from .errors import UnlikeError
 from .headers import Header, other_records, read_header
 from .program import run
-from .report import Head
+from .report import Head, Report
 
 __all__ = ["Info", "Input", "info"]
 
@@ -36,8 +37,7 @@ PathLike = str | os.PathLike[str]
 Progress = Callable[[int], None]
 BINS = 1024  # of a trace over the whole file, at most
 AT_ONCE = 32  # traces, and histograms, of a plan
-PIECE = 1 << 20  # words that are looked at together
-GREATEST = 1 << 62
+LONG = 1 << 22  # records of a file whose inputs are counted by two programs at the same time
 DEEPEST = 32768  # dtimes that there are
 BARS = " ▁▂▃▄▅▆▇█"
 SHORT = 32  # letters of a sparkline
@@ -239,62 +239,63 @@ def info(path: PathLike, *, program: PathLike | None = None, progress: Progress 
     that ``run`` takes. ``progress`` is called with the bytes that were looked at before the program counts. Raises
     ``BadFileError`` for a header that is refused, ``RefusalError`` for records that are, ``NoProgramError``, and ``OSError``.
     """
-    header, name = read_header(path), os.fspath(path)
-    seen = _words(name, header, progress or (lambda looked_at: None))
-    width = max(1, -(-seen.until // BINS))
-    inputs: list[Input] = []
-    head: Head | None = None
+    return look_at(path, program=program, progress=progress)[0]
+
+
+def look_at(path: PathLike, *, program: PathLike | None = None, progress: Progress | None = None) -> tuple[Info, Look]:
+    """The same, with what a plan for the file has to know."""
+    header, name, said = read_header(path), os.fspath(path), progress or (lambda looked_at: None)
+    told = words_of(name, header, said)
+    seen = _counted(name, header, told, program)
+    if sum(one.photons for one in seen.inputs) < seen.head.photons:  # late ones, or inputs that no sample met
+        whole = words_of(name, header, said, sample=PIECE)
+        seen = seen if whole.inputs == told.inputs else _counted(name, header, whole, program)
+    return seen, _look_of(seen, told)
+
+
+def _look_of(seen: Info, told: Told) -> Look:
+    """What a plan has to know, of the same counts where no event is late."""
+    if seen.head.late:
+        return look(seen.path) if not seen.header.left_over_bytes else Look(seen.header)
+    decays = [_shown_of_decay(one.decay) for one in seen.inputs if one.decay is not None]
+    deepest = max((len(decay) - 1 for decay in decays), default=0)
+    photons = {one.number: one.photons for one in seen.inputs}
+    return Look(seen.header, photons, told.markers, deepest, seen.head.first, seen.head.last, 0, told.marks)
+
+
+def _counted(name: str, header: Header, told: Told, program: PathLike | None) -> Info:
+    """What the program counts of these inputs."""
+    width = max(1, -(-told.until // BINS))
+    parts = _parted(told.inputs, header.records)
     with tempfile.TemporaryDirectory() as folder, _whole_records(name, header, folder) as read:
-        for numbers in _parted(seen.inputs):
-            plan = os.path.join(folder, "plan.toml")
-            with open(plan, "w", encoding="ascii") as out:
-                out.write(_plan(numbers, width, -(-seen.until // width), header.mode))
-            report = run(plan, read(), program=program)
-            if head is not None and report.head != head:
-                raise UnlikeError(f"{name} was changed while it was looked at")
-            head = report.head
-            seconds = _seconds(head, _positive(header.global_seconds))
-            for place, number in enumerate(numbers, 1):
-                counts = report.table("trace", place).counts
-                decay = report.table("histogram", place).counts if header.mode == "T3" else None
-                photons = int(counts.sum())
-                inputs.append(Input(number, photons, photons / seconds if seconds else None, counts, decay))
-    assert head is not None
-    with_photons = tuple(one for one in inputs if one.photons)
-    return Info(name, os.path.getsize(path), header, head, with_photons, seen.markers, width)
+
+        def count(numbers: Sequence[int]) -> Report:
+            return run(_plan(numbers, width, -(-told.until // width), header.mode).encode("ascii"), read(), program=program)
+
+        with ThreadPoolExecutor(len(parts)) as pool:
+            reports = list(pool.map(count, parts))
+    head = reports[0].head
+    if any(report.head != head for report in reports):
+        raise UnlikeError(f"{name} was changed while it was looked at")
+    seconds = _seconds(head, _positive(header.global_seconds))
+    inputs = [one for numbers, report in zip(parts, reports) for one in _inputs(numbers, report, seconds)]
+    return Info(name, os.path.getsize(name), header, head, tuple(one for one in inputs if one.photons), told.markers, width)
 
 
-# ## What the words tell before the program counts
+def _inputs(numbers: Sequence[int], report: Report, seconds: float | None) -> Iterator[Input]:
+    for place, number in enumerate(numbers, 1):
+        counts = report.table("trace", place).counts
+        decay = report.table("histogram", place).counts if report.head.mode == "T3" else None
+        photons = int(counts.sum())
+        yield Input(number, photons, photons / seconds if seconds else None, counts, decay)
 
 
-@dataclass
-class _Seen:
-    """Inputs and marker bits that occur, and a time that all events come before, as far as the words tell."""
-
-    inputs: list[int]
-    markers: dict[int, int]
-    until: int
-
-
-def _words(path: str, header: Header, progress: Progress) -> _Seen:
-    layout, counts, base = layout_of(header.record_type), np.zeros(256, np.int64), 0
-    for at in range(0, header.records, PIECE):
-        many = min(PIECE, header.records - at)
-        words = np.fromfile(path, "<u4", many, offset=header.length_bytes + 4 * at)
-        meanings = layout.read(words)
-        counts += np.bincount(meanings, minlength=256)
-        if base <= GREATEST:  # beyond that the program refuses the file
-            base += int(layout.amounts(words[meanings == WRAP]).sum())
-        progress(header.length_bytes + 4 * (at + many))
-    values = counts[MARKER : MARKER + 16]
-    markers = {bit: int(sum(values[value] for value in range(16) if value >> (bit - 1) & 1)) for bit in BITS}
-    inputs = [number for number in range(RESERVED) if counts[number]]
-    return _Seen(inputs, {bit: count for bit, count in markers.items() if count}, min(base, GREATEST) + layout.field + 1)
-
-
-def _parted(inputs: Sequence[int]) -> list[Sequence[int]]:
-    """The inputs, as many at a time as a plan has room for; one part without any where there are none."""
-    return [inputs[at : at + AT_ONCE] for at in range(0, len(inputs), AT_ONCE)] or [[]]
+def _parted(inputs: Sequence[int], records: int) -> list[list[int]]:
+    """The inputs, as many at a time as a plan has room for, and in parts that programs count at the same time where the file
+    is long; one part without any where there are none."""
+    at_once = -(-workers() // 2) if records > LONG else 1
+    each = max(1, min(AT_ONCE, -(-len(inputs) // at_once)))
+    return [list(inputs[at : at + each]) for at in range(0, len(inputs), each)] or [[]]
 
 
 def _plan(inputs: Sequence[int], width: int, bins: int, mode: str) -> str:
@@ -313,11 +314,9 @@ def _whole_records(path: str, header: Header, folder: str) -> Iterator[Any]:
     if not header.left_over_bytes:
         yield lambda: path
         return
-    fifo = os.path.join(folder, "records")
     feeding: list[threading.Thread] = []
-    os.mkfifo(fifo)
 
-    def feed() -> None:
+    def feed(fifo: str) -> None:
         left = header.length_bytes + 4 * header.records
         with suppress(BrokenPipeError), open(path, "rb") as file, open(fifo, "wb") as out:
             while some := file.read(min(left, PIECE)):
@@ -325,7 +324,10 @@ def _whole_records(path: str, header: Header, folder: str) -> Iterator[Any]:
                 left -= len(some)
 
     def begun() -> str:
-        feeding.append(threading.Thread(target=feed, daemon=True))
+        fifo = os.path.join(folder, f"records {threading.get_ident()}")
+        with suppress(FileExistsError):
+            os.mkfifo(fifo)
+        feeding.append(threading.Thread(target=feed, args=(fifo,), daemon=True))
         feeding[-1].start()
         return fifo
 

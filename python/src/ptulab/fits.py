@@ -1,4 +1,4 @@
-"""Fits of decays and correlations by lmfit, and what is told of a decay without a fit.
+"""Fits of decays and correlations by lmfit.
 
 Decays are fitted by the likelihood of Poisson counts: the sum of 2 (m - n + n ln(n / m)) over the bins, of n counts
 where m are expected, is made least (Laurence and Chromy, Nature Methods 7, 338, 2010), so that bins of few counts, and
@@ -25,26 +25,16 @@ from ._fitting import (
     Bounds, Fit, Numbers, Problem, Values, errors_of_cells, fit_model, fit_together, normal, parts_of, poisson, solved, steered
 )
 from ._optional import want
-from .pulsed import Coincidences
-from .tables import Given, Table, measured, weighted_sums
 
 __all__ = [
     "Fit",
     "fcs_model",
     "fit_fcs",
-    "fit_g2",
     "fit_model",
     "fit_reconvolution",
     "fit_tail",
     "fit_together",
-    "g2",
-    "g2_model",
-    "lifetimes_of_phasor",
-    "mean_delays",
     "mean_lifetime",
-    "phasor",
-    "phasor_of_lifetime",
-    "phasor_reference",
 ]
 
 
@@ -156,7 +146,12 @@ def fit_reconvolution(
     start: Values = None,
     bounds: Bounds = None,
 ) -> Fit:
-    """A fit of a whole decay with the measured pulse: the pulse, shifted, convolved with a sum of decays.
+    """A fit of a whole decay with the measured pulse: the pulse, shifted, convolved with a sum of decays (O'Connor and Phillips,
+    Time-correlated Single Photon Counting, Academic Press 1984):
+
+        background + scatter * P(t) + sum of amplitude_n * (P * D_n)(t),    D_n(t) = exp(-t / lifetime_n) / lifetime_n for t > 0,
+
+    where P is the pulse, ``shift`` later and with a sum of 1.
 
     ``counts``: shape (bins,), a histogram of the sample, with equal bins of ``width``, in seconds or ticks; ``pulse``: that of
     the instrument's response, shape (bins,), or (bins * n,) where its bins are n times finer. Its background must have
@@ -227,7 +222,8 @@ class Convolved:
 def mean_lifetime(fit: Fit, *, by: Literal["amplitude", "intensity"] = "amplitude") -> float:
     """The mean of the lifetimes of a fit: by the amplitudes of its exponentials, or by the photons that each has.
 
-    In ``fit_tail`` an amplitude is the height at the start, in ``fit_reconvolution`` already the photons.
+    With heights a of the exponentials and lifetimes t it is sum(a t) / sum(a), or sum(a t^2) / sum(a t), in the unit of the
+    lifetimes (Lakowicz, Principles of Fluorescence Spectroscopy, Springer 2006, chapter 4). In ``fit_tail`` an amplitude is the height at the start, in ``fit_reconvolution`` already the photons.
     """
     names = [name.removeprefix("amplitude_") for name in fit.values if name.startswith("amplitude_")]
     sizes = np.array([fit.values[f"amplitude_{name}"] for name in names])
@@ -235,115 +231,6 @@ def mean_lifetime(fit: Fit, *, by: Literal["amplitude", "intensity"] = "amplitud
     photons = sizes if "shift" in fit.values else sizes * times
     weights = photons if by == "intensity" else photons / times
     return float((weights * times).sum() / weights.sum())
-
-
-def mean_delays(
-    counts: NDArray[Any],
-    axis: NDArray[Any],
-    *,
-    offset: float = 0.0,
-    threshold: int = 1,
-    width: float | None = None,
-    background: NDArray[Any] | float = 0.0,
-) -> Numbers:
-    """The mean delay of the photons of each pixel: a fast picture of lifetimes. Shape of ``counts`` without its last axis.
-
-    ``counts``: shape (.., bins), as of a cube or a histogram; ``axis``: shape (bins,), where bins begin, evenly spaced,
-    in seconds or ticks. A photon counts in the middle of its bin. ``offset``, in the same unit, is when the pulse comes,
-    and is taken off; ``threshold``: with fewer photons a pixel is nan. ``width``: of a bin, where the axis has only one,
-    which doesn't tell it; ``ValueError`` without it. ``background``: counts that are expected of it in each bin, a number, or
-    an array that goes with ``counts``, as (bins,); it is taken off photons and delays. In seconds the middle of a bin is half a tick later than that of
-    ``mean_delays`` of a table, which counts whole ticks.
-    """
-    photons = counts.sum(axis=-1).astype(np.float64)
-    middles = axis + _width(axis, width) / 2 - offset
-    moments = weighted_sums(counts, middles)
-    if np.any(background):
-        dark = np.broadcast_to(np.asarray(background, dtype=np.float64), counts.shape)
-        photons, moments = photons - dark.sum(axis=-1), moments - dark @ middles
-    means = np.full(np.shape(photons), np.nan)
-    np.divide(moments, photons, out=means, where=photons >= max(threshold, 1))
-    return means
-
-
-def _width(axis: NDArray[Any], width: float | None = None) -> float:
-    """The width of the bins that begin there."""
-    if width is None and len(axis) < 2:
-        raise ValueError("one bin doesn't tell its width: give it")
-    return float(axis[1] - axis[0]) if width is None else width
-
-
-def phasor(
-    counts: NDArray[Any],
-    axis: NDArray[Any],
-    frequency: float,
-    *,
-    offset: float = 0.0,
-    reference: complex = 1.0,
-    threshold: int = 1,
-) -> NDArray[np.complex128]:
-    """The phasor g + i s of the photons of each pixel: shape of ``counts`` without its last axis.
-
-    ``counts`` and ``axis`` as of ``mean_delays``, over the whole period; ``frequency``: in cycles per unit of the axis, as
-    one over the sync period. g and s are the means of cos and sin of 2 pi * frequency * (t - offset) (Digman, Caiolfa,
-    Zamai and Gratton, Biophysical Journal 94, L14, 2008) with t in the middle of a bin, times the cosine of half the
-    angle of a bin: then single exponentials lie on the half circle in bins of any width (see ``phasor_of_lifetime``).
-
-    They do only if it is told when the pulse comes, by ``offset``, its time in the unit of the axis, or by ``reference``,
-    what is divided by (``phasor_reference``, of a measured pulse or a known dye). nan with fewer than ``threshold`` photons.
-    """
-    angle = 2 * np.pi * frequency
-    width = _width(axis)
-    photons = counts.sum(axis=-1).astype(np.float64)
-    turns = np.exp(1j * angle * (axis + width / 2 - offset)) * math.cos(angle * width / 2)
-    sums = weighted_sums(counts, turns / reference)
-    phasors = np.full(np.shape(photons), np.nan + 0j)
-    np.divide(sums, photons, out=phasors, where=photons >= max(threshold, 1))
-    return phasors
-
-
-def phasor_reference(counts: NDArray[Any], axis: NDArray[Any], frequency: float, lifetime: float = 0.0) -> complex:
-    """What phasors are divided by: that of a measured pulse, or with its ``lifetime`` that of a dye, over what it should be.
-
-    ``counts``: shape (bins,), with the bins of the pixels; its background must have been taken off. A pulse must be wider
-    than the bins: a narrow one can be anywhere in its bin, which tells lifetimes to half a bin only. Raises ``ValueError``
-    without photons.
-    """
-    if not np.sum(counts) > 0:
-        raise ValueError("a reference without photons")
-    width = _width(axis) if lifetime else 0.0
-    return complex(phasor(counts, axis, frequency)) / complex(phasor_of_lifetime(lifetime, frequency, width))
-
-
-def phasor_of_lifetime(lifetime: NDArray[np.float64] | float, frequency: float, width: float = 0.0) -> Any:
-    """The phasor of a single exponential, on the half circle: 1 / (1 - 2 pi i * frequency * lifetime).
-
-    As ``phasor`` sees it in bins of this ``width`` of which one begins with the pulse: with the half angle h = pi *
-    frequency * width of a bin, tan(h) * coth(width / (2 * lifetime)) stands there for 2 pi * frequency * lifetime. (The
-    counts of such bins are a geometric series q^k with q = exp(-width / lifetime), whose mean of exp(2 i h (k + 1/2)) is
-    exp(i h) * (1 - q) / (1 - q exp(2 i h)) = 1 / (cos(h) - i sin(h) (1 + q) / (1 - q)).)
-    """
-    lifetime = np.asarray(lifetime, dtype=np.float64)
-    if not width:
-        return 1 / (1 - 2j * np.pi * frequency * lifetime)
-    with np.errstate(divide="ignore"):
-        return 1 / (1 - 1j * math.tan(math.pi * frequency * width) / np.tanh(width / (2 * lifetime)))
-
-
-def lifetimes_of_phasor(phasors: NDArray[np.complex128], frequency: float, width: float = 0.0) -> tuple[Numbers, Numbers]:
-    """The lifetimes by phase, s / (g w), and by modulation, sqrt(1 / (g^2 + s^2) - 1) / w, with w = 2 pi * frequency.
-
-    Both are equal of a single exponential. nan where the modulation is above 1. With the ``width`` of the bins what
-    ``phasor_of_lifetime`` tells of them is turned round, and a phasor that is nearer to 1 than that of no lifetime is nan.
-    """
-    with np.errstate(invalid="ignore", divide="ignore"):
-        phase = phasors.imag / phasors.real
-        modulation = np.sqrt(1 / np.abs(phasors) ** 2 - 1)
-        if not width:
-            return np.asarray(phase / (2 * np.pi * frequency)), np.asarray(modulation / (2 * np.pi * frequency))
-        least = math.tan(math.pi * frequency * width)
-        by_phase, by_modulation = (width / (2 * np.arctanh(least / one)) for one in (phase, modulation))
-    return np.asarray(by_phase), np.asarray(by_modulation)
 
 
 def fcs_model(
@@ -482,151 +369,3 @@ def _linear_fcs(
     heights = np.linalg.lstsq(scaled, curve / scale, rcond=None)[0]
     squares = float(((scaled @ heights - curve / scale) ** 2).sum())
     return (squares if np.all(heights[1:] > 0) else math.inf), heights
-
-
-def g2_model(
-    differences: Numbers,
-    depth: float,
-    lifetime: float,
-    *,
-    centre: float = 0.0,
-    baseline: float = 1.0,
-    bunching: float = 0.0,
-    bunching_time: float = 1.0,
-    signal: float = 1.0,
-    jitter: float = 0.0,
-    width: float = 0.0,
-) -> Numbers:
-    """Antibunched light with bunching: shape of ``differences``.
-
-    baseline * (1 - depth * signal^2 * ((1 + bunching) * e(lifetime) - bunching * e(bunching_time))) with e(c) = exp(-|t -
-    centre| / c), so that g2 is 1 - depth at the ``centre`` where there is no background: 1 / depth emitters that are alike
-    (Kurtsiefer, Mayer, Zarda and Weinfurter, Physical Review Letters 85, 290, 2000). ``signal``: the part of photons that
-    are no background. ``jitter``: the standard deviation of a difference of times by the detectors, as of a normal law that e
-    is convolved with; ``width``: of a cell of which each place is as likely, over which e is integrated. Times are in the
-    unit of ``differences``.
-    """
-    at = differences - centre
-
-    def dip(time: float) -> Numbers:
-        wide = width or 1e-4 * time
-        return np.asarray((_under_dip(at + wide / 2, time, jitter) - _under_dip(at - wide / 2, time, jitter)) / wide)
-
-    dips = (1 + bunching) * dip(lifetime) - (bunching * dip(bunching_time) if bunching else 0.0)
-    return np.asarray(baseline * (1 - depth * signal**2 * dips))
-
-
-def _under_dip(at: Numbers, time: float, jitter: float) -> Numbers:
-    """The integral of exp(-|t| / time), convolved with a normal law, from 0 to a time."""
-    if not jitter:
-        return np.asarray(-np.sign(at) * time * np.expm1(-np.abs(at) / time))
-    special = want("scipy.special", "fits of g2")
-    wide, x, half = jitter / time, at / jitter, jitter**2 / (2 * time**2)
-    later, sooner = (np.exp(np.minimum(half + sign * at / time + special.log_ndtr(-sign * x - wide), 700)) for sign in (1, -1))
-    return np.asarray(time * (later - sooner + 2 * special.ndtr(x) - 1))
-
-
-def fit_g2(
-    pairs: Table | Coincidences,
-    first_photons: Given = None,
-    second_photons: Given = None,
-    *,
-    bunching: bool = False,
-    span: tuple[float, float] = (-math.inf, math.inf),
-    fixed: Values = None,
-    start: Values = None,
-    bounds: Bounds = None,
-) -> Fit:
-    """A fit of coincidences by ``g2_model``, integrated over the cells, by the likelihood of their pairs.
-
-    ``pairs`` and photons as of ``g2``. The fit is in seconds, in ticks where the file doesn't tell; ``data`` and ``curve`` are
-    g2. ``span``: the differences that are fitted. Parameters: ``centre``, where the dip is, so by how much the second input's
-    cable is longer; ``depth``, so 1 - depth is g2 at the dip and 1 / depth the number of emitters; ``lifetime``; ``baseline``; with
-    ``bunching`` also ``bunching`` and ``bunching_time``. Where they are named there are ``signal``, else 1, the part of photons
-    that are no background (the root of the product of both detectors'), and ``jitter``, else 0. Raises ``NotKnownError`` as ``g2``, and
-    ``FitError``.
-    """
-    expected, variances = _normal(pairs, first_photons, second_photons)
-    unit = 1.0 if pairs.seconds is None else float(np.ptp(pairs.seconds) / np.ptp(pairs.ticks))
-    axis, width = pairs.ticks * unit, (pairs.settings["width"] if isinstance(pairs, Table) else pairs.width) * unit
-    kept = (expected > 0) & (axis >= span[0]) & (axis <= span[1])
-    counts, axis, expected, variances = pairs.counts[kept].astype(np.float64), axis[kept], expected[kept], variances[kept]
-    if len(axis) < 6 or not counts.sum() > 0:
-        raise FitError(f"a dip of {len(axis)} cells and {counts.sum():g} pairs")
-    values, law = counts / expected, poisson(counts, expected, variances / np.maximum(counts, 1.0))
-    more = {"signal": {"value": 1.0, "min": 0.0, "max": 1.0}, "jitter": {"value": 0.0, "min": 0.0, "brute_step": width}}
-    begin = steered(_begin_g2(axis, values, np.sqrt(variances) / expected, width, bunching), fixed, start, bounds, more)
-    return solved(Problem(axis, values, lambda at, now: g2_model(at, width=width, **now), law, begin))
-
-
-def _begin_g2(axis: Numbers, values: Numbers, bars: Numbers, width: float, bunching: bool) -> Any:
-    """Where a fit of a dip begins: at the best of a grid of centres and lifetimes, over which the others are linear."""
-    step = max(1, len(axis) // 1000)
-    cells = slice(0, len(axis) // step * step)
-    times, levels, squares = (one[cells].reshape(-1, step).mean(axis=1) for one in (axis, values, bars**2))
-    near = np.ones(min(9, len(times)))
-    weights = np.convolve(np.ones(len(times)), near, "same") / np.convolve(squares, near, "same")
-    reach, missing = float(axis[-1] - axis[0]), (np.average(levels, weights=weights) - levels) * weights
-    best: tuple[float, Any] = (math.inf, None)
-    for time in np.geomspace(max(width / 2, reach / 1000), reach / 4, 16):
-        kernel = np.exp(-np.abs(np.arange(-((len(times) - 1) // 2), (len(times) - 1) // 2 + 1)) * width * step / time)
-        found = np.convolve(missing, kernel, "same") / np.sqrt(np.convolve(weights, kernel**2, "same"))
-        centre = float(times[int(np.argmax(found))])
-        for long in np.geomspace(3 * time, max(reach, 4 * time), 6) if bunching else np.zeros(1):
-            shapes = [-np.exp(-np.abs(times - centre) / time), *([np.exp(-np.abs(times - centre) / long)] if long else [])]
-            columns = np.stack([np.ones(len(times)), *shapes], axis=1) * np.sqrt(weights)[:, None]
-            heights = np.linalg.lstsq(columns, levels * np.sqrt(weights), rcond=None)[0]
-            left = float(((columns @ heights - levels * np.sqrt(weights)) ** 2).sum())
-            if left < best[0] and np.all(heights > 0):
-                best = left, (centre, float(time), float(long), *heights)
-    if best[1] is None:
-        raise FitError("no dip: nowhere are fewer pairs than beside it")
-    centre, time, long, level, down, *up = best[1]
-    rise = up[0] if up else 0.0
-    begin = want("lmfit", "fits").Parameters()
-    begin.add("depth", value=min(max((down - rise) / level, 0.05), 0.98), min=0, max=1, brute_step=0.01)
-    begin.add("lifetime", value=time, min=width / 100, max=reach)
-    begin.add("centre", value=centre, min=float(axis[0]), max=float(axis[-1]), brute_step=time)
-    begin.add("baseline", value=level, min=0)
-    if bunching:
-        begin.add("bunching", value=min(max(rise / max(down - rise, 0.01), 0.01), 50.0), min=0, max=100, brute_step=0.01)
-        begin.add("bunching_time", value=long, min=width / 100, max=100 * reach)
-    return begin
-
-
-def g2(
-    pairs: Table | Coincidences, first_photons: Given = None, second_photons: Given = None
-) -> tuple[Numbers, Numbers]:
-    """Pairs normalised so that they are 1 without correlation, and their Poisson bars: both of shape (cells,).
-
-    ``pairs``: a coincidence or a correlation of a report, or ``Coincidences``. The photons of the two groups of a report's
-    table are told by its plan (``read_report``), or given: of a sum for each measurement, or one number for all of it, as
-    ``Table.expected`` takes them. A bar is the root of ``Coincidences.variances`` over what is expected, in cells of any
-    width; groups of a report that share some photons but not all count as different. nan where no pair is expected.
-    Raises ``NotKnownError`` for another table, and where photons or the length of the measurement aren't known.
-    """
-    expected, variances = _normal(pairs, first_photons, second_photons)
-    values, bars = np.full(len(expected), np.nan), np.full(len(expected), np.nan)
-    np.divide(pairs.counts.astype(np.float64), expected, out=values, where=expected > 0)
-    np.divide(np.sqrt(variances), expected, out=bars, where=expected > 0)
-    return values, bars
-
-
-def _normal(pairs: Table | Coincidences, first_photons: Given, second_photons: Given) -> tuple[Numbers, Numbers]:
-    """The pairs that each cell would have without correlation, and the variance of those that it has."""
-    counts = pairs.counts.astype(np.float64)
-    if isinstance(pairs, Table) and pairs.kind != "coincidence":
-        return pairs.expected(first_photons, second_photons), np.maximum(counts, 1)
-    each = [pairs] if isinstance(pairs, Coincidences) else _coincidences(pairs, first_photons, second_photons)
-    expected = sum((one.expected() for one in each), np.zeros(len(counts)))
-    return expected, each[0].variances() if each else counts
-
-
-def _coincidences(table: Table, first_photons: Given, second_photons: Given) -> list[Coincidences]:
-    """A coincidence of a report with the photons and the length of each measurement in it."""
-    same = table.groups is not None and len(set(table.groups)) == 1
-    reach, width = table.settings["reach"], table.settings["width"]
-    return [
-        Coincidences(table.counts, reach, width, first, second, length + 1, None, min(first, second) if same else 0)
-        for length, first, second in measured(table, first_photons, second_photons)
-    ]

@@ -12,7 +12,7 @@ from .events import UNKNOWN, Events, events_of, iter_events, joined
 from .headers import Header, read_header
 from ._scratch import keep_scratch
 
-__all__ = ["EventsLike", "Group", "GroupLike", "photons_of", "shifted"]
+__all__ = ["Alternated", "EventsLike", "Group", "GroupLike", "photons_of", "shifted"]
 
 Part = Events | NDArray[np.void]  # events in columns, or as rows
 EventsLike = Part | str | os.PathLike[str]  # events, or the path of the file that has them
@@ -49,13 +49,39 @@ class Group:
             known = np.zeros(256, np.bool_)
             known[list(self.inputs)] = True
             found &= known[events.numbers]
-        if self.gates is not None:
-            found &= np.logical_or.reduce([(events.dtimes >= start) & (events.dtimes < stop) for start, stop in self.gates])
-        return found
+        return found if self.gates is None else found & within(events.dtimes, self.gates)
 
     def weights(self, events: Part) -> NDArray[Any]:
         """What each of these events counts for in a correlation: shape (events,)."""
         return self.mask(events)
+
+
+def within(ticks: NDArray[Any], gates: Collection[tuple[int, int]]) -> NDArray[np.bool_]:
+    """Which of these ticks are in one of the gates."""
+    return np.asarray(np.logical_or.reduce([(ticks >= start) & (ticks < stop) for start, stop in gates]))
+
+
+@dataclass(frozen=True)
+class Alternated(Group):
+    """A group of lasers that are switched (µs-ALEX): its ``gates`` are of the times, not of the dtimes.
+
+    They are pairs (from, to) of times less ``offset``, modulo ``period``, in ticks of T2 or sync periods of T3. For what Python
+    counts; a plan has no such group. Raises ``ValueError`` for gates that aren't within a period.
+    """
+
+    period: int = 1
+    offset: int = 0
+
+    def __post_init__(self) -> None:
+        super().__post_init__()
+        if any(stop > self.period for _, stop in self.gates or ()):
+            raise ValueError(f"gates {self.gates} of a period of {self.period}")
+
+    def mask(self, events: Part) -> NDArray[np.bool_]:
+        """Which of these events are photons of the group: shape (events,)."""
+        events = events_of(events)
+        found = Group(self.inputs).mask(events)
+        return found if self.gates is None else found & within((events.times - self.offset) % self.period, self.gates)
 
 
 GroupLike = Group | int | Iterable[int] | None  # a group, an input, some inputs, or None for all photons

@@ -5,14 +5,13 @@ here and by the program, and how a header is refused. What is refused here is wh
 """
 
 import math
-import mmap
 import os
 import stat
 import struct
 from collections.abc import Mapping
 from dataclasses import dataclass, field
 from datetime import datetime, timedelta
-from typing import Any
+from typing import Any, BinaryIO
 
 import numpy as np
 
@@ -103,21 +102,18 @@ def read_header(path: str | os.PathLike[str]) -> Header:
     """
     if stat.S_ISFIFO(os.stat(path).st_mode):
         raise BadFileError(3, "cannot read the data: a pipe can't be mapped", os.fspath(path))
-    with open(path, "rb") as file:
+    with open(path, "rb") as file:  # read, since a map of a file that someone cuts meanwhile would end the process
         whole = os.fstat(file.fileno()).st_size
-        if not whole:
-            return parse_header(b"", 0, os.fspath(path))
-        with mmap.mmap(file.fileno(), whole, access=mmap.ACCESS_READ) as data:
-            return parse_header(data[:SHORT], whole, os.fspath(path), data)
+        return parse_header(file.read(min(SHORT, whole)), whole, os.fspath(path), file)
 
 
-def parse_header(start: bytes, whole: int, path: str = "", data: mmap.mmap | None = None) -> Header:
-    """The header that ``start`` begins with, of a file of ``whole`` bytes; ``data`` is that file, for a long header."""
+def parse_header(start: bytes, whole: int, path: str = "", rest: BinaryIO | None = None) -> Header:
+    """The header that ``start`` begins with, of a file of ``whole`` bytes; ``rest`` gives what follows, for a long header."""
     try:
         values, firsts, length = _tags(start, whole)
     except BadFileError as fault:
-        if fault.status in (11, 16) and data is not None and len(start) < min(whole, LONGEST):
-            return parse_header(data[:LONGEST], whole, path)
+        if fault.status in (11, 16) and rest is not None and len(start) < min(whole, LONGEST):
+            return parse_header(start + rest.read(min(LONGEST, whole) - len(start)), whole, path)
         raise BadFileError(fault.status, fault.line, path) from None
     code = firsts.get(("TTResultFormat_TTTRRecType", INTEGER))
     if code is None:

@@ -1,7 +1,10 @@
 """Photons as a Photon-HDF5 file: https://photon-hdf5.readthedocs.io, the public specification, version 0.5."""
 
+import functools
+import logging
+import math
 import os
-from collections.abc import Collection, Sequence
+from collections.abc import Collection, Iterator, Sequence
 from dataclasses import dataclass
 from datetime import datetime, timezone
 from pathlib import Path
@@ -10,13 +13,16 @@ from typing import Any, Literal
 import numpy as np
 
 from .errors import NotKnownError
-from .events import Events
-from .groups import GroupLike, photons_of
+from .events import LATE, Events, Records
+from .groups import Alternated, Group, GroupLike, photons_of
+from .headers import Header
 from ._optional import want
 from ._versions import __version__
 from ._whole import whole_path
 
-__all__ = ["Setup", "write_photon_hdf5"]
+__all__ = ["Setup", "read_photon_hdf5", "write_photon_hdf5"]
+
+log = logging.getLogger(__name__)
 
 PHOTON_HDF5 = "0.5"  # the version of the specification
 FORMAT_URL = "http://photon-hdf5.org/"
@@ -68,6 +74,23 @@ class Setup:
             raise ValueError(found[0])
 
     @property
+    def groups(self) -> tuple[Group, ...]:
+        """The photons of donor and acceptor while the donor is excited, and, with lasers in turn, of the acceptor while it is.
+
+        They are for ``bursts`` and ``smfret``. Raises ``NotKnownError`` for a measurement that is no smFRET.
+        """
+        if self.kind == "generic":
+            raise NotKnownError("a generic measurement has no donor and acceptor")
+        donor, acceptor = self.spectral
+        if not self.excitation:
+            return Group(donor), Group(acceptor)
+        make: Any = Group
+        if self.alternation_period:
+            make = functools.partial(Alternated, period=self.alternation_period, offset=self.alternation_offset)
+        first, second = ([(int(a), int(b)) for a, b in laser] for laser in self.excitation)
+        return make(donor, first), make(acceptor, first), make(acceptor, second)
+
+    @property
     def lasers(self) -> int:
         """How many lasers there are: one where nothing tells."""
         return max(1, len(self.excitation), len(self.repetition_rates), len(self.excitation_wavelengths))
@@ -111,6 +134,112 @@ def write_photon_hdf5(
         _put(file, "", tree, title)
         for name, text in (("format_name", "Photon-HDF5"), ("format_version", PHOTON_HDF5), ("format_url", FORMAT_URL)):
             file.attrs[name] = np.bytes_(text.encode())
+
+
+def read_photon_hdf5(path: str | os.PathLike[str], *, spot: int | None = None) -> tuple[Events, Setup]:
+    """The photons of a Photon-HDF5 file, and what the measurement was; ``setup.groups`` has donor and acceptor.
+
+    Times are in units of ``timestamps_unit`` seconds, inputs are ``detectors`` (0 where there are none), and dtimes, where the
+    file has them, ``nanotimes``; such a file is of mode T3, another one of T2. Everything is taken as a photon, and one that goes
+    back in time as late. ``spot``: which of several (``photon_data0``..). What the format knows and ``Setup`` doesn't, as other
+    types of measurement, is left out, and that is logged. Raises ``OSError`` for a file that isn't HDF5, ``NotKnownError``
+    where a field that is needed isn't there, ``ValueError`` for numbers that events don't hold, and ``MissingLibraryError``
+    without h5py.
+    """
+    h5py = want("h5py", "Photon-HDF5")
+    with h5py.File(path, "r") as file:
+        place = "photon_data" if spot is None else f"photon_data{spot}"
+        if place not in file:
+            raise NotKnownError(f"{os.fspath(path)} has no {place}; it has {', '.join(sorted(file))}")
+        return _events_in(file, file[place]), _setup_in(file, file[place])
+
+
+def _value(node: Any, *names: str) -> Any:
+    """The first of these fields that is there: a number, a text or an array; None where none is."""
+    for name in names:
+        if name in node:
+            value = node[name][()]
+            if isinstance(value, np.ndarray) and value.shape == (1,) and value.dtype.kind in "SO":
+                value = value[0]
+            return value.decode("utf-8", "replace").strip() if isinstance(value, bytes) else value
+    return None
+
+
+def _events_in(file: Any, data: Any) -> Events:
+    times, unit = _value(data, "timestamps"), _value(data, "timestamps_specs/timestamps_unit")
+    if times is None or unit is None:
+        raise NotKnownError("the file has no timestamps, or no unit of them")
+    times, numbers, dtimes = times.astype(np.int64), _value(data, "detectors"), _value(data, "nanotimes")
+    numbers = np.zeros(len(times), np.uint8) if numbers is None else numbers
+    if int(numbers.max(initial=0)) > 255 or (dtimes is not None and int(dtimes.max(initial=0)) > np.iinfo(np.int32).max):
+        raise ValueError("a detector past 255, or a nanotime past 31 bits")
+    if len(numbers) != len(times) or (dtimes is not None and len(dtimes) != len(times)):
+        raise ValueError(f"{len(times)} timestamps of another number of detectors or nanotimes")
+    columns = np.broadcast_to(np.int32(0), times.shape) if dtimes is None else dtimes.astype(np.int32)
+    late = times < np.maximum.accumulate(times)
+    tick = None if dtimes is None else _value(data, "nanotimes_specs/tcspc_unit")
+    header = Header(f"Photon-HDF5 T{2 if dtimes is None else 3}", _tags(file), None, float(unit), None if tick is None else float(tick), 0, len(times))
+    numbered = Records(functools.partial(np.arange, 1, len(times) + 1))
+    return Events(header, times, columns, numbers.astype(np.uint8), late * np.uint8(LATE), numbered)
+
+
+def _tags(file: Any) -> dict[str, Any]:
+    """What the file says of its origin, by the names of tags of PTU."""
+    told = {
+        "File_Comment": _value(file, "description"),
+        "CreatorSW_Name": _value(file, "provenance/software"),
+        "CreatorSW_Version": _value(file, "provenance/software_version"),
+    }
+    created = _value(file, "provenance/creation_time")
+    try:
+        days = (datetime.strptime(created or "", "%Y-%m-%d %H:%M:%S") - datetime(1899, 12, 30)).total_seconds() / 86400
+    except ValueError:
+        days = None
+    return {name: value for name, value in (told | {"File_CreatingTime": days}).items() if value is not None}
+
+
+def _setup_in(file: Any, data: Any) -> Setup:
+    specs = data.get("measurement_specs", {})
+    kind: Any = _value(specs, "measurement_type") or "generic"
+    period, excitation = _value(specs, "alex_period"), list(_numbered(specs, "alex_excitation_period"))
+    if kind not in ("generic", "smFRET", "smFRET-usALEX", "smFRET-nsALEX") or ("ALEX" in kind and len(excitation) != 2):
+        log.warning("measurement of the type %s and %d times of lasers: taken as generic", kind, len(excitation))
+        kind, excitation = "generic", []
+    lasers = [_pairs(laser.tolist(), None if period is None else int(period)) for laser in excitation]
+    detectors = specs.get("detectors_specs", {})
+    rates = _listed(file, "setup/laser_repetition_rates", 0, math.inf)
+    waves, seen = (_listed(file, f"setup/{name}_wavelengths", 1e-7, 1e-4) for name in ("excitation", "detection"))
+    spectral = [one.tolist() for one in _numbered(detectors, "spectral_ch")]
+    many = len(lasers) or max(len(rates), len(waves))
+    if left := [name for name, told in (("rates", rates), ("wavelengths", waves)) if told and len(told) != many]:
+        log.warning("%s of lasers aren't those of %d lasers: left out", " and ".join(left), many)
+    polarization = [one.tolist() for one in _numbered(detectors, "polarization_ch")]
+    return Setup(
+        kind, spectral or (), polarization or (), lasers or (),
+        None if period is None or not lasers else int(period), int(_value(specs, "alex_offset") or 0) if lasers else 0,
+        rates if rates and len(rates) == many else (), waves if waves and len(waves) == many else (), seen if seen and len(seen) == len(spectral) else (),
+    )  # fmt: skip
+
+
+def _listed(node: Any, name: str, low: float, high: float) -> list[float]:
+    """The numbers of a field that are between these, none where there is no such field."""
+    found = _value(node, name)
+    return [] if found is None else [float(one) for one in np.atleast_1d(found) if low < one < high]
+
+
+def _numbered(node: Any, name: str) -> Iterator[Any]:
+    """The fields with a name that ends in 1, 2 and so on, as arrays."""
+    number = 1
+    while (found := _value(node, f"{name}{number}")) is not None:
+        yield np.atleast_1d(found).ravel()
+        number += 1
+
+
+def _pairs(flat: list[int], period: int | None) -> list[tuple[int, int]]:
+    """Times of a laser; those over the end of a period are two."""
+    pairs = list(zip(flat[::2], flat[1::2]))
+    ended = [(start, stop if start < stop or period is None else period) for start, stop in pairs]
+    return ended + [(0, stop) for start, stop in pairs if period is not None and start >= stop > 0]
 
 
 def _positive(seconds: float | None) -> float:

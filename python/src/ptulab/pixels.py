@@ -21,6 +21,7 @@ LIFETIMES = 500  # between the shortest and the longest one, of which curves are
 STEPS = 60  # of a fit, at most
 LEAST = 1e-9  # of an amplitude, in photons of its pixel
 NEAR = 1e-4  # of a lifetime: a step that ends a fit
+SOME = 16  # blocks of which one is taken first where lifetimes are shared
 
 
 @dataclass(frozen=True, eq=False)
@@ -71,8 +72,8 @@ def fit_pixels(
     pixels, terms = counts.reshape(-1, bins), len(lifetimes)
     level = np.broadcast_to(np.asarray(background, dtype=np.float64), counts.shape).reshape(-1, bins)
     kept = np.flatnonzero(pixels.sum(axis=1) >= max(threshold, 1))
-    step = max(1, TOGETHER // bins)
-    blocks = [kept[at : at + step] for at in range(0, len(kept), step)]
+    many = -(-len(kept) * bins // TOGETHER)
+    blocks = [kept[at::many] for at in range(many)]  # each from all over the picture
     found = np.full((3, len(pixels), terms), np.nan)
     begin = np.log(np.asarray(lifetimes, dtype=np.float64))
     amplitudes = [_begun(pixels[block].astype(np.float64), level[block], terms) for block in blocks]
@@ -142,21 +143,24 @@ def _fitted(
     terms, photons = len(begin), counts.sum(axis=1)
     logs = np.repeat(begin[None], len(counts), axis=0)
     errors, going = np.full(logs.shape, np.nan), np.arange(len(counts))
-    for _ in range(steps):
+    for turn in range(steps):
         now, times = amplitudes[going], logs[going]
-        rows = curves.of(times) if free else curves.of(begin)[:terms]
-        slope, inform = _sums(counts[going], level[going], rows, now) if free else _linear(counts[going], level[going], rows, now)
+        some, dark = (counts, level) if len(going) == len(counts) else (counts[going], level[going])
+        slope, inform = _sums(some, dark, curves.of(times), now) if free else _linear(some, dark, curves.of(begin)[:terms], now)
         least = LEAST * photons[going, None]
         at_bound = (now <= least) & (slope[:, :terms] < 0)
-        held = np.concatenate((at_bound, now <= least), axis=1) if free else at_bound
+        outward = np.where(slope[:, terms:] > 0, times >= curves.logarithms[-1], times <= curves.logarithms[0]) if free else at_bound
+        held = np.concatenate((at_bound, (now <= least) | outward), axis=1) if free else at_bound
         slope, inform = _held(slope, inform, held)
-        inverse = np.linalg.inv(inform)
+        inverse = _inverse(inform)
         moves = np.einsum("prs,ps->pr", inverse, slope)
-        amplitudes[going] = np.maximum(now + np.maximum(moves[:, :terms], -0.9 * now - least if free else -now), least)
+        moves[:, :terms] *= _part(turn, free)
+        amplitudes[going] = np.maximum(now + np.clip(moves[:, :terms], -0.9 * now - least, photons[going, None]), least)
         done = np.abs(moves[:, :terms]).max(axis=1) < NEAR * np.maximum(photons[going], 1)
         if free:
-            step = np.clip(moves[:, terms:], -0.7, 0.7)
-            logs[going] = np.clip(times + step, curves.logarithms[0], curves.logarithms[-1])
+            step = _part(turn, free) * np.clip(moves[:, terms:], -0.7, 0.7)
+            step = np.clip(times + step, curves.logarithms[0], curves.logarithms[-1]) - times
+            logs[going] = times + step
             spread = np.sqrt(np.maximum(np.einsum("prr->pr", inverse)[:, terms:], 0.0))
             errors[going] = np.where(held[:, terms:], np.nan, spread * np.exp(logs[going]))
             done &= np.abs(step).max(axis=1) < NEAR
@@ -166,11 +170,29 @@ def _fitted(
     return np.stack([amplitudes, np.exp(logs)]), errors
 
 
+def _part(turn: int, free: bool) -> float:
+    """What part of a step is taken, since by whole ones some pixels go to and fro for ever: amplitudes where a lone photon comes
+    before the pulse, and lifetimes that are hardly told apart."""
+    return (1.0 if turn < 8 else 0.4) if free else 1.0 if turn % 2 == 0 else 0.5
+
+
 def _linear(counts: Numbers, level: Numbers, rows: Numbers, amplitudes: Numbers) -> tuple[Numbers, Numbers]:
     """The gradient and the information by amplitudes alone, of decays that all pixels share."""
-    slope, inform = _sums(counts, level, np.concatenate((rows, rows)), amplitudes)
+    over = 1 / np.maximum(amplitudes @ rows + level, 1e-12)
     terms = len(rows)
-    return slope[:, :terms], inform[:, :terms, :terms]
+    inform = (over @ (rows[:, None] * rows).reshape(terms * terms, -1).T).reshape(-1, terms, terms)
+    return (counts * over) @ rows.T - rows.sum(axis=1), inform
+
+
+def _inverse(matrices: Numbers) -> Numbers:
+    """The inverses of symmetric matrices, (pixels, rows, rows)."""
+    if matrices.shape[1] > 2:
+        return np.asarray(np.linalg.inv(matrices))
+    if matrices.shape[1] == 1:
+        return 1 / matrices
+    one, both, other = matrices[:, 0, 0], matrices[:, 0, 1], matrices[:, 1, 1]
+    turned = np.stack((other, -both, -both, one), axis=1) / (one * other - both**2)[:, None]
+    return np.asarray(turned.reshape(-1, 2, 2))
 
 
 def _shared(
@@ -183,34 +205,54 @@ def _shared(
 ) -> tuple[Numbers, Numbers]:
     """The logarithms of the lifetimes that all pixels share, and the errors of the lifetimes; amplitudes go along.
 
-    It begins with those of all pixels as one. A step is by what is left of the gradient and of Fisher's information where
-    amplitudes go along, even below 0 (the efficient score: Lindsay, Philosophical Transactions A 296, 639, 1980): the
-    likelihood itself, with no amplitude below 0, would pull the lifetimes apart where pixels have one of them alone. There a
-    part in a hundred of the lifetimes is left of that at 250 photons a pixel, which may be more than the errors.
+    It begins with those of all pixels as one, and goes on with some of the blocks, before it takes all.
     """
     every = np.concatenate(blocks)
     total, dark = (one[every].sum(axis=0, dtype=np.float64)[None] for one in (pixels, level))
-    terms, logs = len(begin), np.log(_fitted(total, dark, curves, begin, _begun(total, dark, len(begin)), True)[0][1, 0])
-    for _ in range(STEPS):
-        rows, whole, left, moves = curves.of(logs), np.zeros((terms, terms)), np.zeros(terms), []
-        for now, block in zip(amplitudes, blocks, strict=True):
-            counts = pixels[block].astype(np.float64)
-            now[:] = _fitted(counts, level[block], curves, logs, now, False, 2)[0][0]
-            slope, inform = _sums(counts, level[block], rows, now)
-            own, fisher = _held(slope[:, :terms], inform[:, :terms, :terms], np.zeros(now.shape, np.bool_))
-            inverse, across = np.linalg.inv(fisher), inform[:, :terms, terms:]
-            alone, along = np.einsum("prs,ps->pr", inverse, own), np.matmul(inverse, across)
-            whole += inform[:, terms:, terms:].sum(axis=0) - np.einsum("pra,prb->ab", across, along)
-            left += slope[:, terms:].sum(axis=0) - np.einsum("pra,pr->a", across, alone)
-            moves.append(along)
+    logs = np.log(_fitted(total, dark, curves, begin, _begun(total, dark, len(begin)), True)[0][1, 0])
+    logs, _ = _settled(pixels, level, blocks[::SOME], curves, logs, amplitudes[::SOME])
+    return _settled(pixels, level, blocks, curves, logs, amplitudes)
+
+
+def _settled(
+    pixels: NDArray[Any],
+    level: Numbers,
+    blocks: list[NDArray[np.int64]],
+    curves: _Curves,
+    logs: Numbers,
+    amplitudes: list[Numbers],
+) -> tuple[Numbers, Numbers]:
+    """The logarithms of the lifetimes that these pixels share, and the errors of the lifetimes."""
+    for turn in range(STEPS):
+        found = [_efficient(pixels[block], level[block], curves, logs, now, 2 if turn else 8) for block, now in zip(blocks, amplitudes, strict=True)]
+        whole, left = (np.sum([one[at] for one in found], axis=0) for at in (0, 1))
         step = np.clip(np.linalg.solve(whole, left), -0.7, 0.7)
         logs = np.clip(logs + step, curves.logarithms[0], curves.logarithms[-1])
-        for now, along in zip(amplitudes, moves, strict=True):
+        for now, (_, _, along) in zip(amplitudes, found, strict=True):
             now[:] = np.maximum(now - along @ step, LEAST)
         errors = np.sqrt(np.diagonal(np.linalg.inv(whole)))
         if np.all(np.abs(step) < 0.03 * errors):
             break
     return logs, errors * np.exp(logs)
+
+
+def _efficient(
+    counts: NDArray[Any], level: Numbers, curves: _Curves, logs: Numbers, now: Numbers, steps: int
+) -> tuple[Numbers, Numbers, Numbers]:
+    """What is left of Fisher's information and of the gradient by the logarithms where amplitudes go along, even below 0 (the
+    efficient score: Lindsay, Philosophical Transactions A 296, 639, 1980), and how amplitudes go along, after these steps of them.
+
+    The likelihood itself, with no amplitude below 0, would pull the lifetimes apart where pixels have one of them alone. There
+    a part in a hundred of the lifetimes is left of that at 250 photons a pixel, which may be more than the errors.
+    """
+    counts, terms = counts.astype(np.float64), len(logs)
+    now[:] = _fitted(counts, level, curves, logs, now, False, steps)[0][0]
+    slope, inform = _sums(counts, level, curves.of(logs), now)
+    own, fisher = _held(slope[:, :terms], inform[:, :terms, :terms], np.zeros(now.shape, np.bool_))
+    inverse, across = _inverse(fisher), inform[:, :terms, terms:]
+    alone, along = np.einsum("prs,ps->pr", inverse, own), np.matmul(inverse, across)
+    whole = inform[:, terms:, terms:].sum(axis=0) - np.einsum("pra,prb->ab", across, along)
+    return whole, slope[:, terms:].sum(axis=0) - np.einsum("pra,pr->a", across, alone), along
 
 
 def with_neighbours(counts: NDArray[Any], reach: int = 1) -> NDArray[Any]:

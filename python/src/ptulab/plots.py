@@ -6,16 +6,19 @@ from typing import Any
 import numpy as np
 from numpy.typing import NDArray
 
+from .antibunching import Coincidences, StartStops, g2
 from .bursts import Fret
-from .fits import Fit, g2, mean_delays
+from .fits import Fit
 from ._optional import want
-from .pulsed import Coincidences, StartStops
+from .phasors import mean_delays
 from .scans import Cube, Image
 from .segments import Curve
+from .smfret import BurstVariance
 from .tables import Table, enough
 
 __all__ = [
     "plot",
+    "plot_burst_variance",
     "plot_coloured",
     "plot_correlation",
     "plot_decay",
@@ -314,4 +317,18 @@ def plot_fret(result: Fret, axes: Any = None, *, bins: int = 48) -> Any:
     drawn = axes.pcolormesh(edges, edges, _shown(counts), cmap="viridis")
     axes.figure.colorbar(drawn, ax=axes, label="bursts a bin")
     axes.set(xlabel="E", ylabel="S", aspect="equal")
+    return axes
+
+
+def plot_burst_variance(result: BurstVariance, axes: Any = None, *, bins: int = 20) -> Any:
+    """The deviation of E within bursts over their E, and by bins, beside the one that counting alone gives."""
+    axes, E = _axes(axes), np.linspace(0, 1, 200)
+    known = ~np.isnan(result.deviations)
+    drawn = axes.hist2d(result.E[known], result.deviations[known], bins=2 * bins, range=((0, 1), (0, 0.5)), cmap="viridis", cmin=1)[3]
+    axes.figure.colorbar(drawn, ax=axes, label="bursts a bin")
+    middles, deviations, bars = result.binned(bins)
+    axes.errorbar(middles, deviations, bars, fmt="o", markersize=4, color="tab:red", label="bursts of a bin together")
+    axes.plot(E, result.expected(E), color="black", label="counting alone")
+    axes.set(xlabel="proximity ratio", ylabel=f"deviation over pieces of {result.n} photons", xlim=(0, 1), ylim=(0, 0.5))
+    axes.legend()
     return axes

@@ -13,7 +13,7 @@ from numpy.typing import NDArray
 
 from .events import Events, events_of, joined
 from .groups import EventsLike, GroupLike, Part, group_of, header_of, pieces_of, ticks_of
-from .pulsed import occupied, pair_counts
+from .antibunching import occupied, pair_counts
 from .tables import lags_of
 from ._values import Compared
 from ._xarrays import Axis, labelled

@@ -13,15 +13,19 @@ from typing import Any
 
 import numpy as np
 
-from .._looks import Look, look
+from .._looks import Look
 from .._versions import __version__
 from ..events import UNKNOWN
 from ..page._figures import Picture
 from ..plans import SIDE, bins_of_pixel, plan_of
-from ._figures import Drawn, curve, drawn, figure, of_report, units_of_second, with_curve
+from ._figures import Drawn, curve, drawn, figure, of_report, phasor_plane, units_of_second, with_curve
 
 Names = Mapping[str, Any]  # of a script that ran
 Settings = dict[str, Any]
+
+
+PARAMETER = re.compile(r"[a-z][a-z_0-9]{0,39}")
+MOST_PARAMETERS = 20
 
 
 @dataclass(frozen=True)
@@ -57,6 +61,7 @@ class Analysis:
     imports: str
     by_python: bool = False
     takes_second: bool = False  # whether another file can be the pulse
+    fits: bool = False  # whether its parameters can be held, and told where to begin
 
     def script(self, path: str, document: Names, settings: Settings, second: str | None) -> str:
         """The script that answers the question of the file at ``path``, by the document of its plan."""
@@ -84,8 +89,14 @@ file = sys.argv[1] if len(sys.argv) > 1 else {path!r}
 FIT = """\
 for name, value in fit.values.items():
     factor, unit = (1e9, " ns") if name.startswith(("lifetime", "shift")) else (1, "")
-    print(f"{name}: {measured(value * factor, fit.errors[name] * factor, unit)}")
+    print(f"{name}: {measured(value * factor, fit.errors[name] * factor if fit.lmfit.params[name].vary else None, unit)}")
 print(f"deviance over what is expected: {measured(fit.reduced)}")
+"""
+POINTS = """\
+photons, decay = cube.counts.sum(axis=2), cube.counts.sum(axis=(0, 1))
+begin = int(np.flatnonzero(2 * decay >= decay.max())[0])
+threshold = {threshold}
+points = phasors.phasor(cube.counts, cube.seconds, 1 / report.head.global_seconds, offset=cube.seconds[begin], threshold={of_points})
 """
 REPORT = 'report = ptulab.run(here / "plan.toml", file)\n'
 FIT_CURVE = '"fit": {"seconds": fit.axis, "photons": fit.data, "fit": fit.curve, "residuals": fit.residuals}'
@@ -99,12 +110,50 @@ def settings_of(analysis: Analysis, given: Mapping[str, Any]) -> Settings:
         if isinstance(value, bool) or not isinstance(value, int | float) or not one.least <= value <= one.most:
             raise ValueError(f"{one.label}: a number from {one.least:g} to {one.most:g} is wanted")
         settings[one.key] = int(value) if one.whole else float(value)
-    return settings
+    return settings | {"fit": _steering(given.get("fit") or {}) if analysis.fits else {}}
 
 
-def proposals(path: str) -> list[dict[str, Any]]:
+def _steering(given: Any) -> dict[str, tuple[float, bool]]:
+    """Where parameters of a fit begin, and whether they are held there. Raises ``ValueError`` for what is none."""
+    if not isinstance(given, dict) or len(given) > MOST_PARAMETERS:
+        raise ValueError(f"a fit has at most {MOST_PARAMETERS} parameters that are held or begun")
+    steering = {}
+    for name, told in given.items():
+        good = isinstance(told, list) and len(told) == 2 and isinstance(told[0], int | float) and not isinstance(told[0], bool) and isinstance(told[1], bool)
+        if not good or not PARAMETER.fullmatch(name) or not math.isfinite(told[0]):
+            raise ValueError("a parameter of a fit has a name, a number, and whether it is held")
+        steering[name] = (float(told[0]), told[1])
+    return steering
+
+
+def _steered(settings: Settings) -> str:
+    """The words by which a script tells a fit what is held, and where it begins."""
+    words = ""
+    for key, is_held in (("fixed", True), ("start", False)):
+        values = {name: value for name, (value, held) in settings["fit"].items() if held is is_held}
+        words += f", {key}={values}" if values else ""
+    return words
+
+
+def parameters_of(names: Names) -> list[dict[str, Any]]:
+    """The parameters of a fit that a script made, in the units that are printed."""
+    fit = names.get("fit")
+    return [] if fit is None else [_parameter(name, fit) for name in fit.values]
+
+
+def _parameter(name: str, fit: Any) -> dict[str, Any]:
+    held, (factor, unit) = not fit.lmfit.params[name].vary, _unit_of(name)
+    return {"name": name, "value": float(f"{fit.values[name] * factor:.6g}"), "factor": factor, "unit": unit, "held": held}
+
+
+def _unit_of(name: str) -> tuple[float, str]:
+    if name.startswith(("lifetime", "shift")):
+        return 1e9, "ns"
+    return (1e3, "ms") if name in ("diffusion", "triplet_time") else (1.0, "")
+
+
+def proposals(seen: Look) -> list[dict[str, Any]]:
     """Of a file each question, with the reason where it can't be asked, and the plan and the settings that suit."""
-    seen = look(path)
     text = str(plan_of(seen))
     return [_proposal(one, seen, text) for one in ANALYSES.values()]
 
@@ -117,7 +166,8 @@ def analysis_of(name: str) -> Analysis:
 
 
 def _proposal(one: Analysis, seen: Look, text: str) -> dict[str, Any]:
-    reason = one.wanting(seen) if seen.inputs else "there are no photons in the file"
+    reason = "it ends within a record, and what is counted for a question has whole records" if seen.header.left_over_bytes else ""
+    reason = reason or (one.wanting(seen) if seen.inputs else "there are no photons in the file")
     told = {"name": one.name, "title": one.title, "means": one.means, "reason": reason, "python": one.by_python, "second": one.takes_second}
     if reason:
         return told | {"plan": "", "settings": []}
@@ -191,11 +241,11 @@ def _decay(document: Names, settings: Settings, second: str | None) -> str:
     body = f'{REPORT}decay = report.table("histogram", {settings["number"]})\n'
     if second is None:
         body += f"start = decay.seconds[decay.counts.argmax()] + {settings['after']!r} * 1e-9\n"
-        body += f"fit = fits.fit_tail(decay.counts, decay.seconds, start, terms={settings['terms']})\n"
+        body += f"fit = fits.fit_tail(decay.counts, decay.seconds, start, terms={settings['terms']}{_steered(settings)})\n"
     else:
         body += f'pulse = ptulab.run(here / "plan.toml", {second!r}).table("histogram", {settings["number"]})\n'
         body += 'width = report.head.resolution_seconds * decay.settings["width"]\n'
-        body += f"fit = fits.fit_reconvolution(decay.counts, pulse.counts, width, period=report.head.global_seconds, terms={settings['terms']})\n"
+        body += f"fit = fits.fit_reconvolution(decay.counts, pulse.counts, width, period=report.head.global_seconds, terms={settings['terms']}{_steered(settings)})\n"
     return f'{body}{FIT}curves = {{"decay": {{"seconds": decay.seconds, "photons": decay.counts}}, {FIT_CURVE}}}\n'
 
 
@@ -211,18 +261,21 @@ def _draw_decay(names: Names) -> list[Drawn]:
     return _draw_fit(drawn(of_report(names["report"], "histogram", names["decay"].number)[0]), names["fit"])
 
 
+def threshold_of(settings: Settings) -> str:
+    """The words by which a script tells how many photons a pixel must have."""
+    return str(settings["threshold"]) if settings["threshold"] else "max(1, round(0.1 * np.percentile(photons, 99)))"
+
+
 def _image(document: Names, settings: Settings, second: str | None) -> str:
-    threshold = str(settings["threshold"]) if settings["threshold"] else "max(1, round(0.1 * np.percentile(photons, 99)))"
     return f"""{REPORT}cube = report.table("cube", 1)
-photons, decay = cube.counts.sum(axis=2), cube.counts.sum(axis=(0, 1))
-begin = int(np.flatnonzero(2 * decay >= decay.max())[0])
-threshold = {threshold}
-delays = fits.mean_delays(cube.counts[..., begin:], cube.seconds[begin:], offset=cube.seconds[begin], threshold=threshold)
+{POINTS.format(threshold=threshold_of(settings), of_points="threshold")}delays = phasors.mean_delays(cube.counts[..., begin:], cube.seconds[begin:], offset=cube.seconds[begin], threshold=threshold)
 start = cube.seconds[decay.argmax()] + {settings['after']!r} * 1e-9
-fit = fits.fit_tail(decay, cube.seconds, start, terms={settings['terms']})
+fit = fits.fit_tail(decay, cube.seconds, start, terms={settings['terms']}{_steered(settings)})
 print(f"photons in the picture: {{photons.sum():,}}")
 print(f"pixels with {{threshold:,}} photons or more: {{np.count_nonzero(~np.isnan(delays)):,}}")
 print(f"median of their mean delays: {{measured(np.nanmedian(delays) * 1e9, unit=' ns')}}")
+known = points[np.isfinite(points)]
+print(f"median of their phasors: g {{measured(np.median(known.real))}}, s {{measured(np.median(known.imag))}}")
 {FIT}curves = {{"decay": {{"seconds": cube.seconds, "photons": decay}}, {FIT_CURVE}}}
 """
 
@@ -236,7 +289,8 @@ def _draw_image(names: Names) -> list[Drawn]:
         told = f"The mean delay of each pixel with {names['threshold']:,} photons or more, after the rise of the decay of all pixels."
         told += " It is the lifetime only of a single exponential without background."
         delays = Picture(delays.name, delays.title, told, names["photons"], values, "mean delay (ns)", "ns", 1, names["threshold"], delays.colours, delays.micrometres)
-    return [drawn(photons), drawn(delays), *_draw_fit(drawn(whole), names["fit"])]
+    plane = phasor_plane(names["points"], names["report"].head.global_seconds, names["cube"].seconds)
+    return [drawn(photons), drawn(delays), plane, *_draw_fit(drawn(whole), names["fit"])]
 
 
 # ## Light over the time, and correlations
@@ -265,7 +319,7 @@ def _correlation(document: Names, settings: Settings, second: str | None) -> str
     until = f"{settings['until']!r}" if settings["until"] else "np.inf"
     return f"""curve = segments.correlation_by_segments(file, {first}, {other}, segments={settings['segments']})
 span = ({settings['begin']!r} * 1e-6, {until})
-fit = fits.fit_fcs(curve.seconds, curve.values, segments=curve.segments, dimensions={settings['dimensions']}, triplet={bool(settings['triplet'])}, span=span)
+fit = fits.fit_fcs(curve.seconds, curve.values, segments=curve.segments, dimensions={settings['dimensions']}, triplet={bool(settings['triplet'])}, span=span{_steered(settings)})
 for name, value in fit.values.items():
     factor, unit = (1e3, " ms") if name in ("diffusion", "triplet_time") else (1, "")
     print(f"{{name}}: {{measured(value * factor, fit.errors[name] * factor if fit.lmfit.params[name].vary else None, unit)}}")
@@ -302,7 +356,7 @@ def _draw_correlation(names: Names) -> list[Drawn]:
 
 def _g2(document: Names, settings: Settings, second: str | None) -> str:
     return f"""{REPORT}pairs = report.table("coincidence", 1)
-values, errors = fits.g2(pairs)
+values, errors = antibunching.g2(pairs)
 middle, lowest = np.abs(pairs.ticks).argmin(), (values + errors).argmin()
 print(f"g2 at 0: {{measured(values[middle], errors[middle])}}")
 print(f"lowest g2: {{measured(values[lowest], errors[lowest])}}, at {{pairs.seconds[lowest] * 1e9:.4g}} ns")
@@ -312,7 +366,7 @@ curves = {{"g2": {{"seconds": pairs.seconds, "pairs": pairs.counts, "g2": values
 
 def _pulsed(document: Names, settings: Settings, second: str | None) -> str:
     first, other = (_group(document, settings[key]) for key in ("first", "second"))
-    return f"""pairs = pulsed.coincidences(file, {first}, {other}, {settings['reach']})
+    return f"""pairs = antibunching.coincidences(file, {first}, {other}, {settings['reach']})
 ratio, error = pairs.central_ratio(neighbours={settings['neighbours'] or None})
 print(f"g2(0), the pairs of one pulse over those of two: {{measured(ratio, error)}}")
 curves = {{"pairs": {{"periods": pairs.ticks, "pairs": pairs.counts}}}}
@@ -430,21 +484,21 @@ ANALYSES = {
     for one in (
         Analysis("decay", "Decay and lifetime", "How long the dye stays excited: an exponential is fitted to the photons by their delay after the pulse.",
                  _only("T3", "photons have delays after a pulse"), ("histogram",), lambda seen: DECAY_SETTINGS, _decay, _draw_decay,
-                 f"import ptulab\n{FITS}", takes_second=True),
+                 f"import ptulab\n{FITS}", takes_second=True, fits=True),
         Analysis("image", "Lifetime image", "A picture of the scan, with the mean delay of the photons of each pixel.",
                  _scanned, ("cube",), _fits(Setting("threshold", "Photons that a pixel must have (0: a tenth of the brightest)", 0, 0, 1e9)),
-                 _image, _draw_image, f"{NUMPY}\n{FITS}"),
+                 _image, _draw_image, f"{NUMPY}\nfrom ptulab import fits, phasors", fits=True),
         Analysis("trace", "Light over the time", "The light of the group over the measurement, and how often it was how bright.",
                  _ticks_known, ("trace",), lambda seen: [Setting("number", "Trace of the plan", 1, 1, 32)], _trace, _draw_trace, NUMPY),
         Analysis("correlation", "Correlation (FCS)", "How long a molecule stays in the focus, and how many are there: the curve falls where they leave it.",
                  _ticks_known, (), _correlation_settings, _correlation, _draw_correlation, f"{NUMPY}\nfrom ptulab import fits, segments\nfrom ptulab.groups import Group",
-                 by_python=True),
+                 by_python=True, fits=True),
         Analysis("antibunching", "Antibunching (g2)", "Whether the light comes of one emitter: below one half at 0, it does.",
                  _two_detectors("T2", "all pairs are counted by their times"), ("trace", "coincidence"), lambda seen: [], _g2,
-                 lambda names: [*map(drawn, of_report(names["report"], "coincidence"))], f"{NUMPY}\n{FITS}"),
+                 lambda names: [*map(drawn, of_report(names["report"], "coincidence"))], f"{NUMPY}\nfrom ptulab import antibunching"),
         Analysis("pulsed", "Antibunching of a pulsed source", "Whether the light comes of one emitter: hardly two photons of one pulse, then.",
                  _two_detectors("T3", "pairs are counted by pulses"), (), _pulsed_settings, _pulsed, _draw_pulsed,
-                 "from ptulab import pulsed\nfrom ptulab.groups import Group", by_python=True),
+                 "from ptulab import antibunching\nfrom ptulab.groups import Group", by_python=True),
         Analysis("bursts", "Single molecules (FRET)", "Each molecule that crosses the focus is a burst; E tells how near its two dyes are.",
                  lambda seen: _ticks_known(seen) or ("" if len(seen.inputs) > 1 else "it takes the donor's and the acceptor's input, and the file has one"),
                  (), _bursts_settings, _bursts, _draw_bursts,

@@ -14,9 +14,12 @@ from numpy.typing import NDArray
 from ..first_look import Info
 from ..page._document import packed
 from ..page._figures import POINTS, Figure, Picture, figures_of, limits_of
+from ..phasors import phasor_of_lifetime
 
 Floats = NDArray[np.float64]
 Drawn = dict[str, Any]
+CELLS = 100  # of the plane of phasors, in a unit of g or s
+MARKED = (0.25, 0.5, 1, 2, 4, 8, 16)  # nanoseconds on the half circle
 
 
 def curve(label: str, xs: NDArray[Any], ys: NDArray[Any], errors: NDArray[Any] | None = None, shape: str = "hv") -> Drawn:
@@ -67,6 +70,23 @@ def _picture(one: Picture) -> Drawn:
         "label": one.label, "unit": one.unit, "micrometres": one.micrometres, "photons": packed(one.photons), "values": values,
         "threshold": one.threshold, "most": int(one.photons.max(initial=1)), "zmin": least, "zmax": most, "colours": one.colours,
     }  # fmt: skip
+
+
+def phasor_plane(points: NDArray[np.complex128], period: float, axis: NDArray[Any]) -> Drawn:
+    """How many pixels have which phasor, of pulses with this ``period`` and bins that begin as the ``axis`` tells; both in seconds."""
+    known = points[np.isfinite(points)]
+    (left, right), (low, high) = _cells(known.real, 1.1), _cells(known.imag, 0.7)
+    counts = np.zeros((high - low, right - left), np.int64)
+    np.add.at(counts, (np.floor(known.imag * CELLS).astype(int) - low, np.floor(known.real * CELLS).astype(int) - left), 1)
+    marks = [(time, phasor_of_lifetime(time * 1e-9, 1 / period, float(axis[1] - axis[0]))) for time in MARKED if 0.005 * period < time * 1e-9 < period / 2]
+    told = f"How many of {len(known):,} pixels have which phasor. Decays of one lifetime lie on the half circle, where it is marked, and mixtures inside of it."
+    return {"kind": "plane", "name": "phasors", "title": "Phasors of the pixels", "summary": told, "rows": high - low, "columns": right - left, "left": left, "low": low,
+            "cells": CELLS, "counts": packed(counts), "marks": [{"label": f"{time:g} ns", "g": float(at.real), "s": float(at.imag)} for time, at in marks]}  # fmt: skip
+
+
+def _cells(values: Floats, usual: float) -> tuple[int, int]:
+    """From which cell to which a side of the plane goes, so that all values are on it; from -0.1 to what is usual at least."""
+    return math.floor(values.min(initial=-0.1) * CELLS), math.floor(values.max(initial=usual) * CELLS) + 1
 
 
 def figures_of_look(seen: Info) -> list[Drawn]:

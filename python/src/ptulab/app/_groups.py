@@ -11,7 +11,7 @@ from .._plan_rules import Finding, Document, broken_rules, is_whole
 from ..errors import BadPlanError
 from ..many import _megabytes
 
-HEADER = re.compile(r"^\s*\[\[\s*(\w+)\s*\]\]\s*(?:#\s*(.*?)\s*)?$")
+HEADER = re.compile(r"\s*\[\[\s*(\w+)\s*\]\]\s*(?:#(.*))?$")  # takes time by the length of the line alone
 AT_LINE = re.compile(r"\(at line (\d+), column \d+\)")
 NAME = 60  # letters of a group's name
 
@@ -26,7 +26,7 @@ def looked_over(text: str) -> dict[str, Any]:
         return {"groups": None, "findings": [{"line": line, "text": str(error), "refused": True}]}
     found = [told(one, text) for one in broken_rules(document)]
     groups = Document(document).tables("group")
-    names = [match[2] or "" for match in map(HEADER.match, text.splitlines()) if match and match[1] == "group"]
+    names = [(match[2] or "").strip() for match in map(HEADER.match, text.splitlines()) if match and match[1] == "group"]
     inline = len(names) != len(groups)
     return {"groups": None if inline else [_group(table, name) for table, name in zip(groups, names)], "findings": found}
 

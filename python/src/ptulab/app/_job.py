@@ -1,19 +1,26 @@
-"""A piece of work of the window, in a process of its own: a line of JSON says what, and lines of JSON come back.
+"""Pieces of work of the window, each in a process of its own: a line of JSON says what, and lines of JSON come back.
 
-The last line has ``result`` or ``error``; those before it have ``progress``, the part of the file that was read (null where
-nothing tells it), and ``words`` on what is done. The process ends, and all that it started, when its standard input ends.
+The first line is the number of the process. The last one has ``result`` or ``error``, and an empty line behind it; those
+between have ``progress``, the part of the file that was read (null where nothing tells it), and ``words`` on what is done.
+The process ends, and all that it started, when its standard input ends.
+
+Run as a program, this is the mother of such processes. It imports what they need once, and is told by its standard input, a
+socket, of the pipes of each; it ends when the other end is closed.
 """
 
 from __future__ import annotations
 
 import contextlib
+import importlib
 import io
 import json
 import os
 import re
 import resource
 import runpy
+import select
 import signal
+import socket
 import sys
 import threading
 from collections.abc import Callable, Iterator
@@ -23,6 +30,10 @@ from typing import IO, Any
 EVERY = 0.2  # seconds between two lines on progress
 ENOUGH = 1 << 20  # bytes that are printed by a script, at most
 SHOWN = "shown.json"  # of a result, what the page drew
+AT_ONCE = ("ptulab.first_look", "ptulab.app._more")  # what a first look needs, and what is quickly there
+LATER = ("scipy.optimize", "lmfit")  # for fits, imported once there was a first look and nothing else is to be done
+IDLE = 0.5  # seconds
+WORDS = 0.2  # of a first look, the part in which words are looked at
 Request = dict[str, Any]
 
 
@@ -43,8 +54,8 @@ class Work:
             self.out.flush()
 
     def looked_at(self, size: int) -> None:
-        """So many bytes were looked at, before the program counts them once more."""
-        self.done = 0.5 * size / self.size
+        """So many bytes were looked at, before the program counts them."""
+        self.done = WORDS * size / self.size
 
     def goes_on_with(self, number: int, many: int, path: str) -> None:
         """Begins with one of many files."""
@@ -69,24 +80,17 @@ def _children() -> Iterator[int]:
 
 
 def look(work: Work) -> Any:
-    """The first look at a file."""
-    from ..first_look import info
+    """The first look at a file, and what can be asked of it, each with a plan."""
+    from ..first_look import look_at
+    from ._analyses import proposals
     from ._figures import figures_of_look
 
-    work.begin = 0.5
-    seen = info(work.path, progress=work.looked_at)
+    work.begin = WORDS
+    seen, known = look_at(work.path, progress=work.looked_at)
     told = seen.as_json()
     for one in told["inputs"]:
         del one["trace"], one["decay"]
-    return {"info": told, "text": str(seen), "figures": figures_of_look(seen)}
-
-
-def propose(work: Work) -> Any:
-    """What can be asked of a file, each with a plan."""
-    from ._analyses import proposals
-
-    work.words = "looks what would suit"
-    return {"questions": proposals(work.path)}
+    return {"info": told, "text": str(seen), "figures": figures_of_look(seen), "questions": proposals(known)}
 
 
 def check(work: Work) -> Any:
@@ -94,15 +98,16 @@ def check(work: Work) -> Any:
     from ..plans import check_plan
     from ._groups import told
 
-    text = work.request["plan"]
-    plan = os.path.join(work.request["out"], "checked.toml")
-    Path(plan).write_text(text, "utf-8")
-    return {"findings": [told(one, text) for one in check_plan(plan, work.path)]}
+    text, plan = work.request["plan"], Path(work.request["out"], "checked.toml")
+    plan.write_text(text, "utf-8")
+    findings = [told(one, text) for one in check_plan(plan, work.path)]
+    plan.unlink()
+    return {"findings": findings}
 
 
 def run(work: Work) -> Any:
     """Runs the script of an analysis, whose printed lines are the numbers that are shown."""
-    from ._analyses import analysis_of
+    from ._analyses import analysis_of, parameters_of
 
     folder, analysis = Path(work.request["out"]), analysis_of(work.request["analysis"])
     script = _prepared(work, folder)
@@ -113,7 +118,7 @@ def run(work: Work) -> Any:
     from ._more import notebook_of
 
     (folder / "analysis.ipynb").write_text(notebook_of(analysis.title, script, work.path, numbers), "utf-8", errors="surrogateescape")
-    return _shown(folder, {"figures": analysis.draw(names), "numbers": numbers, "script": script})
+    return _shown(folder, {"figures": analysis.draw(names), "numbers": numbers, "script": script, "fit": parameters_of(names) if analysis.fits else []})
 
 
 def _prepared(work: Work, folder: Path) -> str:
@@ -162,23 +167,24 @@ def files_of(folder: Path) -> list[str]:
 
 
 def region(work: Work) -> Any:
-    """The decays of regions of a result's image."""
+    """The decays of regions of a result's image and of its phasors."""
     from ._analyses import ANALYSES, settings_of
     from ._figures import write_curves
-    from ._more import draw_regions, region_script, regions_of
+    from ._more import draw_regions, painted, region_script, regions_of
 
     folder, threshold = Path(work.request["out"]), work.request["threshold"]
     if not _is_report(folder) or "cube" not in (folder / "plan.toml").read_text("utf-8"):
         raise ValueError("this result has no lifetime image, so it has no regions")
     if not isinstance(threshold, int) or isinstance(threshold, bool) or not 0 <= threshold < 1 << 63:
         raise ValueError("a threshold is a whole number of photons")
-    given = {word: value for word, value in work.request["settings"].items() if word in ("terms", "after")}
-    script = region_script(regions_of(work.request["regions"]), settings_of(ANALYSES["image"], given), threshold)
+    given = {word: value for word, value in work.request["settings"].items() if word in ("terms", "after", "threshold")}
+    pixels, of_phasors = regions_of(work.request["regions"], work.request["phasors"])
+    script = region_script(pixels, of_phasors, settings_of(ANALYSES["image"], given), threshold)
     (folder / "regions.py").write_text(script, "utf-8")
     names, numbers = _ran(folder, "regions.py")
     (folder / "regions.txt").write_text(numbers, "utf-8")
     write_curves(folder, names)
-    return {"figures": draw_regions(names), "numbers": numbers, "files": files_of(folder)}
+    return {"figures": draw_regions(names), "numbers": numbers, "files": files_of(folder), "paint": painted(names)}
 
 
 class _Heard(io.StringIO):
@@ -262,21 +268,54 @@ def photons(work: Work) -> Any:
     return {"files": files_of(folder)}
 
 
-KINDS: dict[str, Callable[[Work], Any]] = {
-    one.__name__: one for one in (look, propose, check, run, many, region, page, images, photons)
-}
+KINDS: dict[str, Callable[[Work], Any]] = {one.__name__: one for one in (look, check, run, many, region, page, images, photons)}
 
 
 def main() -> int:
-    """Does what a line of standard input says."""
+    """Makes a process for each piece of work, till nobody can ask for one any more."""
+    signal.signal(signal.SIGCHLD, signal.SIG_IGN)  # nobody asks how they ended
+    for name in AT_ONCE:
+        importlib.import_module(name)
+    later: list[str] = []
+    control = socket.socket(fileno=os.dup(0))
+    while True:
+        if later and not select.select([control], [], [], IDLE)[0]:
+            with contextlib.suppress(ImportError):
+                importlib.import_module(later.pop(0))
+            continue
+        _, pipes, _, _ = socket.recv_fds(control, 1, 2)
+        if len(pipes) != 2:
+            return 0
+        if os.fork() == 0:
+            control.close()
+            return _work(*pipes)
+        for pipe in pipes:
+            os.close(pipe)
+        later = [name for name in LATER if name not in sys.modules]
+
+
+def _work(reads: int, writes: int) -> int:
+    """Does what a line says that is read from one pipe, and writes to the other."""
+    os.setsid()
+    signal.signal(signal.SIGCHLD, signal.SIG_DFL)
+    for pipe, standard in ((reads, 0), (writes, 1)):
+        os.dup2(pipe, standard)
+        os.close(pipe)
+    out, sys.stdout = sys.stdout.buffer, sys.stderr
+    out.write(f"{os.getpid()}\n".encode("ascii"))
+    out.flush()
     request = json.loads(sys.stdin.buffer.readline())
     threading.Thread(target=_ends_with_its_input, daemon=True).start()
-    data = request["megabytes"] << 20
+    data = _data() + (request["megabytes"] << 20)
     resource.setrlimit(resource.RLIMIT_DATA, (data, data))
-    out, sys.stdout = sys.stdout.buffer, sys.stderr
-    out.write(json.dumps(_done(request, out), allow_nan=False).encode("ascii") + b"\n")
+    out.write(json.dumps(_done(request, out), allow_nan=False).encode("ascii") + b"\n\n")
     out.flush()
     return 0
+
+
+def _data() -> int:
+    """The bytes of data that this process has, of which its mother brought the most along."""
+    return int(Path("/proc/self/statm").read_text("ascii").split()[5]) * resource.getpagesize()
 
 
 def _done(request: Request, out: IO[bytes]) -> dict[str, Any]:

@@ -8,40 +8,47 @@ from collections.abc import Sequence
 from pathlib import Path
 from typing import Any
 
+import numpy as np
+
 from .._versions import __version__
-from ._analyses import FIT, REPORT, Analysis, Settings
+from ..page._figures import SIDE, blocks
+from ..page._document import packed
+from ._analyses import FIT, POINTS, REPORT, Analysis, Settings, threshold_of
 from ._figures import Drawn, curve, figure
 
 CORNERS, REGIONS = 512, 16  # at most
 Region = list[tuple[float, float]]
 
 REGION = """\
-# The decays of regions of an image, as the window of ptulab {version} showed them; report.txt and plan.toml stand beside this
+# The decays of regions of an image and of its phasors, as the window of ptulab {version} showed them; report.txt and plan.toml stand beside this
 from pathlib import Path
 
 import numpy as np
 
 import ptulab
-from ptulab import fits
+from ptulab import fits, phasors, pixels
 from ptulab.app.scripts import inside, measured
 
 here = Path(__file__).parent
-cube = ptulab.read_report(here / "report.txt", here / "plan.toml").table("cube", 1)
-rows, columns = cube.counts.shape[:2]
-regions = {regions}
+report = ptulab.read_report(here / "report.txt", here / "plan.toml")
+cube = report.table("cube", 1)
+{points}regions = {regions}  # corners in pixels
+of_phasors = {of_phasors}  # corners in the plane of phasors
+chosen = {{f"region {{number}}": inside(corners, *photons.shape) for number, corners in enumerate(regions, 1)}}
+chosen |= {{f"phasor region {{number}}": pixels.inside(points, [complex(*corner) for corner in corners]) for number, corners in enumerate(of_phasors, 1)}}
 curves = {{}}
-for number, corners in enumerate(regions, 1):
-    pixels = inside(corners, rows, columns) & (cube.counts.sum(axis=2) >= {threshold})
-    decay = cube.counts[pixels].sum(axis=0)
-    print(f"region {{number}}: {{np.count_nonzero(pixels):,}} pixels, {{decay.sum():,}} photons")
-    curves[f"region-{{number}}"] = {{"seconds": cube.seconds, "photons": decay}}
+for name, within in chosen.items():
+    bright, word = within & (photons >= threshold), name.replace(" ", "-")
+    decay = cube.counts[bright].sum(axis=0)
+    print(f"{{name}}: {{np.count_nonzero(bright):,}} pixels, {{decay.sum():,}} photons")
+    curves[word] = {{"seconds": cube.seconds, "photons": decay}}
     start = cube.seconds[decay.argmax()] + {after!r} * 1e-9
     try:
         fit = fits.fit_tail(decay, cube.seconds, start, terms={terms})
     except (fits.FitError, ValueError) as error:
         print(f"no fit: {{error}}")
         continue
-    curves[f"region-{{number}}-fit"] = {{"seconds": fit.axis, "photons": fit.data, "fit": fit.curve}}
+    curves[f"{{word}}-fit"] = {{"seconds": fit.axis, "photons": fit.data, "fit": fit.curve}}
 {fit}"""
 MANY = """\
 # {title} of many files, as the window of ptulab {version} did it; analysis.py and plan.toml stand beside this
@@ -73,41 +80,55 @@ report = whole.report
 """
 
 
-def regions_of(given: Any) -> list[Region]:
-    """The corners of regions that a page sent. Raises ``ValueError`` for what are none."""
-    if not isinstance(given, list) or not 1 <= len(given) <= REGIONS:
+def regions_of(regions: Any, of_phasors: Any) -> tuple[list[Region], list[Region]]:
+    """The corners of regions that a page sent, those of an image and those of the plane of phasors. Raises ``ValueError`` for what are none."""
+    if not isinstance(regions, list) or not isinstance(of_phasors, list) or not 1 <= len(regions) + len(of_phasors) <= REGIONS:
         raise ValueError(f"one to {REGIONS} regions are wanted")
-    return [_region(one) for one in given]
+    return [_region(one, 3) for one in regions], [_region(one, 5) for one in of_phasors]
 
 
-def _region(given: Any) -> Region:
+def _region(given: Any, digits: int) -> Region:
     if not isinstance(given, list) or not 3 <= len(given) <= CORNERS or not all(isinstance(one, list) and len(one) == 2 for one in given):
         raise ValueError(f"a region has 3 to {CORNERS} corners, each of two numbers")
     numbers = [value for corner in given for value in corner]
     if not all(isinstance(value, int | float) and not isinstance(value, bool) and math.isfinite(value) for value in numbers):
         raise ValueError("a corner of a region has two numbers")
-    return [(round(float(x), 3), round(float(y), 3)) for x, y in given]
+    return [(round(float(x), digits), round(float(y), digits)) for x, y in given]
 
 
-def region_script(regions: Sequence[Region], settings: Settings, threshold: int) -> str:
+def region_script(regions: Sequence[Region], of_phasors: Sequence[Region], settings: Settings, threshold: int) -> str:
     """The script that tells the decays of regions."""
-    lines = "".join(f"    {region},\n" for region in regions)
     fit = "".join(f"    {line}\n" for line in FIT.splitlines())
-    told = {"regions": f"[\n{lines}]", "threshold": threshold, "after": settings["after"], "terms": settings["terms"]}
-    return REGION.format(version=__version__, fit=fit, **told)
+    told = {"regions": _listed(regions), "of_phasors": _listed(of_phasors), "points": POINTS.format(threshold=threshold, of_points=threshold_of(settings))}
+    return REGION.format(version=__version__, fit=fit, after=settings["after"], terms=settings["terms"], **told)
+
+
+def _listed(regions: Sequence[Region]) -> str:
+    return "[\n" + "".join(f"    {region},\n" for region in regions) + "]" if regions else "[]"
 
 
 def draw_regions(names: dict[str, Any]) -> list[Drawn]:
     """The decays of regions, each with its fit."""
     decays = []
-    for number, _ in enumerate(names["regions"], 1):
-        told = names["curves"][f"region-{number}"]
-        decays.append(curve(f"region {number}", told["seconds"] * 1e9, told["photons"]))
-        if fit := names["curves"].get(f"region-{number}-fit"):
-            decays.append(curve(f"fit {number}", fit["seconds"] * 1e9, fit["fit"], shape="linear"))
+    for name in names["chosen"]:
+        told = names["curves"][name.replace(" ", "-")]
+        decays.append(curve(name, told["seconds"] * 1e9, told["photons"]))
+        if fit := names["curves"].get(f"{name.replace(' ', '-')}-fit"):
+            decays.append(curve(f"fit of {name}", fit["seconds"] * 1e9, fit["fit"], shape="linear"))
     axes = ("delay after the sync (ns)", "ns"), ("photons", "photons")
     said = "The photons of all pixels of each region by their delay, and the exponentials that were fitted."
     return [figure("regions", "Decays of the regions", said, *axes, decays, log=True)]
+
+
+def painted(names: dict[str, Any]) -> dict[str, str]:
+    """Of each pixel of the picture the number of the last phasor region that has it, 0 where none has; packed."""
+    shape = names["photons"].shape
+    size = math.ceil(max(shape) / SIDE)
+    paint = blocks(np.zeros(shape, np.int64), size)
+    for number, _ in enumerate(names["of_phasors"], 1):
+        within = names["chosen"][f"phasor region {number}"] & (names["photons"] >= names["threshold"])
+        paint = np.where(blocks(within.astype(np.int64), size) > 0, number, paint)
+    return packed(paint)
 
 
 def many_script(analysis: Analysis, files: Sequence[str]) -> str:

@@ -9,6 +9,7 @@ import re
 import secrets
 import shutil
 import socket
+import stat
 import sys
 import tempfile
 import threading
@@ -27,7 +28,7 @@ from ..program import find_program
 from ._folder import Folder, NotHere
 from ._groups import looked_over, with_groups
 from ._guard import Guard
-from ._jobs import Jobs
+from ._jobs import Jobs, said
 
 __all__ = ["make_app", "serve"]
 
@@ -45,6 +46,7 @@ RESULT = re.compile(r"[0-9a-f]{16}")
 FILE = re.compile(r"[A-Za-z0-9_-]{1,60}(\.ome)?\.[a-z0-9]{2,5}")
 SESSIONS = "ptulab-sessions"
 SESSION = re.compile(r"[\w][\w .()+-]{0,79}")
+ODD = (PtulabError, ValueError, KeyError, TypeError, OSError, ArithmeticError, RecursionError)  # what a request may be refused for
 
 
 class Window:
@@ -85,13 +87,13 @@ class Window:
     # ## Work
 
     def request(self, kind: str, asked: dict[str, Any]) -> dict[str, Any]:
-        """What a piece of work is told. A run gets a folder for its files, the oldest of which is removed."""
+        """What a piece of work is told."""
         request: dict[str, Any] = {"kind": kind}
         if kind in OF_A_RESULT:
             folder = self._result(asked)
             told = self.results[folder.name]
             if kind == "region":
-                request |= {"regions": asked["regions"], "threshold": asked["threshold"]}
+                request |= {"regions": asked["regions"], "phasors": asked.get("phasors", []), "threshold": asked["threshold"]}
             return request | {"path": self.folder.path(told["file"]), "out": str(folder), "settings": told["settings"]}
         if kind == "many":
             request["files"] = self._files(asked)
@@ -101,8 +103,11 @@ class Window:
             if kind in RUNS:
                 request |= {"analysis": _text(asked, "analysis"), "settings": dict(asked["settings"])}
                 request["second"] = self.folder.path(asked["second"]) if asked.get("second") else None
-            request["out"] = str(self._new(asked, kind))
         return request
+
+    def begin(self, kind: str, asked: dict[str, Any], request: dict[str, Any]) -> dict[str, Any]:
+        """The same when it begins. A run gets a folder for its files then, and the oldest one is removed."""
+        return request | ({"out": str(self._new(asked, kind))} if kind in ("check", *RUNS) else {})
 
     def _files(self, asked: dict[str, Any]) -> list[str]:
         names = asked.get("files")
@@ -173,11 +178,10 @@ class Window:
         folder = os.path.join(self.folder.root, SESSIONS, name)
         if not SESSION.fullmatch(name) or os.path.realpath(folder) != folder:
             raise NotHere("there is no such session")
-        texts = []
-        for file in ("session.json", "plan.toml"):
-            with open(os.path.join(folder, file), encoding="utf-8", errors="replace") as opened:
-                texts.append(opened.read(LONGEST))
+        texts = [_read(os.path.join(folder, file)) for file in ("session.json", "plan.toml")]
         told = json.loads(texts[0])
+        if not isinstance(told, dict):
+            raise ValueError("this session doesn't say what was asked")
         told = {key: told.get(key) for key in ("analysis", "settings", "second", "file", "files")} | {"plan": texts[1]}
         for file in told["files"] or [told["file"]]:
             self.folder.path(file)
@@ -190,6 +194,15 @@ class Window:
             shutil.rmtree(result, ignore_errors=True)
             raise
         return told | {"begun": result.name, "names": [name for name in names if name not in ("shown.json", "session.json")]}
+
+
+def _read(path: str) -> str:
+    """The beginning of a regular file of a session: no link is followed, and no pipe is waited for."""
+    descriptor = os.open(path, os.O_RDONLY | os.O_NOFOLLOW | os.O_NONBLOCK)
+    with open(descriptor, encoding="utf-8", errors="replace") as opened:
+        if not stat.S_ISREG(os.fstat(descriptor).st_mode):
+            raise NotHere(f"{os.path.basename(path)} of this session is no file")
+        return opened.read(LONGEST)
 
 
 def _copied(folder: Path, result: Path) -> list[str]:
@@ -232,19 +245,19 @@ def make_app(folder: str | os.PathLike[str], *, token: str, port: int, work: str
         async def endpoint(request: Request) -> Response:
             try:
                 return JSONResponse(await asyncio.to_thread(answer, await _asked(request)))
-            except (PtulabError, ValueError, KeyError, TypeError, OSError) as error:
-                return JSONResponse({"error": _said(error)}, 404 if isinstance(error, NotHere) else 400)
+            except ODD as error:
+                return JSONResponse({"error": said(error)}, 404 if isinstance(error, NotHere) else 400)
 
         return endpoint
 
     def worked(kind: str) -> Callable[[Request], Any]:
         async def endpoint(request: Request) -> Any:
             try:
-                told = window.request(kind, await _asked(request))
-            except (PtulabError, ValueError, KeyError, TypeError, OSError) as error:
-                return JSONResponse({"error": _said(error)}, 404 if isinstance(error, NotHere) else 400)
-            begun = json.dumps({"begun": os.path.basename(told.get("out", ""))}).encode() + b"\n"
-            return _stream(begun, window.jobs.lines(told, kind in RUNS))
+                asked = await _asked(request)
+                told = window.request(kind, asked)
+            except ODD as error:
+                return JSONResponse({"error": said(error)}, 404 if isinstance(error, NotHere) else 400)
+            return _stream(window.jobs.lines(lambda: window.begin(kind, asked, told), kind in RUNS))
 
         return endpoint
 
@@ -278,7 +291,7 @@ def make_app(folder: str | os.PathLike[str], *, token: str, port: int, work: str
                 Route("/static/{name}", script),
                 Route("/result/{result}/{name}", download),
                 *(Route(f"/api/{name}", answered(answer), methods=["POST"]) for name, answer in asked.items()),
-                *(Route(f"/api/{kind}", worked(kind), methods=["POST"]) for kind in ("look", "propose", "check", *RUNS, *OF_A_RESULT)),
+                *(Route(f"/api/{kind}", worked(kind), methods=["POST"]) for kind in ("look", "check", *RUNS, *OF_A_RESULT)),
             ]
         ),
         token,
@@ -304,28 +317,16 @@ async def _asked(request: Any) -> dict[str, Any]:
     return asked
 
 
-def _stream(begun: bytes, lines: AsyncGenerator[bytes, None]) -> Any:
+def _stream(lines: AsyncGenerator[bytes, None]) -> Any:
     """An answer that ends the work when the page that asked is gone."""
     from starlette.responses import StreamingResponse
 
-    async def all_of() -> AsyncGenerator[bytes, None]:
-        yield begun
-        async for some in lines:
-            yield some
-
     class Stream(StreamingResponse):
         async def __call__(self, scope: Any, receive: Any, send: Any) -> None:
-            async with aclosing(lines), aclosing(told):
+            async with aclosing(lines):
                 await super().__call__(scope, receive, send)
 
-    told = all_of()
-    return Stream(told, media_type="application/x-ndjson")
-
-
-def _said(error: BaseException) -> str:
-    if isinstance(error, OSError) and not isinstance(error, PtulabError):
-        return f"{os.path.basename(str(error.filename or ''))}: {error.strerror or error}".removeprefix(": ")
-    return f"{error} is wanting" if isinstance(error, KeyError) and not isinstance(error, PtulabError) else str(error)
+    return Stream(lines, media_type="application/x-ndjson")
 
 
 def _static(name: str) -> bytes:

@@ -14,6 +14,7 @@ from numpy.typing import NDArray
 from ..errors import NotKnownError
 from ..events import iter_events
 from ..headers import PREAMBLE, TAG, WITH_BODY, read_header
+from ..pixels import inside as inside_plane
 
 __all__ = ["inside", "measured", "part_of"]
 
@@ -39,13 +40,8 @@ def inside(corners: Sequence[tuple[float, float]], rows: int, columns: int) -> N
     ``corners`` are places (x, y) in pixels, so pixel (0, 0) reaches from (0, 0) to (1, 1) and its middle is (0.5, 0.5). Where
     sides cross, what is surrounded an odd number of times is within.
     """
-    xs, ys = np.arange(columns) + 0.5, (np.arange(rows) + 0.5)[:, None]
-    within = np.zeros((rows, columns), bool)
-    for (x0, y0), (x1, y1) in zip(corners, [*corners[1:], *corners[:1]], strict=True):
-        if y0 != y1:
-            crossed = (ys >= min(y0, y1)) & (ys < max(y0, y1))
-            within ^= crossed & (xs < x0 + (ys - y0) * (x1 - x0) / (y1 - y0))
-    return within
+    middles = np.add.outer(1j * (np.arange(rows) + 0.5), np.arange(columns) + 0.5)
+    return inside_plane(middles, [complex(x, y) for x, y in corners])
 
 
 def part_of(file: PathLike, start: float, stop: float = math.inf) -> str:

@@ -15,7 +15,7 @@ import numpy as np
 from numpy.typing import NDArray
 
 from ..errors import NotKnownError
-from ..fits import g2
+from ..antibunching import g2
 from ..headers import Header
 from ..report import Head, Report
 from ..tables import BY_DTIME, Table, enough, weighted_sums

@@ -21,8 +21,8 @@ async function choose(name, session = null) {
     const told = await look(name, mine.signal);
     if (mine.signal.aborted) return;
     if (!session) byId("look-title").focus();
-    const these = await questions(name, told.info, mine.signal);
-    const one = session && these.find((each) => each.name === session.analysis);
+    questions(name, told);
+    const one = session && told.questions.find((/** @type {any} */ each) => each.name === session.analysis);
     if (one) await open(one, session);
     if (one && session.begun) await again(session);
   } catch (error) {

@@ -10,6 +10,7 @@ export async function look(name, signal) {
   byId("look").hidden = false;
   byId("look-title").textContent = name;
   byId("look-told").replaceChildren();
+  byId("look-window").replaceChildren();
   byId("look-said").textContent = "Looks at the file ..";
   const progress = bar(byId("look-progress"), "How far the look is");
   try {

@@ -8,6 +8,8 @@ import { make, short, table } from "./dom.js";
  *   xlog: boolean, log: boolean | null, level: number | null, start: number | null, names: string[] | null, curves: Curve[], tick?: number, drag?: string}} Curves
  * @typedef {{kind: "picture", name: string, title: string, summary: string, rows: number, columns: number, block: number, label: string,
  *   unit: string, micrometres: number | null, photons: any, values: any, threshold: number, most: number, zmin: number, zmax: number, colours: string}} Picture
+ * @typedef {{kind: "plane", name: string, title: string, summary: string, rows: number, columns: number, left: number, low: number, cells: number, counts: any,
+ *   marks: {label: string, g: number, s: number}[]}} Plane
  */
 
 const Plotly = /** @type {any} */ (window).Plotly;
@@ -15,6 +17,7 @@ const dark = window.matchMedia("(prefers-color-scheme: dark)"), narrow = window.
 const times = /** @type {[number, string][]} */ ([[1, "s"], [1e-3, "ms"], [1e-6, "\u00b5s"], [1e-9, "ns"], [1e-12, "ps"]]);
 const KEYS = "With the keys: arrows go from point to point, Home and End to the first and the last.";
 const ROWS = 100, REGION = "#ff4d3d"; // which stands out of all colours of pictures
+const PAINTS = [REGION, "#2f9bff", "#ffb300", "#c26bff"]; // of regions of phasors, and of their pixels
 /** @type {Map<HTMLElement, () => void>} plots on the page, and how each is drawn anew */
 const drawn = new Map();
 /** @param {string} name */
@@ -22,12 +25,16 @@ const colour = (name) => getComputedStyle(document.documentElement).getPropertyV
 /** @param {any} text */
 const plain = (text) => String(text).replace(/&/g, "&amp;").replace(/</g, "&lt;").replace(/>/g, "&gt;");
 
-/** What is shown over the plots of the page: gates in ticks of the delay, and regions of images in pixels. */
-const over = { gates: /** @type {number[][]} */ ([]), time: /** @type {number[] | null} */ (null), regions: /** @type {number[][][]} */ ([]) };
+/** What is shown over the plots of the page: gates in ticks of the delay, regions of pictures in pixels and of the plane of phasors,
+ * and of each pixel the number of the phasor region that has it. */
+const over = { gates: /** @type {number[][]} */ ([]), time: /** @type {number[] | null} */ (null), regions: /** @type {Regions} */ ({ picture: [], plane: [] }), paint: /** @type {any} */ (null) };
+/** @typedef {{picture: number[][][], plane: number[][][]}} Regions */
 const again_all = () => { for (const [place, again] of drawn) if (place.isConnected) again(); else drawn.delete(place); };
 document.addEventListener("gates", (heard) => { over.gates = /** @type {CustomEvent} */ (heard).detail; again_all(); });
-document.addEventListener("looked", () => Object.assign(over, { gates: [], time: null, regions: [] }));
+document.addEventListener("looked", () => Object.assign(over, { gates: [], time: null, regions: { picture: [], plane: [] }, paint: null }));
+document.addEventListener("window", (heard) => { over.time = /** @type {CustomEvent} */ (heard).detail; again_all(); });
 document.addEventListener("regions", (heard) => { over.regions = /** @type {CustomEvent} */ (heard).detail; again_all(); });
+document.addEventListener("painted", (heard) => { const { detail } = /** @type {CustomEvent} */ (heard); over.paint = detail && unpacked(detail); again_all(); });
 
 for (const media of [dark, narrow]) media.addEventListener("change", () => {
   again_all();
@@ -67,18 +74,18 @@ export function draw(figure, { of = "" } = {}) {
   if (figure.kind === "curves" && figure.tick) plot.dataset.tick = String(figure.tick);
   if (figure.kind === "picture") plot.dataset.picture = `${figure.rows} ${figure.columns} ${figure.block} ${figure.micrometres}`;
   const said = make("p", { class: "said", role: "status", "aria-live": "polite" }), controls = make("div", { class: "controls" });
-  const shape = figure.kind === "picture" ? picture(figure, controls, id) : curves(figure, controls);
-  const drags = figure.drag === "time" ? "chooses a time window" : figure.drag === "gate" ? "chooses a gate" : figure.kind === "picture" && of === "image" ? "draws a region" : "";
+  const shape = figure.kind === "picture" ? picture(figure, controls, id) : figure.kind === "plane" ? plane(figure) : curves(figure, controls), flat = figure.kind !== "curves";
+  const drags = figure.drag === "time" ? "chooses a time window" : figure.drag === "gate" ? "chooses a gate" : flat && of === "image" ? "draws a region" : "";
   const drag = drags ? /** @type {HTMLSelectElement} */ (make("select", { "aria-label": `What dragging does in ${figure.title}` }, make("option", { value: "zoom", text: "zooms" }), make("option", { value: "choose", text: drags }))) : null;
   const tools = make("p", { class: "controls tools" }, ...(drag ? [make("label", {}, "Dragging ", drag)] : []), ...["png", "svg"].map((format) => make("button", { type: "button", text: `Save as ${format.toUpperCase()}`,
-    "aria-label": `Save ${figure.title} as ${format.toUpperCase()}`, on: { click: () => Plotly.downloadImage(plot, { format, filename: figure.name, width: 1000, height: figure.kind === "picture" ? 800 : 600 }) } })));
+    "aria-label": `Save ${figure.title} as ${format.toUpperCase()}`, on: { click: () => Plotly.downloadImage(plot, { format, filename: figure.name, width: 1000, height: flat ? 800 : 600 }) } })));
   const section = make("figure", { id, "aria-labelledby": `${id}-title` }, make("h3", { id: `${id}-title`, text: figure.title }), make("p", { id: `${id}-summary`, text: figure.summary }),
     controls, tools, plot, said, make("p", { id: `${id}-keys`, class: "faint", text: KEYS }));
   section.style.margin = "0";
   section.append(make("details", {}, make("summary", { text: "Values as a table" }), shape.table()));
   const again = () => {
     const [traces, look] = shape.draw();
-    if (drag?.value === "choose") Object.assign(look, figure.kind === "picture" ? { dragmode: "drawclosedpath", newshape: { line: { color: REGION, width: 2 }, drawdirection: "diagonal" } } : { dragmode: "select", selectdirection: "h" });
+    if (drag?.value === "choose") Object.assign(look, flat ? { dragmode: "drawclosedpath", newshape: { line: { color: REGION, width: 2 }, drawdirection: "diagonal" } } : { dragmode: "select", selectdirection: "h" });
     return Plotly.react(plot, traces, look, { responsive: true, displaylogo: false, displayModeBar: narrow.matches ? false : "hover" });
   };
   controls.addEventListener("input", again);
@@ -89,7 +96,7 @@ export function draw(figure, { of = "" } = {}) {
     await again();
     const heard = /** @type {any} */ (plot);
     heard.on("plotly_hover", (/** @type {any} */ event) => { said.textContent = shape.told(event.points[0].curveNumber, event.points[0].pointNumber); });
-    heard.on("plotly_relayout", (/** @type {any} */ event) => { linked(figure, plot, event); if (event.shapes && figure.kind === "picture") outlined(figure, event.shapes); });
+    heard.on("plotly_relayout", (/** @type {any} */ event) => { linked(figure, plot, event); if (event.shapes && flat) outlined(figure, event.shapes); });
     heard.on("plotly_selected", (/** @type {any} */ event) => { if (event?.range) chosen(figure, event.range.x); });
     plot.addEventListener("keydown", (event) => walk(event, plot, shape, said));
     plot.dataset.drawn = "yes";
@@ -100,18 +107,23 @@ export function draw(figure, { of = "" } = {}) {
 /** What was chosen by dragging over a figure. @param {any} figure @param {number[]} range */
 function chosen(figure, range) {
   const [from, to] = [Math.min(...range), Math.max(...range)];
-  if (figure.drag === "time") over.time = [from, to];
   document.dispatchEvent(new CustomEvent("chosen", { detail: { what: figure.drag, range: [from, to], tick: figure.tick } }));
   again_all();
 }
 
-/** Regions that were drawn on a picture, in pixels of the file. @param {Picture} figure @param {any[]} shapes */
+/** Regions that were drawn on a picture, in pixels of the file, or on the plane of phasors. @param {Picture | Plane} figure @param {any[]} shapes */
 function outlined(figure, shapes) {
-  const pixel = figure.micrometres || 1;
-  over.regions = shapes.filter((shape) => shape.type === "path").map((shape) => [...shape.path.matchAll(/(-?[\d.]+(?:e-?\d+)?),(-?[\d.]+(?:e-?\d+)?)/g)].map(([, x, y]) => [Number(x) / pixel + 0.5, Number(y) / pixel + 0.5]));
-  over.regions = over.regions.map((corners) => { const step = Math.ceil(corners.length / 400); return corners.filter((_, at) => at % step === 0); }).filter((corners) => corners.length > 2);
+  const to = (/** @type {string} */ end) => figure.kind === "plane" ? Number(end) : Number(end) / (figure.micrometres || 1) + 0.5;
+  const drawn = shapes.filter((shape) => shape.type === "path").map((shape) => [...shape.path.matchAll(/(-?[\d.]+(?:e-?\d+)?),(-?[\d.]+(?:e-?\d+)?)/g)].map(([, x, y]) => [to(x), to(y)]));
+  over.regions[figure.kind] = drawn.map((corners) => { const step = Math.ceil(corners.length / 400); return corners.filter((_, at) => at % step === 0); }).filter((corners) => corners.length > 2);
   document.dispatchEvent(new CustomEvent("drawn", { detail: over.regions }));
   again_all();
+}
+
+/** The outlines of the regions of a figure, as shapes. @param {Picture | Plane} figure @returns {any[]} */
+function outlines(figure) {
+  const from = (/** @type {number} */ end) => figure.kind === "plane" ? end : (end - 0.5) * (figure.micrometres || 1);
+  return over.regions[figure.kind].map((corners, at) => ({ type: "path", line: { color: figure.kind === "plane" ? PAINTS[at % PAINTS.length] : REGION, width: 2 }, path: `M${corners.map(([x, y]) => `${from(x)},${from(y)}`).join("L")}Z` }));
 }
 
 /** A decay and its residuals have one zoom of their delays, the pictures of a scan one of both axes. @param {any} figure @param {HTMLElement} plot @param {any} event */
@@ -209,7 +221,8 @@ function curves(figure, controls) {
 
 /** What was chosen by dragging, as bands over a figure. @param {Curves} figure @returns {any[]} */
 function bands(figure) {
-  const tick = figure.tick || 1, those = figure.drag === "gate" ? over.gates.map((gate) => gate.map((end) => end * tick)) : figure.drag === "time" && over.time ? [over.time] : [];
+  const tick = figure.tick || 1, last = Math.max(0, ...figure.curves.map((one) => one.x[one.x.length - 1] || 0));
+  const those = figure.drag === "gate" ? over.gates.map((gate) => gate.map((end) => end * tick)) : figure.drag === "time" && over.time ? [[over.time[0], over.time[1] || last]] : [];
   return those.map(([x0, x1]) => ({ type: "rect", yref: "paper", y0: 0, y1: 1, x0, x1, fillcolor: colour("accent"), opacity: 0.18, line: { width: 0 } }));
 }
 
@@ -250,10 +263,40 @@ function picture(figure, controls, id) {
       const [across, down] = figure.micrometres ? ["x (\u00b5m)", "y (\u00b5m)"] : ["column (pixels)", "row (pixels)"];
       look.xaxis = Object.assign(axis(across, false), { constrain: "domain", showgrid: false, zeroline: false });
       look.yaxis = Object.assign(axis(down, false), { autorange: "reversed", scaleanchor: "x", constrain: "domain", showgrid: false, zeroline: false });
-      look.shapes = over.regions.map((corners) => ({ type: "path", line: { color: REGION, width: 2 }, path: `M${corners.map(([x, y]) => `${(x - 0.5) * pixel},${(y - 0.5) * pixel}`).join("L")}Z` }));
-      return [[{ type: "heatmap", z: cells, text: words, hovertemplate: "%{text}<extra></extra>", x0: pixel * (figure.block - 1) / 2, dx: pixel * figure.block,
-        y0: pixel * (figure.block - 1) / 2, dy: pixel * figure.block, colorscale: figure.colours, zmin: figure.zmin, zmax: figure.zmax,
-        colorbar: { title: { text: plain(figure.label), side: "right" }, thickness: narrow.matches ? 8 : 14, tickfont: { color: colour("ink") } } }], look];
+      look.shapes = outlines(figure);
+      const where = { type: "heatmap", x0: pixel * (figure.block - 1) / 2, dx: pixel * figure.block, y0: pixel * (figure.block - 1) / 2, dy: pixel * figure.block };
+      const paint = over.paint?.length === rows * columns && over.paint.some(Boolean) ? [{ ...where, opacity: 0.6, showscale: false, hoverinfo: "skip", zmin: 0, zmax: PAINTS.length,
+        z: lines().map((y) => places().map((x) => { const region = over.paint[y * columns + x]; return region ? (region - 1) % PAINTS.length + 0.5 : null; })),
+        colorscale: PAINTS.flatMap((one, at) => [[at / PAINTS.length, one], [(at + 1) / PAINTS.length, one]]) }] : [];
+      return [[{ ...where, z: cells, text: words, hovertemplate: "%{text}<extra></extra>", colorscale: figure.colours, zmin: figure.zmin, zmax: figure.zmax,
+        colorbar: { title: { text: plain(figure.label), side: "right" }, thickness: narrow.matches ? 8 : 14, tickfont: { color: colour("ink") } } }, ...paint], look];
+    },
+  };
+}
+
+/** The plane of phasors with the half circle of single lifetimes. @param {Plane} figure */
+function plane(figure) {
+  const counts = unpacked(figure.counts), { rows, columns, cells } = figure, circle = Array.from({ length: 181 }, (_, at) => at * Math.PI / 180);
+  const middle = (/** @type {number} */ first, /** @type {number} */ at) => Number(((first + at + 0.5) / cells).toFixed(4));
+  /** @param {any} point */
+  const told = ([y, x]) => `g ${middle(figure.left, x)}, s ${middle(figure.low, y)}: ${short(counts[y * columns + x])} pixels`;
+  const z = Array.from({ length: rows }, (_, y) => Array.from({ length: columns }, (_, x) => counts[y * columns + x] || null));
+  return {
+    count: rows * columns, step: columns, columns,
+    /** @param {number} _ @param {any} point */
+    told: (_, point) => told(point),
+    table: () => table(`${figure.title}: pixels in steps of 0.01 of g`, ["g", "pixels"],
+      Array.from({ length: columns }, (_, x) => [String(middle(figure.left, x)), z.reduce((sum, row) => sum + Number(row[x]), 0)]).filter(([, many]) => many).map(([g, many]) => [String(g), short(Number(many))])),
+    draw() {
+      const look = /** @type {any} */ (layout());
+      look.xaxis = Object.assign(axis("g", false), { constrain: "domain" });
+      look.yaxis = Object.assign(axis("s", false), { scaleanchor: "x", constrain: "domain" });
+      look.shapes = outlines(figure);
+      const text = z.map((row, y) => row.map((_, x) => plain(told([y, x])))), ends = { x0: middle(figure.left, 0), dx: 1 / cells, y0: middle(figure.low, 0), dy: 1 / cells };
+      const line = { x: circle.map((angle) => 0.5 + 0.5 * Math.cos(angle)), y: circle.map((angle) => 0.5 * Math.sin(angle)), mode: "lines", line: { color: colour("faint"), width: 1 } };
+      const marks = { x: figure.marks.map((one) => one.g), y: figure.marks.map((one) => one.s), text: figure.marks.map((one) => plain(one.label)), mode: "markers+text", textposition: figure.marks.map((one) => one.g > 0.5 ? "middle right" : "top left"), cliponaxis: false, marker: { color: colour("faint"), size: 6 } };
+      return [[{ type: "heatmap", z, text, hovertemplate: "%{text}<extra></extra>", ...ends, colorscale: "Viridis", colorbar: { title: { text: "pixels", side: "right" }, thickness: narrow.matches ? 8 : 14, tickfont: { color: colour("ink") } } },
+        ...[line, marks].map((one) => ({ type: "scatter", hoverinfo: "skip", ...one }))], look];
     },
   };
 }

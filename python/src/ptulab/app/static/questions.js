@@ -5,35 +5,24 @@ import * as plans from "./plan.js";
 import { bar, work } from "./server.js";
 import { show } from "./take.js";
 
-/** @type {{file: string, inputs: number[], mode: string, asked: any, settings: HTMLInputElement[], second: HTMLSelectElement | null, run: AbortController | null}} */
-const now = { file: "", inputs: [], mode: "", asked: null, settings: [], second: null, run: null };
-/** @type {Map<string, any[]>} */
-const proposed = new Map();
+/** @type {{file: string, inputs: number[], mode: string, asked: any, settings: HTMLInputElement[], second: HTMLSelectElement | null, run: AbortController | null,
+ *   fit: Record<string, [number, boolean]>}} `fit`: where parameters of a fit begin, and whether they are held there */
+const now = { file: "", inputs: [], mode: "", asked: null, settings: [], second: null, run: null, fit: {} };
 /** @type {Map<string, [number, number]>} windows of time that were chosen on a trace, by the files */
 const windows = new Map();
 const button = (/** @type {string} */ id) => /** @type {HTMLButtonElement} */ (byId(id));
 
-/** Shows what can be asked of a file. @param {string} file @param {any} info @param {AbortSignal} signal */
-export async function questions(file, info, signal) {
-  Object.assign(now, { file, inputs: info.inputs.map((/** @type {any} */ one) => one.number), mode: info.mode });
+/** Shows what can be asked of a file. @param {string} file @param {any} told what its first look tells */
+export function questions(file, told) {
+  Object.assign(now, { file, inputs: told.info.inputs.map((/** @type {any} */ one) => one.number), mode: told.info.mode, settings: [] });
+  windowed(file, windows.get(file) || null);
   for (const id of ["ask", "result"]) byId(id).hidden = true;
   byId("questions").hidden = false;
-  byId("questions-list").replaceChildren();
-  byId("questions-said").textContent = "Looks what would suit ..";
-  const progress = bar(byId("questions-progress"), "How far the look for plans is");
-  try {
-    const told = proposed.get(file) || (await alone(() => work("propose", { file }, progress.heard, signal))).questions;
-    proposed.set(file, told);
-    if (!signal.aborted) list(told);
-    return told;
-  } finally {
-    progress.end();
-  }
+  list(told.questions);
 }
 
 /** @param {any[]} told */
 function list(told) {
-  byId("questions-said").textContent = "";
   byId("questions-list").replaceChildren(...told.map((one) => make("li", {},
     make("button", { type: "button", "data-name": one.name, disabled: Boolean(one.reason), "aria-pressed": "false", on: { click: () => open(one) } },
       make("strong", { text: one.title }), make("span", { class: "faint", text: one.reason ? `Not of this file: ${one.reason}.` : one.means + (one.python ? " Counted by Python." : "") })))));
@@ -42,6 +31,7 @@ function list(told) {
 /** Opens a question with its plan and settings. @param {any} one @param {any} [kept] those of a session */
 export async function open(one, kept = null) {
   now.asked = one;
+  now.fit = kept?.settings?.fit || {};
   for (const each of document.querySelectorAll("#questions-list button")) each.setAttribute("aria-pressed", String(each.getAttribute("data-name") === one.name));
   byId("ask").hidden = false;
   byId("result").hidden = true;
@@ -54,6 +44,7 @@ export async function open(one, kept = null) {
   now.second = one.second ? second(kept?.second) : null;
   if (now.second) fields.push(make("p", {}, make("label", { for: "second", text: "The measured pulse, for a fit of the whole decay" }), now.second));
   byId("settings").replaceChildren(...fields);
+  if (kept) windowed(now.file, values.from_seconds || values.to_seconds ? [values.from_seconds, values.to_seconds] : null);
   byId("run-said").textContent = "";
   others(kept?.files || []);
   await plans.show(kept?.plan || one.plan, now.inputs, now.mode === "T3");
@@ -68,7 +59,7 @@ function second(chosen) {
   return select;
 }
 
-const settings = () => Object.fromEntries(now.settings.map((input) => [input.dataset.key, Number(input.value)]));
+const settings = () => ({ ...Object.fromEntries(now.settings.map((input) => [input.dataset.key, Number(input.value)])), fit: now.fit });
 
 /** The files over which the same can be done. @param {string[]} ticked */
 function others(ticked) {
@@ -113,17 +104,35 @@ async function run(kind) {
   }
 }
 
-/** A window of time that was dragged on the trace goes into the settings. @param {[number, number]} range */
-function windowed([from, to]) {
-  const ends = [Math.max(0, from), Math.max(0, to)].map((value) => Number(value.toPrecision(6)));
-  windows.set(now.file, /** @type {[number, number]} */ (ends));
+/** The window of time of a file, none where all of it is taken: it is said beside the trace, drawn over it, and stands in the settings.
+ * @param {string} file @param {[number, number] | null} range @param {[number, number] | null} [before] what a click took away */
+function windowed(file, range, before = null) {
+  if (range) windows.set(file, range);
+  else windows.delete(file);
+  const ends = range || [0, 0], button = (/** @type {string} */ text, /** @type {[number, number] | null} */ to) => make("button", { type: "button", text, on: { click: () => {
+    windowed(file, to, range);
+    /** @type {HTMLElement | null} */ (byId("look-window").querySelector("button"))?.focus();
+  } } });
   ["from_seconds", "to_seconds"].forEach((key, at) => { const input = now.settings.find((one) => one.dataset.key === key); if (input) input.value = String(ends[at]); });
-  byId("look-said").textContent = `Chosen: from ${short(ends[0])} s to ${short(ends[1])} s, for what is run next.`;
+  byId("look-window").replaceChildren(...(range ? [`What is run next takes only ${span(range)} of this file. `, button("Take all of it", null)] : before ? ["All of the file is taken. ", button(`Take only ${span(before)}`, before)] : []));
+  document.dispatchEvent(new CustomEvent("window", { detail: range }));
 }
+
+/** @param {[number, number]} range */
+const span = ([from, to]) => to ? `${short(from)} s to ${short(to)} s` : `what is after ${short(from)} s`;
 
 document.addEventListener("chosen", (heard) => {
   const { what, range } = /** @type {CustomEvent} */ (heard).detail;
-  if (what === "time") windowed(range);
+  if (what === "time") windowed(now.file, range.map((/** @type {number} */ end) => Number(Math.max(0, end).toPrecision(6))));
+});
+document.addEventListener("steered", (heard) => {
+  now.fit = /** @type {CustomEvent} */ (heard).detail;
+  run("run");
+});
+byId("settings").addEventListener("change", (event) => {
+  const key = /** @type {HTMLElement} */ (event.target).dataset.key || "second", { from_seconds, to_seconds } = /** @type {any} */ (settings());
+  if (["terms", "dimensions", "triplet", "second"].includes(key)) now.fit = {}; // of another model
+  if (["from_seconds", "to_seconds"].includes(key)) windowed(now.file, from_seconds || to_seconds ? [from_seconds, to_seconds] : null);
 });
 byId("run-many").addEventListener("click", () => run("many"));
 byId("tick-all").addEventListener("click", () => tick(true));

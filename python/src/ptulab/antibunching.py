@@ -1,4 +1,4 @@
-"""Coincidences and start-stops of T3 files: what a plan counts in T2 files alone.
+"""Pairs of photons: coincidences and start-stops of T2 and T3 files, g2 of these and of a report's tables, and its fits.
 
 Times are sync periods (ticks in T2), or, with the period given in ticks of the dtime, sync * period + dtime.
 """
@@ -13,12 +13,15 @@ from typing import Any
 import numpy as np
 from numpy.typing import NDArray
 
-from .errors import NotKnownError
+from .errors import FitError, NotKnownError
 from .events import Events
+from ._fitting import Bounds, Fit, Numbers, Values, Problem, poisson, solved, steered
 from .groups import EventsLike, GroupLike, group_of, header_of, pieces_of, ticks_of
+from ._optional import want
+from .tables import Given, Table, measured
 from ._values import Compared
 
-__all__ = ["Coincidences", "StartStops", "coincidences", "start_stops", "without_background"]
+__all__ = ["Coincidences", "StartStops", "coincidences", "fit_g2", "g2", "g2_model", "start_stops", "without_background"]
 
 DENSE = 8  # where so few units of time come to each time that has photons, or to each pair, all of them are gone through
 BLOCK = 1 << 15  # units of time that are taken together then
@@ -180,8 +183,10 @@ def coincidences(
     -1 a second photon one pulse earlier. With ``period``, the ticks of the dtime in a sync period, the unit is a tick.
     ``delays``: by input, what is added to the times of its photons, in the same unit, as for cables of other lengths.
 
-    Warns of a PicoHarp in T3, whose router's detectors share a dead time. Raises ``ValueError`` for a reach or a width below 1, or times that can't be told apart: of 2^62 ticks or
-    more, with a period of any part of a tick 2^53.
+    They are all pairs, not those of neighbours (``start_stops``), so that light of any rate tells its g2 (Hanbury Brown and Twiss,
+    Nature 177, 27, 1956, correlated two detectors so). Warns of a PicoHarp in T3, whose router's detectors share a dead time.
+    Raises ``ValueError`` for a reach or a width below 1, or times that can't be told apart: of 2^62 ticks or more, with a period
+    of any part of a tick 2^53.
     """
     if reach < 1 or width < 1:
         raise ValueError(f"coincidences with a reach of {reach} and a width of {width}")
@@ -410,3 +415,151 @@ def start_stops(
     cells = (times[1:] - times[:-1])[starts[:-1] & stops[1:]] // width
     counts = np.bincount(cells[cells < bins], minlength=bins).astype(np.int64, copy=False)
     return StartStops(counts, width, int(np.count_nonzero(cells >= bins)), _unit(source, period))
+
+
+def g2(
+    pairs: Table | Coincidences, first_photons: Given = None, second_photons: Given = None
+) -> tuple[Numbers, Numbers]:
+    """Pairs normalised so that they are 1 without correlation, and their Poisson bars: both of shape (cells,).
+
+    ``pairs``: a coincidence or a correlation of a report, or ``Coincidences``. The photons of the two groups of a report's
+    table are told by its plan (``read_report``), or given: of a sum for each measurement, or one number for all of it, as
+    ``Table.expected`` takes them. A bar is the root of ``Coincidences.variances`` over what is expected, in cells of any
+    width; groups of a report that share some photons but not all count as different. nan where no pair is expected.
+    Raises ``NotKnownError`` for another table, and where photons or the length of the measurement aren't known.
+    """
+    expected, variances = _normal(pairs, first_photons, second_photons)
+    values, bars = np.full(len(expected), np.nan), np.full(len(expected), np.nan)
+    np.divide(pairs.counts.astype(np.float64), expected, out=values, where=expected > 0)
+    np.divide(np.sqrt(variances), expected, out=bars, where=expected > 0)
+    return values, bars
+
+
+def _normal(pairs: Table | Coincidences, first_photons: Given, second_photons: Given) -> tuple[Numbers, Numbers]:
+    """The pairs that each cell would have without correlation, and the variance of those that it has."""
+    counts = pairs.counts.astype(np.float64)
+    if isinstance(pairs, Table) and pairs.kind != "coincidence":
+        return pairs.expected(first_photons, second_photons), np.maximum(counts, 1)
+    each = [pairs] if isinstance(pairs, Coincidences) else _coincidences(pairs, first_photons, second_photons)
+    expected = sum((one.expected() for one in each), np.zeros(len(counts)))
+    return expected, each[0].variances() if each else counts
+
+
+def _coincidences(table: Table, first_photons: Given, second_photons: Given) -> list[Coincidences]:
+    """A coincidence of a report with the photons and the length of each measurement in it."""
+    same = table.groups is not None and len(set(table.groups)) == 1
+    reach, width = table.settings["reach"], table.settings["width"]
+    return [
+        Coincidences(table.counts, reach, width, first, second, length + 1, None, min(first, second) if same else 0)
+        for length, first, second in measured(table, first_photons, second_photons)
+    ]
+
+
+def g2_model(
+    differences: Numbers,
+    depth: float,
+    lifetime: float,
+    *,
+    centre: float = 0.0,
+    baseline: float = 1.0,
+    bunching: float = 0.0,
+    bunching_time: float = 1.0,
+    signal: float = 1.0,
+    jitter: float = 0.0,
+    width: float = 0.0,
+) -> Numbers:
+    """Antibunched light with bunching: shape of ``differences``.
+
+    baseline * (1 - depth * signal^2 * ((1 + bunching) * e(lifetime) - bunching * e(bunching_time))) with e(c) = exp(-|t -
+    centre| / c), so that g2 is 1 - depth at the ``centre`` where there is no background: 1 / depth emitters that are alike
+    (Kurtsiefer, Mayer, Zarda and Weinfurter, Physical Review Letters 85, 290, 2000). ``signal``: the part of photons that
+    are no background. ``jitter``: the standard deviation of a difference of times by the detectors, as of a normal law that e
+    is convolved with; ``width``: of a cell of which each place is as likely, over which e is integrated. Times are in the
+    unit of ``differences``.
+    """
+    at = differences - centre
+
+    def dip(time: float) -> Numbers:
+        wide = width or 1e-4 * time
+        return np.asarray((_under_dip(at + wide / 2, time, jitter) - _under_dip(at - wide / 2, time, jitter)) / wide)
+
+    dips = (1 + bunching) * dip(lifetime) - (bunching * dip(bunching_time) if bunching else 0.0)
+    return np.asarray(baseline * (1 - depth * signal**2 * dips))
+
+
+def _under_dip(at: Numbers, time: float, jitter: float) -> Numbers:
+    """The integral of exp(-|t| / time), convolved with a normal law, from 0 to a time."""
+    if not jitter:
+        return np.asarray(-np.sign(at) * time * np.expm1(-np.abs(at) / time))
+    special = want("scipy.special", "fits of g2")
+    wide, x, half = jitter / time, at / jitter, jitter**2 / (2 * time**2)
+    later, sooner = (np.exp(np.minimum(half + sign * at / time + special.log_ndtr(-sign * x - wide), 700)) for sign in (1, -1))
+    return np.asarray(time * (later - sooner + 2 * special.ndtr(x) - 1))
+
+
+def fit_g2(
+    pairs: Table | Coincidences,
+    first_photons: Given = None,
+    second_photons: Given = None,
+    *,
+    bunching: bool = False,
+    span: tuple[float, float] = (-math.inf, math.inf),
+    fixed: Values = None,
+    start: Values = None,
+    bounds: Bounds = None,
+) -> Fit:
+    """A fit of coincidences by ``g2_model``, integrated over the cells, by the likelihood of their pairs.
+
+    ``pairs`` and photons as of ``g2``. The fit is in seconds, in ticks where the file doesn't tell; ``data`` and ``curve`` are
+    g2. ``span``: the differences that are fitted. Parameters: ``centre``, where the dip is, so by how much the second input's
+    cable is longer; ``depth``, so 1 - depth is g2 at the dip and 1 / depth the number of emitters; ``lifetime``; ``baseline``; with
+    ``bunching`` also ``bunching`` and ``bunching_time``. Where they are named there are ``signal``, else 1, the part of photons
+    that are no background (the root of the product of both detectors'), and ``jitter``, else 0. Raises ``NotKnownError`` as ``g2``, and
+    ``FitError``.
+    """
+    expected, variances = _normal(pairs, first_photons, second_photons)
+    unit = 1.0 if pairs.seconds is None else float(np.ptp(pairs.seconds) / np.ptp(pairs.ticks))
+    axis, width = pairs.ticks * unit, (pairs.settings["width"] if isinstance(pairs, Table) else pairs.width) * unit
+    kept = (expected > 0) & (axis >= span[0]) & (axis <= span[1])
+    counts, axis, expected, variances = pairs.counts[kept].astype(np.float64), axis[kept], expected[kept], variances[kept]
+    if len(axis) < 6 or not counts.sum() > 0:
+        raise FitError(f"a dip of {len(axis)} cells and {counts.sum():g} pairs")
+    values, law = counts / expected, poisson(counts, expected, variances / np.maximum(counts, 1.0))
+    more = {"signal": {"value": 1.0, "min": 0.0, "max": 1.0}, "jitter": {"value": 0.0, "min": 0.0, "brute_step": width}}
+    begin = steered(_begin_g2(axis, values, np.sqrt(variances) / expected, width, bunching), fixed, start, bounds, more)
+    return solved(Problem(axis, values, lambda at, now: g2_model(at, width=width, **now), law, begin))
+
+
+def _begin_g2(axis: Numbers, values: Numbers, bars: Numbers, width: float, bunching: bool) -> Any:
+    """Where a fit of a dip begins: at the best of a grid of centres and lifetimes, over which the others are linear."""
+    step = max(1, len(axis) // 1000)
+    cells = slice(0, len(axis) // step * step)
+    times, levels, squares = (one[cells].reshape(-1, step).mean(axis=1) for one in (axis, values, bars**2))
+    near = np.ones(min(9, len(times)))
+    weights = np.convolve(np.ones(len(times)), near, "same") / np.convolve(squares, near, "same")
+    reach, missing = float(axis[-1] - axis[0]), (np.average(levels, weights=weights) - levels) * weights
+    best: tuple[float, Any] = (math.inf, None)
+    for time in np.geomspace(max(width / 2, reach / 1000), reach / 4, 16):
+        kernel = np.exp(-np.abs(np.arange(-((len(times) - 1) // 2), (len(times) - 1) // 2 + 1)) * width * step / time)
+        found = np.convolve(missing, kernel, "same") / np.sqrt(np.convolve(weights, kernel**2, "same"))
+        centre = float(times[int(np.argmax(found))])
+        for long in np.geomspace(3 * time, max(reach, 4 * time), 6) if bunching else np.zeros(1):
+            shapes = [-np.exp(-np.abs(times - centre) / time), *([np.exp(-np.abs(times - centre) / long)] if long else [])]
+            columns = np.stack([np.ones(len(times)), *shapes], axis=1) * np.sqrt(weights)[:, None]
+            heights = np.linalg.lstsq(columns, levels * np.sqrt(weights), rcond=None)[0]
+            left = float(((columns @ heights - levels * np.sqrt(weights)) ** 2).sum())
+            if left < best[0] and np.all(heights > 0):
+                best = left, (centre, float(time), float(long), *heights)
+    if best[1] is None:
+        raise FitError("no dip: nowhere are fewer pairs than beside it")
+    centre, time, long, level, down, *up = best[1]
+    rise = up[0] if up else 0.0
+    begin = want("lmfit", "fits").Parameters()
+    begin.add("depth", value=min(max((down - rise) / level, 0.05), 0.98), min=0, max=1, brute_step=0.01)
+    begin.add("lifetime", value=time, min=width / 100, max=reach)
+    begin.add("centre", value=centre, min=float(axis[0]), max=float(axis[-1]), brute_step=time)
+    begin.add("baseline", value=level, min=0)
+    if bunching:
+        begin.add("bunching", value=min(max(rise / max(down - rise, 0.01), 0.01), 50.0), min=0, max=100, brute_step=0.01)
+        begin.add("bunching_time", value=long, min=width / 100, max=100 * reach)
+    return begin

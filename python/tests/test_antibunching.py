@@ -14,10 +14,10 @@ from hypothesis import strategies as st
 from scipy import stats
 
 import ptulab
-from ptulab import pulsed
+from ptulab import antibunching
 from ptulab.events import events_of
 from ptulab.groups import Group
-from ptulab.pulsed import Coincidences, coincidences, start_stops
+from ptulab.antibunching import Coincidences, coincidences, start_stops
 
 GROUPS = st.sampled_from([(0,), (1,), (0, 1), (1, 2), (0, 1, 2)])
 
@@ -102,10 +102,10 @@ def test_pairs_of_dense_and_of_sparse_times_are_the_same(steps: Any, reach: int)
             if 0 <= j - i <= reach:
                 counts[j - i] += first * second
     with pytest.MonkeyPatch.context() as patch:
-        patch.setattr(pulsed, "BLOCK", 7)
+        patch.setattr(antibunching, "BLOCK", 7)
         for dense in (0, 100):
-            patch.setattr(pulsed, "DENSE", dense)
-            assert pulsed.pair_counts(times, firsts, seconds, reach).tolist() == counts
+            patch.setattr(antibunching, "DENSE", dense)
+            assert antibunching.pair_counts(times, firsts, seconds, reach).tolist() == counts
 
 
 def pulses(seed: int, brightness: float, both: float) -> Any:
@@ -321,7 +321,7 @@ def test_dense_pairs_take_no_time_by_the_reach(photons: int, span: int, reach: i
     times = np.unique(draws.integers(0, span, photons))
     firsts, seconds = draws.integers(0, 3, (2, len(times)))
     begun = time.process_time()
-    counts = pulsed.pair_counts(times, firsts, seconds, reach)
+    counts = antibunching.pair_counts(times, firsts, seconds, reach)
     assert time.process_time() - begun < 1 and counts.shape == (reach + 1,)
     known = np.zeros(reach + 1, np.int64)
     for at in range(len(times)):
@@ -333,8 +333,8 @@ def test_dense_pairs_take_no_time_by_the_reach(photons: int, span: int, reach: i
 def test_what_is_dense_is_told_by_pairs_of_times() -> None:
     """50 times, each with six others in reach, in less than eight times as many units of time; none without one of the groups."""
     times, ones = np.arange(0, 1000, 20), np.ones(50, np.int64)
-    assert pulsed._is_dense(times, ones, ones, 980, 100)
-    assert not pulsed._is_dense(times, 0 * ones, ones, 980, 100) and not pulsed._is_dense(times, ones, ones, 8000, 100)
+    assert antibunching._is_dense(times, ones, ones, 980, 100)
+    assert not antibunching._is_dense(times, 0 * ones, ones, 980, 100) and not antibunching._is_dense(times, ones, ones, 8000, 100)
 
 
 @settings(max_examples=60, deadline=None)
@@ -343,10 +343,10 @@ def test_fourier_transforms_lose_no_pair(span: int, reach: int, seed: int, most:
     draws = np.random.default_rng(seed)
     times = np.unique(draws.integers(0, span, 1 + span // 2))
     firsts, seconds = draws.integers(0, most + 1, (2, len(times)))
-    plain = pulsed._pairs_of_sparse(times, firsts, seconds, reach)
+    plain = antibunching._pairs_of_sparse(times, firsts, seconds, reach)
     with pytest.MonkeyPatch.context() as patch:
-        patch.setattr(pulsed, "BLOCK", 64)
-        assert np.array_equal(pulsed._pairs_of_dense(times - times[0], firsts, seconds, reach), plain)
+        patch.setattr(antibunching, "BLOCK", 64)
+        assert np.array_equal(antibunching._pairs_of_dense(times - times[0], firsts, seconds, reach), plain)
 
 
 @pytest.mark.parametrize("period", [12_500, 12_500.0, 12_500.5, 3.125])
@@ -354,7 +354,7 @@ def test_hours_in_ticks_of_a_picosecond(period: float) -> None:
     """Three hours of 80 MHz by 1 ps pass 2^53 ticks: times are exact to the tick, beside Python's own fractions."""
     events = np.zeros(4, ptulab.EVENT)
     events["time"], events["dtime"] = [0, 1, 864_000_000_001, 864_000_000_002], [5, 7, 11, 4000]
-    ours = pulsed.in_ticks(events_of(events), period)
+    ours = antibunching.in_ticks(events_of(events), period)
     known = [round(Fraction(period) * int(one["time"])) + int(one["dtime"]) for one in events]
     assert ours.tolist() == known
     shown = coincidences(events, 0, 0, 20_000, period=period)
@@ -366,5 +366,5 @@ def test_periods_that_tell_no_times_apart() -> None:
     events["time"] = [0, 10**13]
     for bad in (0, -3, float("nan"), float("inf"), 1000 + 1 / 3, 500_000):
         with pytest.raises(ValueError, match="told apart"):
-            pulsed.in_ticks(events_of(events), bad)
-    assert pulsed.in_ticks(events_of(events), 100 + 1 / 3)[1] == pytest.approx(10**15 + 10**13 / 3, abs=1)
+            antibunching.in_ticks(events_of(events), bad)
+    assert antibunching.in_ticks(events_of(events), 100 + 1 / 3)[1] == pytest.approx(10**15 + 10**13 / 3, abs=1)

@@ -1,0 +1,65 @@
+"""Small measurements of which the truth is known: a scan of two lifetimes, diffusing molecules, one emitter, and bursts of FRET."""
+
+from pathlib import Path
+
+import made
+import numpy as np
+from made import Bits
+from numpy.typing import NDArray
+
+SHORT, LONG = 1.2e-9, 3.6e-9  # lifetimes of the left and the right half of the scan
+EFFICIENCY = 0.7
+NUMBER, DIFFUSION = 0.982, 1.25e-3  # molecules in the focus, and seconds that one stays there
+
+
+def scan(path: Path, seed: int = 1) -> Path:
+    """16 rows of 16 pixels, of 100 photons each; a pixel lasts 20 periods of 50 ns, a tick 50 ps."""
+    draws = np.random.default_rng(seed)
+    events: list[tuple[int, ...]] = [(0, Bits(4))]
+    for row in range(16):
+        start = 100 + row * 500
+        times = np.sort(draws.integers(0, 320, 1600))
+        lifetimes = np.where(times < 160, SHORT, LONG)
+        ticks = np.minimum(60 + (draws.exponential(lifetimes) / 50e-12).astype(int), 999)
+        events += [(start, Bits(1)), *((start + int(time), 0, int(tick)) for time, tick in zip(times, ticks)), (start + 320, Bits(2))]
+    tags = {"PixX": 16, "PixY": 16, "LineStart": 1, "LineStop": 2, "Frame": 3}
+    told = {f"ImgHdr_{name}": value for name, value in tags.items()} | {"ImgHdr_TimePerPixel": 20 * 50e-9 * 1e3, "ImgHdr_PixResol": 0.5}
+    return made.write(path, "HydraHarp2T3", events, tick=50e-9, resolution=50e-12, **told)
+
+
+def _t2(path: Path, seconds: NDArray[np.float64], inputs: NDArray[np.int64], tick: float) -> Path:
+    order = np.argsort(seconds, kind="stable")
+    return made.write(path, "HydraHarp2T2", list(zip((seconds[order] / tick).astype(int).tolist(), inputs[order].tolist())), tick=tick)
+
+
+def diffusion(path: Path, seed: int = 2) -> Path:
+    """20 molecules that diffuse in two dimensions through a Gaussian focus, for 4 s; each shines on two detectors."""
+    draws, step, side, molecules = np.random.default_rng(seed), 25e-6, 8.0, 20
+    coefficient = 1 / (4 * DIFFUSION)  # of a focus whose radius is 1
+    places, seconds = draws.uniform(0, side, (molecules, 2)), []
+    for first in range(0, 160_000, 8000):
+        moves = draws.normal(0, np.sqrt(2 * coefficient * step), (8000, molecules, 2))
+        paths = (places + np.cumsum(moves, axis=0)) % side
+        places = paths[-1]
+        bright = 60e3 * step * np.exp(-2 * ((paths - side / 2) ** 2).sum(axis=2)).sum(axis=1)
+        counts = draws.poisson(bright)
+        seconds.append((np.repeat(np.arange(first, first + 8000), counts) + draws.random(counts.sum())) * step)
+    all_seconds = np.concatenate(seconds)
+    return _t2(path, all_seconds, draws.integers(1, 3, len(all_seconds)), 1e-8)
+
+
+def emitter(path: Path, seed: int = 3) -> Path:
+    """One emitter, excited after 20 ns and shining after 5 ns in the mean, before two detectors."""
+    draws, many = np.random.default_rng(seed), 40_000
+    seconds = np.cumsum(draws.exponential(20e-9, many) + draws.exponential(5e-9, many))
+    return _t2(path, seconds, draws.integers(1, 3, many), 1e-10)
+
+
+def bursts(path: Path, seed: int = 4) -> Path:
+    """300 molecules of 80 photons in 2 ms each, of which 70 % come to the acceptor, input 2, over little background."""
+    draws = np.random.default_rng(seed)
+    begins = 0.01 + np.arange(300) * 0.02
+    light = (begins[:, None] + draws.uniform(0, 2e-3, (300, 80))).ravel()
+    inputs = np.where(draws.random(len(light)) < EFFICIENCY, 2, 1)
+    dark = draws.uniform(0, 6.1, 1200)
+    return _t2(path, np.concatenate([light, dark]), np.concatenate([inputs, draws.integers(1, 3, 1200)]), 1e-8)
