@@ -443,6 +443,8 @@ def main() -> None:
         sys.exit(__doc__)
     only, wrong = dict(options).get("-o", "."), 0
     PROGRAM = os.path.abspath(rest[0])
+    for number in (signal.SIGINT, signal.SIGTERM, signal.SIGHUP):  # a program begun in the background of a shell may have them ignored
+        signal.signal(number, signal.SIG_DFL)
     for try_it in USES:
         if not re.search(only, try_it.__name__):
             continue

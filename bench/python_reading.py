@@ -96,9 +96,9 @@ def cube(path: str) -> None:
 
 @task
 def coincidences(path: str) -> None:
-    from ptulab import pulsed
+    from ptulab import antibunching
 
-    assert pulsed.coincidences(path, 0, 1, 10).counts.any()
+    assert antibunching.coincidences(path, 0, 1, 10).counts.any()
 
 
 @task
