@@ -9,13 +9,19 @@ A page is README.md, CONTRIBUTING.md, CHANGELOG.md, a page of docs/ or examples/
 - sh and python: commands whose output isn't shown. They must end with status 0.
 - toml: a plan, which the program must read. If its first line is a comment that is the name of a file, it is put into
   that file, for the commands behind it. If it begins with '# examples/NAME.toml', the block must be that file.
+- edit: an edit that must fail, for a file of one of the crates: what it replaces stands there once.
+- row: a row of crates/worked_rows/data.
+- synopsis: a line for each command of ptulab, with the options that its --help tells, all but --help and --quiet.
 - in the man page the lines between .nf and .fi are console.
+- json, and py, which the notebook or another test runs, are not tried. Nor is a block with a reason after its kind, as
+  'sh (needs root)'. Any other block is a fault, so that none is forgotten.
 
 The blocks of a page are tried in their order, in a folder of their own that has what the pages speak of: the folders
 examples, docs, bench and python, ./ptu, ./ptulab, FILE and PLAN, which are the sample of a scan and its plan, the same as big.ptu,
 big.ptu.gz and plan.toml, and the folder data with three such files. A block with a program that isn't on this machine is
 left out, and that is said. PROGRAM is ./ptu of this tree by default. What differs is shown, and so is each link to a
-file or a title that isn't there and each name of a crate's file, as `ptu_cli/specs/Runs.antt`, that none has; it ends with 1 if there is any. The scripts of examples/ want what ptulab
+file or a title that isn't there, each name of a crate's file, as `ptu_cli/specs/Runs.antt`, that none has, and each path of
+this tree, as `bench/run`, that isn't there; it ends with 1 if there is any. The scripts of examples/ want what ptulab
 wants (python/debian-packages): call it by a Python that has it.
 """
 
@@ -23,6 +29,7 @@ import difflib
 import gzip
 import itertools
 import os
+import pathlib
 import re
 import shutil
 import subprocess
@@ -43,7 +50,7 @@ def pages() -> Any:
 
 def blocks(text: str) -> Iterator[Any]:
     """The blocks of a page of Markdown: the line at which one begins, its kind, and its lines."""
-    for found in re.finditer(r"^```(\w*)\n(.*?)^```$", text, flags=re.M | re.S):
+    for found in re.finditer(r"^```([^`\n]*)\n(.*?)^```$", text, flags=re.M | re.S):
         yield text.count("\n", 0, found.start()) + 1, found[1], found[2]
 
 
@@ -95,8 +102,41 @@ def read_or_nothing(name: str) -> Any:
         return file.read()
 
 
+def fault_of_edit(text: str) -> Any:
+    """What is wrong with an edit that must fail, or None."""
+    told = dict(line.split(": ", 1) for line in text.splitlines())
+    files = [path.read_text("utf-8") for path in pathlib.Path(ROOT, "crates").glob("*/" + told["file"])]
+    return None if sum(file.count(told["old"]) == 1 for file in files) == 1 else f"{text}can't be made in just one crate"
+
+
+def fault_of_row(text: str) -> Any:
+    """What is wrong with a row, or None."""
+    rows = [path.read_text("utf-8") for path in pathlib.Path(ROOT, "crates/worked_rows/data").glob("*.rows")]
+    return None if any(text in one for one in rows) else f"{text}is no row of crates/worked_rows/data"
+
+
+def fault_of_synopsis(text: str) -> Any:
+    """What is wrong with the options of the commands of ptulab, or None."""
+    for line in text.splitlines():
+        command = line.split()[1]
+        told = {*re.findall(r"(?<!\S)\[?(--?[a-z-]+)", line)}
+        printed, _ = shell(f"./ptulab {command} --help")
+        there = {*re.findall(r"^  (?:-\w[^\n,]*, )?(--?[a-z-]+)", printed, flags=re.M)} - {"--help", "--quiet"}
+        if command != "--version" and {alike(option) for option in told} != {alike(option) for option in there} and "words of" not in line:
+            return f"{line}: --help tells of {' '.join(sorted(there))}"
+    return None
+
+
+def alike(option: str) -> str:
+    """A short option and the long one beside it are one."""
+    return option.lstrip("-")[0] if option in ("-o", "--out") else option
+
+
 def try_block(kind: str, text: str) -> Iterator[Any]:
     """What is wrong with a block, or nothing."""
+    of_text = {"edit": fault_of_edit, "row": fault_of_row, "synopsis": fault_of_synopsis}
+    if kind in of_text and (fault := of_text[kind](text)):
+        yield fault
     if kind == "console":
         for command, said in commands(text):
             printed, _ = shell(command)
@@ -127,8 +167,9 @@ def furnish(program: str) -> None:
     for name in ("examples", "docs", "bench", "python", "install.sh"):
         os.symlink(os.path.join(ROOT, name), name)
     scan, plan = (os.path.join(ROOT, "examples", name) for name in ("scan.ptu", "scan.toml"))
-    for name, target in (("ptu", program), ("FILE", scan), ("PLAN", plan), ("big.ptu", scan), ("plan.toml", plan)):
+    for name, target in (("FILE", scan), ("PLAN", plan), ("big.ptu", scan), ("plan.toml", plan)):
         os.symlink(target, name)
+    write_script("ptu", f'[ "$1" = --path ] && {{ echo "{program}"; exit; }}\nexec "{program}" "$@"')
     with open(scan, "rb") as data, gzip.open("big.ptu.gz", "wb") as out:
         out.write(data.read())
     for folder in ("bin", "data", "FOLDER"):
@@ -137,9 +178,13 @@ def furnish(program: str) -> None:
         shutil.copy(scan, f"data/{name}.ptu")
     os.symlink(program, "bin/ptu")
     os.symlink(os.path.join(ROOT, "ptulab"), "ptulab")
-    with open("bin/python3", "w", encoding="utf-8") as out:
-        out.write(f'#!/bin/sh\nexec "{sys.executable}" "$@"\n')
-    os.chmod("bin/python3", 0o755)
+    write_script("bin/python3", f'exec "{sys.executable}" "$@"')
+
+
+def write_script(name: str, lines: str) -> None:
+    with open(name, "w", encoding="utf-8") as out:
+        out.write(f"#!/bin/sh\n{lines}\n")
+    os.chmod(name, 0o755)
 
 
 def prose(page: Any) -> Any:
@@ -158,6 +203,9 @@ def dead_links(page: Any) -> Iterator[Any]:
     for name in re.findall(r"`(\w+/(?:src|specs|proofs|must-fail)/[\w./-]+)`", prose(page)):
         if not os.path.exists(os.path.join(ROOT, "crates", name)):
             yield name
+    for path in re.findall(r"`[^`\n]*?(?<![\w/.=-])((?:bench|docs|examples|python|build|\.ci|crates|bin)/[\w./-]+)(?=[` ])", prose(page)):
+        if not re.search(r"[A-Z]{3}|\.\.|/out/", path) and not os.path.exists(os.path.join(ROOT, path)):
+            yield path
     for target in re.findall(r"\]\(([^)\s]+)\)", prose(page)):
         name, _, anchor = target.partition("#")
         file = os.path.normpath(os.path.join(os.path.dirname(page), name)) if name else page
@@ -174,7 +222,11 @@ def try_page(page: Any, program: str) -> Any:
         os.chdir(folder)
         furnish(program)
         for line, kind, block in man_blocks(text) if page.endswith(".1") else blocks(text):
-            if kind not in ("console", "sh", "python", "toml"):
+            if kind in ("json", "py") or re.fullmatch(r"\w+ \(.+\)", kind):
+                continue
+            if kind not in ("console", "sh", "python", "toml", "edit", "row", "synopsis"):
+                print(f"{page}:{line}: a block of the kind '{kind}' isn't tried, and doesn't say why")
+                wrong += 1
                 continue
             called = "\n".join(c for c, _ in commands(block)) if kind == "console" else block if kind == "sh" else ""
             if absent := missing(called):

@@ -1,8 +1,9 @@
 #!/usr/bin/env python3
 """Checks the figures that documents state against measures.toml: check_measures.py [--write]
 
-A figure is a number with a decimal point, with a per cent sign, or with one of the `units` of measures.toml behind it. On the
-`pages` of measures.toml each, outside of blocks of code and tables, must stand in one of these:
+A figure is a number with a decimal point, with a per cent sign, or with one of the `units` of measures.toml after it. On the
+`pages` of measures.toml (patterns of names, but for those that are `apart`) each figure outside of blocks of code and made parts
+must be in one of these:
 
 - measure.NAME: one number, or the version, that one or more pages state. It has a `value` and the day on which it was measured (`on`), or is
   `counted` here in the tree; with both, what is counted may differ by a tenth. `said` lists its places as PAGE: WORDS, where {}
@@ -10,6 +11,7 @@ A figure is a number with a decimal point, with a per cent sign, or with one of 
 - told.NAME: places of one page, measured on one day (`on`) under the same conditions (`how`). Each is WORDS with its figures in
   braces, as "takes {1.04} of the seconds".
 - table.NAME: a whole table of one page, made of `rows`, with `on` and `how`.
+- constant.NAME: `words`, on any page, for a number that the code has: `text` must be in `file`.
 - facts.PAGE: words with numbers that nothing measured, as facts of the format, limits of a plan, and those of an example.
 
 WORDS must stand once on their page, where a line may break at each blank. With --write the figures and tables of measures.toml
@@ -72,7 +74,10 @@ COUNTERS: dict[str, Callable[[], float | str | None]] = {
     "program_kilobytes": program_kilobytes,
     "c_library": c_library,
     "python": lambda: float(re.findall(r'requires-python = ">=([\d.]+)"', read("python/pyproject.toml"))[0]),
-    "least_coverage": lambda: int(re.findall(r"--fail-under=(\d+)", read("python/check"))[0]),
+    "lines_of_adapters": lambda: read("crates/ptu_cli/src/edge.rt").count("\n"),
+    "bytes_of_bench": lambda: (ROOT / "examples/bench.ptu").stat().st_size,
+    "bytes_of_scan": lambda: (ROOT / "examples/scan.ptu").stat().st_size,
+    "least_coverage": lambda: int(re.findall(r"fail-under=(\d+)", read("python/check"))[0]),
 }
 
 
@@ -119,6 +124,19 @@ def faults_of_counts(measures: dict[str, Any]) -> Iterator[str]:
             yield f"docs/measures.toml: {name} is {value}, and was counted as {counted}: measure it anew"
 
 
+def faults_of_constants(constants: dict[str, Any]) -> Iterator[str]:
+    """The code has each constant, and a constant has words."""
+    for name, one in constants.items():
+        if one["text"] not in read(one["file"]) or not one["words"]:
+            yield f"docs/measures.toml: constant.{name}: {one['file']} hasn't the text '{one['text']}'"
+
+
+def pages_of(told: dict[str, Any]) -> list[str]:
+    """The pages whose figures are checked: those that a pattern names, but for those apart."""
+    found = {str(path.relative_to(ROOT)) for pattern in told["pages"] for path in ROOT.glob(pattern)}
+    return sorted(found - set(told["apart"]))
+
+
 def places(told: dict[str, Any]) -> Iterator[tuple[str, str, list[str] | None]]:
     """The places of figures: the page, the words, and the numbers, None where they aren't known on this machine."""
     for measure in told.get("measure", {}).values():
@@ -138,6 +156,9 @@ def unmeasured(page: str, told: dict[str, Any]) -> Iterator[str]:
         if without == text:
             yield f"{page}: '{fact}', a fact of docs/measures.toml, isn't there"
         text = without
+    for one in told.get("constant", {}).values():
+        for words in one["words"]:
+            text = re.sub(rf"(?<![\w.,^]){re.escape(words)}\b".replace(r"\ ", r"\s+"), " ", text)
     text = re.sub(r"`[^`\n]*`|\]\([^)\n]*\)", " ", text)
     unit = rf"[- ](?:(?:million|thousand) )?(?:{'|'.join(told['units'])})\b| ?%"
     for found in re.finditer(rf"[^\n]{{0,30}}(?<![\w.,^])(?:{NUMBER}(?:{unit})|\d[\d,]*\.\d+(?!\w|\.\d))", text):
@@ -146,7 +167,7 @@ def unmeasured(page: str, told: dict[str, Any]) -> Iterator[str]:
 
 def main() -> None:
     told = tomllib.loads(read("docs/measures.toml"))
-    wrong = [*faults_of_days(told), *faults_of_counts(told["measure"])]
+    wrong = [*faults_of_days(told), *faults_of_counts(told["measure"]), *faults_of_constants(told["constant"])]
     texts: dict[str, str] = {}
     for page, words, numbers in places(told):
         text = texts.setdefault(page, read(page))
@@ -157,7 +178,7 @@ def main() -> None:
     for name, table in told.get("table", {}).items():
         page = table["page"]
         texts[page] = put_part(texts.setdefault(page, read(page)), SCRIPT, name, table["rows"])
-    wrong += [fault for page in told["pages"] for fault in unmeasured(page, told)]
+    wrong += [fault for page in pages_of(told) for fault in unmeasured(page, told)]
     if "--write" not in sys.argv[1:]:
         sys.argv.append("--check")
     print(*wrong, sep="\n", end="\n" if wrong else "")

@@ -24,7 +24,7 @@ LETTERS, LINES = 31, 3  # of a line, and lines in a box
 # The steps of each way: the crate, and what happens there.
 WAYS = {
     "count": [
-        ("file_edge", "a read gives a piece of the file"),
+        ("ptu_cli", "a read gives a piece of the file"),
         ("command_work", "the bytes after the header go on"),
         ("report_work", "the work of run: to the engine"),
         ("tally_engine", "which feeds its stream of records"),
@@ -35,10 +35,10 @@ WAYS = {
         ("tally_engine", "each table is given the block of events"),
         ("tcspc_hist", "one more in the cell of its dtime"),
         ("table_out", "the cell's line of the report"),
-        ("file_edge", "standard output takes it"),
+        ("ptu_cli", "standard output takes it"),
     ],
     "status": [
-        ("file_edge", "a read gives a piece of the file"),
+        ("ptu_cli", "a read gives a piece of the file"),
         ("command_work", "its first bytes go to the header's reader"),
         ("ptu_header", "a tag of an unknown type: refused"),
         ("tally_base", "a fault, with its status and line"),

@@ -2,7 +2,7 @@
 """Makes the lists of commands, of exit statuses and of rules of plans wherever they stand: make_references.py [--check]
 
 The program's sources are the truth. The statuses and their printed lines are read off the definitions of the faults
-(`status_of`, `reason_of`), which command can end with which off the law on the statuses of runs (`MayEndWith`, `cases`), the
+(`status_of`, `reason_of`), which command can end with which off the law on the statuses of runs (`FailsWith`, `cases`), the
 commands and what they do off `Request` and `Command`; wherever these stand among the crates. statuses.toml says when
 a run ends so, and plan.md has the rules. Made of these are
 
@@ -100,18 +100,24 @@ def commands() -> list[Command]:
     return found
 
 
-def statuses_by_command() -> dict[str, set[int]]:
-    """The statuses that the runs of each command may end with, by the law on them."""
-    shapes = {case.split()[0].strip("()"): statuses_in(fact) for case, fact in cases("MayEndWith").items()}
-    found = {}
-    for case, ends in cases("cases").items():
-        named = re.match(r"\(Some \((\w+) ", case)
-        shape, further = re.match(r"(\w+)(?: (\([^)]*\)|\w+))?", ends).groups()  # type: ignore[union-attr]
-        if further and further.endswith("_statuses"):
-            further = cases(further)["n"]
-        if named:
-            found[named[1].removesuffix("Of").lower()] = shapes[shape] | statuses_in(further or "")
+def statuses_of_lines(term: str, above: tuple[str, ...] = ()) -> set[int]:
+    """The statuses of the lines of a table (`Line`), and of those that it names."""
+    ends = re.findall(r"(?:\w+_lines|Line \w+) (\d+) (\d+)", term) + [(n, n) for n in re.findall(r"Needs (\d+)", term)]
+    found = {status for low, high in ends for status in range(int(low), int(high) + 1)}
+    for name in set(re.findall(r"\b\w+_lines\b", term)) - set(above):
+        body = source_with("specs/**/*.antt", rf"abbrev pub {name} :").split("\n\n")[0].split("\n", 1)[1]
+        found |= statuses_of_lines(body, (*above, name))
     return found
+
+
+def statuses_by_command() -> dict[str, set[int]]:
+    """The statuses that the runs of each command may end with, by the law on them: those of its table, and of what fails outside."""
+    outside = {case.split()[0].strip("()"): statuses_in(fact) for case, fact in cases("FailsWith").items()}
+    shapes = {case: term.split()[0] for case, term in cases("behaviour").items()}
+    named = {case: re.match(r"\(Some \((\w+) ", case) for case in cases("cases")}
+    return {
+        name[1].removesuffix("Of").lower(): statuses_of_lines(cases("cases")[case]) | outside[shapes[case]] for case, name in named.items() if name
+    }
 
 
 def endings() -> Iterator[Ending]:

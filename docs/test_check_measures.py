@@ -5,7 +5,7 @@ from typing import Any
 
 import check_measures
 import pytest
-from check_measures import faults_of_counts, faults_of_days, put_figures, unmeasured
+from check_measures import faults_of_constants, faults_of_counts, faults_of_days, pages_of, put_figures, unmeasured
 
 PAGE = """A run takes 1.5 to
 2.25 seconds and 30 MiB, in version 3.11.2.
@@ -57,3 +57,18 @@ def test_what_is_counted_may_differ_by_a_tenth(monkeypatch: pytest.MonkeyPatch) 
     measures: dict[str, Any] = {"a": {"counted": "crates_of_program"}, "b": {"counted": "crates_of_program", "value": 40}, "c": {"counted": "crates_of_program", "value": 30}}
     assert [fault.split(": ")[1] for fault in faults_of_counts(measures)] == ["c is 30, and was counted as 42"]
     assert measures["a"]["value"] == 42
+
+
+def test_constants_of_the_code_are_known_on_any_page(monkeypatch: pytest.MonkeyPatch) -> None:
+    monkeypatch.setattr(check_measures, "read", lambda name: {"p.md": "It reads 8,192\nbytes, not 18,192 bytes.\n"}.get(name, "PIECE = 8192;"))
+    constants = {"piece": {"words": ["8,192 bytes"], "file": "a.rt", "text": "PIECE = 8192;"}}
+    told = {"units": ["bytes"], "constant": constants}
+    assert list(unmeasured("p.md", told)) == ["p.md: 'It reads  , not 18,192 bytes' is no measure of docs/measures.toml"]
+    assert not list(faults_of_constants(constants))
+    constants["piece"]["text"] = "PIECE = 4096;"
+    assert list(faults_of_constants(constants)) == ["docs/measures.toml: constant.piece: a.rt hasn't the text 'PIECE = 4096;'"]
+
+
+def test_every_page_is_checked_but_those_apart() -> None:
+    found = pages_of({"pages": ["README.md", "docs/*.md"], "apart": ["docs/notebook.md"]})
+    assert {"README.md", "docs/plan.md", "docs/app.md"} <= set(found) and "docs/notebook.md" not in found

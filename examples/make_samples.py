@@ -1,5 +1,5 @@
 #!/usr/bin/env python3
-"""Makes five samples of measurements for the tasks of docs/python.md: make_samples.py FOLDER
+"""Makes six samples of measurements for the tasks of docs/python.md: make_samples.py FOLDER
 
     emitter.ptu    T3, one emitter of single photons that is excited by pulses, seen by the inputs 0 and 1; 3.5 ns
     response.ptu   T3, the pulse itself, as a scatterer shows it
@@ -8,6 +8,7 @@
                    excite in turn, the acceptor's from tick 1000 of 2000 on
     two_ways.ptu   T3, a scan in both directions, two frames of 64 lines of 64 pixels of 8.4 sync periods; lines that run
                    backwards are 12.6 periods late. Marker 1 begins a line, 2 a frame too, and 4 ends a line
+    blinking.ptu   T2, a source that is on for 20 ms and off for 40 ms in the mean, on input 1
 
 The same photons come each time.
 """
@@ -99,7 +100,16 @@ def two_ways(path: Any, size: int = 64, dwell: float = 8.4, late: float = 12.6, 
     t3(path, times[seen].astype(np.int64), np.zeros(seen.sum(), np.int64), ticks[seen], (marks, bits))
 
 
+def blinking(path: Any, spans: int = 300, on: float = 0.02, off: float = 0.04, bright: int = 30_000, dark: int = 4_000) -> None:
+    """Times on and off with these means in seconds, with so many photons a second."""
+    draws = np.random.default_rng(6)
+    lengths = np.stack([draws.exponential(on, spans), draws.exponential(off, spans)], axis=1).ravel()
+    photons = draws.poisson(lengths * np.tile([bright, dark], spans))
+    times = np.repeat(np.cumsum(lengths) - lengths, photons) + np.repeat(lengths, photons) * draws.random(photons.sum())
+    write(path, "HydraHarp2T2", (times / 1e-9).astype(np.int64), np.zeros(len(times), np.int64), 1e-9)
+
+
 if __name__ == "__main__":
-    makers: tuple[Any, ...] = (emitter, response, diffusion, molecules, two_ways)
+    makers: tuple[Any, ...] = (emitter, response, diffusion, molecules, two_ways, blinking)
     for make in makers:
         make(os.path.join(sys.argv[1], f"{make.__name__}.ptu"))

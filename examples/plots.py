@@ -1,9 +1,10 @@
 #!/usr/bin/env python3
-"""Draws eight worked plots: plots.py FOLDER [PROGRAM]
+"""Draws ten worked plots: plots.py FOLDER [PROGRAM]
 
 It makes the samples of two detectors and of single molecules, runs ptu over them and over the sample of a scan, and
 puts decay.png, trace.png, image.png, startstop.png, coincidence.png, correlation.png and bursts.png into FOLDER, and
-overview.png, the picture of the README: what the three recipes of docs/start.md count. Each plot is a function of a few lines, meant to be
+overview.png, the picture of the README: what the three recipes of docs/start.md count, and fret.png and variance.png, those of
+the recipes of single molecules in docs/recipes.md. Each plot is a function of a few lines, meant to be
 copied. PROGRAM is the ptu that counts, by default ./ptu of this folder's tree. It needs NumPy and
 Matplotlib.
 """
@@ -24,12 +25,16 @@ import numpy as np  # noqa: E402
 sys.path.append(os.path.join(os.path.dirname(os.path.dirname(os.path.abspath(__file__))), "python", "src"))  # where ptulab isn't installed
 
 import make_bursts  # noqa: E402
+import make_fret  # noqa: E402
 import make_samples  # noqa: E402
 from make_pairs import photons  # noqa: E402
 from make_pairs import TICK  # noqa: E402
 from made_file import t2_words, write  # noqa: E402
-from ptulab import read_report, read_trace  # noqa: E402
-from ptulab.fits import g2  # noqa: E402
+from ptulab import plots as pictures  # noqa: E402
+from ptulab import read_report, read_trace, smfret  # noqa: E402
+from ptulab.antibunching import g2  # noqa: E402
+from ptulab.bursts import and_gate, background, counted, find_bursts, fret, fused  # noqa: E402
+from ptulab.groups import Group, photons_of  # noqa: E402
 
 HERE = os.path.dirname(os.path.abspath(__file__))
 
@@ -149,6 +154,27 @@ def bursts(folder: str, program: str) -> None:
     figure.savefig(os.path.join(folder, "bursts.png"), dpi=90, metadata={"Software": None})
 
 
+def molecules(folder: str) -> None:
+    """E and S of single molecules, corrected, and how far E varies within those that both of two searches find."""
+    either, donor, acceptor, direct = (Group(inputs, [gate]) for inputs, gate in (([0, 1], (0, 1000)), ([0], (0, 1000)), ([1], (0, 1000)), ([1], (1000, 2000))))
+    with tempfile.NamedTemporaryFile(suffix=".ptu") as data:
+        make_fret.bursts(data.name)
+        seen = photons_of(data.name)
+    found = fused(find_bursts(seen, background(seen, seconds=10), F=6, minimum=30))
+    counts = counted(found, seen, (donor, acceptor, direct), seconds=10)
+    raw, steady = fret(**counts), smfret.alex_2cde(found, seen, either, direct) < 15
+    kinds = [steady & raw.select(span, S=(0.25, 0.85)) for span in ((0, 0.29), (0.29, 0.49), (0.49, 0.73), (0.73, 1))]
+    result = smfret.calibrate(**counts, donor_only=raw.select(S=(0.9, 2)), acceptor_only=raw.select(S=(-1, 0.15)), populations=kinds)
+    first, second = (find_bursts(seen, background(seen, group, seconds=10), F=30, group=group) for group in (either, direct))
+    both = and_gate(first, second, seen, minimum=50)
+    variance = smfret.burst_variance(both, seen, donor, acceptor)
+    drawings: tuple[Any, ...] = (("fret", pictures.plot_fret, result), ("variance", pictures.plot_burst_variance, variance))
+    for name, draw_one, what in drawings:
+        figure, axes = plt.subplots(figsize=(5, 3.6), layout="constrained")
+        draw_one(what, axes)
+        figure.savefig(os.path.join(folder, f"{name}.png"), dpi=90, metadata={"Software": None})
+
+
 def report_of(program: str, plan: Any, data: Any) -> Any:
     run = subprocess.run([program, "run", os.path.join(HERE, plan), data], check=True, capture_output=True, text=True)
     return read_report(run.stdout, os.path.join(HERE, plan))
@@ -171,6 +197,7 @@ def main() -> None:
     draw(folder, pairs, (startstop, coincidence, correlation))
     overview(folder, program)
     bursts(folder, program)
+    molecules(folder)
 
 
 if __name__ == "__main__":

@@ -1,7 +1,9 @@
 """Tests of the scripts that make samples, of Snakemake, of Slurm and of the completion: pytest examples (PTU names another program than ./ptu)."""
 
+import ast
 import hashlib
 import os
+import re
 import shutil
 import subprocess
 import sys
@@ -11,6 +13,7 @@ from typing import Any
 import pytest
 
 from made_file import t2_words, write
+from make_fret import EFFICIENCIES
 
 ROOT = os.path.dirname(os.path.dirname(os.path.abspath(__file__)))
 PTU = os.environ.get("PTU", os.path.join(ROOT, "ptu"))
@@ -56,6 +59,17 @@ def test_the_sample_of_a_scan_in_both_directions(tmp_path: Path) -> None:
     assert abs(int(first.argmax()) - int(second.argmax())) <= 1  # the decays begin together
     rows = report.table("image").counts[20:22]
     assert rows[:, 10:18].sum(axis=1).min() > 5 * rows[:, 0:8].sum(axis=1).max()  # the stem is on one side in both
+
+
+def test_the_recipe_of_e_and_s(tmp_path: Path) -> None:
+    """What docs/recipes.md finds for the four populations with both dyes is what the sample was made with."""
+    assert script("make_fret.py", tmp_path / "fret.ptu").returncode == 0
+    block = re.search(r"^## E and S of single molecules.*?^```python\n(.*?)^```", Path(ROOT, "docs", "recipes.md").read_text("utf-8"), flags=re.M | re.S)
+    assert block
+    surroundings = os.environ | {"MPLBACKEND": "Agg", "PYTHONPATH": f"{ROOT}/python/src"}
+    said = subprocess.run([sys.executable, "-c", block[1]], cwd=tmp_path, env=surroundings, check=True, capture_output=True, text=True).stdout
+    means = [ast.literal_eval(line) for line in said.splitlines()[1:]]
+    assert [one["E"][0] for one in means] == pytest.approx(EFFICIENCIES, abs=0.02) and [one["S"][0] for one in means] == pytest.approx([0.5] * 4, abs=0.02)
 
 
 def reports(folder: Path, *files: Any) -> Any:

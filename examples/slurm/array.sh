@@ -1,11 +1,18 @@
 #!/bin/sh
 # array.sh PLAN LIST OUT [JOBS [PROGRAM]]: counts the PTU files of a list, a path on each line, by an array of jobs in the queue of
-# Slurm, 16 by default, and adds up their sums by another job: OUT/sum.txt. OUT/*.left list the files that aren't in it, and
+# Slurm, 16 by default and no more than there are files, and adds up their sums by another job: OUT/sum.txt. OUT/*.left list the files that aren't in it, and
 # why. The plan is copied once. After a fault, or with more files at the end of the list, the same words go on where it ended.
 # PTULAB are the words before those of the command ptulab, by default ptulab itself; SBATCH is for more words of sbatch.
 set -eu
 plan=$1 list=$2 out=$3 jobs=${4:-16} program=${5:-ptu}
 ptulab=${PTULAB:-ptulab}
+for command in "${ptulab%% *}" "$program"; do
+    command -v "$command" > /dev/null || { echo "array.sh: no command $command: PTULAB and the fifth word name them" >&2; exit 1; }
+done
+if [ "$jobs" -gt "$(grep -c . "$list")" ]; then
+    echo "array.sh: $list has fewer files than there are jobs" >&2
+    exit 1
+fi
 mkdir -p "$out/parts"
 out=$(realpath "$out")
 if [ -e "$out/plan.toml" ] && ! cmp -s "$plan" "$out/plan.toml"; then
