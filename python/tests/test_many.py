@@ -410,6 +410,20 @@ def test_the_lock_says_who_holds_it(folder: Path, program: str) -> None:
     assert not (folder / "sum.txt.lock").exists()
 
 
+def test_a_lock_that_does_not_say_yet_who_holds_it(tmp_path: Path) -> None:
+    """Between the moments in which it is made and written."""
+    lock = tmp_path / "sum.txt.lock"
+    lock.touch()
+    writer = threading.Timer(0.2, lock.write_text, [json.dumps({"host": "another", "process": 7, "since": "then"})])
+    writer.start()
+    with pytest.raises(PtulabError, match="process 7 on another makes it since then"):
+        Lock(str(tmp_path / "sum.txt"))
+    writer.join()
+    lock.write_text("")
+    with pytest.raises(PtulabError, match="another run makes it; once that has ended"):
+        Lock(str(tmp_path / "sum.txt"))
+
+
 def test_one_of_several_takes_an_old_lock_over(tmp_path: Path) -> None:
     ended = subprocess.Popen(["true"])
     ended.wait()

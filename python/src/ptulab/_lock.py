@@ -15,6 +15,7 @@ from typing import IO, Any
 from .errors import PtulabError
 
 RENEWED, STALE = 10, 120  # seconds after which a lock is renewed, and after which it is old
+TOLD = 1.0  # seconds in which a run that makes a lock says in it who it is
 
 
 class Lock:
@@ -28,8 +29,9 @@ class Lock:
         self.made, self.path = path, f"{path}.lock"
         mine = {"host": socket.gethostname(), "process": os.getpid(), "since": now(), "run": secrets.token_hex(8)}
         self.mine: dict[str, Any] = mine
+        told = time.monotonic() + TOLD
         while not self.is_taken():
-            self.take_off()
+            self.take_off(waits=time.monotonic() < told)
         self.ended = threading.Event()
         threading.Thread(target=self.renew, daemon=True).start()
 
@@ -47,10 +49,13 @@ class Lock:
             raise
         return True
 
-    def take_off(self) -> None:
-        """Takes off an old one, of which of several runs only one does; raises ``PtulabError`` where it is held."""
+    def take_off(self, *, waits: bool) -> None:
+        """Takes off an old one, of which of several runs only one does; raises ``PtulabError`` where it is held, but for one that waits for its holder's name."""
         with contextlib.suppress(FileNotFoundError), open(self.path, "rb") as file:
             held = holder(file)
+            if not held and waits:
+                time.sleep(0.02)
+                return
             if not is_dead(held) and self.age() < STALE:
                 who = f"process {held.get('process')} on {held.get('host')} makes it since {held.get('since')}" if held else "another run makes it"
                 raise PtulabError(f"{self.made}: {who}; once that has ended, remove {self.path}")
