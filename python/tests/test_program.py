@@ -37,6 +37,16 @@ def test_the_report_is_that_of_the_program(program: str, ptu: Callable[..., Any]
     assert all((a.counts == b.counts).all() and a.groups == b.groups == (1,) for a, b in zip(report.tables, read.tables))
 
 
+def test_names_that_are_no_utf_8(program: str, tmp_path: Path) -> None:
+    """Of the plan and the file; the program takes UTF-8 alone."""
+    odd = [tmp_path / os.fsdecode(b"\xfc" + path.name.encode()) for path in SCAN]
+    for path, other in zip(SCAN, odd):
+        other.write_bytes(path.read_bytes())
+    assert ptulab.run(*odd, program=program).head == ptulab.run(*SCAN, program=program).head
+    with pytest.raises(FileNotFoundError):
+        ptulab.run(odd[0], tmp_path / os.fsdecode(b"\xff.ptu"), program=program)
+
+
 def test_refusals_say_what_the_documents_say(program: str, make_plan: Callable[..., Path], make_file: Callable[..., Path]) -> None:
     plan, data = make_plan("order = 'stop'\n"), make_file("HydraHarp2T3", [(20, 1), (15, 1)])
     with pytest.raises(RefusalError) as fault:

@@ -5,7 +5,7 @@ import subprocess
 import tempfile
 import threading
 from collections.abc import Callable, Iterator
-from contextlib import contextmanager
+from contextlib import ExitStack, contextmanager
 from typing import IO, Any
 
 from ._documents import PlanLike, plan_path, read_plan
@@ -52,7 +52,7 @@ def run(
 def _counted(words: list[str], document: dict[str, Any] | None, bar: Callable[..., Any] | None) -> Report | BadReportError | UnlikeError:
     """The report that the program prints."""
     with tempfile.TemporaryFile() as told:
-        with subprocess.Popen(words, stdout=subprocess.PIPE, stderr=told) as child, _shown(bar, child, words[-1]):
+        with _called(words) as called, subprocess.Popen(**called, stdout=subprocess.PIPE, stderr=told) as child, _shown(bar, child, words[-1]):
             try:
                 report = _read(child.stdout, document)
             except BaseException:
@@ -63,6 +63,15 @@ def _counted(words: list[str], document: dict[str, Any] | None, bar: Callable[..
         if child.returncode != 0:
             raise refusal(child.returncode, told.read().decode(errors="replace").strip())
     return report
+
+
+@contextmanager
+def _called(words: list[str]) -> Iterator[dict[str, Any]]:
+    """How the program is called, which takes UTF-8 alone: a file by another name is opened, and goes as a descriptor."""
+    odd = [word for word in words if os.fsencode(word).decode("utf-8", "ignore") != os.fsdecode(word)]
+    with ExitStack() as ends:
+        opened = {word: ends.enter_context(open(word, "rb")).fileno() for word in odd}
+        yield {"args": [f"/dev/fd/{opened[word]}" if word in opened else word for word in words], "pass_fds": tuple(opened.values())}
 
 
 def refusal(status: int, line: str) -> RefusalError:
@@ -119,11 +128,12 @@ def _shown(bar: Callable[..., Any] | None, child: subprocess.Popen[bytes], path:
 
 def _position(process: int, path: str) -> int:
     """How far a process has read the file at a path, or 0 where the system doesn't tell (Linux does)."""
+    read = 0
     try:
         for number in os.listdir(f"/proc/{process}/fd"):
             if os.path.samefile(f"/proc/{process}/fd/{number}", path):
                 with open(f"/proc/{process}/fdinfo/{number}", encoding="ascii") as lines:
-                    return int(lines.readline().split()[1])
+                    read = max(read, int(lines.readline().split()[1]))
     except (OSError, ValueError, IndexError):
         pass
-    return 0
+    return read
