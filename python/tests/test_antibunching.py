@@ -1,6 +1,7 @@
 import time
 from collections import Counter
 from collections.abc import Callable
+from dataclasses import replace
 from fractions import Fraction
 from pathlib import Path
 from typing import Any
@@ -138,6 +139,29 @@ def test_the_error_of_a_ratio_is_that_of_its_counts() -> None:
     assert few.central_ratio() == pytest.approx((1 / 5, np.sqrt(1 / 5**2 + (1 / 5) ** 2 / 10)))
     none = Coincidences(np.array([4, 0, 6], np.int64), 1, 1, 9, 9, 100)
     assert none.central_ratio() == pytest.approx((0, 1 / 5))
+
+
+def test_pairs_of_measurements_add_up(make_file: Callable[..., Path]) -> None:
+    """With what each of them expects, of other rates and lengths."""
+    draws = np.random.default_rng(7)
+    ones = []
+    for place, (many, last) in enumerate(((300, 2000), (900, 3000), (50, 9000))):
+        times = np.sort(draws.integers(0, last, many))
+        path = make_file("HydraHarp2T3", [(int(time), int(draws.integers(0, 2))) for time in times], name=f"{place}.ptu", tick=1e-7)
+        ones.append(antibunching.coincidences(path, 0, 1, 6, width=2))
+    whole = sum(ones, start=ones[0])
+    assert sum(ones) == ones[0] + ones[1] + ones[2] != whole
+    assert (sum(ones).counts == sum(one.counts for one in ones)).all() and sum(ones).length == sum(one.length for one in ones)
+    assert sum(ones).expected() == pytest.approx(sum(one.expected() for one in ones)) and (ones[0] + ones[0]).expected() == pytest.approx(2 * ones[0].expected())
+    for other in (replace(ones[0], period=2), replace(ones[0], unit_seconds=None), replace(ones[0], reach=5)):
+        with pytest.raises(ptulab.UnlikeError):
+            ones[0] + other
+    odd: list[Any] = [1, "x"]
+    for wrong in odd:
+        with pytest.raises(TypeError):
+            wrong + ones[0]
+        with pytest.raises(TypeError):
+            ones[0] + wrong
 
 
 def test_gates_choose_photons(make_file: Callable[..., Path]) -> None:

@@ -1,4 +1,5 @@
 from collections.abc import Callable
+from dataclasses import replace
 from pathlib import Path
 from typing import Any
 
@@ -12,7 +13,7 @@ from hypothesis import strategies as st
 
 import ptulab
 from ptulab import antibunching
-from ptulab.segments import correlation, correlation_by_segments, delays, edges, split, window
+from ptulab.segments import correlation, correlation_by_segments, delays, edges, split, together, window
 
 GROUPS = st.sampled_from([(1,), (2,), (1, 2), (2, 3)])
 
@@ -70,6 +71,40 @@ def test_errors_are_those_of_the_mean(folder: Path) -> None:
         assert (np.abs(curve.values - known)[short] < 4 * curve.errors[short] + 0.03).all()
     assert curves[0].segments.shape == (10, len(known)) and curves[0].seconds is None
     assert curves[0].rates[0] == pytest.approx(0.1, rel=0.1)
+
+
+def test_measurements_are_taken_together_by_their_photons(make_file: Callable[..., Path]) -> None:
+    """A file and one of three times its length: each of their segments counts by its photons, and a fit takes the mean and its error from them."""
+    files = [make_file("HydraHarp2T2", blinking(seed, ticks), name=f"{seed}.ptu") for seed, ticks in ((1, 30_000), (2, 90_000))]
+    curves = [correlation_by_segments(path, [1], [1], segments=5, lags=8, levels=levels) for path, levels in zip(files, (4, 6))]
+    whole, cells = together(curves), len(curves[0].ticks)
+    photons = [float(np.count_nonzero(ptulab.read_events(path).numbers == 1)) for path in files]
+    weights = np.repeat(np.array(photons) / 5, 5)[:, None]
+    rows = np.concatenate([one.segments[:, :cells] for one in curves])
+    mean = (rows * weights).sum(axis=0) / weights.sum()
+    error = np.sqrt((weights**2 * (rows - mean) ** 2).sum(axis=0) / weights.sum() ** 2 * 10 / 9)
+    assert whole.values == pytest.approx(mean, rel=1e-3) and whole.errors == pytest.approx(error, rel=1e-2)  # what is left over at the ends counts not
+    assert whole.segments.mean(axis=0) == pytest.approx(whole.values) and whole.segments.std(axis=0, ddof=1) / np.sqrt(10) == pytest.approx(whole.errors)
+    assert 2.9 < curves[1].length / curves[0].length < 3.1 and whole.length == sum(one.length for one in curves) and whole.ticks.tolist() == curves[0].ticks.tolist()
+    assert whole.rates[0] * whole.length == pytest.approx(sum(photons), rel=1e-3)
+
+
+def test_one_measurement_together_is_itself(make_file: Callable[..., Path]) -> None:
+    path = make_file("HydraHarp2T2", blinking(3), tick=1e-6)
+    curve = correlation_by_segments(path, [1], [1], segments=4, lags=8, levels=3)
+    whole = together([curve])
+    assert whole.values == pytest.approx(curve.values) and whole.errors == pytest.approx(curve.errors) and whole.unit_seconds == 1e-6
+    odd = curve.segments.copy()
+    odd[1, 2] = odd[:, 5] = np.nan  # a segment without a pair to expect, and none with one
+    holes = together([replace(curve, segments=odd), replace(curve, segments=odd)])
+    assert holes.values[2] == pytest.approx(np.nanmean(odd[:, 2])) and np.isnan(holes.values[5]) and np.isnan(holes.errors[5])
+    assert holes.errors[2] == pytest.approx(np.nanstd(np.tile(odd[:, 2], 2)) / np.sqrt(5))
+    for other in (replace(curve, unit_seconds=1e-7), replace(curve, ticks=curve.ticks + 1)):
+        with pytest.raises(ptulab.UnlikeError):
+            together([curve, other])
+    for none in ([], [replace(curve, rates=(0.0, 0.0))]):
+        with pytest.raises(ValueError, match="no photons"):
+            together(none)
 
 
 def test_each_segment_is_correlated_from_its_beginning(make_file: Callable[..., Path]) -> None:

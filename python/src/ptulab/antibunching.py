@@ -6,14 +6,14 @@ Times are sync periods (ticks in T2), or, with the period given in ticks of the 
 import math
 import warnings
 from collections.abc import Mapping
-from dataclasses import dataclass
+from dataclasses import dataclass, field, replace
 from fractions import Fraction
 from typing import Any
 
 import numpy as np
 from numpy.typing import NDArray
 
-from .errors import FitError, NotKnownError
+from .errors import FitError, NotKnownError, UnlikeError
 from .events import Events
 from ._fitting import Bounds, Fit, Numbers, Values, Problem, poisson, solved, steered
 from .groups import EventsLike, GroupLike, group_of, header_of, pieces_of, ticks_of
@@ -43,6 +43,9 @@ class Coincidences(Compared):
     - ``first_photons``, ``second_photons``: of the two groups; ``both_photons``: that are in both. ``length``: the unit
       times from the first event to the last, both counted.
     - ``unit_seconds``: of a sync period or a tick, None where the file doesn't tell.
+
+    Those of several measurements, as of files, add up: ``sum`` takes them. ``added`` has these then, each with its photons
+    and its length.
     """
 
     counts: NDArray[np.int64]
@@ -54,6 +57,24 @@ class Coincidences(Compared):
     unit_seconds: float | None = None
     both_photons: float = 0
     period: float | None = 1
+    added: tuple[tuple[float, float, int], ...] = field(default=(), repr=False)
+
+    def __add__(self, other: "Coincidences") -> "Coincidences":
+        """The pairs of both. Raises ``UnlikeError`` for other cells, another period or another unit."""
+        if not isinstance(other, Coincidences):
+            return NotImplemented
+        if any(getattr(self, name) != getattr(other, name) for name in ("reach", "width", "unit_seconds", "period")):
+            raise UnlikeError("coincidences with other cells, another period or another unit don't add up")
+        sums = {name: getattr(self, name) + getattr(other, name) for name in ("counts", "first_photons", "second_photons", "both_photons", "length")}
+        return replace(self, **sums, added=self._measurements + other._measurements)
+
+    def __radd__(self, other: int) -> "Coincidences":
+        """So that ``sum`` adds them up, which begins with 0."""
+        return self if isinstance(other, int) and other == 0 else NotImplemented
+
+    @property
+    def _measurements(self) -> tuple[tuple[float, float, int], ...]:
+        return self.added or ((self.first_photons, self.second_photons, self.length),)
 
     @property
     def _edges(self) -> NDArray[np.int64]:
@@ -79,13 +100,15 @@ class Coincidences(Compared):
         """How many pairs each cell would have without correlation: shape (cells,).
 
         FIRST * SECOND / T^2 times the sum of T - |d| over the differences d of the cell, where T is ``length``: so many
-        places has a pair of that difference in the measurement.
+        places has a pair of that difference in the measurement. Those of several measurements add up.
         """
-        length, ends = float(self.length), self._edges - 1.0
+        return np.sum([self._expected(first, second, float(length)) for first, second, length in self._measurements], axis=0)
+
+    def _expected(self, first: float, second: float, length: float) -> NDArray[np.float64]:
+        ends = self._edges - 1.0
         steps = np.minimum(np.where(ends < 0, -1 - ends, ends), length)
         free = steps * (length - (steps + 1) / 2)  # of the differences 1 up to so many
-        pairs = float(self.first_photons) * float(self.second_photons)
-        return np.asarray(pairs * np.diff(np.where(ends < 0, -free, length + free)) / max(length, 1.0) ** 2)
+        return np.asarray(float(first) * float(second) * np.diff(np.where(ends < 0, -free, length + free)) / max(length, 1.0) ** 2)
 
     def variances(self) -> NDArray[np.float64]:
         """The variance of the pairs of each cell without correlation: shape (cells,), of one pair where there was none.

@@ -4,13 +4,14 @@ The cells are those of a plan's correlation (``docs/correlation.md``), after Wah
 Express 11, 3583 (2003).
 """
 
-from collections.abc import Iterator
-from dataclasses import dataclass
+from collections.abc import Iterator, Sequence
+from dataclasses import dataclass, replace
 from typing import Any
 
 import numpy as np
 from numpy.typing import NDArray
 
+from .errors import UnlikeError
 from .events import Events, events_of, joined
 from .groups import EventsLike, GroupLike, Part, group_of, header_of, pieces_of, ticks_of
 from .antibunching import occupied, pair_counts
@@ -18,7 +19,7 @@ from .tables import lags_of
 from ._values import Compared
 from ._xarrays import Axis, labelled
 
-__all__ = ["Curve", "correlation", "correlation_by_segments", "delays", "edges", "split", "window"]
+__all__ = ["Curve", "correlation", "correlation_by_segments", "delays", "edges", "split", "together", "window"]
 
 
 MOST_LAGS = 1 << 20  # of a level, so that all delays have 64 bits
@@ -34,7 +35,7 @@ class Curve(Compared):
     - ``errors``: the standard error of that mean; nan with fewer than two segments.
     - ``segments``: shape (segments, cells), the curve of each segment.
     - ``unit_seconds``: of a tick or sync period, None where the file doesn't tell.
-    - ``rates``: shape (2,), the photons of the two groups in a unit of time.
+    - ``rates``: shape (2,), the photons of the two groups in a unit of time; ``length``: the units of time of all segments.
     """
 
     ticks: NDArray[np.int64]
@@ -44,6 +45,7 @@ class Curve(Compared):
     segments: NDArray[np.float64]
     unit_seconds: float | None = None
     rates: tuple[float, float] = (0.0, 0.0)
+    length: int = 0
 
     @property
     def seconds(self) -> NDArray[np.float64] | None:
@@ -165,7 +167,35 @@ def correlation_by_segments(
     values, errors = _mean(np.array(curves))
     unit = ticks_of(source).global_seconds
     rates = tuple(float(some.sum()) / (group_of(group).units * segments * length) for some, group in ((one, first), (two, second)))
-    return Curve(ticks, level, values, errors, np.array(curves), unit, (rates[0], rates[1]))
+    return Curve(ticks, level, values, errors, np.array(curves), unit, (rates[0], rates[1]), segments * length)
+
+
+def together(curves: Sequence[Curve]) -> Curve:
+    """One correlation of several measurements of a sample, as of files: the mean of all their segments by their photons.
+
+    A segment counts by the photons of its measurement, the root of the product of both groups, so a long or bright one counts
+    more. The errors are by the scatter of all segments, and with it that of the measurements. The ``segments`` of the result are
+    stretched from the mean by how much they count, so that their own mean and its error are those of the result, as
+    ``fits.fit_fcs`` takes them. Delays are those that all have. Raises ``UnlikeError`` for other lags or another unit of time, and
+    ``ValueError`` without photons.
+    """
+    ticks = min((one.ticks for one in curves), key=len, default=np.zeros(0, np.int64))
+    many = len(ticks)
+    if any(one.unit_seconds != curves[0].unit_seconds or not np.array_equal(one.ticks[:many], ticks) for one in curves):
+        raise UnlikeError("correlations with other lags or another unit of time aren't taken together")
+    photons = [one.length * np.array(one.rates) for one in curves]
+    counts = np.concatenate([np.full(len(one.segments), np.sqrt(np.prod(some)) / len(one.segments)) for one, some in zip(curves, photons)] or [np.zeros(1)])
+    if not counts.sum() > 0:
+        raise ValueError("no photons to correlate")
+    rows = np.concatenate([one.segments[:, :many] for one in curves])
+    weights = np.where(np.isnan(rows), 0.0, counts[:, None])
+    whole, known = weights.sum(axis=0), (weights > 0).sum(axis=0)
+    mean = np.divide((np.nan_to_num(rows) * weights).sum(axis=0), whole, out=np.full(many, np.nan), where=whole > 0)
+    rows = mean + (rows - mean) * np.divide(weights * known, whole, out=np.ones(weights.shape), where=whole > 0)
+    length = sum(one.length for one in curves)
+    rates = np.sum(photons, axis=0) / length
+    values, errors = _mean(rows)
+    return replace(curves[0], ticks=ticks, levels=curves[0].levels[:many], values=values, errors=errors, segments=rows, rates=(float(rates[0]), float(rates[1])), length=length)
 
 
 def _mean(curves: NDArray[np.float64]) -> tuple[NDArray[np.float64], NDArray[np.float64]]:
