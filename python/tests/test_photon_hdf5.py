@@ -13,7 +13,7 @@ import pytest
 from conftest import ROOT
 
 import ptulab
-from ptulab.groups import Alternated, Group
+from ptulab.groups import Alternated, EventsLike, Group
 from ptulab.photon_hdf5 import Setup, read_photon_hdf5, write_photon_hdf5
 
 ALWAYS = {
@@ -68,7 +68,7 @@ def stream(make_file: Callable[..., Path]) -> ptulab.Events:
     return ptulab.read_events(make_file("HydraHarpT2", some, tick=1e-8))
 
 
-def written(events: ptulab.Events, path: Path, **more: Any) -> dict[str, Any]:
+def written(events: EventsLike, path: Path, **more: Any) -> dict[str, Any]:
     """The fields of the file that is written, by their places."""
     write_photon_hdf5(events, path, description="some molecules", **more)
     found: dict[str, Any] = {}
@@ -105,6 +105,22 @@ def test_donor_acceptor_and_laser_of_pulses_are_told(molecules: ptulab.Events, t
     assert found[specs + "laser_repetition_rate"] == pytest.approx(1e7) and found["setup/laser_repetition_rates"] == pytest.approx([1e7, 1e7])
     assert found["setup/excitation_cw"].tolist() == [0, 0] and found["setup/excitation_alternated"].tolist() == [1, 1]
     assert (found["setup/modulated_excitation"], found["setup/lifetime"], found["setup/num_spectral_ch"]) == (1, 1, 2)
+
+
+def test_a_path_is_read_in_pieces_to_the_same_file(make_file: Callable[..., Path], tmp_path: Path, monkeypatch: pytest.MonkeyPatch) -> None:
+    """As its events are; with the part that is done."""
+    monkeypatch.setattr("ptulab.groups.PIECE", 700)
+    monkeypatch.setattr("ptulab.photon_hdf5.PIECE", 700)
+    monkeypatch.setattr("ptulab.photon_hdf5.CHUNK", 300)
+    draws = np.random.default_rng(11)
+    photons = [(int(t), int(n), int(d)) for t, n, d in zip(np.sort(draws.integers(0, 10**6, 5000)), draws.integers(0, 4, 5000), draws.integers(0, 2000, 5000))]
+    for kind, resolution in (("MultiHarpT3", 50e-12), ("HydraHarp2T2", None)):
+        path, parts = make_file(kind, photons[:4000] + [(photons[3999][0], made.Bits(1)), (max(0, photons[3999][0] // 1024 * 1024), 1, 7)] + photons[4000:], tick=100e-9, resolution=resolution), []
+        whole = written(ptulab.read_events(path), tmp_path / "one.h5", filename="data.ptu", group=[1, 2])
+        pieces = written(path, tmp_path / "two.h5", filename="data.ptu", group=[1, 2], progress=parts.append)
+        assert whole.keys() == pieces.keys() and len(whole["photon_data/timestamps"]) > 2000
+        assert all(np.array_equal(whole[name], pieces[name]) and whole[name].dtype == pieces[name].dtype for name in whole if name not in ("identity/filename", "identity/creation_time"))
+        assert parts == sorted(parts) and len(parts) > 14 and parts[-1] == 1.0
 
 
 def test_lasers_that_are_switched_are_told(stream: ptulab.Events, tmp_path: Path) -> None:

@@ -4,17 +4,18 @@ import functools
 import logging
 import math
 import os
-from collections.abc import Collection, Iterator, Sequence
+from collections.abc import Callable, Collection, Iterator, Sequence
 from dataclasses import dataclass
 from datetime import datetime, timezone
 from pathlib import Path
-from typing import Any, Literal
+from typing import Any, Literal, NamedTuple
 
 import numpy as np
+from numpy.typing import NDArray
 
 from .errors import NotKnownError
 from .events import LATE, Events, Records
-from .groups import Alternated, Group, GroupLike, photons_of
+from .groups import PIECE, Alternated, EventsLike, Group, GroupLike, group_of, header_of, pieces_of
 from .headers import Header
 from ._optional import want
 from ._versions import __version__
@@ -26,6 +27,8 @@ log = logging.getLogger(__name__)
 
 PHOTON_HDF5 = "0.5"  # the version of the specification
 FORMAT_URL = "http://photon-hdf5.org/"
+CHUNK = 1 << 16  # photons that are packed together; eight bytes of each are within HDF5's cache
+LOOK = 0.2  # of all that is done, the part in which it is looked what photons there are
 
 
 @dataclass(frozen=True)
@@ -96,8 +99,29 @@ class Setup:
         return max(1, len(self.excitation), len(self.repetition_rates), len(self.excitation_wavelengths))
 
 
+class _Photons(NamedTuple):
+    """What the photons of a group are, all together."""
+
+    header: Header
+    counts: NDArray[np.int64]  # by inputs
+    deepest: int  # dtime
+    stop: int  # behind the last event that isn't late, of any group
+
+    @property
+    def inputs(self) -> NDArray[np.uint8]:
+        """Those that have photons."""
+        return np.flatnonzero(self.counts).astype(np.uint8)
+
+
+class _Column(NamedTuple):
+    """A field with a number for each photon, which is filled in piece by piece."""
+
+    type: type[np.integer[Any]]
+    many: int
+
+
 def write_photon_hdf5(
-    events: Events,
+    events: EventsLike,
     path: str | os.PathLike[str],
     *,
     description: str,
@@ -106,34 +130,66 @@ def write_photon_hdf5(
     affiliation: str = "",
     group: GroupLike = None,
     filename: str = "",
+    progress: Callable[[float], None] | None = None,
 ) -> None:
     """The photons of a group that aren't late as a Photon-HDF5 file of one spot.
 
     Fields and units are those of the public specification, version 0.5 (Ingargiola, Laurence, Boutelle, Weiss and
     Michalet, Biophysical Journal 110, 26, 2016): ``timestamps`` in units of ``timestamps_unit`` seconds, of T3 the sync
     periods, ``detectors`` the inputs, and of T3 ``nanotimes`` in units of ``tcspc_unit`` seconds. Markers aren't written.
-    ``setup``: what the measurement was, by default a "generic" one of one spectral channel. ``filename``: of the file the
-    events were read from. Raises ``ValueError`` for photons of inputs that have no channel and times that no laser has,
-    ``NotKnownError`` where the header doesn't tell the seconds of a tick, and ``MissingLibraryError`` without h5py.
+    ``events``: also the path of a PTU file, which is read twice, in the memory of a piece. ``setup``: what the measurement was,
+    by default a "generic" one of one spectral channel. ``filename``: of the file the events were read from. ``progress`` is
+    called with the part that is done. Raises ``ValueError`` for photons of inputs that have no channel and times that no laser
+    has, ``NotKnownError`` where the header doesn't tell the seconds of a tick, and ``MissingLibraryError`` without h5py.
     """
     h5py = want("h5py", "Photon-HDF5")
-    setup = Setup() if setup is None else setup
-    unit, photons = _positive(events.header.global_seconds), photons_of(events, group)
-    times = events.times[~events["late"]]
+    setup, chosen, said = Setup() if setup is None else setup, group_of(group), progress or (lambda part: None)
+    unit = _positive(header_of(events).global_seconds)
+    photons = _looked_at(events, chosen, lambda part: said(LOOK * part))
     tree = {
-        "acquisition_duration": float(times.max() + 1) * unit if len(times) else 0.0,
+        "acquisition_duration": photons.stop * unit,
         "description": description,
         "photon_data": _photon_data(photons, setup),
         "setup": _setup(photons, setup),
         "identity": _identity(author, affiliation, Path(path).name),
     }
-    if provenance := _provenance(events, filename):
+    if provenance := _provenance(photons.header, filename):
         tree["provenance"] = provenance
     with whole_path(path) as part, h5py.File(part, "w") as file:
         title = "Photon-HDF5: A file format for photon-counting detector based single-molecule spectroscopy experiments."
         _put(file, "", tree, title)
         for name, text in (("format_name", "Photon-HDF5"), ("format_version", PHOTON_HDF5), ("format_url", FORMAT_URL)):
             file.attrs[name] = np.bytes_(text.encode())
+        _fill(file["photon_data"], events, chosen, lambda part: said(LOOK + (1 - LOOK) * part))
+
+
+def _pieces(events: EventsLike, said: Callable[[float], None]) -> Iterator[Events]:
+    """The pieces of a source; each that is done with is said."""
+    whole = max(1, len(events) if isinstance(events, Events | np.ndarray) else header_of(events).records)
+    for number, piece in enumerate(pieces_of(events), 1):
+        yield piece
+        said(min(1.0, number * PIECE / whole))
+
+
+def _looked_at(events: EventsLike, group: Group, said: Callable[[float], None]) -> _Photons:
+    counts, deepest, stop = np.zeros(256, np.int64), 0, 0
+    for piece in _pieces(events, said):
+        mine = group.mask(piece)
+        counts += np.bincount(piece.numbers[mine], minlength=256)
+        deepest = max(deepest, int(piece.dtimes[mine].max(initial=0)))
+        stop = max(stop, int(piece.times[~piece["late"]].max(initial=-1)) + 1)
+    return _Photons(header_of(events), counts, deepest, stop)
+
+
+def _fill(data: Any, events: EventsLike, group: Group, said: Callable[[float], None]) -> None:
+    """Puts the photons into their fields."""
+    at = 0
+    for piece in _pieces(events, said):
+        photons = piece[group.mask(piece)]
+        for name, column in (("timestamps", "time"), ("detectors", "number"), ("nanotimes", "dtime")):
+            if name in data and len(photons):
+                data[name][at : at + len(photons)] = photons[column]
+        at += len(photons)
 
 
 def read_photon_hdf5(path: str | os.PathLike[str], *, spot: int | None = None) -> tuple[Events, Setup]:
@@ -248,17 +304,17 @@ def _positive(seconds: float | None) -> float:
     return seconds
 
 
-def _photon_data(photons: Events, setup: Setup) -> dict[str, Any]:
-    header, bins = photons.header, 0
+def _photon_data(photons: _Photons, setup: Setup) -> dict[str, Any]:
+    header, bins, many = photons.header, 0, int(photons.counts.sum())
     data: dict[str, Any] = {
-        "timestamps": np.ascontiguousarray(photons.times),
+        "timestamps": _Column(np.int64, many),
         "timestamps_specs": {"timestamps_unit": header.global_seconds},
-        "detectors": np.ascontiguousarray(photons.numbers),
+        "detectors": _Column(np.uint8, many),
     }
     if header.mode == "T3":
         period, tick = _positive(header.global_seconds), _positive(header.resolution_seconds)
-        bins = max(round(period / tick), int(photons.dtimes.max(initial=0)) + 1)
-        data["nanotimes"] = photons.dtimes.astype(np.uint16 if photons.dtimes.max(initial=0) < 1 << 16 else np.uint32)
+        bins = max(round(period / tick), photons.deepest + 1)
+        data["nanotimes"] = _Column(np.uint16 if photons.deepest < 1 << 16 else np.uint32, many)
         data["nanotimes_specs"] = {"tcspc_unit": tick, "tcspc_num_bins": bins, "tcspc_range": bins * tick}
     elif setup.kind == "smFRET-nsALEX":
         raise ValueError("smFRET-nsALEX is of T3 files, whose photons have delays")
@@ -266,9 +322,9 @@ def _photon_data(photons: Events, setup: Setup) -> dict[str, Any]:
     return data
 
 
-def _specs(photons: Events, setup: Setup, bins: int) -> dict[str, Any]:
+def _specs(photons: _Photons, setup: Setup, bins: int) -> dict[str, Any]:
     """The type of the measurement, its channels, and when which laser excites."""
-    channels = _channels("spectral", setup.spectral or [np.unique(photons.numbers)], photons)
+    channels = _channels("spectral", setup.spectral or [photons.inputs], photons)
     channels |= _channels("polarization", setup.polarization, photons) if setup.polarization else {}
     specs: dict[str, Any] = {"measurement_type": setup.kind, "detectors_specs": channels}
     if photons.header.mode == "T3":
@@ -285,7 +341,7 @@ def _specs(photons: Events, setup: Setup, bins: int) -> dict[str, Any]:
     return specs | {f"alex_excitation_period{n}": np.array(laser, np.int64).ravel() for n, laser in enumerate(setup.excitation, 1)}
 
 
-def _channels(kind: str, channels: Sequence[Collection[int]], photons: Events) -> dict[str, Any]:
+def _channels(kind: str, channels: Sequence[Collection[int]], photons: _Photons) -> dict[str, Any]:
     """The inputs of each channel. Raises ``ValueError`` where an input with photons is in none, or one is in two."""
     seen: set[int] = set()
     for channel in channels:
@@ -294,20 +350,20 @@ def _channels(kind: str, channels: Sequence[Collection[int]], photons: Events) -
         if not len(channel) and len(channels) > 1:
             raise ValueError(f"a {kind} channel of no input")
         seen |= set(channel)
-    if missing := set(np.unique(photons.numbers).tolist()) - seen:
+    if missing := set(photons.inputs.tolist()) - seen:
         raise ValueError(f"input {min(missing)} is in no {kind} channel: leave its photons out by a group")
     return {f"{kind}_ch{n}": np.array(sorted(channel), np.uint8) for n, channel in enumerate(channels, 1)}
 
 
-def _rates(photons: Events, setup: Setup) -> list[float]:
+def _rates(photons: _Photons, setup: Setup) -> list[float]:
     """The repetition rate of each laser, or none where they are continuous."""
     if photons.header.mode == "T2" or setup.repetition_rates:
         return list(setup.repetition_rates)
     return [1 / _positive(photons.header.global_seconds)] * setup.lasers
 
 
-def _setup(photons: Events, setup: Setup) -> dict[str, Any]:
-    inputs, counts = np.unique(photons.numbers, return_counts=True)
+def _setup(photons: _Photons, setup: Setup) -> dict[str, Any]:
+    inputs = photons.inputs
     rates = _rates(photons, setup)
     told: dict[str, Any] = {
         "num_pixels": max(len(inputs), 1),
@@ -319,7 +375,7 @@ def _setup(photons: Events, setup: Setup) -> dict[str, Any]:
         "excitation_alternated": np.array([bool(setup.excitation)] * setup.lasers, np.int8),
         "excitation_cw": np.array([not rates] * setup.lasers, np.int8),
         "lifetime": photons.header.mode == "T3",
-        "detectors": {"id": inputs, "counts": counts},
+        "detectors": {"id": inputs, "counts": photons.counts[inputs]},
     }
     arrays = {
         "laser_repetition_rates": rates,
@@ -344,11 +400,11 @@ def _identity(author: str, affiliation: str, name: str) -> dict[str, Any]:
     return {field: value for field, value in written.items() if value}
 
 
-def _provenance(events: Events, filename: str) -> dict[str, Any]:
-    created = events.header.created
+def _provenance(header: Header, filename: str) -> dict[str, Any]:
+    created = header.created
     told = {"filename": Path(filename).name, "creation_time": "" if created is None else created.strftime("%Y-%m-%d %H:%M:%S")}
-    told["software"] = str(events.header.tags.get("CreatorSW_Name") or "")
-    told["software_version"] = str(events.header.tags.get("CreatorSW_Version") or "")
+    told["software"] = str(header.tags.get("CreatorSW_Name") or "")
+    told["software_version"] = str(header.tags.get("CreatorSW_Version") or "")
     return {field: value for field, value in told.items() if value}
 
 
@@ -424,9 +480,12 @@ def _put(node: Any, place: str, tree: dict[str, Any], title: str) -> None:
             _put(node.create_group(name), inner, value, said)
             continue
         if isinstance(value, str):
-            value = np.bytes_(value.encode() or b" ")  # HDF5 has no text of no length
+            value = np.bytes_(value.encode(errors="replace") or b" ")  # HDF5 has no text of no length
         elif isinstance(value, bool):
             value = np.int8(value)
-        large = isinstance(value, np.ndarray) and value.size > 1000
-        packed = {"compression": "gzip", "compression_opts": 1, "shuffle": True} if large else {}
-        node.create_dataset(name, data=value, **packed).attrs["TITLE"] = np.bytes_(said.encode())
+        if isinstance(value, _Column):
+            packed = {"compression": "gzip", "compression_opts": 1, "shuffle": True, "chunks": (min(value.many, CHUNK),)} if value.many > 1000 else {}
+            field = node.create_dataset(name, (value.many,), value.type, **packed)
+        else:
+            field = node.create_dataset(name, data=value)
+        field.attrs["TITLE"] = np.bytes_(said.encode())
