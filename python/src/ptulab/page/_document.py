@@ -41,8 +41,9 @@ def script_json(value: Any) -> str:
     return text.replace("&", "\\u0026").replace("<", "\\u003c").replace(">", "\\u003e")
 
 
-def whole_page(title: str, told: Sequence[tuple[str, str]], plan_text: str | None, head: Head, figures: Sequence[Figure], plotly: str) -> str:
-    """The whole document. ``told`` are the lines of the heading, ``plotly`` the library's script."""
+def whole_page(title: str, told: Sequence[tuple[str, str]], plan_text: str | None, head: Head | str, figures: Sequence[Figure], plotly: str) -> str:
+    """The whole document. ``told`` are the lines of the heading, ``plotly`` the library's script, ``head`` that of a report, or
+    the numbers that Python found where there is no report."""
     own = _resource("page.js")
     rules = f"default-src 'none'; img-src data: blob:; style-src 'unsafe-inline'; script-src {_digest(plotly)} {_digest(own)}"
     parts = [
@@ -51,7 +52,7 @@ def whole_page(title: str, told: Sequence[tuple[str, str]], plan_text: str | Non
         '<meta name="viewport" content="width=device-width, initial-scale=1">\n<meta name="color-scheme" content="light dark">',
         f"<title>{escaped(title)}</title>\n<style>\n{_resource('page.css')}</style>\n</head>\n<body>",
         '<a class="skip" href="#figures">To the plots</a>',
-        f"<header>\n<h1>{escaped(title)}</h1>\n{_lines([*told, *_in_short(head)])}{_warnings(head)}{_plan(plan_text)}{_head(head)}</header>",
+        f"<header>\n<h1>{escaped(title)}</h1>\n{_heading(told, plan_text, head)}</header>",
         f'<nav aria-label="Plots"><ul>{"".join(_link(figure) for figure in figures)}</ul></nav>',
         f'<main id="figures" tabindex="-1">\n{"".join(map(_section, figures))}</main>',
         f'<script type="application/json" id="numbers">{script_json([_numbers(figure) for figure in figures])}</script>',
@@ -70,6 +71,12 @@ def _digest(script: str) -> str:
 
 
 # ## The heading
+
+
+def _heading(told: Sequence[tuple[str, str]], plan_text: str | None, head: Head | str) -> str:
+    if isinstance(head, str):
+        return f'{_lines(told)}<h2>Numbers</h2>\n<pre tabindex="0">{escaped(head)}</pre>\n{_plan(plan_text)}'
+    return f"{_lines([*told, *_in_short(head)])}{_warnings(head)}{_plan(plan_text)}{_head(head)}"
 
 
 def _lines(told: Iterable[tuple[str, str]]) -> str:
@@ -205,6 +212,7 @@ def _numbers(figure: Figure) -> dict[str, Any] | None:
         "x": _listed(figure.xs[places]), "y": _listed(figure.ys[places]), "errors": None if figure.errors is None else _listed(figure.errors[places]), "names": figure.names, "xlabel": figure.xlabel,
         "ylabel": figure.ylabel, "xunit": figure.xunit, "yunit": figure.yunit, "xlog": figure.xlog, "shape": figure.shape, "start": figure.start,
         "level": figure.level, "choice": figure.log is not None,
+        "more": [{"label": one.label, "x": _listed(one.xs), "y": _listed(one.ys)} for one in figure.more],
     }
 
 

@@ -28,9 +28,17 @@ SIGNIFICANT = 3.0  # errors that a correlation is from 1 where it counts as seen
 STEADY = 6  # cells that follow with small errors where a correlation begins
 
 
+class Line(NamedTuple):
+    """Another curve in a figure, as of a fit."""
+
+    label: str
+    xs: Floats
+    ys: Floats
+
+
 @dataclass(frozen=True)
 class Curve:
-    """A curve, or bars: x and y in the units that the labels tell, ``errors`` as long as y or None.
+    """A curve, or bars: x and y in the units that the labels tell, ``errors`` as long as y or None; ``more`` are drawn over it.
 
     ``log`` is whether the counts are drawn logarithmic at first, None where that is no choice. ``start`` is the x from
     which the errors are small, None where all are shown, ``level`` a y that is marked, ``names`` those of bars.
@@ -52,6 +60,7 @@ class Curve:
     start: float | None = None
     level: float | None = None
     names: Sequence[str] | None = None
+    more: Sequence[Line] = ()
 
 
 @dataclass(frozen=True)

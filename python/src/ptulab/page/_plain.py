@@ -41,10 +41,16 @@ def _curve(curve: Curve, axes: Any) -> None:
     if curve.names is not None:
         axes.bar(np.arange(len(ys)), ys)
         axes.set_xticks(np.arange(len(ys)), curve.names, rotation=60 if len(ys) > 8 else 0)
+    elif curve.shape == "points":
+        axes.plot(xs, ys, ".", markersize=3)
     elif curve.errors is not None:
         axes.errorbar(xs, ys, curve.errors[places], fmt=".-", markersize=3, linewidth=0.8)
     else:
         axes.plot(xs, np.maximum(ys, 0.5) if curve.log else ys, drawstyle="default" if curve.shape == "linear" else "steps-post", linewidth=1)
+    for one in curve.more:
+        axes.plot(one.xs, one.ys, linewidth=1, label=one.label.replace("$", r"\$"))
+    if curve.more:
+        axes.legend()
     if curve.xlog and len(xs):
         axes.set_xscale("log")
     if curve.log and len(ys) and ys.max() > 0:

@@ -55,8 +55,9 @@
     if (figure.kind === "bars") {
       Object.assign(trace, { type: "bar", textposition: "none" });
     } else {
-      Object.assign(trace, { type: "scatter", mode: figure.errors ? "lines+markers" : "lines",
-        line: { color: colour("curve"), width: 1.6, shape: figure.shape } });
+      const points = figure.shape === "points";
+      Object.assign(trace, { type: "scatter", mode: points ? "markers" : figure.errors ? "lines+markers" : "lines",
+        line: { color: colour("curve"), width: 1.6, shape: points ? "linear" : figure.shape } });
     }
     if (figure.shape === "hv" && !figure.names && figure.x.length > 1) close(trace);
     if (figure.errors) {
@@ -81,7 +82,10 @@
       look.shapes = [{ type: "line", xref: "paper", x0: 0, x1: 1, y0: figure.level, y1: figure.level,
         line: { color: colour("faint"), width: 1, dash: "dot" } }];
     }
-    return [[trace], look];
+    const more = figure.more.map((one) => ({ type: "scatter", mode: "lines", name: plain(one.label), x: one.x, hoverinfo: "skip",
+      y: logarithmic ? one.y.map((y) => (y > 0 ? y : null)) : one.y, line: { color: colour("other"), width: 1.6 } }));
+    look.showlegend = more.length > 0;
+    return [[Object.assign(trace, { name: plain(figure.ylabel) }), ...more], look];
   }
 
   // Steps are drawn to the end of the last bin.
