@@ -70,7 +70,9 @@ class Coincidences(Compared):
 
     def __radd__(self, other: int) -> "Coincidences":
         """So that ``sum`` adds them up, which begins with 0."""
-        return self if isinstance(other, int) and other == 0 else NotImplemented
+        if not isinstance(other, int) or other != 0:
+            return NotImplemented
+        return self
 
     @property
     def _measurements(self) -> tuple[tuple[float, float, int], ...]:
@@ -102,7 +104,7 @@ class Coincidences(Compared):
         FIRST * SECOND / T^2 times the sum of T - |d| over the differences d of the cell, where T is ``length``: so many
         places has a pair of that difference in the measurement. Those of several measurements add up.
         """
-        return np.sum([self._expected(first, second, float(length)) for first, second, length in self._measurements], axis=0)
+        return np.asarray(np.sum([self._expected(first, second, float(length)) for first, second, length in self._measurements], axis=0))
 
     def _expected(self, first: float, second: float, length: float) -> NDArray[np.float64]:
         ends = self._edges - 1.0

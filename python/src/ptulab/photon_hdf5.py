@@ -11,7 +11,7 @@ from pathlib import Path
 from typing import Any, Literal, NamedTuple
 
 import numpy as np
-from numpy.typing import NDArray
+from numpy.typing import DTypeLike, NDArray
 
 from .errors import NotKnownError
 from .events import LATE, Events, Records
@@ -116,7 +116,7 @@ class _Photons(NamedTuple):
 class _Column(NamedTuple):
     """A field with a number for each photon, which is filled in piece by piece."""
 
-    type: type[np.integer[Any]]
+    kind: DTypeLike
     many: int
 
 
@@ -485,7 +485,7 @@ def _put(node: Any, place: str, tree: dict[str, Any], title: str) -> None:
             value = np.int8(value)
         if isinstance(value, _Column):
             packed = {"compression": "gzip", "compression_opts": 1, "shuffle": True, "chunks": (min(value.many, CHUNK),)} if value.many > 1000 else {}
-            field = node.create_dataset(name, (value.many,), value.type, **packed)
+            field = node.create_dataset(name, (value.many,), value.kind, **packed)
         else:
             field = node.create_dataset(name, data=value)
         field.attrs["TITLE"] = np.bytes_(said.encode())
