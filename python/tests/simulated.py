@@ -1,4 +1,4 @@
-"""Small measurements of which the truth is known: a scan of two lifetimes, diffusing molecules, one emitter, and bursts of FRET."""
+"""Small measurements of which the truth is known: a scan of two lifetimes, diffusing molecules, emitters, and bursts of FRET with one laser or two."""
 
 from pathlib import Path
 
@@ -10,6 +10,9 @@ from numpy.typing import NDArray
 SHORT, LONG = 1.2e-9, 3.6e-9  # lifetimes of the left and the right half of the scan
 EFFICIENCY = 0.7
 NUMBER, DIFFUSION = 0.982, 1.25e-3  # molecules in the focus, and seconds that one stays there
+STOICHIOMETRY = 80 / (80 + 60)  # of molecules with both dyes, by the photons of either laser
+SIGNAL, DARK = 0.1, 0.01  # photons of the pulsed emitter, and of the dark, in a detector at each pulse
+PULSED = 1 - SIGNAL**2 / (SIGNAL + DARK) ** 2  # its g2(0), of which only the dark is the reason
 
 
 def scan(path: Path, seed: int = 1) -> Path:
@@ -63,3 +66,43 @@ def bursts(path: Path, seed: int = 4) -> Path:
     inputs = np.where(draws.random(len(light)) < EFFICIENCY, 2, 1)
     dark = draws.uniform(0, 6.1, 1200)
     return _t2(path, np.concatenate([light, dark]), np.concatenate([inputs, draws.integers(1, 3, 1200)]), 1e-8)
+
+
+def lasers(path: Path, seed: int = 5) -> Path:
+    """200 molecules with both dyes and 100 with the donor alone, by pulses of two lasers in turn: the acceptor's comes after 500 ticks of 1000.
+
+    In 2 ms a molecule has 80 photons by the donor's laser, of both dyes 70 % of them of the acceptor, input 2, and of both dyes 60 by
+    the acceptor's own laser; over little background.
+    """
+    draws = np.random.default_rng(seed)
+    begins = np.repeat(4000 * (5 + 10 * np.arange(300)), 140)  # in periods of 0.5 us
+    is_own = np.tile(np.arange(140) >= 80, 300)
+    both = np.repeat(draws.permutation(300) < 200, 140)
+    acceptor = is_own | (both & (draws.random(300 * 140) < EFFICIENCY))
+    kept = both | ~is_own
+    times = (begins + draws.integers(0, 4000, len(begins)))[kept]
+    delays = np.minimum(20 + draws.exponential(40, len(times)).astype(int), 480) + 500 * is_own[kept]
+    photons = np.stack([times, 1 + acceptor[kept], delays], axis=1)
+    dark = np.stack([draws.integers(0, 12_000_000, 1200), draws.integers(1, 3, 1200), draws.integers(0, 1000, 1200)], axis=1)
+    events = np.concatenate([photons, dark])
+    events = events[np.argsort(events[:, 0], kind="stable")]
+    return made.write(path, "HydraHarp2T3", [(time, number, delay) for time, number, delay in events.tolist()], tick=500e-9, resolution=500e-12)
+
+
+def pulsed(path: Path, seed: int = 6) -> Path:
+    """One emitter at 200,000 pulses of 100 ns, with at most one photon of a pulse, before two detectors that also count in the dark."""
+    draws, pulses = np.random.default_rng(seed), 200_000
+    light = draws.random(pulses)
+    clicks = [(light < SIGNAL), (light >= SIGNAL) & (light < 2 * SIGNAL), *(draws.random(pulses) < DARK for _ in range(2))]
+    events = sorted((int(time), place % 2, int(draws.integers(20, 900))) for place, there in enumerate(clicks) for time in np.flatnonzero(there))
+    return made.write(path, "HydraHarp2T3", events, tick=100e-9, resolution=100e-12)
+
+
+def picture(path: Path) -> Path:
+    """A scan without lifetimes, since its header tells no tick of the delay: 8 rows of 8 pixels of 10 periods, where row r and column c have r + c photons."""
+    events: list[tuple[int, ...]] = [(0, Bits(4))]
+    for row in range(8):
+        start = 200 * row + 10
+        photons = [(start + 10 * column + place % 10, 1 + place % 2) for column in range(8) for place in range(row + column)]
+        events += [(start, Bits(1)), *sorted(photons), (start + 80, Bits(2))]
+    return made.write(path, "HydraHarp2T3", events, tick=1e-6)

@@ -346,7 +346,8 @@ def test_a_page_and_a_session_of_a_result(served: Served, folder: Path) -> None:
     assert served.ask("sessions") == {"sessions": ["one"]}
     opened = served.ask("session", name="one")
     begun, names = opened.pop("begun"), opened.pop("names")
-    assert opened == {"analysis": "decay", "settings": {"terms": 1}, "second": None, "file": "decay.ptu", "files": None, "plan": DECAY}
+    view = {"regions": [], "phasors": [], "thresholds": {}}
+    assert opened == {"analysis": "decay", "settings": {"terms": 1}, "second": None, "file": "decay.ptu", "files": None, "plan": DECAY, "view": view}
     assert {"plan.toml", "analysis.py", "analysis.ipynb", "report.txt", "page.html"} <= set(names)
     shown = served.client.get(f"/result/{begun}/shown.json").json()
     assert shown["numbers"] == told["result"]["numbers"] and shown["figures"] == told["result"]["figures"]
@@ -418,6 +419,46 @@ def test_what_a_script_is_told_stays_text(served: Served, folder: Path) -> None:
     told = served.work("run", file=name, plan="[[group]]\ninputs = [1]\n[[trace]]\ngroup = 1\nwidth = 100000\nbins = 20\n", analysis="trace", settings={})
     (folder / name).unlink()
     assert told["result"]["numbers"].startswith("bins: 16\n")
+
+
+def test_a_name_that_is_no_utf_8(served: Served, folder: Path, tmp_path: Path) -> None:
+    """As of an old Windows: listed, looked at, run by the program and by Python, over many files, kept, and opened again; each script prints the same by itself."""
+    name = os.fsdecode(b"m\xfcller.ptu")
+    (folder / name).write_bytes((folder / "pairs.ptu").read_bytes())
+    try:
+        assert name in [one["name"] for one in served.ask("files")["files"]]
+        assert served.work("look", file=name)["result"]["info"]["photons"] == 8000
+        groups = "[[group]]\ninputs = [1]\n[[group]]\ninputs = [2]\n"
+        trace = {"plan": groups + "[[trace]]\ngroup = 1\nwidth = 100000\nbins = 20\n", "analysis": "trace", "settings": {}}
+        asked = [("run", {"file": name, **trace}), ("many", {"files": [name, "pairs.ptu"], **trace}),
+                 ("run", {"file": name, "plan": groups, "analysis": "correlation", "settings": {"segments": 3}})]  # fmt: skip
+        for place, (kind, words) in enumerate(asked):
+            told = served.work(kind, **words)
+            assert "result" in told, told
+            script, numbers = ("analysis.py", told["result"]["numbers"]) if kind == "run" else ("many.py", told["result"]["numbers"].split("== the sum")[0])
+            assert printed(served, told["begun"], script, tmp_path / str(place)) == numbers
+            assert served.ask("keep", result=told["begun"], name=f"odd {place}") == {"folder": f"ptulab-sessions/odd {place}"}
+            assert served.ask("session", name=f"odd {place}")["file"] == name
+            if kind == "run":
+                assert "photons.hdf5" in served.work("photons", result=told["begun"])["result"]["files"]
+            else:
+                assert told["result"]["table"]["rows"][0][0] == "m\ufffdller.ptu"
+        for odd in ("\ud800.ptu", "\udcfc.ptu"):
+            assert served.client.post("/api/look", content=json.dumps({"file": odd})).status_code == 404
+    finally:
+        (folder / name).unlink()
+        shutil.rmtree(folder / "ptulab-sessions", ignore_errors=True)
+
+
+def printed(served: Served, result: str, name: str, here: Path) -> str:
+    """What a script of a result prints by itself, in another folder, in a strict encoding."""
+    here.mkdir()
+    for copied in {name, "analysis.py", "plan.toml"}:
+        (here / copied).write_bytes(served.client.get(f"/result/{result}/{copied}").content)
+    source = str(Path(ptulab.__file__).resolve().parents[1])
+    done = subprocess.run([sys.executable, name], cwd=here, capture_output=True, check=False, env=os.environ | {"PYTHONPATH": source, "PYTHONIOENCODING": "utf-8:strict"})
+    assert done.returncode == 0, done.stderr
+    return done.stdout.decode()
 
 
 def test_little_memory_gets_a_line(folder: Path, program: str, tmp_path: Path) -> None:
@@ -544,7 +585,7 @@ def unpacked(packed: dict[str, str]) -> Any:
 def test_what_a_result_has_not_is_said(served: Served) -> None:
     groups = "[[group]]\ninputs = [1]\n\n[[group]]\ninputs = [2]\n"
     told = served.work("run", file="pairs.ptu", plan=groups, analysis="correlation", settings={"segments": 3})
-    for kind, said in (("page", "has no report of the program"), ("images", "has no report of the program"), ("region", "has no lifetime image")):
+    for kind, said in (("images", "has no report of the program"), ("region", "has no lifetime image")):
         assert said in served.work(kind, result=told["begun"], regions=[], threshold=0)["error"]
     trace = "[[group]]\ninputs = [1]\n\n[[trace]]\ngroup = 1\nwidth = 1000\nbins = 2000\n"
     told = served.work("run", file="pairs.ptu", plan=trace, analysis="trace", settings={"from_seconds": 0.0005, "to_seconds": 0.001})
@@ -573,6 +614,26 @@ def test_the_notebook_prints_the_same(folder: Path, tmp_path: Path) -> None:
     source = str(Path(ptulab.__file__).resolve().parents[1])
     done = subprocess.run([sys.executable, "-c", cells[1]["source"]], cwd=tmp_path, capture_output=True, text=True, check=False, env=os.environ | {"PYTHONPATH": source})
     assert done.stdout == told["numbers"] == "".join(cells[1]["outputs"][0]["text"]), done.stderr
+
+
+def test_a_session_keeps_regions_thresholds_and_what_was_held(served: Served, folder: Path) -> None:
+    """And refuses what is none, from a page as from a session that someone else wrote."""
+    held = {"terms": 1, "fit": {"background": [2.0, True]}}
+    told = served.work("run", file="decay.ptu", plan=DECAY, analysis="decay", settings=held)
+    corners = [[0.0, 0.0], [2.5, 0.0], [2.5, 4.25]]
+    view = {"regions": [corners], "phasors": [corners, corners], "threshold": 95, "thresholds": {"cube-1-image": 3, "cube-1-delays": 95}}
+    assert served.ask("keep", result=told["begun"], name="seen", view=view) == {"folder": "ptulab-sessions/seen"}
+    opened = served.ask("session", name="seen")
+    assert (opened["view"], opened["settings"]) == (view, held)
+    odd: list[Any] = [[], 3, {"regions": 1}, {"regions": [corners] * 17}, {"phasors": [[["x", 1]] * 3]}, {"thresholds": []}, {"thresholds": {"a b": 1}}, {"thresholds": {"a": 1.5}},
+                      {"thresholds": {"a": -1}}, {"threshold": True}, {"threshold": None}, {"thresholds": {f"a{at}": 1 for at in range(65)}}]  # fmt: skip
+    for one in odd:
+        assert served.ask("keep", result=told["begun"], name="odd", view=one).keys() == {"error"}, one
+        session = json.loads((folder / "ptulab-sessions" / "seen" / "session.json").read_text())
+        (folder / "ptulab-sessions" / "seen" / "session.json").write_text(json.dumps(session | {"view": one}))
+        assert served.ask("session", name="seen").keys() == {"error"}, one
+    assert not (folder / "ptulab-sessions" / "odd").exists()
+    shutil.rmtree(folder / "ptulab-sessions" / "seen")
 
 
 def test_a_session_brings_no_links_and_no_other_files(served: Served, folder: Path) -> None:
@@ -739,6 +800,34 @@ def test_a_huge_file_tells_how_far_it_is_and_can_be_stopped(served: Served, fold
     finally:
         huge.unlink()
     assert "pairs.ptu" in [one["name"] for one in served.ask("files")["files"]]
+
+
+def test_photons_of_a_long_file_take_little_memory_and_can_be_stopped(program: str, tmp_path: Path) -> None:
+    """128 MiB of photons at one time; as events they would take three times the memory that there is."""
+    h5py = pytest.importorskip("h5py", reason="python3-h5py isn't on this machine")
+    made.write(tmp_path / "long.ptu", "HydraHarp2T3", [], tick=1e-7, resolution=1e-10)
+    os.truncate(tmp_path / "long.ptu", 1 << 27)
+    one = Served(tmp_path, tmp_path / "results", program, megabytes=150)
+    try:
+        trace = "[[group]]\ninputs = [0]\n[[trace]]\ngroup = 1\nwidth = 10\nbins = 9\n"
+        run = one.work("run", file="long.ptu", plan=trace, analysis="trace", settings={})
+        there = tmp_path / "results" / run["begun"]
+        names = {path.name for path in there.iterdir()}
+        with one.client.stream("POST", "/api/photons", content=json.dumps({"result": run["begun"]})) as begun_here:
+            told = (json.loads(line) for line in begun_here.iter_lines() if line.strip())
+            line = next(line for line in told if line.get("progress", 0) and line["progress"] > 0.3)
+            assert line["words"] == "writes the photons" and line["progress"] < 1 and len(list(there.glob(".ptulab-*"))) == 1
+            process = jobs_of(one).process
+            begun_here.close()
+        assert gone(process)
+        while jobs_of(one).waiting:
+            time.sleep(0.02)
+        assert {path.name for path in there.iterdir()} == names
+        assert "photons.hdf5" in one.work("photons", result=run["begun"])["result"]["files"]
+        with h5py.File(there / "photons.hdf5") as file:
+            assert len(file["photon_data/timestamps"]) == len(file["photon_data/nanotimes"]) == ptulab.read_header(tmp_path / "long.ptu").records > 3e7
+    finally:
+        one.end()
 
 
 def test_a_file_that_grows_or_is_cut_meanwhile_ends_nothing(served: Served, folder: Path) -> None:

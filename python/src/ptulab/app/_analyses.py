@@ -16,8 +16,9 @@ import numpy as np
 from .._looks import Look
 from .._versions import __version__
 from ..events import UNKNOWN
+from ..page import _header as header_of
 from ..page._figures import Picture
-from ..plans import SIDE, bins_of_pixel, plan_of
+from ..plans import SIDE, _of_all, bins_of_pixel, plan_of
 from ._figures import Drawn, curve, drawn, figure, of_report, phasor_plane, units_of_second, with_curve
 
 Names = Mapping[str, Any]  # of a script that ran
@@ -172,8 +173,8 @@ def _proposal(one: Analysis, seen: Look, text: str) -> dict[str, Any]:
     if reason:
         return told | {"plan": "", "settings": []}
     plan = _of_kinds(text, one.kinds) + (_fold(seen) if one.name == "patterns" else "")
-    if one.name == "image" and "[[cube]]" not in plan:
-        plan += _scan_of_marks(seen)
+    if one.kinds in (("image",), ("cube",)) and f"[[{one.kinds[0]}]]" not in plan:
+        plan += _scan_of_marks(seen, one.kinds[0])
     if re.search(r"^\[\[(cube|fold)\]\]", plan, re.M) and "version" not in plan:
         plan = f"version = 2\n\n{plan}"
     return told | {"plan": plan, "settings": [asdict(setting) for setting in one.all_settings(seen)]}
@@ -281,7 +282,7 @@ print(f"median of their phasors: g {{measured(np.median(known.real))}}, s {{meas
 
 
 def _draw_image(names: Names) -> list[Drawn]:
-    photons, delays = of_report(names["report"], "cube", 1, names["ptulab"].read_header(names["file"]))[:2]
+    photons, delays = of_report(names["report"], "cube", 1, header_of(_file_of(names)))[:2]
     whole = of_report(names["report"], "cube", 1)[2]
     assert isinstance(delays, Picture)
     values = names["delays"] * 1e9
@@ -291,6 +292,28 @@ def _draw_image(names: Names) -> list[Drawn]:
         delays = Picture(delays.name, delays.title, told, names["photons"], values, "mean delay (ns)", "ns", 1, names["threshold"], delays.colours, delays.micrometres)
     plane = phasor_plane(names["points"], names["report"].head.global_seconds, names["cube"].seconds)
     return [drawn(photons), drawn(delays), plane, *_draw_fit(drawn(whole), names["fit"])]
+
+
+def _light(document: Names, settings: Settings, second: str | None) -> str:
+    return f"""{REPORT}image = report.table("image", 1)
+often, edges = np.histogram(image.counts, bins=min(64, int(np.ptp(image.counts)) + 1))
+row, column = np.unravel_index(image.counts.argmax(), image.counts.shape)
+print(f"photons in the picture: {{image.counts.sum():,}}")
+print(f"mean: {{image.counts.mean():.5g}} photons in a pixel")
+print(f"the most: {{image.counts.max():,}} photons at column {{column}}, row {{row}}")
+curves = {{"pixels": {{"photons": edges[:-1], "pixels": often}}}}
+"""
+
+
+def _draw_light(names: Names) -> list[Drawn]:
+    often = figure("pixels", "How many pixels have how many photons", "The histogram of the picture.",
+                   ("photons in a pixel", "photons"), ("pixels", "pixels"), [curve("pixels", names["edges"][:-1], names["often"])])
+    return [*map(drawn, of_report(names["report"], "image", 1, header_of(_file_of(names)))), often]
+
+
+def _file_of(names: Names) -> str:
+    """The file that a script was of, or the first of many."""
+    return str(names["file"] if "file" in names else names["files"][0])
 
 
 # ## Light over the time, and correlations
@@ -395,10 +418,17 @@ def _draw_pulsed(names: Names) -> list[Drawn]:
 def _bursts(document: Names, settings: Settings, second: str | None) -> str:
     numbers = [settings["donor"], settings["acceptor"], *([settings["own"]] if settings["own"] else [])]
     groups = ", ".join(_group(document, number) for number in numbers)
-    return f"""photons = photons_of(file)
+    return f"""groups = {groups}
 rate = {settings['rate']!r} * 1e3
-bursts = fused(find_bursts(photons["time"], rate, minimum={settings['minimum']}, m={settings['m']}, unit_seconds=photons.header.global_seconds))
-counted = [photons_in(bursts, photons, group) for group in ({groups},)]
+
+
+def found_in(file):
+    photons = photons_of(file)
+    bursts = fused(find_bursts(photons["time"], rate, minimum={settings['minimum']}, m={settings['m']}, unit_seconds=photons.header.global_seconds))
+    return bursts, *(photons_in(bursts, photons, group) for group in groups)
+
+
+bursts, *counted = found_in(file)
 result = fret(*counted, gamma={settings['gamma']!r})
 known = ~np.isnan(result.E)
 print(f"bursts: {{len(bursts):,}}")
@@ -409,6 +439,8 @@ counts, edges = result.histogram(bins=48)
 curves = {{"efficiency": {{"E": edges[:-1], "bursts": counts}}, "bursts": {{"start": bursts["start"], "stop": bursts["stop"], "E": result.E}}}}
 if result.S is not None:
     curves["bursts"]["S"] = result.S
+    known = ~np.isnan(result.S)
+    print(f"mean of S: {{result.S[known].mean():.4g}}, standard deviation {{result.S[known].std():.3g}}" if known.any() else "no S is known")
 """
 
 
@@ -447,14 +479,18 @@ curves = {{"patterns": {{"groups": [' and '.join(map(str, groups)) for groups in
 
 
 def _scanned(seen: Look) -> str:
-    wanting = _only("T3", "pixels have delays after the sync")(seen)
-    if not wanting and "[[cube]]" not in str(plan_of(seen)) and not _scan_of_marks(seen):
-        return "neither its header nor its markers tell of the lines of a scan"
-    return wanting
+    return _only("T3", "pixels have delays after the sync")(seen) or _has_lines(seen)
 
 
-def _scan_of_marks(seen: Look) -> str:
-    """A cube by the markers alone, where the header tells of no scan: as many columns as there are lines in a frame."""
+def _has_lines(seen: Look) -> str:
+    if seen.header.mode != "T3":
+        return f"pixels are counted by sync periods: this is a {seen.header.mode} file, and it takes T3"
+    there = re.search(r"\[\[(image|cube)\]\]", str(plan_of(seen))) or _scan_of_marks(seen, "image")
+    return "" if there else "neither its header nor its markers tell of the lines of a scan"
+
+
+def _scan_of_marks(seen: Look, kind: str) -> str:
+    """An image or a cube by the markers alone, where the header tells of no scan: as many columns as there are lines in a frame."""
     counts = seen.bits
     lines = [bit for bit, count in counts.items() if 2 * count > max(counts.values())]
     begins = {bit: int(seen.marks[0][seen.marks[1] & 1 << (bit - 1) != 0][0]) for bit in lines}
@@ -465,9 +501,10 @@ def _scan_of_marks(seen: Look) -> str:
     height = round(counts[line] / counts[frame]) if frame else counts.get(line, 0)
     if length is None or not 2 <= height <= SIDE or length < height:
         return ""
-    keys = {"group": 1, "width": height, "height": height, "dwell": round(length / height), "line": line, "frame": frame, "stop": stop}
-    said = f"\n# a guess by the markers, {height} lines in a frame: the header tells of no pixels; put the scan's own width here\n[[cube]]\n"
-    return said + "".join(f"{key} = {value}\n" for key, value in (keys | bins_of_pixel(seen, height * height)).items() if value)
+    keys = {"group": _of_all(seen), "width": height, "height": height, "dwell": round(length / height), "line": line, "frame": frame, "stop": stop}
+    keys |= bins_of_pixel(seen, height * height) if kind == "cube" else {}
+    said = f"\n# a guess by the markers, {height} lines in a frame: the header tells of no pixels; put the scan's own width here\n[[{kind}]]\n"
+    return said + "".join(f"{key} = {value}\n" for key, value in keys.items() if value)
 
 
 def _ticks_known(seen: Look) -> str:
@@ -488,6 +525,8 @@ ANALYSES = {
         Analysis("image", "Lifetime image", "A picture of the scan, with the mean delay of the photons of each pixel.",
                  _scanned, ("cube",), _fits(Setting("threshold", "Photons that a pixel must have (0: a tenth of the brightest)", 0, 0, 1e9)),
                  _image, _draw_image, f"{NUMPY}\nfrom ptulab import fits, phasors", fits=True),
+        Analysis("light", "Image of the light", "A picture of the scan: how many photons each pixel has.", _has_lines, ("image",),
+                 lambda seen: [], _light, _draw_light, NUMPY),
         Analysis("trace", "Light over the time", "The light of the group over the measurement, and how often it was how bright.",
                  _ticks_known, ("trace",), lambda seen: [Setting("number", "Trace of the plan", 1, 1, 32)], _trace, _draw_trace, NUMPY),
         Analysis("correlation", "Correlation (FCS)", "How long a molecule stays in the focus, and how many are there: the curve falls where they leave it.",

@@ -13,7 +13,7 @@ from numpy.typing import NDArray
 
 from ..first_look import Info
 from ..page._document import packed
-from ..page._figures import POINTS, Figure, Picture, figures_of, limits_of
+from ..page._figures import POINTS, Curve, Figure, Line, Picture, figures_of, limits_of
 from ..phasors import phasor_of_lifetime
 
 Floats = NDArray[np.float64]
@@ -54,6 +54,20 @@ def of_report(report: Any, kind: str, number: int = 1, header: Any = None) -> li
 def with_curve(one: Drawn, label: str, xs: NDArray[Any], ys: NDArray[Any]) -> Drawn:
     """The same figure with another curve, as of a fit."""
     return one | {"curves": [*one["curves"], curve(label, xs, ys, shape="linear")]}
+
+
+def for_page(one: Drawn) -> Curve:
+    """The same curves as a figure of a page."""
+    same = {key: one[key] for key in ("name", "title", "summary", "xlabel", "ylabel", "xunit", "yunit", "xlog", "log", "start", "level", "names")}
+    if not one["curves"]:
+        return Curve(**same, xs=np.zeros(0), ys=np.zeros(0))
+    lines = [Line(each["label"], _numbers(each["x"]), _numbers(each["y"])) for each in one["curves"]]
+    first, errors = lines[0], one["curves"][0]["errors"]
+    return Curve(**same, xs=first.xs, ys=first.ys, errors=None if errors is None else _numbers(errors), shape=one["curves"][0]["shape"], more=lines[1:])
+
+
+def _numbers(listed: Sequence[float | None]) -> Floats:
+    return np.array(listed, np.float64)  # where there is none nan
 
 
 def units_of_second(one: Drawn) -> float:

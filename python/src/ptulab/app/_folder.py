@@ -1,4 +1,7 @@
-"""The files that the window may see: the PTU files within one folder, where links lead too."""
+"""The files that the window may see: the PTU files within one folder, where links lead too.
+
+A name that isn't UTF-8 is a text as Python has it, with a lone surrogate for each odd byte; JSON, and with it the page, keep that.
+"""
 
 from __future__ import annotations
 
@@ -12,6 +15,11 @@ LONGEST = 1024  # letters of a name
 
 class NotHere(PtulabError, LookupError):
     """No such file is within the folder."""
+
+
+def named(path: str | os.PathLike[str]) -> str:
+    """The name of a file, to be printed: with U+FFFD for what isn't UTF-8."""
+    return os.fsencode(os.path.basename(os.fspath(path))).decode("utf-8", "replace")
 
 
 class Folder:
@@ -37,7 +45,10 @@ class Folder:
         """The real path of a file by its name. Raises ``NotHere`` for all else than a regular PTU file within the folder."""
         if not isinstance(name, str) or "\0" in name or not 0 < len(name) <= LONGEST or os.path.isabs(name):
             raise NotHere("there is no such file in the folder")
-        real = os.path.realpath(os.path.join(self.root, name))
+        try:
+            real = os.path.realpath(os.path.join(self.root, name))
+        except UnicodeEncodeError:  # of surrogates that stand for no byte
+            raise NotHere("there is no such file in the folder") from None
         if not self._is_here(real) or not self._is_ptu(real):
             raise NotHere("there is no such file in the folder")
         return real

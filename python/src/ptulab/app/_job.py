@@ -57,9 +57,15 @@ class Work:
         """So many bytes were looked at, before the program counts them."""
         self.done = WORDS * size / self.size
 
+    def has_done(self, part: float) -> None:
+        """Such a part of the work is done."""
+        self.done = part
+
     def goes_on_with(self, number: int, many: int, path: str) -> None:
         """Begins with one of many files."""
-        self.path, self.size = path, max(1, os.path.getsize(path))
+        self.path, self.size = path, 1
+        with contextlib.suppress(OSError):  # of a file that vanished meanwhile, which the script says
+            self.size = max(1, os.path.getsize(path))
         self.begin, self.end = number / many, (number + 1) / many
         self.done, self.words = self.begin, f"file {number + 1} of {many}"
 
@@ -163,20 +169,19 @@ def _shown(folder: Path, told: dict[str, Any]) -> dict[str, Any]:
 
 def files_of(folder: Path) -> list[str]:
     """The files of a result that are handed out."""
-    return sorted(path.name for path in folder.iterdir() if path.name != SHOWN)
+    return sorted(path.name for path in folder.iterdir() if path.name != SHOWN and not path.name.startswith("."))
 
 
 def region(work: Work) -> Any:
     """The decays of regions of a result's image and of its phasors."""
     from ._analyses import ANALYSES, settings_of
     from ._figures import write_curves
-    from ._more import draw_regions, painted, region_script, regions_of
+    from ._more import draw_regions, painted, region_script
+    from ._view import regions_of, threshold_of
 
-    folder, threshold = Path(work.request["out"]), work.request["threshold"]
+    folder, threshold = Path(work.request["out"]), threshold_of(work.request["threshold"])
     if not _is_report(folder) or "cube" not in (folder / "plan.toml").read_text("utf-8"):
         raise ValueError("this result has no lifetime image, so it has no regions")
-    if not isinstance(threshold, int) or isinstance(threshold, bool) or not 0 <= threshold < 1 << 63:
-        raise ValueError("a threshold is a whole number of photons")
     given = {word: value for word, value in work.request["settings"].items() if word in ("terms", "after", "threshold")}
     pixels, of_phasors = regions_of(work.request["regions"], work.request["phasors"])
     script = region_script(pixels, of_phasors, settings_of(ANALYSES["image"], given), threshold)
@@ -205,6 +210,7 @@ def many(work: Work) -> Any:
     """The same analysis over many files: a table of their numbers, and the same of their sum."""
     import csv
 
+    from ..errors import PtulabError
     from ._analyses import analysis_of
     from ._more import many_script, results_of, sum_script
 
@@ -216,15 +222,17 @@ def many(work: Work) -> Any:
     heads, rows = results_of(numbers)
     with open(folder / "results.csv", "w", encoding="utf-8", errors="surrogateescape", newline="") as out:
         csv.writer(out, lineterminator="\n").writerows([heads, *rows])
-    figures: list[Any] = []
-    names: dict[str, Any] = {}
-    if whole := sum_script(script, files):
-        work.done, work.words = len(files) / (len(files) + 1), "counts the sum"
-        (folder / "sum.py").write_text(whole, "utf-8", errors="surrogateescape")
-        names, more = _ran(folder, "sum.py")
-        figures, numbers = analysis.draw(names), f"{numbers}== the sum of {len(files)} files\n{more}"
+    work.done, work.words = len(files) / (len(files) + 1), "counts the sum"
+    (folder / "sum.py").write_text(sum_script(script, files), "utf-8", errors="surrogateescape")
+    names, printed = {}, io.StringIO(f"{numbers}== the sum of {len(files)} files\n")
+    printed.seek(0, os.SEEK_END)
+    try:
+        names, _ = _ran(folder, "sum.py", printed)
+    except (PtulabError, OSError, ValueError, SystemExit) as error:  # of the sum alone: what was found of each file stays
+        printed.write(f"no sum: {_said(error, work.request)}\n")
+    numbers = printed.getvalue()[:ENOUGH]
     _written(folder, names, numbers)
-    return _shown(folder, {"figures": figures, "numbers": numbers, "script": script, "table": {"heads": heads, "rows": rows}})
+    return _shown(folder, {"figures": analysis.draw(names) if names else [], "numbers": numbers, "script": script, "table": {"heads": heads, "rows": rows}})
 
 
 def _is_report(folder: Path) -> bool:
@@ -232,12 +240,17 @@ def _is_report(folder: Path) -> bool:
 
 
 def page(work: Work) -> Any:
-    """The page of a result's report."""
+    """The page of a result: of its report, or of what Python counted."""
     from ..page import write_page
     from ..program import find_program
+    from ._analyses import analysis_of
+    from ._more import write_numbers
 
     folder = Path(work.request["out"])
-    write_page(_report(folder), folder / "page.html", file=work.path, plan=folder / "plan.toml", program=find_program())
+    if _is_report(folder):
+        write_page(_report(folder), folder / "page.html", file=work.path, plan=folder / "plan.toml", program=find_program())
+    else:
+        write_numbers(folder, json.loads((folder / SHOWN).read_text("utf-8")), analysis_of(work.request["analysis"]).title, work.path)
     return {"files": files_of(folder)}
 
 
@@ -263,8 +276,8 @@ def photons(work: Work) -> Any:
     """The photons of a result's file as Photon-HDF5."""
     from ._more import write_photons
 
-    folder = Path(work.request["out"])
-    write_photons(folder, work.path, os.path.basename(work.path), work.request["settings"])
+    folder, work.words = Path(work.request["out"]), "writes the photons"
+    write_photons(folder, work.path, work.request["settings"], work.has_done)
     return {"files": files_of(folder)}
 
 
@@ -342,7 +355,7 @@ def _said(error: BaseException, request: Request) -> str:
     if isinstance(error, OSError) and not isinstance(error, PtulabError):
         return f"{os.path.basename(str(error.filename or request['path']))}: {error.strerror or error}"
     text = " ".join(str(error).split()) or type(error).__name__
-    text = text if isinstance(error, PtulabError | ValueError) else f"{type(error).__name__}: {text}"
+    text = text if isinstance(error, PtulabError | ValueError | SystemExit) else f"{type(error).__name__}: {text}"
     for path in (request["path"], request.get("second") or "", *request.get("files", ())):
         text = text.replace(path, os.path.basename(path)) if path else text
     return text

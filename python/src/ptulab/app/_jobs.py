@@ -133,6 +133,8 @@ class Jobs:
                 if self.process is not None:
                     _killed(self.process)
                 self.process = None
+                for left in Path(request["out"]).glob(".ptulab-*") if request.get("out") else ():  # a file that wasn't whole yet
+                    left.unlink(missing_ok=True)
 
 
 def said(error: BaseException) -> str:

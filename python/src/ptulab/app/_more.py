@@ -4,20 +4,22 @@ from __future__ import annotations
 
 import json
 import math
-from collections.abc import Sequence
+import re
+from collections.abc import Callable, Sequence
 from pathlib import Path
 from typing import Any
 
 import numpy as np
 
+from .._optional import want
 from .._versions import __version__
+from .._whole import written_whole
 from ..page._figures import SIDE, blocks
-from ..page._document import packed
+from ..page._document import packed, whole_page
 from ._analyses import FIT, POINTS, REPORT, Analysis, Settings, threshold_of
-from ._figures import Drawn, curve, figure
-
-CORNERS, REGIONS = 512, 16  # at most
-Region = list[tuple[float, float]]
+from ._figures import Drawn, curve, figure, for_page
+from ._folder import named
+from ._view import Region
 
 REGION = """\
 # The decays of regions of an image and of its phasors, as the window of ptulab {version} showed them; report.txt and plan.toml stand beside this
@@ -57,43 +59,31 @@ import sys
 from pathlib import Path
 
 import ptulab
+from ptulab.app.scripts import drop_parts, named, why
 
 here = Path(__file__).parent
 files = sys.argv[1:] or [
 {files}]
 for file in files:
-    print(f"== {{Path(file).name}}")
+    print(f"== {{named(file)}}")
     sys.argv[1:] = [file]
     try:
         runpy.run_path(str(here / "analysis.py"))
     except (ptulab.errors.PtulabError, OSError, ValueError) as error:
-        print(f"left out: {{error}}")
+        print(f"left out: {{why(error, file)}}")
+    drop_parts()
 """
+COUNTS = re.compile(r"^(report|curve|pairs|bursts, \*counted) = (.*\bfile\b.*)$", re.M)  # the line of a script that counts its file
+FILE = re.compile(r"^file = sys\.argv.*\n", re.M)
+PART = re.compile(r"^file = part_of\(file, (.*)\)  # seconds\n", re.M)
 ADDED = """\
 whole = ptulab.count_files(here / "plan.toml", files)
 for left in whole.left:
-    print(f"left out of the sum: {Path(left.path).name}: {left.why}")
+    print(f"left out of the sum: {named(left.path)}: {left.why}")
 if whole.report is None:
     sys.exit("no file could be added")
-file = whole.added[0]
 report = whole.report
 """
-
-
-def regions_of(regions: Any, of_phasors: Any) -> tuple[list[Region], list[Region]]:
-    """The corners of regions that a page sent, those of an image and those of the plane of phasors. Raises ``ValueError`` for what are none."""
-    if not isinstance(regions, list) or not isinstance(of_phasors, list) or not 1 <= len(regions) + len(of_phasors) <= REGIONS:
-        raise ValueError(f"one to {REGIONS} regions are wanted")
-    return [_region(one, 3) for one in regions], [_region(one, 5) for one in of_phasors]
-
-
-def _region(given: Any, digits: int) -> Region:
-    if not isinstance(given, list) or not 3 <= len(given) <= CORNERS or not all(isinstance(one, list) and len(one) == 2 for one in given):
-        raise ValueError(f"a region has 3 to {CORNERS} corners, each of two numbers")
-    numbers = [value for corner in given for value in corner]
-    if not all(isinstance(value, int | float) and not isinstance(value, bool) and math.isfinite(value) for value in numbers):
-        raise ValueError("a corner of a region has two numbers")
-    return [(round(float(x), digits), round(float(y), digits)) for x, y in given]
 
 
 def region_script(regions: Sequence[Region], of_phasors: Sequence[Region], settings: Settings, threshold: int) -> str:
@@ -137,13 +127,15 @@ def many_script(analysis: Analysis, files: Sequence[str]) -> str:
 
 
 def sum_script(script: str, files: Sequence[str]) -> str:
-    """The script that does with the sum of many files what another does with one, or nothing where Python counts."""
-    if f"\n{REPORT}" not in script or "\nfile = part_of(" in script:
-        return ""
-    head, rest = script.split(f"\n{REPORT}", 1)
-    names = "".join(f"    {file!r},\n" for file in files)
-    lines = [line for line in head.splitlines() if not line.startswith("file = ")]
-    return "\n".join(lines) + f"\nfiles = sys.argv[1:] or [\n{names}]\n{ADDED}{rest}"
+    """The script that does with the sum of many files what another does with one: a line of it counts a file."""
+    part, names = PART.search(script), "".join(f"    {file!r},\n" for file in files)
+    script = FILE.sub(lambda _: f"files = sys.argv[1:] or [\n{names}]\n", PART.sub("", script))
+    by_program = not part and f"\n{REPORT}" in script
+    script = re.sub(r"(import measured)(, part_of)?$", rf"\1, {'named' if by_program else 'summed'}", script, count=1, flags=re.M)
+    if by_program:
+        return script.replace(f"\n{REPORT}", f"\n{ADDED}")
+    more = f", {part[1]}" if part else ""
+    return COUNTS.sub(lambda line: f"{line[1]} = summed(lambda file: {line[2]}, files{more})", script, count=1)
 
 
 def results_of(printed: str) -> tuple[list[str], list[list[str]]]:
@@ -183,6 +175,15 @@ for name, columns in curves.items():
     plt.title(name), plt.xlabel(across), plt.legend(), plt.show()"""
 
 
+def write_numbers(folder: Path, shown: dict[str, Any], title: str, path: str) -> None:
+    """A page of what Python found: its numbers and its plots, as the window shows them."""
+    told = [("first file" if "table" in shown else "file", named(path)), ("counted by", "Python, which is tested, not proved"), ("page by", f"ptulab {__version__}")]
+    plan, figures = (folder / "plan.toml").read_text("utf-8"), [for_page(one) for one in shown["figures"]]
+    text = whole_page(f"{title} of {named(path)}", told, plan, str(shown["numbers"]), figures, str(want("plotly.offline", "the page").get_plotlyjs()))
+    with written_whole(folder / "page.html") as out:
+        out.write(text.encode("utf-8"))
+
+
 def write_images(folder: Path, report: Any, header: Any) -> None:
     """OME-TIFF of each image and cube of a report. Raises ``ValueError`` where there is none."""
     from ..exports import write_ome_tiff
@@ -195,13 +196,11 @@ def write_images(folder: Path, report: Any, header: Any) -> None:
         write_ome_tiff(table, folder / f"{table.kind}_{table.number}.ome.tif", pixel_micrometres=header.pixel_micrometres(columns))
 
 
-def write_photons(folder: Path, path: str, name: str, settings: Settings) -> None:
-    """The photons of a file, or of its window of time, as Photon-HDF5."""
-    from ..events import read_events
+def write_photons(folder: Path, path: str, settings: Settings, progress: Callable[[float], None]) -> None:
+    """The photons of a file, or of its window of time, as Photon-HDF5, in the memory of a piece."""
     from ..photon_hdf5 import write_photon_hdf5
     from .scripts import part_of
 
-    start, stop = settings.get("from_seconds", 0), settings.get("to_seconds", 0) or math.inf
+    start, stop, name = settings.get("from_seconds", 0), settings.get("to_seconds", 0) or math.inf, named(path)
     part = path if start == 0 and stop == math.inf else part_of(path, start, stop)
-    write_photon_hdf5(read_events(part), folder / "photons.hdf5", description=f"photons of {name}", filename=name)
-
+    write_photon_hdf5(part, folder / "photons.hdf5", description=f"photons of {name}", filename=name, progress=progress)

@@ -25,10 +25,11 @@ from .._versions import __version__
 from ..errors import PtulabError
 from ..headers import other_records, read_header
 from ..program import find_program
-from ._folder import Folder, NotHere
+from ._folder import Folder, NotHere, named
 from ._groups import looked_over, with_groups
 from ._guard import Guard
 from ._jobs import Jobs, said
+from ._view import view_of
 
 __all__ = ["make_app", "serve"]
 
@@ -60,10 +61,10 @@ class Window:
 
     def files(self, asked: dict[str, Any]) -> Any:
         """The files of the folder, by their headers."""
-        return {"folder": os.path.basename(self.folder.root) or "/", "files": [self._file(name) for name in self.folder.names()]}
+        return {"folder": named(self.folder.root) or "/", "files": [self._file(name) for name in self.folder.names()]}
 
     def _file(self, name: str) -> dict[str, Any]:
-        told: dict[str, Any] = {"name": name.encode("utf-8", "surrogateescape").decode("utf-8", "replace"), "bytes": 0, "type": "", "wrong": ""}
+        told: dict[str, Any] = {"name": name, "bytes": 0, "type": "", "wrong": ""}
         try:
             path = self.folder.path(name)
             told["bytes"] = os.path.getsize(path)
@@ -94,7 +95,7 @@ class Window:
             told = self.results[folder.name]
             if kind == "region":
                 request |= {"regions": asked["regions"], "phasors": asked.get("phasors", []), "threshold": asked["threshold"]}
-            return request | {"path": self.folder.path(told["file"]), "out": str(folder), "settings": told["settings"]}
+            return request | {"path": self.folder.path(told["file"]), "out": str(folder), "analysis": told["analysis"], "settings": told["settings"]}
         if kind == "many":
             request["files"] = self._files(asked)
         request["path"] = request["files"][0] if kind == "many" else self.folder.path(asked.get("file"))
@@ -147,7 +148,7 @@ class Window:
     # ## Sessions
 
     def keep(self, asked: dict[str, Any]) -> Any:
-        """Puts the files of a result into a folder beside the data, with what was asked."""
+        """Puts the files of a result into a folder beside the data, with what was asked, and how it is looked at."""
         result, name = self._result(asked), _text(asked, "name").strip()
         if not SESSION.fullmatch(name):
             raise ValueError("a session's name has letters, digits, blanks and ( ) + - . _, at most 80")
@@ -155,12 +156,13 @@ class Window:
         folder = os.path.join(home, name)
         if os.path.realpath(home) != home or os.path.lexists(folder):
             raise ValueError(f"there is a session {name}: take another name")
-        told = self.results[result.name]
+        told = self.results[result.name] | {"view": view_of(asked.get("view"))}
         os.makedirs(folder)
         try:
             for path in sorted(result.iterdir()):
-                shutil.copyfile(path, os.path.join(folder, path.name))
-            Path(folder, "session.json").write_text(json.dumps(told, indent=1), "utf-8")
+                if FILE.fullmatch(path.name):
+                    shutil.copyfile(path, os.path.join(folder, path.name))
+            Path(folder, "session.json").write_text(json.dumps(told), "utf-8")
         except OSError:  # as of a full disk: half a session is none
             shutil.rmtree(folder, ignore_errors=True)
             raise
@@ -173,7 +175,7 @@ class Window:
         return {"sessions": [name for name in names if SESSION.fullmatch(name)]}
 
     def session(self, asked: dict[str, Any]) -> Any:
-        """What a session asked: file, analysis, settings and plan; its files are those of a new result, which is shown again."""
+        """What a session asked: file, analysis, settings and plan, and its view; its files are those of a new result, which is shown again."""
         name = _text(asked, "name")
         folder = os.path.join(self.folder.root, SESSIONS, name)
         if not SESSION.fullmatch(name) or os.path.realpath(folder) != folder:
@@ -182,7 +184,7 @@ class Window:
         told = json.loads(texts[0])
         if not isinstance(told, dict):
             raise ValueError("this session doesn't say what was asked")
-        told = {key: told.get(key) for key in ("analysis", "settings", "second", "file", "files")} | {"plan": texts[1]}
+        told = {key: told.get(key) for key in ("analysis", "settings", "second", "file", "files")} | {"plan": texts[1], "view": view_of(told.get("view"))}
         for file in told["files"] or [told["file"]]:
             self.folder.path(file)
         if not isinstance(told["settings"], dict):
@@ -210,11 +212,11 @@ def _copied(folder: Path, result: Path) -> list[str]:
     names, size = [], 0
     for path in sorted(folder.iterdir()):
         if FILE.fullmatch(path.name) and path.is_file() and not path.is_symlink():
-            size += path.stat().st_size
-            if size > KEPT_BYTES:
-                break
-            shutil.copyfile(path, result / path.name)
-            names.append(path.name)
+            long = path.stat().st_size
+            if size + long <= KEPT_BYTES:
+                shutil.copyfile(path, result / path.name)
+                names.append(path.name)
+                size += long
     return names
 
 
@@ -235,7 +237,7 @@ def make_app(folder: str | os.PathLike[str], *, token: str, port: int, work: str
     want("jinja2", FEATURE)
     from starlette.applications import Starlette
     from starlette.requests import Request
-    from starlette.responses import FileResponse, JSONResponse, Response
+    from starlette.responses import FileResponse, Response
     from starlette.routing import Route
 
     window = Window(folder, find_program(program), work, megabytes)
@@ -244,9 +246,9 @@ def make_app(folder: str | os.PathLike[str], *, token: str, port: int, work: str
     def answered(answer: Callable[[dict[str, Any]], Any]) -> Callable[[Request], Any]:
         async def endpoint(request: Request) -> Response:
             try:
-                return JSONResponse(await asyncio.to_thread(answer, await _asked(request)))
+                return _json(await asyncio.to_thread(answer, await _asked(request)))
             except ODD as error:
-                return JSONResponse({"error": said(error)}, 404 if isinstance(error, NotHere) else 400)
+                return _json({"error": said(error)}, 404 if isinstance(error, NotHere) else 400)
 
         return endpoint
 
@@ -256,7 +258,7 @@ def make_app(folder: str | os.PathLike[str], *, token: str, port: int, work: str
                 asked = await _asked(request)
                 told = window.request(kind, asked)
             except ODD as error:
-                return JSONResponse({"error": said(error)}, 404 if isinstance(error, NotHere) else 400)
+                return _json({"error": said(error)}, 404 if isinstance(error, NotHere) else 400)
             return _stream(window.jobs.lines(lambda: window.begin(kind, asked, told), kind in RUNS))
 
         return endpoint
@@ -280,7 +282,7 @@ def make_app(folder: str | os.PathLike[str], *, token: str, port: int, work: str
         return FileResponse(path, filename=path.name, media_type="application/octet-stream", headers=headers)
 
     async def page(request: Request) -> Response:
-        text = _page({"folder": os.path.basename(window.folder.root) or "/", "version": __version__})
+        text = _page({"folder": named(window.folder.root) or "/", "version": __version__})
         return Response(text, headers={"content-type": "text/html; charset=utf-8"})
 
     asked = {"files": window.files, "plan": window.plan, "groups": window.groups, "keep": window.keep, "sessions": window.sessions, "session": window.session}
@@ -298,6 +300,13 @@ def make_app(folder: str | os.PathLike[str], *, token: str, port: int, work: str
         port,
         window.jobs.end,
     )
+
+
+def _json(value: Any, status: int = 200) -> Any:
+    """An answer in ASCII, which has names that aren't UTF-8 too."""
+    from starlette.responses import Response
+
+    return Response(json.dumps(value, allow_nan=False), status, media_type="application/json")
 
 
 async def _asked(request: Any) -> dict[str, Any]:

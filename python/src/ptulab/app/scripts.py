@@ -1,22 +1,27 @@
-"""What the scripts call that the window hands out: a time window of a file, regions of an image, and numbers with their errors."""
+"""What the scripts call that the window hands out: a time window of a file, sums over files, regions of an image, and numbers with their errors."""
 
 from __future__ import annotations
 
+import functools
 import math
+import operator
 import os
+import sys
 import tempfile
-from collections.abc import Sequence
+from collections.abc import Callable, Iterator, Sequence
 from typing import IO, Any
 
 import numpy as np
 from numpy.typing import NDArray
 
-from ..errors import NotKnownError
+from ..errors import NotKnownError, PtulabError
 from ..events import iter_events
 from ..headers import PREAMBLE, TAG, WITH_BODY, read_header
 from ..pixels import inside as inside_plane
+from ..segments import Curve, together
+from ._folder import named
 
-__all__ = ["inside", "measured", "part_of"]
+__all__ = ["drop_parts", "inside", "measured", "named", "part_of", "summed", "why"]
 
 PathLike = str | os.PathLike[str]
 PIECE = 1 << 20
@@ -70,6 +75,52 @@ def part_of(file: PathLike, start: float, stop: float = math.inf) -> str:
     part.flush()
     _parts.append(part)
     return f"/proc/{os.getpid()}/fd/{part.fileno()}"
+
+
+def drop_parts() -> None:
+    """Removes the parts of files that ``part_of`` made."""
+    _parts.clear()  # which closes them
+
+
+def why(error: BaseException, file: PathLike) -> str:
+    """What is wrong with a file, in a line, by its name alone."""
+    return " ".join(str(error).replace(os.fspath(file), named(file)).split())
+
+
+def summed(count: Callable[[PathLike], Any], files: Sequence[PathLike], start: float = 0.0, stop: float = math.inf) -> Any:
+    """What is counted of each file, or of its window from the second ``start`` to ``stop``, added up.
+
+    Reports and coincidences add up; correlations are taken ``together``, each by its photons; of arrays, as of bursts, those of one
+    file stand behind those of another. A line is printed of each file that is left out: one that can't be counted, or is of
+    another type or tick than the first. It ends with that where none is left.
+    """
+    found = _each(count, files, start, stop)
+    first = next(found, None)
+    if first is None:
+        sys.exit("no file could be added")
+    if isinstance(first, Curve):
+        return together([first, *found])
+    if isinstance(first, tuple):
+        return tuple(np.concatenate(columns) for columns in zip(first, *found))
+    return functools.reduce(operator.iadd, found, first)
+
+
+def _each(count: Callable[[PathLike], Any], files: Sequence[PathLike], start: float, stop: float) -> Iterator[Any]:
+    kind: tuple[Any, ...] = ()
+    for file in files:
+        try:
+            header = read_header(file)
+            mine = header.record_type, header.global_seconds, header.resolution_seconds
+            if kind not in ((), mine):
+                raise ValueError("another type or tick than the first file has")
+            found = count(file if (start, stop) == (0.0, math.inf) else part_of(file, start, stop))
+        except (PtulabError, OSError, ValueError) as error:
+            print(f"left out of the sum: {named(file)}: {why(error, file)}")
+            continue
+        finally:
+            drop_parts()
+        kind = mine
+        yield found
 
 
 def _records(file: PathLike, begin: float, end: float, records: int) -> tuple[int, int]:
