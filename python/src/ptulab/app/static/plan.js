@@ -33,7 +33,7 @@ async function follow() {
 
 /** @param {{groups: typeof groups, findings: any[]}} told @param {boolean} [keep] whether the table stays as it is */
 function shown(told, keep = false) {
-  groups = told.groups;
+  if (!keep) groups = told.groups; // else the fields of the table hold theirs, which were written
   say(told.findings, "");
   /** @type {HTMLButtonElement} */ (byId("undo")).disabled = !before.length;
   /** @type {HTMLButtonElement} */ (byId("add-group")).disabled = !groups;
