@@ -18,7 +18,7 @@ async function choose(name, session = null) {
   byId("welcome").hidden = true;
   for (const id of ["questions", "ask", "result"]) byId(id).hidden = true;
   try {
-    const told = await look(name, mine.signal);
+    const told = await look(name, mine);
     if (mine.signal.aborted) return;
     if (!session) byId("look-title").focus();
     questions(name, told);

@@ -1,6 +1,6 @@
 // The files of the folder, each with what its header says and then with what a look in the background finds.
 import { byId, make, short } from "./dom.js";
-import { ask, work } from "./server.js";
+import { ask, bar, work } from "./server.js";
 
 /** @type {{name: string, bytes: number, type: string, wrong: string, odd?: string, records?: number}[]} */
 export let files = [];
@@ -8,7 +8,7 @@ export let files = [];
 export const looks = new Map();
 /** @type {AbortController | null} */
 let background = null;
-let paused = 0, looking = false;
+let paused = 0, looking = false, stopped = false;
 
 /** Lists the files. @param {(name: string) => void} chosen */
 export async function list(chosen) {
@@ -42,23 +42,33 @@ export function found(name) {
   if (button && file && button.lastChild) button.lastChild.textContent = said(file);
 }
 
-/** Looks at one file after another, while nothing else is done. */
+/** Looks at one file after another, while nothing else is done, until a click stops it. */
 export async function lookAround() {
-  if (looking || paused) return;
+  if (looking || paused || stopped || files.every((file) => file.wrong || looks.has(file.name))) return;
   looking = true;
+  const progress = bar(byId("files-progress"), "How far the look in the background is"), halt = make("button", { type: "button", id: "files-stop", text: "Stop", "aria-label": "Stop looking at files", on: { click: () => {
+    stopped = true;
+    background?.abort();
+    const on = make("button", { type: "button", id: "files-on", text: "Look at the others", on: { click: () => { stopped = false; byId("files-progress").replaceChildren(); lookAround(); } } });
+    byId("files-progress").replaceChildren(on);
+    on.focus();
+  } } });
+  byId("files-progress").append(halt);
   try {
-    for (const file of files) if (!file.wrong && !looks.has(file.name) && !paused) await lookAt(file);
+    for (const file of files) if (!file.wrong && !looks.has(file.name) && !paused && !stopped) await lookAt(file, progress.heard);
     byId("files-said").textContent = files.length ? `${files.length} files` : "There is no PTU file in this folder.";
   } finally {
     looking = false;
+    progress.end();
   }
 }
 
-/** @param {typeof files[0]} file */
-async function lookAt(file) {
+/** @param {typeof files[0]} file @param {(line: any) => void} heard */
+async function lookAt(file, heard) {
   const mine = background = new AbortController();
   try {
     looks.set(file.name, await work("look", { file: file.name }, (line) => {
+      heard(line);
       byId("files-said").textContent = `${files.length} files; looks at ${file.name}: ${Math.round(100 * (line.progress || 0))} %`;
     }, mine.signal));
   } catch (error) {

@@ -4,20 +4,26 @@ import { alone, found, looks } from "./files.js";
 import { draw } from "./plots.js";
 import { bar, work } from "./server.js";
 
-/** Shows the first look of a file, and gives what it tells.
- * @param {string} name @param {AbortSignal} signal */
-export async function look(name, signal) {
+/** Shows the first look of a file, and gives what it tells. A click stops it.
+ * @param {string} name @param {AbortController} mine */
+export async function look(name, mine) {
   byId("look").hidden = false;
   byId("look-title").textContent = name;
   byId("look-told").replaceChildren();
   byId("look-window").replaceChildren();
   byId("look-said").textContent = "Looks at the file ..";
   const progress = bar(byId("look-progress"), "How far the look is");
+  const halt = make("button", { type: "button", id: "look-stop", text: "Stop", "aria-label": "Stop the look", on: { click: () => {
+    mine.abort();
+    byId("look-said").textContent = "Stopped. A click on the file begins the look anew.";
+    byId("look-title").focus();
+  } } });
+  byId("look-progress").append(halt);
   try {
-    const told = looks.get(name) || await alone(() => work("look", { file: name }, progress.heard, signal));
+    const told = looks.get(name) || await alone(() => work("look", { file: name }, progress.heard, mine.signal));
     looks.set(name, told);
     found(name);
-    if (!signal.aborted) show(told);
+    if (!mine.signal.aborted) show(told);
     return told;
   } finally {
     progress.end();
