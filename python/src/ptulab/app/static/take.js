@@ -2,40 +2,54 @@
 import { byId, make, short, table, trouble } from "./dom.js";
 import { alone } from "./files.js";
 import { draw } from "./plots.js";
-import { ask, work } from "./server.js";
+import { ask, bar, work } from "./server.js";
 
 /** @typedef {{begun: string, figures: any[], numbers: string, script: string, files: string[], fit?: Parameter[], table?: {heads: string[], rows: string[][]}}} Result */
 /** @typedef {{name: string, value: number, factor: number, unit: string, held: boolean}} Parameter */
-const OTHERS = [["page", "A page of the report", "report.txt"], ["images", "The image as OME-TIFF", "image"], ["photons", "The photons as Photon-HDF5", ""]];
+const OTHERS = [["page", "A page of the result", "figures"], ["images", "The image as OME-TIFF", "image"], ["photons", "The photons as Photon-HDF5", ""]];
 const words = (/** @type {unknown} */ error) => error instanceof Error ? error.message : String(error);
 
-/** Shows a result. @param {Result} told @param {any} asked */
+/** @typedef {{regions: number[][][], phasors: number[][][], threshold?: number, thresholds: Record<string, number>}} View how a result is looked at */
+/** What a session keeps of it, of the result that is shown. @type {() => View} */
+let view = () => ({ regions: [], phasors: [], thresholds: thresholds() });
+/** The least photons that are drawn in each picture. @returns {Record<string, number>} */
+const thresholds = () => Object.fromEntries([.../** @type {NodeListOf<HTMLInputElement>} */ (document.querySelectorAll("#result input[type=range]"))].map((one) => [one.id.replace(/^figure-|-threshold$/g, ""), Number(one.value)]));
+
+/** Shows a result. @param {Result} told @param {any} asked what was asked, of a session with its `view` */
 export function show(told, asked) {
+  const /** @type {View | undefined} */ before = asked.view;
+  view = () => ({ regions: [], phasors: [], thresholds: thresholds() });
   byId("result").hidden = false;
   document.dispatchEvent(new CustomEvent("regions", { detail: { picture: [], plane: [] } }));
   document.dispatchEvent(new CustomEvent("painted", { detail: null }));
   const links = make("ul", { id: "result-files" });
   const list = (/** @type {string[]} */ names) => links.replaceChildren(...names.map((name) => make("li", {}, make("a", { href: `/result/${told.begun}/${name}`, download: name, text: name }))));
   list(told.files);
-  const has = { "report.txt": told.files.includes("report.txt"), image: told.figures.some((one) => one.kind === "picture"), "": !told.table };
+  const has = { figures: told.figures.length > 0, image: told.figures.some((one) => one.kind === "picture"), "": !told.table };
   const others = OTHERS.filter(([, , wanted]) => has[/** @type {keyof typeof has} */ (wanted)]).map(([kind, text]) => {
     const button = make("button", { type: "button", "data-kind": kind, text, on: { click: async () => {
+      const mine = new AbortController(), place = make("span"), halt = make("button", { type: "button", class: "halt", text: "Stop", "aria-label": `Stop: ${text}`, on: { click: () => mine.abort() } });
       button.toggleAttribute("disabled", true);
+      button.after(" ", place, halt);
+      const progress = bar(place, text);
       trouble("");
       try {
-        list((await alone(() => work(kind, { result: told.begun }, () => {}, new AbortController().signal))).files);
+        list((await alone(() => work(kind, { result: told.begun }, progress.heard, mine.signal))).files);
       } catch (error) {
-        trouble(words(error));
+        if (!mine.signal.aborted) trouble(words(error));
       } finally {
         button.toggleAttribute("disabled", false);
+        if (document.activeElement === halt) button.focus();
+        place.remove();
+        halt.remove();
       }
     } } });
     return button;
   });
   const rows = told.table ? [table("Results of the files", told.table.heads, told.table.rows)] : [];
-  const figures = told.figures.map((one) => draw(one, { of: asked.analysis }));
+  const figures = told.figures.map((one) => draw(one.kind === "picture" ? { ...one, threshold: before?.thresholds[one.name] ?? one.threshold } : one, { of: asked.analysis }));
   byId("result-told").replaceChildren(
-    ...rows, make("h3", { text: "Numbers" }), make("pre", { id: "numbers", tabindex: "0", role: "region", "aria-label": "Numbers", text: told.numbers }), ...(told.fit?.length && !told.table ? [fitted(told.fit, asked.settings.fit || {})] : []), ...figures, ...(has.image && asked.analysis === "image" && !told.table ? [regions(told, list)] : []),
+    ...rows, make("h3", { text: "Numbers" }), make("pre", { id: "numbers", tabindex: "0", role: "region", "aria-label": "Numbers", text: told.numbers }), ...(told.fit?.length && !told.table ? [fitted(told.fit, asked.settings.fit || {})] : []), ...figures, ...(has.image && asked.analysis === "image" && !told.table ? [regions(told, list, before)] : []),
     make("h3", { text: "Take it along" }), links, make("p", { class: "controls" }, ...others), keep(told, asked),
     make("details", {}, make("summary", { text: "The Python script that does the same" }), make("pre", { id: "script", tabindex: "0", role: "region", "aria-label": "The script", text: told.script })));
   byId("result-title").focus();
@@ -66,7 +80,7 @@ function keep(told, asked) {
   const said = make("p", { role: "status", id: "session-said" });
   const button = make("button", { type: "button", id: "keep", text: "Keep it as a session", on: { click: async () => {
     try {
-      said.textContent = `It is in ${(await ask("keep", { result: told.begun, name: name.value })).folder}.`;
+      said.textContent = `It is in ${(await ask("keep", { result: told.begun, name: name.value, view: view() })).folder}.`;
       document.dispatchEvent(new Event("kept"));
     } catch (error) {
       said.textContent = words(error);
@@ -76,15 +90,15 @@ function keep(told, asked) {
 }
 
 /** Regions of the image and of its phasors, drawn with the pointer or given by numbers; their decays and fits appear at once.
- * @param {Result} told @param {(names: string[]) => void} list */
-function regions(told, list) {
+ * @param {Result} told @param {(names: string[]) => void} list @param {View} [before] that of a session */
+function regions(told, list, before) {
   const picture = told.figures.find((one) => one.kind === "picture"), plane = told.figures.find((one) => one.kind === "plane");
   /** @type {import("./plots.js").Regions} */
   let now = { picture: [], plane: [] };
   /** @type {AbortController | null} */
   let asking = null;
   const said = make("p", { role: "status", id: "regions-said" }), shown = make("div", { id: "regions-shown" }), buttons = make("p", { class: "controls" });
-  const least = /** @type {HTMLInputElement} */ (make("input", { type: "number", id: "region-threshold", min: "0", step: "1", max: picture.most, value: picture.threshold, on: { change: () => ask() } }));
+  const least = /** @type {HTMLInputElement} */ (make("input", { type: "number", id: "region-threshold", min: "0", step: "1", max: picture.most, value: before?.threshold ?? picture.threshold, on: { change: () => ask() } }));
   document.addEventListener("change", (heard) => { // of a slider of one of the pictures
     const slider = /** @type {HTMLInputElement} */ (heard.target);
     if (!said.isConnected || !/^figure-.*-threshold$/.test(slider.id)) return;
@@ -120,6 +134,8 @@ function regions(told, list) {
     now = { .../** @type {CustomEvent} */ (heard).detail };
     ask();
   });
+  view = () => ({ regions: now.picture, phasors: now.plane, threshold: Number(least.value), thresholds: thresholds() });
+  if (before?.regions.length || before?.phasors.length) requestAnimationFrame(() => put({ picture: before.regions, plane: before.phasors }));
   const focus = () => buttons.querySelector("button")?.focus();
   const complain = (/** @type {string} */ text) => { said.textContent = text; };
   const [wide, high] = [picture.columns * picture.block, picture.rows * picture.block];
