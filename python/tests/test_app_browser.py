@@ -1,14 +1,18 @@
 """The window in Chromium: a laboratory's four ways from a file to pictures and exports against simulated truth, keys, and rules of accessibility."""
 
 import json
+import os
 import re
+import shutil
 from collections.abc import Iterator
 from pathlib import Path
+from typing import Any
 
+import made
 import numpy as np
 import pytest
 import simulated
-from test_app import Served
+from test_app import Served, begun, gone
 from window import BROWSER, DRIVER, Window, browser
 
 selenium = pytest.importorskip("selenium", reason="python3-selenium isn't on this machine")
@@ -19,12 +23,12 @@ pytestmark = pytest.mark.skipif(not (BROWSER and DRIVER), reason="chromium and i
 def laboratory(program: str, tmp_path_factory: pytest.TempPathFactory) -> Iterator[Window]:
     """A browser, and the server of a folder of simulated files."""
     folder, saved = tmp_path_factory.mktemp("laboratory"), tmp_path_factory.mktemp("saved")
-    for name in ("scan", "diffusion", "emitter", "bursts"):
+    for name in ("scan", "diffusion", "emitter", "bursts", "lasers"):
         getattr(simulated, name)(folder / f"{name}.ptu")
     simulated.emitter(folder / "emitter 2.ptu", 33)
     driver = browser(saved)
     served = Served(folder, tmp_path_factory.mktemp("work") / "results", program)
-    yield Window(driver, f"{served.origin}/?token=right", saved, served.client.get)
+    yield Window(driver, f"{served.origin}/?token=right", saved, served)
     driver.quit()
     served.end()
 
@@ -185,6 +189,111 @@ def test_bursts_of_single_molecules_and_a_session(window: Window, tmp_path: Path
     window.click("#sessions button")
     window.until(lambda: window.text("#numbers") == told and window.js("return document.querySelector('#figure-efficiency > .plot')?.dataset.drawn") == "yes")
     assert window.text("#script") == script and window.js("return document.getElementById('setting-rate').value") == "15"
+
+
+def typed(window: Window, selector: str, value: Any) -> None:
+    """Types into a field."""
+    window.js("const one = document.querySelector(arguments[0]); one.value = arguments[1]; for (const name of ['input', 'change']) one.dispatchEvent(new Event(name, {bubbles: true}))", selector, str(value))
+
+
+def test_groups_by_hand_tell_bursts_of_two_lasers(window: Window, tmp_path: Path) -> None:
+    """A group is added, named, and gets an input and a gate; what is typed into the plan comes to the table; and Undo takes back."""
+    plan = "return document.getElementById('text').value"
+    window.choose("lasers.ptu", "bursts")
+    window.js("document.getElementById('plan').open = true")
+    groups = window.js(plan).count("[[group]]")
+    window.click("#add-group")
+    window.until(lambda: window.js(plan).count("[[group]]") == groups + 1, "a group")
+    own = f"#groups fieldset:nth-of-type({groups + 1})"
+    typed(window, f"{own} input[type=text]", "own laser")
+    window.until(lambda: "[[group]] # own laser\ninputs = [1]\n" in window.js(plan), "a name")
+    for number in (1, 2):
+        window.click(f"{own} label:nth-of-type({number}) input[type=checkbox]")
+    window.until(lambda: "[[group]] # own laser\ninputs = [2]\n" in window.js(plan), "an input")
+    for group, begin in ((1, 0), (2, 0), (groups + 1, 500)):
+        window.click(f"[aria-label='Add a gate to group {group}']")
+        for word, value in (("from", begin), ("to", begin + 500)):
+            typed(window, f"[aria-label='group {group}, gate 1 {word}, in ticks of the delay']", value)
+        window.until(lambda: window.js(plan).count(f"gates = [[{begin}, {begin + 500}]]") >= (2 if group == 2 else 1), "a gate")
+    window.click(f"[aria-label='Remove group {groups + 1}']")
+    window.until(lambda: window.js(plan).count("[[group]]") == groups, "no group")
+    window.click("#undo")
+    window.until(lambda: "[[500, 1000]]" in window.js(plan) and window.js("return document.querySelectorAll('#groups fieldset').length") == groups + 1, "the group again")
+    typed(window, "#text", window.js(plan).replace("own laser", "by its own laser"))
+    window.until(lambda: window.js("return document.querySelector(arguments[0])?.value", f"{own} input[type=text]") == "by its own laser", "a name that was typed")
+    window.set(rate=15, own=groups + 1)
+    window.run()
+    rows = np.loadtxt(window.file("bursts.csv").decode().splitlines(), delimiter=",", skiprows=1)
+    both = (rows[:, 3] > 0.3) & (rows[:, 3] < 0.8)
+    assert 185 <= both.sum() <= 200 and rows[both, 2].mean() == pytest.approx(simulated.EFFICIENCY, abs=0.01)
+    assert rows[both, 3].mean() == pytest.approx(simulated.STOICHIOMETRY, abs=0.01) and window.number("mean of S") == pytest.approx(rows[:, 3].mean(), abs=1e-3)
+    window.until(lambda: window.js("return document.getElementById('figure-e-s-plot')?.data[0].x.length") == len(rows), "each burst by E and S")
+    window.script_prints_the_same(tmp_path)
+    window.click("[data-kind=page]")
+    assert b"E and S</h2>" in window.file("page.html")
+
+
+def test_a_session_brings_back_regions_thresholds_and_what_was_held(window: Window) -> None:
+    window.choose("scan.ptu", "image")
+    window.run()
+    window.js("document.getElementById('fit-background').value = '3'; document.getElementById('hold-background').checked = true")
+    window.run("#fit-again")
+    typed(window, "[aria-label='columns to']", 8)
+    window.click("#add-region")
+    window.click("#add-phasor-region")
+    window.until(lambda: "phasor region 1" in window.text("#region-numbers"), "two regions")
+    before = window.text("#region-numbers")
+    typed(window, "#figure-cube-1-delays-threshold", 95)
+    told = window.until(lambda: window.text("#region-numbers") not in ("", before) and window.text("#region-numbers"), "fewer pixels")
+    typed(window, "#session-name", "two regions")
+    window.click("#keep")
+    window.until(lambda: "ptulab-sessions/two regions" in window.text("#session-said"))
+    window.open()
+    window.until(lambda: "two regions" in window.text("#sessions"))
+    window.js("[...document.querySelectorAll('#sessions button')].find((one) => one.textContent === 'two regions').click()")
+    window.until(lambda: window.text("#region-numbers") == told, "the regions again")
+    values = {name: window.js("return document.getElementById(arguments[0]).value", name) for name in ("region-threshold", "figure-cube-1-delays-threshold", "fit-background")}
+    assert values == {"region-threshold": "95", "figure-cube-1-delays-threshold": "95", "fit-background": "3"}
+    assert window.js("return document.getElementById('hold-background').checked") and "\nbackground: 3\n" in window.text("#numbers")
+    shapes = "return document.getElementById(`figure-${arguments[0]}-plot`).layout.shapes.length"
+    assert [window.until(lambda: window.js(shapes, name), name) for name in ("cube-1-delays", "phasors")] == [1, 1]
+    assert "threshold = 95\n" in window.file("regions.py").decode()
+    shutil.rmtree(window.served.folder / "ptulab-sessions" / "two regions")
+
+
+def test_looks_runs_and_exports_are_stopped(window: Window) -> None:
+    """Of a file of half a terabyte, nearly all of which is a hole; what is run next is whole."""
+    huge = made.write(window.served.folder / "zz.ptu", "HydraHarp2T2", [(1, 1)], tick=1e-9)
+    os.truncate(huge, 1 << 39)
+    try:
+        window.driver.get(window.first)  # which is ready once the look in the background ends
+        window.until(lambda: "looks at zz.ptu" in window.text("#files-said") and window.js("return document.querySelector('#files-progress progress')?.value") > 0, "a look in the background")
+        window.click("#files-stop")
+        window.until(lambda: window.js("return document.activeElement.id") == "files-on" and not window.js("return document.querySelector('#files-progress progress')"))
+        window.click("#files button[data-name='zz.ptu']")
+        window.until(lambda: (window.js("return document.querySelector('#look-progress progress')?.value") or 0) > 0, "how far the look is")
+        process = begun(window.served)
+        window.click("#look-stop")
+        window.until(lambda: window.text("#look-said").startswith("Stopped.") and window.js("return document.activeElement.id") == "look-title")
+        assert gone(process) and window.js("return document.getElementById('questions').hidden")
+    finally:
+        huge.unlink()
+    window.choose("emitter.ptu", "antibunching")
+    window.click("#run")
+    process = begun(window.served)
+    window.click("#stop")
+    window.until(lambda: window.text("#run-said") == "Stopped." and window.js("return document.getElementById('stop').disabled"))
+    assert gone(process)
+    window.run()
+    assert window.number("g2 at 0") < 0.25
+    window.click("[data-kind=photons]")
+    process = begun(window.served)
+    window.until(lambda: window.js("return document.querySelector('.halt') && document.querySelector('[data-kind=photons]').disabled"))
+    window.click(".halt")
+    window.until(lambda: not window.js("return document.querySelector('.halt') || document.querySelector('[data-kind=photons]').disabled"))
+    assert gone(process) and window.js("return document.getElementById('trouble').hidden")
+    window.click("[data-kind=photons]")
+    assert window.file("photons.hdf5").startswith(b"\x89HDF")
 
 
 # ## For people

@@ -35,10 +35,10 @@ def browser(saved: Path) -> Any:
 
 
 class Window:
-    """The window in a browser. ``first`` is the address with the token, ``get`` what asks the server without the browser."""
+    """The window in a browser. ``first`` is the address with the token, ``served`` the server with what asks it without the browser."""
 
-    def __init__(self, driver: Any, first: str, saved: Path, get: Callable[[str], Any]) -> None:
-        self.driver, self.first, self.saved, self.get = driver, first, saved, get
+    def __init__(self, driver: Any, first: str, saved: Path, served: Any) -> None:
+        self.driver, self.first, self.saved, self.served = driver, first, saved, served
 
     def open(self, dark: bool = False, width: int = 1100) -> None:
         scheme = [{"name": "prefers-color-scheme", "value": "dark" if dark else "light"}]
@@ -115,7 +115,7 @@ class Window:
     def file(self, name: str) -> bytes:
         """A file of the result that is shown, as a link of the page hands it out."""
         where = self.until(lambda: self.js("return document.querySelector(`#result-files a[download='${arguments[0]}']`)?.getAttribute('href')", name), name)
-        return bytes(self.get(where).content)
+        return bytes(self.served.client.get(where).content)
 
     def script_prints_the_same(self, folder: Path) -> None:
         """The script that is handed out, run in a folder of its own, prints the numbers that are shown."""
