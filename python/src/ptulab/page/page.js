@@ -84,7 +84,7 @@
     }
     const more = figure.more.map((one) => ({ type: "scatter", mode: "lines", name: plain(one.label), x: one.x, hoverinfo: "skip",
       y: logarithmic ? one.y.map((y) => (y > 0 ? y : null)) : one.y, line: { color: colour("other"), width: 1.6 } }));
-    look.showlegend = more.length > 0;
+    Object.assign(look, { showlegend: more.length > 0, legend: { orientation: "h", x: 0, y: 1.1 } });
     return [[Object.assign(trace, { name: plain(figure.ylabel) }), ...more], look];
   }
 
