@@ -175,12 +175,13 @@ def test_the_page_has_no_script_of_its_own_and_nothing_from_elsewhere(served: Se
 
 
 def test_the_name_of_the_folder_is_escaped(tmp_path: Path, program: str) -> None:
-    hostile = tmp_path / "<script>alert(1)<"
+    """One that isn't UTF-8, too."""
+    hostile = tmp_path / os.fsdecode(b"<script>alert(1)<\xfc")
     hostile.mkdir()
     one = Served(hostile, tmp_path / "results", program)
     try:
-        assert "<script>alert" not in one.client.get("/").text and "&lt;script&gt;alert(1)&lt;" in one.client.get("/").text
-        assert one.ask("files")["files"] == []
+        assert "<script>alert" not in one.client.get("/").text and "&lt;script&gt;alert(1)&lt;\ufffd" in one.client.get("/").text
+        assert one.ask("files") == {"folder": "<script>alert(1)<\ufffd", "files": []}
     finally:
         one.end()
 
