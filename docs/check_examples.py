@@ -20,8 +20,9 @@ The blocks of a page are tried in their order, in a folder of their own that has
 examples, docs, bench and python, ./ptu, ./ptulab, FILE and PLAN, which are the sample of a scan and its plan, the same as big.ptu,
 big.ptu.gz and plan.toml, and the folder data with three such files. A block with a program that isn't on this machine is
 left out, and that is said. PROGRAM is ./ptu of this tree by default. What differs is shown, and so is each link to a
-file or a title that isn't there, each name of a crate's file, as `ptu_cli/specs/Runs.antt`, that none has, and each path of
-this tree, as `bench/run`, that isn't there; it ends with 1 if there is any. The scripts of examples/ want what ptulab
+file or a title that isn't there, each name of a crate's file, as `ptu_cli/specs/Runs.antt`, that none has, each path of
+this tree, as `bench/run`, that isn't there, and each command in the prose, as `rt check --only`, that there isn't with these
+words (inline_commands.py says which are known); it ends with 1 if there is any. The scripts of examples/ want what ptulab
 wants (python/debian-packages): call it by a Python that has it.
 """
 
@@ -37,6 +38,8 @@ import sys
 import tempfile
 from collections.abc import Iterator
 from typing import Any
+
+from inline_commands import wrong_commands
 
 ROOT = os.path.dirname(os.path.dirname(os.path.abspath(__file__)))
 SHOWN = 40  # lines of a difference
@@ -246,6 +249,7 @@ def main() -> None:
     program = os.path.abspath(given.pop(0)) if given and not given[0].endswith((".md", ".1")) else os.path.join(ROOT, "ptu")
     results = [(page, *try_page(page, program)) for page in given or pages()]
     dead = [f"{page}: {target} leads nowhere" for page, _, _ in results for target in dead_links(page)]
+    dead += [f"{page}: {fault}" for page, _, _ in results for fault in wrong_commands(page, read_or_nothing(os.path.join(ROOT, page)))]
     for page, tried, wrong in results:
         if tried:
             print(f"{page}: {tried} blocks tried, {wrong} differ")
