@@ -1,9 +1,9 @@
 #!/usr/bin/env python3
 """Checks the figures that documents state against measures.toml: check_measures.py [--write]
 
-A figure is a number with a decimal point, with a per cent sign, or with one of the `units` of measures.toml after it. On the
-`pages` of measures.toml (patterns of names, but for those that are `apart`) each figure outside of blocks of code and made parts
-must be in one of these:
+A figure is a number with a decimal point, with a per cent sign, or with one of the `units` of measures.toml after it, or a number
+in a word, as twelve, with one of its `things` after it. On the `pages` of measures.toml (patterns of names, but for those that are
+`apart`) each figure outside of blocks of code and made parts must be in one of these:
 
 - measure.NAME: one number, or the version, that one or more pages state. It has a `value` and the day on which it was measured (`on`), or is
   `counted` here in the tree; with both, what is counted may differ by a tenth. `said` lists its places as PAGE: WORDS, where {}
@@ -14,11 +14,17 @@ must be in one of these:
 - constant.NAME: `words`, on any page, for a number that the code has: `text` must be in `file`.
 - facts.PAGE: words with numbers that nothing measured, as facts of the format, limits of a plan, and those of an example.
 
+Any other number of two digits or more, but of a date or a citation, must be in one of these too, stand in the page's own code
+(whose examples are run), or in the `sources`. A small number stands in these by chance: what this finds is a large one that
+nothing has.
+
 WORDS must stand once on their page, where a line may break at each blank. With --write the figures and tables of measures.toml
 are put there. Ends with 1 where something differs, or where a page has a figure that measures.toml hasn't.
 """
 
 import datetime
+import functools
+import pathlib
 import re
 import shutil
 import subprocess
@@ -30,7 +36,10 @@ from typing import Any
 from made_parts import ROOT, finish, put_part, read
 
 NUMBER = r"\d+(?:,\d{3})*(?:\.\d+)*"
+WORDS = "two three four five six seven eight nine ten eleven twelve thirteen fourteen fifteen sixteen seventeen eighteen nineteen twenty".split()
+WORD = "|".join(WORDS)
 SCRIPT = "check_measures.py"
+DATED = r"\*\*\d+\*\*(?:, \d+){1,2}|\((?:19|20)\d\d\)|\d+ November 2026"  # the volume and the page of a citation, its year, and days
 
 
 def crates_of_program() -> int:
@@ -77,6 +86,10 @@ COUNTERS: dict[str, Callable[[], float | str | None]] = {
     "lines_of_adapters": lambda: read("crates/ptu_cli/src/edge.rt").count("\n"),
     "bytes_of_bench": lambda: (ROOT / "examples/bench.ptu").stat().st_size,
     "bytes_of_scan": lambda: (ROOT / "examples/scan.ptu").stat().st_size,
+    "facts": lambda: len(re.findall(r"^\| \d+ \|", read("docs/proved.md").split("facts\n")[1].split("\n## ")[0], flags=re.M)),
+    "record_types": lambda: len(re.findall(r"\w+,", read("crates/tally_base/src/header.rt").split("enum RecordType {")[1].split("}")[0])),
+    "kinds": lambda: len(re.findall(r"\w+_kind ∷", read("crates/plan_text/specs/Kinds.antt"))),
+    "greatest_status": lambda: max(int(number) for number in re.findall(r"^  ( \d|\d\d) ", read("docs/help.txt"), flags=re.M)),
     "least_coverage": lambda: int(re.findall(r"fail-under=(\d+)", read("python/check"))[0]),
 }
 
@@ -88,7 +101,12 @@ def shown(value: float | str) -> str:
 def pattern(words: str) -> re.Pattern[str]:
     """Finds words with any numbers in the place of those in braces; its groups are words and numbers in turn."""
     between = [re.escape(part).replace(r"\ ", r"\s+") for part in re.split(r"\{[^{}]*\}", words)]
-    return re.compile(f"({f')({NUMBER})('.join(between)})")
+    return re.compile(f"({f')({NUMBER}|{WORD})('.join(between)})")
+
+
+def as_before(number: str, before: str) -> str:
+    """A number in a word, where it was in one."""
+    return WORDS[int(number) - 2] if before in WORDS and number.isdigit() and 2 <= int(number) < len(WORDS) + 2 else number
 
 
 def figures(words: str) -> list[str]:
@@ -101,7 +119,7 @@ def put_figures(text: str, words: str, numbers: list[str]) -> str | None:
     if len(found) != 1:
         return None
     parts = list(found[0].groups())
-    parts[1::2] = numbers
+    parts[1::2] = map(as_before, numbers, parts[1::2])
     return text[: found[0].start()] + "".join(parts) + text[found[0].end() :]
 
 
@@ -146,6 +164,22 @@ def places(told: dict[str, Any]) -> Iterator[tuple[str, str, list[str] | None]]:
         yield from ((one["page"], words, figures(words)) for words in one["words"])
 
 
+def literals(text: str) -> set[str]:
+    """The digits of the whole numbers in a text, and of powers of two that are shifted so."""
+    shifts = re.findall(r"\b1 << (\d{1,2})\b", text)
+    return {re.sub("[,_]", "", number) for number in re.findall(r"\d[\d,_]*", text)} | {str(1 << int(shift)) for shift in shifts}
+
+
+@functools.cache
+def literals_of(*patterns: str) -> set[str]:
+    return literals("\n".join(pathlib.Path(name).read_text("utf-8") for name in files(*patterns)))
+
+
+def with_words_before(found: re.Match[str]) -> str:
+    """What was found in a text, with up to thirty characters of the line before it."""
+    return found.string[: found.start()].rpartition("\n")[2][-30:] + found[0]
+
+
 def unmeasured(page: str, told: dict[str, Any]) -> Iterator[str]:
     """Figures of a page that nothing in measures.toml has, and facts that the page hasn't."""
     text = re.sub(r"^```.*?^```|^[^\n]*made by docs/.*?(?:<!--|#) end\b", "", read(page), flags=re.M | re.S)
@@ -161,8 +195,14 @@ def unmeasured(page: str, told: dict[str, Any]) -> Iterator[str]:
             text = re.sub(rf"(?<![\w.,^]){re.escape(words)}\b".replace(r"\ ", r"\s+"), " ", text)
     text = re.sub(r"`[^`\n]*`|\]\([^)\n]*\)", " ", text)
     unit = rf"[- ](?:(?:million|thousand) )?(?:{'|'.join(told['units'])})\b| ?%"
-    for found in re.finditer(rf"[^\n]{{0,30}}(?<![\w.,^])(?:{NUMBER}(?:{unit})|\d[\d,]*\.\d+(?!\w|\.\d))", text):
-        yield f"{page}: '{found[0]}' is no measure of docs/measures.toml"
+    figure = rf"{NUMBER}(?:{unit})|\d[\d,]*\.\d+(?!\w|\.\d)|(?:{WORD}) (?:{'|'.join(told['things'])})\b"
+    for found in re.finditer(rf"(?<![\w.,^])(?:{figure})", text):
+        yield f"{page}: '{with_words_before(found)}' is no measure of docs/measures.toml"
+    code = "".join(re.findall(r"^```.*?^```|`[^`\n]*`", read(page), flags=re.M | re.S))
+    known = literals(code) | literals_of(*told["sources"])
+    for found in re.finditer(r"(?<![\w.,^])(?:\d{1,3}(?:,\d{3})+|\d\d+)(?![\w.]*\d)", re.sub(f"{figure}|{DATED}", " ", text)):
+        if found[0].replace(",", "") not in known:
+            yield f"{page}: '{with_words_before(found)}' is in no example of the page, nor in the sources or docs/measures.toml"
 
 
 def main() -> None:
