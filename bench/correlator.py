@@ -1,8 +1,8 @@
 #!/usr/bin/env python3
 """Compares the correlation of 'ptu run' with python3-multipletau over the same photons: correlator.py PROGRAM
 
-It makes a file of type HydraHarp2T2 whose photons have a known correlation: a light that goes on and off at random
-(a telegraph signal) shines on two inputs. The plan asks for the cross correlation of the two with 16 lags, which is
+It makes a file of type HydraHarp2T2 whose photons have a known correlation: a light source that switches on and off at
+random (a random telegraph signal), seen by two detectors. The plan asks for the cross correlation of the two with 16 lags, which is
 a multiple-tau correlator with 16 channels. Three things are compared, and the first that is not as it must be ends
 it with status 1:
 

@@ -1,4 +1,4 @@
-"""Correlations beyond a curve, against light that is known: a source that goes on and off, background, afterpulses, species."""
+"""Correlations beyond a curve, against known light: a source that switches on and off, background, afterpulses, species."""
 
 from typing import Any
 
@@ -11,7 +11,7 @@ from ptulab.groups import Group
 from ptulab.segments import Curve, correlation_by_segments, delays
 
 PERIOD = 50e-9  # seconds of a sync period
-LASTS = 500e-6  # of which the correlation of the light that goes on and off falls by e
+LASTS = 500e-6  # in which the correlation of the source that switches on and off falls by a factor of e
 
 
 def on_and_off(draws: Any, rate: float, seconds: float) -> Any:
@@ -99,7 +99,7 @@ def patterns_of(*lifetimes: float | None) -> Any:
 
 
 def test_filters_tell_species_apart_by_their_lifetimes() -> None:
-    """Light of 1 ns that goes on and off, and a level light of 4 ns as bright: alone 1, both 1 / 4, across nothing."""
+    """A source of 1 ns that switches on and off, and a steady one of 4 ns, as bright: alone 1, together 1 / 4, across nothing."""
     draws, seconds = np.random.default_rng(3), 6.0
     events = events_of([part(draws, on_and_off(draws, 30_000, seconds), 1.0), part(draws, level(draws, 30_000, seconds), 4.0)])
     rows = fcs.filters(patterns_of(1.0, 4.0), np.bincount(events["dtime"] // 10, minlength=50))

@@ -44,7 +44,7 @@ def test_correlations_are_those_of_ptu(program: str, folder: Path, events: Any, 
 
 
 def blinking(seed: int, ticks: int = 60000, dark: int = 40) -> Any:
-    """Photons of two detectors of a light that goes on and off at random: g = 1 + exp(-t / (dark / 2))."""
+    """Photons at two detectors of a source that switches on and off at random: g = 1 + exp(-t / (dark / 2))."""
     draws = np.random.default_rng(seed)
     on = np.cumsum(draws.random(ticks) < 1 / dark) % 2 == 0
     found = [(int(time), number) for number in (1, 2) for time in np.flatnonzero(on & (draws.random(ticks) < 0.2))]

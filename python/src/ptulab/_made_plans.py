@@ -68,7 +68,7 @@ class Plan:
     become ticks by the header of the file that the plan is run over, so one plan does for files of any tick.
 
     ``order="stop"`` refuses a file with late events, ``reserved="stop"`` one with reserved records, ``records`` is how many
-    records a file may have, and ``settle`` how many events may overtake one that is put back in order (docs/plan.md).
+    records a file may have. An event that at most ``settle`` later ones precede in the file is put back in order (docs/plan.md).
     ``str(plan)`` is its text as it stands, ``text(file)`` that for a file. Where a plan is wanted, one of these does.
     """
 
