@@ -1,5 +1,6 @@
 """Tests of inline_commands.py: pytest docs"""
 
+import subprocess
 from typing import Any
 
 import inline_commands
@@ -66,7 +67,12 @@ def test_commands_of_prose_and_of_blocks_that_arent_tried() -> None:
 
 def test_the_help_of_ptulab_is_its_own(monkeypatch: pytest.MonkeyPatch) -> None:
     calls: list[Any] = []
-    monkeypatch.setattr(inline_commands.subprocess, "run", lambda words, **more: calls.append(words) or type("Run", (), {"returncode": 2, "stdout": "usage"}))
+
+    def run(words: Any, **more: Any) -> Any:
+        calls.append(words)
+        return subprocess.CompletedProcess(words, 2, "usage")
+
+    monkeypatch.setattr(subprocess, "run", run)
     inline_commands.help_of_ptulab.cache_clear()
     assert inline_commands.help_of_ptulab("nothing") == "" and calls[0][1:] == ["nothing", "--help"]
     inline_commands.help_of_ptulab.cache_clear()
