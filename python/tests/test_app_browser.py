@@ -196,6 +196,11 @@ def typed(window: Window, selector: str, value: Any) -> None:
     window.js("const one = document.querySelector(arguments[0]); one.value = arguments[1]; for (const name of ['input', 'change']) one.dispatchEvent(new Event(name, {bubbles: true}))", selector, str(value))
 
 
+def gated(window: Window, line: str, many: int) -> None:
+    """The plan has so many lines with these gates."""
+    window.until(lambda: window.js("return document.getElementById('text').value").count(line) >= many, "a gate")
+
+
 def test_groups_by_hand_tell_bursts_of_two_lasers(window: Window, tmp_path: Path) -> None:
     """A group is added, named, and gets an input and a gate; what is typed into the plan comes to the table; and Undo takes back."""
     plan = "return document.getElementById('text').value"
@@ -214,7 +219,7 @@ def test_groups_by_hand_tell_bursts_of_two_lasers(window: Window, tmp_path: Path
         window.click(f"[aria-label='Add a gate to group {group}']")
         for word, value in (("from", begin), ("to", begin + 500)):
             typed(window, f"[aria-label='group {group}, gate 1 {word}, in ticks of the delay']", value)
-        window.until(lambda: window.js(plan).count(f"gates = [[{begin}, {begin + 500}]]") >= (2 if group == 2 else 1), "a gate")
+        gated(window, f"gates = [[{begin}, {begin + 500}]]", 2 if group == 2 else 1)
     window.click(f"[aria-label='Remove group {groups + 1}']")
     window.until(lambda: window.js(plan).count("[[group]]") == groups, "no group")
     window.click("#undo")
@@ -231,6 +236,11 @@ def test_groups_by_hand_tell_bursts_of_two_lasers(window: Window, tmp_path: Path
     window.script_prints_the_same(tmp_path)
     window.click("[data-kind=page]")
     assert b"E and S</h2>" in window.file("page.html")
+
+
+def outlined(window: Window, name: str) -> None:
+    """A plot has a region."""
+    window.until(lambda: window.js("return document.getElementById(`figure-${arguments[0]}-plot`).layout.shapes.length", name) == 1, name)
 
 
 def test_a_session_brings_back_regions_thresholds_and_what_was_held(window: Window) -> None:
@@ -255,8 +265,8 @@ def test_a_session_brings_back_regions_thresholds_and_what_was_held(window: Wind
     values = {name: window.js("return document.getElementById(arguments[0]).value", name) for name in ("region-threshold", "figure-cube-1-delays-threshold", "fit-background")}
     assert values == {"region-threshold": "95", "figure-cube-1-delays-threshold": "95", "fit-background": "3"}
     assert window.js("return document.getElementById('hold-background').checked") and "\nbackground: 3\n" in window.text("#numbers")
-    shapes = "return document.getElementById(`figure-${arguments[0]}-plot`).layout.shapes.length"
-    assert [window.until(lambda: window.js(shapes, name), name) for name in ("cube-1-delays", "phasors")] == [1, 1]
+    outlined(window, "cube-1-delays")
+    outlined(window, "phasors")
     assert "threshold = 95\n" in window.file("regions.py").decode()
     shutil.rmtree(window.served.folder / "ptulab-sessions" / "two regions")
 
@@ -294,6 +304,10 @@ def test_looks_runs_and_exports_are_stopped(window: Window) -> None:
     assert gone(process) and window.js("return document.getElementById('trouble').hidden")
     window.click("[data-kind=photons]")
     assert window.file("photons.hdf5").startswith(b"\x89HDF")
+    window.click("[data-kind=photons]")
+    process = begun(window.served)
+    window.choose("bursts.ptu", "trace")  # with which the result goes, and its exports
+    assert gone(process)
 
 
 # ## For people

@@ -4,7 +4,7 @@ import { list, lookAround, mark } from "./files.js";
 import { look } from "./look.js";
 import { open, questions, stop } from "./questions.js";
 import { ask } from "./server.js";
-import { show } from "./take.js";
+import { leave, show } from "./take.js";
 
 let chosen = new AbortController();
 
@@ -12,6 +12,7 @@ let chosen = new AbortController();
 async function choose(name, session = null) {
   chosen.abort();
   stop();
+  leave();
   const mine = chosen = new AbortController();
   trouble("");
   mark(name);

@@ -7,6 +7,9 @@ import { ask, bar, work } from "./server.js";
 /** @typedef {{begun: string, figures: any[], numbers: string, script: string, files: string[], fit?: Parameter[], table?: {heads: string[], rows: string[][]}}} Result */
 /** @typedef {{name: string, value: number, factor: number, unit: string, held: boolean}} Parameter */
 const OTHERS = [["page", "A page of the result", "figures"], ["images", "The image as OME-TIFF", "image"], ["photons", "The photons as Photon-HDF5", ""]];
+let leaving = new AbortController();
+/** Ends the exports of the result that was shown, which has gone with their buttons. */
+export const leave = () => { leaving.abort(); leaving = new AbortController(); };
 const words = (/** @type {unknown} */ error) => error instanceof Error ? error.message : String(error);
 
 /** @typedef {{regions: number[][][], phasors: number[][][], threshold?: number, thresholds: Record<string, number>}} View how a result is looked at */
@@ -18,6 +21,7 @@ const thresholds = () => Object.fromEntries([.../** @type {NodeListOf<HTMLInputE
 /** Shows a result. @param {Result} told @param {any} asked what was asked, of a session with its `view` */
 export function show(told, asked) {
   const /** @type {View | undefined} */ before = asked.view;
+  leave();
   view = () => ({ regions: [], phasors: [], thresholds: thresholds() });
   byId("result").hidden = false;
   document.dispatchEvent(new CustomEvent("regions", { detail: { picture: [], plane: [] } }));
@@ -29,6 +33,7 @@ export function show(told, asked) {
   const others = OTHERS.filter(([, , wanted]) => has[/** @type {keyof typeof has} */ (wanted)]).map(([kind, text]) => {
     const button = make("button", { type: "button", "data-kind": kind, text, on: { click: async () => {
       const mine = new AbortController(), place = make("span"), halt = make("button", { type: "button", class: "halt", text: "Stop", "aria-label": `Stop: ${text}`, on: { click: () => mine.abort() } });
+      leaving.signal.addEventListener("abort", () => mine.abort());
       button.toggleAttribute("disabled", true);
       button.after(" ", place, halt);
       const progress = bar(place, text);
