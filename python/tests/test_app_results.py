@@ -99,6 +99,26 @@ def test_an_image_without_lifetimes(folder: Path, tmp_path: Path) -> None:
         assert why in others["light"]["reason"]
 
 
+def test_python_tells_how_far_it_reads_where_it_counts(folder: Path, tmp_path: Path, monkeypatch: pytest.MonkeyPatch) -> None:
+    """Of a file, and of two one after the other; the program tells that by itself."""
+    from ptulab.app import _job
+
+    heard: list[float] = []
+    has_read = _job.Work.has_read
+    monkeypatch.setattr(_job.Work, "has_read", lambda work, *told: (has_read(work, *told), heard.append(work.done)))
+    monkeypatch.setattr("ptulab.groups.PIECE", 10_000)
+    asked = {"plan": PAIR.format(0, 1), "analysis": "pulsed", "settings": {}}
+    done_here("run", folder / "pulsed.ptu", tmp_path, **asked)
+    assert len(heard) > 3 and heard == sorted(heard) and heard[-1] == 1.0
+    heard.clear()
+    done_here("many", folder / "pulsed.ptu", tmp_path, files=[str(folder / "pulsed.ptu"), str(folder / "pulsed2.ptu")], **asked)
+    assert len(heard) > 6 and heard == sorted(heard) and heard[-1] == pytest.approx(2 / 3)
+    heard.clear()
+    trace = PAIR.format(0, 1) + "\n[[trace]]\ngroup = 1\nwidth = 1000\nbins = 10\n"
+    done_here("run", folder / "pulsed.ptu", tmp_path, plan=trace, analysis="trace", settings={"from_seconds": 0.001})
+    assert heard == []
+
+
 # ## Sums over many files of what Python counts, and of windows of time
 
 

@@ -10,6 +10,7 @@ import functools
 import mmap
 import os
 from collections.abc import Callable, Iterator, Sequence
+from contextvars import ContextVar
 from dataclasses import dataclass, field
 from typing import Any, overload
 
@@ -34,6 +35,8 @@ PIECE = 1 << 16  # records that are decoded together, so that their arrays stay 
 GIVEN_BACK = 1 << 24  # bytes of the file that stay mapped behind the records that are read
 COLUMNS = {"record": "records", "time": "times", "dtime": "dtimes", "number": "numbers"}  # by their names in rows
 UNKNOWN = Header("", {}, None, None, None, 0, 0)  # of rows alone
+Heard = Callable[[str, float], None]  # a path, and the part of its records that were read
+reading: ContextVar[Heard | None] = ContextVar("reading", default=None)  # hears how far files are read in pieces
 
 
 @dataclass(eq=False)
@@ -205,6 +208,8 @@ def iter_events(path: str | os.PathLike[str], *, records: int = 1 << 20) -> Iter
         many = min(records, header.records - first)
         room = _Room(header, first, many)
         walk.fill(room, first + many)
+        if heard := reading.get():
+            heard(walk.path, (first + many) / header.records)
         yield room.events()
     _ends_whole(path, header)
 

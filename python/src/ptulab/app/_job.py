@@ -57,6 +57,11 @@ class Work:
         """So many bytes were looked at, before the program counts them."""
         self.done = WORDS * size / self.size
 
+    def has_read(self, path: str, part: float) -> None:
+        """Python read such a part of a file."""
+        if path == self.path:
+            self.done = self.begin + (self.end - self.begin) * part
+
     def has_done(self, part: float) -> None:
         """Such a part of the work is done."""
         self.done = part
@@ -118,7 +123,8 @@ def run(work: Work) -> Any:
     folder, analysis = Path(work.request["out"]), analysis_of(work.request["analysis"])
     script = _prepared(work, folder)
     work.words = "counts in Python" if analysis.by_python else "counts"
-    names, numbers = _ran(folder, "analysis.py")
+    with _listening(work, analysis.by_python):
+        names, numbers = _ran(folder, "analysis.py")
     work.words = "draws"
     _written(folder, names, numbers)
     from ._more import notebook_of
@@ -139,6 +145,18 @@ def _prepared(work: Work, folder: Path) -> str:
     (folder / "plan.toml").write_text(request["plan"], "utf-8")
     (folder / "analysis.py").write_text(script, "utf-8", errors="surrogateescape")
     return script
+
+
+@contextlib.contextmanager
+def _listening(work: Work, by_python: bool) -> Iterator[None]:
+    """Hears how far Python reads, where it counts."""
+    from ..events import reading
+
+    heard = reading.set(work.has_read if by_python else None)
+    try:
+        yield
+    finally:
+        reading.reset(heard)
 
 
 def _ran(folder: Path, script: str, out: io.StringIO | None = None) -> tuple[dict[str, Any], str]:
@@ -218,7 +236,8 @@ def many(work: Work) -> Any:
     analysis = analysis_of(work.request["analysis"])
     script = _prepared(work, folder)
     (folder / "many.py").write_text(many_script(analysis, files), "utf-8", errors="surrogateescape")
-    _, numbers = _ran(folder, "many.py", _Heard(lambda number: work.goes_on_with(number, len(files) + 1, files[number])))
+    with _listening(work, analysis.by_python):
+        _, numbers = _ran(folder, "many.py", _Heard(lambda number: work.goes_on_with(number, len(files) + 1, files[number])))
     heads, rows = results_of(numbers)
     with open(folder / "results.csv", "w", encoding="utf-8", errors="surrogateescape", newline="") as out:
         csv.writer(out, lineterminator="\n").writerows([heads, *rows])
