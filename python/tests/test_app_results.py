@@ -3,6 +3,7 @@
 import csv
 import json
 import os
+import re
 import subprocess
 import sys
 from collections.abc import Iterator
@@ -31,7 +32,7 @@ def words(monkeypatch: pytest.MonkeyPatch) -> None:
 def folder(tmp_path_factory: pytest.TempPathFactory) -> Path:
     """Simulated files, of some of them two."""
     here = tmp_path_factory.mktemp("simulated")
-    for name in ("lasers", "pulsed", "bursts", "diffusion", "picture"):
+    for name in ("lasers", "pulsed", "bursts", "diffusion", "picture", "emitter"):
         getattr(simulated, name)(here / f"{name}.ptu")
     for name in ("pulsed", "bursts"):
         getattr(simulated, name)(here / f"{name}2.ptu", 20)
@@ -170,9 +171,21 @@ def test_correlations_are_taken_together_by_their_photons(folder: Path, sums: An
 
 def test_windows_of_what_the_program_counts_add_up(sums: Any) -> None:
     trace = "\n[[trace]]\ngroup = 1\nwidth = 1000000\nbins = 100\n"
-    _, whole, parts = sums("trace", PAIR.format(1, 2) + trace, {"from_seconds": 1.0, "to_seconds": 2.0}, ["bursts", "bursts2"])
+    told, whole, parts = sums("trace", PAIR.format(1, 2) + trace, {"from_seconds": 1.0, "to_seconds": 1.5}, ["bursts", "bursts2"])
+    assert told["numbers"].count("\nbins: 49\n") == 3  # of half a second, in each file and in the sum
+    means = [float(one) for one in re.findall("mean: ([0-9.]+) photons", told["numbers"])]
+    assert means[2] == pytest.approx(means[0] + means[1], rel=1e-4) and 10 < means[0] < 15
     assert (columns(whole / "trace.csv")["photons"] == sum(columns(part / "trace.csv")["photons"] for part in parts)).all()
-    assert (whole / "report.txt").is_file() and columns(whole / "trace.csv")["photons"].sum() > 1500
+    assert (whole / "report.txt").is_file() and columns(whole / "trace.csv")["photons"].sum() > 700
+
+
+def test_windows_of_one_emitter_add_up_to_g2(sums: Any) -> None:
+    """Normalised by what is expected of each window; a window twice has the g2 of one, with a smaller error."""
+    tables = "\n[[coincidence]]\nfirst = 1\nsecond = 2\nreach = 1005\nwidth = 10\n" + "".join(f"\n[[trace]]\ngroup = {group}\nwidth = 100000000\nbins = 1\n" for group in (1, 2))
+    told, whole, (part, _) = sums("antibunching", PAIR.format(1, 2) + tables, {"from_seconds": 0.0002}, ["emitter", "emitter"])
+    one, both = columns(part / "g2.csv"), columns(whole / "g2.csv")
+    assert (both["pairs"] == 2 * one["pairs"]).all() and both["g2"] == pytest.approx(one["g2"]) and both["error"] == pytest.approx(one["error"] / np.sqrt(2))
+    assert both["g2"].min() < 0.25 and "g2 at 0: " in told["numbers"].split("== the sum of")[1]
 
 
 def test_what_is_left_out_of_a_sum_is_said(folder: Path, tmp_path: Path) -> None:

@@ -320,9 +320,13 @@ def _file_of(names: Names) -> str:
 
 
 def _trace(document: Names, settings: Settings, second: str | None) -> str:
+    is_part = settings["from_seconds"] or settings["to_seconds"]
+    begin = "np.argmax(trace.counts > 0)  # the times of a window begin before its first photon" if is_part else "0"
     return f"""{REPORT}trace = report.table("trace", {settings['number']})
-full = ((report.head.last or 0) - trace.settings["origin"]) // trace.settings["width"]
-counts = trace.counts[: max(1, full)]  # without the bins that are longer than the file
+last = report.head.last  # None in a sum, of which the last photon tells the end
+end = np.flatnonzero(trace.counts).max(initial=0) if last is None else (last - trace.settings["origin"]) // trace.settings["width"]
+begin = {begin}
+counts = trace.counts[begin : max(begin + 1, end)]  # without the bins that are longer than the file
 frequencies, edges = np.histogram(counts, bins=min(64, int(np.ptp(counts)) + 1))
 print(f"bins: {{len(counts):,}}")
 print(f"mean: {{counts.mean():.5g}} photons in a bin")
