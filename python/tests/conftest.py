@@ -19,7 +19,7 @@ ROOT = Path(__file__).resolve().parents[2]  # the checkout
 EXAMPLES = ROOT / "examples"
 
 
-LONG = ("test_many_hosts", "test_app", "test_app_browser", "test_many", "test_browser", "test_notebook", "test_smfret", "test_fits")
+LONG = ("test_many_hosts", "test_app_browser", "test_app", "test_app_results", "test_many", "test_browser", "test_notebook", "test_smfret", "test_fits")
 
 
 def pytest_collection_modifyitems(items: list[pytest.Item]) -> None:
