@@ -27,6 +27,7 @@ log = logging.getLogger(__name__)
 
 PHOTON_HDF5 = "0.5"  # the version of the specification
 FORMAT_URL = "http://photon-hdf5.org/"
+TITLE = "Photon-HDF5: A file format for photon-counting detector based single-molecule spectroscopy experiments."
 CHUNK = 1 << 16  # photons that are packed together; eight bytes of each are within HDF5's cache
 LOOK = 0.2  # of all that is done, the part in which it is looked what photons there are
 
@@ -146,18 +147,16 @@ def write_photon_hdf5(
     setup, chosen, said = Setup() if setup is None else setup, group_of(group), progress or (lambda part: None)
     unit = _positive(header_of(events).global_seconds)
     photons = _looked_at(events, chosen, lambda part: said(LOOK * part))
-    tree = {
+    tree: dict[str, Any] = {
         "acquisition_duration": photons.stop * unit,
         "description": description,
         "photon_data": _photon_data(photons, setup),
         "setup": _setup(photons, setup),
         "identity": _identity(author, affiliation, Path(path).name),
     }
-    if provenance := _provenance(photons.header, filename):
-        tree["provenance"] = provenance
+    tree |= {"provenance": told} if (told := _provenance(photons.header, filename)) else {}
     with whole_path(path) as part, h5py.File(part, "w") as file:
-        title = "Photon-HDF5: A file format for photon-counting detector based single-molecule spectroscopy experiments."
-        _put(file, "", tree, title)
+        _put(file, "", tree, TITLE)
         for name, text in (("format_name", "Photon-HDF5"), ("format_version", PHOTON_HDF5), ("format_url", FORMAT_URL)):
             file.attrs[name] = np.bytes_(text.encode())
         _fill(file["photon_data"], events, chosen, lambda part: said(LOOK + (1 - LOOK) * part))
