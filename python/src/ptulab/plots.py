@@ -201,8 +201,8 @@ def plot_g2(pairs: Coincidences | Table, axes: Any = None) -> Any:
 
 
 def plot_start_stops(stops: StartStops, axes: Any = None) -> Any:
-    """Times between neighbours."""
-    return _plot_steps(stops.ticks, stops.seconds, stops.counts, "time between photons", "times a bin", _axes(axes))
+    """Delays from a start to the stop that follows it, neighbours only."""
+    return _plot_steps(stops.ticks, stops.seconds, stops.counts, "delay from start to stop", "counts", _axes(axes))
 
 
 def _plot_steps(
@@ -227,7 +227,7 @@ def _trace(table: Table, axes: Any) -> Any:
 
 
 def _startstop(table: Table, axes: Any) -> Any:
-    return _plot_steps(table.ticks, table.seconds, table.counts, "time between photons", "times a bin", axes)
+    return _plot_steps(table.ticks, table.seconds, table.counts, "delay from start to stop", "counts", axes)
 
 
 def _correlation(table: Table, axes: Any) -> Any:

@@ -1,3 +1,4 @@
+// @ts-check
 // The window: files and sessions on the left, and the one that was chosen on the right.
 import { byId, make, trouble } from "./dom.js";
 import { list, lookAround, mark } from "./files.js";
@@ -8,7 +9,8 @@ import { leave, show } from "./take.js";
 
 let chosen = new AbortController();
 
-/** Looks at a file and shows what can be asked of it; what was done before ends. @param {string} name @param {any} [session] */
+/** Looks at a file and shows what can be asked of it; what was done before ends.
+ * @param {string} name @param {any} [session] */
 async function choose(name, session = null) {
   chosen.abort();
   stop();
@@ -35,7 +37,8 @@ async function choose(name, session = null) {
   }
 }
 
-/** Shows the result that a session kept. @param {any} session */
+/** Shows the result that a session kept.
+ * @param {any} session */
 async function again(session) {
   const answer = await fetch(`/result/${session.begun}/shown.json`);
   if (answer.ok) show({ ...await answer.json(), begun: session.begun, files: session.names }, session);

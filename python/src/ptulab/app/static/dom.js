@@ -1,3 +1,4 @@
+// @ts-check
 // Elements of the page. Texts go in as text alone, whatever they hold.
 
 /** @param {string} id @returns {HTMLElement} */
@@ -28,10 +29,12 @@ export function table(caption, heads, rows) {
     make("table", {}, make("caption", { text: caption }), make("thead", {}, head), make("tbody", {}, ...body)));
 }
 
-/** A number in short. @param {number | null} value */
+/** A number in short.
+ * @param {number | null} value */
 export const short = (value) => value === null ? "not told" : Number(value).toLocaleString("en", { maximumSignificantDigits: 6 });
 
-/** Says what went wrong, till the next thing is done. @param {string} words */
+/** Says what went wrong, till the next thing is done.
+ * @param {string} words */
 export function trouble(words) {
   const place = byId("trouble");
   place.hidden = !words;

@@ -1,3 +1,4 @@
+// @ts-check
 // The files of the folder, each with what its header says and then with what a look in the background finds.
 import { byId, make, short } from "./dom.js";
 import { ask, bar, work } from "./server.js";
@@ -10,7 +11,8 @@ export const looks = new Map();
 let background = null;
 let paused = 0, looking = false, stopped = false;
 
-/** Lists the files. @param {(name: string) => void} chosen */
+/** Lists the files.
+ * @param {(name: string) => void} chosen */
 export async function list(chosen) {
   const told = await ask("files");
   files = told.files;
@@ -30,12 +32,14 @@ function said(file) {
   return [file.type, size, found, file.odd || (seen ? "whole" : "")].filter((some) => some).join(", ");
 }
 
-/** Marks the file that is looked at. @param {string} name */
+/** Marks the file that is looked at.
+ * @param {string} name */
 export function mark(name) {
   for (const button of document.querySelectorAll("#files button")) button.setAttribute("aria-current", String(button.getAttribute("data-name") === name));
 }
 
-/** Shows what a look found. @param {string} name */
+/** Shows what a look found.
+ * @param {string} name */
 export function found(name) {
   const button = [...document.querySelectorAll("#files button")].find((one) => one.getAttribute("data-name") === name);
   const file = files.find((one) => one.name === name);
@@ -78,7 +82,8 @@ async function lookAt(file, heard) {
   found(file.name);
 }
 
-/** Does something while no file is looked at in the background. @template T @param {() => Promise<T>} what @returns {Promise<T>} */
+/** Does something while no file is looked at in the background.
+ * @template T @param {() => Promise<T>} what @returns {Promise<T>} */
 export async function alone(what) {
   paused += 1;
   background?.abort();

@@ -1,3 +1,4 @@
+// @ts-check
 // The first look at a file.
 import { byId, make, short, table } from "./dom.js";
 import { alone, found, looks } from "./files.js";
@@ -43,5 +44,5 @@ function show(told) {
     lasts: info.seconds === null ? "" : `${short(info.seconds)} s`, sync: sync.filter((some) => some).join("; "), "late events": short(info.late), markers };
   const list = make("dl", {}, ...Object.entries(lines).filter(([, value]) => value).flatMap(([word, value]) => [make("dt", { text: word }), make("dd", { text: value })]));
   const rows = info.inputs.map((/** @type {any} */ one) => [String(one.number), short(one.photons), short(one.rate_hertz)]);
-  byId("look-told").replaceChildren(list, table("Inputs", ["input", "photons", "photons a second"], rows), ...told.figures.map(draw));
+  byId("look-told").replaceChildren(list, table("Inputs", ["input", "photons", "photons a second"], rows), ...told.figures.map((/** @type {any} */ one) => draw(one)));
 }

@@ -1,3 +1,4 @@
+// @ts-check
 // The plan: its groups as a table, and its text. Each follows the other, and what is wrong stands at its line.
 import { byId, make, trouble } from "./dom.js";
 import { ask } from "./server.js";
@@ -5,7 +6,8 @@ import { ask } from "./server.js";
 const text = /** @type {HTMLTextAreaElement} */ (byId("text"));
 /** @type {string[]} texts before changes by a click */
 let before = [];
-/** @type {{name: string, inputs: number[], gates: number[][]}[] | null} */
+/** @typedef {{name: string, inputs: number[], gates: number[][]}} Group */
+/** @type {Group[] | null} */
 let groups = null;
 let asked = 0;
 /** @type {number | undefined} */
@@ -16,7 +18,8 @@ let target = 0; // the group that gets a gate that is dragged
 
 export const plan = () => text.value;
 
-/** Shows a plan for a file with these inputs. @param {string} written @param {number[]} inputs @param {boolean} gates */
+/** Shows a plan for a file with these inputs.
+ * @param {string} written @param {number[]} inputs @param {boolean} gates */
 export function show(written, inputs, gates) {
   of = { inputs, gates };
   before = [];
@@ -31,7 +34,7 @@ async function follow() {
   if (mine === asked) shown(told);
 }
 
-/** @param {{groups: typeof groups, findings: any[]}} told @param {boolean} [keep] whether the table stays as it is */
+/** @param {{groups: Group[] | null, findings: any[]}} told @param {boolean} [keep] whether the table stays as it is */
 function shown(told, keep = false) {
   if (!keep) groups = told.groups; // else the fields of the table hold theirs, which were written
   say(told.findings, "");
@@ -42,7 +45,8 @@ function shown(told, keep = false) {
   document.dispatchEvent(new CustomEvent("gates", { detail: of.gates && groups ? groups.flatMap((group) => group.gates) : [] }));
 }
 
-/** The numbers of the lines, those with findings marked. @param {any[]} findings */
+/** The numbers of the lines, those with findings marked.
+ * @param {any[]} findings */
 function numbered(findings) {
   const refused = new Set(findings.filter((one) => one.refused).map((one) => one.line)), said = new Set(findings.map((one) => one.line));
   byId("lines").replaceChildren(...text.value.split("\n").flatMap((_, at) => {
@@ -52,7 +56,8 @@ function numbered(findings) {
   byId("lines").scrollTop = text.scrollTop;
 }
 
-/** Lists what is wrong with the plan; a click goes to the line. @param {any[]} findings @param {string} none */
+/** Lists what is wrong with the plan; a click goes to the line.
+ * @param {any[]} findings @param {string} none */
 export function say(findings, none) {
   numbered(findings);
   text.setAttribute("aria-invalid", String(findings.some((one) => one.refused)));
@@ -77,7 +82,8 @@ async function write() {
   shown(told, true);
 }
 
-/** The fields of a group. @param {{name: string, inputs: number[], gates: number[][]}} group @param {number} at */
+/** The fields of a group.
+ * @param {{name: string, inputs: number[], gates: number[][]}} group @param {number} at */
 function fields(group, at) {
   const label = `group ${at + 1}`, change = () => { clearTimeout(timer); timer = window.setTimeout(write, 300); };
   const name = make("input", { type: "text", value: group.name, maxlength: "60", size: "14", on: { input: (/** @type {any} */ event) => { group.name = event.target.value; change(); } } });
@@ -102,7 +108,8 @@ function gateFields(group, gate, place, label, change) {
   return make("p", {}, ...ends, remove);
 }
 
-/** Which group gets a gate that is dragged on the decay. @param {number} at */
+/** Which group gets a gate that is dragged on the decay.
+ * @param {number} at */
 function goal(at) {
   const radio = /** @type {HTMLInputElement} */ (make("input", { type: "radio", name: "goal", value: String(at), "aria-label": `group ${at + 1} gets the gates that are dragged on the decay` }));
   radio.checked = at === target;
@@ -110,7 +117,8 @@ function goal(at) {
   return radio;
 }
 
-/** A part of the first look's decay, which was dragged, becomes a gate. @param {[number, number]} range @param {number} tick */
+/** A part of the first look's decay, which was dragged, becomes a gate.
+ * @param {[number, number]} range @param {number} tick */
 function dragged(range, tick) {
   const group = (groups || [])[Math.min(target, (groups || []).length - 1)];
   if (!group || byId("ask").hidden) return trouble("Open a question first: gates belong to the groups of its plan.");

@@ -1,3 +1,4 @@
+// @ts-check
 // Draws figures with Plotly: curves that share their axes, and pictures. Plotly reads some HTML in its labels, so every text
 // goes to it escaped.
 import { make, short, table } from "./dom.js";
@@ -40,7 +41,8 @@ for (const media of [dark, narrow]) media.addEventListener("change", () => {
   again_all();
 });
 
-/** A number with its unit; seconds with the one that makes it short. @param {number | null} value @param {string} unit */
+/** A number with its unit; seconds with the one that makes it short.
+ * @param {number | null} value @param {string} unit */
 function measured(value, unit) {
   if (value === null) return "nothing";
   if (unit !== "s" || value === 0) return short(value) + (unit ? " " + unit : "");
@@ -54,7 +56,8 @@ const axis = (label, logarithmic) => ({
   automargin: true, exponentformat: "power", uirevision: logarithmic ? "log" : "linear",
 });
 
-/** Labels of a logarithmic axis: each decade of many, of few also 2 and 5 of each. @param {any} axis @param {(number | null)[]} values */
+/** Labels of a logarithmic axis: each decade of many, of few also 2 and 5 of each.
+ * @param {any} axis @param {(number | null)[]} values */
 function labelled(axis, values) {
   const some = /** @type {number[]} */ (values.filter((value) => value !== null && value > 0));
   const decades = some.length ? Math.log10(some.reduce((one, other) => Math.max(one, other)) / some.reduce((one, other) => Math.min(one, other))) : 0;
@@ -67,8 +70,9 @@ const layout = () => ({
   legend: { orientation: "h", y: 1.12, x: 0 }, showlegend: false,
 });
 
-/** The section of a figure, drawn once it is on the page; `of` is the question whose result it is. @param {any} figure @param {{of?: string}} [told] */
-export function draw(figure, { of = "" } = {}) {
+/** The section of a figure, drawn once it is on the page; `of` is the question whose result it is.
+ * @param {any} figure @param {string} [of] */
+export function draw(figure, of = "") {
   const id = `figure-${figure.name}`;
   const plot = make("div", { id: `${id}-plot`, class: `plot ${figure.kind}`, tabindex: "0", role: "application", "aria-label": figure.title, "aria-describedby": `${id}-summary ${id}-keys` });
   if (figure.kind === "curves" && figure.tick) plot.dataset.tick = String(figure.tick);
@@ -104,14 +108,16 @@ export function draw(figure, { of = "" } = {}) {
   return section;
 }
 
-/** What was chosen by dragging over a figure. @param {any} figure @param {number[]} range */
+/** What was chosen by dragging over a figure.
+ * @param {any} figure @param {number[]} range */
 function chosen(figure, range) {
   const [from, to] = [Math.min(...range), Math.max(...range)];
   document.dispatchEvent(new CustomEvent("chosen", { detail: { what: figure.drag, range: [from, to], tick: figure.tick } }));
   again_all();
 }
 
-/** Regions that were drawn on a picture, in pixels of the file, or on the plane of phasors. @param {Picture | Plane} figure @param {any[]} shapes */
+/** Regions that were drawn on a picture, in pixels of the file, or on the plane of phasors.
+ * @param {Picture | Plane} figure @param {any[]} shapes */
 function outlined(figure, shapes) {
   const to = (/** @type {string} */ end) => figure.kind === "plane" ? Number(end) : Number(end) / (figure.micrometres || 1) + 0.5;
   const drawn = shapes.filter((shape) => shape.type === "path").map((shape) => [...shape.path.matchAll(/(-?[\d.]+(?:e-?\d+)?),(-?[\d.]+(?:e-?\d+)?)/g)].map(([, x, y]) => [to(x), to(y)]));
@@ -120,13 +126,15 @@ function outlined(figure, shapes) {
   again_all();
 }
 
-/** The outlines of the regions of a figure, as shapes. @param {Picture | Plane} figure @returns {any[]} */
+/** The outlines of the regions of a figure, as shapes.
+ * @param {Picture | Plane} figure @returns {any[]} */
 function outlines(figure) {
   const from = (/** @type {number} */ end) => figure.kind === "plane" ? end : (end - 0.5) * (figure.micrometres || 1);
   return over.regions[figure.kind].map((corners, at) => ({ type: "path", line: { color: figure.kind === "plane" ? PAINTS[at % PAINTS.length] : REGION, width: 2 }, path: `M${corners.map(([x, y]) => `${from(x)},${from(y)}`).join("L")}Z` }));
 }
 
-/** A decay and its residuals have one zoom of their delays, the pictures of a scan one of both axes. @param {any} figure @param {HTMLElement} plot @param {any} event */
+/** A decay and its residuals have one zoom of their delays, the pictures of a scan one of both axes.
+ * @param {any} figure @param {HTMLElement} plot @param {any} event */
 function linked(figure, plot, event) {
   for (const [other] of drawn) {
     const axes = other !== plot && other.isConnected ? shared(plot, other) : [];
@@ -140,7 +148,8 @@ function linked(figure, plot, event) {
   }
 }
 
-/** The axes that two plots share. @param {HTMLElement} one @param {HTMLElement} other @returns {string[]} */
+/** The axes that two plots share.
+ * @param {HTMLElement} one @param {HTMLElement} other @returns {string[]} */
 function shared(one, other) {
   if (one.dataset.picture) return one.dataset.picture === other.dataset.picture ? ["xaxis", "yaxis"] : [];
   const stem = (/** @type {HTMLElement} */ plot) => plot.id.replace(/(-rest)?-plot$/, "");
@@ -219,7 +228,8 @@ function curves(figure, controls) {
   };
 }
 
-/** What was chosen by dragging, as bands over a figure. @param {Curves} figure @returns {any[]} */
+/** What was chosen by dragging, as bands over a figure.
+ * @param {Curves} figure @returns {any[]} */
 function bands(figure) {
   const tick = figure.tick || 1, last = Math.max(0, ...figure.curves.map((one) => one.x[one.x.length - 1] || 0));
   const those = figure.drag === "gate" ? over.gates.map((gate) => gate.map((end) => end * tick)) : figure.drag === "time" && over.time ? [[over.time[0], over.time[1] || last]] : [];
@@ -274,7 +284,8 @@ function picture(figure, controls, id) {
   };
 }
 
-/** The plane of phasors with the half circle of single lifetimes. @param {Plane} figure */
+/** The plane of phasors with the half circle of single lifetimes.
+ * @param {Plane} figure */
 function plane(figure) {
   const counts = unpacked(figure.counts), { rows, columns, cells } = figure, circle = Array.from({ length: 181 }, (_, at) => at * Math.PI / 180);
   const middle = (/** @type {number} */ first, /** @type {number} */ at) => Number(((first + at + 0.5) / cells).toFixed(4));

@@ -1,3 +1,4 @@
+// @ts-check
 // What can be asked of a file: the questions, the settings of one, its run and its result.
 import { byId, make, short, trouble } from "./dom.js";
 import { alone, files } from "./files.js";
@@ -12,7 +13,8 @@ const now = { file: "", inputs: [], mode: "", asked: null, settings: [], second:
 const windows = new Map();
 const button = (/** @type {string} */ id) => /** @type {HTMLButtonElement} */ (byId(id));
 
-/** Shows what can be asked of a file. @param {string} file @param {any} told what its first look tells */
+/** Shows what can be asked of a file.
+ * @param {string} file @param {any} told what its first look tells */
 export function questions(file, told) {
   Object.assign(now, { file, inputs: told.info.inputs.map((/** @type {any} */ one) => one.number), mode: told.info.mode, settings: [] });
   windowed(file, windows.get(file) || null);
@@ -28,7 +30,8 @@ function list(told) {
       make("strong", { text: one.title }), make("span", { class: "faint", text: one.reason ? `Not of this file: ${one.reason}.` : one.means + (one.python ? " Counted by Python." : "") })))));
 }
 
-/** Opens a question with its plan and settings. @param {any} one @param {any} [kept] those of a session */
+/** Opens a question with its plan and settings.
+ * @param {any} one @param {any} [kept] those of a session */
 export async function open(one, kept = null) {
   now.asked = one;
   now.fit = kept?.settings?.fit || {};
@@ -61,7 +64,8 @@ function second(chosen) {
 
 const settings = () => ({ ...Object.fromEntries(now.settings.map((input) => [input.dataset.key, Number(input.value)])), fit: now.fit });
 
-/** The files over which the same can be done. @param {string[]} ticked */
+/** The files over which the same can be done.
+ * @param {string[]} ticked */
 function others(ticked) {
   const type = files.find((file) => file.name === now.file)?.type;
   const same = files.filter((file) => !file.wrong && file.type === type);
@@ -77,7 +81,8 @@ const boxes = () => /** @type {HTMLInputElement[]} */ ([...document.querySelecto
 /** @param {boolean} checked */
 const tick = (checked) => boxes().forEach((box) => { box.checked = checked; });
 
-/** Runs the question over the file, or over many. @param {"run" | "many"} kind */
+/** Runs the question over the file, or over many.
+ * @param {"run" | "many"} kind */
 async function run(kind) {
   const wrong = now.settings.find((input) => !input.reportValidity());
   if (wrong) return wrong.focus();

@@ -1,3 +1,4 @@
+// @ts-check
 // What is asked of the server. Every answer is JSON, that of work a line of it for each thing that is said.
 
 /** @param {string} name @param {object} asked @param {AbortSignal} [signal] */
@@ -42,7 +43,8 @@ export async function work(name, asked, heard, signal) {
   return { ...last.result, begun };
 }
 
-/** A bar that shows how far work is. @param {HTMLElement} place @param {string} label */
+/** A bar that shows how far work is.
+ * @param {HTMLElement} place @param {string} label */
 export function bar(place, label) {
   const shown = document.createElement("progress");
   shown.setAttribute("aria-label", label);

@@ -1,3 +1,4 @@
+// @ts-check
 // What is taken along of a result: its files, more of them for other programs, a session; and the regions of its image.
 import { byId, make, short, table, trouble } from "./dom.js";
 import { alone } from "./files.js";
@@ -13,12 +14,15 @@ export const leave = () => { leaving.abort(); leaving = new AbortController(); }
 const words = (/** @type {unknown} */ error) => error instanceof Error ? error.message : String(error);
 
 /** @typedef {{regions: number[][][], phasors: number[][][], threshold?: number, thresholds: Record<string, number>}} View how a result is looked at */
-/** What a session keeps of it, of the result that is shown. @type {() => View} */
+/** What a session keeps of it, of the result that is shown.
+ * @type {() => View} */
 let view = () => ({ regions: [], phasors: [], thresholds: thresholds() });
-/** The least photons that are drawn in each picture. @returns {Record<string, number>} */
+/** The least photons that are drawn in each picture.
+ * @returns {Record<string, number>} */
 const thresholds = () => Object.fromEntries([.../** @type {NodeListOf<HTMLInputElement>} */ (document.querySelectorAll("#result input[type=range]"))].map((one) => [one.id.replace(/^figure-|-threshold$/g, ""), Number(one.value)]));
 
-/** Shows a result. @param {Result} told @param {any} asked what was asked, of a session with its `view` */
+/** Shows a result.
+ * @param {Result} told @param {any} asked what was asked, of a session with its `view` */
 export function show(told, asked) {
   const /** @type {View | undefined} */ before = asked.view;
   leave();
@@ -52,7 +56,7 @@ export function show(told, asked) {
     return button;
   });
   const rows = told.table ? [table("Results of the files", told.table.heads, told.table.rows)] : [];
-  const figures = told.figures.map((one) => draw(one.kind === "picture" ? { ...one, threshold: before?.thresholds[one.name] ?? one.threshold } : one, { of: asked.analysis }));
+  const figures = told.figures.map((one) => draw(one.kind === "picture" ? { ...one, threshold: before?.thresholds[one.name] ?? one.threshold } : one, asked.analysis));
   byId("result-told").replaceChildren(
     ...rows, make("h3", { text: "Numbers" }), make("pre", { id: "numbers", tabindex: "0", role: "region", "aria-label": "Numbers", text: told.numbers }), ...(told.fit?.length && !told.table ? [fitted(told.fit, asked.settings.fit || {})] : []), ...figures, ...(has.image && asked.analysis === "image" && !told.table ? [regions(told, list, before)] : []),
     make("h3", { text: "Take it along" }), links, make("p", { class: "controls" }, ...others), keep(told, asked),
@@ -78,7 +82,8 @@ function fitted(parameters, steering) {
     make("p", { class: "faint", text: "A number that is changed is where the fit begins; one that is held stays. All others are found by the fit." }), ...rows.map((one) => one.row), make("p", { class: "controls" }, go, free));
 }
 
-/** A form that keeps a result as a session. @param {Result} told @param {any} asked */
+/** A form that keeps a result as a session.
+ * @param {Result} told @param {any} asked */
 function keep(told, asked) {
   const stem = asked.file.replace(/^.*\//, "").replace(/\.ptu$/i, "").replace(/[^\w .()+-]/g, "_");
   const name = /** @type {HTMLInputElement} */ (make("input", { type: "text", id: "session-name", maxlength: "80", value: `${stem} ${asked.analysis}` }));
@@ -152,7 +157,8 @@ function regions(told, list, before) {
     make("p", {}, make("label", { for: least.id, text: "Only pixels with at least so many photons: " }), least), of_image, ...of_phasors, buttons, said, shown);
 }
 
-/** Four numbers that are a rectangle, and a button that adds it. @param {string} name @param {string[]} sides @param {number[][]} ends @param {string} step
+/** Four numbers that are a rectangle, and a button that adds it.
+ * @param {string} name @param {string[]} sides @param {number[][]} ends @param {string} step
  * @param {(corners: number[][]) => void} add @param {(words: string) => void} complain */
 function rectangle(name, sides, ends, step, add, complain) {
   const inputs = sides.flatMap((side, at) => ["from", "to"].map((word, end) => /** @type {HTMLInputElement} */ (make("input", {
