@@ -8,6 +8,7 @@ from made import Bits
 from numpy.typing import NDArray
 
 SHORT, LONG = 1.2e-9, 3.6e-9  # lifetimes of the left and the right half of the scan
+DYE = 2.5e-9
 EFFICIENCY = 0.7
 NUMBER, DIFFUSION = 0.982, 1.25e-3  # molecules in the focus, and seconds that one stays there
 STOICHIOMETRY = 80 / (80 + 60)  # of molecules with both dyes, by the photons of either laser
@@ -28,6 +29,13 @@ def scan(path: Path, seed: int = 1) -> Path:
     tags = {"PixX": 16, "PixY": 16, "LineStart": 1, "LineStop": 2, "Frame": 3}
     told = {f"ImgHdr_{name}": value for name, value in tags.items()} | {"ImgHdr_TimePerPixel": 20 * 50e-9 * 1e3, "ImgHdr_PixResol": 0.5}
     return made.write(path, "HydraHarp2T3", events, tick=50e-9, resolution=50e-12, **told)
+
+
+def dye(path: Path, seed: int = 5) -> Path:
+    """40,000 photons of one dye, whose lifetime is 2.5 ns, by the same laser and electronics as the scan."""
+    draws = np.random.default_rng(seed)
+    ticks = np.minimum(60 + (draws.exponential(DYE, 40_000) / 50e-12).astype(int), 999)
+    return made.write(path, "HydraHarp2T3", [(at, 0, int(tick)) for at, tick in enumerate(ticks)], tick=50e-9, resolution=50e-12)
 
 
 def _t2(path: Path, seconds: NDArray[np.float64], inputs: NDArray[np.int64], tick: float) -> Path:

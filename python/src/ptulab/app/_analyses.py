@@ -39,6 +39,7 @@ class Setting:
     least: float
     most: float
     whole: bool = True
+    unit: str = ""  # "sync periods" of a number of them, beside which the page says how long they last
 
 
 WINDOW = [
@@ -61,16 +62,18 @@ class Analysis:
     draw: Callable[[Names], list[Drawn]]
     imports: str
     by_python: bool = False
-    takes_second: bool = False  # whether another file can be the pulse
+    second: tuple[str, str] | None = None  # what another file can be, and what is done without one
     fits: bool = False  # whether its parameters can be held, and told where to begin
 
     def script(self, path: str, document: Names, settings: Settings, second: str | None) -> str:
         """The script that answers the question of the file at ``path``, by the document of its plan."""
         start, stop = settings["from_seconds"], settings["to_seconds"] or math.inf
         called = "measured" if start == 0 and stop == math.inf else "measured, part_of"
-        head = HEAD.format(title=self.title, version=__version__, imports=f"{self.imports}\nfrom ptulab.app.scripts import {called}", path=path)
+        body = self.body(document, settings, second)
+        imports = self.imports + ("\nfrom ptulab.app.scripts import decay_like" if "decay_like(" in body else "")
+        head = HEAD.format(title=self.title, version=__version__, imports=f"{imports}\nfrom ptulab.app.scripts import {called}", path=path)
         window = "" if called == "measured" else f"file = part_of(file, {start!r}{'' if stop == math.inf else f', {stop!r}'})  # seconds\n"
-        return head + window + self.body(document, settings, second)
+        return head + window + body
 
     def all_settings(self, seen: Look) -> list[Setting]:
         """Those of the question, and the window of time."""
@@ -97,8 +100,10 @@ POINTS = """\
 photons, decay = cube.counts.sum(axis=2), cube.counts.sum(axis=(0, 1))
 begin = int(np.flatnonzero(2 * decay >= decay.max())[0])
 threshold = {threshold}
-points = phasors.phasor(cube.counts, cube.seconds, 1 / report.head.global_seconds, offset=cube.seconds[begin], threshold={of_points})
+{of_pulse}points = phasors.phasor(cube.counts, cube.seconds, 1 / report.head.global_seconds, {pulse}, threshold={of_points})
 """
+BY_RISE = {"of_pulse": "", "pulse": "offset=cube.seconds[begin]"}  # of the decay of all pixels
+BY_REFERENCE = {"of_pulse": 'reference = complex(*np.loadtxt(here / "reference.csv", delimiter=",", skiprows=1))\n', "pulse": "reference=reference"}
 REPORT = 'report = ptulab.run(here / "plan.toml", file)\n'
 FIT_CURVE = '"fit": {"seconds": fit.axis, "photons": fit.data, "fit": fit.curve, "residuals": fit.residuals}'
 
@@ -169,7 +174,7 @@ def analysis_of(name: str) -> Analysis:
 def _proposal(one: Analysis, seen: Look, text: str) -> dict[str, Any]:
     reason = "it ends within a record, and what is counted for a question has whole records" if seen.header.left_over_bytes else ""
     reason = reason or (one.wanting(seen) if seen.inputs else "there are no photons in the file")
-    told = {"name": one.name, "title": one.title, "means": one.means, "reason": reason, "python": one.by_python, "second": one.takes_second}
+    told = {"name": one.name, "title": one.title, "means": one.means, "reason": reason, "python": one.by_python, "second": one.second and dict(zip(("label", "none"), one.second))}
     if reason:
         return told | {"plan": "", "settings": []}
     plan = _of_kinds(text, one.kinds) + (_fold(seen) if one.name == "patterns" else "")
@@ -268,8 +273,13 @@ def threshold_of(settings: Settings) -> str:
 
 
 def _image(document: Names, settings: Settings, second: str | None) -> str:
+    told, pulse, columns = "", BY_RISE, ""
+    if second is not None:
+        told = f'dye = decay_like(report, here / "plan.toml", {second!r})\n'
+        told += f"reference = phasors.phasor_reference(dye, cube.seconds, 1 / report.head.global_seconds, {settings['reference']!r} * 1e-9)\n"
+        pulse, columns = BY_REFERENCE | {"of_pulse": ""}, '"reference": {"g": [reference.real], "s": [reference.imag]}, '
     return f"""{REPORT}cube = report.table("cube", 1)
-{POINTS.format(threshold=threshold_of(settings), of_points="threshold")}delays = phasors.mean_delays(cube.counts[..., begin:], cube.seconds[begin:], offset=cube.seconds[begin], threshold=threshold)
+{told}{POINTS.format(threshold=threshold_of(settings), of_points="threshold", **pulse)}delays = phasors.mean_delays(cube.counts[..., begin:], cube.seconds[begin:], offset=cube.seconds[begin], threshold=threshold)
 start = cube.seconds[decay.argmax()] + {settings['after']!r} * 1e-9
 fit = fits.fit_tail(decay, cube.seconds, start, terms={settings['terms']}{_steered(settings)})
 print(f"photons in the picture: {{photons.sum():,}}")
@@ -277,7 +287,7 @@ print(f"pixels with {{threshold:,}} photons or more: {{np.count_nonzero(~np.isna
 print(f"median of their mean delays: {{measured(np.nanmedian(delays) * 1e9, unit=' ns')}}")
 known = points[np.isfinite(points)]
 print(f"median of their phasors: g {{measured(np.median(known.real))}}, s {{measured(np.median(known.imag))}}")
-{FIT}curves = {{"decay": {{"seconds": cube.seconds, "photons": decay}}, {FIT_CURVE}}}
+{FIT}curves = {{{columns}"decay": {{"seconds": cube.seconds, "photons": decay}}, {FIT_CURVE}}}
 """
 
 
@@ -291,6 +301,7 @@ def _draw_image(names: Names) -> list[Drawn]:
         told += " It is the lifetime only of a single exponential without background."
         delays = Picture(delays.name, delays.title, told, names["photons"], values, "mean delay (ns)", "ns", 1, names["threshold"], delays.colours, delays.micrometres)
     plane = phasor_plane(names["points"], names["report"].head.global_seconds, names["cube"].seconds)
+    plane["summary"] += " They are calibrated by the reference." if "reference" in names else " The pulse is taken to come where the decay of all pixels rises."
     return [drawn(photons), drawn(delays), plane, *_draw_fit(drawn(whole), names["fit"])]
 
 
@@ -404,7 +415,7 @@ def _pulsed_settings(seen: Look) -> list[Setting]:
     return [
         Setting("first", "First group", 1, 1, 64),
         Setting("second", "Second group", 2, 1, 64),
-        Setting("reach", "Sync periods to either side", 10, 2, 1000),
+        Setting("reach", "Sync periods to either side", 10, 2, 1000, unit="sync periods"),
         Setting("neighbours", "Peaks beside it that are compared (0: all)", 0, 0, 1000),
     ]
 
@@ -525,10 +536,12 @@ ANALYSES = {
     for one in (
         Analysis("decay", "Decay and lifetime", "How long the dye stays excited: exponentials are fitted to the delays of the photons after the pulse.",
                  _only("T3", "photons have delays after a pulse"), ("histogram",), lambda seen: DECAY_SETTINGS, _decay, _draw_decay,
-                 f"import ptulab\n{FITS}", takes_second=True, fits=True),
+                 f"import ptulab\n{FITS}", second=("The measured pulse, for a fit of the whole decay", "none: the tail is fitted"), fits=True),
         Analysis("image", "Lifetime image", "An image of the scan that shows the mean delay of the photons in each pixel.",
-                 _scanned, ("cube",), _fits(Setting("threshold", "Photons that a pixel must have (0: a tenth of the brightest)", 0, 0, 1e9)),
-                 _image, _draw_image, f"{NUMPY}\nfrom ptulab import fits, phasors", fits=True),
+                 _scanned, ("cube",), _fits(Setting("threshold", "Photons that a pixel must have (0: a tenth of the brightest)", 0, 0, 1e9),
+                                         Setting("reference", "Lifetime in ns of the dye that is the reference (0: it is the pulse)", 0.0, 0, 1e6, whole=False)),
+                 _image, _draw_image, f"{NUMPY}\nfrom ptulab import fits, phasors",
+                 second=("A reference for the phasors: a dye of one known lifetime, or the pulse", "none: the pulse comes where the decay rises"), fits=True),
         Analysis("light", "Image of the light", "An image of the scan: how many photons each pixel has.", _has_lines, ("image",),
                  lambda seen: [], _light, _draw_light, NUMPY),
         Analysis("trace", "Light over time", "How bright the light is during the measurement, and a histogram of that.",

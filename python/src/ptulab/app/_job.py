@@ -202,7 +202,7 @@ def region(work: Work) -> Any:
         raise ValueError("this result has no lifetime image, so it has no regions")
     given = {word: value for word, value in work.request["settings"].items() if word in ("terms", "after", "threshold")}
     pixels, of_phasors = regions_of(work.request["regions"], work.request["phasors"])
-    script = region_script(pixels, of_phasors, settings_of(ANALYSES["image"], given), threshold)
+    script = region_script(pixels, of_phasors, settings_of(ANALYSES["image"], given), threshold, (folder / "reference.csv").is_file())
     (folder / "regions.py").write_text(script, "utf-8")
     names, numbers = _ran(folder, "regions.py")
     (folder / "regions.txt").write_text(numbers, "utf-8")

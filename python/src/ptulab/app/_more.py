@@ -16,7 +16,7 @@ from .._versions import __version__
 from .._whole import written_whole
 from ..page._figures import SIDE, blocks
 from ..page._document import packed, whole_page
-from ._analyses import FIT, POINTS, REPORT, Analysis, Settings, threshold_of
+from ._analyses import BY_REFERENCE, BY_RISE, FIT, POINTS, REPORT, Analysis, Settings, threshold_of
 from ._figures import Drawn, curve, figure, for_page
 from ._folder import named
 from ._view import Region
@@ -86,10 +86,10 @@ report = whole.report
 """
 
 
-def region_script(regions: Sequence[Region], of_phasors: Sequence[Region], settings: Settings, threshold: int) -> str:
-    """The script that tells the decays of regions."""
+def region_script(regions: Sequence[Region], of_phasors: Sequence[Region], settings: Settings, threshold: int, by_reference: bool) -> str:
+    """The script that tells the decays of regions; ``by_reference`` is whether the phasors have one."""
     fit = "".join(f"    {line}\n" for line in FIT.splitlines())
-    told = {"regions": _listed(regions), "of_phasors": _listed(of_phasors), "points": POINTS.format(threshold=threshold, of_points=threshold_of(settings))}
+    told = {"regions": _listed(regions), "of_phasors": _listed(of_phasors), "points": POINTS.format(threshold=threshold, of_points=threshold_of(settings), **(BY_REFERENCE if by_reference else BY_RISE))}
     return REGION.format(version=__version__, fit=fit, after=settings["after"], terms=settings["terms"], **told)
 
 

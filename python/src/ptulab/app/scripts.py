@@ -1,8 +1,9 @@
-"""What the scripts call that the window hands out: a time window of a file, sums over files, regions of an image, and numbers with their errors."""
+"""What the scripts call that the window hands out: a time window of a file, sums over files, a decay as of an image's pixels, regions, and numbers with their errors."""
 
 from __future__ import annotations
 
 import functools
+import json
 import math
 import operator
 import os
@@ -14,14 +15,16 @@ from typing import IO, Any
 import numpy as np
 from numpy.typing import NDArray
 
+from .._documents import read_plan
 from ..errors import NotKnownError, PtulabError
 from ..events import iter_events
 from ..headers import PREAMBLE, TAG, WITH_BODY, read_header
 from ..pixels import inside as inside_plane
+from ..program import run
 from ..segments import Curve, together
 from ._folder import named
 
-__all__ = ["drop_parts", "inside", "measured", "named", "part_of", "summed", "why"]
+__all__ = ["decay_like", "drop_parts", "inside", "measured", "named", "part_of", "summed", "why"]
 
 PathLike = str | os.PathLike[str]
 PIECE = 1 << 20
@@ -47,6 +50,26 @@ def inside(corners: Sequence[tuple[float, float]], rows: int, columns: int) -> N
     """
     middles = np.add.outer(1j * (np.arange(rows) + 0.5), np.arange(columns) + 0.5)
     return inside_plane(middles, [complex(x, y) for x, y in corners])
+
+
+def decay_like(report: Any, plan: PathLike, file: PathLike) -> NDArray[np.int64]:
+    """The decay of another file, a scan or not: of the photons that the first cube of a report has, and in its bins.
+
+    The file must have the same sync period, to a thousandth, and the same ticks of the dtime: else ``ValueError`` is raised.
+    """
+    document = read_plan(plan)
+    cube = document["cube"][0]
+    group = document["group"][cube["group"] - 1]
+    lines = ["version = 2", *(f"{key} = {json.dumps(document[key])}" for key in ("order", "reserved", "period", "settle") if key in document)]
+    lines += [line for one in document.get("shift", []) for line in ("[[shift]]", f"input = {one['input']}", f"shift = {one['shift']}")]
+    lines += ["[[group]]", f"inputs = {group['inputs']}", *([f"gates = {group['gates']}"] if "gates" in group else [])]
+    lines += ["[[histogram]]", "group = 1", f"width = {cube['dwidth']}", f"bins = {cube['dbins']}", ""]
+    counted = run("\n".join(lines), file)
+    for key, word, near in (("global_seconds", "sync period", 1e-3), ("resolution_seconds", "tick of the dtime", 1e-6)):
+        one, other = (getattr(each.head, key) or math.nan for each in (report, counted))
+        if not math.isclose(one, other, rel_tol=near):
+            raise ValueError(f"the reference has another {word}: {other:g} s and not {one:g} s")
+    return np.asarray(counted.table("histogram", 1).counts)
 
 
 def part_of(file: PathLike, start: float, stop: float = math.inf) -> str:
