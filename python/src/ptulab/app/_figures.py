@@ -113,10 +113,17 @@ def figures_of_look(seen: Info) -> list[Drawn]:
     starts = np.arange(0, last + 1, seen.bin_ticks, dtype=np.float64)
     rate = 1 / (seen.bin_ticks * tick) if tick else 1.0
     traces = [curve(f"input {one.number}", starts * factor, one.trace[: len(starts)] * rate) for one in seen.inputs]
-    told = f"The light of each input over the file, in {len(starts)} bins of {seen.bin_ticks * factor:.4g} {unit}."
+    told = f"The light of each input over the file, in {len(starts)} bins of {lasting(seen.bin_ticks * tick) if tick else f'{seen.bin_ticks:,} {unit}'}."
     ylabel = ("photons a second", "a second") if tick else ("photons in a bin", "photons")
     figures = [figure("look-trace", "Over the time", told, (f"time ({unit})", unit), ylabel, traces, drag="time" if tick else None)]
     return figures + ([_decays(seen)] if mode == "T3" else [])
+
+
+def lasting(seconds: float) -> str:
+    """A time with the unit that makes it short."""
+    units = {"s": 1.0, "ms": 1e-3, "µs": 1e-6, "ns": 1e-9, "ps": 1e-12}
+    unit = next((word for word, factor in units.items() if seconds >= 0.9999999 * factor), "ps")
+    return f"{seconds / units[unit]:.4g} {unit}"
 
 
 def _decays(seen: Info) -> Drawn:

@@ -10,6 +10,7 @@ from .._documents import read_plan
 from .._plan_rules import Finding, Document, broken_rules, is_whole
 from ..errors import BadPlanError
 from ..many import _megabytes
+from ._lengths import lengths_of
 
 HEADER = re.compile(r"\s*\[\[\s*(\w+)\s*\]\]\s*(?:#(.*))?$")  # takes time by the length of the line alone
 AT_LINE = re.compile(r"\(at line (\d+), column \d+\)")
@@ -17,18 +18,18 @@ NAME = 60  # letters of a group's name
 
 
 def looked_over(text: str) -> dict[str, Any]:
-    """The groups of a plan, whether they can be written from a table, and what is wrong with it, each with its line."""
+    """The groups of a plan, whether they can be written from a table, its times and sizes, and what is wrong with it, each with its line."""
     try:
         document = read_plan(text.encode("utf-8", errors="replace"))
     except BadPlanError as error:
         place = AT_LINE.search(str(error))
         line = int(place[1]) if place else len(text.splitlines()) or 1
-        return {"groups": None, "findings": [{"line": line, "text": str(error), "refused": True}]}
+        return {"groups": None, "lengths": [], "findings": [{"line": line, "text": str(error), "refused": True}]}
     found = [told(one, text) for one in broken_rules(document)]
     groups = Document(document).tables("group")
     names = [(match[2] or "").strip() for match in map(HEADER.match, text.splitlines()) if match and match[1] == "group"]
     inline = len(names) != len(groups)
-    return {"groups": None if inline else [_group(table, name) for table, name in zip(groups, names)], "findings": found}
+    return {"groups": None if inline else [_group(table, name) for table, name in zip(groups, names)], "lengths": lengths_of(text), "findings": found}
 
 
 def _group(table: dict[str, Any], name: str) -> dict[str, Any]:
