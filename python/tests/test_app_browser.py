@@ -78,7 +78,6 @@ SQUARE = (0.81, 0.57), (0.9, 0.57), (0.98, 0.57), (0.98, 0.69), (0.98, 0.81), (0
 def test_regions_of_phasors_are_painted_in_the_image(window: Window) -> None:
     """Those of the left half of a scan; a click takes all regions away, and another brings them back."""
     painted = "const one = document.getElementById('figure-cube-1-delays-plot').data[1]; return one ? one.z.map((row) => row.map((cell) => cell !== null)) : []"
-    click = "[...document.querySelectorAll('#result button')].find((one) => one.textContent === arguments[0]).click()"
     window.choose("scan.ptu", "image")
     window.run()
     window.dragging("phasors")
@@ -88,9 +87,9 @@ def test_regions_of_phasors_are_painted_in_the_image(window: Window) -> None:
     cells = np.array(window.js(painted))
     assert lifetime and float(lifetime[1]) == pytest.approx(1.2, rel=0.1) and not cells[:, 8:].any()
     assert pixels and 110 < cells.sum() == int(pixels[1]) <= 128
-    window.js(click, "Remove all regions")
+    window.click("#remove-region-1")
     window.until(lambda: not window.js(painted) and not window.text("#region-numbers"), "no region")
-    window.js(click, "Bring the regions back")
+    window.click("#undo")
     window.until(lambda: window.js(painted) and window.text("#region-numbers") == told, "the region again")
     window.click("#add-phasor-region")
     window.until(lambda: "phasor region 2: 256 pixels" in window.text("#region-numbers"), "a region of all phasors")
@@ -139,7 +138,11 @@ def a_window_of_time_is_shown_and_can_be_taken_back(window: Window, begin: float
     shown("diffusion.ptu", [0, 0], "")
     shown("bursts.ptu", [begin, end], "What is run next takes only ")
     window.click("#look-window button")
-    assert window.text("#look-window").startswith("All of the file is taken.") and window.js("return document.getElementById('setting-to_seconds').value") == "0"
+    assert window.text("#look-window") == "" and window.js("return document.getElementById('setting-to_seconds').value") == "0"
+    window.click("#undo")
+    assert window.text("#look-window").startswith("What is run next takes only ") and float(window.js("return document.getElementById('setting-to_seconds').value")) == end
+    window.click("#take-all")
+    assert window.text("#undo-said") == "All of the file is taken."
     window.run()
     assert window.number("bins") > 400
     shown("bursts.ptu", [0, 0], "")
@@ -218,7 +221,7 @@ def test_groups_by_hand_tell_bursts_of_two_lasers(window: Window, tmp_path: Path
     for group, begin in ((1, 0), (2, 0), (groups + 1, 500)):
         window.click(f"[aria-label='Add a gate to group {group}']")
         for word, value in (("from", begin), ("to", begin + 500)):
-            typed(window, f"[aria-label='group {group}, gate 1 {word}, in ticks of the delay']", value)
+            typed(window, f"#group-{group}-gate-1-{word}", f"{value} ticks")
         gated(window, f"gates = [[{begin}, {begin + 500}]]", 2 if group == 2 else 1)
     window.click(f"[aria-label='Remove group {groups + 1}']")
     window.until(lambda: window.js(plan).count("[[group]]") == groups, "no group")
@@ -248,7 +251,7 @@ def test_a_session_brings_back_regions_thresholds_and_what_was_held(window: Wind
     window.run()
     window.js("document.getElementById('fit-background').value = '3'; document.getElementById('hold-background').checked = true")
     window.run("#fit-again")
-    typed(window, "[aria-label='columns to']", 8)
+    typed(window, "[aria-label='x to (µm)']", 3.75)
     window.click("#add-region")
     window.click("#add-phasor-region")
     window.until(lambda: "phasor region 1" in window.text("#region-numbers"), "two regions")

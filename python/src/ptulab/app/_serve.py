@@ -41,7 +41,7 @@ MANY = 500  # files of one analysis, at most
 RUNS = ("run", "many")  # work that makes a result
 OF_A_RESULT = ("page", "images", "photons", "region")  # and work with one
 MEGABYTES = 3072  # that a piece of work may have
-SCRIPTS = ("app.js", "server.js", "dom.js", "files.js", "look.js", "plan.js", "questions.js", "plots.js", "take.js")
+SCRIPTS = ("app.js", "server.js", "dom.js", "files.js", "look.js", "plan.js", "questions.js", "plots.js", "take.js", "times.js", "undo.js")
 TYPES = {".js": "text/javascript; charset=utf-8", ".css": "text/css; charset=utf-8"}
 RESULT = re.compile(r"[0-9a-f]{16}")
 FILE = re.compile(r"[A-Za-z0-9_-]{1,60}(\.ome)?\.[a-z0-9]{2,5}")

@@ -3,23 +3,23 @@
 import { byId, make, trouble } from "./dom.js";
 import { list, lookAround, mark } from "./files.js";
 import { look } from "./look.js";
-import { open, questions, stop } from "./questions.js";
+import { leave, open, questions, stop } from "./questions.js";
 import { ask } from "./server.js";
-import { leave, show } from "./take.js";
+import { show } from "./take.js";
 
 let chosen = new AbortController();
 
 /** Looks at a file and shows what can be asked of it; what was done before ends.
- * @param {string} name @param {any} [session] */
-async function choose(name, session = null) {
+ * @param {string} name @param {any} [session] what is asked of it at once @param {string} [words] what was done */
+async function choose(name, session = null, words = `${name} was opened.`) {
   chosen.abort();
   stop();
-  leave();
+  leave(words);
   const mine = chosen = new AbortController();
   trouble("");
   mark(name);
   byId("welcome").hidden = true;
-  for (const id of ["questions", "ask", "result"]) byId(id).hidden = true;
+  byId("questions").hidden = true;
   try {
     const told = await look(name, mine);
     if (mine.signal.aborted) return;
@@ -27,7 +27,8 @@ async function choose(name, session = null) {
     questions(name, told);
     const one = session && told.questions.find((/** @type {any} */ each) => each.name === session.analysis);
     if (one) await open(one, session);
-    if (one && session.begun) await again(session);
+    if (one && session.shown) show(session.shown.told, session.shown.asked);
+    else if (one && session.begun) await again(session);
   } catch (error) {
     if (mine.signal.aborted) return;
     const said = error instanceof Error ? error.message : String(error);
@@ -49,12 +50,16 @@ async function sessions() {
   byId("sessions").replaceChildren(...(names.length ? names.map((/** @type {string} */ name) => make("li", {}, make("button", { type: "button", text: name, on: { click: async () => {
     try {
       const told = await ask("session", { name });
-      await choose(told.file, told);
+      await choose(told.file, told, `The session ${name} was opened.`);
     } catch (error) {
       trouble(error instanceof Error ? error.message : String(error));
     }
   } } }))) : [make("li", { class: "faint", text: "none yet" })]));
 }
 
+document.addEventListener("back", (heard) => {
+  const { was, words } = /** @type {CustomEvent} */ (heard).detail;
+  choose(was.file, was, words);
+});
 document.addEventListener("kept", () => { sessions().catch((error) => trouble(error.message)); });
 list(choose).then(sessions).then(lookAround).catch((error) => trouble(error.message)).finally(() => { document.documentElement.dataset.ready = "yes"; });

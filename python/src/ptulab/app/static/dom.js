@@ -33,6 +33,32 @@ export function table(caption, heads, rows) {
  * @param {number | null} value */
 export const short = (value) => value === null ? "not told" : Number(value).toLocaleString("en", { maximumSignificantDigits: 6 });
 
+/** Says something at a place, which a screen reader reads only where it is new.
+ * @param {HTMLElement} place @param {string} words */
+export function say(place, words) {
+  if (place.textContent !== words) place.textContent = words;
+}
+
+/** Says at a place how far work is: when it begins with something, with each tenth of it, and after five seconds; not each time that it tells.
+ * @param {HTMLElement} place @param {() => number} [clock] milliseconds @returns {(words: string, part?: number | null) => void} */
+export function teller(place, clock = () => performance.now()) {
+  let last = { words: "", tenth: -1, time: 0 };
+  return (words, part = null) => {
+    const now = { words, tenth: Math.floor(10 * (part || 0)), time: clock() };
+    if (now.words === last.words && now.tenth === last.tenth && now.time - last.time < 5000) return;
+    last = now;
+    say(place, words + (part ? `: ${Math.round(100 * part)} %` : " .."));
+  };
+}
+
+/** Puts other children into a place; the focus goes to the one with the same id as that which had it, or to `otherwise`.
+ * @param {HTMLElement} place @param {(Node | string)[]} children @param {string} [otherwise] an id */
+export function renew(place, children, otherwise = "") {
+  const held = document.activeElement, had = held && held !== place && place.contains(held) ? held.id : "";
+  place.replaceChildren(...children);
+  if (had || otherwise) (document.getElementById(otherwise) || document.getElementById(had))?.focus();
+}
+
 /** Says what went wrong, till the next thing is done.
  * @param {string} words */
 export function trouble(words) {

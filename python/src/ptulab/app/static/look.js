@@ -1,6 +1,6 @@
 // @ts-check
 // The first look at a file.
-import { byId, make, short, table } from "./dom.js";
+import { byId, make, short, table, teller } from "./dom.js";
 import { alone, found, looks } from "./files.js";
 import { draw } from "./plots.js";
 import { bar, work } from "./server.js";
@@ -12,8 +12,9 @@ export async function look(name, mine) {
   byId("look-title").textContent = name;
   byId("look-told").replaceChildren();
   byId("look-window").replaceChildren();
-  byId("look-said").textContent = "Looks at the file ..";
-  const progress = bar(byId("look-progress"), "How far the look is");
+  const progress = bar(byId("look-progress"), "How far the look is"), tell = teller(byId("look-said"));
+  const heard = (/** @type {any} */ line) => { progress.heard(line); tell("Looks at the file", line.progress); };
+  tell("Looks at the file");
   const halt = make("button", { type: "button", id: "look-stop", text: "Stop", "aria-label": "Stop the look", on: { click: () => {
     mine.abort();
     byId("look-said").textContent = "Stopped. A click on the file begins the look anew.";
@@ -21,7 +22,7 @@ export async function look(name, mine) {
   } } });
   byId("look-progress").append(halt);
   try {
-    const told = looks.get(name) || await alone(() => work("look", { file: name }, progress.heard, mine.signal));
+    const told = looks.get(name) || await alone(() => work("look", { file: name }, heard, mine.signal));
     looks.set(name, told);
     found(name);
     if (!mine.signal.aborted) show(told);

@@ -99,7 +99,7 @@ export function draw(figure, of = "") {
     drawn.set(plot, again);
     await again();
     const heard = /** @type {any} */ (plot);
-    heard.on("plotly_hover", (/** @type {any} */ event) => { said.textContent = shape.told(event.points[0].curveNumber, event.points[0].pointNumber); });
+    heard.on("plotly_hover", (/** @type {any} */ event) => { said.ariaLive = event.event instanceof MouseEvent ? "off" : "polite"; said.textContent = shape.told(event.points[0].curveNumber, event.points[0].pointNumber); });
     heard.on("plotly_relayout", (/** @type {any} */ event) => { linked(figure, plot, event); if (event.shapes && flat) outlined(figure, event.shapes); });
     heard.on("plotly_selected", (/** @type {any} */ event) => { if (event?.range) chosen(figure, event.range.x); });
     plot.addEventListener("keydown", (event) => walk(event, plot, shape, said));
@@ -168,6 +168,7 @@ function walk(event, plot, shape, said) {
   event.preventDefault();
   plot.dataset.at = String(at);
   const point = shape.columns ? [Math.floor(at / shape.columns), at % shape.columns] : at;
+  said.ariaLive = "polite"; // but "off" for what the pointer hovers over, which changes all the time
   said.textContent = shape.told(0, point);
   try { Plotly.Fx.hover(plot, [{ curveNumber: 0, pointNumber: point }]); } catch { /* a point that isn't drawn is said all the same */ }
 }
@@ -195,8 +196,9 @@ function curves(figure, controls) {
     told: (curve, at) => words(figure.curves[curve], at),
     table() {
       const step = Math.ceil(first.x.length / ROWS) || 1;
-      const rows = first.x.flatMap((x, at) => at % step ? [] : [[figure.names ? figure.names[at] : short(x), ...figure.curves.map((one) => one.x === first.x || one.x[at] === x ? short(one.y[at] ?? null) : "")]]);
-      return table(`${figure.title}: every ${step === 1 ? "value" : `${step}th value`}`, [figure.xlabel, ...figure.curves.map((one) => one.label)], rows);
+      const columns = figure.curves.map((one) => ({ label: one.label, cells: first.x.flatMap((x, at) => at % step ? [] : [valueAt(one, x)]) })).filter((one) => one.cells.some((cell) => cell));
+      const rows = first.x.flatMap((x, at) => at % step ? [] : [[figure.names ? figure.names[at] : short(x), ...columns.map((one) => one.cells[at / step])]]);
+      return table(`${figure.title}: every ${step === 1 ? "value" : `${step}th value`}`, [figure.xlabel, ...columns.map((one) => one.label)], rows);
     },
     draw() {
       const logarithmic = Boolean(log?.checked), across = Boolean(xlog?.checked), look = /** @type {any} */ (layout());
@@ -228,6 +230,16 @@ function curves(figure, controls) {
   };
 }
 
+/** The value of a curve at a place: on a line between two of its points too, and nothing beyond its ends.
+ * @param {Curve} one @param {number} x */
+function valueAt(one, x) {
+  const near = 1e-8 * Math.abs(x), at = one.x.findIndex((other) => other >= x - near);
+  if (at < 0) return "";
+  if (one.x[at] <= x + near) return short(one.y[at]);
+  const [y, before] = [one.y[at], one.y[at - 1] ?? null];
+  return one.shape !== "linear" || y === null || before === null ? "" : short(before + (y - before) * (x - one.x[at - 1]) / (one.x[at] - one.x[at - 1]));
+}
+
 /** What was chosen by dragging, as bands over a figure.
  * @param {Curves} figure @returns {any[]} */
 function bands(figure) {
@@ -247,12 +259,13 @@ function unpacked(packed) {
 function picture(figure, controls, id) {
   const photons = unpacked(figure.photons), values = figure.values ? unpacked(figure.values) : photons, { rows, columns } = figure;
   const slider = /** @type {HTMLInputElement} */ (make("input", { type: "range", id: `${id}-threshold`, min: "0", max: figure.most, value: figure.threshold }));
-  const bound = make("output", { for: `${id}-threshold`, text: short(figure.threshold) });
+  const bound = make("output", { for: `${id}-threshold`, "aria-live": "off", text: short(figure.threshold) });
   controls.append(make("label", { for: `${id}-threshold`, text: "pixels with at least" }), slider, make("span", {}, bound, " photons"));
   slider.addEventListener("input", () => { bound.textContent = short(Number(slider.value)); });
   /** @param {any} point */
   const told = ([y, x]) => {
-    const at = y * columns + x, place = figure.block === 1 ? `column ${x}, row ${y}` : `columns from ${x * figure.block}, rows from ${y * figure.block}`;
+    const at = y * columns + x, [across, down] = [x, y].map((place) => figure.micrometres ? ` (${short(place * figure.block * figure.micrometres)} \u00b5m)` : "");
+    const place = figure.block === 1 ? `column ${x}${across}, row ${y}${down}` : `columns from ${x * figure.block}${across}, rows from ${y * figure.block}${down}`;
     if (values === photons) return `${place}: ${short(photons[at])} photons`;
     return `${place}: ${Number.isNaN(values[at]) ? "no mean" : `${Number(values[at].toPrecision(4))} ${figure.unit}`} of ${short(photons[at])} photons`;
   };

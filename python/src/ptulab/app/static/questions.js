@@ -1,14 +1,17 @@
 // @ts-check
 // What can be asked of a file: the questions, the settings of one, its run and its result.
-import { byId, make, short, trouble } from "./dom.js";
+import { byId, make, say, short, teller, trouble } from "./dom.js";
 import { alone, files } from "./files.js";
 import * as plans from "./plan.js";
 import { bar, work } from "./server.js";
-import { show } from "./take.js";
+import { hide, show, shown } from "./take.js";
+import { asTime, scaleOf } from "./times.js";
+import { did, some } from "./undo.js";
 
 /** @type {{file: string, inputs: number[], mode: string, asked: any, settings: HTMLInputElement[], second: HTMLSelectElement | null, run: AbortController | null,
- *   fit: Record<string, [number, boolean]>}} `fit`: where parameters of a fit begin, and whether they are held there */
-const now = { file: "", inputs: [], mode: "", asked: null, settings: [], second: null, run: null, fit: {} };
+ *   fit: Record<string, [number, boolean]>, scale: import("./times.js").Scale, begun: string}} `fit`: where parameters of a fit begin, and whether they are held
+ *   there; `begun`: the question as it was opened */
+const now = { file: "", inputs: [], mode: "", asked: null, settings: [], second: null, run: null, fit: {}, scale: scaleOf({}), begun: "" };
 /** @type {Map<string, [number, number]>} windows of time that were chosen on a trace, by the files */
 const windows = new Map();
 const button = (/** @type {string} */ id) => /** @type {HTMLButtonElement} */ (byId(id));
@@ -16,9 +19,8 @@ const button = (/** @type {string} */ id) => /** @type {HTMLButtonElement} */ (b
 /** Shows what can be asked of a file.
  * @param {string} file @param {any} told what its first look tells */
 export function questions(file, told) {
-  Object.assign(now, { file, inputs: told.info.inputs.map((/** @type {any} */ one) => one.number), mode: told.info.mode, settings: [] });
+  Object.assign(now, { file, inputs: told.info.inputs.map((/** @type {any} */ one) => one.number), mode: told.info.mode, settings: [], scale: scaleOf(told.info) });
   windowed(file, windows.get(file) || null);
-  for (const id of ["ask", "result"]) byId(id).hidden = true;
   byId("questions").hidden = false;
   list(told.questions);
 }
@@ -26,8 +28,24 @@ export function questions(file, told) {
 /** @param {any[]} told */
 function list(told) {
   byId("questions-list").replaceChildren(...told.map((one) => make("li", {},
-    make("button", { type: "button", "data-name": one.name, disabled: Boolean(one.reason), "aria-pressed": "false", on: { click: () => open(one) } },
+    make("button", { type: "button", "data-name": one.name, disabled: Boolean(one.reason), "aria-pressed": "false", on: { click: () => { leave(`${one.title} was opened.`); open(one).catch((error) => trouble(error.message)); } } },
       make("strong", { text: one.title }), make("span", { class: "faint", text: one.reason ? `Not of this file: ${one.reason}.` : one.means + (one.python ? " Counted by Python." : "") })))));
+}
+
+/** What is asked now, as a session tells it, and the result that is shown: what comes back when leaving it is undone. */
+function state() {
+  if (!now.asked) return { file: now.file };
+  return { file: now.file, analysis: now.asked.name, settings: settings(), second: now.second?.value || null, files: boxes().filter((box) => box.checked).map((box) => box.value), plan: plans.plan(), shown: shown() };
+}
+
+/** What is asked is left for something else, which can be taken back where something is lost.
+ * @param {string} words what was done */
+export function leave(words) {
+  const was = state(), { shown: told, ...asked } = was;
+  if (was.file && (some() || told || now.asked && JSON.stringify(asked) !== now.begun)) did(words, () => { document.dispatchEvent(new CustomEvent("back", { detail: { was, words } })); });
+  hide();
+  now.asked = null;
+  byId("ask").hidden = true;
 }
 
 /** Opens a question with its plan and settings.
@@ -37,26 +55,40 @@ export async function open(one, kept = null) {
   now.fit = kept?.settings?.fit || {};
   for (const each of document.querySelectorAll("#questions-list button")) each.setAttribute("aria-pressed", String(each.getAttribute("data-name") === one.name));
   byId("ask").hidden = false;
-  byId("result").hidden = true;
+  hide();
   byId("ask-title").textContent = one.title;
   byId("ask-means").textContent = one.means + (one.python ? " This is counted by Python, which is tested; not by the proved program." : "");
   const [from_seconds, to_seconds] = windows.get(now.file) || [0, 0], values = { from_seconds, to_seconds, ...kept?.settings };
   now.settings = one.settings.map((/** @type {any} */ each) => /** @type {HTMLInputElement} */ (make("input", {
     type: "number", id: `setting-${each.key}`, "data-key": each.key, min: each.least, max: each.most, step: each.whole ? "1" : "any", value: values[each.key] ?? each.value, required: true })));
-  const fields = now.settings.map((input, at) => make("p", {}, make("label", { for: input.id, text: one.settings[at].label }), input));
-  now.second = one.second ? second(kept?.second) : null;
-  if (now.second) fields.push(make("p", {}, make("label", { for: "second", text: "The measured pulse, for a fit of the whole decay" }), now.second));
+  const fields = now.settings.map((input, at) => make("p", {}, make("label", { for: input.id, text: one.settings[at].label }), input, ...lasting(input, one.settings[at])));
+  now.second = one.second ? second(one.second, kept?.second) : null;
+  if (now.second) fields.push(make("p", {}, make("label", { for: "second", text: one.second.label }), now.second));
   byId("settings").replaceChildren(...fields);
   if (kept) windowed(now.file, values.from_seconds || values.to_seconds ? [values.from_seconds, values.to_seconds] : null);
   byId("run-said").textContent = "";
   others(kept?.files || []);
-  await plans.show(kept?.plan || one.plan, now.inputs, now.mode === "T3");
+  const following = plans.show(kept?.plan || one.plan, now.inputs, now.scale), { shown: _, ...asked } = state();
+  now.begun = kept ? "" : JSON.stringify(asked);
+  await following;
   byId("ask-title").focus();
 }
 
-/** @param {string | undefined} chosen */
-function second(chosen) {
-  const options = [["", "none: the tail is fitted"], ...files.filter((file) => !file.wrong && file.name !== now.file).map((file) => [file.name, file.name])];
+/** Beside a number of sync periods, how long they last together.
+ * @param {HTMLInputElement} input @param {{key: string, unit: string}} one */
+function lasting(input, one) {
+  if (one.unit !== "sync periods" || !now.scale.time) return [];
+  const said = make("span", { class: "faint", id: `${input.id}-lasts` }), tell = () => { said.textContent = `= ${asTime(Number(input.value), now.scale.time, one.unit)}`; };
+  input.setAttribute("aria-describedby", said.id);
+  input.addEventListener("input", tell);
+  tell();
+  return [said];
+}
+
+/** Another file that a question takes along.
+ * @param {{none: string}} told @param {string | undefined} chosen */
+function second(told, chosen) {
+  const options = [["", told.none], ...files.filter((file) => !file.wrong && file.name !== now.file).map((file) => [file.name, file.name])];
   const select = /** @type {HTMLSelectElement} */ (make("select", { id: "second" }, ...options.map(([value, text]) => make("option", { value, text }))));
   select.value = chosen || "";
   return select;
@@ -92,35 +124,44 @@ async function run(kind) {
   const mine = now.run = new AbortController(), more = kind === "many" ? { files: chosen } : {};
   const asked = { file: now.file, plan: plans.plan(), analysis: now.asked.name, settings: settings(), second: now.second?.value || null, ...more };
   for (const id of ["run", "run-many"]) button(id).disabled = true;
+  const begun = /** @type {HTMLElement} */ (document.activeElement), tell = teller(byId("run-said"));
   button("stop").disabled = false;
-  byId("run-said").textContent = "Runs ..";
+  if (begun.matches(":disabled")) button("stop").focus();
+  tell("Runs");
   const progress = bar(byId("run-progress"), "How far the run is");
   try {
-    const told = await alone(() => work(kind, asked, (line) => { progress.heard(line); if (line.words) byId("run-said").textContent = `${line.words} ..`; }, mine.signal));
-    byId("run-said").textContent = "Done.";
+    const told = await alone(() => work(kind, asked, (line) => { progress.heard(line); if (line.words) tell(line.words, line.progress); }, mine.signal));
+    say(byId("run-said"), "Done.");
     show(told, asked);
   } catch (error) {
-    byId("run-said").textContent = mine.signal.aborted ? "Stopped." : `It didn't work: ${error instanceof Error ? error.message : error}`;
+    say(byId("run-said"), mine.signal.aborted ? "Stopped." : `It didn't work: ${error instanceof Error ? error.message : error}`);
   } finally {
+    const focused = document.activeElement === byId("stop");
     progress.end();
     for (const id of ["run", "run-many"]) button(id).disabled = false;
     button("stop").disabled = true;
+    if (focused) button("run").focus();
     now.run = null;
   }
 }
 
 /** The window of time of a file, none where all of it is taken: it is said beside the trace, drawn over it, and stands in the settings.
- * @param {string} file @param {[number, number] | null} range @param {[number, number] | null} [before] what a click took away */
-function windowed(file, range, before = null) {
+ * @param {string} file @param {[number, number] | null} range */
+function windowed(file, range) {
   if (range) windows.set(file, range);
   else windows.delete(file);
-  const ends = range || [0, 0], button = (/** @type {string} */ text, /** @type {[number, number] | null} */ to) => make("button", { type: "button", text, on: { click: () => {
-    windowed(file, to, range);
-    /** @type {HTMLElement | null} */ (byId("look-window").querySelector("button"))?.focus();
-  } } });
-  ["from_seconds", "to_seconds"].forEach((key, at) => { const input = now.settings.find((one) => one.dataset.key === key); if (input) input.value = String(ends[at]); });
-  byId("look-window").replaceChildren(...(range ? [`What is run next takes only ${span(range)} of this file. `, button("Take all of it", null)] : before ? ["All of the file is taken. ", button(`Take only ${span(before)}`, before)] : []));
+  const all = () => { taken(null); byId("undo").focus(); };
+  ["from_seconds", "to_seconds"].forEach((key, at) => { const input = now.settings.find((one) => one.dataset.key === key); if (input) input.value = String((range || [0, 0])[at]); });
+  byId("look-window").replaceChildren(...(range ? [`What is run next takes only ${span(range)} of this file. `, make("button", { type: "button", id: "take-all", text: "Take all of it", on: { click: all } })] : []));
   document.dispatchEvent(new CustomEvent("window", { detail: range }));
+}
+
+/** Another window of time is taken, which can be undone.
+ * @param {[number, number] | null} range */
+function taken(range) {
+  const was = windows.get(now.file) || null;
+  did(range ? `Only ${span(range)} of the file is taken.` : "All of the file is taken.", () => taken(was));
+  windowed(now.file, range);
 }
 
 /** @param {[number, number]} range */
@@ -128,7 +169,7 @@ const span = ([from, to]) => to ? `${short(from)} s to ${short(to)} s` : `what i
 
 document.addEventListener("chosen", (heard) => {
   const { what, range } = /** @type {CustomEvent} */ (heard).detail;
-  if (what === "time") windowed(now.file, range.map((/** @type {number} */ end) => Number(Math.max(0, end).toPrecision(6))));
+  if (what === "time") taken(range.map((/** @type {number} */ end) => Number(Math.max(0, end).toPrecision(6))));
 });
 document.addEventListener("steered", (heard) => {
   now.fit = /** @type {CustomEvent} */ (heard).detail;
@@ -137,7 +178,7 @@ document.addEventListener("steered", (heard) => {
 byId("settings").addEventListener("change", (event) => {
   const key = /** @type {HTMLElement} */ (event.target).dataset.key || "second", { from_seconds, to_seconds } = /** @type {any} */ (settings());
   if (["terms", "dimensions", "triplet", "second"].includes(key)) now.fit = {}; // of another model
-  if (["from_seconds", "to_seconds"].includes(key)) windowed(now.file, from_seconds || to_seconds ? [from_seconds, to_seconds] : null);
+  if (["from_seconds", "to_seconds"].includes(key)) taken(from_seconds || to_seconds ? [from_seconds, to_seconds] : null);
 });
 byId("run-many").addEventListener("click", () => run("many"));
 byId("tick-all").addEventListener("click", () => tick(true));
