@@ -59,6 +59,17 @@ def result(window: Window) -> list[str]:
 
 
 @picture
+def times(window: Window) -> list[str]:
+    """What a question counts, in times and sizes, of which one was rounded."""
+    window.open()
+    window.choose("scan.ptu", "image")
+    window.until(lambda: window.js("return document.getElementById('length-cube-1-dwidth')"))
+    window.js("const one = document.getElementById('length-cube-1-dwidth'); one.value = '0.21 ns'; one.dispatchEvent(new Event('change'))")
+    window.until(lambda: "in all" in window.text("#length-cube-1-dbins-all"))
+    return ["#ask-title", "#lengths"]
+
+
+@picture
 def phasors(window: Window) -> list[str]:
     """Two regions of phasors, and their pixels in the image."""
     window.open()
