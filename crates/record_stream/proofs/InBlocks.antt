@@ -1,9 +1,9 @@
 -- A taker with the events that it is given next.
-use Rattle.std.{proofs.Common.{rules, IfErr, inl, inr, ◌≢◌, subst, Ok, Err, OnOk, OnErr, ◌≡◌, ◌+◌, ◌<◌, ◌≤◌, ℕ, List, [], ◌∷◌, ◌++◌, length, refl, sym, ap, ◌∙◌, append-nil, append_assoc, length-append, arith, max, Bool, true, false, IsTrue, ◌&&◌, not}, specs.declared.result.Result.Result, proofs.lemmas.List.map-append, proofs.lemmas.List.Elements.{All-append, All-push}}
+use Rattle.std.{proofs.Common.{rules, if◌then◌else◌, IfErr, inl, inr, ◌⊎◌, ◌≢◌, subst, Ok, Err, OnOk, OnErr, ◌≡◌, ◌+◌, ◌<◌, ◌≤◌, ℕ, List, [], ◌∷◌, ◌++◌, length, refl, sym, ap, ◌∙◌, append-nil, append_assoc, length-append, arith, max, Bool, true, false, IsTrue, ◌&&◌, not}, specs.declared.result.Result.Result, proofs.lemmas.List.map-append, proofs.lemmas.List.Elements.{All-append, All-push}}
 use Rattle.tally_base.{specs.declared.event.Event.Event, specs.declared.fault.Fault.Fault, specs.declared.fault.Fault.TheVariants.WriteFault, specs.FaultCounts.Rose, specs.declared.header.Mode.Mode, specs.Events.is_ordered, specs.declared.block.Block.Block, specs.Columns.{gathered, sorted}, specs.Limits.{time_limit, record_limit}, specs.Tally.{floor_after, moves_floor, InOrder}, proofs.Floors.{floor-append, order-append}}
-use Rattle.ptu_definitions.{specs.Kept.{Marked, floor_of}, specs.Layouts.KindFits, specs.Streams.{StreamSettings, given}, proofs.Firsts.record_refusal-inside}
+use Rattle.ptu_definitions.{specs.Kept.{Marked, floor_of}, specs.Layouts.KindFits, specs.Settled.not_marked, specs.Streams.{StreamSettings, given}, proofs.{Firsts.record_refusal-inside, DeliveredLaws.not_marked-append}}
 use Rattle.abs_time.{specs.Floors.{orders_markers, moved_floor}, proofs.Floors.{moves_by, moved_floor-push}}
-use Rattle.record_stream.{specs.Feeding.{GaveOn, BrokeOn, Fed}, specs.Blocks.{on_time, AllFit, BrokeAmong}, specs.InBlocks.{GoesOn, Breaks, Waits, taken_with, floor_with}, specs.declared.taker.EventTaker.Ghosts, proofs.Gathering.floor_of-block, proofs.Steps.length-on_time}
+use Rattle.record_stream.{specs.Feeding.{GaveOn, BrokeOn, Fed}, specs.Blocks.{on_time, AllFit, AreAlike, BrokeAmong, none-passes}, specs.InBlocks.{MayStandFor, stands-same, GoesOn, Breaks, Waits, taken_with, floor_with}, specs.declared.taker.EventTaker.Ghosts, proofs.Gathering.floor_of-block, proofs.Steps.length-on_time}
 
 floor_of-append : (mode : Mode) (l m : Marked) → floor_of mode (l ++ m) ≡ max (floor_of mode l) (floor_of mode m)
 floor_of-append mode [] m = omega arith
@@ -14,6 +14,9 @@ pub floor_of-line : (mode : Mode) (floor : ℕ) (es : List Event) → InOrder (o
     → floor_after (orders_markers mode) floor es ≡ max floor (floor_of mode (on_time es))
 floor_of-line mode floor es order = floor_of-block mode [] es floor floor (omega arith) order
 
+late_floor : (mode : Mode) (floor : ℕ) (e : Event) → moved_floor mode floor e true ≡ floor
+late_floor mode floor e = search (rules, arith)
+
 -- one event in order
 pub one-order : (mode : Mode) (floor : ℕ) (e : Event) → e.time ≤ time_limit → (IsTrue (is_ordered mode e && not false) → floor ≤ e.time)
     → InOrder (orders_markers mode) floor (e ∷ [])
@@ -22,12 +25,63 @@ one-order mode floor e time order = (time, λ moves. order (later mode e moves),
     later : (mode : Mode) (e : Event) → IsTrue (moves_floor (orders_markers mode) e) → IsTrue (is_ordered mode e && not false)
     later mode e moves = search (rules, arith, moves_by)
 
+alike-trans : {k l m : Marked} → AreAlike k l → AreAlike l m → AreAlike k m
+alike-trans p q = record { count = p.count ∙ q.count; on_time = p.on_time ∙ q.on_time; floor = λ mode. p.floor mode ∙ q.floor mode }
+
+alike-append : {k l m n : Marked} → AreAlike k l → AreAlike m n → AreAlike (k ++ m) (l ++ n)
+alike-append {k = k} {l = l} {m = m} {n = n} p q = record {
+  count = omega (arith, length-append k m, length-append l n, p.count, q.count);
+  on_time = not_marked-append k m ∙ ap (λ xs. xs ++ not_marked m) p.on_time ∙ ap (λ xs. not_marked l ++ xs) q.on_time ∙ sym (not_marked-append l n);
+  floor = λ mode. omega (arith, floor_of-append mode k m, floor_of-append mode l n, p.floor mode, q.floor mode);
+}
+
+-- a late event before those on time
+alike-late : (es : List Event) (e : Event) → AreAlike ((e, true) ∷ on_time es) (on_time es ++ (e, true) ∷ [])
+alike-late es e = record {
+  count = omega (arith, length-append (on_time es) ((e, true) ∷ []));
+  on_time = rw (not_marked-append, append-nil) refl;
+  floor = λ mode. rw floor_of-append (no_more mode);
+}
+  where
+    none : (b : Bool) → (if b && not true then e.time else 0) ≡ 0
+    none b = search (rules, arith)
+
+    no_more : (mode : Mode) → max (if is_ordered mode e && not true then e.time else 0) (floor_of mode (on_time es)) ≡ max (floor_of mode (on_time es)) (max (if is_ordered mode e && not true then e.time else 0) 0)
+    no_more mode = rw none (omega arith)
+
 module _ {T : Type 0} (g : Ghosts T) where
+  stands-trans : {k l m : Marked} → MayStandFor g k l → MayStandFor g l m → MayStandFor g k m
+  stands-trans p q = record { alike = alike-trans p.alike q.alike; strict = λ strict. p.strict strict ∙ q.strict strict }
+
+  stands-append : {k l m n : Marked} → MayStandFor g k l → MayStandFor g m n → MayStandFor g (k ++ m) (l ++ n)
+  stands-append p q = record { alike = alike-append p.alike q.alike; strict = λ strict. rw (p.strict strict, q.strict strict) refl }
+
+  stands-by : {l m : Marked} → l ≡ m → MayStandFor g l m
+  stands-by {l = l} is = subst (λ x. MayStandFor g l x) is (stands-same g l)
+
+  -- what it got
+  got-standing : (start t : T) (l m : Marked) → (g.late_pass ≡ true → (start t : T) (l m : Marked) → AreAlike l m → g.got start t l → g.got start t m)
+      → MayStandFor g l m → g.got start t l → g.got start t m
+  got-standing start t l m passes p got = by g.late_pass refl
+    where
+      by : (b : Bool) → g.late_pass ≡ b → g.got start t m
+      by true is = passes is start t l m p.alike got
+      by false is = subst (λ x. g.got start t x) (p.strict is) got
+
+  -- a taker that breaks lets no late event pass
+  broke-strict : (start t : T) (l : Marked) → (g.late_pass ≡ true → (start t : T) (l : Marked) → g.broke start t l → ⊥) → g.broke start t l → g.late_pass ≡ false
+  broke-strict start t l unbroken broke = by g.late_pass refl
+    where
+      by : (b : Bool) → g.late_pass ≡ b → g.late_pass ≡ false
+      by true is = absurd (unbroken is start t l broke)
+      by false is = is
+
   pub goes_on-trans : {old mid new : T} {es between now : List Event} {l m : Marked}
       → GoesOn g old mid es between l → GoesOn g mid new between now m → GoesOn g old new es now (l ++ m)
   goes_on-trans {es = es} {l = l} {m = m} p q = record {
     front = p.front ++ q.front;
-    parts = sym (append_assoc (on_time es) l m) ∙ ap (λ x. x ++ m) p.parts ∙ append_assoc p.front _ m ∙ ap (λ x. p.front ++ x) q.parts ∙ sym (append_assoc p.front q.front _);
+    parts = stands-trans (stands-by (append_assoc p.front q.front _)) (stands-trans (stands-append (stands-same g p.front) q.parts)
+        (stands-trans (stands-by (sym (append_assoc p.front _ m))) (stands-trans (stands-append p.parts (stands-same g m)) (stands-by (append_assoc (on_time es) l m)))));
     follows = λ start x got. rw (← append_assoc) (q.follows start _ (p.follows start x got));
     counted = omega (arith, p.counted, q.counted, length-append l m);
     moved = q.moved ∙ rw (p.moved, p.same_mode, floor_of-append) (omega arith);
@@ -45,7 +99,8 @@ module _ {T : Type 0} (g : Ghosts T) where
     front = p.front ++ q.front;
     back = q.back;
     some = omega (arith, length-append p.front q.front, q.some);
-    parts = sym (append_assoc (on_time es) l m) ∙ ap (λ x. x ++ m) p.parts ∙ append_assoc p.front _ m ∙ ap (λ x. p.front ++ x) q.parts ∙ sym (append_assoc p.front q.front q.back);
+    strict = q.strict;
+    parts = sym (append_assoc (on_time es) l m) ∙ ap (λ x. x ++ m) (sym (p.parts.strict q.strict)) ∙ append_assoc p.front _ m ∙ ap (λ x. p.front ++ x) q.parts ∙ sym (append_assoc p.front q.front q.back);
     broken = λ start x got. rw (← append_assoc) (q.broken start _ (p.follows start x got));
   }
 
@@ -59,6 +114,7 @@ module _ {T : Type 0} (g : Ghosts T) where
     front = b.front;
     back = b.back ++ m;
     some = b.some;
+    strict = b.strict;
     parts = sym (append_assoc (on_time es) l m) ∙ ap (λ x. x ++ m) b.parts ∙ append_assoc b.front b.back m;
     broken = b.broken;
   }
@@ -69,15 +125,17 @@ module _ {T : Type 0} (g : Ghosts T) where
       → GoesOn g old new es [] []
   goes_on-given {es = es} follows more mode moved = record {
     front = on_time es;
-    parts = refl;
+    parts = stands-same g _;
     follows = follows;
     counted = omega (arith, more);
     moved = moved ∙ omega arith;
     same_mode = mode;
   }
 
-  pub breaks-among : {old new : T} {es : List Event} → BrokeAmong g.got g.broke old new es → Breaks g old new es []
-  breaks-among {es = es} b = record {
+  pub breaks-among : {old new : T} {es : List Event} → (g.late_pass ≡ true → (start t : T) (l : Marked) → g.broke start t l → ⊥) → g.got old old []
+      → BrokeAmong g.got g.broke old new es → Breaks g old new es []
+  breaks-among {old = old} {new = new} {es = es} unbroken none b = record {
+    strict = broke-strict old new (on_time b.front) unbroken (b.broken old [] none);
     front = on_time b.front;
     back = on_time b.back;
     some = omega (arith, length-on_time b.front, b.some);
@@ -90,41 +148,81 @@ module _ {T : Type 0} (g : Ghosts T) where
       → GoesOn g t t es now (on_time more)
   goes_on-push t es now more is order = rw is (record {
     front = [];
-    parts = sym (map-append (λ (e : Event). (e, false)) es more);
+    parts = stands-by (map-append (λ (e : Event). (e, false)) es more);
     follows = λ start m got. rw append-nil got;
     counted = omega (arith, length-append es more, length-on_time more);
     moved = floor-append (orders_markers (g.mode t)) (g.floor t) es more ∙ floor_of-line (g.mode t) (floor_with g t es) more order;
     same_mode = refl;
   })
 
-  -- one late event was given
-  goes_on-late : {old new : T} {none : List Event} (e : Event) → none ≡ [] → ((start : T) (m : Marked) → g.got start old m → g.got start new (m ++ (e, true) ∷ []))
+  -- one late event was given, before those that wait
+  goes_on-late : {old new : T} {es : List Event} (e : Event) → (es ≡ []) ⊎ (g.late_pass ≡ true) → ((start : T) (m : Marked) → g.got start old m → g.got start new (m ++ (e, true) ∷ []))
       → g.taken new ≡ g.taken old + 1 → g.mode new ≡ g.mode old → g.floor new ≡ moved_floor (g.mode old) (g.floor old) e true
-      → GoesOn g old new [] none ((e, true) ∷ [])
-  goes_on-late {old = old} e is follows more mode moved = rw is (record {
+      → GoesOn g old new es es ((e, true) ∷ [])
+  goes_on-late {old = old} {new = new} {es = es} e passed follows more mode moved = record {
     front = (e, true) ∷ [];
-    parts = refl;
+    parts = record { alike = alike-late es e; strict = λ strict. alone passed strict };
     follows = follows;
     counted = omega (arith, more);
-    moved = moved ∙ moved_floor-push (g.mode old) (g.floor old) (g.floor old) [] e true (omega arith) (never (is_ordered (g.mode old) e));
+    moved = rw (moved, mode, late_floor (g.mode old) (g.floor old) e, none (is_ordered (g.mode old) e) e.time) (omega arith);
     same_mode = mode;
-  })
+  }
     where
-      never : {X : Type 0} (b : Bool) → IsTrue (b && not true) → X
-      never b is = search (rules, arith)
+      none : (b : Bool) (n : ℕ) → (if b && not true then n else 0) ≡ 0
+      none b n = search (rules, arith)
 
-  pub late-given : {X E : Type 0} (r : Result X E) (new : T) {old mid : T} {es none : List Event} (e : Event) → none ≡ []
-      → GoesOn g old mid es [] [] → OnOk r ((start : T) (m : Marked) → g.got start mid m → g.got start new (m ++ (e, true) ∷ []))
+      alone : (es ≡ []) ⊎ (g.late_pass ≡ true) → g.late_pass ≡ false → (e, true) ∷ on_time es ≡ on_time es ++ (e, true) ∷ []
+      alone (inl is) strict = rw is refl
+      alone (inr is) strict = none-passes (sym strict ∙ is)
+
+  pub late-given : {X E : Type 0} (r : Result X E) (new : T) {old mid : T} {es now : List Event} (e : Event) → (now ≡ []) ⊎ (g.late_pass ≡ true)
+      → GoesOn g old mid es now [] → OnOk r ((start : T) (m : Marked) → g.got start mid m → g.got start new (m ++ (e, true) ∷ []))
       → OnOk r (g.taken new ≡ g.taken mid + 1) → OnOk r (g.mode new ≡ g.mode mid) → OnOk r (g.floor new ≡ moved_floor (g.mode mid) (g.floor mid) e true)
-      → OnOk r (GoesOn g old new es none ((e, true) ∷ []))
-  late-given (Ok x) new e is gave follows more mode moved = goes_on-trans gave (goes_on-late e is follows more mode moved)
-  late-given (Err x) new e is gave follows more mode moved = tt
+      → OnOk r (GoesOn g old new es now ((e, true) ∷ []))
+  late-given (Ok x) new e passed gave follows more mode moved = goes_on-trans gave (goes_on-late e passed follows more mode moved)
+  late-given (Err x) new e passed gave follows more mode moved = tt
 
-  pub late-broken : {X E : Type 0} (r : Result X E) (new : T) {old mid : T} {es : List Event} (e : Event) → GoesOn g old mid es [] []
+  pub late-broken : {X E : Type 0} (r : Result X E) (new : T) {old mid : T} {es now : List Event} (e : Event)
+      → (g.late_pass ≡ true → (start t : T) (l : Marked) → g.broke start t l → ⊥) → g.got mid mid [] → (now ≡ []) ⊎ (g.late_pass ≡ true) → GoesOn g old mid es now []
       → OnErr r ((start : T) (m : Marked) → g.got start mid m → g.broke start new (m ++ (e, true) ∷ []))
       → OnErr r (Breaks g old new es ((e, true) ∷ []))
-  late-broken (Ok x) new e gave broken = tt
-  late-broken (Err x) new e gave broken = breaks-behind gave (record { front = (e, true) ∷ []; back = []; some = omega arith; parts = refl; broken = broken })
+  late-broken (Ok x) new e unbroken none passed gave broken = tt
+  late-broken (Err x) new {mid = mid} {now = now} e unbroken none passed gave broken =
+      breaks-behind gave (record { strict = strict; front = (e, true) ∷ []; back = on_time now; some = omega arith; parts = alone passed; broken = broken })
+    where
+      strict : g.late_pass ≡ false
+      strict = broke-strict mid new ((e, true) ∷ []) unbroken (broken mid [] none)
+
+      alone : (now ≡ []) ⊎ (g.late_pass ≡ true) → on_time now ++ (e, true) ∷ [] ≡ (e, true) ∷ on_time now
+      alone (inl is) = rw is refl
+      alone (inr is) = none-passes (sym strict ∙ is)
+
+  pub waits-none : {N : ℕ} (taker : T) (block : Block N) → gathered block ≡ [] → sorted block ≡ 0 → Waits g taker block
+  waits-none taker block none unsorted = record {
+    in_order = rw none tt;
+    fit = rw none (λ k d lt. absurd (omega (arith, lt)));
+    few = λ some. absurd (omega (arith, some, ap length none));
+    unsorted = unsorted;
+  }
+
+  -- those that wait still do
+  pub late-waits : {N : ℕ} {X E : Type 0} (r : Result X E) (new : T) {mid : T} (block : Block N) (e : Event)
+      → (g.late_pass ≡ true → (start t : T) (l : Marked) → g.broke start t l → ⊥) → g.got mid mid [] → (gathered block ≡ []) ⊎ (g.late_pass ≡ true) → Waits g mid block
+      → OnErr r ((start : T) (m : Marked) → g.got start mid m → g.broke start new (m ++ (e, true) ∷ []))
+      → g.taken mid + length (gathered block) < record_limit
+      → OnOk r (g.taken new ≡ g.taken mid + 1) → OnOk r (g.mode new ≡ g.mode mid) → OnOk r (g.floor new ≡ moved_floor (g.mode mid) (g.floor mid) e true)
+      → Waits g new block
+  late-waits (Ok x) new {mid = mid} block e unbroken none passed w broken room more mode moved = record {
+    in_order = rw (moved, mode, late_floor (g.mode mid) (g.floor mid) e) w.in_order;
+    fit = rw mode w.fit;
+    few = λ some. omega (arith, more, room);
+    unsorted = w.unsorted;
+  }
+  late-waits (Err x) new {mid = mid} block e unbroken none passed w broken room more mode moved = waits-none new block (alone passed) w.unsorted
+    where
+      alone : (gathered block ≡ []) ⊎ (g.late_pass ≡ true) → gathered block ≡ []
+      alone (inl is) = is
+      alone (inr is) = absurd (unbroken is mid new ((e, true) ∷ []) (broken mid [] none))
 
   -- where they lead
   pub moved-one : {old new : T} {es now : List Event} (e : Event) (late : Bool) → GoesOn g old new es now ((e, late) ∷ [])
@@ -164,14 +262,6 @@ module _ {T : Type 0} (g : Ghosts T) where
     unsorted = same ∙ w.unsorted;
   }
 
-  pub waits-none : {N : ℕ} (taker : T) (block : Block N) → gathered block ≡ [] → sorted block ≡ 0 → Waits g taker block
-  waits-none taker block none unsorted = record {
-    in_order = rw none tt;
-    fit = rw none (λ k d lt. absurd (omega (arith, lt)));
-    few = λ some. absurd (omega (arith, some, ap length none));
-    unsorted = unsorted;
-  }
-
   pub fits-one : (taker : T) (es : List Event) (e : Event) → e.time ≤ time_limit → (IsTrue (is_ordered (g.mode taker) e && not false) → floor_with g taker es ≤ e.time)
       → KindFits (g.mode taker) e.kind → taken_with g taker es < record_limit → Fits taker es (e ∷ [])
   fits-one taker es e time order kind few = record {
@@ -182,11 +272,12 @@ module _ {T : Type 0} (g : Ghosts T) where
 
   -- What was given of words whose events went through a block.
 
-  pub gave-whole : {how : StreamSettings} {old new : T} {es now : List Event} {more : Marked} {ws us : List ℕ} → es ≡ [] → now ≡ []
+  pub gave-whole : {how : StreamSettings} {old new : T} {es now : List Event} {more : Marked} {ws us : List ℕ}
+      → (g.late_pass ≡ true → (start t : T) (l m : Marked) → AreAlike l m → g.got start t l → g.got start t m) → es ≡ [] → now ≡ []
       → given how us ≡ given how ws ++ more → GoesOn g old new es now more → g.faults new ≡ g.faults old → GaveOn g how old new ws us
-  gave-whole {more = more} none empty adds on kept =
-      let are : more ≡ on.front = ap (λ x. on_time x ++ more) (sym none) ∙ on.parts ∙ ap (λ x. on.front ++ on_time x) empty ∙ append-nil on.front in
-      record { more = more; adds = adds; follows = λ start m got. rw are (on.follows start m got); kept = kept }
+  gave-whole {new = new} {more = more} passes none empty adds on kept =
+      let are : MayStandFor g on.front more = stands-trans (stands-by (sym (append-nil on.front) ∙ ap (λ x. on.front ++ on_time x) (sym empty))) (stands-trans on.parts (stands-by (ap (λ x. on_time x ++ more) none))) in
+      record { more = more; adds = adds; follows = λ start m got. got-standing start new (m ++ on.front) (m ++ more) passes (stands-append (stands-same g m) are) (on.follows start m got); kept = kept }
 
   pub broke-whole : {how : StreamSettings} {old new : T} {es : List Event} {more : Marked} (back : Marked) {ws us : List ℕ} → es ≡ []
       → given how us ≡ given how ws ++ (more ++ back) → Breaks g old new es more → Rose (g.faults old) (g.faults new) → BrokeOn g how old new ws us

@@ -1,7 +1,7 @@
 -- What words add of which none is refused and no event is late.
 use Rattle.std.specs.Prelude.{ℕ, ◌≡◌, ◌<◌, ◌≤◌, IsTrue, true, false, Bool, List, [], ◌∷◌, ◌++◌, All, length, map, if◌then◌else◌}
 use Rattle.tally_base.{specs.declared.event.Event.Event, specs.declared.header.Mode.Mode, specs.Events.is_ordered, specs.Tally.{floor_after, InOrder}}
-use Rattle.ptu_definitions.{specs.Kept.Marked, specs.Layouts.KindFits, specs.Settled.ordered, specs.Streams.{StreamSettings, refusals, events_in}, specs.Times.events}
+use Rattle.ptu_definitions.{specs.Kept.{Marked, floor_of}, specs.Layouts.KindFits, specs.Settled.{ordered, not_marked}, specs.Streams.{StreamSettings, refusals, events_in}, specs.Times.events}
 use Rattle.abs_time.{specs.Placing.IsClock, specs.Floors.orders_markers}
 use Rattle.settle.specs.Passing.{place_after}
 
@@ -11,6 +11,16 @@ on_time es = map (λ e. (e, false)) es
 
 abbrev pub AllFit : Mode → List Event → Type 0
 AllFit mode es = All (λ e. KindFits mode e.kind) es
+
+-- Both lists have the same events on time, and as many late ones.
+pub record AreAlike (l m : Marked) : Type 0 where
+  pub count : length l ≡ length m
+  pub on_time : not_marked l ≡ not_marked m
+  pub floor : (mode : Mode) → floor_of mode l ≡ floor_of mode m
+
+-- where no late event may pass
+pub none-passes : {X : Type 0} → false ≡ true → X
+none-passes never = cc
 
 -- The taker broke at one of these events.
 pub record BrokeAmong {T : Type 0} (got broke : T → T → Marked → Type 0) (old new : T) (es : List Event) : Type 0 where

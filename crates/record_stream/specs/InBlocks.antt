@@ -1,9 +1,9 @@
 -- A taker with the events that it is given next.
-use Rattle.std.{specs.Prelude.{ℕ, ◌≡◌, ◌+◌, ◌<◌, ◌≤◌, List, [], ◌++◌, length, max, refl}, proofs.Common.{append-nil, arith}}
+use Rattle.std.{specs.Prelude.{ℕ, ◌≡◌, ◌+◌, ◌<◌, ◌≤◌, false, List, [], ◌++◌, length, max, refl}, proofs.Common.{append-nil, arith}}
 use Rattle.tally_base.{specs.declared.event.Event.Event, specs.declared.block.Block.Block, specs.Columns.{sorted, gathered}, specs.Limits.record_limit, specs.Tally.{floor_after, InOrder}}
 use Rattle.ptu_definitions.specs.Kept.{Marked, floor_of}
 use Rattle.abs_time.specs.Floors.{orders_markers}
-use Rattle.record_stream.{specs.Blocks.{on_time, AllFit}, specs.declared.taker.EventTaker.Ghosts}
+use Rattle.record_stream.{specs.Blocks.{on_time, AllFit, AreAlike}, specs.declared.taker.EventTaker.Ghosts}
 
 module _ {T : Type 0} (g : Ghosts T) where
   -- how many events it was given, with those that wait
@@ -21,10 +21,18 @@ module _ {T : Type 0} (g : Ghosts T) where
     pub few : 0 < length (gathered block) → taken_with taker (gathered block) ≤ record_limit
     pub unsorted : sorted block ≡ 0
 
+  -- The taker may be given the first list in place of the second.
+  pub record MayStandFor (l m : Marked) : Type 0 where
+    pub alike : AreAlike l m
+    pub strict : g.late_pass ≡ false → l ≡ m
+
+  pub stands-same : (l : Marked) → MayStandFor l l
+  stands-same l = record { alike = record { count = refl; on_time = refl; floor = λ mode. refl }; strict = λ strict. refl }
+
   -- After the events that wait these came: the first of all are given, and the others wait now.
   pub record GoesOn (old new : T) (es now : List Event) (l : Marked) : Type 0 where
     pub front : Marked
-    pub parts : on_time es ++ l ≡ front ++ on_time now
+    pub parts : MayStandFor (front ++ on_time now) (on_time es ++ l)
     pub follows : (start : T) (m : Marked) → g.got start old m → g.got start new (m ++ front)
     pub counted : taken_with new now ≡ taken_with old es + length l
     pub moved : floor_with new now ≡ max (floor_with old es) (floor_of (g.mode old) l)
@@ -35,8 +43,9 @@ module _ {T : Type 0} (g : Ghosts T) where
     pub front : Marked
     pub back : Marked
     pub some : 0 < length front
+    pub strict : g.late_pass ≡ false
     pub parts : on_time es ++ l ≡ front ++ back
     pub broken : (start : T) (m : Marked) → g.got start old m → g.broke start new (m ++ front)
 
   pub goes_on-none : (t : T) (es : List Event) → GoesOn t t es es []
-  goes_on-none t es = record { front = []; parts = append-nil (on_time es); follows = λ start m got. rw append-nil got; counted = omega arith; moved = omega arith; same_mode = refl }
+  goes_on-none t es = record { front = []; parts = rw append-nil (stands-same (on_time es)); follows = λ start m got. rw append-nil got; counted = omega arith; moved = omega arith; same_mode = refl }

@@ -1,5 +1,5 @@
 // Events in blocks.
-ghost use Rattle.std.{specs.Prelude.{◌≡◌, ◌+◌, ◌<◌, ◌≤◌, [], true, length, OnOk, OnErr}, proofs.Props.props};
+ghost use Rattle.std.{specs.Prelude.{◌≡◌, ◌+◌, ◌<◌, ◌≤◌, [], true, length, OnOk, OnErr, ◌⊎◌}, proofs.Props.props};
 ghost use Rattle.abs_time.proofs.Floors.{kind_fits-prop};
 ghost use Rattle.tally_base.{specs.FaultCounts.FailsOnce, specs.Columns.{sorted, gathered}, proofs.Floors.in_order-prop};
 ghost use Rattle.record_stream.specs.InBlocks.{GoesOn, Breaks, Waits};
@@ -57,6 +57,28 @@ pub(crate) fn make_room<S: EventTaker>(
     Ok(())
 }
 
+/// Gives a taker the events that wait, unless a late one may pass them.
+#[inline(always)]
+pub(crate) fn give_before_late<S: EventTaker>(
+    taker: &mut S,
+    block: &mut Block<TABLE_BLOCK>,
+) -> Result<(), Failed>
+    requires waits { Waits S.EventTaker taker.old block.old }
+    ensures gave { OnOk result (GoesOn S.EventTaker taker.old taker.new (gathered block.old)
+        (gathered block.new) []) }
+    ensures broken { OnErr result (Breaks S.EventTaker taker.old taker.new (gathered block.old) []) }
+    ensures waits { Waits S.EventTaker taker.new block.new }
+    ensures passed { (gathered block.new ≡ []) ⊎ (S.late_pass ≡ true) }
+    ensures few { length (gathered block.new) ≤ length (gathered block.old) }
+    ensures cause { FailsOnce (S.faults taker.old) (S.faults taker.new) result }
+    ensures same { S.same taker.old taker.new }
+{
+    if taker.lets_late_pass() {
+        return Ok(());
+    }
+    give_all(taker, block)
+}
+
 /// Gives a taker its events in blocks. It lives for one call of a stream.
 #[derive(Drop)]
 pub struct InBlocks<'t, S: EventTaker> {
@@ -68,8 +90,10 @@ pub struct InBlocks<'t, S: EventTaker> {
 }
 
 impl<'t, S: EventTaker> EventTaker for InBlocks<'t, S> {
-    ghost use Rattle.std.{specs.Prelude.refl, proofs.Common.{◌∙◌}};
-    ghost use Rattle.record_stream.specs.InBlocks.{taken_with, floor_with, goes_on-none};
+    ghost use Rattle.std.{specs.Prelude.{refl, false}, proofs.Common.{◌∙◌}};
+    ghost use Rattle.record_stream.specs.{InBlocks.{taken_with, floor_with, goes_on-none}, Blocks.none-passes};
+
+    ghost late_pass = { false };
 
     ghost got = { λ s t l. GoesOn S.EventTaker s.taker.now t.taker.now (gathered s.block) (gathered t.block) l };
 
@@ -91,15 +115,24 @@ impl<'t, S: EventTaker> EventTaker for InBlocks<'t, S> {
 
     ghost floor_is = { λ s t l is. is.moved };
 
+    ghost passes = { λ never. none-passes never };
+
+    ghost unbroken = { λ never. none-passes never };
+
     ghost same_none = { λ t. (refl, S.same_none _) };
 
     ghost same_more = { λ t u v p q. (q.0 ∙ p.0, S.same_more _ _ _ p.1 q.1) };
 
-    /// A late one is given at once, after those that wait.
+    #[inline(always)]
+    fn lets_late_pass(&self) -> bool {
+        false
+    }
+
+    /// A late one is given at once.
     #[inline(always)]
     fn take(&mut self, event: &Event, late: bool) -> Result<(), Failed> {
         if late {
-            give_all(self.taker, &mut self.block)?;
+            give_before_late(self.taker, &mut self.block)?;
             return self.taker.take(event, true);
         }
         self.block.push(event);

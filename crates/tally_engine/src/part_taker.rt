@@ -27,7 +27,10 @@ pub(crate) struct PartTaker<'g, 'p, 's, L: Ledger> {
 }
 
 impl<'g, 'p, 's, L: Ledger> EventTaker for PartTaker<'g, 'p, 's, L> {
-    ghost use Rattle.tally_engine.specs.Give.{Gave, gave_none, SameTaker, same_taker_none, same_taker_more};
+    ghost use Rattle.std.specs.Prelude.{true};
+    ghost use Rattle.tally_engine.specs.Give.{Gave, gave_none, gave_alike, SameTaker, same_taker_none, same_taker_more};
+
+    ghost late_pass = { true };
 
     ghost got = { λ s t l. Gave ⟦<Part as Tally>⟧ (sorting_of s.gates.now) (sorting_of t.gates.now)
         s.mode t.mode s.taken t.taken s.floor t.floor s.parts.now.items t.parts.now.items l };
@@ -51,9 +54,18 @@ impl<'g, 'p, 's, L: Ledger> EventTaker for PartTaker<'g, 'p, 's, L> {
 
     ghost floor_is = { λ s t l is. is.moved };
 
+    ghost passes = { λ pass s t l m. gave_alike ⟦<Part as Tally>⟧ _ _ _ _ _ _ _ _ _ _ l m };
+
+    ghost unbroken = { λ pass s t l broke. broke };
+
     ghost same_none = { λ t. same_taker_none ⟦<Part as Tally>⟧ _ _ _ };
 
     ghost same_more = { λ t u v. same_taker_more ⟦<Part as Tally>⟧ _ _ _ _ _ _ _ _ _ };
+
+    #[inline(always)]
+    fn lets_late_pass(&self) -> bool {
+        true
+    }
 
     /// Another one than a late one goes as a block of one.
     fn take(&mut self, event: &Event, late: bool) -> Result<(), Failed> {

@@ -1,23 +1,23 @@
 use Rattle.std.{proofs.Common.{arith, false}, proofs.lemmas.Result.{err_from_is_err_and, on_ok_weaker, on_err_weaker}}
 use Rattle.tally_base.specs.Columns.{gathered}
-use Rattle.record_stream.proofs.InBlocks.{goes_on-trans, breaks-behind, breaks-before, goes_on-push, late-given, late-broken, moved-one, one-order, fits-one, waits-push}
+use Rattle.record_stream.proofs.InBlocks.{goes_on-trans, breaks-behind, breaks-before, goes_on-push, late-given, late-broken, late-waits, moved-one, one-order, fits-one, waits-push}
 use Rattle.record_stream.proofs.in_blocks.InBlocksEventTaker.take.Goals as goal
 
-pub returns-in_err-give_all-clause-broken : goal.returns-in_err-give_all-clause-broken
-returns-in_err-give_all-clause-broken g c =
+pub returns-in_err-give_before_late-clause-broken : goal.returns-in_err-give_before_late-clause-broken
+returns-in_err-give_before_late-clause-broken g c =
     let p = err_from_is_err_and c.from_residual.result c.from_residual.ensures.1 in
-    rw p.1 (λ start l on. breaks-behind g.S.EventTaker on (breaks-before g.S.EventTaker _ c.in_err-give_all.ensures.broken))
+    rw p.1 (λ start l on. breaks-behind g.S.EventTaker on (breaks-before g.S.EventTaker _ c.in_err-give_before_late.ensures.broken))
 
 pub returns-then-late-clause-follows : goal.returns-then-late-clause-follows
 returns-then-late-clause-follows g c =
     let take = c.take.ensures in
     rw c.if-late.true (on_ok_weaker c.take.result (λ given start l on. goes_on-trans g.S.EventTaker on given)
-    (late-given g.S.EventTaker c.take.result _ c.args.event.now c.in_ok-give_all.ensures.empty c.in_ok-give_all.ensures.gave take.follows take.one_more take.same_mode take.moved))
+    (late-given g.S.EventTaker c.take.result _ c.args.event.now c.in_ok-give_before_late.ensures.passed c.in_ok-give_before_late.ensures.gave take.follows take.one_more take.same_mode take.moved))
 
 pub returns-then-late-clause-broken : goal.returns-then-late-clause-broken
 returns-then-late-clause-broken g c =
     rw c.if-late.true (on_err_weaker c.take.result (λ broken start l on. breaks-behind g.S.EventTaker on broken)
-    (late-broken g.S.EventTaker c.take.result _ c.args.event.now c.in_ok-give_all.ensures.gave c.take.ensures.broken))
+    (late-broken g.S.EventTaker c.take.result _ c.args.event.now g.met.S.EventTaker.unbroken (g.met.S.EventTaker.got_none _) c.in_ok-give_before_late.ensures.passed c.in_ok-give_before_late.ensures.gave c.take.ensures.broken))
 
 pub make_room-requires : goal.make_room-requires
 make_room-requires g c =
@@ -49,3 +49,9 @@ returns-clause-moved g c =
     rw c.if-late.false (on_ok_weaker c.make_room.result
     (λ gave. moved-one s {es = gathered c.args.self.now.block} c.args.event.now false
     (goes_on-trans s (goes_on-push s _ (gathered c.args.self.now.block) _ _ c.push.ensures.more order) gave) before) c.make_room.ensures.gave)
+
+pub invariant_of-self-then-late-clause-waits : goal.invariant_of-self-then-late-clause-waits
+invariant_of-self-then-late-clause-waits g c =
+    let take = c.take.ensures in
+    let before = c.in_ok-give_before_late.ensures in
+    late-waits g.S.EventTaker c.take.result _ _ c.args.event.now g.met.S.EventTaker.unbroken (g.met.S.EventTaker.got_none _) before.passed before.waits take.broken (omega (arith, c.requires.room, before.gave.counted)) take.one_more take.same_mode take.moved
