@@ -1,4 +1,4 @@
-use Rattle.std.{proofs.Common.{rules, arith, ◌≤◌, ◌≡◌, ◌++◌, ap, sym, ◌∙◌, None, Some, length, ℕ, List}, proofs.Math.Logic.{∥∥₁_map, ∥∥₁_elim}, proofs.Props.props}
+use Rattle.std.{proofs.Common.{rules, arith, ◌≤◌, ◌≡◌, ◌++◌, ap, sym, ◌∙◌, length, ℕ, List}, proofs.Math.Logic.{∥∥₁_map, ∥∥₁_elim}, proofs.Props.props}
 use Rattle.tally_base.specs.RecordTypes.{mode_of}
 use Rattle.ptu_definitions.{specs.Words.words_of, specs.Streams.StreamSettings, proofs.Firsts.record_refusal-inside}
 use Rattle.record_stream.{specs.Standing.{carried_by, HasStreamed}}

@@ -1,4 +1,4 @@
-use Rattle.std.proofs.Common.{◌≡◌, ◌++◌, ◌∙◌, None, Some, sym, rules, arith}
+use Rattle.std.proofs.Common.{◌≡◌, ◌++◌, ◌∙◌, None, Some, sym}
 use Rattle.record_stream.{specs.Standing.refused_with, proofs.Wraps.refused-bytes, proofs.Lasts.streamed-shown}
 use Rattle.tally_engine.proofs.Feeds.{no_write, engine_within}
 use Rattle.tally_engine.proofs.engine.Engine.feed.Goals as goal
