@@ -28,10 +28,7 @@ pub(crate) fn with_place(digest: u64, place: u64) -> u64 {
 }
 
 impl EventTaker for Counter {
-    ghost use Rattle.std.{specs.Prelude.{refl, true, false}, proofs.Common.{◌∙◌, arith}};
-    ghost use Rattle.record_stream.specs.Blocks.{none-passes};
-
-    ghost late_pass = { false };
+    ghost use Rattle.std.{specs.Prelude.{refl, true}, proofs.Common.{◌∙◌, arith}};
 
     ghost got = { λ s t l. (t.mode ≡ s.mode) × (t.taken ≡ s.taken + length l)
         × (t.floor ≡ max s.floor (floor_of s.mode l)) };
@@ -57,15 +54,6 @@ impl EventTaker for Counter {
     ghost taken_is = { λ s t l is. is.1 };
 
     ghost floor_is = { λ s t l is. is.2 };
-
-    ghost passes = { λ never. none-passes never };
-
-    ghost unbroken = { λ never. none-passes never };
-
-    #[inline(always)]
-    fn lets_late_pass(&self) -> bool {
-        false
-    }
 
     fn take(&mut self, event: &Event, late: bool) -> Result<(), Failed> {
         if self.taken == self.room {

@@ -37,10 +37,7 @@ struct EventLines<'o, O: Sink> {
 
 impl<'o, O: Sink> EventTaker for EventLines<'o, O> {
     ghost use Rattle.file_work.specs.EventLines.{Listed, ListedShort, listed_none};
-    ghost use Rattle.std.{specs.Prelude.{refl, true, false}, proofs.Common.{◌∙◌}};
-    ghost use Rattle.record_stream.specs.Blocks.{none-passes};
-
-    ghost late_pass = { false };
+    ghost use Rattle.std.{specs.Prelude.{refl, true}, proofs.Common.{◌∙◌}};
 
     ghost got = { λ s t l. Listed s.out.ghost_name t.out.ghost_name s.mode t.mode s.taken t.taken
         s.floor t.floor (O.faults s.out.now) (O.faults t.out.now)
@@ -68,15 +65,6 @@ impl<'o, O: Sink> EventTaker for EventLines<'o, O> {
     ghost taken_is = { λ s t l is. is.counted };
 
     ghost floor_is = { λ s t l is. is.moved };
-
-    ghost passes = { λ never. none-passes never };
-
-    ghost unbroken = { λ never. none-passes never };
-
-    #[inline(always)]
-    fn lets_late_pass(&self) -> bool {
-        false
-    }
 
     #[inline(always)]
     fn take(&mut self, event: &Event, late: bool) -> Result<(), Failed> {

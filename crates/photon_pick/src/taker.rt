@@ -46,11 +46,8 @@ pub(crate) struct Picks<'g, 'p, 'o, O: Sink> {
 }
 
 impl<'g, 'p, 'o, O: Sink> EventTaker for Picks<'g, 'p, 'o, O> {
-    ghost use Rattle.std.{specs.Prelude.{refl, false}, proofs.Common.{◌∙◌}};
-    ghost use Rattle.record_stream.specs.Blocks.{none-passes};
+    ghost use Rattle.std.{specs.Prelude.{refl}, proofs.Common.{◌∙◌}};
     ghost use Rattle.photon_pick.specs.Giving.{Took, Refused, took_none, stand};
-
-    ghost late_pass = { false };
 
     ghost got = { λ s t l. Took (stand (is_chosen (sorting_of s.gates.now) s.group) s.picker.now s.mode s.taken s.floor
         (O.faults s.out.now) (O.written s.out.now) s.block s.fault)
@@ -82,15 +79,6 @@ impl<'g, 'p, 'o, O: Sink> EventTaker for Picks<'g, 'p, 'o, O> {
     ghost taken_is = { λ s t l is. is.counted };
 
     ghost floor_is = { λ s t l is. is.moved };
-
-    ghost passes = { λ never. none-passes never };
-
-    ghost unbroken = { λ never. none-passes never };
-
-    #[inline(always)]
-    fn lets_late_pass(&self) -> bool {
-        false
-    }
 
     #[inline(always)]
     fn take(&mut self, event: &Event, late: bool) -> Result<(), Failed> {

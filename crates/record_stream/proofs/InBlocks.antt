@@ -3,7 +3,7 @@ use Rattle.std.{proofs.Common.{rules, if◌then◌else◌, IfErr, inl, inr, ◌�
 use Rattle.tally_base.{specs.declared.event.Event.Event, specs.declared.fault.Fault.Fault, specs.declared.fault.Fault.TheVariants.WriteFault, specs.FaultCounts.Rose, specs.declared.header.Mode.Mode, specs.Events.is_ordered, specs.declared.block.Block.Block, specs.Columns.{gathered, sorted}, specs.Limits.{time_limit, record_limit}, specs.Tally.{floor_after, moves_floor, InOrder}, proofs.Floors.{floor-append, order-append}}
 use Rattle.ptu_definitions.{specs.Kept.{Marked, floor_of}, specs.Layouts.KindFits, specs.Settled.not_marked, specs.Streams.{StreamSettings, given}, proofs.{Firsts.record_refusal-inside, DeliveredLaws.not_marked-append}}
 use Rattle.abs_time.{specs.Floors.{orders_markers, moved_floor}, proofs.Floors.{moves_by, moved_floor-push}}
-use Rattle.record_stream.{specs.Feeding.{GaveOn, BrokeOn, Fed}, specs.Blocks.{on_time, AllFit, AreAlike, BrokeAmong, none-passes}, specs.InBlocks.{MayStandFor, stands-same, GoesOn, Breaks, Waits, taken_with, floor_with}, specs.declared.taker.EventTaker.Ghosts, proofs.Gathering.floor_of-block, proofs.Steps.length-on_time}
+use Rattle.record_stream.{specs.Feeding.{GaveOn, BrokeOn, Fed}, specs.Blocks.{on_time, AllFit, AreAlike, LetsLatePass, BrokeAmong}, specs.InBlocks.{MayStandFor, stands-same, GoesOn, Breaks, Waits, taken_with, floor_with}, specs.declared.taker.EventTaker.Ghosts, proofs.Gathering.floor_of-block, proofs.Steps.length-on_time}
 
 floor_of-append : (mode : Mode) (l m : Marked) → floor_of mode (l ++ m) ≡ max (floor_of mode l) (floor_of mode m)
 floor_of-append mode [] m = omega arith
@@ -51,30 +51,33 @@ alike-late es e = record {
 
 module _ {T : Type 0} (g : Ghosts T) where
   stands-trans : {k l m : Marked} → MayStandFor g k l → MayStandFor g l m → MayStandFor g k m
-  stands-trans p q = record { alike = alike-trans p.alike q.alike; strict = λ strict. p.strict strict ∙ q.strict strict }
+  stands-trans {k = k} {l = l} {m = m} p q = record { alike = alike-trans p.alike q.alike; but = both p.but q.but }
+    where
+      both : (k ≡ l) ⊎ LetsLatePass g.got g.broke → (l ≡ m) ⊎ LetsLatePass g.got g.broke → (k ≡ m) ⊎ LetsLatePass g.got g.broke
+      both (inl one) (inl two) = inl (one ∙ two)
+      both (inl one) (inr pass) = inr pass
+      both (inr pass) two = inr pass
 
   stands-append : {k l m n : Marked} → MayStandFor g k l → MayStandFor g m n → MayStandFor g (k ++ m) (l ++ n)
-  stands-append p q = record { alike = alike-append p.alike q.alike; strict = λ strict. rw (p.strict strict, q.strict strict) refl }
+  stands-append {k = k} {l = l} {m = m} {n = n} p q = record { alike = alike-append p.alike q.alike; but = both p.but q.but }
+    where
+      both : (k ≡ l) ⊎ LetsLatePass g.got g.broke → (m ≡ n) ⊎ LetsLatePass g.got g.broke → (k ++ m ≡ l ++ n) ⊎ LetsLatePass g.got g.broke
+      both (inl one) (inl two) = inl (rw (one, two) refl)
+      both (inl one) (inr pass) = inr pass
+      both (inr pass) two = inr pass
 
   stands-by : {l m : Marked} → l ≡ m → MayStandFor g l m
   stands-by {l = l} is = subst (λ x. MayStandFor g l x) is (stands-same g l)
 
   -- what it got
-  got-standing : (start t : T) (l m : Marked) → (g.late_pass ≡ true → (start t : T) (l m : Marked) → AreAlike l m → g.got start t l → g.got start t m)
-      → MayStandFor g l m → g.got start t l → g.got start t m
-  got-standing start t l m passes p got = by g.late_pass refl
-    where
-      by : (b : Bool) → g.late_pass ≡ b → g.got start t m
-      by true is = passes is start t l m p.alike got
-      by false is = subst (λ x. g.got start t x) (p.strict is) got
+  got-standing : (start t : T) (l m : Marked) → AreAlike l m → (l ≡ m) ⊎ LetsLatePass g.got g.broke → g.got start t l → g.got start t m
+  got-standing start t l m alike (inl is) got = subst (λ x. g.got start t x) is got
+  got-standing start t l m alike (inr pass) got = pass.passes start t l m alike got
 
-  -- a taker that breaks lets no late event pass
-  broke-strict : (start t : T) (l : Marked) → (g.late_pass ≡ true → (start t : T) (l : Marked) → g.broke start t l → ⊥) → g.broke start t l → g.late_pass ≡ false
-  broke-strict start t l unbroken broke = by g.late_pass refl
-    where
-      by : (b : Bool) → g.late_pass ≡ b → g.late_pass ≡ false
-      by true is = absurd (unbroken is start t l broke)
-      by false is = is
+  -- where a taker can break, the lists are one
+  strictly : {l m : Marked} → (LetsLatePass g.got g.broke → ⊥) → (l ≡ m) ⊎ LetsLatePass g.got g.broke → l ≡ m
+  strictly strict (inl is) = is
+  strictly strict (inr pass) = absurd (strict pass)
 
   pub goes_on-trans : {old mid new : T} {es between now : List Event} {l m : Marked}
       → GoesOn g old mid es between l → GoesOn g mid new between now m → GoesOn g old new es now (l ++ m)
@@ -100,7 +103,7 @@ module _ {T : Type 0} (g : Ghosts T) where
     back = q.back;
     some = omega (arith, length-append p.front q.front, q.some);
     strict = q.strict;
-    parts = sym (append_assoc (on_time es) l m) ∙ ap (λ x. x ++ m) (sym (p.parts.strict q.strict)) ∙ append_assoc p.front _ m ∙ ap (λ x. p.front ++ x) q.parts ∙ sym (append_assoc p.front q.front q.back);
+    parts = sym (append_assoc (on_time es) l m) ∙ ap (λ x. x ++ m) (sym (strictly q.strict p.parts.but)) ∙ append_assoc p.front _ m ∙ ap (λ x. p.front ++ x) q.parts ∙ sym (append_assoc p.front q.front q.back);
     broken = λ start x got. rw (← append_assoc) (q.broken start _ (p.follows start x got));
   }
 
@@ -132,10 +135,10 @@ module _ {T : Type 0} (g : Ghosts T) where
     same_mode = mode;
   }
 
-  pub breaks-among : {old new : T} {es : List Event} → (g.late_pass ≡ true → (start t : T) (l : Marked) → g.broke start t l → ⊥) → g.got old old []
+  pub breaks-among : {old new : T} {es : List Event} → g.got old old []
       → BrokeAmong g.got g.broke old new es → Breaks g old new es []
-  breaks-among {old = old} {new = new} {es = es} unbroken none b = record {
-    strict = broke-strict old new (on_time b.front) unbroken (b.broken old [] none);
+  breaks-among {old = old} {new = new} {es = es} none b = record {
+    strict = λ pass. pass.unbroken old new (on_time b.front) (b.broken old [] none);
     front = on_time b.front;
     back = on_time b.back;
     some = omega (arith, length-on_time b.front, b.some);
@@ -156,12 +159,12 @@ module _ {T : Type 0} (g : Ghosts T) where
   })
 
   -- one late event was given, before those that wait
-  goes_on-late : {old new : T} {es : List Event} (e : Event) → (es ≡ []) ⊎ (g.late_pass ≡ true) → ((start : T) (m : Marked) → g.got start old m → g.got start new (m ++ (e, true) ∷ []))
+  goes_on-late : {old new : T} {es : List Event} (e : Event) → (es ≡ []) ⊎ LetsLatePass g.got g.broke → ((start : T) (m : Marked) → g.got start old m → g.got start new (m ++ (e, true) ∷ []))
       → g.taken new ≡ g.taken old + 1 → g.mode new ≡ g.mode old → g.floor new ≡ moved_floor (g.mode old) (g.floor old) e true
       → GoesOn g old new es es ((e, true) ∷ [])
   goes_on-late {old = old} {new = new} {es = es} e passed follows more mode moved = record {
     front = (e, true) ∷ [];
-    parts = record { alike = alike-late es e; strict = λ strict. alone passed strict };
+    parts = record { alike = alike-late es e; but = alone passed };
     follows = follows;
     counted = omega (arith, more);
     moved = rw (moved, mode, late_floor (g.mode old) (g.floor old) e, none (is_ordered (g.mode old) e) e.time) (omega arith);
@@ -171,31 +174,35 @@ module _ {T : Type 0} (g : Ghosts T) where
       none : (b : Bool) (n : ℕ) → (if b && not true then n else 0) ≡ 0
       none b n = search (rules, arith)
 
-      alone : (es ≡ []) ⊎ (g.late_pass ≡ true) → g.late_pass ≡ false → (e, true) ∷ on_time es ≡ on_time es ++ (e, true) ∷ []
-      alone (inl is) strict = rw is refl
-      alone (inr is) strict = none-passes (sym strict ∙ is)
+      alone : (es ≡ []) ⊎ LetsLatePass g.got g.broke → ((e, true) ∷ on_time es ≡ on_time es ++ (e, true) ∷ []) ⊎ LetsLatePass g.got g.broke
+      alone (inl is) = inl (rw is refl)
+      alone (inr pass) = inr pass
 
-  pub late-given : {X E : Type 0} (r : Result X E) (new : T) {old mid : T} {es now : List Event} (e : Event) → (now ≡ []) ⊎ (g.late_pass ≡ true)
+  pub late-given : {X E : Type 0} (r : Result X E) (new : T) {old mid : T} {es now : List Event} (e : Event) → (now ≡ []) ⊎ LetsLatePass g.got g.broke
       → GoesOn g old mid es now [] → OnOk r ((start : T) (m : Marked) → g.got start mid m → g.got start new (m ++ (e, true) ∷ []))
       → OnOk r (g.taken new ≡ g.taken mid + 1) → OnOk r (g.mode new ≡ g.mode mid) → OnOk r (g.floor new ≡ moved_floor (g.mode mid) (g.floor mid) e true)
       → OnOk r (GoesOn g old new es now ((e, true) ∷ []))
   late-given (Ok x) new e passed gave follows more mode moved = goes_on-trans gave (goes_on-late e passed follows more mode moved)
   late-given (Err x) new e passed gave follows more mode moved = tt
 
-  pub late-broken : {X E : Type 0} (r : Result X E) (new : T) {old mid : T} {es now : List Event} (e : Event)
-      → (g.late_pass ≡ true → (start t : T) (l : Marked) → g.broke start t l → ⊥) → g.got mid mid [] → (now ≡ []) ⊎ (g.late_pass ≡ true) → GoesOn g old mid es now []
-      → OnErr r ((start : T) (m : Marked) → g.got start mid m → g.broke start new (m ++ (e, true) ∷ []))
-      → OnErr r (Breaks g old new es ((e, true) ∷ []))
-  late-broken (Ok x) new e unbroken none passed gave broken = tt
-  late-broken (Err x) new {mid = mid} {now = now} e unbroken none passed gave broken =
-      breaks-behind gave (record { strict = strict; front = (e, true) ∷ []; back = on_time now; some = omega arith; parts = alone passed; broken = broken })
-    where
-      strict : g.late_pass ≡ false
-      strict = broke-strict mid new ((e, true) ∷ []) unbroken (broken mid [] none)
+  -- it broke, so none waits
+  late-broke : {mid new : T} {now : List Event} (e : Event) → g.got mid mid [] → (now ≡ []) ⊎ LetsLatePass g.got g.broke
+      → ((start : T) (m : Marked) → g.got start mid m → g.broke start new (m ++ (e, true) ∷ [])) → now ≡ []
+  late-broke e none (inl is) broken = is
+  late-broke {mid = mid} {new = new} e none (inr pass) broken = absurd (pass.unbroken mid new ((e, true) ∷ []) (broken mid [] none))
 
-      alone : (now ≡ []) ⊎ (g.late_pass ≡ true) → on_time now ++ (e, true) ∷ [] ≡ (e, true) ∷ on_time now
-      alone (inl is) = rw is refl
-      alone (inr is) = none-passes (sym strict ∙ is)
+  pub late-broken : {X E : Type 0} (r : Result X E) (new : T) {old mid : T} {es now : List Event} (e : Event) → g.got mid mid [] → (now ≡ []) ⊎ LetsLatePass g.got g.broke
+      → GoesOn g old mid es now [] → OnErr r ((start : T) (m : Marked) → g.got start mid m → g.broke start new (m ++ (e, true) ∷ []))
+      → OnErr r (Breaks g old new es ((e, true) ∷ []))
+  late-broken (Ok x) new e none passed gave broken = tt
+  late-broken (Err x) new {mid = mid} {now = now} e none passed gave broken = breaks-behind gave (record {
+    strict = λ pass. pass.unbroken mid new ((e, true) ∷ []) (broken mid [] none);
+    front = (e, true) ∷ [];
+    back = [];
+    some = omega arith;
+    parts = rw (late-broke e none passed broken) refl;
+    broken = broken;
+  })
 
   pub waits-none : {N : ℕ} (taker : T) (block : Block N) → gathered block ≡ [] → sorted block ≡ 0 → Waits g taker block
   waits-none taker block none unsorted = record {
@@ -206,23 +213,18 @@ module _ {T : Type 0} (g : Ghosts T) where
   }
 
   -- those that wait still do
-  pub late-waits : {N : ℕ} {X E : Type 0} (r : Result X E) (new : T) {mid : T} (block : Block N) (e : Event)
-      → (g.late_pass ≡ true → (start t : T) (l : Marked) → g.broke start t l → ⊥) → g.got mid mid [] → (gathered block ≡ []) ⊎ (g.late_pass ≡ true) → Waits g mid block
-      → OnErr r ((start : T) (m : Marked) → g.got start mid m → g.broke start new (m ++ (e, true) ∷ []))
+  pub late-waits : {N : ℕ} {X E : Type 0} (r : Result X E) (new : T) {mid : T} (block : Block N) (e : Event) → g.got mid mid [] → (gathered block ≡ []) ⊎ LetsLatePass g.got g.broke
+      → Waits g mid block → OnErr r ((start : T) (m : Marked) → g.got start mid m → g.broke start new (m ++ (e, true) ∷ []))
       → g.taken mid + length (gathered block) < record_limit
       → OnOk r (g.taken new ≡ g.taken mid + 1) → OnOk r (g.mode new ≡ g.mode mid) → OnOk r (g.floor new ≡ moved_floor (g.mode mid) (g.floor mid) e true)
       → Waits g new block
-  late-waits (Ok x) new {mid = mid} block e unbroken none passed w broken room more mode moved = record {
+  late-waits (Ok x) new {mid = mid} block e none passed w broken room more mode moved = record {
     in_order = rw (moved, mode, late_floor (g.mode mid) (g.floor mid) e) w.in_order;
     fit = rw mode w.fit;
     few = λ some. omega (arith, more, room);
     unsorted = w.unsorted;
   }
-  late-waits (Err x) new {mid = mid} block e unbroken none passed w broken room more mode moved = waits-none new block (alone passed) w.unsorted
-    where
-      alone : (gathered block ≡ []) ⊎ (g.late_pass ≡ true) → gathered block ≡ []
-      alone (inl is) = is
-      alone (inr is) = absurd (unbroken is mid new ((e, true) ∷ []) (broken mid [] none))
+  late-waits (Err x) new block e none passed w broken room more mode moved = waits-none new block (late-broke e none passed broken) w.unsorted
 
   -- where they lead
   pub moved-one : {old new : T} {es now : List Event} (e : Event) (late : Bool) → GoesOn g old new es now ((e, late) ∷ [])
@@ -272,12 +274,11 @@ module _ {T : Type 0} (g : Ghosts T) where
 
   -- What was given of words whose events went through a block.
 
-  pub gave-whole : {how : StreamSettings} {old new : T} {es now : List Event} {more : Marked} {ws us : List ℕ}
-      → (g.late_pass ≡ true → (start t : T) (l m : Marked) → AreAlike l m → g.got start t l → g.got start t m) → es ≡ [] → now ≡ []
+  pub gave-whole : {how : StreamSettings} {old new : T} {es now : List Event} {more : Marked} {ws us : List ℕ} → es ≡ [] → now ≡ []
       → given how us ≡ given how ws ++ more → GoesOn g old new es now more → g.faults new ≡ g.faults old → GaveOn g how old new ws us
-  gave-whole {new = new} {more = more} passes none empty adds on kept =
+  gave-whole {new = new} {more = more} none empty adds on kept =
       let are : MayStandFor g on.front more = stands-trans (stands-by (sym (append-nil on.front) ∙ ap (λ x. on.front ++ on_time x) (sym empty))) (stands-trans on.parts (stands-by (ap (λ x. on_time x ++ more) none))) in
-      record { more = more; adds = adds; follows = λ start m got. got-standing start new (m ++ on.front) (m ++ more) passes (stands-append (stands-same g m) are) (on.follows start m got); kept = kept }
+      record { more = more; adds = adds; follows = λ start m got. (let put = stands-append (stands-same g m) are in got-standing start new (m ++ on.front) (m ++ more) put.alike put.but (on.follows start m got)); kept = kept }
 
   pub broke-whole : {how : StreamSettings} {old new : T} {es : List Event} {more : Marked} (back : Marked) {ws us : List ℕ} → es ≡ []
       → given how us ≡ given how ws ++ (more ++ back) → Breaks g old new es more → Rose (g.faults old) (g.faults new) → BrokeOn g how old new ws us

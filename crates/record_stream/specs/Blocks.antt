@@ -18,9 +18,10 @@ pub record AreAlike (l m : Marked) : Type 0 where
   pub on_time : not_marked l ≡ not_marked m
   pub floor : (mode : Mode) → floor_of mode l ≡ floor_of mode m
 
--- where no late event may pass
-pub none-passes : {X : Type 0} → false ≡ true → X
-none-passes never = cc
+-- The taker tells such lists not apart, and breaks at none: a late event may be given before events on time that came before it.
+pub record LetsLatePass {T : Type 0} (got broke : T → T → Marked → Type 0) : Type 0 where
+  pub passes : (start t : T) (l m : Marked) → AreAlike l m → got start t l → got start t m
+  pub unbroken : (start t : T) (l : Marked) → broke start t l → ⊥
 
 -- The taker broke at one of these events.
 pub record BrokeAmong {T : Type 0} (got broke : T → T → Marked → Type 0) (old new : T) (es : List Event) : Type 0 where

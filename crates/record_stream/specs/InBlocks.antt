@@ -1,9 +1,9 @@
 -- A taker with the events that it is given next.
-use Rattle.std.{specs.Prelude.{ℕ, ◌≡◌, ◌+◌, ◌<◌, ◌≤◌, false, List, [], ◌++◌, length, max, refl}, proofs.Common.{append-nil, arith}}
+use Rattle.std.{specs.Prelude.{ℕ, ◌≡◌, ◌+◌, ◌<◌, ◌≤◌, ◌⊎◌, List, [], ◌++◌, length, max, refl}, proofs.Common.{inl, append-nil, arith}}
 use Rattle.tally_base.{specs.declared.event.Event.Event, specs.declared.block.Block.Block, specs.Columns.{sorted, gathered}, specs.Limits.record_limit, specs.Tally.{floor_after, InOrder}}
 use Rattle.ptu_definitions.specs.Kept.{Marked, floor_of}
 use Rattle.abs_time.specs.Floors.{orders_markers}
-use Rattle.record_stream.{specs.Blocks.{on_time, AllFit, AreAlike}, specs.declared.taker.EventTaker.Ghosts}
+use Rattle.record_stream.{specs.Blocks.{on_time, AllFit, AreAlike, LetsLatePass}, specs.declared.taker.EventTaker.Ghosts}
 
 module _ {T : Type 0} (g : Ghosts T) where
   -- how many events it was given, with those that wait
@@ -24,10 +24,10 @@ module _ {T : Type 0} (g : Ghosts T) where
   -- The taker may be given the first list in place of the second.
   pub record MayStandFor (l m : Marked) : Type 0 where
     pub alike : AreAlike l m
-    pub strict : g.late_pass ≡ false → l ≡ m
+    pub but : (l ≡ m) ⊎ LetsLatePass g.got g.broke
 
   pub stands-same : (l : Marked) → MayStandFor l l
-  stands-same l = record { alike = record { count = refl; on_time = refl; floor = λ mode. refl }; strict = λ strict. refl }
+  stands-same l = record { alike = record { count = refl; on_time = refl; floor = λ mode. refl }; but = inl refl }
 
   -- After the events that wait these came: the first of all are given, and the others wait now.
   pub record GoesOn (old new : T) (es now : List Event) (l : Marked) : Type 0 where
@@ -43,7 +43,7 @@ module _ {T : Type 0} (g : Ghosts T) where
     pub front : Marked
     pub back : Marked
     pub some : 0 < length front
-    pub strict : g.late_pass ≡ false
+    pub strict : LetsLatePass g.got g.broke → ⊥
     pub parts : on_time es ++ l ≡ front ++ back
     pub broken : (start : T) (m : Marked) → g.got start old m → g.broke start new (m ++ front)
 

@@ -2,7 +2,7 @@
 ghost use Rattle.std.{specs.Prelude.{◌≡◌, ◌+◌, ◌<◌, ◌≤◌, [], true, length, OnOk, OnErr, ◌⊎◌}, proofs.Props.props};
 ghost use Rattle.abs_time.proofs.Floors.{kind_fits-prop};
 ghost use Rattle.tally_base.{specs.FaultCounts.FailsOnce, specs.Columns.{sorted, gathered}, proofs.Floors.in_order-prop};
-ghost use Rattle.record_stream.specs.InBlocks.{GoesOn, Breaks, Waits};
+ghost use Rattle.record_stream.specs.{InBlocks.{GoesOn, Breaks, Waits}, Blocks.LetsLatePass};
 
 use crate::ahead::Ahead;
 use crate::blocks::put_events;
@@ -68,7 +68,7 @@ pub(crate) fn give_before_late<S: EventTaker>(
         (gathered block.new) []) }
     ensures broken { OnErr result (Breaks S.EventTaker taker.old taker.new (gathered block.old) []) }
     ensures waits { Waits S.EventTaker taker.new block.new }
-    ensures passed { (gathered block.new ≡ []) ⊎ (S.late_pass ≡ true) }
+    ensures passed { (gathered block.new ≡ []) ⊎ LetsLatePass S.got S.broke }
     ensures few { length (gathered block.new) ≤ length (gathered block.old) }
     ensures cause { FailsOnce (S.faults taker.old) (S.faults taker.new) result }
     ensures same { S.same taker.old taker.new }
@@ -90,10 +90,8 @@ pub struct InBlocks<'t, S: EventTaker> {
 }
 
 impl<'t, S: EventTaker> EventTaker for InBlocks<'t, S> {
-    ghost use Rattle.std.{specs.Prelude.{refl, false}, proofs.Common.{◌∙◌}};
-    ghost use Rattle.record_stream.specs.{InBlocks.{taken_with, floor_with, goes_on-none}, Blocks.none-passes};
-
-    ghost late_pass = { false };
+    ghost use Rattle.std.{specs.Prelude.refl, proofs.Common.{◌∙◌}};
+    ghost use Rattle.record_stream.specs.InBlocks.{taken_with, floor_with, goes_on-none};
 
     ghost got = { λ s t l. GoesOn S.EventTaker s.taker.now t.taker.now (gathered s.block) (gathered t.block) l };
 
@@ -115,18 +113,9 @@ impl<'t, S: EventTaker> EventTaker for InBlocks<'t, S> {
 
     ghost floor_is = { λ s t l is. is.moved };
 
-    ghost passes = { λ never. none-passes never };
-
-    ghost unbroken = { λ never. none-passes never };
-
     ghost same_none = { λ t. (refl, S.same_none _) };
 
     ghost same_more = { λ t u v p q. (q.0 ∙ p.0, S.same_more _ _ _ p.1 q.1) };
-
-    #[inline(always)]
-    fn lets_late_pass(&self) -> bool {
-        false
-    }
 
     /// A late one is given at once.
     #[inline(always)]

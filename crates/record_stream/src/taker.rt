@@ -1,16 +1,14 @@
 // What events are given to.
-ghost use Rattle.std.specs.Prelude.{◌≡◌, ℕ, ◌+◌, ◌<◌, ◌≤◌, ◌&&◌, not, Bool, true, IsTrue, [], ◌∷◌, ◌++◌, length, OnOk, OnErr, max};
+ghost use Rattle.std.specs.Prelude.{◌≡◌, ℕ, ◌+◌, ◌<◌, ◌≤◌, ◌&&◌, not, true, IsTrue, [], ◌∷◌, ◌++◌, length, OnOk, OnErr, max};
 ghost use Rattle.tally_base.{specs.declared.header.Mode.Mode, specs.FaultCounts.FailsOnce, specs.Events.is_ordered, specs.Limits.{record_limit, time_limit}, specs.Columns.{sorted, gathered}, specs.Tally.{floor_after, InOrder}};
 ghost use Rattle.ptu_definitions.{specs.Layouts.KindFits, specs.Kept.{Marked, floor_of}};
 ghost use Rattle.abs_time.specs.Floors.{moved_floor, orders_markers};
-ghost use Rattle.record_stream.specs.Blocks.{on_time, AllFit, AreAlike, BrokeAmong};
+ghost use Rattle.record_stream.specs.Blocks.{on_time, AllFit, LetsLatePass, BrokeAmong};
 
 use tally_base::{Block, Event, Failed, Mode, TABLE_BLOCK};
 
 /// What a stream gives its events to, each with whether it is late.
 pub trait EventTaker {
-    ghost late_pass: { Bool };
-
     /// Since it stood at the first it was given these, and now stands at the second.
     ghost got: { Self → Self → Marked → Type 0 };
 
@@ -31,7 +29,10 @@ pub trait EventTaker {
 
     /// Whether it may be given a late event before events on time that came before that.
     fn lets_late_pass(&self) -> bool
-        ensures { result ≡ late_pass };
+        ensures { result ≡ true → LetsLatePass got broke }
+    {
+        false
+    }
 
     fn take(&mut self, event: &Event, late: bool) -> Result<(), Failed>
         requires room { taken self.old < record_limit }
@@ -79,12 +80,6 @@ pub trait EventTaker {
     ghost taken_is: { (start t : Self) (l : Marked) → got start t l → taken t ≡ taken start + length l };
 
     ghost floor_is: { (start t : Self) (l : Marked) → got start t l → floor t ≡ max (floor start) (floor_of (mode start) l) };
-
-    /// Where late events may pass others, only which events are on time and how many there are tells what it got, and it
-    /// doesn't fail.
-    ghost passes: { late_pass ≡ true → (start t : Self) (l m : Marked) → AreAlike l m → got start t l → got start t m };
-
-    ghost unbroken: { late_pass ≡ true → (start t : Self) (l : Marked) → broke start t l → ⊥ };
 
     ghost same_none: { (t : Self) → same t t };
 

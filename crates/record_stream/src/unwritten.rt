@@ -20,10 +20,8 @@ pub struct Unwritten {
 }
 
 impl EventTaker for Unwritten {
-    ghost use Rattle.std.{specs.Prelude.{refl, false}, proofs.Common.◌∙◌};
-    ghost use Rattle.record_stream.specs.{Counted.{HasCounted, counted_none}, Blocks.none-passes};
-
-    ghost late_pass = { false };
+    ghost use Rattle.std.{specs.Prelude.refl, proofs.Common.◌∙◌};
+    ghost use Rattle.record_stream.specs.Counted.{HasCounted, counted_none};
 
     ghost got = { λ s t l. HasCounted s.mode t.mode s.taken t.taken s.floor t.floor l };
 
@@ -45,18 +43,9 @@ impl EventTaker for Unwritten {
 
     ghost floor_is = { λ s t l is. is.moved };
 
-    ghost passes = { λ never. none-passes never };
-
-    ghost unbroken = { λ never. none-passes never };
-
     ghost same_none = { λ t. refl };
 
     ghost same_more = { λ t u v p q. q ∙ p };
-
-    #[inline(always)]
-    fn lets_late_pass(&self) -> bool {
-        false
-    }
 
     #[inline(always)]
     fn take(&mut self, event: &Event, late: bool) -> Result<(), Failed> {

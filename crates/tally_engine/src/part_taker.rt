@@ -27,10 +27,7 @@ pub(crate) struct PartTaker<'g, 'p, 's, L: Ledger> {
 }
 
 impl<'g, 'p, 's, L: Ledger> EventTaker for PartTaker<'g, 'p, 's, L> {
-    ghost use Rattle.std.specs.Prelude.{true};
-    ghost use Rattle.tally_engine.specs.Give.{Gave, gave_none, gave_alike, SameTaker, same_taker_none, same_taker_more};
-
-    ghost late_pass = { true };
+    ghost use Rattle.tally_engine.specs.Give.{Gave, gave_none, SameTaker, same_taker_none, same_taker_more};
 
     ghost got = { λ s t l. Gave ⟦<Part as Tally>⟧ (sorting_of s.gates.now) (sorting_of t.gates.now)
         s.mode t.mode s.taken t.taken s.floor t.floor s.parts.now.items t.parts.now.items l };
@@ -53,10 +50,6 @@ impl<'g, 'p, 's, L: Ledger> EventTaker for PartTaker<'g, 'p, 's, L> {
     ghost taken_is = { λ s t l is. is.counted };
 
     ghost floor_is = { λ s t l is. is.moved };
-
-    ghost passes = { λ pass s t l m. gave_alike ⟦<Part as Tally>⟧ _ _ _ _ _ _ _ _ _ _ l m };
-
-    ghost unbroken = { λ pass s t l broke. broke };
 
     ghost same_none = { λ t. same_taker_none ⟦<Part as Tally>⟧ _ _ _ };
 

@@ -38,11 +38,8 @@ struct TraceLines<'g, 't, 'o, O: Sink> {
 }
 
 impl<'g, 't, 'o, O: Sink> EventTaker for TraceLines<'g, 't, 'o, O> {
-    ghost use Rattle.std.{specs.Prelude.{refl, false}, proofs.Common.{◌∙◌}};
-    ghost use Rattle.record_stream.specs.Blocks.{none-passes};
+    ghost use Rattle.std.{specs.Prelude.{refl}, proofs.Common.{◌∙◌}};
     ghost use Rattle.trace_work.specs.TraceOutcomes.{Traced, TracedShort, traced_none};
-
-    ghost late_pass = { false };
 
     ghost got = { λ s t l. Traced s.trace.now t.trace.now (sorting_of s.gates.now) (sorting_of t.gates.now)
         s.mode t.mode s.taken t.taken s.floor t.floor (O.faults s.out.now) (O.faults t.out.now)
@@ -71,15 +68,6 @@ impl<'g, 't, 'o, O: Sink> EventTaker for TraceLines<'g, 't, 'o, O> {
     ghost taken_is = { λ s t l is. is.counted };
 
     ghost floor_is = { λ s t l is. is.moved };
-
-    ghost passes = { λ never. none-passes never };
-
-    ghost unbroken = { λ never. none-passes never };
-
-    #[inline(always)]
-    fn lets_late_pass(&self) -> bool {
-        false
-    }
 
     fn take(&mut self, event: &Event, late: bool) -> Result<(), Failed> {
         self.taken += 1;

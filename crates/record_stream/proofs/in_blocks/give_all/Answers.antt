@@ -6,4 +6,4 @@ pub returns-clause-gave : goal.returns-clause-gave
 returns-clause-gave g c = search (rules, arith, goes_on-given)
 
 pub returns-clause-broken : goal.returns-clause-broken
-returns-clause-broken g c = on_err_weaker c.take_block-given.result (breaks-among g.S.EventTaker g.met.S.EventTaker.unbroken (g.met.S.EventTaker.got_none _)) c.take_block-given.ensures.broken
+returns-clause-broken g c = on_err_weaker c.take_block-given.result (breaks-among g.S.EventTaker (g.met.S.EventTaker.got_none _)) c.take_block-given.ensures.broken

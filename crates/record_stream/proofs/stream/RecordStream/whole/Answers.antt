@@ -24,5 +24,5 @@ returns-clause-fed g c = λ bytes h.
     let fine = sym c.is_err.ensures.value ∙ c.if-is_err.false in
     let all = ok_of c.give_all.result fine c.give_all.ensures.gave in
     fed-gave s _ c.by_type-fed.result whole
-    (λ gave. gave-whole s g.met.S.EventTaker.passes c.requires.none refl gave.adds (goes_on-last s (gave.follows c.args.blocks.now [] (goes_on-none s _ _)) all) (ok_of c.give_all.result fine c.give_all.ensures.cause.kept ∙ gave.kept))
+    (λ gave. gave-whole s c.requires.none refl gave.adds (goes_on-last s (gave.follows c.args.blocks.now [] (goes_on-none s _ _)) all) (ok_of c.give_all.result fine c.give_all.ensures.cause.kept ∙ gave.kept))
     (c.by_type-fed.ensures.fed bytes h)
