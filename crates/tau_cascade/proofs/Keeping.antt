@@ -1,16 +1,12 @@
 -- What the ring of a level keeps once some bins are closed.
 use Rattle.std.{proofs.Common.{◌≡◌, ℕ, zero, suc, ◌-◌, ◌<◌, ◌≤◌, Bool, true, leb, List, [], ◌∷◌, ◌++◌, length, take, drop, get_or, refl, append_assoc, append-nil, arith, rules}, specs.List.{filter, AllByRecursion, AllByRecursion-prop}, proofs.Props.props, proofs.lemmas.Bool.false≢true, proofs.lemmas.List.{drop_more}, proofs.lemmas.List.Elements.filter-append}
 use Rattle.tally_base.{specs.Settings.CorrelationView, specs.Tally.History}
-use Rattle.lag_ring.{specs.declared.ring.Entry.Entry, specs.Ring.{Ring, ring, IsRising}, proofs.Kept.{room_after, kept_after}, proofs.Lists.{all_filter}, proofs.Rising.{rising_push, all_weaker, filter_passed}}
+use Rattle.lag_ring.{specs.declared.ring.Entry.Entry, specs.Ring.{Ring, ring, IsRising}, proofs.Kept.{room_after, kept_after}, proofs.Lists.{all_filter}, proofs.Rising.{rising_push, rising_filter, all_weaker, filter_passed}}
 use Rattle.tau_cascade.{specs.Correlation.{bin, in_first, in_second}, specs.Levels.{IsBin, RingIs}, specs.Bins.Follow}
 
 pub rising-prop : (es : List Entry) → IsProp (IsRising es)
 rising-prop [] = hlevel props
 rising-prop (e ∷ es) = hlevel (props, AllByRecursion-prop (λ (f : Entry). e.index < f.index) (λ f. hlevel props) es, rising-prop es)
-
-pub rising_filter : (p : Entry → Bool) (es : List Entry) → IsRising es → IsRising (filter p es)
-rising_filter p [] rising = tt
-rising_filter p (e ∷ es) rising = search (rules, arith, all_filter, rising_filter p es rising.1)
 
 -- a weaker test first leaves out nothing that the stronger one keeps
 pub filter_again : (p q : Entry → Bool) → ((x : Entry) → p x ≡ true → q x ≡ true) → (xs : List Entry) → filter p (filter q xs) ≡ filter p xs

@@ -1,5 +1,5 @@
 -- Pairs of bins with what stands in a window.
-use Rattle.std.{specs.Prelude.{ℕ, ◌≡◌, ◌+◌, ◌-◌, ◌*◌, ◌^◌, ◌<◌, ◌≤◌, min, List, [], ◌∷◌, slice_index, ◌++◌, length, map, take, drop}, specs.List.{AllByRecursion}}
+use Rattle.std.{specs.Prelude.{ℕ, Bool, true, false, nat_le, if◌then◌else◌, ◌≡◌, ◌+◌, ◌-◌, ◌*◌, ◌^◌, ◌<◌, ◌≤◌, min, List, [], ◌∷◌, slice_index, ◌++◌, length, map, take, drop}, specs.List.{AllByRecursion}}
 use Rattle.lag_ring.{specs.declared.ring.Entry.Entry, specs.declared.window.Side.TheVariants.First, specs.Cells.{Cells, added_at}, specs.Pairings.Paired, specs.Bytes.{weight_at, IsLight}}
 use Rattle.tau_cascade.{specs.Levels.weight_before, specs.declared.laid.Laying.Laying, specs.declared.bins.{Bins.Bins, LagRange.LagRange}, specs.Bins.{raised, IsSpaced}}
 
@@ -47,6 +47,12 @@ Notes old new lists windows = (new.lists ≡ old.lists + lists) × (new.windows 
 -- lists with so many bins more are noted, and windows for no more than those
 abbrev pub NotesOnce : Paired → Paired → ℕ → Type 0
 NotesOnce old new bins = (new.lists ≡ old.lists + bins) × (new.windows ≤ old.windows + bins)
+
+-- By the answer sums have the pairs of bins, and those are noted, or stay as they are; a window was begun for at most 1024 bins.
+pub record PairsIfClose (range : LagRange) (b : Bins) (old new : List ℕ) (was is : Paired) (answer : Bool) : Type 0 where
+  pub sums : answer ≡ true → ArePaired range b.start old new (bins_of b)
+  pub none : answer ≡ false → new ≡ old
+  pub noted : Notes was is (if answer then bins_paired b else 0) (if nat_le (bins_paired b) 1024 then bins_paired b else 0)
 
 -- Bins that are laid close together.
 

@@ -1,7 +1,7 @@
 // Pairs of bins with those before them.
 ghost use Rattle.std.{specs.Prelude.{◌≡◌, true, false, ℕ, ◌+◌, ◌-◌, ◌*◌, ◌^◌, ◌<◌, ◌≤◌, length, nat_le, map, take, drop, slice_index, if◌then◌else◌}, specs.List.{AllByRecursion}};
 ghost use Rattle.lag_ring.specs.Cells.{Spends};
-ghost use Rattle.tau_cascade.{specs.Levels.weight_before, specs.Dense.{bins_of, bins_paired, AreBins, FitPairs, Notes, NotesOnce, ArePaired, AddsAtMost, IsZero, HavePaired, AreWithin, HaveRoom}, specs.Bins.{IsSpaced, raised}, specs.Grid.{IsGrid, FewFirsts, counted}};
+ghost use Rattle.tau_cascade.{specs.Levels.weight_before, specs.Dense.{bins_of, bins_paired, AreBins, FitPairs, Notes, NotesOnce, ArePaired, PairsIfClose, AddsAtMost, IsZero, HavePaired, AreWithin, HaveRoom}, specs.Bins.{IsSpaced, raised}, specs.Grid.{IsGrid, FewFirsts, counted}};
 
 use crate::bins::{Bins, LagRange, MOST_LAGS, first_kept};
 use crate::laid::{CLOSE_PART, PLACES, sum_part};
@@ -84,10 +84,7 @@ fn sum_close<const N: usize>(
 ) -> bool
     requires lags { (range.last - range.skipped ≤ 2 * N) × (N ≤ 64) }
     requires bins { AreBins bins × IsZero window.old × ((p : ℕ) → slice_index sums.old p ≡ 0) }
-    ensures sums { result ≡ true → ArePaired range bins.entry.start sums.old sums.new (bins_of bins.entry) }
-    ensures none { result ≡ false → sums.new ≡ sums.old }
-    ensures noted { let n = bins_paired bins.entry in
-        Notes paired.old paired.new (if result then n else 0) (if nat_le n CLOSE_LIST then n else 0) }
+    ensures sums { PairsIfClose range bins.entry sums.old sums.new paired.old paired.new result }
     ensures zeros { IsZero window.new }
 {
     let count = bins.list.len() - bins.start;
@@ -136,10 +133,7 @@ fn sum_lanes(
     bins: Bins,
 ) -> bool
     requires bins { AreBins bins × IsZero window.old × ((p : ℕ) → slice_index sums.old p ≡ 0) }
-    ensures sums { result ≡ true → ArePaired range bins.entry.start sums.old sums.new (bins_of bins.entry) }
-    ensures none { result ≡ false → sums.new ≡ sums.old }
-    ensures noted { let n = bins_paired bins.entry in
-        Notes paired.old paired.new (if result then n else 0) (if nat_le n CLOSE_LIST then n else 0) }
+    ensures sums { PairsIfClose range bins.entry sums.old sums.new paired.old paired.new result }
     ensures zeros { IsZero window.new }
 {
     match range.last - range.skipped {

@@ -11,10 +11,14 @@ behind at' count skipped middle one two f is so_far left here p within =
     grind (arith, place, so_far p, left p, here (p - at'))
 
 pub returns-clause-sums : goal.returns-clause-sums
-returns-clause-sums g c = λ done p inside.
+returns-clause-sums g c =
     let a = c.args in
     let middle = c.min-middle.result in
     let parts : a.range.skipped + (middle - a.range.skipped) ≡ middle = omega (arith, c.min-middle.ensures, a.range.within.0) in
     let both = behind (middle - a.range.skipped) (a.range.last - middle) a.range.skipped middle c.turn.new.sums c.turn-2.new.sums
     (λ k. paired_from a.bins.start k (map (raised a.bins.levels) a.bins.list.now)) parts (λ q under. search (rules, arith, get_or-replicate)) c.turn-2.ensures.before (λ i under. search (rules, arith, get_or-replicate)) in
-    omega (arith, both p (omega (arith, inside, c.min-middle.ensures, a.range.within.0)), c.requires.bins.2 p)
+    record {
+      sums = λ done p inside. omega (arith, both p (omega (arith, inside, c.min-middle.ensures, a.range.within.0)), c.requires.bins.2 p);
+      none = search (rules, arith);
+      noted = search (rules, arith);
+    }
