@@ -70,7 +70,7 @@ module _ (set : CoincidenceView) {N : ℕ} (b : Block N) (h : History) (at : ℕ
     one_photon = search (rules, arith, zero-add, moves_row, seen)
 
     -- it may come after those before it
-    module _ (p : Pairing) (inside : at < b.len) (can : CanTake set p (gathered b) h) where
+    module _ (Before : History → Type 0) (inside : at < b.len) (can : CanTake set Before (gathered b) h) where
       pub few_row : length (photons_of_groups set (h ++ rows (item b) at)) + 1 ≤ record_limit
       few_row = omega (arith, can.few, inside, few_photons set (h ++ rows (item b) at), length-append h (rows (item b) at), length-rows (item b) at, length-rows (event_at b) b.len)
 
@@ -86,7 +86,7 @@ module _ (set : CoincidenceView) {N : ℕ} (b : Block N) (h : History) (at : ℕ
       put_row Were were = record { few = few_row; was = were; is = one_photon; after = after_row }
 
 -- what a table that isn't closed may take
-pub may_events : (closed : Bool) → closed ≡ false → (set : CoincidenceView) (p : Pairing) (count time : ℕ) (h : History) (es : List Event) → StandsFor closed set p count time h → count + length es ≤ record_limit → InOrder false time es → CanTake set p es h
+pub may_events : (closed : Bool) → closed ≡ false → (set : CoincidenceView) (p : Pairing) (count time : ℕ) (h : History) (es : List Event) → StandsFor closed set p count time h → count + length es ≤ record_limit → InOrder false time es → CanTake set (Came set p) es h
 may_events closed open' set p count time h es is few after = search (rules, arith, false≢true)
 
 -- what it stands for then

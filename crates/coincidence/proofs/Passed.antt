@@ -1,8 +1,8 @@
 -- Photons that are alone in their reach make no pair.
-use Rattle.std.{proofs.Common.{◌≡◌, ℕ, zero, suc, ◌+◌, ◌-◌, ◌*◌, ◌<◌, ◌≤◌, Bool, true, ◌&&◌, ◌||◌, cond, [], ◌∷◌, ◌++◌, refl, ap, arith, rules, Some}}
+use Rattle.std.{proofs.Common.{◌≡◌, ℕ, zero, suc, ◌+◌, ◌-◌, ◌*◌, ◌<◌, ◌≤◌, Bool, true, ◌&&◌, ◌||◌, cond, [], ◌∷◌, ◌++◌, refl, arith, rules, Some, None}}
 use Rattle.tally_base.{specs.Settings.CoincidenceView, specs.Tally.History, specs.declared.block.Block.Block, specs.Columns.{rows, item, time_at, gathered}}
 use Rattle.lag_ring.{specs.Cells.Cells, specs.Ring.{Ring, ring}}
-use Rattle.coincidence.{specs.declared.pairing.Bin.Bin, specs.declared.pairing.Pairing.Pairing, specs.Pairs.photons_of_groups, specs.Pairing.{bin_pairs, pairing_of, Came}, specs.StandsFor.CanTake, specs.Lone.{has_photon, bin_at, IsAlone, IsLone}, proofs.Blockwise.{put_row, photons-more}, proofs.Shut.{keep, cells_alone, ring_alone}, proofs.Visits.{can_close, moved_on}}
+use Rattle.coincidence.{specs.declared.pairing.Bin.Bin, specs.declared.pairing.Pairing.Pairing, specs.Pairs.photons_of_groups, specs.Pairing.{bin_pairs, Gathered}, specs.StandsFor.CanTake, specs.Lone.{has_photon, bin_at, IsAlone, IsLone}, proofs.Blockwise.{put_row, photons-more}, proofs.Shut.{keep, closes, cells_alone, ring_alone}, proofs.Visits.{moves, close_on}}
 
 no_pairs : (set : CoincidenceView) (c : ℕ) (bin : Bin) → bin.both ≡ bin.weights.a * bin.weights.b → bin_pairs set c bin [] ≡ 0
 no_pairs set c bin is = search (rules, arith)
@@ -13,34 +13,26 @@ one_both x y = search (rules, arith)
 early_at : {N : ℕ} (set : CoincidenceView) (b : Block N) (i j : ℕ) → i - 1 ≡ j → IsLone set b i → time_at b j + set.reach < time_at b i
 early_at set b i j is lone = rw is at lone.1
 
-module _ {N : ℕ} (set : CoincidenceView) (p : Pairing) (b : Block N) (h : History) (can : CanTake set p (gathered b) h) (some : 0 < set.reach) (cells : Cells) where
+module _ {N : ℕ} (set : CoincidenceView) (Before : History → Type 0) (b : Block N) (h : History) (can : CanTake set Before (gathered b) h) (some : 0 < set.reach) (cells : Cells) where
   -- a photon comes after an open bin that is alone
   lone_next : (r : Ring) (bin : Bin) (at next : ℕ) → next ≡ at + 1 → at < b.len → IsAlone set r.entries bin
       → bin.weights.index + set.reach < time_at b at → (has_photon b at set.first || has_photon b at set.second) ≡ true
-      → Came set (pairing_of (Some bin) r cells) (photons_of_groups set (h ++ rows (item b) at))
-      → Came set (pairing_of (Some (bin_at set b at)) (ring (bin.weights ∷ []) r.reach) cells) (photons_of_groups set (h ++ rows (item b) next))
+      → Gathered set (Some bin) r cells [] (photons_of_groups set (h ++ rows (item b) at))
+      → Gathered set (Some (bin_at set b at)) (ring (bin.weights ∷ []) r.reach) cells [] (photons_of_groups set (h ++ rows (item b) next))
   lone_next r bin at next is inside alone early either came =
-      let p' = pairing_of (Some bin) r cells in
-      let new = bin_at set b at in
-      let can_put = put_row set b h at either p inside can (Came set p') came in
-      let may = can_close set p' bin new refl _ _ can_put (Some bin) in
-      let after = moved_on set p' bin new refl _ _ can_put (omega (arith, early)) in
-      rw (is, photons-more set b h at either) (
-        _,
-        item b at ∷ [],
-        ap (λ ys. ys ++ item b at ∷ []) came.2,
-        record {
-          opened = (can_put.is, after);
-          ring = ring_alone set r bin came.0 came.1 (keep set p' bin _ _ may) alone.1 some;
-          cells = cells_alone set p' bin came.0 came.1 may alone.1 cells 0 0 (record { cells = λ c in_range. omega (arith, no_pairs set c bin alone.0); spends = record { same = refl; added = omega arith; steps = refl } });
-        },
-      )
+      let moved = moves set r cells [] _ bin (bin_at set b at) _ (put_row set b h at either Before inside can _ came) (omega (arith, early)) in
+      let old : Pairing = record { «open» = None; ring = r; cells = cells } in
+      let done = closes set old (bin ∷ []) (record { «open» = None; ring = ring (bin.weights ∷ []) r.reach; cells = cells }) 0 0 (λ closed xs may. (
+        ring_alone set r bin closed xs (keep set old bin closed xs may) alone.1 some,
+        cells_alone set old bin closed xs may alone.1 cells 0 0 (record { cells = λ c in_range. omega (arith, no_pairs set c bin alone.0); spends = record { same = refl; added = omega arith; steps = refl } }),
+      )) refl in
+      rw (is, photons-more set b h at either) (close_on set r cells (bin ∷ []) _ _ _ _ [] moved (done.follows [] moved.shut moved.pending))
 
   -- rows after an open bin that is alone
   pub lone_run : (r : Ring) (bin : Bin) (k : ℕ) → bin.weights.index ≡ time_at b k → IsAlone set r.entries bin
       → (n to : ℕ) → to ≡ k + n + 3 → to ≤ b.len → ((i : ℕ) → k + 1 ≤ i → i < to → IsLone set b i)
-      → Came set (pairing_of (Some bin) r cells) (photons_of_groups set (h ++ rows (item b) (k + 1)))
-      → Came set (pairing_of (Some (bin_at set b (to - 1))) (ring ((bin_at set b (to - 2)).weights ∷ []) r.reach) cells) (photons_of_groups set (h ++ rows (item b) to))
+      → Gathered set (Some bin) r cells [] (photons_of_groups set (h ++ rows (item b) (k + 1)))
+      → Gathered set (Some (bin_at set b (to - 1))) (ring ((bin_at set b (to - 2)).weights ∷ []) r.reach) cells [] (photons_of_groups set (h ++ rows (item b) to))
   lone_run r bin k here alone zero to is within lones came =
       let first = lones (to - 2) (omega (arith, is)) (omega (arith, is)) in
       let second = lones (to - 1) (omega (arith, is)) (omega (arith, is)) in

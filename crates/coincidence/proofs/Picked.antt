@@ -2,7 +2,7 @@
 use Rattle.std.{proofs.Common.{rules}, proofs.Common.{◌≡◌, ℕ, zero, suc, ◌+◌, ◌-◌, ◌<◌, ◌≤◌, Bool, true, false, List, [], ◌∷◌, ◌++◌, length, get_or, drop, arith, cond, take, slice_set, add-one, drop-cons, inl, inr}, proofs.Math.Nat.{eq-or-lt_of_le}, proofs.lemmas.List.{take-set, take_more_set}, proofs.Math.ListN.drop_of_length-le, specs.Prelude.{Option}}
 use Rattle.tally_base.{specs.Settings.CoincidenceView, specs.Tally.History, specs.declared.block.Block.Block, specs.Columns.{rows, item, gathered}}
 use Rattle.lag_ring.{specs.Cells.Cells, specs.Ring.Ring}
-use Rattle.coincidence.{specs.declared.pairing.Bin.Bin, specs.Pairs.photons_of_groups, specs.Pairing.{pairing_of, Gathered, CanPut}, specs.StandsFor.{CanTake, Gathers}, specs.Lone.bin_at, specs.Picked.{has_either, HaveNone, ArePicked}, proofs.Blockwise.{photons-same, photons-more, put_row}}
+use Rattle.coincidence.{specs.declared.pairing.Bin.Bin, specs.Pairs.photons_of_groups, specs.Pairing.{Gathered, CanPut}, specs.StandsFor.{CanTake, Gathers}, specs.Lone.bin_at, specs.Picked.{has_either, HaveNone, ArePicked}, proofs.Blockwise.{photons-same, photons-more, put_row}}
 
 module _ (set : CoincidenceView) {N : ℕ} (b : Block N) where
   none_more : (from upto : ℕ) → HaveNone set b from upto → has_either set b upto ≡ false → HaveNone set b from (upto + 1)
@@ -25,15 +25,15 @@ module _ (set : CoincidenceView) {N : ℕ} (b : Block N) where
   pub picked_row : (v : Bool) (xs : List ℕ) (n at : ℕ) → n < length xs → has_either set b at ≡ v → ArePicked set b (take n xs) 0 at → ArePicked set b (take (n + cond v 1 0) (slice_set xs n at)) 0 (at + 1)
   picked_row v xs n at room is are = search (rules, arith, take_more_set, picked_more, take-set, picked_none)
 
-  module _ (last : Option Bin) (bins : List Bin) (closed h : History) where
-    passed : (from n : ℕ) → HaveNone set b from (from + n) → Gathered set last bins closed (photons_of_groups set (h ++ rows (item b) from)) → Gathered set last bins closed (photons_of_groups set (h ++ rows (item b) (from + n)))
+  module _ (last : Option Bin) (r : Ring) (counts : Cells) (bins : List Bin) (h : History) where
+    passed : (from n : ℕ) → HaveNone set b from (from + n) → Gathered set last r counts bins (photons_of_groups set (h ++ rows (item b) from)) → Gathered set last r counts bins (photons_of_groups set (h ++ rows (item b) (from + n)))
     passed from zero none was = let end : from + 0 ≡ from = omega arith in rw end was
     passed from (suc n) none was =
         let end : from + suc n ≡ (from + n) + 1 = omega arith in
         rw (end, photons-same set b h (from + n) (none (from + n) (omega arith) (omega arith))) (passed from n (λ i least most. none i least (omega (arith, most))) was)
 
     -- rows of no photon bring none
-    pub gathered_upto : (from upto : ℕ) → from ≤ upto → HaveNone set b from upto → Gathered set last bins closed (photons_of_groups set (h ++ rows (item b) from)) → Gathered set last bins closed (photons_of_groups set (h ++ rows (item b) upto))
+    pub gathered_upto : (from upto : ℕ) → from ≤ upto → HaveNone set b from upto → Gathered set last r counts bins (photons_of_groups set (h ++ rows (item b) from)) → Gathered set last r counts bins (photons_of_groups set (h ++ rows (item b) upto))
     gathered_upto from upto within none was =
         let end : from + (upto - from) ≡ upto = omega (arith, within) in
         rw end at (passed from (upto - from) (rw end none) was)
@@ -43,12 +43,12 @@ module _ (set : CoincidenceView) {N : ℕ} (b : Block N) where
     pub from : ℕ
     pub within : from ≤ b.len
     pub picked : ArePicked set b left from b.len
-    pub came : (ring : Ring) (cells : Cells) (h : History) (can : CanTake set (pairing_of waiting ring cells) (gathered b) h) → Gathered set last bins can.was.0 (photons_of_groups set (h ++ rows (item b) from))
+    pub came : (ring : Ring) (cells : Cells) (h : History) → CanTake set (Gathered set waiting ring cells []) (gathered b) h → Gathered set last ring cells bins (photons_of_groups set (h ++ rows (item b) from))
 
   module _ (waiting last : Option Bin) (bins : List Bin) (picked : List ℕ) (i : ℕ) (are : GatheredTo waiting last bins (drop i picked)) where
     pub gathered_end : length picked ≤ i → Gathers set waiting last bins (gathered b) (rows (item b) b.len)
     gathered_end end ring cells h can =
-        gathered_upto last bins can.was.0 h are.from b.len are.within (rw (drop_of_length-le picked end) at are.picked) (are.came ring cells h can)
+        gathered_upto last ring cells bins h are.from b.len are.within (rw (drop_of_length-le picked end) at are.picked) (are.came ring cells h can)
 
     module _ (inside : i < length picked) where
       abbrev at : ℕ
@@ -60,16 +60,16 @@ module _ (set : CoincidenceView) {N : ℕ} (b : Block N) where
       pub next_within : at < b.len
       next_within = next.1
 
-      pub may_gather : (ring : Ring) (cells : Cells) (h : History) (can : CanTake set (pairing_of waiting ring cells) (gathered b) h)
-          → CanPut set (Gathered set last bins can.was.0) (bin_at set b at) (photons_of_groups set (h ++ rows (item b) at)) (item b at ∷ [])
-      may_gather ring cells h can = put_row set b h at next.2 (pairing_of waiting ring cells) next.1 can _ (gathered_upto last bins can.was.0 h are.from at next.0 next.3 (are.came ring cells h can))
+      pub may_gather : (ring : Ring) (cells : Cells) (h : History) → CanTake set (Gathered set waiting ring cells []) (gathered b) h
+          → CanPut set (Gathered set last ring cells bins) (bin_at set b at) (photons_of_groups set (h ++ rows (item b) at)) (item b at ∷ [])
+      may_gather ring cells h can = put_row set b h at next.2 _ next.1 can _ (gathered_upto last ring cells bins h are.from at next.0 next.3 (are.came ring cells h can))
 
       pub gathers_more : (now : Option Bin) (more : List Bin)
-          → ((closed came xs : History) → CanPut set (Gathered set last bins closed) (bin_at set b at) came xs → Gathered set now more closed (came ++ xs))
+          → ((ring : Ring) (cells : Cells) (came xs : History) → CanPut set (Gathered set last ring cells bins) (bin_at set b at) came xs → Gathered set now ring cells more (came ++ xs))
           → GatheredTo waiting now more (drop (i + 1) picked)
       gathers_more now more follows = record {
         from = at + 1;
         within = omega (arith, next.1);
         picked = next.4;
-        came = λ ring cells h can. rw (photons-more set b h at next.2) (follows can.was.0 _ _ (may_gather ring cells h can));
+        came = λ ring cells h can. rw (photons-more set b h at next.2) (follows ring cells _ _ (may_gather ring cells h can));
       }

@@ -1,8 +1,8 @@
 -- What a bin brings when it is closed.
-use Rattle.std.{proofs.Common.{◌≡◌, sym, ℕ, ◌+◌, ◌-◌, ◌*◌, ◌/◌, ◌<◌, ◌≤◌, Bool, true, false, ◌&&◌, leb, eqb, cond, List, [], ◌∷◌, ◌++◌, length, refl, ◌∙◌, arith, length-append, append-nil, rules}, specs.List.{sum_by, filter, AllByRecursion}, proofs.Math.Nat.{mul-le-mul, mul-le-mul_right}, proofs.lemmas.Grind.common_steps}
+use Rattle.std.{proofs.Common.{◌≡◌, sym, ap, append_assoc, ℕ, ◌+◌, ◌-◌, ◌*◌, ◌/◌, ◌<◌, ◌≤◌, Bool, true, false, ◌&&◌, leb, eqb, cond, List, [], ◌∷◌, ◌++◌, length, refl, ◌∙◌, arith, length-append, append-nil, rules}, specs.List.{sum_by, filter, AllByRecursion}, proofs.Math.Logic.{∥∥₁_map}, proofs.Math.Nat.{mul-le-mul, mul-le-mul_right}, proofs.lemmas.Grind.common_steps}
 use Rattle.tally_base.{specs.Settings.{CoincidenceView}, specs.Tally.History, specs.Limits.record_limit}
 use Rattle.lag_ring.{specs.declared.ring.Entry.Entry, specs.Cells.Cells, specs.Ring.{Ring, ring, IsRising, weight_where, IsInReach}, proofs.Kept.{HasWeights, weights_of, room_after, kept_after}, proofs.Lists.{all_filter}, proofs.Rising.{all_weaker, rising_push, rising_filter}, proofs.Sums.{sum_by-same, sum_by-times, sum_by-zero}}
-use Rattle.coincidence.{specs.declared.pairing.Bin.Bin, specs.declared.pairing.Direction.Direction, specs.declared.pairing.Direction.TheVariants.{Forward, Backward}, specs.Pairs.{in_first, in_second, is_in_cell, is_coincidence, coincidences}, specs.Pairing.{pairs_of_all, pairs_with, bin_pairs, BinIs, RingIs, CellsAre, CanClose, HasRoom, Counts}, specs.declared.pairing.Pairing.Pairing, proofs.Hits.{pairs_in, hits-append, pairs_in-one, pairs_in-le}, proofs.Mirror.pairs_apart-in, proofs.Visits.{pairs_far, room_as, counts_as}}
+use Rattle.coincidence.{specs.declared.pairing.Bin.Bin, specs.declared.pairing.Direction.Direction, specs.declared.pairing.Direction.TheVariants.{Forward, Backward}, specs.Pairs.{in_first, in_second, is_in_cell, is_coincidence, coincidences}, specs.Pairing.{pairs_of_all, pairs_with, bin_pairs, BinIs, BinsAre, RingIs, CellsAre, Pending, MayClose, Closes, Pays, HasRoom, Counts}, specs.declared.pairing.Pairing.Pairing, proofs.Hits.{pairs_in, hits-append, pairs_in-one, pairs_in-le}, proofs.Mirror.pairs_apart-in, proofs.Visits.{pairs_far, room_as, counts_as}}
 
 scaled : (test : Entry → Bool) (f : Entry → ℕ) (w : ℕ) (es : List Entry) → sum_by (λ e. cond (test e) (f e * w) 0) es ≡ sum_by (λ e. cond (test e) (f e) 0) es * w
 scaled test f w es = sum_by-same _ (λ e. cond (test e) (f e) 0 * w) es (λ e. search (rules, arith)) ∙ sum_by-times (λ e. cond (test e) (f e) 0) w es
@@ -103,6 +103,46 @@ module _ (set : CoincidenceView) (r : Ring) (bin : Bin) (closed xs : History) (c
     -- and the ring has the bin alone then
     pub ring_alone : 0 < set.reach → RingIs set (ring (bin.weights ∷ []) r.reach) (closed ++ xs)
     ring_alone some = search (rules, arith, filter_none, all_weaker, ring_shut)
+
+-- bins of the photons xs may be put after the closed ones
+pub record CanClose (set : CoincidenceView) (p : Pairing) (bins : List Bin) (closed xs : History) : Type 0 where
+  pub few : length closed + length xs ≤ record_limit
+  pub are : BinsAre set bins closed xs
+  pub ring : RingIs set p.ring closed
+  pub cells : CellsAre set p.cells closed
+
+module _ (set : CoincidenceView) (old : Pairing) (bins : List Bin) where
+  -- bins are those of a part and after them the others
+  split_are : (part rest : List Bin) (closed xs : History) → BinsAre set (part ++ rest) closed xs
+      → (here : History) × (after : History) × (xs ≡ here ++ after) × BinsAre set part closed here × BinsAre set rest (closed ++ here) after
+  split_are [] rest closed xs are = ([], xs, refl, refl, rw (append-nil closed) are)
+  split_are (bin ∷ part) rest closed xs are =
+      let next = split_are part rest (closed ++ are.0) are.1 are.5 in (
+        are.0 ++ next.0,
+        next.1,
+        are.2 ∙ ap (λ ys. are.0 ++ ys) next.2 ∙ sym (append_assoc are.0 next.0 next.1),
+        (are.0, next.0, refl, are.3, are.4, next.3),
+        rw (← append_assoc closed are.0 next.0) next.4,
+      )
+
+  first_of : (rest : List Bin) (came : History) (is : Pending set old.ring old.cells (bins ++ rest) came) → CanClose set old bins is.closed (split_are bins rest is.closed is.late is.are).0
+  first_of rest came is =
+      let split = split_are bins rest is.closed is.late is.are in
+      record { few = omega (arith, is.few, ap length is.parts, length-append is.closed is.late, ap length split.2, length-append split.0 split.1); are = split.3; ring = is.ring; cells = is.cells }
+
+  pub can_close : MayClose set old bins → ∥ ((closed : History) × (xs : History) × CanClose set old bins closed xs) ∥₁
+  can_close may = ∥∥₁_map may (λ w. (_, _, first_of w.0 w.1 w.2))
+
+  -- where their photons are in closed bins then, they were closed
+  pub closes : (new : Pairing) (start now : ℕ) → ((closed xs : History) → CanClose set old bins closed xs → RingIs set new.ring (closed ++ xs) × CellsAre set new.cells (closed ++ xs))
+      → Pays old new start now → Closes set old new bins start now
+  closes new start now keeps steps = record {
+    follows = λ rest came is.
+        let split = split_are bins rest is.closed is.late is.are in
+        let kept = keeps _ _ (first_of rest came is) in
+        record { closed = is.closed ++ split.0; late = split.1; parts = is.parts ∙ ap (λ ys. is.closed ++ ys) split.2 ∙ sym (append_assoc is.closed split.0 split.1); few = is.few; are = split.4; ring = kept.0; cells = kept.1 };
+    steps = steps;
+  }
 
 -- no sum passes the greatest count
 pub sums_fit : (set : CoincidenceView) (p : Pairing) (bins : List Bin) (closed xs : History) → CanClose set p bins closed xs

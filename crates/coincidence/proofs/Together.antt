@@ -1,8 +1,8 @@
 -- Bins that are closed one after another, or together.
-use Rattle.std.{proofs.Common.{◌≡◌, ◌∙◌, ℕ, ◌+◌, ◌<◌, List, [], ◌∷◌, ◌++◌, length, sym, ap, arith, append_assoc, length-append, append-nil, Option, rules, ◌-◌, ◌*◌, ◌≤◌, leb, refl, Some, slice_get}, specs.List.{sum_by, filter, AllByRecursion}, proofs.lemmas.Grind.common_steps, proofs.Math.Logic.{∥∥₁_map}, proofs.Math.Nat.{mul-le-mul_right}, proofs.lemmas.List.Sums.{sum_by-cons}}
-use Rattle.tally_base.{specs.Settings.{CoincidenceView}, specs.Tally.History, specs.declared.block.Block.Block, specs.Columns.{gathered, events_in}, proofs.BlockRows.length-rows}
+use Rattle.std.{proofs.Common.{◌≡◌, ℕ, ◌+◌, ◌<◌, List, [], ◌∷◌, ◌++◌, length, arith, append_assoc, length-append, append-nil, rules, ◌-◌, ◌*◌, ◌≤◌, leb, refl, Some, slice_get}, specs.List.{sum_by, filter, AllByRecursion}, proofs.Math.Logic.{∥∥₁_map}, proofs.Math.Nat.{mul-le-mul_right}, proofs.lemmas.List.Sums.{sum_by-cons}}
+use Rattle.tally_base.{specs.Settings.{CoincidenceView}, specs.Tally.History}
 use Rattle.lag_ring.{specs.declared.ring.Entry.Entry, specs.Cells.Cells, specs.Ring.{Ring, ring, IsRising}, proofs.Lists.{all_front, all_back, of_some}, proofs.Kept.{weights_on, kept_late}, proofs.Rising.{all_weaker, all_at, upto_join, rising_filter}}
-use Rattle.coincidence.{specs.declared.pairing.Bin.Bin, specs.declared.pairing.Direction.TheVariants.{Forward, Backward}, specs.Pairing.{bin_pairs, RingIs, CellsAre, CanClose, MayClose, Closes, BinsAre, Gathered, HasRoom, Counts, OpenIs}, specs.Closing.{weights_in, both_lag_sums}, proofs.LagPairs.{lags_in_turn, in_turn, rising_join}, specs.declared.pairing.Pairing.Pairing, specs.Pairs.{in_first, in_second, photons_of_groups, coincidences}, specs.StandsFor.CanTake, proofs.Blockwise.few_photons, proofs.Shut.{Weights, ring_weights, grown_by, bin_both, sums_fit}}
+use Rattle.coincidence.{specs.declared.pairing.Bin.Bin, specs.declared.pairing.Direction.TheVariants.{Forward, Backward}, specs.Pairing.{bin_pairs, RingIs, CellsAre, MayClose, Closes, BinsAre, HasRoom, Counts}, specs.Closing.{weights_in, both_lag_sums}, proofs.LagPairs.{lags_in_turn, in_turn, rising_join}, specs.declared.pairing.Pairing.Pairing, specs.Pairs.{in_first, in_second, coincidences}, proofs.Shut.{CanClose, Weights, ring_weights, grown_by, bin_both, sums_fit}}
 
 -- Bins that are closed together bring what they bring one by one.
 
@@ -97,68 +97,22 @@ module _ (set : CoincidenceView) where
         → Counts set p.cells new before now (λ c. both_lag_sums set c (p.ring.entries ++ later) later + sum_by (λ bin. bin_pairs set c bin []) bins) (2 * set.reach + length bins) → CellsAre set new (closed ++ xs)
     all_cells new before now any is = search (rules, arith, all_grown, length-append, more_for_all, few_bins)
 
-  -- Bins that are closed part by part.
+-- Bins that are closed part by part.
 
-  -- bins are those of a part and after them the others
-  split_are : (part rest : List Bin) (closed xs : History) → BinsAre set (part ++ rest) closed xs
-      → (here : History) × (after : History) × (xs ≡ here ++ after) × BinsAre set part closed here × BinsAre set rest (closed ++ here) after
-  split_are [] rest closed xs are = ([], xs, refl, refl, rw (append-nil closed) are)
-  split_are (bin ∷ part) rest closed xs are =
-      let next = split_are part rest (closed ++ are.0) are.1 are.5 in (
-        are.0 ++ next.0,
-        next.1,
-        are.2 ∙ ap (λ ys. are.0 ++ ys) next.2 ∙ sym (append_assoc are.0 next.0 next.1),
-        (are.0, next.0, refl, are.3, are.4, next.3),
-        rw (← append_assoc closed are.0 next.0) next.4,
-      )
-
-  split_can : (p : Pairing) (part behind : List Bin) (closed xs : History) → CanClose set p (part ++ behind) closed xs
-      → (here : History) × (after : History) × (xs ≡ here ++ after) × CanClose set p part closed here × BinsAre set behind (closed ++ here) after
-  split_can p part behind closed xs can =
-      let next = split_are part behind closed xs can.are in
-      (next.0, next.1, next.2, record { few = omega (arith, can.few, ap length next.2, length-append next.0 next.1); are = next.3; ring = can.ring; cells = can.cells }, next.4)
-
+module _ (set : CoincidenceView) where
   pub part_may : (p : Pairing) (part behind : List Bin) → MayClose set p (part ++ behind) → MayClose set p part
-  part_may p part behind may = ∥∥₁_map may (λ w. let here = split_can p part behind w.0 w.1 w.2 in (_, here.0, here.3))
+  part_may p part behind may = ∥∥₁_map may (λ w. (behind ++ w.0, w.1, rw (append_assoc part behind w.0) at w.2))
 
   pub closes_none : (p : Pairing) (n : ℕ) → Closes set p p [] n n
-  closes_none p n = record {
-    ring = λ closed xs can. rw (can.are, append-nil closed) can.ring;
-    cells = λ closed xs can. rw (can.are, append-nil closed) can.cells;
-    steps = refl;
-  }
+  closes_none p n = record { follows = λ rest came is. is; steps = refl }
 
   -- where a part is closed, the rest may be, and then all are
   module _ (old mid : Pairing) (part behind : List Bin) (before then' : ℕ) (done : Closes set old mid part before then') where
-    rest_can : (closed xs : History) (can : CanClose set old (part ++ behind) closed xs)
-        → CanClose set mid behind (closed ++ (split_can old part behind closed xs can).0) (split_can old part behind closed xs can).1
-    rest_can closed xs can =
-        let s = split_can old part behind closed xs can in
-        record { few = omega (arith, can.few, ap length s.2, length-append s.0 s.1, length-append closed s.0); are = s.4; ring = done.ring closed s.0 s.3; cells = done.cells closed s.0 s.3 }
-
     pub rest_may : MayClose set old (part ++ behind) → MayClose set mid behind
-    rest_may may = ∥∥₁_map may (λ w. (_, _, rest_can w.0 w.1 w.2))
+    rest_may may = ∥∥₁_map may (λ w. (w.0, w.1, done.follows (behind ++ w.0) w.1 (rw (append_assoc part behind w.0) at w.2)))
 
     pub closes_on : (new : Pairing) (now : ℕ) → Closes set mid new behind then' now → Closes set old new (part ++ behind) before now
-    closes_on new now next =
-        let all : (closed xs : History) (can : CanClose set old (part ++ behind) closed xs) → closed ++ xs ≡ (closed ++ (split_can old part behind closed xs can).0) ++ (split_can old part behind closed xs can).1 =
-        λ closed xs can. let s = split_can old part behind closed xs can in ap (λ ys. closed ++ ys) s.2 ∙ sym (append_assoc closed s.0 s.1) in
-        record {
-          ring = λ closed xs can. rw (all closed xs can) (next.ring _ _ (rest_can closed xs can));
-          cells = λ closed xs can. rw (all closed xs can) (next.cells _ _ (rest_can closed xs can));
-          steps = omega (arith, done.steps, next.steps);
-        }
-
--- The events of a block whose bins are gathered.
-
--- nothing is gathered yet
-pub gathered_none : (set : CoincidenceView) (last : Option Bin) (bins : List Bin) (closed open' came : History)
-    → bins ≡ [] → came ≡ closed ++ open' → OpenIs set last closed open' → Gathered set last bins closed came
-gathered_none set last bins closed open' came none is opened = grind (arith, common_steps, append-nil closed)
-
--- what a block closed may be paired
-pub can_close_all : (set : CoincidenceView) (p : Pairing) {N : ℕ} (b : Block N) (h : History) (can : CanTake set p (gathered b) h) (now : Option Bin) (bins : List Bin) (were : Gathered set now bins can.was.0 (photons_of_groups set (h ++ events_in b))) → CanClose set p bins can.was.0 were.0
-can_close_all set p b h can now bins were =
-    let all : length (photons_of_groups set (h ++ events_in b)) ≡ length (can.was.0 ++ were.0) + length were.1 =
-    ap length were.2 ∙ length-append (can.was.0 ++ were.0) were.1 in
-    search (rules, arith, length-append, few_photons, length-rows)
+    closes_on new now next = record {
+      follows = λ rest came is. next.follows rest came (done.follows (behind ++ rest) came (rw (append_assoc part behind rest) at is));
+      steps = omega (arith, done.steps, next.steps);
+    }

@@ -1,8 +1,8 @@
 -- One entry more in the loops over a ring.
 use Rattle.tally_base.{specs.Settings.{CoincidenceView, coincidence_cells}, specs.Tally.History, specs.Limits.record_limit}
-use Rattle.lag_ring.{specs.declared.ring.Entry.Entry, specs.Bytes.weight_of, specs.Cells.Cells, proofs.Rising.all_weaker, proofs.Lists.{all_back, all_join, of_some}}
-use Rattle.coincidence.{specs.declared.pairing.Direction.Direction, specs.Pairs.is_in_cell, specs.Pairing.{shifted_by, earlier_side, pairs_of, pairs_of_all, joined, BinIs, OpenIs, PairingIs, pairing_of, CanClose, CanPut, CanEnd, Came, HasRoom, Counts}, specs.declared.pairing.Pairing.Pairing, specs.StandsFor.HasPhotons, specs.declared.pairing.Bin.Bin}
-use Rattle.std.{proofs.Common.{◌≡◌, ℕ, ◌+◌, ◌-◌, ◌*◌, ◌/◌, ◌<◌, ◌≤◌, eqb, cond, List, [], ◌∷◌, refl, arith, rules, ◌≢◌, Some, Option, ◌++◌, length, sym, length-append, append_assoc, append-nil, ap, Bool, true, false}, proofs.lemmas.Grind.common_steps, proofs.lemmas.List.Sums.{sum_by-cons, sum_by-append}, specs.List.AllByRecursion, proofs.Math.Nat.mul-le-mul_left}
+use Rattle.lag_ring.{specs.declared.ring.Entry.Entry, specs.Bytes.weight_of, specs.Cells.Cells, specs.Ring.Ring, proofs.Rising.all_weaker, proofs.Lists.{all_back, all_join, of_some}}
+use Rattle.coincidence.{specs.declared.pairing.Direction.Direction, specs.Pairs.is_in_cell, specs.Pairing.{shifted_by, earlier_side, pairs_of, pairs_of_all, joined, BinIs, BinsAre, Pending, Gathered, CanPut, HasRoom, Counts}, specs.declared.pairing.Pairing.Pairing, specs.StandsFor.HasPhotons, specs.declared.pairing.Bin.Bin}
+use Rattle.std.{proofs.Common.{◌≡◌, ℕ, ◌+◌, ◌-◌, ◌*◌, ◌/◌, ◌<◌, ◌≤◌, eqb, cond, List, [], ◌∷◌, refl, arith, rules, ◌≢◌, ◌∙◌, Some, Option, ◌++◌, length, sym, length-append, append_assoc, append-nil, ap, Bool, true, false}, proofs.lemmas.Grind.common_steps, proofs.lemmas.List.Sums.{sum_by-cons, sum_by-append}, specs.List.AllByRecursion, proofs.Math.Nat.mul-le-mul_left}
 
 module _ (set : CoincidenceView) (index : ℕ) (earlier : Entry) (after : earlier.index < index) (near : index - earlier.index ≤ set.reach) where
   in_forward : (c : ℕ) → is_in_cell set c earlier.index index ≡ eqb ((set.reach + (index - earlier.index)) / set.width) c
@@ -51,16 +51,19 @@ no_pairs d set c index later none (e ∷ es) = search (rules, arith, sum_by-cons
 
 -- The additions of a table are within its work.
 
+pending_work : (set : CoincidenceView) (r : Ring) (counts : Cells) (came : History) → Pending set r counts [] came → counts.added ≤ (2 * set.reach + 1) * length came
+pending_work set r counts came is = search (rules, arith, length-append, mul-le-mul_left)
+
 pub work_within : (closed : Bool) (set : CoincidenceView) (p : Pairing) (came : History)
     → HasPhotons closed set p came → p.cells.added ≤ (2 * set.reach + 1) * length came
-work_within true set p came is = is.cells.work
-work_within false set p came is = search (rules, arith, length-append, mul-le-mul_left)
+work_within true set p came is = pending_work set _ _ came is.pending
+work_within false set p came is = let shut = pending_work set _ _ is.shut is.pending in search (rules, arith, length-append, mul-le-mul_left)
 
 -- What photons that come do to the bins.
 
 module _ (set : CoincidenceView) where
   -- two runs of photons of one tick
-  pub joined_is : (bin more : Bin) (xs ys : History) → BinIs set bin xs → BinIs set more ys
+  joined_is : (bin more : Bin) (xs ys : History) → BinIs set bin xs → BinIs set more ys
       → bin.weights.index ≡ more.weights.index → BinIs set (joined bin more) (xs ++ ys)
   joined_is bin more xs ys left right same = record {
     weighs = record {
@@ -73,7 +76,7 @@ module _ (set : CoincidenceView) where
   }
 
   -- photons of another tick come after a bin and those before it
-  pub behind_bin : (bin new : Bin) (closed open' : History) → BinIs set bin open' → AllByRecursion (λ x. x.0.time < bin.weights.index) closed → AllByRecursion (λ x. x.0.time ≤ new.weights.index) (closed ++ open') → bin.weights.index ≢ new.weights.index
+  behind_bin : (bin new : Bin) (closed open' : History) → BinIs set bin open' → AllByRecursion (λ x. x.0.time < bin.weights.index) closed → AllByRecursion (λ x. x.0.time ≤ new.weights.index) (closed ++ open') → bin.weights.index ≢ new.weights.index
       → AllByRecursion (λ x. x.0.time < new.weights.index) (closed ++ open')
   behind_bin bin new closed open' is before all other =
       let back = all_back (λ x. x.0.time ≤ new.weights.index) closed open' all in
@@ -81,30 +84,51 @@ module _ (set : CoincidenceView) where
       of_some (λ x. x.0.time) bin.weights.index (λ m. m ≤ new.weights.index) open' is.weighs.some is.weighs.here back in
       grind (arith, common_steps, all_join, all_weaker)
 
-  -- the open bin may be closed
-  may_close : (p : Pairing) (bin : Bin) → p.open ≡ Some bin → (o : Option Bin) (closed open' : History) → PairingIs set p closed open'
-      → length closed + length open' ≤ record_limit → CanClose set (pairing_of o p.ring p.cells) (bin ∷ []) closed open'
-  may_close p bin is o closed open' was few = search (rules, arith, append-nil)
+  -- a bin more after the others
+  bins_push : (bins : List Bin) (bin : Bin) (closed xs ys : History) → BinsAre set bins closed xs → BinIs set bin ys → AllByRecursion (λ x. x.0.time < bin.weights.index) (closed ++ xs) → BinsAre set (bins ++ bin ∷ []) closed (xs ++ ys)
+  bins_push [] bin closed xs ys are is after = (ys, [], rw are (sym (append-nil ys)), is, (rw (are, append-nil closed) at after), refl)
+  bins_push (b ∷ bins) bin closed xs ys are is after = (
+    are.0,
+    are.1 ++ ys,
+    rw are.2 (append_assoc are.0 are.1 ys),
+    are.3,
+    are.4,
+    bins_push bins bin (closed ++ are.0) are.1 ys are.5 is (rw (append_assoc closed are.0 are.1, ← are.2) after),
+  )
 
-  module _ (p : Pairing) (bin new : Bin) (is : p.open ≡ Some bin) (came xs : History) (can : CanPut set (Came set p) new came xs) where
-    pub can_close : (o : Option Bin) → CanClose set (pairing_of o p.ring p.cells) (bin ∷ []) can.was.0 can.was.1
-    can_close o = may_close p bin is o can.was.0 can.was.1 can.was.3 (omega (arith, can.few, length-append can.was.0 can.was.1, ap length can.was.2))
+  -- where no bin is to be closed, all photons are in closed bins
+  pub none_left : (r : Ring) (counts : Cells) (came : History) (is : Pending set r counts [] came) → is.closed ≡ came
+  none_left r counts came is = search (rules, append-nil)
 
-    opened : OpenIs set (Some bin) can.was.0 can.was.1
-    opened = rw is at can.was.3.opened
+  module _ (r : Ring) (counts : Cells) (bins : List Bin) (came : History) where
+    -- what is to be closed is closed
+    pub close_on : (open' : Option Bin) (r' : Ring) (counts' : Cells) (bins' : List Bin) (is : Gathered set open' r counts bins came)
+        → Pending set r' counts' bins' is.shut → Gathered set open' r' counts' bins' came
+    close_on open' r' counts' bins' is now = record { shut = is.shut; rest = is.rest; parts = is.parts; pending = now; opened = is.opened }
 
-    -- photons of its own tick join it
-    pub joins : bin.weights.index ≡ new.weights.index → Came set (record p { «open» = Some (joined bin new) }) (came ++ xs)
-    joins same = (
-      can.was.0,
-      can.was.1 ++ xs,
-      rw can.was.2 (append_assoc can.was.0 can.was.1 xs),
-      record { opened = (joined_is bin new can.was.1 xs opened.0 can.is same, opened.1); ring = can.was.3.ring; cells = can.was.3.cells },
-    )
+    -- the open bin is to be closed
+    pub shuts : (bin : Bin) → Gathered set (Some bin) r counts bins came → length came ≤ record_limit → Pending set r counts (bins ++ bin ∷ []) came
+    shuts bin is few =
+        let was = is.pending in
+        record {
+          closed = was.closed;
+          late = was.late ++ is.rest;
+          parts = is.parts ∙ ap (λ ys. ys ++ is.rest) was.parts ∙ append_assoc was.closed was.late is.rest;
+          few = few;
+          are = bins_push bins bin was.closed was.late is.rest was.are is.opened.0 (rw was.parts at is.opened.1);
+          ring = was.ring;
+          cells = was.cells;
+        }
 
-    -- those of another tick come after all that came
-    pub moved_on : bin.weights.index ≢ new.weights.index → AllByRecursion (λ x. x.0.time < new.weights.index) (can.was.0 ++ can.was.1)
-    moved_on other = behind_bin bin new can.was.0 can.was.1 opened.0 opened.1 (rw can.was.2 at can.after) other
+    -- photons of its own tick join it, and those of another come after all that came
+    module _ (bin new : Bin) (xs : History) (can : CanPut set (Gathered set (Some bin) r counts bins) new came xs) where
+      pub joins : bin.weights.index ≡ new.weights.index → Gathered set (Some (joined bin new)) r counts bins (came ++ xs)
+      joins same =
+          let was = can.was in
+          record { shut = was.shut; rest = was.rest ++ xs; parts = rw was.parts (append_assoc was.shut was.rest xs); pending = was.pending; opened = (joined_is bin new was.rest xs was.opened.0 can.is same, was.opened.1) }
 
-  pub end_close : (p : Pairing) (bin : Bin) → p.open ≡ Some bin → (came : History) (can : CanEnd set p came) → CanClose set p (bin ∷ []) can.was.0 can.was.1
-  end_close p bin is came can = search (rules, arith, may_close, length-append)
+      pub moves : bin.weights.index ≢ new.weights.index → Gathered set (Some new) r counts (bins ++ bin ∷ []) (came ++ xs)
+      moves other =
+          let was = can.was in
+          let behind = behind_bin bin new was.shut was.rest was.opened.0 was.opened.1 (rw was.parts at can.after) other in
+          record { shut = came; rest = xs; parts = refl; pending = shuts bin was (omega (arith, can.few)); opened = (can.is, rw was.parts behind) }

@@ -1,5 +1,5 @@
 -- What a table of coincidences stands for.
-use Rattle.std.{specs.Prelude.{ℕ, ◌+◌, is_some, length, if◌then◌else◌, ◌≡◌, ◌≤◌, Bool, true, false, ◌&&◌, ◌||◌, [], ◌∷◌, ◌++◌}, proofs.Common.{cond, arith, ◌∙◌, ap, subst}, proofs.Math.Logic.∥∥₁_elim, proofs.Props.props}
+use Rattle.std.{specs.Prelude.{ℕ, ◌+◌, is_some, length, if◌then◌else◌, ◌≡◌, ◌≤◌, Bool, true, false, ◌&&◌, ◌||◌, [], ◌∷◌, ◌++◌}, proofs.Common.{cond, arith, rules, ◌∙◌, ap, subst}, proofs.Math.Logic.∥∥₁_elim, proofs.Props.props}
 use Rattle.tally_base.{specs.declared.settings.CoincidenceSet.CoincidenceSet, specs.Settings.{PartSettings, coincidence_view, CoincidenceView, coincidence_cells, entries}, specs.Settings.PartSettings.CoincidenceSettings, specs.Tally.History, specs.declared.event.Event.Event, specs.Events.{is_photon, is_in}, proofs.Sorted.{same_length, same_greatest, same_filter}}
 use Rattle.lag_ring.specs.Cells.{Cells}
 use Rattle.coincidence.{specs.declared.coincidence.Coincidence.Coincidence, specs.StandsFor.{StandsFor, HasPhotons}, specs.declared.pairing.Pairing.Pairing, specs.Pairs.{in_first, in_second}, specs.Pairing.{RingIs, CellsAre}}
@@ -33,22 +33,22 @@ spent_by t = (cells_in t).added
 
 -- What holds of every table of coincidences.
 
-parts_within : (set : CoincidenceView) (p : Pairing) (came : History) → RingIs set p.ring came → CellsAre set p.cells came → length p.cells.cells + length p.ring.entries + cond (is_some p.open) 2 0 ≤ coincidence_cells set + set.reach + 2
-parts_within set p came ring cells = elim (is_some p.open) as (λ b. length p.cells.cells + length p.ring.entries + cond b 2 0 ≤ coincidence_cells set + set.reach + 2) [ true ↦ omega (arith, ring.keeps.within, ring.reach, cells.count) | false ↦ omega (arith, ring.keeps.within, ring.reach, cells.count) ]
+-- the photons that are in closed bins
+paired : (closed : Bool) (set : CoincidenceView) (p : Pairing) (came : History) → HasPhotons closed set p came → (xs : History) × RingIs set p.ring xs × CellsAre set p.cells xs
+paired true set p came is = (is.pending.closed, is.pending.ring, is.pending.cells)
+paired false set p came is = (is.pending.closed, is.pending.ring, is.pending.cells)
 
-photons_within : (closed : Bool) (set : CoincidenceView) (p : Pairing) (came : History) → HasPhotons closed set p came → length p.cells.cells + length p.ring.entries + cond (is_some p.open) 2 0 ≤ coincidence_cells set + set.reach + 2
-photons_within true set p came is = parts_within set p came is.ring is.cells
-photons_within false set p came is = parts_within set p is.0 is.3.ring is.3.cells
-
-pub within_bound : (t : Coincidence) → held t ≤ entries (settings t)
-within_bound t = ∥∥₁_elim t.stands (hlevel props) (λ w. photons_within t.closed _ t.pairing _ w.1.photons)
-
-ring_within : (closed : Bool) (set : CoincidenceView) (p : Pairing) (came : History) → HasPhotons closed set p came → length p.ring.entries ≤ set.reach
-ring_within true set p came is = omega (arith, is.ring.keeps.within, is.ring.reach)
-ring_within false set p came is = omega (arith, is.3.ring.keeps.within, is.3.ring.reach)
+lists_within : (set : CoincidenceView) (p : Pairing) (came : History) → RingIs set p.ring came → CellsAre set p.cells came → length p.cells.cells + length p.ring.entries ≤ coincidence_cells set + set.reach
+lists_within set p came ring cells = omega (arith, ring.keeps.within, ring.reach, cells.count)
 
 pub few_bins : (t : Coincidence) → bins_kept t ≤ (set_of t).reach
-few_bins t = ∥∥₁_elim t.stands (hlevel props) (λ w. ring_within t.closed _ t.pairing _ w.1.photons)
+few_bins t = ∥∥₁_elim t.stands (hlevel props) (λ w. let is = paired t.closed _ t.pairing _ w.1.photons in omega (arith, is.1.keeps.within, is.1.reach))
+
+with_open : (b : Bool) (n most : ℕ) → n ≤ most → n + cond b 2 0 ≤ most + 2
+with_open b n most few = search (rules, arith)
+
+pub within_bound : (t : Coincidence) → held t ≤ entries (settings t)
+within_bound t = with_open (is_some t.pairing.open) _ _ (∥∥₁_elim t.stands (hlevel props) (λ w. let is = paired t.closed _ t.pairing _ w.1.photons in lists_within (coincidence_view t.set) t.pairing is.0 is.1 is.2))
 
 pub marker_groups : (t : Coincidence) (h : History) (e : Event) (groups : ℕ) → is_photon e ≡ false → Holds t (h ++ (e, 0) ∷ []) → Holds t (h ++ (e, groups) ∷ [])
 marker_groups t h e groups marker is =

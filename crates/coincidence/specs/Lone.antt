@@ -1,8 +1,8 @@
 -- Photons that are alone in their reach.
-use Rattle.std.{specs.Prelude.{◌≡◌, ℕ, ◌+◌, ◌-◌, ◌*◌, ◌<◌, Bool, true, ◌&&◌, ◌||◌, ◌++◌, nat_lt, Option, List}, specs.List.AllByRecursion}
+use Rattle.std.{specs.Prelude.{◌≡◌, ℕ, ◌+◌, ◌-◌, ◌*◌, ◌<◌, Bool, true, ◌&&◌, ◌||◌, ◌++◌, nat_lt, Option, List, []}, specs.List.AllByRecursion}
 use Rattle.tally_base.{specs.Events.is_in, specs.Settings.CoincidenceView, specs.Tally.History, specs.declared.block.Block.Block, specs.Columns.{code_at, groups_at, time_at, gathered, item, rows}}
 use Rattle.lag_ring.{specs.declared.ring.Entry.Entry, specs.Cells.Cells, specs.Ring.Ring}
-use Rattle.coincidence.{specs.declared.pairing.Bin.Bin, specs.declared.pairing.Pairing.Pairing, specs.Pairs.photons_of_groups, specs.Pairing.{bin_of, pairing_of, Came}, specs.StandsFor.CanTake}
+use Rattle.coincidence.{specs.declared.pairing.Bin.Bin, specs.declared.pairing.Pairing.Pairing, specs.Pairs.photons_of_groups, specs.Pairing.{bin_of, Came, Gathered}, specs.StandsFor.CanTake}
 
 -- whether a row has a photon of a group
 abbrev pub has_photon : {N : ℕ} → Block N → ℕ → ℕ → Bool
@@ -23,6 +23,6 @@ IsLone set b at = ((has_photon b at set.first || has_photon b at set.second) ≡
 -- Where the photons of the first so many rows came, after any others, those of the rows up to another came then, and no pair.
 abbrev pub Passes : {N : ℕ} → CoincidenceView → Block N → Option Bin → Option Bin → Ring → Ring → ℕ → ℕ → Type 0
 Passes set b waiting result old new at to =
-    (p : Pairing) (cells : Cells) (h : History) → CanTake set p (gathered b) h
-    → Came set (pairing_of waiting old cells) (photons_of_groups set (h ++ rows (item b) at))
-    → Came set (pairing_of result new cells) (photons_of_groups set (h ++ rows (item b) to))
+    (p : Pairing) (cells : Cells) (h : History) → CanTake set (Came set p) (gathered b) h
+    → Gathered set waiting old cells [] (photons_of_groups set (h ++ rows (item b) at))
+    → Gathered set result new cells [] (photons_of_groups set (h ++ rows (item b) to))

@@ -1,5 +1,5 @@
 -- What the bins and cells of a table of coincidences stand for: photons that came in order, and how far they are paired.
-use Rattle.std.{specs.Prelude.{◌≡◌, ℕ, ◌+◌, ◌-◌, ◌*◌, ◌/◌, ◌^◌, ◌<◌, ◌≤◌, Bool, ◌&&◌, ◌==◌, Option, None, List, [], ◌∷◌, ◌++◌, length, slice_index, sum_by, count_by, if◌then◌else◌}, specs.List.{AllByRecursion}}
+use Rattle.std.{specs.Prelude.{◌≡◌, ℕ, ◌+◌, ◌-◌, ◌*◌, ◌/◌, ◌^◌, ◌<◌, ◌≤◌, Bool, ◌&&◌, ◌==◌, Option, None, Some, List, [], ◌∷◌, ◌++◌, length, slice_index, sum_by, count_by, if◌then◌else◌}, specs.List.{AllByRecursion}}
 use Rattle.tally_base.{specs.Settings.{CoincidenceView, coincidence_cells}, specs.Tally.History, specs.Limits.record_limit}
 use Rattle.lag_ring.{specs.declared.ring.Entry.Entry, specs.declared.window.Side.{Side, TheVariants.{First, Second}}, specs.Cells.{Cells, Spends}, specs.Ring.{Ring, Weighs}, specs.Binned.{IsOpen, KeepsReach, CellsCount}}
 use Rattle.coincidence.{specs.declared.pairing.Bin.Bin, specs.declared.pairing.Direction.Direction, specs.declared.pairing.Direction.TheVariants.{Forward, Backward}, specs.declared.pairing.Pairing.Pairing, specs.Pairs.{in_first, in_second, is_in_cell, coincidences}}
@@ -67,8 +67,10 @@ pub record Counts (set : CoincidenceView) (old new : Cells) (before now : ℕ) (
 abbrev pub Pays : Pairing → Pairing → ℕ → ℕ → Type 0
 Pays old new before now = now + old.cells.added ≡ before + new.cells.added
 
-abbrev pub pairing_of : Option Bin → Ring → Cells → Pairing
-pairing_of bin ring cells = record { «open» = bin; ring = ring; cells = cells }
+-- the bin that is closed, where one is, as a list
+abbrev pub closed_bin : Option Bin → List Bin
+closed_bin None = []
+closed_bin (Some bin) = bin ∷ []
 
 module _ (set : CoincidenceView) where
   -- the bin has these photons, of which there is one at least
@@ -87,30 +89,37 @@ module _ (set : CoincidenceView) where
   abbrev pub CellsAre : Cells → History → Type 0
   CellsAre cells closed = CellsCount (coincidence_cells set) (λ c. coincidences set c closed) ((2 * set.reach + 1) * length closed) cells
 
-  -- the photons of closed bins came, and after them those of the open one
-  pub record PairingIs (p : Pairing) (closed open' : History) : Type 0 where
-    pub opened : OpenIs p.open closed open'
-    pub ring : RingIs p.ring closed
-    pub cells : CellsAre p.cells closed
-
-  -- the photons that came, in their order
-  abbrev pub Came : Pairing → History → Type 0
-  Came p came = (closed : History) × (open' : History) × (came ≡ closed ++ open') × PairingIs p closed open'
-
-  -- all photons that came are in closed bins
-  pub record PairingDone (p : Pairing) (came : History) : Type 0 where
-    pub shut : p.open ≡ None
-    pub ring : RingIs p.ring came
-    pub cells : CellsAre p.cells came
-
   -- the bins have these photons, one bin after the other, and each is after those that were closed before it
   abbrev pub BinsAre : List Bin → History → History → Type 0
   BinsAre [] closed xs = xs ≡ []
   BinsAre (bin ∷ bins) closed xs = (here : History) × (rest : History) × (xs ≡ here ++ rest) × BinIs bin here × AllByRecursion (λ x. x.0.time < bin.weights.index) closed × BinsAre bins (closed ++ here) rest
 
-  -- photons came: those of closed bins, and after them those of the gathered ones and of the open one
-  abbrev pub Gathered : Option Bin → List Bin → History → History → Type 0
-  Gathered bin bins closed came = (pending : History) × (open' : History) × (came ≡ (closed ++ pending) ++ open') × BinsAre bins closed pending × OpenIs bin (closed ++ pending) open'
+  -- these photons came: those of closed bins, and after them those of bins that are to be closed
+  pub record Pending (r : Ring) (counts : Cells) (bins : List Bin) (came : History) : Type 0 where
+    pub closed : History
+    pub late : History
+    pub parts : came ≡ closed ++ late
+    pub few : length came ≤ record_limit
+    pub are : BinsAre bins closed late
+    pub ring : RingIs r closed
+    pub cells : CellsAre counts closed
+
+  -- these photons came, and after them those of the open bin
+  pub record Gathered (bin : Option Bin) (ring : Ring) (cells : Cells) (bins : List Bin) (came : History) : Type 0 where
+    pub shut : History
+    pub rest : History
+    pub parts : came ≡ shut ++ rest
+    pub pending : Pending ring cells bins shut
+    pub opened : OpenIs bin shut rest
+
+  -- the photons that came, in their order
+  abbrev pub Came : Pairing → History → Type 0
+  Came p came = Gathered p.open p.ring p.cells [] came
+
+  -- all photons that came are in closed bins
+  pub record PairingDone (p : Pairing) (came : History) : Type 0 where
+    pub shut : p.open ≡ None
+    pub pending : Pending p.ring p.cells [] came
 
   -- photons of one tick may come after those that came
   pub record CanPut (Were : History → Type 0) (bin : Bin) (came xs : History) : Type 0 where
@@ -119,27 +128,16 @@ module _ (set : CoincidenceView) where
     pub is : BinIs bin xs
     pub after : AllByRecursion (λ x. x.0.time ≤ bin.weights.index) came
 
-  -- They came.
-  abbrev pub Puts : Pairing → Pairing → Bin → Type 0
-  Puts old new bin = (came xs : History) → CanPut (Came old) bin came xs → Came new (came ++ xs)
-
   -- the open bin may be closed
   pub record CanEnd (p : Pairing) (came : History) : Type 0 where
     pub few : length came ≤ record_limit
     pub was : Came p came
 
-  -- bins of the photons xs may be paired, and put after the closed ones
-  pub record CanClose (p : Pairing) (bins : List Bin) (closed xs : History) : Type 0 where
-    pub few : length closed + length xs ≤ record_limit
-    pub are : BinsAre bins closed xs
-    pub ring : RingIs p.ring closed
-    pub cells : CellsAre p.cells closed
-
+  -- the bins are the first of those that are to be closed
   abbrev pub MayClose : Pairing → List Bin → Type 0
-  MayClose p bins = ∥ ((closed : History) × (xs : History) × CanClose p bins closed xs) ∥₁
+  MayClose p bins = ∥ ((rest : List Bin) × (came : History) × Pending p.ring p.cells (bins ++ rest) came) ∥₁
 
   -- They were, with as many steps as additions.
   pub record Closes (old new : Pairing) (bins : List Bin) (before now : ℕ) : Type 0 where
-    pub ring : (closed xs : History) → CanClose old bins closed xs → RingIs new.ring (closed ++ xs)
-    pub cells : (closed xs : History) → CanClose old bins closed xs → CellsAre new.cells (closed ++ xs)
+    pub follows : (rest : List Bin) (came : History) → Pending old.ring old.cells (bins ++ rest) came → Pending new.ring new.cells rest came
     pub steps : Pays old new before now

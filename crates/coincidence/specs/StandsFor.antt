@@ -1,8 +1,8 @@
 -- What the fields of a table of coincidences stand for.
-use Rattle.std.specs.Prelude.{◌≡◌, ℕ, ◌+◌, ◌≤◌, Bool, true, false, Option, List, ◌++◌, length}
+use Rattle.std.specs.Prelude.{◌≡◌, ℕ, ◌+◌, ◌≤◌, Bool, true, false, Option, List, [], ◌++◌, length}
 use Rattle.tally_base.{specs.declared.event.Event.Event, specs.Settings.CoincidenceView, specs.Tally.{History, greatest_time, InOrder}, specs.Limits.record_limit, specs.declared.block.Block.Block, specs.Columns.{gathered, events_in}}
 use Rattle.lag_ring.{specs.Cells.Cells, specs.Ring.Ring}
-use Rattle.coincidence.{specs.declared.pairing.Bin.Bin, specs.declared.pairing.Pairing.Pairing, specs.Pairs.photons_of_groups, specs.Pairing.{Came, Pays, PairingDone, pairing_of, Gathered}}
+use Rattle.coincidence.{specs.declared.pairing.Bin.Bin, specs.declared.pairing.Pairing.Pairing, specs.Pairs.photons_of_groups, specs.Pairing.{Came, Pays, PairingDone, Gathered}}
 
 -- the photons came, and in a closed table all of them are in closed bins
 abbrev pub HasPhotons : Bool → CoincidenceView → Pairing → History → Type 0
@@ -16,22 +16,22 @@ pub record StandsFor (closed : Bool) (set : CoincidenceView) (p : Pairing) (coun
   pub photons : HasPhotons closed set p (photons_of_groups set h)
 
 -- these events may be given, after those that were
-pub record CanTake (set : CoincidenceView) (p : Pairing) (es : List Event) (h : History) : Type 0 where
+pub record CanTake (set : CoincidenceView) (Were : History → Type 0) (es : List Event) (h : History) : Type 0 where
   pub few : length h + length es ≤ record_limit
-  pub was : Came set p (photons_of_groups set h)
+  pub was : Were (photons_of_groups set h)
   pub after : InOrder false (greatest_time false h) es
 
 -- the events of a block may be given
 abbrev pub MayTake : CoincidenceView → Pairing → {N : ℕ} → Block N → Type 0
-MayTake set p b = ∥ ((h : History) × CanTake set p (gathered b) h) ∥₁
+MayTake set p b = ∥ ((h : History) × CanTake set (Came set p) (gathered b) h) ∥₁
 
 -- Their photons came after those of any events that they may be given after, with as many steps as additions.
 pub record Takes (set : CoincidenceView) (old new : Pairing) {N : ℕ} (b : Block N) (before now : ℕ) : Type 0 where
-  pub follows : (h : History) → CanTake set old (gathered b) h → Came set new (photons_of_groups set (h ++ events_in b))
+  pub follows : (h : History) → CanTake set (Came set old) (gathered b) h → Came set new (photons_of_groups set (h ++ events_in b))
   pub steps : Pays old new before now
 
--- The photons of these events came, and the bins that they closed are gathered after those that were closed before.
+-- The photons of these events came, and the bins that they closed are to be closed.
 abbrev pub Gathers : CoincidenceView → Option Bin → Option Bin → List Bin → List Event → History → Type 0
 Gathers set waiting result bins es xs =
-    (ring : Ring) (cells : Cells) (h : History) → (can : CanTake set (pairing_of waiting ring cells) es h)
-    → Gathered set result bins can.was.0 (photons_of_groups set (h ++ xs))
+    (ring : Ring) (cells : Cells) (h : History) → CanTake set (Gathered set waiting ring cells []) es h
+    → Gathered set result ring cells bins (photons_of_groups set (h ++ xs))

@@ -1,38 +1,13 @@
 // Bins that the photons of a block close.
 ghost use Rattle.std.specs.Prelude.{◌≡◌, ◌+◌, ◌<◌, ◌≤◌, ◌++◌, [], take};
-ghost use Rattle.tally_base.{specs.Settings.{CoincidenceView, coincidence_view}, specs.Tally.History, specs.Columns.{count, gathered, events_in, IsSorted}};
+ghost use Rattle.tally_base.{specs.Settings.{coincidence_view}, specs.Tally.History, specs.Columns.{count, gathered, events_in, IsSorted}};
 ghost use Rattle.lag_ring.{specs.Cells.Cells, specs.Ring.Ring};
 ghost use Rattle.arrayvec.specs.ArrayVec.{array_vec_len};
-ghost use Rattle.coincidence.{specs.StandsFor.{CanTake, Gathers}, specs.Pairing.{pairing_of, Gathered, CanPut}, specs.Picked.ArePicked};
+ghost use Rattle.coincidence.{specs.StandsFor.{CanTake, Gathers}, specs.Pairing.{Gathered, closed_bin}, specs.Picked.ArePicked};
 
-use crate::pairing::Bin;
+use crate::pairing::{Bin, join};
 use arrayvec::ArrayVec;
 use tally_base::{Block, CoincidenceSet, TABLE_BLOCK};
-
-/// Takes photons of one tick, after all that came. They join the open bin, or put it after those that
-/// are to be closed: the answer is the bin that is open then.
-#[inline(always)]
-fn gather_bin(waiting: Option<Bin>, bins: &mut ArrayVec<Bin, TABLE_BLOCK>, bin: Bin) -> Option<Bin>
-    requires room { array_vec_len bins.old < TABLE_BLOCK }
-    requires stands { ∥ ((set : CoincidenceView) × (closed : History) × (came : History)
-        × (xs : History) × CanPut set (Gathered set waiting bins.old.items closed) bin came xs) ∥₁ }
-    ensures follows { (set : CoincidenceView) (closed came xs : History)
-        → CanPut set (Gathered set waiting bins.old.items closed) bin came xs
-        → Gathered set result bins.new.items closed (came ++ xs) }
-    ensures few { array_vec_len bins.new ≤ array_vec_len bins.old + 1 }
-{
-    match waiting {
-        Some(open) => {
-            if open.weights.index == bin.weights.index {
-                Some(open.with(&bin))
-            } else {
-                bins.push(open);
-                Some(bin)
-            }
-        }
-        None => Some(bin),
-    }
-}
 
 /// Puts the rows of a block that have a photon of either group after one another, and answers how many there are. What
 /// stands after them has no meaning.
@@ -53,6 +28,18 @@ fn pick(set: CoincidenceSet, block: &Block<TABLE_BLOCK>, rows: &mut [u16; TABLE_
     picked
 }
 
+/// Puts a bin after others, if there is one.
+#[inline(always)]
+fn put_bin(bins: &mut ArrayVec<Bin, TABLE_BLOCK>, more: Option<Bin>)
+    requires room { array_vec_len bins.old < TABLE_BLOCK }
+    ensures items { bins.new.items ≡ bins.old.items ++ closed_bin more }
+    ensures few { array_vec_len bins.new ≤ array_vec_len bins.old + 1 }
+{
+    if let Some(bin) = more {
+        bins.push(bin);
+    }
+}
+
 /// Takes the photons of a block, and puts the bins that they close into a list. The answer is the bin
 /// that is open then.
 #[tactic(auto, using(crate::proofs::Picked::next_within))]
@@ -64,8 +51,8 @@ pub(crate) fn gather_block(
 ) -> Option<Bin>
     requires sorted { IsSorted block.now }
     requires empty { (bins.old.items ≡ []) × (array_vec_len bins.old ≡ 0) }
-    requires stands { ∥ ((ring : Ring) × (cells : Cells) × (h : History) × CanTake
-        (coincidence_view set.now) (pairing_of waiting ring cells) (gathered block.now) h) ∥₁ }
+    requires stands { ∥ ((ring : Ring) × (cells : Cells) × (h : History) × CanTake (coincidence_view set.now)
+        (Gathered (coincidence_view set.now) waiting ring cells []) (gathered block.now) h) ∥₁ }
     ensures follows { Gathers (coincidence_view set.now) waiting result bins.new.items (gathered block.now) (events_in block.now) }
     ensures few { array_vec_len bins.new ≤ TABLE_BLOCK }
 {
@@ -79,7 +66,9 @@ pub(crate) fn gather_block(
         let first = block.has_photon(at, own.first);
         let second = block.has_photon(at, own.second);
         let bin = Bin::of_photon(block.time(at), first, second);
-        open = gather_bin(open, bins, bin);
+        let (shut, now) = join(open, bin);
+        put_bin(bins, shut);
+        open = Some(now);
     }
     open
 }

@@ -1,8 +1,8 @@
 // The bins of a table of coincidences, the ring of the last closed ones, and the cells.
-ghost use Rattle.std.{specs.Prelude.{◌≡◌, ℕ, ◌+◌, ◌-◌, ◌*◌, ◌/◌, ◌^◌, ◌<◌, ◌≤◌, [], ◌∷◌, ◌++◌, length, slice_index, if◌then◌else◌, ◌==◌, nat_le, IfOk, None}, specs.List.AllByRecursion};
-ghost use Rattle.tally_base.{specs.Settings.{coincidence_view, coincidence_cells}, specs.Tally.History};
-ghost use Rattle.lag_ring.specs.Cells.{Spends};
-ghost use Rattle.coincidence.specs.Pairing.{pairs_of, pairs_of_all, pairs_with, bin_pairs, pairing_of, MayClose, Closes, Pays, Came, CanPut, Puts, HasRoom, Counts};
+ghost use Rattle.std.{specs.Prelude.{◌≡◌, ℕ, ◌+◌, ◌-◌, ◌*◌, ◌/◌, ◌^◌, ◌<◌, ◌≤◌, [], ◌∷◌, ◌++◌, length, slice_index, if◌then◌else◌, ◌==◌, nat_le, IfOk, None, Some, List}, specs.List.AllByRecursion};
+ghost use Rattle.tally_base.{specs.Settings.{CoincidenceView, coincidence_view, coincidence_cells}, specs.Tally.History};
+ghost use Rattle.lag_ring.specs.{Cells.{Cells, Spends}, Ring.Ring};
+ghost use Rattle.coincidence.specs.Pairing.{pairs_of, pairs_of_all, pairs_with, bin_pairs, closed_bin, MayClose, Closes, Pays, Gathered, CanPut, HasRoom, Counts};
 
 use lag_ring::{Entry, LagRing, PairCells, Side};
 use std::alloc::{AllocError, Global};
@@ -327,8 +327,30 @@ pub(crate) fn close<L: Ledger>(
     }
 }
 
-/// Takes photons of one tick, after all that came. They join the open bin, or close it: the answer is
-/// the bin that is open then.
+/// Takes photons of one tick, after all that came. They join the open bin, or close it: the answer is the bin that is
+/// to be closed then, if there is one, and the open one.
+#[inline(always)]
+pub(crate) fn join(waiting: Option<Bin>, bin: Bin) -> (Option<Bin>, Bin)
+    requires stands { ∥ ((set : CoincidenceView) × (ring : Ring) × (cells : Cells) × (bins : List Bin) × (came : History)
+        × (xs : History) × CanPut set (Gathered set waiting ring cells bins) bin came xs) ∥₁ }
+    ensures follows { (set : CoincidenceView) (ring : Ring) (cells : Cells) (bins : List Bin) (came xs : History)
+        → CanPut set (Gathered set waiting ring cells bins) bin came xs
+        → Gathered set (Some result.1) ring cells (bins ++ closed_bin result.0) (came ++ xs) }
+{
+    match waiting {
+        Some(open) => {
+            if open.weights.index == bin.weights.index {
+                (None, open.with(&bin))
+            } else {
+                (Some(open), bin)
+            }
+        }
+        None => (None, bin),
+    }
+}
+
+/// Takes photons of one tick, after all that came: the answer is the bin that is open then. One that they close is
+/// paired.
 #[inline(always)]
 pub(crate) fn put<L: Ledger>(
     waiting: Option<Bin>,
@@ -338,31 +360,26 @@ pub(crate) fn put<L: Ledger>(
     steps: &mut Steps<L>,
 ) -> Option<Bin>
     requires stands { ∥ ((came : History) × (xs : History) × CanPut (coincidence_view set.now)
-        (Came (coincidence_view set.now) (pairing_of waiting pairing.old.ring pairing.old.cells)) bin came xs) ∥₁ }
-    ensures follows { Puts (coincidence_view set.now) (pairing_of waiting pairing.old.ring pairing.old.cells)
-        (pairing_of result pairing.new.ring pairing.new.cells) bin }
+        (Gathered (coincidence_view set.now) waiting pairing.old.ring pairing.old.cells []) bin came xs) ∥₁ }
+    ensures follows { (came xs : History) → CanPut (coincidence_view set.now)
+        (Gathered (coincidence_view set.now) waiting pairing.old.ring pairing.old.cells []) bin came xs
+        → Gathered (coincidence_view set.now) result pairing.new.ring pairing.new.cells [] (came ++ xs) }
     ensures steps { Pays pairing.old pairing.new steps.old steps.new }
 {
-    match waiting {
-        Some(open) => {
-            if open.weights.index == bin.weights.index {
-                Some(open.with(&bin))
-            } else {
-                close(pairing, set, &open, steps);
-                Some(bin)
-            }
-        }
-        None => Some(bin),
+    let (shut, open) = join(waiting, bin);
+    if let Some(shut) = shut {
+        close(pairing, set, &shut, steps);
     }
+    Some(open)
 }
 
 impl Pairing {
-    ghost use Rattle.coincidence.specs.Pairing.{PairingIs, PairingDone, CanEnd};
+    ghost use Rattle.coincidence.specs.Pairing.{Came, PairingDone, CanEnd};
 
     /// No bins, with all the memory that they and the cells ever take, or `AllocError` where it is
     /// wanting.
     pub fn open(alloc: Global, set: &CoincidenceSet) -> Result<Pairing, AllocError>
-        ensures empty { IfOk result (λ p. PairingIs (coincidence_view set.now) p [] []) }
+        ensures empty { IfOk result (λ p. Came (coincidence_view set.now) p []) }
         ensures none { IfOk result (λ p. p.cells.added ≡ 0) }
     {
         Ok(Pairing {

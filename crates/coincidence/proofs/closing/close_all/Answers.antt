@@ -16,7 +16,7 @@ pub close_part-requires-clause-stands : goal.close_part-requires-clause-stands
 close_part-requires-clause-stands g c =
     let inv = c.loop-rest.invariant.closes in
     let split = c.split_at in
-    part_may _ _ split.result.0.now split.result.1.now (rest_may _ _ _ inv.0 (split.result.0.now ++ split.result.1.now) _ _ inv.2 (rw (parts c.args.bins.now inv.0 c.loop-rest.rest.now split.result.0.now split.result.1.now _ inv.1 split.ensures.front split.ensures.back) at c.requires.stands))
+    part_may _ c.loop-rest.pairing split.result.0.now split.result.1.now (rest_may _ c.args.pairing.now _ inv.0 (split.result.0.now ++ split.result.1.now) _ _ inv.2 (rw (parts c.args.bins.now inv.0 c.loop-rest.rest.now split.result.0.now split.result.1.now _ inv.1 split.ensures.front split.ensures.back) at c.requires.stands))
 
 pub loop-rest-preserved : goal.loop-rest-preserved
 loop-rest-preserved g c =

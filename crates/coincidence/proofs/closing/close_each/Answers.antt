@@ -16,8 +16,8 @@ close-requires g c =
     let bins = c.args.bins.now in
     let i = c.loop-bin.bin-index in
     record {
-      stands = part_may _ _ (get_or bins i no_bin ∷ []) (drop (i + 1) bins)
-          (rest_may _ _ _ (take i bins) ((get_or bins i no_bin ∷ []) ++ drop (i + 1) bins) _ _ c.loop-bin.invariant (rw (next bins i c.loop-bin-test.true) at c.requires.stands));
+      stands = part_may _ c.loop-bin.pairing (get_or bins i no_bin ∷ []) (drop (i + 1) bins)
+          (rest_may _ c.args.pairing.now _ (take i bins) ((get_or bins i no_bin ∷ []) ++ drop (i + 1) bins) _ _ c.loop-bin.invariant (rw (next bins i c.loop-bin-test.true) at c.requires.stands));
     }
 
 pub loop-bin-preserved : goal.loop-bin-preserved

@@ -1,6 +1,6 @@
 use Rattle.std.{proofs.Common.{append-nil, rules, arith}, proofs.lemmas.List.{length-take}, proofs.Math.Logic.{∥∥₁_map}}
 use Rattle.tally_base.specs.Settings.{coincidence_view}
-use Rattle.coincidence.{specs.Pairs.photons_of_groups, proofs.Together.gathered_none, proofs.Picked.{may_gather, gathers_more, gathered_end}}
+use Rattle.coincidence.{proofs.Picked.{may_gather, gathers_more, gathered_end}}
 use Rattle.coincidence.proofs.gathering.gather_block.Goals as goal
 
 pub loop-row-init : goal.loop-row-init
@@ -11,27 +11,27 @@ loop-row-init c =
         from = 0;
         within = omega arith;
         picked = c.pick-picked.ensures.picked;
-        came = λ ring cells h can. rw (append-nil h)
-            (gathered_none set c.args.waiting c.args.bins.now.items can.was.0 can.was.1 (photons_of_groups set h) c.requires.empty.0 can.was.2 can.was.3.opened);
+        came = λ ring cells h can. rw (append-nil h, c.requires.empty.0) can.was;
       };
       few = omega (arith, c.requires.empty.1);
     }
 
-pub gather_bin-open-requires-clause-room : goal.gather_bin-open-requires-clause-room
-gather_bin-open-requires-clause-room c = search (rules, arith, length-take)
+pub put_bin-requires : goal.put_bin-requires
+put_bin-requires c = record { room = search (rules, arith, length-take) }
 
-pub gather_bin-open-requires-clause-stands : goal.gather_bin-open-requires-clause-stands
-gather_bin-open-requires-clause-stands c =
-    rw (c.of_photon-bin.ensures, c.time.ensures, c.has_photon-first.ensures, c.has_photon-second.ensures) (∥∥₁_map c.requires.stands
-    (λ w. (coincidence_view c.args.set.now, w.3.was.0, _, _, may_gather _ _ _ _ _ _ _ c.loop-row.invariant.came c.loop-row-test.true w.0 w.1 w.2 w.3)))
+pub join-shut-requires : goal.join-shut-requires
+join-shut-requires c = record {
+  stands = rw (c.of_photon-bin.ensures, c.time.ensures, c.has_photon-first.ensures, c.has_photon-second.ensures) (∥∥₁_map c.requires.stands
+      (λ w. (coincidence_view c.args.set.now, w.0, w.1, _, _, _, may_gather _ _ _ _ _ _ _ c.loop-row.invariant.came c.loop-row-test.true w.0 w.1 w.2 w.3)));
+}
 
 pub loop-row-preserved : goal.loop-row-preserved
 loop-row-preserved c =
     let is_bin = rw (c.time.ensures, c.has_photon-first.ensures, c.has_photon-second.ensures) at c.of_photon-bin.ensures in
     record {
       came = gathers_more _ _ _ _ _ _ _ c.loop-row.invariant.came c.loop-row-test.true _ _
-          (λ closed came xs can. c.gather_bin-open.ensures.follows _ closed came xs (rw is_bin can));
-      few = omega (arith, c.loop-row.invariant.few, c.gather_bin-open.ensures.few);
+          (λ ring cells came xs can. rw c.put_bin.ensures.items (c.join-shut.ensures.follows _ ring cells _ came xs (rw is_bin can)));
+      few = omega (arith, c.loop-row.invariant.few, c.put_bin.ensures.few);
     }
 
 pub returns-clause-follows : goal.returns-clause-follows

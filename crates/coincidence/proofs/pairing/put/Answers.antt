@@ -1,21 +1,21 @@
-use Rattle.std.{proofs.Common.{ap, ◌++◌}, proofs.Math.Logic.{∥∥₁_map}}
-use Rattle.coincidence.proofs.Visits.{can_close, joins, moved_on}
+use Rattle.std.{proofs.Common.{[], refl}, proofs.Math.Logic.{∥∥₁_map}}
+use Rattle.tally_base.specs.Settings.{coincidence_view}
+use Rattle.coincidence.proofs.Visits.{close_on}
 use Rattle.coincidence.proofs.pairing.put.Goals as goal
 
-pub close-requires : goal.close-requires
-close-requires g c = record { stands = ∥∥₁_map c.requires.stands (λ w. (_, _, can_close _ _ _ _ c.in-Some.is w.0 w.1 w.2 c.args.pairing.now.open)) }
+pub join-shut-requires : goal.join-shut-requires
+join-shut-requires g c = record { stands = ∥∥₁_map c.requires.stands (λ w. (coincidence_view c.args.set.now, c.args.pairing.now.ring, c.args.pairing.now.cells, [], w.0, w.1, w.2)) }
 
-pub returns-then-open-bin : goal.returns-then-open-bin
-returns-then-open-bin g c = record {
-  follows = λ came xs can. rw c.with.ensures (joins _ _ _ _ c.in-Some.is came xs can c.if-open-bin.true);
-  steps = cc;
+pub close-requires : goal.close-requires
+close-requires g c = record {
+  stands = ∥∥₁_map c.requires.stands (λ w. let now = c.join-shut.ensures.follows _ _ _ [] w.0 w.1 w.2 in ([], now.shut, rw c.in-Some.is at now.pending));
 }
 
-pub returns-else-open-bin : goal.returns-else-open-bin
-returns-else-open-bin g c = record {
-  follows = λ came xs can.
-      let may = can_close _ _ _ _ c.in-Some.is came xs can c.args.pairing.now.open in
-      let after = moved_on _ _ _ _ c.in-Some.is came xs can c.if-open-bin.false in
-      (_, xs, ap (λ ys. ys ++ xs) can.was.2, record { opened = (can.is, after); ring = c.close.ensures.ring _ _ may; cells = c.close.ensures.cells _ _ may });
+pub returns-in-Some : goal.returns-in-Some
+returns-in-Some g c = record {
+  follows = λ came xs can. let now = c.join-shut.ensures.follows _ _ _ [] came xs can in close_on _ _ _ _ _ _ _ _ [] now (c.close.ensures.follows [] now.shut (rw c.in-Some.is at now.pending));
   steps = c.close.ensures.steps;
 }
+
+pub returns-in_default : goal.returns-in_default
+returns-in_default g c = record { follows = λ came xs can. rw c.in_default.is at (c.join-shut.ensures.follows _ _ _ [] came xs can); steps = refl }

@@ -1,6 +1,6 @@
 use Rattle.std.{proofs.Common.{◌≡◌, ◌+◌, ◌<◌, [], ◌∷◌, ◌++◌, rules, arith}, proofs.Math.Logic.{∥∥₁_map}}
 use Rattle.tally_base.{specs.Settings.coincidence_view, specs.Tally.History, specs.Columns.{item, rows, gathered}}
-use Rattle.coincidence.{specs.Pairs.photons_of_groups, specs.Pairing.{pairing_of, Came}, specs.StandsFor.CanTake, proofs.Blockwise.{photons-same, put_row, photons-more}, proofs.taking.take_each.Goals.{then-first-second, else-first-second}}
+use Rattle.coincidence.{specs.Pairs.photons_of_groups, specs.Pairing.{Gathered, Came}, specs.StandsFor.CanTake, proofs.Blockwise.{photons-same, put_row, photons-more}, proofs.taking.take_each.Goals.{then-first-second, else-first-second}}
 use Rattle.coincidence.proofs.taking.take_each.Goals as goal
 
 pub put-open-requires : goal.put-open-requires
@@ -29,7 +29,7 @@ loop-at-preserved g c =
     let at = c.loop-at.at in
     let within : at < b.len = search (rules, arith) in
     let then = c.if-first-second in
-    let row : ((h : History) → CanTake set c.args.pairing.now (gathered b) h → Came set (pairing_of then.open then.pairing.ring then.pairing.cells) (photons_of_groups set (h ++ rows (item b) (at + 1)))) × (then.steps + c.args.pairing.now.cells.added ≡ c.args.steps.now + then.pairing.cells.added) =
+    let row : ((h : History) → CanTake set (Came set c.args.pairing.now) (gathered b) h → Gathered set then.open then.pairing.ring then.pairing.cells [] (photons_of_groups set (h ++ rows (item b) (at + 1)))) × (then.steps + c.args.pairing.now.cells.added ≡ c.args.steps.now + then.pairing.cells.added) =
     elim c.if-first-second.branch [
       | then-first-second w ↦
           let either = rw (c.has_photon-first.ensures, c.has_photon-second.ensures) at w.if-first-second.true in
@@ -37,7 +37,7 @@ loop-at-preserved g c =
           rw (w.pairing-is, w.steps-is, w.open-is) (
             λ h can.
                 rw (photons-more set b h at either)
-                (w.put-open.ensures.follows (photons_of_groups set (h ++ rows (item b) at)) (item b at ∷ []) (rw is_bin (put_row set b h at either c.args.pairing.now within can _ (inv.came h can)))),
+                (w.put-open.ensures.follows (photons_of_groups set (h ++ rows (item b) at)) (item b at ∷ []) (rw is_bin (put_row set b h at either _ within can _ (inv.came h can)))),
             omega (arith, inv.steps, w.put-open.ensures.steps),
           )
       | else-first-second w ↦
@@ -47,7 +47,7 @@ loop-at-preserved g c =
           )
     ] in
     record {
-      came = λ h can. c.pass_lone-passed.ensures.follows c.args.pairing.now then.pairing.cells h can (row.0 h can);
+      came = λ h can. c.pass_lone-passed.ensures.follows _ then.pairing.cells h can (row.0 h can);
       within = c.pass_lone-passed.ensures.upto.1;
       steps = row.1;
     }

@@ -1,14 +1,12 @@
-use Rattle.std.{proofs.Common.{refl}, proofs.Math.Logic.{∥∥₁_map}}
-use Rattle.coincidence.proofs.Visits.{end_close}
+use Rattle.std.{proofs.Common.{refl, []}, proofs.Math.Logic.{∥∥₁_map}}
+use Rattle.coincidence.proofs.Visits.{shuts}
 use Rattle.coincidence.proofs.pairing.Pairing.end.Goals as goal
 
 pub close-requires : goal.close-requires
-close-requires g c = record { stands = ∥∥₁_map c.requires.stands (λ w. (w.1.was.0, w.1.was.1, end_close _ _ _ c.in-Some.is w.0 w.1)) }
+close-requires g c = record { stands = ∥∥₁_map c.requires.stands (λ w. ([], w.0, shuts _ _ _ [] _ _ (rw c.in-Some.is at w.1.was) w.1.few)) }
 
 pub returns-in-Some : goal.returns-in-Some
 returns-in-Some g c = record {
-  follows = λ came can.
-      let may = end_close _ _ _ c.in-Some.is came can in
-      rw can.was.2 (record { shut = refl; ring = c.close.ensures.ring _ _ may; cells = c.close.ensures.cells _ _ may });
+  follows = λ came can. record { shut = refl; pending = c.close.ensures.follows [] came (shuts _ _ _ [] _ _ (rw c.in-Some.is at can.was) can.few) };
   steps = c.close.ensures.steps;
 }

@@ -1,0 +1,38 @@
+use Rattle.std.{proofs.Props.props, proofs.Math.Logic.∥∥₁_elim, proofs.Common.{[], refl, ◌≡◌, ◌∙◌, ◌+◌, ◌^◌, ◌<◌, Some, List, length, ap, arith, append-nil, length-append}, proofs.lemmas.List.Sums.count_by-le-length}
+use Rattle.tally_base.{specs.Settings.CoincidenceView, specs.Tally.History}
+use Rattle.lag_ring.{specs.Cells.Cells, specs.Ring.Ring}
+use Rattle.coincidence.{specs.declared.pairing.Bin.Bin, specs.Pairing.{Gathered, CanPut}, proofs.Visits.{joins, moves}}
+use Rattle.coincidence.proofs.pairing.join.Goals as goal
+
+-- the open bin can take more photons of its tick
+fits : (set : CoincidenceView) (r : Ring) (counts : Cells) (bins : List Bin) (last bin : Bin) (came xs : History) → CanPut set (Gathered set (Some last) r counts bins) bin came xs
+    → (last.weights.a + bin.weights.a < 2 ^ 64) × (last.weights.b + bin.weights.b < 2 ^ 64) × (last.both + bin.both < 2 ^ 64)
+fits set r counts bins last bin came xs can =
+    let was = can.was in
+    let all : length came ≡ length was.shut + length was.rest = ap length was.parts ∙ length-append was.shut was.rest in (
+      omega (arith, all, can.few, was.opened.0.weighs.a, can.is.weighs.a, count_by-le-length),
+      omega (arith, all, can.few, was.opened.0.weighs.b, can.is.weighs.b, count_by-le-length),
+      omega (arith, all, can.few, was.opened.0.both, can.is.both, count_by-le-length),
+    )
+
+pub with-requires-clause-a : goal.with-requires-clause-a
+with-requires-clause-a c = ∥∥₁_elim c.requires.stands (hlevel props) (λ w. (fits _ _ _ _ _ _ _ _ (rw c.in-Some.is at w.6)).0)
+
+pub with-requires-clause-b : goal.with-requires-clause-b
+with-requires-clause-b c = ∥∥₁_elim c.requires.stands (hlevel props) (λ w. (fits _ _ _ _ _ _ _ _ (rw c.in-Some.is at w.6)).1)
+
+pub with-requires-clause-both : goal.with-requires-clause-both
+with-requires-clause-both c = ∥∥₁_elim c.requires.stands (hlevel props) (λ w. (fits _ _ _ _ _ _ _ _ (rw c.in-Some.is at w.6)).2)
+
+pub returns-then-open-bin : goal.returns-then-open-bin
+returns-then-open-bin c = record { follows = λ set ring cells bins came xs can. rw (c.with.ensures, append-nil bins) (joins _ _ _ _ _ _ _ _ (rw c.in-Some.is at can) c.if-open-bin.true) }
+
+pub returns-else-open-bin : goal.returns-else-open-bin
+returns-else-open-bin c = record { follows = λ set ring cells bins came xs can. moves _ _ _ _ _ _ _ _ (rw c.in-Some.is at can) c.if-open-bin.false }
+
+pub returns-in-None : goal.returns-in-None
+returns-in-None c = record {
+  follows = λ set ring cells bins came xs can.
+      let first = (rw c.in-None.is at can).was in
+      rw (append-nil bins) (record { shut = []; rest = xs; parts = rw (first.parts, first.opened.0, first.opened.1) refl; pending = rw first.opened.0 at first.pending; opened = (can.is, tt) });
+}
