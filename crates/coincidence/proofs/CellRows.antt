@@ -1,8 +1,8 @@
 -- The sums of a strip, row by row.
 use Rattle.std.{proofs.Common.{◌≡◌, ◌∙◌, ℕ, ◌+◌, ◌-◌, ◌*◌, ◌/◌, ◌<◌, ◌≤◌, eqb, cond, List, length, get_or, take, drop, reverse, refl, sym, arith, rules, length-drop, min}, specs.List.{sum_by, range_with_len}, proofs.lemmas.Bool.Decides.nat_tests, proofs.lemmas.List.{get_or-drop, get_or-take, get_or-reverse, get_or_past, length-take, length-reverse}}
 use Rattle.tally_base.specs.Settings.{CoincidenceView}
-use Rattle.lag_ring.{specs.Cells.{row_at}}
-use Rattle.coincidence.{specs.declared.pairing.Direction.TheVariants.{Forward, Backward}, specs.Closing.{strip_sum, row_pairs, row_sum}, proofs.LagPairs.{at_one, range-parts, range-both, range-turned}}
+use Rattle.lag_ring.{specs.declared.window.Side.TheVariants.{First, Second}, specs.Cells.{row_at}}
+use Rattle.coincidence.{specs.Closing.{strip_sum, row_pairs, row_sum}, proofs.LagPairs.{at_one, range-parts, range-both, range-turned}}
 
 -- a difference in reach has a cell
 pub row-inside : (n reach width : ℕ) → 0 < width → n ≤ 2 * reach → n / width < 2 * reach / width + 1
@@ -38,7 +38,7 @@ module _ (set : CoincidenceView) (c least : ℕ) (sums : List ℕ) (full : lengt
   falling-at i below = search (rules, arith, get_or-take, get_or-drop)
 
   -- the lags of a strip are the differences of a row, in the same order or turned
-  pub strip-forward : strip_sum Forward set c least sums ≡ row_sum set c (set.reach + least + 1) rising
+  pub strip-forward : strip_sum First set c least sums ≡ row_sum set c (set.reach + least + 1) rising
   strip-forward =
       let len : length rising ≡ count = search (rules, arith, length-take, length-reverse) in
       rw len (range-both _ _ (least + 1) 0 count (λ i below.
@@ -46,7 +46,7 @@ module _ (set : CoincidenceView) (c least : ℕ) (sums : List ℕ) (full : lengt
       let sum : get_or sums (least + 256 - (least + 1 + i)) 0 ≡ get_or rising (0 + i) 0 = let k : least + 256 - (least + 1 + i) ≡ 255 - (0 + i) = omega arith in rw k (sym (rising-at (0 + i) (omega (arith, below)))) in
       rw (apart, sum) refl))
 
-  pub strip-backward : strip_sum Backward set c least sums ≡ row_sum set c (set.reach - least - count) falling
+  pub strip-backward : strip_sum Second set c least sums ≡ row_sum set c (set.reach - least - count) falling
   strip-backward =
       let len : length falling ≡ count = search (rules, arith, length-take, length-drop) in
       rw len (range-turned _ _ (least + 1) 0 count (λ i below.

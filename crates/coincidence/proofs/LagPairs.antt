@@ -1,7 +1,7 @@
 -- Pairs summed lag by lag.
 use Rattle.tally_base.{specs.Settings.{CoincidenceView}, proofs.Sums.{sum_none}}
 use Rattle.lag_ring.{specs.declared.ring.Entry.Entry, specs.declared.window.Side.Side, specs.Bytes.{weight_of, weight_before, Have, behind}, specs.Ring.IsRising, proofs.Lists.{all_both, all_join}, proofs.Rising.{all_weaker, all_push}, proofs.Sums.{sum_by-same, sum_by-agree, sum_by-plus, sum_by-times, sum_by-zero, window-before}}
-use Rattle.coincidence.{specs.declared.pairing.Direction.Direction, specs.Pairing.{shifted_by, earlier_side, later_side, pairs_of, pairs_of_all}, specs.Closing.{lag_pairs, strip_pairs, window_pairs}, proofs.Visits.{pairs_near, pairs_far}}
+use Rattle.coincidence.{specs.Pairing.{shifted_by, other_side, pairs_of, pairs_of_all}, specs.Closing.{lag_pairs, strip_pairs, window_pairs}, proofs.Visits.{pairs_near, pairs_far}}
 use Rattle.std.{proofs.Common.{◌≡◌, ◌≢◌, ◌∙◌, ℕ, zero, suc, ◌+◌, ◌-◌, ◌*◌, ◌/◌, ◌<◌, ◌≤◌, Bool, true, false, ◌&&◌, leb, ltb, eqb, cond, List, [], ◌∷◌, ◌++◌, refl, sym, ap, arith, append_assoc, rules, length, get_or, replicate}, specs.List.{sum_by, range_with_len, AllByRecursion}, proofs.lemmas.Grind.common_steps, proofs.lemmas.Bool.Decides.nat_tests, proofs.lemmas.List.get_or-replicate, proofs.lemmas.List.Sums.{sum_by-cons, sum_by-append}}
 
 -- sums over two lists in either order
@@ -16,17 +16,17 @@ at_one f k a zero none = grind (arith, nat_tests)
 at_one f k a (suc n) none = let rest = at_one f k (a + 1) n (λ i from below. none i (omega (arith, from)) (omega (arith, below))) in search (rules, arith, sum_by-cons)
 
 -- the pairs with one earlier entry at one lag
-abbrev at_lag : Direction → CoincidenceView → ℕ → ℕ → ℕ → Entry → ℕ → ℕ
+abbrev at_lag : Side → CoincidenceView → ℕ → ℕ → ℕ → Entry → ℕ → ℕ
 at_lag d set c index later e lag =
-    cond (eqb (shifted_by d set.reach lag / set.width) c) (cond (eqb (e.index + lag) index) (weight_of (earlier_side d) e) 0 * later) 0
+    cond (eqb (shifted_by d set.reach lag / set.width) c) (cond (eqb (e.index + lag) index) (weight_of d e) 0 * later) 0
 
 -- the pairs with one earlier entry, lag by lag
-module _ (d : Direction) (set : CoincidenceView) (c index later : ℕ) (e : Entry) (before : e.index < index) where
+module _ (d : Side) (set : CoincidenceView) (c index later : ℕ) (e : Entry) (before : e.index < index) where
   elsewhere : (lag : ℕ) → lag ≢ index - e.index → at_lag d set c index later e lag ≡ 0
   elsewhere lag other = search (rules, arith)
 
   here : at_lag d set c index later e (index - e.index) ≡ cond
-      (eqb (shifted_by d set.reach (index - e.index) / set.width) c) (weight_of (earlier_side d) e * later) 0
+      (eqb (shifted_by d set.reach (index - e.index) / set.width) c) (weight_of d e * later) 0
   here = search (rules, arith)
 
   by_lags : sum_by (at_lag d set c index later e) (range_with_len 1 set.reach) ≡ pairs_of d set c index later e
@@ -42,14 +42,14 @@ cell-sum' : {X : Type 0} (b : Bool) (f : X → ℕ) (x : X) (xs : List X) → co
 cell-sum' b f x xs = search (rules, arith, sum_by-cons)
 
 -- the pairs of all earlier entries, lag by lag
-all_lags : (d : Direction) (set : CoincidenceView) (c index later : ℕ) (es : List Entry) → AllByRecursion (λ e. e.index < index) es
-    → sum_by (λ lag. cond (eqb (shifted_by d set.reach lag / set.width) c) (weight_before (earlier_side d) lag index es * later) 0)
+all_lags : (d : Side) (set : CoincidenceView) (c index later : ℕ) (es : List Entry) → AllByRecursion (λ e. e.index < index) es
+    → sum_by (λ lag. cond (eqb (shifted_by d set.reach lag / set.width) c) (weight_before d lag index es * later) 0)
     (range_with_len 1 set.reach) ≡ pairs_of_all d set c index later es
 all_lags d set c index later es before =
-    sum_by-same (λ lag. cond (eqb (shifted_by d set.reach lag / set.width) c) (weight_before (earlier_side d) lag index es * later) 0)
+    sum_by-same (λ lag. cond (eqb (shifted_by d set.reach lag / set.width) c) (weight_before d lag index es * later) 0)
     (λ lag. sum_by (λ e. at_lag d set c index later e lag) es) (range_with_len 1 set.reach)
     (λ lag. cell-sum (eqb (shifted_by d set.reach lag / set.width) c)
-    (λ (e : Entry). cond (eqb (e.index + lag) index) (weight_of (earlier_side d) e) 0) later es)
+    (λ (e : Entry). cond (eqb (e.index + lag) index) (weight_of d e) 0) later es)
     ∙ swapped (λ lag (e : Entry). at_lag d set c index later e lag) (range_with_len 1 set.reach) es
     ∙ sum_by-agree (λ e. e.index < index) (λ e. sum_by (at_lag d set c index later e) (range_with_len 1 set.reach))
     (pairs_of d set c index later) es before (λ e below. by_lags d set c index later e below)
@@ -64,21 +64,21 @@ range-within a zero = tt
 range-within a (suc n) = search (rules, arith, all_weaker, range-within (a + 1) n)
 
 -- the pairs of each of some entries with those before it, in one direction
-abbrev pub in_turn : Direction → CoincidenceView → ℕ → List Entry → List Entry → ℕ
+abbrev pub in_turn : Side → CoincidenceView → ℕ → List Entry → List Entry → ℕ
 in_turn d set c es [] = 0
-in_turn d set c es (l ∷ ls) = pairs_of_all d set c l.index (weight_of (later_side d) l) es + in_turn d set c (es ++ l ∷ []) ls
+in_turn d set c es (l ∷ ls) = pairs_of_all d set c l.index (weight_of (other_side d) l) es + in_turn d set c (es ++ l ∷ []) ls
 
-pub lags_in_turn : (d : Direction) (set : CoincidenceView) (c : ℕ) (es ls : List Entry) → IsRising ls → AllByRecursion (λ l. AllByRecursion (λ e. e.index < l.index) es) ls → sum_by (lag_pairs d set c (es ++ ls) ls) (range_with_len 1 set.reach) ≡ in_turn d set c es ls
+pub lags_in_turn : (d : Side) (set : CoincidenceView) (c : ℕ) (es ls : List Entry) → IsRising ls → AllByRecursion (λ l. AllByRecursion (λ e. e.index < l.index) es) ls → sum_by (lag_pairs d set c (es ++ ls) ls) (range_with_len 1 set.reach) ≡ in_turn d set c es ls
 lags_in_turn d set c es [] rising below = grind (arith, common_steps, sum_none (range_with_len 1 set.reach))
 lags_in_turn d set c es (l ∷ ls) rising below =
-    let w = weight_of (later_side d) l in
+    let w = weight_of (other_side d) l in
     let cell : ℕ → Bool = λ lag. eqb (shifted_by d set.reach lag / set.width) c in
-    let mine : ℕ → ℕ = λ lag. cond (cell lag) (weight_before (earlier_side d) lag l.index (es ++ l ∷ ls) * w) 0 in
+    let mine : ℕ → ℕ = λ lag. cond (cell lag) (weight_before d lag l.index (es ++ l ∷ ls) * w) 0 in
     let after : AllByRecursion (λ e. l.index ≤ e.index) (l ∷ ls) = search (rules, arith, all_weaker) in
     let own = sum_by-agree (λ lag. (1 ≤ lag) × (lag < 1 + set.reach)) mine
-    (λ lag. cond (cell lag) (weight_before (earlier_side d) lag l.index es * w) 0) (range_with_len 1 set.reach) (range-within 1 set.reach)
-    (λ lag in_range. rw (before_only (earlier_side d) lag l.index es (l ∷ ls) in_range.0 after) refl) in
-    sum_by-same _ (λ lag. mine lag + lag_pairs d set c (es ++ l ∷ ls) ls lag) (range_with_len 1 set.reach) (λ lag. cell-sum' (cell lag) (λ (e : Entry). weight_before (earlier_side d) lag e.index (es ++ l ∷ ls) * weight_of (later_side d) e) l ls)
+    (λ lag. cond (cell lag) (weight_before d lag l.index es * w) 0) (range_with_len 1 set.reach) (range-within 1 set.reach)
+    (λ lag in_range. rw (before_only d lag l.index es (l ∷ ls) in_range.0 after) refl) in
+    sum_by-same _ (λ lag. mine lag + lag_pairs d set c (es ++ l ∷ ls) ls lag) (range_with_len 1 set.reach) (λ lag. cell-sum' (cell lag) (λ (e : Entry). weight_before d lag e.index (es ++ l ∷ ls) * weight_of (other_side d) e) l ls)
     ∙ sum_by-plus mine (lag_pairs d set c (es ++ l ∷ ls) ls) (range_with_len 1 set.reach)
     ∙ rw (own, all_lags d set c l.index w es below.0, ← append_assoc es (l ∷ []) ls) (ap (λ n. pairs_of_all d set c l.index w es + n) (lags_in_turn d set c (es ++ l ∷ []) ls rising.1 (search (rules, arith, all_both, all_push))))
 
@@ -117,7 +117,7 @@ pub range-strip : (f : ℕ → ℕ) (least count : ℕ)
 range-strip f least count = search (rules, arith, range-parts)
 
 -- the sums of a strip are those of the window
-pub strip-window : (d : Direction) (set : CoincidenceView) (c least count : ℕ) (sums window spots : List ℕ) → count ≤ 256 → least + 256 ≤ 4096
+pub strip-window : (d : Side) (set : CoincidenceView) (c least count : ℕ) (sums window spots : List ℕ) → count ≤ 256 → least + 256 ≤ 4096
     → ((q : ℕ) → q < 256 → get_or sums q 0 ≡ sum_by (behind window (4096 - least - 256 + q)) spots)
     → sum_by (strip_pairs d set c least sums) (range_with_len (least + 1) count) ≡ sum_by
     (window_pairs d set c window spots) (range_with_len (least + 1) count)
@@ -131,19 +131,19 @@ strip-window d set c least count sums window spots few below is =
     ap (λ n. cond (eqb (shifted_by d set.reach lag / set.width) c) n 0) same)
 
 -- the pairs of a window are those with the entries in it
-pub window-lags : (d : Direction) (set : CoincidenceView) (c low : ℕ) (window spots : List ℕ) (es later : List Entry) → set.reach ≤ 4096
-    → length window ≡ 8192 → Have (earlier_side d) 4096 low (replicate 8192 0) window es
+pub window-lags : (d : Side) (set : CoincidenceView) (c low : ℕ) (window spots : List ℕ) (es later : List Entry) → set.reach ≤ 4096
+    → length window ≡ 8192 → Have d 4096 low (replicate 8192 0) window es
     → AllByRecursion (λ e. (low ≤ e.index) × (e.index - low < 4096)) later
-    → ((f : ℕ → ℕ) → sum_by f spots ≡ sum_by (λ e. f (e.index - low) * weight_of (later_side d) e) later)
+    → ((f : ℕ → ℕ) → sum_by f spots ≡ sum_by (λ e. f (e.index - low) * weight_of (other_side d) e) later)
     → sum_by (window_pairs d set c window spots) (range_with_len 1 set.reach) ≡ sum_by (lag_pairs d set c es later) (range_with_len 1 set.reach)
 window-lags d set c low window spots es later small full have near photons =
     sum_by-agree (λ lag. (1 ≤ lag) × (lag < 1 + set.reach)) (window_pairs d set c window spots)
     (lag_pairs d set c es later) (range_with_len 1 set.reach) (range-within 1 set.reach)
     (λ lag within.
-    let same : sum_by (λ (e : Entry). get_or window (e.index - low + (4096 - lag)) 0 * weight_of (later_side d) e) later ≡ sum_by
-    (λ e. weight_before (earlier_side d) lag e.index es * weight_of (later_side d) e) later =
-    sum_by-agree (λ e. (low ≤ e.index) × (e.index - low < 4096)) (λ e. get_or window (e.index - low + (4096 - lag)) 0 * weight_of (later_side d) e) (λ e. weight_before (earlier_side d) lag e.index es * weight_of (later_side d) e) later near
-    (λ e at. ap (λ n. n * weight_of (later_side d) e) (window-before (earlier_side d) window low 4096 es (λ p inside. omega (arith, get_or-replicate {A = ℕ} 8192 p 0 0 (omega (arith, inside, full)), have p (omega (arith, inside, full)))) lag e.index (omega arith) at.0 (omega arith))) in
+    let same : sum_by (λ (e : Entry). get_or window (e.index - low + (4096 - lag)) 0 * weight_of (other_side d) e) later ≡ sum_by
+    (λ e. weight_before d lag e.index es * weight_of (other_side d) e) later =
+    sum_by-agree (λ e. (low ≤ e.index) × (e.index - low < 4096)) (λ e. get_or window (e.index - low + (4096 - lag)) 0 * weight_of (other_side d) e) (λ e. weight_before d lag e.index es * weight_of (other_side d) e) later near
+    (λ e at. ap (λ n. n * weight_of (other_side d) e) (window-before d window low 4096 es (λ p inside. omega (arith, get_or-replicate {A = ℕ} 8192 p 0 0 (omega (arith, inside, full)), have p (omega (arith, inside, full)))) lag e.index (omega arith) at.0 (omega arith))) in
     ap (λ n. cond (eqb (shifted_by d set.reach lag / set.width) c) n 0) (photons (behind window (4096 - lag)) ∙ same))
 
 -- a sum over three lists

@@ -1,8 +1,8 @@
 -- What a bin brings when it is closed.
 use Rattle.std.{proofs.Common.{◌≡◌, sym, ap, append_assoc, ℕ, ◌+◌, ◌-◌, ◌*◌, ◌/◌, ◌<◌, ◌≤◌, Bool, true, false, ◌&&◌, leb, eqb, cond, List, [], ◌∷◌, ◌++◌, length, refl, ◌∙◌, arith, length-append, append-nil, rules}, specs.List.{sum_by, filter, AllByRecursion}, proofs.Math.Logic.{∥∥₁_map}, proofs.Math.Nat.{mul-le-mul, mul-le-mul_right}, proofs.lemmas.Grind.common_steps}
 use Rattle.tally_base.{specs.Settings.{CoincidenceView}, specs.Tally.History, specs.Limits.record_limit}
-use Rattle.lag_ring.{specs.declared.ring.Entry.Entry, specs.Cells.Cells, specs.Ring.{Ring, ring, IsRising, weight_where, IsInReach}, proofs.Kept.{HasWeights, weights_of, room_after, kept_after}, proofs.Lists.{all_filter}, proofs.Rising.{all_weaker, rising_push, rising_filter}, proofs.Sums.{sum_by-same, sum_by-times, sum_by-zero}}
-use Rattle.coincidence.{specs.declared.pairing.Bin.Bin, specs.declared.pairing.Direction.Direction, specs.declared.pairing.Direction.TheVariants.{Forward, Backward}, specs.Pairs.{in_first, in_second, is_in_cell, is_coincidence, coincidences}, specs.Pairing.{pairs_of_all, pairs_with, bin_pairs, BinIs, BinsAre, RingIs, CellsAre, Pending, MayClose, Closes, Pays, HasRoom, Counts}, specs.declared.pairing.Pairing.Pairing, proofs.Hits.{pairs_in, hits-append, pairs_in-one, pairs_in-le}, proofs.Mirror.pairs_apart-in, proofs.Visits.{pairs_far, room_as, counts_as}}
+use Rattle.lag_ring.{specs.declared.window.Side.{Side, TheVariants.{First, Second}}, specs.declared.ring.Entry.Entry, specs.Cells.Cells, specs.Ring.{Ring, ring, IsRising, weight_where, IsInReach}, proofs.Kept.{HasWeights, weights_of, room_after, kept_after}, proofs.Lists.{all_filter}, proofs.Rising.{all_weaker, rising_push, rising_filter}, proofs.Sums.{sum_by-same, sum_by-times, sum_by-zero}}
+use Rattle.coincidence.{specs.declared.pairing.Bin.Bin, specs.Pairs.{in_first, in_second, is_in_cell, is_coincidence, coincidences}, specs.Pairing.{pairs_of_all, pairs_with, bin_pairs, BinIs, BinsAre, RingIs, CellsAre, Pending, MayClose, Closes, Pays, HasRoom, Counts}, specs.declared.pairing.Pairing.Pairing, proofs.Hits.{pairs_in, hits-append, pairs_in-one, pairs_in-le}, proofs.Mirror.pairs_apart-in, proofs.Visits.{pairs_far, room_as, counts_as}}
 
 scaled : (test : Entry → Bool) (f : Entry → ℕ) (w : ℕ) (es : List Entry) → sum_by (λ e. cond (test e) (f e * w) 0) es ≡ sum_by (λ e. cond (test e) (f e) 0) es * w
 scaled test f w es = sum_by-same _ (λ e. cond (test e) (f e) 0 * w) es (λ e. search (rules, arith)) ∙ sum_by-times (λ e. cond (test e) (f e) 0) w es
@@ -93,12 +93,12 @@ module _ (set : CoincidenceView) (r : Ring) (bin : Bin) (closed xs : History) (c
     }
 
   module _ (far : AllByRecursion (λ e. e.index + set.reach < bin.weights.index) r.entries) where
-    none_far : (d : Direction) (later c : ℕ) → pairs_of_all d set c bin.weights.index later r.entries ≡ 0
+    none_far : (d : Side) (later c : ℕ) → pairs_of_all d set c bin.weights.index later r.entries ≡ 0
     none_far d later c = search (rules, arith, sum_by-zero, pairs_far)
 
     -- entries out of reach bring nothing
     pub alone : (c : ℕ) → bin_pairs set c bin r.entries ≡ bin_pairs set c bin []
-    alone c = rw (none_far Forward bin.weights.b c, none_far Backward bin.weights.a c) refl
+    alone c = rw (none_far First bin.weights.b c, none_far Second bin.weights.a c) refl
 
     -- and the ring has the bin alone then
     pub ring_alone : 0 < set.reach → RingIs set (ring (bin.weights ∷ []) r.reach) (closed ++ xs)

@@ -1,8 +1,8 @@
 -- Bins that are closed one after another, or together.
 use Rattle.std.{proofs.Common.{◌≡◌, ℕ, ◌+◌, ◌<◌, List, [], ◌∷◌, ◌++◌, length, arith, append_assoc, length-append, append-nil, rules, ◌-◌, ◌*◌, ◌≤◌, leb, refl, Some, slice_get}, specs.List.{sum_by, filter, AllByRecursion}, proofs.Math.Logic.{∥∥₁_map}, proofs.Math.Nat.{mul-le-mul_right}, proofs.lemmas.List.Sums.{sum_by-cons}}
 use Rattle.tally_base.{specs.Settings.{CoincidenceView}, specs.Tally.History}
-use Rattle.lag_ring.{specs.declared.ring.Entry.Entry, specs.Cells.Cells, specs.Ring.{Ring, ring, IsRising}, proofs.Lists.{all_front, all_back, of_some}, proofs.Kept.{weights_on, kept_late}, proofs.Rising.{all_weaker, all_at, upto_join, rising_filter}}
-use Rattle.coincidence.{specs.declared.pairing.Bin.Bin, specs.declared.pairing.Direction.TheVariants.{Forward, Backward}, specs.Pairing.{bin_pairs, RingIs, CellsAre, MayClose, Closes, BinsAre, HasRoom, Counts}, specs.Closing.{weights_in, both_lag_sums}, proofs.LagPairs.{lags_in_turn, in_turn, rising_join}, specs.declared.pairing.Pairing.Pairing, specs.Pairs.{in_first, in_second, coincidences}, proofs.Shut.{CanClose, Weights, ring_weights, grown_by, bin_both, sums_fit}}
+use Rattle.lag_ring.{specs.declared.window.Side.TheVariants.{First, Second}, specs.declared.ring.Entry.Entry, specs.Cells.Cells, specs.Ring.{Ring, ring, IsRising}, proofs.Lists.{all_front, all_back, of_some}, proofs.Kept.{weights_on, kept_late}, proofs.Rising.{all_weaker, all_at, upto_join, rising_filter}}
+use Rattle.coincidence.{specs.declared.pairing.Bin.Bin, specs.Pairing.{bin_pairs, RingIs, CellsAre, MayClose, Closes, BinsAre, HasRoom, Counts}, specs.Closing.{weights_in, both_lag_sums}, proofs.LagPairs.{lags_in_turn, in_turn, rising_join}, specs.declared.pairing.Pairing.Pairing, specs.Pairs.{in_first, in_second, coincidences}, proofs.Shut.{CanClose, Weights, ring_weights, grown_by, bin_both, sums_fit}}
 
 -- Bins that are closed together bring what they bring one by one.
 
@@ -19,7 +19,7 @@ module _ (set : CoincidenceView) where
 
   -- what the bins bring to a cell: pairs of each direction, and those inside the bins
   chain_grown : (bins : List Bin) (es : List Entry) (closed xs : History) → Weights set es closed → BinsAre set bins closed xs → (c : ℕ) → coincidences set c (closed ++ xs) ≡ coincidences set c closed
-      + (in_turn Forward set c es (weights_in bins) + in_turn Backward set c es (weights_in bins) + sum_by (λ bin. bin_pairs set c bin []) bins)
+      + (in_turn First set c es (weights_in bins) + in_turn Second set c es (weights_in bins) + sum_by (λ bin. bin_pairs set c bin []) bins)
   chain_grown [] es closed xs were are c = rw (are, append-nil closed) (omega arith)
   chain_grown (bin ∷ bins) es closed xs were are c =
       let next = weights_on (in_first set) (in_second set) (λ x. x.0.time) set.reach es closed are.0 bin.weights were are.3.weighs in
@@ -88,7 +88,7 @@ module _ (set : CoincidenceView) where
     all_grown c =
         let rising = bins_rising bins closed xs can.are in
         let above = bins_above p.ring bins closed xs can.ring can.are in
-        rw is (omega (arith, chain_grown bins p.ring.entries closed xs (ring_weights set p.ring closed can.ring) can.are c, lags_in_turn Forward set c p.ring.entries (weights_in bins) rising above, lags_in_turn Backward set c p.ring.entries (weights_in bins) rising above))
+        rw is (omega (arith, chain_grown bins p.ring.entries closed xs (ring_weights set p.ring closed can.ring) can.are c, lags_in_turn First set c p.ring.entries (weights_in bins) rising above, lags_in_turn Second set c p.ring.entries (weights_in bins) rising above))
 
     pub all_fit : HasRoom set p.cells (λ c. both_lag_sums set c (p.ring.entries ++ later) later + sum_by (λ bin. bin_pairs set c bin []) bins)
     all_fit = sums_fit set p bins closed xs can _ all_grown

@@ -1,7 +1,7 @@
 -- One entry more in the loops over a ring.
 use Rattle.tally_base.{specs.Settings.{CoincidenceView, coincidence_cells}, specs.Tally.History, specs.Limits.record_limit}
-use Rattle.lag_ring.{specs.declared.ring.Entry.Entry, specs.Bytes.weight_of, specs.Cells.Cells, specs.Ring.Ring, proofs.Rising.all_weaker, proofs.Lists.{all_back, all_join, of_some}}
-use Rattle.coincidence.{specs.declared.pairing.Direction.Direction, specs.Pairs.is_in_cell, specs.Pairing.{shifted_by, earlier_side, pairs_of, pairs_of_all, joined, BinIs, BinsAre, Pending, Gathered, CanPut, HasRoom, Counts}, specs.declared.pairing.Pairing.Pairing, specs.StandsFor.HasPhotons, specs.declared.pairing.Bin.Bin}
+use Rattle.lag_ring.{specs.declared.window.Side.Side, specs.declared.ring.Entry.Entry, specs.Bytes.weight_of, specs.Cells.Cells, specs.Ring.Ring, proofs.Rising.all_weaker, proofs.Lists.{all_back, all_join, of_some}}
+use Rattle.coincidence.{specs.Pairs.is_in_cell, specs.Pairing.{shifted_by, pairs_of, pairs_of_all, joined, BinIs, BinsAre, Pending, Gathered, CanPut, HasRoom, Counts}, specs.declared.pairing.Pairing.Pairing, specs.StandsFor.HasPhotons, specs.declared.pairing.Bin.Bin}
 use Rattle.std.{proofs.Common.{◌≡◌, ℕ, ◌+◌, ◌-◌, ◌*◌, ◌/◌, ◌<◌, ◌≤◌, eqb, cond, List, [], ◌∷◌, refl, arith, rules, ◌≢◌, ◌∙◌, Some, Option, ◌++◌, length, sym, length-append, append_assoc, append-nil, ap, Bool, true, false}, proofs.lemmas.Grind.common_steps, proofs.lemmas.List.Sums.{sum_by-cons, sum_by-append}, specs.List.AllByRecursion, proofs.Math.Nat.mul-le-mul_left}
 
 module _ (set : CoincidenceView) (index : ℕ) (earlier : Entry) (after : earlier.index < index) (near : index - earlier.index ≤ set.reach) where
@@ -12,17 +12,17 @@ module _ (set : CoincidenceView) (index : ℕ) (earlier : Entry) (after : earlie
   in_backward c = search (rules, arith)
 
   -- the cells of an entry in reach
-  pub pairs_near : (d : Direction) (later c : ℕ)
-      → pairs_of d set c index later earlier ≡ cond (eqb (shifted_by d set.reach (index - earlier.index) / set.width) c) (weight_of (earlier_side d) earlier * later) 0
+  pub pairs_near : (d : Side) (later c : ℕ)
+      → pairs_of d set c index later earlier ≡ cond (eqb (shifted_by d set.reach (index - earlier.index) / set.width) c) (weight_of d earlier * later) 0
   pairs_near d later c = search (rules, arith, in_forward, in_backward)
 
 -- no cell counts an entry that is out of reach
 pub pairs_far : (set : CoincidenceView) (index : ℕ) (earlier : Entry) → set.reach < index - earlier.index
-    → (d : Direction) (later c : ℕ) → pairs_of d set c index later earlier ≡ 0
+    → (d : Side) (later c : ℕ) → pairs_of d set c index later earlier ≡ 0
 pairs_far set index earlier far d later c = search (rules, arith)
 
 -- a difference in reach has a cell
-pub shifted_inside : (d : Direction) (reach apart width : ℕ) → 0 < width → apart ≤ reach → shifted_by d reach apart / width < 2 * reach / width + 1
+pub shifted_inside : (d : Side) (reach apart width : ℕ) → 0 < width → apart ≤ reach → shifted_by d reach apart / width < 2 * reach / width + 1
 shifted_inside d reach apart width some near = search (rules, arith)
 
 -- the same by numbers that are the same
@@ -45,7 +45,7 @@ pub one_fits : (x p most k : ℕ) → x + cond (eqb k k) p 0 ≤ most → x + p 
 one_fits x p most k fits = grind (arith, common_steps, fits)
 
 -- no photons of the later tick, no pairs
-pub no_pairs : (d : Direction) (set : CoincidenceView) (c index later : ℕ) → later ≡ 0 → (es : List Entry) → pairs_of_all d set c index later es ≡ 0
+pub no_pairs : (d : Side) (set : CoincidenceView) (c index later : ℕ) → later ≡ 0 → (es : List Entry) → pairs_of_all d set c index later es ≡ 0
 no_pairs d set c index later none [] = refl
 no_pairs d set c index later none (e ∷ es) = search (rules, arith, sum_by-cons, no_pairs d set c index later none es)
 

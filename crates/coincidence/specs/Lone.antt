@@ -1,8 +1,8 @@
 -- Photons that are alone in their reach.
-use Rattle.std.{specs.Prelude.{◌≡◌, ℕ, ◌+◌, ◌-◌, ◌*◌, ◌<◌, Bool, true, ◌&&◌, ◌||◌, ◌++◌, nat_lt, Option, List, []}, specs.List.AllByRecursion}
+use Rattle.std.{specs.Prelude.{◌≡◌, ℕ, ◌+◌, ◌-◌, ◌*◌, ◌<◌, Bool, true, ◌&&◌, ◌||◌, ◌++◌, nat_lt, Option, List, [], if◌then◌else◌}, specs.List.AllByRecursion}
 use Rattle.tally_base.{specs.Events.is_in, specs.Settings.CoincidenceView, specs.Tally.History, specs.declared.block.Block.Block, specs.Columns.{code_at, groups_at, time_at, gathered, item, rows}}
 use Rattle.lag_ring.{specs.declared.ring.Entry.Entry, specs.Cells.Cells, specs.Ring.Ring}
-use Rattle.coincidence.{specs.declared.pairing.Bin.Bin, specs.declared.pairing.Pairing.Pairing, specs.Pairs.photons_of_groups, specs.Pairing.{bin_of, Came, Gathered}, specs.StandsFor.CanTake}
+use Rattle.coincidence.{specs.declared.pairing.Bin.Bin, specs.declared.pairing.Pairing.Pairing, specs.Pairs.photons_of_groups, specs.Pairing.{Came, Gathered}, specs.StandsFor.CanTake}
 
 -- whether a row has a photon of a group
 abbrev pub has_photon : {N : ℕ} → Block N → ℕ → ℕ → Bool
@@ -10,7 +10,10 @@ has_photon b at group = is_in (groups_at b at) group && nat_lt (code_at b at) 25
 
 -- the photon in a row, as a bin
 abbrev pub bin_at : {N : ℕ} → CoincidenceView → Block N → ℕ → Bin
-bin_at set b at = bin_of (time_at b at) (has_photon b at set.first) (has_photon b at set.second)
+bin_at set b at = record {
+  weights = record { index = time_at b at; a = (if has_photon b at set.first then 1 else 0); b = (if has_photon b at set.second then 1 else 0) };
+  both = (if has_photon b at set.first && has_photon b at set.second then 1 else 0);
+}
 
 -- the photons of a bin make no pair with one another, and none of the entries is in reach
 abbrev pub IsAlone : CoincidenceView → List Entry → Bin → Type 0

@@ -1,50 +1,41 @@
 -- What the bins and cells of a table of coincidences stand for: photons that came in order, and how far they are paired.
-use Rattle.std.{specs.Prelude.{◌≡◌, ℕ, ◌+◌, ◌-◌, ◌*◌, ◌/◌, ◌^◌, ◌<◌, ◌≤◌, Bool, ◌&&◌, ◌==◌, Option, None, Some, List, [], ◌∷◌, ◌++◌, length, slice_index, sum_by, count_by, if◌then◌else◌}, specs.List.{AllByRecursion}}
+use Rattle.std.{specs.Prelude.{◌≡◌, ℕ, ◌+◌, ◌-◌, ◌*◌, ◌/◌, ◌^◌, ◌<◌, ◌≤◌, ◌&&◌, ◌==◌, Option, None, Some, List, [], ◌∷◌, ◌++◌, length, slice_index, sum_by, count_by, if◌then◌else◌}, specs.List.{AllByRecursion}}
 use Rattle.tally_base.{specs.Settings.{CoincidenceView, coincidence_cells}, specs.Tally.History, specs.Limits.record_limit}
 use Rattle.lag_ring.{specs.declared.ring.Entry.Entry, specs.declared.window.Side.{Side, TheVariants.{First, Second}}, specs.Cells.{Cells, Spends}, specs.Ring.{Ring, Weighs}, specs.Binned.{IsOpen, KeepsReach, CellsCount}}
-use Rattle.coincidence.{specs.declared.pairing.Bin.Bin, specs.declared.pairing.Direction.Direction, specs.declared.pairing.Direction.TheVariants.{Forward, Backward}, specs.declared.pairing.Pairing.Pairing, specs.Pairs.{in_first, in_second, is_in_cell, coincidences}}
+use Rattle.coincidence.{specs.declared.pairing.Bin.Bin, specs.declared.pairing.Pairing.Pairing, specs.Pairs.{in_first, in_second, is_in_cell, coincidences}}
 
--- which weights of entries count in a direction: those of earlier ones, and those of later ones
-abbrev pub earlier_side : Direction → Side
-earlier_side Forward = First
-earlier_side Backward = Second
+-- A direction is told by the side of the earlier photon of a pair: the difference is positive where it is of the first group.
 
-abbrev pub later_side : Direction → Side
-later_side Forward = Second
-later_side Backward = First
+-- the side of the later photon
+abbrev pub other_side : Side → Side
+other_side First = Second
+other_side Second = First
 
 -- the difference of two ticks that are so far apart, with the reach added
-abbrev pub shifted_by : Direction → ℕ → ℕ → ℕ
-shifted_by Forward reach apart = reach + apart
-shifted_by Backward reach apart = reach - apart
+abbrev pub shifted_by : Side → ℕ → ℕ → ℕ
+shifted_by First reach apart = reach + apart
+shifted_by Second reach apart = reach - apart
 
 -- the pairs of an earlier entry's photons with so many at a later tick, that the cell counts
-abbrev pub pairs_of : Direction → CoincidenceView → ℕ → ℕ → ℕ → Entry → ℕ
-pairs_of Forward set c index later earlier = if is_in_cell set c earlier.index index then earlier.a * later else 0
-pairs_of Backward set c index later earlier = if is_in_cell set c index earlier.index then earlier.b * later else 0
+abbrev pub pairs_of : Side → CoincidenceView → ℕ → ℕ → ℕ → Entry → ℕ
+pairs_of First set c index later earlier = if is_in_cell set c earlier.index index then earlier.a * later else 0
+pairs_of Second set c index later earlier = if is_in_cell set c index earlier.index then earlier.b * later else 0
 
 -- the same for all entries of a list
-abbrev pub pairs_of_all : Direction → CoincidenceView → ℕ → ℕ → ℕ → List Entry → ℕ
+abbrev pub pairs_of_all : Side → CoincidenceView → ℕ → ℕ → ℕ → List Entry → ℕ
 pairs_of_all direction set c index later es = sum_by (pairs_of direction set c index later) es
 
 -- the pairs of a later entry's photons with those of all entries of a list, that the cell counts
 abbrev pub pairs_with : CoincidenceView → ℕ → Entry → List Entry → ℕ
 pairs_with set c later es =
-    pairs_of_all Forward set c later.index later.b es
-    + pairs_of_all Backward set c later.index later.a es
+    pairs_of_all First set c later.index later.b es
+    + pairs_of_all Second set c later.index later.a es
 
 -- those, and the pairs inside the later one's bin
 abbrev pub bin_pairs : CoincidenceView → ℕ → Bin → List Entry → ℕ
 bin_pairs set c bin es =
     pairs_with set c bin.weights es
     + (if set.reach / set.width == c then bin.weights.a * bin.weights.b - bin.both else 0)
-
--- the bin of one photon, which is in these groups
-abbrev pub bin_of : ℕ → Bool → Bool → Bin
-bin_of time first second = record {
-  weights = record { index = time; a = (if first then 1 else 0); b = (if second then 1 else 0) };
-  both = (if first && second then 1 else 0);
-}
 
 -- the photons of two bins of one tick
 abbrev pub joined : Bin → Bin → Bin

@@ -5,6 +5,7 @@ ghost use Rattle.lag_ring.{specs.Cells.Cells, specs.Ring.Ring};
 ghost use Rattle.arrayvec.specs.ArrayVec.{array_vec_len};
 ghost use Rattle.coincidence.{specs.StandsFor.{CanTake, Gathers}, specs.Pairing.{Gathered, closed_bin}, specs.Picked.ArePicked};
 
+use crate::lone::bin_in;
 use crate::pairing::{Bin, join};
 use arrayvec::ArrayVec;
 use tally_base::{Block, CoincidenceSet, TABLE_BLOCK};
@@ -62,10 +63,7 @@ pub(crate) fn gather_block(
     let picked = pick(own, block, &mut rows);
     let mut open = waiting;
     for row in &rows[..picked] {
-        let at = *row as usize;
-        let first = block.has_photon(at, own.first);
-        let second = block.has_photon(at, own.second);
-        let bin = Bin::of_photon(block.time(at), first, second);
+        let bin = bin_in(own, block, *row as usize);
         let (shut, now) = join(open, bin);
         put_bin(bins, shut);
         open = Some(now);

@@ -4,7 +4,7 @@ ghost use Rattle.tally_base.specs.Settings.{coincidence_view};
 ghost use Rattle.lag_ring.{specs.Bytes.{Fit, Have, ServesSpots}};
 ghost use Rattle.coincidence.specs.{Pairing.{HasRoom, Counts}, Closing.{row_sum, strip_sum, window_sum, lag_sum, both_lag_sums, FitsWindow, IsLow}};
 
-use crate::pairing::{Direction, add_pairs};
+use crate::pairing::{add_pairs, later_side};
 use lag_ring::{BYTE_LAGS, Entry, LagRing, PairCells, Side, byte_lag_sums, put_side, spots_of};
 use std::sync::ledger::Ledger;
 use tally_base::{CoincidenceSet, Steps};
@@ -55,7 +55,7 @@ fn add_row<L: Ledger>(
 fn add_sums<L: Ledger>(
     cells: &mut PairCells,
     set: CoincidenceSet,
-    direction: Direction,
+    direction: Side,
     least: u32,
     sums: &mut [u32; BYTE_LAGS],
     steps: &mut Steps<L>,
@@ -67,12 +67,12 @@ fn add_sums<L: Ledger>(
 {
     let count = (set.reach - least).min(BYTE_LAGS as u32);
     match direction {
-        Direction::Forward => {
+        Side::First => {
             sums.reverse();
             let rising = &sums[..count as usize];
             add_row(cells, set, set.reach + least + 1, rising, steps);
         }
-        Direction::Backward => {
+        Side::Second => {
             let falling = &sums[BYTE_LAGS - count as usize..];
             add_row(cells, set, set.reach - least - count, falling, steps);
         }
@@ -83,7 +83,7 @@ fn add_sums<L: Ledger>(
 fn pair_window<L: Ledger>(
     cells: &mut PairCells,
     places: Places,
-    direction: Direction,
+    direction: Side,
     window: &[u8],
     spots: &[u16],
     steps: &mut Steps<L>,
@@ -135,7 +135,7 @@ fn pair_side<L: Ledger>(
     cells: &mut PairCells,
     ring: &LagRing,
     places: Places,
-    direction: Direction,
+    direction: Side,
     later: &[Entry],
     steps: &mut Steps<L>,
 )
@@ -147,8 +147,8 @@ fn pair_side<L: Ledger>(
         (λ c. lag_sum direction set c (ring.now.entries ++ later.now) later.now) places.set.reach }
 {
     let mut window = [0; WIDE];
-    fill(&mut window, direction.earlier(), ring, places.low, later);
-    let spots = spots_of(direction.later(), places.low, later);
+    fill(&mut window, direction, ring, places.low, later);
+    let spots = spots_of(later_side(direction), places.low, later);
     pair_window(cells, places, direction, &window, &spots, steps);
 }
 
@@ -167,6 +167,6 @@ pub(crate) fn pair_lags<L: Ledger>(
     ensures { let set = coincidence_view places.set in Counts set cells.old cells.new steps.old steps.new
         (λ c. both_lag_sums set c (ring.now.entries ++ later.now) later.now) (2 * places.set.reach) }
 {
-    pair_side(cells, ring, places, Direction::Forward, later, steps);
-    pair_side(cells, ring, places, Direction::Backward, later, steps);
+    pair_side(cells, ring, places, Side::First, later, steps);
+    pair_side(cells, ring, places, Side::Second, later, steps);
 }

@@ -4,18 +4,25 @@ ghost use Rattle.tally_base.{specs.Settings.coincidence_view, specs.Columns.{cou
 ghost use Rattle.coincidence.specs.Lone.{bin_at, IsAlone, IsLone, Passes};
 
 use crate::pairing::Bin;
-use lag_ring::LagRing;
+use lag_ring::{Entry, LagRing};
 use tally_base::{Block, CoincidenceSet, TABLE_BLOCK};
 
 /// The photon in a row of a block, as a bin.
 #[inline(always)]
-fn bin_in(set: CoincidenceSet, block: &Block<TABLE_BLOCK>, at: usize) -> Bin
+pub(crate) fn bin_in(set: CoincidenceSet, block: &Block<TABLE_BLOCK>, at: usize) -> Bin
     requires inside { at < sorted block.now }
     ensures { result ≡ bin_at (coincidence_view set) block.now at }
 {
     let first = block.has_photon(at, set.first);
     let second = block.has_photon(at, set.second);
-    Bin::of_photon(block.time(at), first, second)
+    Bin {
+        weights: Entry {
+            index: block.time(at),
+            a: u64::from(first),
+            b: u64::from(second),
+        },
+        both: u64::from(first & second),
+    }
 }
 
 /// Whether the photons of a bin make no pair, also with those in a ring: none of these is in reach of it.

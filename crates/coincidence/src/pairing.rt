@@ -1,8 +1,8 @@
 // The bins of a table of coincidences, the ring of the last closed ones, and the cells.
-ghost use Rattle.std.{specs.Prelude.{◌≡◌, ℕ, ◌+◌, ◌-◌, ◌*◌, ◌/◌, ◌^◌, ◌<◌, ◌≤◌, [], ◌∷◌, ◌++◌, length, slice_index, if◌then◌else◌, ◌==◌, nat_le, IfOk, None, Some, List}, specs.List.AllByRecursion};
+ghost use Rattle.std.{specs.Prelude.{◌≡◌, ℕ, ◌+◌, ◌-◌, ◌*◌, ◌/◌, ◌^◌, ◌<◌, ◌≤◌, [], ◌∷◌, ◌++◌, length, slice_index, if◌then◌else◌, ◌==◌, IfOk, None, Some, List}, specs.List.AllByRecursion};
 ghost use Rattle.tally_base.{specs.Settings.{CoincidenceView, coincidence_view, coincidence_cells}, specs.Tally.History};
 ghost use Rattle.lag_ring.specs.{Cells.{Cells, Spends}, Ring.Ring};
-ghost use Rattle.coincidence.specs.Pairing.{pairs_of, pairs_of_all, pairs_with, bin_pairs, closed_bin, MayClose, Closes, Pays, Gathered, CanPut, HasRoom, Counts};
+ghost use Rattle.coincidence.specs.Pairing.{other_side, shifted_by, pairs_of, pairs_of_all, pairs_with, bin_pairs, closed_bin, MayClose, Closes, Pays, Gathered, CanPut, HasRoom, Counts};
 
 use lag_ring::{Entry, LagRing, PairCells, Side};
 use std::alloc::{AllocError, Global};
@@ -19,21 +19,7 @@ pub struct Bin {
 }
 
 impl Bin {
-    ghost use Rattle.coincidence.specs.Pairing.{bin_of, joined};
-
-    /// The bin of one photon, which is in the first group, the second, or both.
-    pub fn of_photon(time: u64, first: bool, second: bool) -> Bin
-        ensures { result ≡ bin_of time first second }
-    {
-        Bin {
-            weights: Entry {
-                index: time,
-                a: u64::from(first),
-                b: u64::from(second),
-            },
-            both: u64::from(first & second),
-        }
-    }
+    ghost use Rattle.coincidence.specs.Pairing.{joined};
 
     /// The photons of this bin, and more of the same tick.
     pub(crate) fn with(&self, more: &Bin) -> Bin
@@ -53,50 +39,28 @@ impl Bin {
     }
 }
 
-/// Which photon of a pair is the earlier one.
-#[derive(Clone, Copy)]
-pub enum Direction {
-    /// That of the first group: the difference is positive.
-    Forward,
-    /// That of the second group: the difference is negative.
-    Backward,
+// A direction is told by the side of the earlier photon of a pair: the difference is positive where it is of the first group.
+
+/// The side of the later photon of a pair.
+#[inline(always)]
+pub(crate) fn later_side(earlier: Side) -> Side
+    ensures { result ≡ other_side earlier }
+{
+    match earlier {
+        Side::First => Side::Second,
+        Side::Second => Side::First,
+    }
 }
 
-impl Direction {
-    ghost use Rattle.coincidence.specs.Pairing.{earlier_side, later_side, shifted_by};
-
-    /// Which weights of entries are those of the earlier photons.
-    #[inline(always)]
-    pub(crate) fn earlier(self) -> Side
-        ensures { result ≡ earlier_side self }
-    {
-        match self {
-            Direction::Forward => Side::First,
-            Direction::Backward => Side::Second,
-        }
-    }
-
-    /// Which weights of entries are those of the later photons.
-    #[inline(always)]
-    pub(crate) fn later(self) -> Side
-        ensures { result ≡ later_side self }
-    {
-        match self {
-            Direction::Forward => Side::Second,
-            Direction::Backward => Side::First,
-        }
-    }
-
-    /// The difference of two ticks that are so far apart, with the reach added.
-    #[inline(always)]
-    pub(crate) fn shifted(self, set: CoincidenceSet, apart: u64) -> u32
-        requires { apart ≤ set.reach }
-        ensures { result ≡ shifted_by self set.reach apart }
-    {
-        match self {
-            Direction::Forward => set.reach + apart as u32,
-            Direction::Backward => set.reach - apart as u32,
-        }
+/// The difference of two ticks that are so far apart, with the reach added.
+#[inline(always)]
+fn shifted_by(earlier: Side, set: CoincidenceSet, apart: u64) -> u32
+    requires { apart ≤ set.reach }
+    ensures { result ≡ shifted_by earlier set.reach apart }
+{
+    match earlier {
+        Side::First => set.reach + apart as u32,
+        Side::Second => set.reach - apart as u32,
     }
 }
 
@@ -125,14 +89,6 @@ fn cell_of(set: CoincidenceSet, shifted: u32) -> u32
     } else {
         shifted / set.width
     }
-}
-
-/// Whether ticks that are so far apart are in reach of one another.
-#[inline(always)]
-fn is_near(set: CoincidenceSet, apart: u64) -> bool
-    ensures { result ≡ nat_le apart set.reach }
-{
-    apart <= u64::from(set.reach)
 }
 
 /// The least index of a bin that is still in reach of a bin after the one at `index`.
@@ -177,7 +133,7 @@ struct Photons {
 fn pair_earlier<L: Ledger>(
     cells: &mut PairCells,
     set: CoincidenceSet,
-    direction: Direction,
+    direction: Side,
     later: Photons,
     earlier: &Entry,
     steps: &mut Steps<L>,
@@ -188,9 +144,9 @@ fn pair_earlier<L: Ledger>(
         (λ c. pairs_of direction (coincidence_view set) c later.index later.count earlier.now) 1 }
 {
     let apart = later.index - earlier.index;
-    if is_near(set, apart) {
-        let shifted = direction.shifted(set, apart);
-        let weight = direction.earlier().weight(earlier);
+    if apart <= u64::from(set.reach) {
+        let shifted = shifted_by(direction, set, apart);
+        let weight = direction.weight(earlier);
         add_pairs(cells, set, shifted, weight, later.count, steps);
     }
 }
@@ -201,7 +157,7 @@ fn pair_earlier<L: Ledger>(
 fn pair_direction<L: Ledger>(
     cells: &mut PairCells,
     set: CoincidenceSet,
-    direction: Direction,
+    direction: Side,
     later: Photons,
     entries: &[Entry],
     steps: &mut Steps<L>,
@@ -236,8 +192,8 @@ fn pair_entries<L: Ledger>(
     let own = *set;
     let Entry { index, a, b } = *later;
     let (firsts, seconds) = (Photons { index, count: a }, Photons { index, count: b });
-    pair_direction(cells, own, Direction::Forward, seconds, entries, steps);
-    pair_direction(cells, own, Direction::Backward, firsts, entries, steps);
+    pair_direction(cells, own, Side::First, seconds, entries, steps);
+    pair_direction(cells, own, Side::Second, firsts, entries, steps);
 }
 
 /// Pairs the photons of a bin with one another, and none with itself.

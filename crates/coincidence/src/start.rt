@@ -13,17 +13,6 @@ pub struct Start {
     pub(crate) since: u64,
 }
 
-/// No photon came.
-pub(crate) fn no_start() -> Start
-    ensures value { start_in result ≡ None }
-    ensures since { since_in result ≡ 0 }
-{
-    Start {
-        open: false,
-        since: 0,
-    }
-}
-
 /// The start that is open after a photon: its own time where it starts, and none where it only stops.
 #[inline(always)]
 pub(crate) fn start_behind(start: Start, time: u64, starts: bool, stops: bool) -> Start
@@ -32,16 +21,8 @@ pub(crate) fn start_behind(start: Start, time: u64, starts: bool, stops: bool) -
 {
     Start {
         open: starts | (!stops & start.open),
-        since: one_of(starts, time, start.since),
+        since: if starts { time } else { start.since },
     }
-}
-
-/// The first time, or else the second.
-#[inline(always)]
-fn one_of(first: bool, time: u64, other: u64) -> u64
-    ensures { result ≡ (if first then time else other) }
-{
-    if first { time } else { other }
 }
 
 /// How many intervals a photon ends: one where it stops and one is open.

@@ -4,7 +4,7 @@ ghost use Rattle.tally_base.{specs.Tally.History, specs.Settings.startstop_view,
 ghost use Rattle.coincidence.specs.Starts.{since_in};
 
 use crate::counting::count_block;
-use crate::start::{Start, no_start};
+use crate::start::Start;
 use std::alloc::{AllocError, Global};
 use std::sync::ledger::Ledger;
 use tally_base::{Block, StartStopSet, Steps, TABLE_BLOCK, Tally};
@@ -46,7 +46,10 @@ impl StartStop {
             set,
             cells: vec![in alloc; 0; set.bins as usize]?,
             over: 0,
-            start: no_start(),
+            start: Start {
+                open: false,
+                since: 0,
+            },
             taken: 0,
             floor: 0,
             closed: false,

@@ -4,8 +4,8 @@ ghost use Rattle.coincidence.specs.StandsFor.{MayTake, Takes};
 
 use crate::closing::{MANY, close_all};
 use crate::gathering::gather_block;
-use crate::lone::pass_lone;
-use crate::pairing::{Bin, Pairing, put};
+use crate::lone::{bin_in, pass_lone};
+use crate::pairing::{Pairing, put};
 use arrayvec::ArrayVec;
 use std::sync::ledger::Ledger;
 use tally_base::{Block, CoincidenceSet, Steps, TABLE_BLOCK};
@@ -52,7 +52,7 @@ fn take_each<L: Ledger>(
         let first = block.has_photon(at, own.first);
         let second = block.has_photon(at, own.second);
         if first | second {
-            let bin = Bin::of_photon(block.time(at), first, second);
+            let bin = bin_in(own, block, at);
             open = put(open, pairing, &own, bin, steps);
         }
         let passed = pass_lone(own, &mut pairing.ring, open, block, at);

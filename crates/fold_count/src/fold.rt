@@ -52,11 +52,7 @@ impl Fold {
             set,
             cells,
             ring,
-            bin: Entry {
-                index: 0,
-                a: 0,
-                b: 0,
-            },
+            bin: Entry::at(0),
             taken: 0,
             floor: 0,
             closed: false,

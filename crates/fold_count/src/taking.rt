@@ -27,11 +27,7 @@ fn open_at(cells: &mut [u64], ring: &mut LagRing, bin: Entry, set: &FoldSet, tim
     }
     let before = time.saturating_sub(u64::from(set.window));
     settle(cells, ring, &bin, before);
-    Entry {
-        index: time,
-        a: 0,
-        b: 0,
-    }
+    Entry::at(time)
 }
 
 /// Puts a photon of this set of the groups, which is not that of none, into the bin of its time, which is not
@@ -135,9 +131,5 @@ pub(crate) fn count_all(cells: &mut [u64], ring: &mut LagRing, bin: Entry, set: 
         → AreCounts (fold_view set.now) cells.new (photons (fold_view set.now) h) }
 {
     settle(cells, ring, &bin, bin.index + 1);
-    Entry {
-        index: bin.index,
-        a: 0,
-        b: 0,
-    }
+    Entry::at(bin.index)
 }

@@ -88,27 +88,6 @@ fn carry_lows(cells: &mut [u128], from: usize, row: &[u32])
     }
 }
 
-/// Adds each number of a row to its cell, from one cell upwards.
-#[inline(always)]
-fn add_each<L: Ledger>(
-    cells: &mut [u128],
-    from: usize,
-    row: &[u32],
-    additions: &mut Noted<usize>,
-    steps: &mut Steps<L>,
-)
-    requires inside { from + length row.now ≤ length cells.old }
-    requires sums { (q : ℕ) → q < length row.now → slice_index cells.old (from + q) + slice_index row.now q ≤ 2 ^ 80 }
-    ensures cells { (c : ℕ) → c < length cells.old → slice_index cells.new c ≡ slice_index cells.old c + row_at from row.now c }
-    ensures places { additions.new.items ≡ additions.old.items ++ places_from from (length row.now) }
-    ensures steps { steps.new ≡ steps.old + length row.now }
-{
-    let seen = add_lows(cells, from, row, additions, steps);
-    if seen >= ROOM {
-        carry_lows(cells, from, row);
-    }
-}
-
 impl PairCells {
     ghost use Rattle.lag_ring.specs.Cells.{pair_cells};
 
@@ -149,8 +128,11 @@ impl PairCells {
         ensures places { self.new.places ≡ self.old.places ++ places_from from (length row.now) }
         ensures steps { steps.new ≡ steps.old + length row.now }
     {
-        let additions = &mut self.additions;
-        add_each(&mut self.cells, from as usize, row, additions, steps);
+        let PairCells { cells, additions } = self;
+        let seen = add_lows(cells, from as usize, row, additions, steps);
+        if seen >= ROOM {
+            carry_lows(cells, from as usize, row);
+        }
     }
 
     /// How many pairs a cell has.

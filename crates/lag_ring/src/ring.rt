@@ -19,14 +19,20 @@ pub struct Entry {
     pub b: u64,
 }
 
+impl Entry {
+    /// An entry of no photons.
+    #[inline(always)]
+    pub fn at(index: u64) -> Entry
+        ensures { result ≡ record { index = index; a = 0; b = 0 } }
+    {
+        Entry { index, a: 0, b: 0 }
+    }
+}
+
 impl Default for Entry {
     /// An entry of no photons.
     fn default() -> Entry {
-        Entry {
-            index: 0,
-            a: 0,
-            b: 0,
-        }
+        Entry::at(0)
     }
 }
 
@@ -101,11 +107,7 @@ impl LagRing {
     {
         Ok(LagRing {
             kept: HeapCircularBuffer::with_capacity(alloc, reach as usize)?,
-            last: Entry {
-                index: 0,
-                a: 0,
-                b: 0,
-            },
+            last: Entry::at(0),
             alone: false,
         })
     }
@@ -129,6 +131,7 @@ impl LagRing {
     pub fn retire(&mut self, before: u64)
         ensures kept { self.new ≡ ring (filter (λ e. nat_le before e.index) self.old.entries) self.old.reach }
         ensures rising { IsRising self.new.entries }
+        ensures within { length self.new.entries ≤ self.new.reach }
     {
         lay_out(&mut self.kept, &self.last, self.alone);
         self.alone = false;
@@ -141,6 +144,7 @@ impl LagRing {
         requires above { AllByRecursion (λ e. e.index < index) self.old.entries }
         requires room { 0 < spare self.old }
         ensures pushed { self.new ≡ ring (self.old.entries ++ record { index = index; a = a; b = b } ∷ []) self.old.reach }
+        ensures within { length self.new.entries ≤ self.new.reach }
     {
         lay_out(&mut self.kept, &self.last, self.alone);
         self.alone = false;

@@ -21,18 +21,16 @@ put_bin-requires c = record { room = search (rules, arith, length-take) }
 
 pub join-shut-requires : goal.join-shut-requires
 join-shut-requires c = record {
-  stands = rw (c.of_photon-bin.ensures, c.time.ensures, c.has_photon-first.ensures, c.has_photon-second.ensures) (∥∥₁_map c.requires.stands
+  stands = rw c.bin_in-bin.ensures (∥∥₁_map c.requires.stands
       (λ w. (coincidence_view c.args.set.now, w.0, w.1, _, _, _, may_gather _ _ _ _ _ _ _ c.loop-row.invariant.came c.loop-row-test.true w.0 w.1 w.2 w.3)));
 }
 
 pub loop-row-preserved : goal.loop-row-preserved
-loop-row-preserved c =
-    let is_bin = rw (c.time.ensures, c.has_photon-first.ensures, c.has_photon-second.ensures) at c.of_photon-bin.ensures in
-    record {
-      came = gathers_more _ _ _ _ _ _ _ c.loop-row.invariant.came c.loop-row-test.true _ _
-          (λ ring cells came xs can. rw c.put_bin.ensures.items (c.join-shut.ensures.follows _ ring cells _ came xs (rw is_bin can)));
-      few = omega (arith, c.loop-row.invariant.few, c.put_bin.ensures.few);
-    }
+loop-row-preserved c = record {
+  came = gathers_more _ _ _ _ _ _ _ c.loop-row.invariant.came c.loop-row-test.true _ _
+      (λ ring cells came xs can. rw c.put_bin.ensures.items (c.join-shut.ensures.follows _ ring cells _ came xs (rw c.bin_in-bin.ensures can)));
+  few = omega (arith, c.loop-row.invariant.few, c.put_bin.ensures.few);
+}
 
 pub returns-clause-follows : goal.returns-clause-follows
 returns-clause-follows c = search (rules, arith, gathered_end)

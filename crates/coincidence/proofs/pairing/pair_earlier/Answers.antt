@@ -10,4 +10,4 @@ add_pairs-requires-clause-sum g c =
     let at : ℕ = shifted_by c.args.direction c.args.set.reach (c.args.later.index - c.args.earlier.now.index) / c.args.set.width in
     let inside : at < coincidence_cells set = search (rules, arith, shifted_inside) in
     let fits = (rw (pairs_near set c.args.later.index c.args.earlier.now c.requires.after near c.args.direction c.args.later.count at) at (c.requires.room.fits at inside)) in
-    rw (c.shifted-shifted.ensures, c.weight-weight.ensures, c.earlier.ensures) (one_fits _ _ _ at fits)
+    rw (c.shifted_by-shifted.ensures, c.weight-weight.ensures) (one_fits _ _ _ at fits)

@@ -7,10 +7,9 @@ pub put-open-requires : goal.put-open-requires
 put-open-requires g c =
     let within : c.loop-at.at < c.args.block.now.len = search (rules, arith) in
     let either = rw (c.has_photon-first.ensures, c.has_photon-second.ensures) at c.if-first-second.true in
-    let is_bin = rw (c.time.ensures, c.has_photon-first.ensures, c.has_photon-second.ensures) at c.of_photon-bin.ensures in
     record {
       stands = ∥∥₁_map c.requires.stands (λ w.
-          (photons_of_groups (coincidence_view c.args.set.now) (w.0 ++ rows (item c.args.block.now) c.loop-at.at), item c.args.block.now c.loop-at.at ∷ [], rw is_bin (put_row _ c.args.block.now w.0 c.loop-at.at either _ within w.1 _ (c.loop-at.invariant.came w.0 w.1))));
+          (photons_of_groups (coincidence_view c.args.set.now) (w.0 ++ rows (item c.args.block.now) c.loop-at.at), item c.args.block.now c.loop-at.at ∷ [], rw c.bin_in-bin.ensures (put_row _ c.args.block.now w.0 c.loop-at.at either _ within w.1 _ (c.loop-at.invariant.came w.0 w.1))));
     }
 
 pub returns : goal.returns
@@ -33,11 +32,10 @@ loop-at-preserved g c =
     elim c.if-first-second.branch [
       | then-first-second w ↦
           let either = rw (c.has_photon-first.ensures, c.has_photon-second.ensures) at w.if-first-second.true in
-          let is_bin = rw (w.time.ensures, c.has_photon-first.ensures, c.has_photon-second.ensures) at w.of_photon-bin.ensures in
           rw (w.pairing-is, w.steps-is, w.open-is) (
             λ h can.
                 rw (photons-more set b h at either)
-                (w.put-open.ensures.follows (photons_of_groups set (h ++ rows (item b) at)) (item b at ∷ []) (rw is_bin (put_row set b h at either _ within can _ (inv.came h can)))),
+                (w.put-open.ensures.follows (photons_of_groups set (h ++ rows (item b) at)) (item b at ∷ []) (rw w.bin_in-bin.ensures (put_row set b h at either _ within can _ (inv.came h can)))),
             omega (arith, inv.steps, w.put-open.ensures.steps),
           )
       | else-first-second w ↦

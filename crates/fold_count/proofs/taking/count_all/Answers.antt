@@ -9,7 +9,7 @@ settle-requires-clause-held c = search (rules, arith, can_settle)
 pub returns-clause-sound : goal.returns-clause-sound
 returns-clause-sound c =
     let bin = c.args.bin in
-    rw c.settle.ensures.kept (sound_later (fold_view c.args.set.now) c.args.cells.now c.settle.new.cells c.args.ring.now bin (bin.index + 1) bin.index c.requires.sound c.settle.ensures.cells.same (rw c.settle.ensures.kept at c.settle.ensures.within) (λ le. absurd (omega (arith, le))) c.requires.sound.in_time)
+    rw (c.at.ensures, c.settle.ensures.kept) (sound_later (fold_view c.args.set.now) c.args.cells.now c.settle.new.cells c.args.ring.now bin (bin.index + 1) bin.index c.requires.sound c.settle.ensures.cells.same (rw c.settle.ensures.kept at c.settle.ensures.within) (λ le. absurd (omega (arith, le))) c.requires.sound.in_time)
 
 pub returns-clause-follows : goal.returns-clause-follows
 returns-clause-follows c = λ h is.

@@ -9,7 +9,7 @@ settle-requires-clause-held c = search (rules, arith, can_settle)
 pub returns-clause-sound : goal.returns-clause-sound
 returns-clause-sound c =
     let after : c.args.bin.index < c.args.time = omega (arith, c.if-time-bin.false, c.requires.after.0) in
-    rw c.settle.ensures.kept (sound_later (fold_view c.args.set.now) c.args.cells.now c.settle.new.cells c.args.ring.now c.args.bin c.saturating_sub-before.result c.args.time c.requires.sound c.settle.ensures.cells.same (rw c.settle.ensures.kept at c.settle.ensures.within) (λ le. after) c.requires.after.1)
+    rw (c.at.ensures, c.settle.ensures.kept) (sound_later (fold_view c.args.set.now) c.args.cells.now c.settle.new.cells c.args.ring.now c.args.bin c.saturating_sub-before.result c.args.time c.requires.sound c.settle.ensures.cells.same (rw c.settle.ensures.kept at c.settle.ensures.within) (λ le. after) c.requires.after.1)
 
 pub returns-clause-follows : goal.returns-clause-follows
 returns-clause-follows c = λ h is.
@@ -17,6 +17,6 @@ returns-clause-follows c = λ h is.
     let bins = as_met c.args.ring.now c.args.bin in
     let at_front : c.saturating_sub-before.result ≡ c.args.time - set.window = search (rules, arith) in
     let settled = rw at_front at c.settle.ensures in
-    rw (settled.kept, met_in_none (filter (λ e. nat_le (c.args.time - set.window) e.index) bins))
+    rw (c.at.ensures, settled.kept, met_in_none (filter (λ e. nat_le (c.args.time - set.window) e.index) bins))
     (parted_later set c.args.cells.now bins c.args.bin.index (photons set h) is c.settle.new.cells c.args.time (omega (arith, c.if-time-bin.false, c.requires.after.0))
     (λ s inside. settled.cells.each s (rw c.requires.sound.sized inside)))

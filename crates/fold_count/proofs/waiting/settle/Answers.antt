@@ -1,4 +1,4 @@
-use Rattle.std.{proofs.Common.{append-nil, ◌<◌, [], ◌∷◌, filter, arith, length-append, nat_lt, nat_le, rules}, proofs.lemmas.List.length-map, proofs.lemmas.List.Sums.{sum_by_push, length-filter, count_by-le-length}, proofs.lemmas.List.Elements.filter-append}
+use Rattle.std.{proofs.Common.{append-nil, ◌<◌, filter, arith, nat_lt, nat_le, rules}, proofs.lemmas.List.Sums.{sum_by_push}, proofs.lemmas.List.Elements.filter-append}
 use Rattle.lag_ring.{specs.declared.ring.Entry.Entry, proofs.Lists.{all_filter, all_map}}
 use Rattle.fold_count.{specs.Folded.met_in, proofs.Bins.{where_at_most, photons_kept, room_left}, proofs.Nested.{join, photons_met_in}}
 use Rattle.fold_count.proofs.waiting.settle.Goals as goal
@@ -25,12 +25,6 @@ returns-then-bin-before-clause-kept c =
     rw (c.retire.ensures.kept, c.meet.ensures.met)
     (search (rules, arith, filter-append, append-nil))
 
-pub returns-then-bin-before-clause-within : goal.returns-then-bin-before-clause-within
-returns-then-bin-before-clause-within c =
-    let late = λ (e : Entry). nat_le c.args.before e.index in
-    let met = met_in c.args.bin.now.b c.args.ring.now.entries in
-    rw (c.retire.ensures.kept, c.meet.ensures.met) (omega (arith, length-filter late met, count_by-le-length late met, length-map c.args.ring.now.entries (join c.args.bin.now.b), c.requires.held.within))
-
 pub returns-then-bin-before-clause-sum : goal.returns-then-bin-before-clause-sum
 returns-then-bin-before-clause-sum c =
     let counted = rw c.meet.ensures.met at c.count_closed.ensures.sum in
@@ -41,14 +35,6 @@ pub returns-else-bin-before-clause-kept : goal.returns-else-bin-before-clause-ke
 returns-else-bin-before-clause-kept c =
     rw (c.push.ensures.pushed, c.retire.ensures.kept, c.meet.ensures.met)
     (search (rules, arith, filter-append))
-
-pub returns-else-bin-before-clause-within : goal.returns-else-bin-before-clause-within
-returns-else-bin-before-clause-within c =
-    let rising = rw (c.retire.ensures.kept, c.meet.ensures.met) at c.retire.ensures.rising in
-    let few = room_left c.args.before c.args.bin.now.index c.args.ring.now.reach (met_in c.args.bin.now.b c.args.ring.now.entries) rising
-    (all_map (λ e. e.index < c.args.bin.now.index) (join c.args.bin.now.b) c.args.ring.now.entries c.requires.held.above) c.if-bin-before.false c.requires.near in
-    rw (c.push.ensures.pushed, c.retire.ensures.kept, c.meet.ensures.met)
-    (omega (arith, few, length-append (filter (λ e. nat_le c.args.before e.index) (met_in c.args.bin.now.b c.args.ring.now.entries)) (c.args.bin.now ∷ [])))
 
 pub returns-else-bin-before-clause-sum : goal.returns-else-bin-before-clause-sum
 returns-else-bin-before-clause-sum c =

@@ -14,4 +14,4 @@ returns-clause-empty c =
     let filled : cells ≡ replicate (2 ^ length set.groups) 0 = search (rules, arith) in
     let nothing : (s : ℕ) → slice_index cells s ≡ 0 = λ s. grind (arith, common_steps) in
     let stands : Parted set cells (as_met ring none) 0 [] = rw empty (parted_empty set cells nothing) in
-    record { counts = stands; taken = refl; floor = refl }
+    record { counts = rw c.at.ensures stands; taken = refl; floor = refl }
