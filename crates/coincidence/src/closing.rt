@@ -5,7 +5,7 @@ ghost use Rattle.lag_ring.{specs.Bytes.{weight_of, IsLight}};
 ghost use Rattle.arrayvec.specs.ArrayVec.{array_vec_len};
 ghost use Rattle.coincidence.{specs.Pairing.{bin_pairs, MayClose, Closes, HasRoom, Counts}, specs.Closing.{weights_in, FitsWindow}};
 
-use crate::lags::{Places, TOP, are_near, pair_lags};
+use crate::lags::{MOST_LAGS, Places, are_near, pair_lags};
 use crate::pairing::{Bin, Pairing, close, least_kept, pair_inside};
 use arrayvec::ArrayVec;
 use lag_ring::{Entry, LagRing, MOST_SPOTS, PairCells, Side, total_weight, weight_bound};
@@ -56,10 +56,10 @@ fn fits_window(set: &CoincidenceSet, ring: &LagRing, low: u64, later: &[Entry], 
     ensures { IsTrue result → FitsWindow (coincidence_view set.now) most low ring.now.entries later.now }
 {
     most < 256
-        && set.reach <= TOP
+        && set.reach <= MOST_LAGS
         && low < END
         && ring.newest() < END
-        && are_near(low, TOP, later)
+        && are_near(low, MOST_LAGS, later)
         && are_few(Side::First, later)
         && are_few(Side::Second, later)
 }
@@ -149,11 +149,11 @@ fn near_first(bins: &[Bin]) -> usize
 {
     let low = bins[0].weights.index;
     let last = bins[bins.len() - 1].weights.index;
-    if last.saturating_sub(low) < u64::from(TOP) {
+    if last.saturating_sub(low) < u64::from(MOST_LAGS) {
         return bins.len();
     }
     for count in 1..bins.len() {
-        if bins[count].weights.index.saturating_sub(low) >= u64::from(TOP) {
+        if bins[count].weights.index.saturating_sub(low) >= u64::from(MOST_LAGS) {
             return count;
         }
     }

@@ -64,8 +64,8 @@ pub(crate) fn gather_block(
     let mut open = waiting;
     for row in &rows[..picked] {
         let bin = bin_in(own, block, *row as usize);
-        let (shut, now) = join(open, bin);
-        put_bin(bins, shut);
+        let (closed, now) = join(open, bin);
+        put_bin(bins, closed);
         open = Some(now);
     }
     open

@@ -10,7 +10,7 @@ use std::sync::ledger::Ledger;
 use tally_base::{CoincidenceSet, Steps};
 
 /// How many lags a window serves at most, and how many places after them it has for later bins.
-pub(crate) const TOP: u32 = 4096;
+pub(crate) const MOST_LAGS: u32 = 4096;
 
 /// How many places a window has.
 const WIDE: usize = 8192;
@@ -88,8 +88,8 @@ fn pair_window<L: Ledger>(
     spots: &[u16],
     steps: &mut Steps<L>,
 )
-    requires reach { places.set.reach ≤ TOP }
-    requires window { ServesSpots places.most TOP window.now spots.now }
+    requires reach { places.set.reach ≤ MOST_LAGS }
+    requires window { ServesSpots places.most MOST_LAGS window.now spots.now }
     requires room { HasRoom (coincidence_view places.set) cells.old (λ c. window_sum direction (coincidence_view places.set) c window.now spots.now) }
     ensures { Counts (coincidence_view places.set) cells.old cells.new steps.old steps.new
         (λ c. window_sum direction (coincidence_view places.set) c window.now spots.now) places.set.reach }
@@ -97,7 +97,7 @@ fn pair_window<L: Ledger>(
     let Places { set, most, .. } = places;
     for strip in 0..set.reach.div_ceil(BYTE_LAGS as u32) {
         let least = strip * BYTE_LAGS as u32;
-        let from = (TOP - least) as usize - BYTE_LAGS;
+        let from = (MOST_LAGS - least) as usize - BYTE_LAGS;
         let mut sums = byte_lag_sums::<BYTE_LAGS>(window, most, from, spots);
         add_sums(cells, set, direction, least, &mut sums, steps);
     }
@@ -106,16 +106,16 @@ fn pair_window<L: Ledger>(
 /// Adds the weights that the entries in a ring and later ones have on one side to a window.
 #[tactic(auto, using(lag_ring::proofs::Lists::all_back, crate::proofs::LagPairs::three_sums))]
 fn fill(window: &mut [u8], side: Side, ring: &LagRing, low: u64, later: &[Entry])
-    requires early { AllByRecursion (λ e. e.index + TOP < 2 ^ 64) ring.now.entries }
-    requires early_later { AllByRecursion (λ e. e.index + TOP < 2 ^ 64) later.now }
-    requires fit { Fit side TOP low window.old (ring.now.entries ++ later.now) }
-    ensures have { Have side TOP low window.old window.new (ring.now.entries ++ later.now) }
+    requires early { AllByRecursion (λ e. e.index + MOST_LAGS < 2 ^ 64) ring.now.entries }
+    requires early_later { AllByRecursion (λ e. e.index + MOST_LAGS < 2 ^ 64) later.now }
+    requires fit { Fit side MOST_LAGS low window.old (ring.now.entries ++ later.now) }
+    ensures have { Have side MOST_LAGS low window.old window.new (ring.now.entries ++ later.now) }
     ensures same { length window.new ≡ length window.old }
 {
     let (front, back) = ring.slices();
-    put_side(window, side, TOP as u64, low, front);
-    put_side(window, side, TOP as u64, low, back);
-    put_side(window, side, TOP as u64, low, later);
+    put_side(window, side, MOST_LAGS as u64, low, front);
+    put_side(window, side, MOST_LAGS as u64, low, back);
+    put_side(window, side, MOST_LAGS as u64, low, later);
 }
 
 /// Whether all entries have an index from `low` on, by fewer than so many ticks.

@@ -322,9 +322,9 @@ pub(crate) fn put<L: Ledger>(
         → Gathered (coincidence_view set.now) result pairing.new.ring pairing.new.cells [] (came ++ xs) }
     ensures steps { Pays pairing.old pairing.new steps.old steps.new }
 {
-    let (shut, open) = join(waiting, bin);
-    if let Some(shut) = shut {
-        close(pairing, set, &shut, steps);
+    let (closed, open) = join(waiting, bin);
+    if let Some(closed) = closed {
+        close(pairing, set, &closed, steps);
     }
     Some(open)
 }

@@ -19,8 +19,8 @@ loop-row-init c =
 pub put_bin-requires : goal.put_bin-requires
 put_bin-requires c = record { room = search (rules, arith, length-take) }
 
-pub join-shut-requires : goal.join-shut-requires
-join-shut-requires c = record {
+pub join-closed-requires : goal.join-closed-requires
+join-closed-requires c = record {
   stands = rw c.bin_in-bin.ensures (∥∥₁_map c.requires.stands
       (λ w. (coincidence_view c.args.set.now, w.0, w.1, _, _, _, may_gather _ _ _ _ _ _ _ c.loop-row.invariant.came c.loop-row-test.true w.0 w.1 w.2 w.3)));
 }
@@ -28,7 +28,7 @@ join-shut-requires c = record {
 pub loop-row-preserved : goal.loop-row-preserved
 loop-row-preserved c = record {
   came = gathers_more _ _ _ _ _ _ _ c.loop-row.invariant.came c.loop-row-test.true _ _
-      (λ ring cells came xs can. rw c.put_bin.ensures.items (c.join-shut.ensures.follows _ ring cells _ came xs (rw c.bin_in-bin.ensures can)));
+      (λ ring cells came xs can. rw c.put_bin.ensures.items (c.join-closed.ensures.follows _ ring cells _ came xs (rw c.bin_in-bin.ensures can)));
   few = omega (arith, c.loop-row.invariant.few, c.put_bin.ensures.few);
 }
 

@@ -1,7 +1,7 @@
 use Rattle.std.{proofs.Common.{rules}, proofs.Common.{◌≤◌, ◌<◌, ◌+◌, ◌-◌, ◌++◌, ℕ, length, arith}, proofs.lemmas.List.{get_or-replicate}}
 use Rattle.tally_base.specs.Settings.{coincidence_view}
 use Rattle.lag_ring.{specs.declared.ring.Entry.Entry, proofs.Rising.all_weaker}
-use Rattle.coincidence.{specs.declared.lags.TheConstants.TOP, proofs.LagPairs.{window-lags}, proofs.Visits.{room_as, counts_as}}
+use Rattle.coincidence.{specs.declared.lags.TheConstants.MOST_LAGS, proofs.LagPairs.{window-lags}, proofs.Visits.{room_as, counts_as}}
 use Rattle.coincidence.proofs.lags.pair_side.Goals as goal
 
 pub fill-requires-clause-fit : goal.fill-requires-clause-fit
@@ -13,7 +13,7 @@ spots_of-spots-requires-clause-few g c = search (rules, arith)
 pub pair_window-requires-clause-window : goal.pair_window-requires-clause-window
 pair_window-requires-clause-window g c = record {
   weighed = c.requires.photons.0.weighed;
-  light = λ p inside. omega (arith, get_or-replicate {A = ℕ} 8192 p 0 0 (omega (arith, inside, c.fill.ensures.same)), c.fill.ensures.have p (omega (arith, inside, c.fill.ensures.same)), c.requires.photons.1 c.args.direction TOP p);
+  light = λ p inside. omega (arith, get_or-replicate {A = ℕ} 8192 p 0 0 (omega (arith, inside, c.fill.ensures.same)), c.fill.ensures.have p (omega (arith, inside, c.fill.ensures.same)), c.requires.photons.1 c.args.direction MOST_LAGS p);
   few = rw c.deref.ensures.0 (omega (arith, c.spots_of-spots.ensures.few));
   near = all_weaker (λ s. s ≤ 4095) (λ s. s + 4096 ≤ length c.fill.new.window) (λ s is. omega (arith, is, c.fill.ensures.same)) c.deref.result.now
       (rw c.deref.ensures.0 (c.spots_of-spots.ensures.within 4095 (all_weaker (λ (e : Entry). (c.args.places.low ≤ e.index) × (e.index - c.args.places.low < 4096)) (λ (e : Entry). e.index - c.args.places.low ≤ 4095) (λ e is. omega (arith, is.1)) c.args.later.now c.requires.photons.0.near)));

@@ -15,14 +15,10 @@ fits set r counts bins last bin came xs can =
       omega (arith, all, can.few, was.opened.0.both, can.is.both, count_by-le-length),
     )
 
-pub with-requires-clause-a : goal.with-requires-clause-a
-with-requires-clause-a c = ∥∥₁_elim c.requires.stands (hlevel props) (λ w. (fits _ _ _ _ _ _ _ _ (rw c.in-Some.is at w.6)).0)
-
-pub with-requires-clause-b : goal.with-requires-clause-b
-with-requires-clause-b c = ∥∥₁_elim c.requires.stands (hlevel props) (λ w. (fits _ _ _ _ _ _ _ _ (rw c.in-Some.is at w.6)).1)
-
-pub with-requires-clause-both : goal.with-requires-clause-both
-with-requires-clause-both c = ∥∥₁_elim c.requires.stands (hlevel props) (λ w. (fits _ _ _ _ _ _ _ _ (rw c.in-Some.is at w.6)).2)
+pub with-requires : goal.with-requires
+with-requires c =
+    let few = ∥∥₁_elim c.requires.stands (hlevel props) (λ w. fits _ _ _ _ _ _ _ _ (rw c.in-Some.is at w.6)) in
+    record { a = few.0; b = few.1; both = few.2 }
 
 pub returns-then-open-bin : goal.returns-then-open-bin
 returns-then-open-bin c = record { follows = λ set ring cells bins came xs can. rw (c.with.ensures, append-nil bins) (joins _ _ _ _ _ _ _ _ (rw c.in-Some.is at can) c.if-open-bin.true) }
