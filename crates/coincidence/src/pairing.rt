@@ -235,20 +235,6 @@ fn pair<L: Ledger>(
     pair_inside(cells, set, bin, steps);
 }
 
-/// Pairs the photons of a bin with one another, and puts it into the ring, which has no other that it
-/// reaches.
-#[inline(always)]
-fn begin<L: Ledger>(pairing: &mut Pairing, set: &CoincidenceSet, bin: &Bin, steps: &mut Steps<L>)
-    requires far { AllByRecursion (λ e. e.index + set.now.reach < bin.now.weights.index) pairing.old.ring.entries }
-    requires stands { MayClose (coincidence_view set.now) pairing.old (bin.now ∷ []) }
-    ensures { Closes (coincidence_view set.now) pairing.old pairing.new (bin.now ∷ []) steps.old steps.new }
-{
-    pair_inside(&mut pairing.cells, set, bin, steps);
-    pairing
-        .ring
-        .restart(bin.weights.index, bin.weights.a, bin.weights.b);
-}
-
 /// Pairs the photons of a bin with one another and with those of the closed bins, and puts it among
 /// these.
 fn append<L: Ledger>(pairing: &mut Pairing, set: &CoincidenceSet, bin: &Bin, steps: &mut Steps<L>)
@@ -262,9 +248,8 @@ fn append<L: Ledger>(pairing: &mut Pairing, set: &CoincidenceSet, bin: &Bin, ste
 }
 
 /// Pairs the photons of a bin, and puts it among the closed ones. Where the last of those is out of
-/// reach, which is the most frequent case, no other pairs with it.
+/// reach, which is the most frequent case, no other pairs with it, and the ring has it alone.
 #[inline(always)]
-#[tactic(auto, using(lag_ring::proofs::Rising::all_weaker))]
 pub(crate) fn close<L: Ledger>(
     pairing: &mut Pairing,
     set: &CoincidenceSet,
@@ -275,7 +260,9 @@ pub(crate) fn close<L: Ledger>(
     ensures { Closes (coincidence_view set.now) pairing.old pairing.new (bin.now ∷ []) steps.old steps.new }
 {
     if bin.weights.index.saturating_sub(pairing.ring.newest()) > u64::from(set.reach) {
-        begin(pairing, set, bin, steps);
+        pair_inside(&mut pairing.cells, set, bin, steps);
+        let Entry { index, a, b } = bin.weights;
+        pairing.ring.restart(index, a, b);
     } else {
         // A copy, so that a bin that is alone need not stand in memory.
         let near = *bin;
