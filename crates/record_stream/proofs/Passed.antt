@@ -152,7 +152,7 @@ module _ (walk : Walk) (from : Settle) (came went stay : List Event) (settles : 
     greatest = top;
     low = low-top;
     below = recursion_from_All (λ (x : Event). x.time ≤ top) (kept_back from) is_full.below;
-    comes = comes-line mode (next_place from) low top came (keeps.behind settles) next.places next.in_order next.ordered;
+    comes = comes-line mode (next_place from) low top came keeps.behind next.places next.in_order next.ordered;
     joined = joined;
     time_is = time_is;
     place_is = place_is;

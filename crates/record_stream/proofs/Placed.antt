@@ -1,17 +1,11 @@
 -- What the clock's answer says of a word: its refusal and its event.
-use Rattle.std.{proofs.Common.{rules}, proofs.Common.{◌≡◌, ◌≢◌, ◌+◌, ◌<◌, ℕ, List, [], ◌∷◌, Bool, true, false, None, Some, Ok, Err, length, map, refl, sym, ap, ◌⊎◌, ⊎_elim, arith, ◌&&◌, ◌==◌, if◌then◌else◌}, specs.declared.option.Option.Option, specs.declared.result.Result.Result, proofs.lemmas.Bool.ne_eqb}
+use Rattle.std.{proofs.Common.{rules}, proofs.Common.{append-nil, ◌≡◌, ◌+◌, ◌<◌, ℕ, List, [], ◌∷◌, Bool, true, false, None, Some, Ok, Err, length, map, refl, sym, ap, ◌⊎◌, ⊎_elim, arith, ◌&&◌, ◌==◌, if◌then◌else◌}, specs.declared.option.Option.Option, specs.declared.result.Result.Result}
 use Rattle.tally_base.{specs.declared.event.Event.Event, specs.declared.fault.Fault.Fault, specs.declared.fault.Fault.TheVariants.{RecordLimit, ReservedRecord, BackwardTime}, specs.declared.header.Mode.Mode, specs.Events.{is_ordered, stops_late, stops_reserved}}
-use Rattle.ptu_definitions.{specs.declared.records.Raw.Raw, specs.declared.records.Raw.TheVariants.{Photon, Marker, Wrap, Reserved}, specs.Kinds.is_reserved, specs.Times.{event_after, events}, specs.Kept.{is_late, greatest, Marked}, specs.Settled.{is_late_by, ordered}, specs.Streams.{StreamSettings, refusal, late_refusal}, proofs.DeliveredLaws.{delivered_after, delivered_after-ordered, delivered_after-unordered, is_late_by-0, is_late-by}, proofs.StreamLemmas.fresh}
+use Rattle.ptu_definitions.{specs.declared.records.Raw.Raw, specs.declared.records.Raw.TheVariants.{Photon, Marker, Wrap, Reserved}, specs.Kinds.is_reserved, specs.Times.{event_after, events}, specs.Kept.{is_late, greatest, Marked}, specs.Settled.{is_late_by}, specs.Streams.{StreamSettings, refusal, late_refusal}, proofs.DeliveredLaws.{delivered_after, is_late-by}, proofs.StreamLemmas.fresh}
 use Rattle.abs_time.{specs.declared.clock.Placed.Placed, specs.declared.clock.Placed.TheVariants.Event as InOrder, specs.declared.clock.Placed.TheVariants.Late, specs.declared.clock.Placed.TheVariants.Wrap as WrapPlaced, specs.declared.clock.Placed.TheVariants.Reserved as ReservedPlaced, specs.Placing.place_answer}
 use Rattle.record_stream.{specs.Keeping.{tells, refused_for}, specs.Rows.refused_late}
 
--- the refusal that a placed record calls for, where no event is put in its place
-abbrev pub refused_by : StreamSettings → Placed → Option Fault
-refused_by how (InOrder e) = None
-refused_by how (Late e top) = if stops_late how.policy.order then Some (BackwardTime e.place e.time top) else None
-refused_by how p = None
-
--- and its event with its mark
+-- the event of a placed record with its mark
 abbrev pub marks_of : Placed → Marked
 marks_of (InOrder e) = (e, false) ∷ []
 marks_of (Late e top) = (e, true) ∷ []
@@ -80,17 +74,9 @@ abbrev pub late_if : StreamSettings → Bool → Event → ℕ → Option Fault
 late_if how b e top = if stops_late how.policy.order then (if b then Some (BackwardTime e.place e.time top) else None) else None
 
 -- Where no event is put in its place.
-refused-so : (how : StreamSettings) (before : List Event) (p : Placed) → how.policy.settle ≡ 0 → IsSo how.mode before p
-    → (if stops_late how.policy.order then late_refusal how.policy.settle how.mode before (event_in p) else None) ≡ refused_by how p
-refused-so how before p zero so = search (rules, arith, late_if, is_late_by-0, nothing)
-
 fresh-so : (how : StreamSettings) (before : List Event) (p : Placed) → how.policy.settle ≡ 0
     → IsSo how.mode before p → delivered_after how.policy.settle how.mode before (event_in p) ≡ marks_of p
 fresh-so how before p h1 so = search (rules, arith)
-
-pub refused-plain : (how : StreamSettings) (before : List Raw) (raw : Raw) (p : Placed) → how.policy.settle ≡ 0
-    → place_answer how.mode before raw ≡ Ok p → refused_late how before raw ≡ refused_by how p
-refused-plain how before raw p zero answer = let c = comes how.mode before raw p answer in rw c.0 (refused-so how (events before) p zero c.1)
 
 pub fresh-plain : (how : StreamSettings) (ws : List ℕ) (raw : Raw) (p : Placed) → how.policy.settle ≡ 0
     → place_answer how.mode (map how.meaning ws) raw ≡ Ok p → fresh how ws raw ≡ marks_of p
@@ -129,17 +115,16 @@ by_top how before (InOrder x) e is so =
 by_top how before (Late x top) e is so = ap (late_if how (is_late_by how.policy.settle how.mode before e) e) (sym so.1)
 by_top how before p e is so = cc
 
-pub refused-placed : (how : StreamSettings) (before : List Raw) (raw : Raw) (p : Placed) (e : Event) → place_answer how.mode before raw ≡ Ok p → event_in p ≡ e ∷ [] → refused_late how before raw ≡ refused_for how (ordered how.mode (events before)) e (top_in p)
+pub refused-placed : (how : StreamSettings) (before : List Raw) (raw : Raw) (p : Placed) (e : Event) → place_answer how.mode before raw ≡ Ok p → event_in p ≡ e ∷ [] → refused_late how before raw ≡ refused_for how (events before) e (top_in p)
 refused-placed how before raw p e answer is = let c = comes how.mode before raw p answer in rw (c.0, is) (by_top how (events before) p e is c.1)
 
-tells-pick : (k : ℕ) (mode : Mode) (before : List Event) (e : Event) (b : Bool) → (k == 0) ≡ false
-    → is_ordered mode e ≡ b → delivered_after k mode before (e ∷ []) ≡ tells k mode (ordered mode before) e
-tells-pick k mode before e b some is = search (rules, arith, delivered_after-ordered, delivered_after-unordered)
+tells-pick : (k : ℕ) (mode : Mode) (before : List Event) (e : Event) (z b : Bool) → (k == 0) ≡ z
+    → is_ordered mode e ≡ b → delivered_after k mode before (e ∷ []) ≡ tells k mode before e
+tells-pick k mode before e z b none is = search (rules, arith, append-nil)
 
-pub fresh-placed : (how : StreamSettings) (ws : List ℕ) (raw : Raw) (p : Placed) (e : Event) → how.policy.settle ≢ 0 → place_answer how.mode (map how.meaning ws) raw ≡ Ok p → event_in p ≡ e ∷ [] → fresh how ws raw ≡ tells how.policy.settle how.mode (ordered how.mode (events (map how.meaning ws))) e
-fresh-placed how ws raw p e some answer is =
-    rw ((comes how.mode (map how.meaning ws) raw p answer).0, is)
-    (tells-pick how.policy.settle how.mode (events (map how.meaning ws)) e _ (ne_eqb how.policy.settle 0 some) refl)
+pub fresh-placed : (how : StreamSettings) (ws : List ℕ) (raw : Raw) (p : Placed) (e : Event) → place_answer how.mode (map how.meaning ws) raw ≡ Ok p → event_in p ≡ e ∷ [] → fresh how ws raw ≡ tells how.policy.settle how.mode (events (map how.meaning ws)) e
+fresh-placed how ws raw p e answer is =
+    rw ((comes how.mode (map how.meaning ws) raw p answer).0, is) (tells-pick how.policy.settle how.mode (events (map how.meaning ws)) e _ _ refl refl)
 
 -- a record that is no event
 pub skipped-event : (p : Placed) → (p ≡ WrapPlaced) ⊎ (p ≡ ReservedPlaced) → event_in p ≡ []

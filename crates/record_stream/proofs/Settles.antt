@@ -1,42 +1,34 @@
 -- One event more where events are put in their places.
-use Rattle.std.{proofs.Common.{rules, ◌≡◌, ◌+◌, ◌≤◌, ℕ, List, [], ◌∷◌, ◌++◌, Bool, true, false, cond, None, Some, Ok, Err, OnOk, OnErr, IfErr, length, length-append, map, sym, ap, ◌∙◌, inr, append-nil, add-zero, arith, ◌&&◌, not, is_some, IsTrue, if◌then◌else◌, ◌≢◌, refl, ◌==◌}, specs.List.All, specs.Option.option_to_list, specs.declared.option.Option.Option, specs.declared.result.Result.Result, proofs.lemmas.List.map-append, proofs.lemmas.List.Elements.{filter-append, All-tail, All-from_recursion, recursion_from_All}, proofs.lemmas.Bool.{cases_Bool, ne_eqb}}
-use Rattle.tally_base.{specs.declared.event.Event.Event, specs.declared.fault.Fault.Fault, specs.declared.fault.Fault.TheVariants.{BackwardTime, WriteFault}, specs.declared.header.Mode.Mode, specs.Events.{is_ordered, stops_late}, specs.FaultCounts.FailsOnce}
-use Rattle.ptu_definitions.{specs.Kept.{Marked, floor_of}, specs.Settled.{is_overtaken, ordered, settles, put_in, not_marked}, specs.Streams.{StreamSettings, events_in}, specs.Times.{event_after, events}, proofs.DeliveredLaws.not_marked-append, proofs.SettledLemmas.length-put_in, proofs.SettlingLemmas.each-put_in, proofs.StreamLemmas.{events-push, events_in-push, fresh}}
-use Rattle.abs_time.{specs.Placing.{mode_of as clock_mode, placed_by}, specs.Floors.moved_floor, proofs.Floors.moved_floor-push}
-use Rattle.record_stream.{specs.Keeping.{CanWait, IsKeeping, HasCome, tells, refused_for}, proofs.Placed.{late_if, nothing}, specs.Settling.{Tells, Told}, specs.Walking.{how_of, given_by, records_of, clock_in, Gave}, specs.declared.taker.EventTaker.Ghosts, specs.declared.walk.Walk.Walk, specs.Feeding.Follows}
-use Rattle.settle.{specs.Standing.{HasSettled, kept_back, next_place, last_time, reach_of, was_popped}, specs.declared.settle.Settle.Settle}
+use Rattle.std.{proofs.Common.{rules, IfSome, ◌≡◌, ◌+◌, ◌≤◌, ℕ, List, [], ◌∷◌, ◌++◌, Bool, true, false, cond, None, Some, Ok, Err, OnOk, OnErr, IfErr, length, length-append, map, sym, ap, ◌∙◌, inr, append-nil, add-zero, arith, ◌&&◌, not, is_some, IsTrue, if◌then◌else◌, ◌≢◌, refl, ◌==◌}, specs.List.All, specs.Option.option_to_list, specs.declared.option.Option.Option, specs.declared.result.Result.Result, proofs.lemmas.List.map-append, proofs.lemmas.List.Elements.{filter-append, All-tail, All-from_recursion, recursion_from_All}, proofs.lemmas.Bool.{ne_eqb}}
+use Rattle.tally_base.{specs.declared.event.Event.Event, specs.declared.fault.Fault.Fault, specs.declared.fault.Fault.TheVariants.{WriteFault}, specs.declared.header.Mode.Mode, specs.Events.{is_ordered}, specs.FaultCounts.FailsOnce}
+use Rattle.ptu_definitions.{specs.Kept.{Marked, floor_of, is_late}, specs.Settled.{ordered, put_in, not_marked}, specs.Streams.{StreamSettings, events_in}, specs.Times.{event_after, events}, proofs.DeliveredLaws.{is_late_by-0, not_marked-append}, proofs.SettledLemmas.length-put_in, proofs.SettlingLemmas.each-put_in, proofs.StreamLemmas.{events-push, events_in-push, fresh}}
+use Rattle.abs_time.{specs.declared.clock.Clock.Clock, specs.Placing.{mode_of as clock_mode, placed_by, greatest_by}, specs.Floors.moved_floor, proofs.Floors.moved_floor-push}
+use Rattle.record_stream.{specs.Keeping.{CanWait, Comes, IsKeeping, Settles, tells, refused_for}, specs.Settling.{Becomes, ComesUp, Judges, GoesBetween, floor_in, Tells, Told}, specs.Walking.{how_of, given_by, greatest_of, records_of, clock_in, Gave, KeepsPlace}, specs.declared.taker.EventTaker.Ghosts, specs.declared.walk.Walk.Walk, specs.Feeding.Follows}
+use Rattle.settle.{specs.Passing.{HasPushed, KeepsOrEmits, MovesTo, StandsBehind}, specs.Settling.told, specs.declared.settle.Settled.Settled, specs.Standing.{HasSettled, kept_back, next_place, last_time, reach_of, was_popped}, specs.declared.settle.Settle.Settle}
 
 -- whether an event is in order, by the mode of the clock of a walk
 pub by_clock : (walk : Walk) (e : Event) (r : Bool) (mode : Mode) (b : Bool) → r ≡ is_ordered mode e
     → mode ≡ clock_mode walk.clock → r ≡ b → is_ordered (how_of walk).mode e ≡ b
 by_clock walk e r mode b is of_clock told = sym (is ∙ ap (λ m. is_ordered m e) (of_clock ∙ walk.same_mode)) ∙ told
 
--- What an event in order adds, by what its push tells.
-pub tells-on : (k reach : ℕ) (mode : Mode) (before : List Event) (e : Event) (l : Marked)
-    → reach ≡ k → is_ordered mode e ≡ true → settles reach before e ≡ l → tells k mode before e ≡ l
-tells-on k reach mode before e l same on is = ap (λ b. cond b (settles k before e) []) on ∙ ap (λ n. settles n before e) (sym same) ∙ is
-
 pub ordered-on : (mode : Mode) (e : Event) → is_ordered mode e ≡ true → ordered mode (e ∷ []) ≡ e ∷ []
 ordered-on mode e on = ap (λ b. cond b (e ∷ []) []) on
-
--- Why it is refused.
-pub unrefused-off : (how : StreamSettings) (before : List Event) (e : Event) (top : ℕ) → is_ordered how.mode e ≡ false → refused_for how before e top ≡ None
-unrefused-off how before e top off = ap (λ b. late_if how (b && is_overtaken how.policy.settle before e) e top) off ∙ nothing (stops_late how.policy.order)
-
-pub unrefused-early : (how : StreamSettings) (reach : ℕ) (before : List Event) (e : Event) (top : ℕ) (late : Bool)
-    → reach ≡ how.policy.settle → late ≡ is_overtaken reach before e → late ≡ false → refused_for how before e top ≡ None
-unrefused-early how reach before e top late same is early = search (rules, arith, late_if, cases_Bool)
-
-pub refused-stopped : (how : StreamSettings) (reach : ℕ) (before : List Event) (e : Event) (top : ℕ) (late : Bool) → reach ≡ how.policy.settle → is_ordered how.mode e ≡ true → late ≡ is_overtaken reach before e → late ≡ true → stops_late how.policy.order ≡ true
-    → refused_for how before e top ≡ Some (BackwardTime e.place e.time top)
-refused-stopped how reach before e top late same on is sure stops = search (rules, arith)
 
 -- The greatest time of what was given.
 pub floor-most : (mode : Mode) (floor last : ℕ) (e : Event) → floor ≤ last → e.time ≤ last → moved_floor mode floor e false ≤ last
 floor-most mode floor last e low time = search (rules, arith)
 
+not_marked-told : (e : Event) (late : Bool) (o : Option Event) → (late ≡ true → o ≡ None) → not_marked (told e late o) ≡ option_to_list o
+not_marked-told e true o none = rw (none refl) refl
+not_marked-told e false None none = refl
+not_marked-told e false (Some x) none = refl
+
 greatest-push : (mode : Mode) (l : Marked) (e : Event) (late : Bool) (last now : ℕ) → now ≡ moved_floor mode last e late → (IsTrue (is_ordered mode e && not late) → last ≤ e.time) → last ≡ floor_of mode l → now ≡ floor_of mode (l ++ (e, late) ∷ [])
 greatest-push mode l e late last now moved in_order is = moved ∙ moved_floor-push mode 0 last l e late (omega (arith, is)) in_order ∙ omega arith
+
+-- A late event lets none go.
+none_late : (o : Option Event) (late more : Bool) → is_some o ≡ (not late && more) → late ≡ true → o ≡ None
+none_late o late more is sure = search (rules, arith)
 
 -- What waits then.
 pub kept_on : (old new : Walk) (from now : Settle) → IsKeeping old from → how_of new ≡ how_of old
@@ -60,59 +52,6 @@ pub count_waiting : (o : Option Event) (w new : List Event) (e : Event)
     → option_to_list o ++ new ≡ put_in e w → length (option_to_list o) + length new ≡ length w + 1
 count_waiting o w new e is = omega (arith, length-append (option_to_list o) new, ap length is, length-put_in e w)
 
-module _ {T : Type 0} (g : Ghosts T) where
-  -- an event that adds nothing
-  pub told_none : (how : StreamSettings) (walk : Walk) (from settle : Settle) (t : T) (before given all : List Event) (e : Event) (top : ℕ)
-      → refused_for how before e top ≡ None → tells how.policy.settle how.mode before e ≡ []
-      → ordered how.mode (e ∷ []) ≡ all → HasSettled settle (before ++ all) (given ++ [])
-      → last_time settle ≡ last_time from → Told g how walk walk from settle t t before given e top
-  told_none how walk from settle t before given all e top none is all_is settled same = search (rules, arith, append-nil, add-zero)
-
-  -- an event that adds one, which was given or broke the taker
-  pub tells_one : {X : Type 0} (r : Result X Fault) (old new : Walk) (from settle : Settle) (t now : T)
-      (before given : List Event) (e x : Event) (late : Bool) (top : ℕ) → refused_for (how_of old) before e top ≡ None
-      → tells (how_of old).policy.settle (how_of old).mode before e ≡ (x, late) ∷ [] → ordered (how_of old).mode (e ∷ []) ≡ e ∷ []
-      → HasSettled settle (before ++ e ∷ []) (given ++ not_marked ((x, late) ∷ [])) → last_time settle ≡ moved_floor (how_of old).mode (last_time from) x late → (IsTrue (is_ordered (how_of old).mode x && not late) → last_time from ≤ x.time)
-      → OnOk r (Gave g old new t now x late) → OnErr r ((start : T) (l : Marked) → g.got start t l → g.broke start now (l ++ (x, late) ∷ []))
-      → IfErr r (λ fault. fault ≡ WriteFault) → FailsOnce (g.faults t) (g.faults now) r
-      → Tells g old new from settle t now before given e top r
-  tells_one (Ok y) old new from settle t now before given e x late top none is all_is settled moved in_order gave broken fault cause =
-      record {
-        unrefused = none;
-        settled = rw (is, all_is) settled;
-        greatest = λ l low. rw is (greatest-push (how_of old).mode l x late (last_time from) (last_time settle) moved in_order low);
-        got = rw is gave.got;
-        summary = rw is gave.noted.summary;
-        counted = rw is gave.noted.given;
-        kept = cause.kept;
-      }
-  tells_one (Err y) old new from settle t now before given e x late top none is all_is settled moved in_order gave broken fault cause =
-      inr (fault, record { unrefused = none; some = rw is (omega arith); broken = rw is broken; rose = cause.once })
-
--- After one word more.
-pub come_event : (how : StreamSettings) (settle settle' : Settle) (ws : List ℕ) (w : ℕ) (e : Event)
-    → HasCome how settle ws → event_after (map how.meaning ws) (how.meaning w) ≡ e ∷ []
-    → fresh how ws (how.meaning w) ≡ tells how.policy.settle how.mode (ordered how.mode (events (map how.meaning ws))) e
-    → HasSettled settle' (ordered how.mode (events (map how.meaning ws)) ++ ordered how.mode (e ∷ [])) (not_marked (events_in how ws) ++ not_marked (tells how.policy.settle how.mode (ordered how.mode (events (map how.meaning ws))) e))
-    → ((l : Marked) → last_time settle ≡ floor_of how.mode l
-    → last_time settle' ≡ floor_of how.mode (l ++ tells how.policy.settle how.mode (ordered how.mode (events (map how.meaning ws))) e))
-    → HasCome how settle' (ws ++ w ∷ [])
-come_event how settle settle' ws w e come is adds settled moves =
-    let delivers = events_in-push how ws w ∙ ap (λ l. events_in how ws ++ l) adds in
-    let came = filter-append (λ (x : Event). is_ordered how.mode x) (events (map how.meaning ws)) (e ∷ []) in
-    record {
-      settled = rw (delivers, not_marked-append, map-append how.meaning ws (w ∷ []), events-push (map how.meaning ws) (how.meaning w), is, came) settled;
-      greatest = moves (events_in how ws) come.greatest ∙ ap (floor_of how.mode) (sym delivers);
-    }
-
-pub come_none : (how : StreamSettings) (settle : Settle) (ws : List ℕ) (w : ℕ) → HasCome how settle ws
-    → event_after (map how.meaning ws) (how.meaning w) ≡ [] → fresh how ws (how.meaning w) ≡ [] → HasCome how settle (ws ++ w ∷ [])
-come_none how settle ws w come is adds = search (rules, arith, events_in-push, append-nil, map-append, events-push)
-
--- What a push lets go.
-pub none_late : (o : Option Event) (late more : Bool) → is_some o ≡ (not late && more) → late ≡ true → o ≡ None
-none_late o late more is sure = search (rules, arith)
-
 -- A stream by whether events are put in their places.
 
 pub plain-is : (k a b : ℕ) → k ≡ 0 → (if k == 0 then a else b) ≡ a
@@ -120,6 +59,153 @@ plain-is k a b zero = rw zero refl
 
 pub some-is : (k a b : ℕ) → k ≢ 0 → (if k == 0 then a else b) ≡ b
 some-is k a b some = rw (ne_eqb k 0 some) refl
+
+-- In file order.
+pub judges_plain : (how : StreamSettings) (settle : Settle) (before : List Event) (l : Marked) (e : Event) (late : Bool) (o : Option Event) → how.policy.settle ≡ 0
+    → is_late how.mode before e ≡ late → o ≡ (if late then None else Some e) → Judges how settle before l e (record { emitted = o; late = late })
+judges_plain how settle before l e true o zero is emits = search (rules, arith, is_late_by-0)
+judges_plain how settle before l e false o zero is emits = search (rules, arith, is_late_by-0)
+
+pub becomes_plain : (walk : Walk) (settle : Settle) (e : Event) (late : Bool) (o : Option Event) → (how_of walk).policy.settle ≡ 0 → IsKeeping walk settle
+    → ComesUp walk settle e late → o ≡ (if late then None else Some e) → Becomes walk settle settle e late (record { emitted = o; late = late })
+becomes_plain walk settle e late o zero keeps comes emits =
+    let floor : floor_in walk settle ≡ greatest_of walk = plain-is _ _ _ zero in
+    record {
+      judges = λ before l so come. judges_plain (how_of walk) settle before l e late o zero so emits;
+      goes = goes_plain late o emits floor comes.top;
+      rises = omega arith;
+      fit = keeps.fit;
+      count = count_plain late o emits;
+      reach = refl;
+      unpopped = refl;
+      next = omega (arith, comes.next);
+    }
+  where
+    goes_plain : (b : Bool) (o : Option Event) → o ≡ (if b then None else Some e) → floor_in walk settle ≡ greatest_of walk
+        → (b ≡ false → is_ordered (how_of walk).mode e ≡ true → greatest_of walk ≡ e.time)
+        → IfSome o (λ x. GoesBetween (how_of walk).mode (floor_in walk settle) (floor_in walk settle) x)
+    goes_plain true o is floor top = rw is tt
+    goes_plain false o is floor top = rw is (record { small = comes.small; in_order = λ on. let t = top refl on in (omega (arith, floor, t), omega (arith, floor, t)) })
+
+    count_plain : (b : Bool) (o : Option Event) → o ≡ (if b then None else Some e) → length (told e b o) + length (kept_back settle) ≤ length (kept_back settle) + 1
+    count_plain true o is = omega arith
+    count_plain false o is = rw is (omega arith)
+
+-- An event in order that is pushed.
+module _ (walk : Walk) (from now : Settle) (e : Event) (late : Bool) (answer : Settled) (some : (how_of walk).policy.settle ≢ 0) (keeps : IsKeeping walk from)
+    (comes : ComesUp walk from e late) (on : is_ordered (how_of walk).mode e ≡ true) (or_emits : KeepsOrEmits from now e answer)
+    (moves : MovesTo from now answer.emitted) (stands : StandsBehind from now e.place)
+    (pushed : (es given : List Event) → HasSettled from es given → HasPushed from now es given e answer) where
+  abbrev mode : Mode
+  mode = (how_of walk).mode
+
+  waits : CanWait (how_of walk).mode e
+  waits = record { small = comes.small; ordered = on }
+
+  judges_pushed : (before : List Event) (l : Marked) → Comes (how_of walk) from before l
+      → last_time now ≡ floor_of (how_of walk).mode (l ++ told e answer.late answer.emitted) → Judges (how_of walk) now before l e answer
+  judges_pushed before l come greatest =
+      let how = how_of walk in
+      let c = come some in
+      let p = pushed (ordered how.mode before) (not_marked l) c.settled in
+      let none = ne_eqb how.policy.settle 0 some in
+      record {
+        late = p.overtaken ∙ rw (keeps.reach, on) refl;
+        tells = rw (none, on) (rw keeps.reach at p.tells);
+        come = λ _. record {
+          settled = rw (filter-append (λ (x : Event). is_ordered how.mode x) before (e ∷ []), ordered-on how.mode e on, not_marked-append, not_marked-told e answer.late answer.emitted (λ late. none_late answer.emitted answer.late _ or_emits.emits late)) p.settled;
+          greatest = greatest;
+        };
+      }
+
+  floor-is : (x : Event) (b : Bool) (l : Marked) → last_time from ≡ floor_of (how_of walk).mode l → last_time now ≡ moved_floor (how_of walk).mode (last_time from) x b
+      → (IsTrue (is_ordered (how_of walk).mode x && not b) → last_time from ≤ x.time) → last_time now ≡ floor_of (how_of walk).mode (l ++ (x, b) ∷ [])
+  floor-is x b l is moved in_order = greatest-push (how_of walk).mode l x b (last_time from) (last_time now) moved in_order is
+
+  floor : (s : Settle) → floor_in walk s ≡ last_time s
+  floor s = some-is (how_of walk).policy.settle (greatest_of walk) (last_time s) some
+
+  pub becomes_pushed : (o : Option Event) (b : Bool) → answer.emitted ≡ o → answer.late ≡ b → Becomes walk from now e late answer
+  becomes_pushed None true emits is = record {
+    judges = λ before l so come. judges_pushed before l come
+        (rw (emits, is) (floor-is e true l (come some).greatest (moves.same_time emits ∙ search (rules, arith)) (λ h. search (rules, arith))));
+    goes = rw emits tt;
+    rises = omega (arith, floor from, floor now, moves.same_time emits);
+    fit = rw (or_emits.left_out is) keeps.fit;
+    count = rw is (omega (arith, ap length (or_emits.left_out is)));
+    reach = stands.same_reach;
+    unpopped = stands.same_popped;
+    next = omega (arith, stands.place);
+  }
+  becomes_pushed None false emits is = record {
+    judges = λ before l so come. judges_pushed before l come
+        (rw (emits, is, append-nil) (moves.same_time emits ∙ (come some).greatest));
+    goes = rw emits tt;
+    rises = omega (arith, floor from, floor now, moves.same_time emits);
+    fit = those_waiting (CanWait (how_of walk).mode) answer.emitted (kept_back from) (kept_back now) e (or_emits.kept is) waits keeps.fit;
+    count = rw (is, emits) (omega (arith, rw emits at (count_waiting answer.emitted (kept_back from) (kept_back now) e (or_emits.kept is))));
+    reach = stands.same_reach;
+    unpopped = stands.same_popped;
+    next = omega (arith, stands.place);
+  }
+  becomes_pushed (Some x) true emits is = let h : true ≡ false = rw (emits, is) at or_emits.emits in cc
+  becomes_pushed (Some x) false emits is =
+      let goes = that_goes (CanWait (how_of walk).mode) answer.emitted x (kept_back from) (kept_back now) e emits (or_emits.kept is) waits keeps.fit in
+      let time : last_time now ≡ x.time = rw emits at moves.time in
+      let low : last_time from ≤ x.time = rw emits at moves.rises in
+      record {
+        judges = λ before l so come. judges_pushed before l come
+            (rw (emits, is) (floor-is x false l (come some).greatest (time ∙ rw goes.ordered refl) (λ _. low)));
+        goes = rw emits (record { small = goes.small; in_order = λ _. (omega (arith, floor from, low), omega (arith, floor now, time)) });
+        rises = omega (arith, floor from, floor now, time, low);
+        fit = those_waiting (CanWait (how_of walk).mode) answer.emitted (kept_back from) (kept_back now) e (or_emits.kept is) waits keeps.fit;
+        count = rw (is, emits) (omega (arith, rw emits at (count_waiting answer.emitted (kept_back from) (kept_back now) e (or_emits.kept is))));
+        reach = stands.same_reach;
+        unpopped = stands.same_popped;
+        next = omega (arith, stands.place);
+      }
+
+-- The greatest time given is the same where nothing was placed.
+pub floor-same : (old new : Walk) (s : Settle) → how_of new ≡ how_of old → clock_in new ≡ clock_in old → floor_in new s ≡ floor_in old s
+floor-same old new s how clock = ap (λ (h : StreamSettings). if h.policy.settle == 0 then greatest_of new else last_time s) how
+    ∙ ap (λ (k : Clock). if (how_of old).policy.settle == 0 then greatest_by k else last_time s) clock
+
+module _ {T : Type 0} (g : Ghosts T) where
+  -- an event that adds nothing
+  pub told_none : (how : StreamSettings) (walk : Walk) (settle : Settle) (t : T) (before : List Event) (l : Marked) (e : Event) (top : ℕ)
+      → refused_for how before e top ≡ None → tells how.policy.settle how.mode before e ≡ []
+      → Comes how settle (before ++ e ∷ []) (l ++ []) → Told g how walk walk settle t t before l e top
+  told_none how walk settle t before l e top none is come = search (rules, arith, append-nil, add-zero)
+
+  -- an event that adds one, which was given or broke the taker
+  pub tells_one : {X : Type 0} (r : Result X Fault) (old new : Walk) (settle : Settle) (t now : T)
+      (before : List Event) (l : Marked) (e x : Event) (late : Bool) (top : ℕ) → refused_for (how_of old) before e top ≡ None
+      → tells (how_of old).policy.settle (how_of old).mode before e ≡ (x, late) ∷ [] → Comes (how_of old) settle (before ++ e ∷ []) (l ++ (x, late) ∷ [])
+      → OnOk r (Gave g old new t now x late) → OnErr r ((start : T) (l : Marked) → g.got start t l → g.broke start now (l ++ (x, late) ∷ []))
+      → IfErr r (λ fault. fault ≡ WriteFault) → FailsOnce (g.faults t) (g.faults now) r
+      → Tells g old new settle t now before l e top r
+  tells_one (Ok y) old new settle t now before l e x late top none is come gave broken fault cause =
+      record { unrefused = none; come = rw is come; got = rw is gave.got; summary = rw is gave.noted.summary; counted = rw is gave.noted.given; kept = cause.kept }
+  tells_one (Err y) old new settle t now before l e x late top none is come gave broken fault cause =
+      inr (fault, record { unrefused = none; some = rw is (omega arith); broken = rw is broken; rose = cause.once })
+
+  -- a late one leaves the greatest time
+  pub late_follows : {X : Type 0} (r : Result X Fault) (old new : Walk) (from now : Settle) (t u : T) (e : Event)
+      → OnOk r (Gave g old new t u e true) → KeepsPlace old new → Follows g (how_of old).mode (given_by old) (floor_in old from) t
+      → floor_in old from ≤ floor_in old now → OnOk r (Follows g (how_of old).mode (given_by new) (floor_in new now) u)
+  late_follows (Ok x) old new from now t u e gave place follows rises =
+      let same = floor-same old new now place.same_how place.same_clock in
+      let moved : moved_floor (how_of old).mode (g.floor t) e true ≡ g.floor t = search (rules, arith) in
+      gave.follows (floor_in new now) (omega (arith, moved, same, follows.before, rises))
+  late_follows (Err y) old new from now t u e gave place follows rises = tt
+
+-- After one word more.
+pub come_word : (how : StreamSettings) (settle : Settle) (ws : List ℕ) (w : ℕ) (es : List Event) (l : Marked)
+    → event_after (map how.meaning ws) (how.meaning w) ≡ es → fresh how ws (how.meaning w) ≡ l
+    → Comes how settle (events (map how.meaning ws) ++ es) (events_in how ws ++ l) → Settles how settle (ws ++ w ∷ [])
+come_word how settle ws w es l is adds come =
+    let delivers = events_in-push how ws w ∙ ap (λ m. events_in how ws ++ m) adds in
+    λ some. rw (delivers, map-append how.meaning ws (w ∷ []), events-push (map how.meaning ws) (how.meaning w), is) (come some)
 
 pub none-is : (b : Bool) (x y : ℕ) → x ≡ 0 → y ≡ 0 → (if b then x else y) ≡ 0
 none-is b x y one other = search (rules, arith)

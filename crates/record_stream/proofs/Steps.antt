@@ -1,9 +1,9 @@
 -- One word more.
-use Rattle.std.{proofs.Common.{rules, ◌≡◌, ◌+◌, ◌<◌, ℕ, List, [], ◌∷◌, ◌++◌, Bool, false, None, Some, Ok, Err, OnOk, OnErr, IfOk, IfErr, length, map, refl, sym, ap, subst, ◌∙◌, inr, append-nil, add-zero, arith, length-append, ◌&&◌, ◌≤◌, true, is_err, ◌^◌, max, append_assoc, IsTrue, if◌then◌else◌}, specs.declared.result.Result.Result, proofs.lemmas.List.{map-append, map_push}, proofs.lemmas.List.Elements.All-push}
-use Rattle.tally_base.{specs.declared.event.Event.Event, specs.declared.fault.Fault.Fault, specs.declared.fault.Fault.TheVariants.WriteFault, specs.FaultCounts.{FailsOnce, Rose}, specs.Events.{stops_reserved, is_ordered}, specs.declared.header.Mode.Mode, specs.Tally.floor_after, proofs.Floors.{floor-lower, floor-push, order-push}, specs.declared.header.Mode.TheVariants.{T2, T3}, specs.Limits.{time_limit, wrap_limit}}
+use Rattle.std.{proofs.Common.{rules, ◌≡◌, ◌+◌, ◌<◌, ℕ, List, [], ◌∷◌, ◌++◌, false, None, Some, Ok, Err, OnOk, OnErr, IfOk, IfErr, length, map, refl, sym, ap, subst, ◌∙◌, append-nil, add-zero, arith, length-append, ◌&&◌, ◌≤◌, true, is_err, ◌^◌, max, append_assoc, IsTrue, if◌then◌else◌}, specs.declared.result.Result.Result, proofs.lemmas.List.{map-append, map_push}, proofs.lemmas.List.Elements.All-push}
+use Rattle.tally_base.{specs.declared.event.Event.Event, specs.declared.fault.Fault.Fault, specs.FaultCounts.{Rose}, specs.Events.{stops_reserved, is_ordered}, specs.declared.header.Mode.Mode, specs.Tally.floor_after, proofs.Floors.{floor-lower, floor-push, order-push}, specs.declared.header.Mode.TheVariants.{T2, T3}, specs.Limits.{time_limit, wrap_limit}}
 use Rattle.ptu_definitions.{specs.declared.records.Summary.Summary, specs.declared.records.Raw.Raw, specs.Kept.{Marked, ordered_time}, specs.Streams.{StreamSettings, refusal, refusals, record_refusal, given, events_in}, proofs.StreamLemmas.{fresh, events_in-push, clear-push, refused-push, given-clear, given-refused, events-push}, specs.Kinds.{is_reserved, counts_of}, specs.declared.records.KindCounts.KindCounts, specs.declared.records.Raw.TheVariants.{Photon, Marker, Wrap, Reserved}, specs.Times.{event_of, amount}, specs.Layouts.{Fits, KindFits}}
 use Rattle.abs_time.{specs.declared.clock.Clock.Clock, specs.declared.clock.Placed.Placed, specs.Placing.{HasPlaced, place_answer, mode_of, placed_by, base_of, greatest_by, IsClock, against}, specs.Floors.orders_markers, specs.declared.clock.Placed.TheVariants.{Event as InOrderPlaced, Wrap as WrapPlaced, Reserved as ReservedPlaced}, proofs.ClockLemmas.{IsClock-photon, IsClock-marker, IsClock-wrap, IsClock-reserved, answer-photon, answer-marker, answer-wrap, answer-reserved}, proofs.Floors.moves_by}
-use Rattle.record_stream.{specs.Rows.{IsPlaced}, specs.Walking.{how_of, given_by, summary_in, clock_in, Gave, IsBehind, KeepsPlace}, proofs.Placed.{refusal-ok, refusal-err, event_in, marks_of, refused_by, refused-plain, fresh-plain, skipped-refusal, skipped-fresh, IsEarly, comes, refused-early}, specs.declared.taker.EventTaker.Ghosts, specs.Feeding.{IsAt, GaveOn, BrokeOn, Fed}, specs.OneMore.{with_raw, with_marks, with_block}, specs.declared.walk.Walk.Walk, proofs.Summaries.{so_far-push, so_far-records, so_far-more}, specs.Blocks.{on_time, Adds, BrokeAmong, greatest_with, IsOnTime, IsInLine, PlacesRise, RisesWithin}}
+use Rattle.record_stream.{specs.Rows.{IsPlaced}, specs.Walking.{how_of, given_by, summary_in, clock_in, IsBehind, KeepsPlace}, proofs.Placed.{refusal-ok, refusal-err, event_in, marks_of, fresh-plain, skipped-refusal, skipped-fresh, IsEarly, comes, refused-early}, specs.declared.taker.EventTaker.Ghosts, specs.Feeding.{IsAt, GaveOn, BrokeOn, Fed}, specs.OneMore.{with_raw, with_marks, with_block}, specs.declared.walk.Walk.Walk, proofs.Summaries.{so_far-push, so_far-records, so_far-more}, specs.Blocks.{on_time, Adds, BrokeAmong, greatest_with, IsOnTime, IsInLine, PlacesRise, RisesWithin}}
 use Rattle.settle.specs.Passing.{place_after}
 
 -- as many records as words
@@ -73,25 +73,6 @@ module _ {T : Type 0} (g : Ghosts T) {old mid : Walk} {ws : List ℕ} {w : ℕ} 
         word_at [] placed same_how h none is mid place same_given refl (sym (add-zero (given_by mid))),
         word_gave [] placed same_how h none is g (λ start l got. rw append-nil got) refl,
       )
-
-  -- a word whose event was given, or broke the taker, where no event is put in its place
-  module _ (new : Walk) (t u : T) (e : Event) (late : Bool) (plain : (how_of old).policy.settle ≡ 0) (passes : refused_by (how_of old) p ≡ None)
-      (marks_are : marks_of p ≡ (e, late) ∷ []) (place : KeepsPlace mid new) where
-    none : refusal (how_of old) ws w ≡ None
-    none = placed.refusal ∙ refused-plain (how_of old) (map (how_of old).meaning ws) ((how_of old).meaning w) p plain placed.answer ∙ passes
-
-    is : fresh (how_of old) ws ((how_of old).meaning w) ≡ (e, late) ∷ []
-    is = fresh-plain (how_of old) ws ((how_of old).meaning w) p plain placed.answer ∙ marks_are
-
-    pub plain_word : {X : Type 0} (r : Result X Fault) → OnOk r (Gave g mid new t u e late)
-        → OnErr r ((start : T) (l : Marked) → g.got start t l → g.broke start u (l ++ (e, late) ∷ [])) → IfErr r (λ fault. fault ≡ WriteFault)
-        → FailsOnce (g.faults t) (g.faults u) r → OnOk r (IsBehind new (ws ++ w ∷ [])) × Fed g (how_of old) t u ws (ws ++ w ∷ []) r
-    plain_word (Ok y) gave broken fault cause = (
-      word_at ((e, late) ∷ []) placed same_how h none is new place same_given gave.noted.summary gave.noted.given,
-      word_gave ((e, late) ∷ []) placed same_how h none is g gave.got cause.kept,
-    )
-    plain_word (Err y) gave broken fault cause =
-        (tt, inr (fault, word_broke ((e, late) ∷ []) placed same_how h none is g (omega arith) broken cause.once))
 
 -- A block that is given to a taker.
 

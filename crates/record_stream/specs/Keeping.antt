@@ -1,7 +1,7 @@
 -- The events that a stream keeps back.
-use Rattle.std.{specs.Prelude.{ℕ, ◌≡◌, ◌≢◌, ◌+◌, ◌≤◌, ◌&&◌, true, false, List, [], length, map, None, Some, if◌then◌else◌}, specs.declared.option.Option.Option, specs.List.All}
+use Rattle.std.{specs.Prelude.{ℕ, ◌≡◌, ◌≢◌, ◌+◌, ◌≤◌, ◌==◌, true, false, List, [], length, map, None, Some, if◌then◌else◌}, specs.declared.option.Option.Option, specs.List.All}
 use Rattle.tally_base.{specs.declared.event.Event.Event, specs.declared.fault.Fault.Fault, specs.declared.fault.Fault.TheVariants.BackwardTime, specs.declared.header.Mode.Mode, specs.Events.{is_ordered, stops_late}, specs.RecordTypes.mode_of}
-use Rattle.ptu_definitions.{specs.Kept.{Marked, floor_of}, specs.Settled.{is_overtaken, ordered, settles, not_marked}, specs.Streams.{StreamSettings, events_in}, specs.Times.events, specs.declared.records.Summary.Summary}
+use Rattle.ptu_definitions.{specs.Kept.{Marked, floor_of, mark}, specs.Settled.{is_late_by, ordered, settles, not_marked}, specs.Streams.{StreamSettings, events_in}, specs.Times.events, specs.declared.records.Summary.Summary}
 use Rattle.abs_time.{specs.Placing.{IsSmall, placed_by}, specs.declared.clock.Clock.Clock}
 use Rattle.settle.{specs.Standing.{HasSettled, kept_back, next_place, last_time, reach_of, was_popped}, specs.declared.settle.Settle.Settle}
 use Rattle.record_stream.{specs.Feeding.IsAt, specs.declared.walk.Walk.Walk}
@@ -16,26 +16,33 @@ pub record IsKeeping (walk : Walk) (settle : Settle) : Type 0 where
   pub reach : reach_of settle ≡ walk.policy.settle
   pub unpopped : was_popped settle ≡ false
   pub fit : All (CanWait (mode_of walk.record_type)) (kept_back settle)
-  pub behind : walk.policy.settle ≢ 0 → next_place settle ≤ placed_by walk.clock + 1
+  pub behind : next_place settle ≤ placed_by walk.clock + 1
   pub room : walk.given + length (kept_back settle) ≤ walk.sums.records
 
--- The events in order of these words came, and those that are settled by now were emitted.
-pub record HasCome (how : StreamSettings) (settle : Settle) (words : List ℕ) : Type 0 where
-  pub settled : HasSettled settle (ordered how.mode (events (map how.meaning words))) (not_marked (events_in how words))
-  pub greatest : last_time settle ≡ floor_of how.mode (events_in how words)
+-- These events came, those in order were pushed, and what is settled by now was delivered.
+pub record Came (how : StreamSettings) (settle : Settle) (es : List Event) (l : Marked) : Type 0 where
+  pub settled : HasSettled settle (ordered how.mode es) (not_marked l)
+  pub greatest : last_time settle ≡ floor_of how.mode l
 
 -- What is kept back where events are put in their places.
+abbrev pub Comes : StreamSettings → Settle → List Event → Marked → Type 0
+Comes how settle es l = how.policy.settle ≢ 0 → Came how settle es l
+
+-- The same after words.
+abbrev pub HasCome : StreamSettings → Settle → List ℕ → Type 0
+HasCome how settle words = Came how settle (events (map how.meaning words)) (events_in how words)
+
 abbrev pub Settles : StreamSettings → Settle → List ℕ → Type 0
 Settles how settle words = how.policy.settle ≢ 0 → HasCome how settle words
 
--- what an event adds to what is delivered, after these events in order
+-- what an event adds to what is delivered, after these events
 abbrev pub tells : ℕ → Mode → List Event → Event → Marked
-tells k mode before e = if is_ordered mode e then settles k before e else []
+tells k mode before e = if k == 0 then mark mode before e else if is_ordered mode e then settles k (ordered mode before) e else []
 
 -- why it is refused, where `greatest` is the greatest time of these events
 abbrev pub refused_for : StreamSettings → List Event → Event → ℕ → Option Fault
 refused_for how before e greatest =
-    if stops_late how.policy.order then (if is_ordered how.mode e && is_overtaken how.policy.settle before e then Some (BackwardTime e.place e.time greatest) else None) else None
+    if stops_late how.policy.order then (if is_late_by how.policy.settle how.mode before e then Some (BackwardTime e.place e.time greatest) else None) else None
 
 -- Where a stream stands that took these words and refused none, with what it keeps back.
 pub record StandsAt (how : StreamSettings) (clock : Clock) (sum : Summary) (count : ℕ) (settle : Settle) (words : List ℕ) : Type 0 where

@@ -1,31 +1,61 @@
--- How far a walk is whose events are put in their places.
-use Rattle.std.specs.Prelude.{ℕ, ◌≡◌, ◌≢◌, ◌+◌, ◌<◌, ◌≤◌, Result, Ok, Err, List, [], ◌∷◌, ◌++◌, length, None, Some, ◌⊎◌}
-use Rattle.tally_base.{specs.declared.event.Event.Event, specs.declared.fault.Fault.Fault, specs.declared.fault.Fault.TheVariants.WriteFault, specs.FaultCounts.Rose}
-use Rattle.ptu_definitions.{specs.Kept.{Marked, floor_of}, specs.Settled.{ordered, not_marked}, specs.Streams.StreamSettings}
+-- How far a walk is with the events that it keeps back.
+use Rattle.std.{specs.Prelude.{ℕ, ◌≡◌, ◌+◌, ◌<◌, ◌≤◌, ◌==◌, Bool, true, false, Result, Ok, Err, List, [], ◌∷◌, ◌++◌, length, None, Some, IfSome, ◌⊎◌, if◌then◌else◌}, specs.List.All}
+use Rattle.tally_base.{specs.declared.event.Event.Event, specs.declared.fault.Fault.Fault, specs.declared.fault.Fault.TheVariants.WriteFault, specs.declared.header.Mode.Mode, specs.Events.is_ordered, specs.FaultCounts.Rose}
+use Rattle.ptu_definitions.{specs.Kept.{Marked, is_late}, specs.Settled.is_late_by, specs.Streams.StreamSettings}
 use Rattle.abs_time.specs.Placing.{placed_by, IsSmall}
-use Rattle.settle.{specs.Standing.{HasSettled, kept_back, next_place, last_time}, specs.declared.settle.Settle.Settle}
-use Rattle.record_stream.{specs.Feeding.Follows, specs.Keeping.{HasCome, IsKeeping, tells, refused_for}, specs.OneMore.with_marks, specs.Walking.{how_of, given_by, records_of, clock_in, summary_in, IsBehind, Stays}, specs.declared.taker.EventTaker.Ghosts, specs.declared.walk.Walk.Walk}
+use Rattle.settle.{specs.Settling.told, specs.Standing.{kept_back, last_time, next_place, reach_of, was_popped}, specs.declared.settle.Settle.Settle, specs.declared.settle.Settled.Settled}
+use Rattle.record_stream.{specs.Feeding.Follows, specs.Keeping.{CanWait, Comes, HasCome, IsKeeping, StandsAt, tells, refused_for}, specs.OneMore.{summed, with_marks}, specs.Walking.{how_of, given_by, greatest_of, records_of, clock_in, summary_in, IsBehind, Stays}, specs.declared.taker.EventTaker.Ghosts, specs.declared.walk.Walk.Walk}
+
+-- the greatest time of the events in order that were given and not late
+abbrev pub floor_in : Walk → Settle → ℕ
+floor_in walk settle = if (how_of walk).policy.settle == 0 then greatest_of walk else last_time settle
 
 -- It took these words and refused none, and the events in order of these came.
+abbrev pub HasTaken : Walk → Settle → List ℕ → Type 0
+HasTaken walk settle words = StandsAt (how_of walk) walk.clock (summed walk.sums) walk.given settle words
+
+-- The same where events are put in their places.
 pub record IsSettledBehind (walk : Walk) (settle : Settle) (words : List ℕ) : Type 0 where
   pub behind : IsBehind walk words
   pub come : HasCome (how_of walk) settle words
 
--- The next event: after those that were pushed, and of a record that is counted and placed.
-pub record ComesUp (walk : Walk) (settle : Settle) (e : Event) : Type 0 where
+-- The next event: after those that were pushed, and of a record that is counted and placed, late in file order or not.
+pub record ComesUp (walk : Walk) (settle : Settle) (e : Event) (late : Bool) : Type 0 where
   pub next : next_place settle ≤ e.place
   pub placed : e.place ≤ placed_by (clock_in walk)
   pub room : given_by walk + length (kept_back settle) < records_of walk
   pub small : IsSmall (how_of walk).mode e
+  pub top : late ≡ false → is_ordered (how_of walk).mode e ≡ true → greatest_of walk ≡ e.time
+
+-- An event can be given after this time, and up to that one.
+pub record GoesBetween (mode : Mode) (low high : ℕ) (e : Event) : Type 0 where
+  pub small : IsSmall mode e
+  pub in_order : is_ordered mode e ≡ true → (low ≤ e.time) × (e.time ≤ high)
+
+-- The answer says whether the event is late after these, and what it adds.
+pub record Judges (how : StreamSettings) (settle : Settle) (before : List Event) (l : Marked) (e : Event) (answer : Settled) : Type 0 where
+  pub late : answer.late ≡ is_late_by how.policy.settle how.mode before e
+  pub tells : tells how.policy.settle how.mode before e ≡ told e answer.late answer.emitted
+  pub come : Comes how settle (before ++ e ∷ []) (l ++ told e answer.late answer.emitted)
+
+-- What becomes of an event that comes up: it is given now, or late, or kept back with the others.
+pub record Becomes (walk : Walk) (from settle : Settle) (e : Event) (late : Bool) (answer : Settled) : Type 0 where
+  pub judges : (before : List Event) (l : Marked) → is_late (how_of walk).mode before e ≡ late → Comes (how_of walk) from before l → Judges (how_of walk) settle before l e answer
+  pub goes : IfSome answer.emitted (λ x. GoesBetween (how_of walk).mode (floor_in walk from) (floor_in walk settle) x)
+  pub rises : floor_in walk from ≤ floor_in walk settle
+  pub fit : All (CanWait (how_of walk).mode) (kept_back settle)
+  pub count : length (told e answer.late answer.emitted) + length (kept_back settle) ≤ length (kept_back from) + 1
+  pub reach : reach_of settle ≡ reach_of from
+  pub unpopped : was_popped settle ≡ was_popped from
+  pub next : next_place settle ≤ e.place + 1
 
 module _ {T : Type 0} (g : Ghosts T) where
   -- The taker is of the mode of the walk, and no further on.
   abbrev pub IsFollowedBy : Walk → Settle → T → Type 0
-  IsFollowedBy walk settle taker = Follows g (how_of walk).mode (given_by walk) (last_time settle) taker
+  IsFollowedBy walk settle taker = Follows g (how_of walk).mode (given_by walk) (floor_in walk settle) taker
 
-  -- Events are to be put in their places, and what is kept back and the taker are in step with the walk.
+  -- What is kept back and the taker are in step with the walk.
   pub record IsReady (walk : Walk) (settle : Settle) (taker : T) : Type 0 where
-    pub settles : (how_of walk).policy.settle ≢ 0
     pub keeps : IsKeeping walk settle
     pub follows : IsFollowedBy walk settle taker
 
@@ -34,12 +64,11 @@ module _ {T : Type 0} (g : Ghosts T) where
     pub stays : Stays g old new taker now
     pub keeps : IsKeeping new settle
 
-  -- After these events in order one more came, and what it adds was given.
-  pub record Told (how : StreamSettings) (old new : Walk) (from settle : Settle) (taker now : T) (before given : List Event) (e : Event) (latest : ℕ) : Type 0 where
+  -- After these events, with which this was delivered, one more came, and what it adds was given.
+  pub record Told (how : StreamSettings) (old new : Walk) (settle : Settle) (taker now : T) (before : List Event) (l : Marked) (e : Event) (latest : ℕ) : Type 0 where
     pub unrefused : refused_for how before e latest ≡ None
-    pub settled : HasSettled settle (before ++ ordered how.mode (e ∷ [])) (given ++ not_marked (tells how.policy.settle how.mode before e))
-    pub greatest : (l : Marked) → last_time from ≡ floor_of how.mode l → last_time settle ≡ floor_of how.mode (l ++ tells how.policy.settle how.mode before e)
-    pub got : (start : T) (l : Marked) → g.got start taker l → g.got start now (l ++ tells how.policy.settle how.mode before e)
+    pub come : Comes how settle (before ++ e ∷ []) (l ++ tells how.policy.settle how.mode before e)
+    pub got : (start : T) (m : Marked) → g.got start taker m → g.got start now (m ++ tells how.policy.settle how.mode before e)
     pub summary : summary_in new ≡ with_marks (summary_in old) (tells how.policy.settle how.mode before e)
     pub counted : given_by new ≡ given_by old + length (tells how.policy.settle how.mode before e)
     pub kept : g.faults now ≡ g.faults taker
@@ -57,6 +86,6 @@ module _ {T : Type 0} (g : Ghosts T) where
       ((refused_for how before e latest ≡ Some fault) × (now ≡ taker)) ⊎ ((fault ≡ WriteFault) × BrokeAt how taker now before e latest)
 
   -- What the event did, by the answer.
-  abbrev pub Tells : {X : Type 0} → Walk → Walk → Settle → Settle → T → T → List Event → List Event → Event → ℕ → Result X Fault → Type 0
-  Tells old new from settle taker now before given e latest (Ok x) = Told (how_of old) old new from settle taker now before given e latest
-  Tells old new from settle taker now before given e latest (Err fault) = Untold (how_of old) taker now before e latest fault
+  abbrev pub Tells : {X : Type 0} → Walk → Walk → Settle → T → T → List Event → Marked → Event → ℕ → Result X Fault → Type 0
+  Tells old new settle taker now before l e latest (Ok x) = Told (how_of old) old new settle taker now before l e latest
+  Tells old new settle taker now before l e latest (Err fault) = Untold (how_of old) taker now before e latest fault

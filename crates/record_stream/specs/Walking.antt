@@ -68,19 +68,10 @@ pub record LetsPass (walk : Walk) (meaning : ℕ → Raw) (words : List (List �
   pub reserved : stops_reserved (how_of walk).policy.reserved ≡ true → count_by is_reserved (map meaning (numbers words)) ≡ 0
 
 module _ {T : Type 0} (g : Ghosts T) where
-  -- The taker is of the mode of the walk, and no further on.
-  abbrev pub IsFollowed : Walk → T → Type 0
-  IsFollowed walk taker = Follows g (how_of walk).mode (given_by walk) (greatest_of walk) taker
-
   -- The walk took so many words more and refused none, and the taker is no further on than it and this time.
   pub record WalksOn (old new : Walk) (time : ℕ) (taker : T) (more : ℕ) : Type 0 where
     pub follows : Follows g (how_of old).mode (given_by new) time taker
     pub counted : records_of new ≡ records_of old + more
-
-  -- No event is to be put in its place, and the taker is of the mode of the walk and no further on.
-  pub record IsReady (walk : Walk) (taker : T) : Type 0 where
-    pub plain : (how_of walk).policy.settle ≡ 0
-    pub follows : IsFollowed walk taker
 
   -- The event, whose record is counted, can be given after those that the taker got.
   pub record CanGive (walk : Walk) (e : Event) (late : Bool) (taker : T) : Type 0 where

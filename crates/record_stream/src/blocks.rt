@@ -1,9 +1,9 @@
-// The words of a piece in blocks, without a branch on what each record is.
+// The words of a piece in blocks, without a branch on what each record is, in file order or another.
 ghost use Rattle.std.specs.Prelude.{◌≡◌, ◌+◌, ◌*◌, ◌≤◌, ◌++◌, List, ℕ, length, Some, if◌then◌else◌, OnOk, IfSome};
 ghost use Rattle.tally_base.{specs.declared.event.Event.Event, specs.Limits.record_limit, specs.Columns.{count, sorted, gathered}};
 ghost use Rattle.ptu_definitions.specs.Words.{numbers};
 ghost use Rattle.record_layout.specs.Sums.{IsSplit};
-ghost use Rattle.record_stream.specs.{Feeding.Delivers, OneMore.{summed, with_block, first_with, last_with}, Whole.{events_below, InReach}, Walking.{how_of, greatest_of, IsBehind, IsReady, WalksOn, Stays}};
+ghost use Rattle.record_stream.specs.{Feeding.Delivers, OneMore.{summed, with_block, first_with, last_with}, Whole.{events_below, InReach}, Walking.{how_of, WalksOn}, Settling.{floor_in, HasTaken, IsReady, StaysKept}};
 
 use crate::ahead::{Ahead, first_time};
 use crate::columns_taker::TakesColumns;
@@ -13,6 +13,7 @@ use abs_time::Clock;
 use lane_decode::Columns;
 use ptu_definitions::KindCounts;
 use record_layout::RecordLayout;
+use settle::Settle;
 use tally_base::{BLOCK_SIZE, Block, Fault, TABLE_BLOCK};
 
 /// Puts the events of 64 records whose codes are below `below` after those of a block, several records at once.
@@ -66,65 +67,103 @@ pub(crate) fn first_kept(kept: bool, first: u64, time: u64) -> u64
     if kept { first } else { time }
 }
 
-/// Takes a block of words, with room for their records.
-#[inline(always)]
-fn take_block<R: RecordLayout, W: TakesColumns>(
-    walk: &mut Walk,
-    words: &[[u8; 4]],
-    columns: &mut Columns,
-    taker: &mut W,
-) -> Result<(), Fault>
-    requires whole { length words.now ≡ BLOCK_SIZE }
-    requires meaning { R.meaning ≡ (how_of walk.old).meaning }
-    requires ready { IsReady W.EventTaker walk.old taker.old }
-    ensures delivers { Delivers W.EventTaker (how_of walk.old) (IsBehind walk.old) (IsBehind walk.new)
-        taker.old taker.new (numbers words.now) result }
-    ensures goes_on { OnOk result (WalksOn W.EventTaker walk.old walk.new (greatest_of walk.new)
-        taker.new (length words.now)) }
-    ensures stays { Stays W.EventTaker walk.old walk.new taker.old taker.new }
-{
-    columns.fill::<R>(words);
-    let Some(ahead) = Ahead::of::<R>(walk, words, columns) else {
-        return walk.words::<R, W>(words, taker);
-    };
-    let clock = walk.clock;
-    if taker.take_columns::<R>(&clock, columns, &ahead).is_err() {
-        return Err(Fault::WriteFault);
-    }
-    let sums = walk.sums;
-    let first = first_time::<R>(&sums, columns, clock.base());
-    add_block(&mut walk.sums, &ahead.counts, first, ahead.last);
-    let placed = clock.placed() + ahead.counts.records;
-    let low = clock.greatest();
-    let greatest = ahead.greatest.unwrap_or(low);
-    walk.clock.go_on(placed, ahead.base, greatest);
-    walk.given += ahead.counts.photons + ahead.counts.markers;
-    Ok(())
+/// The order in which a stream gives its events, with room for a block of words.
+pub(crate) trait GivingOrder {
+    /// It is this order where so many events may overtake one.
+    ghost is_for: { ℕ → Type 0 };
+
+    fn new() -> Self;
+
+    /// Takes a block of words.
+    fn take_block<R: RecordLayout, W: TakesColumns>(
+        &mut self,
+        walk: &mut Walk,
+        settle: &mut Settle,
+        words: &[[u8; 4]],
+        taker: &mut W,
+    ) -> Result<(), Fault>
+        requires is_for { is_for (how_of walk.old).policy.settle }
+        requires whole { length words.now ≡ BLOCK_SIZE }
+        requires meaning { R.meaning ≡ (how_of walk.old).meaning }
+        requires ready { IsReady W.EventTaker walk.old settle.old taker.old }
+        ensures delivers { Delivers W.EventTaker (how_of walk.old) (HasTaken walk.old settle.old)
+            (HasTaken walk.new settle.new) taker.old taker.new (numbers words.now) result }
+        ensures goes_on { OnOk result (WalksOn W.EventTaker walk.old walk.new
+            (floor_in walk.new settle.new) taker.new (length words.now)) }
+        ensures stays { StaysKept W.EventTaker walk.old walk.new settle.new taker.old taker.new };
 }
 
-/// Takes the next words, in blocks, where no event is put in its place.
-pub(crate) fn take_words<R: RecordLayout, W: TakesColumns>(
+/// File order.
+#[derive(Drop)]
+pub(crate) struct FileOrder {
+    columns: Columns,
+}
+
+impl GivingOrder for FileOrder {
+    ghost is_for = { λ k. k ≡ 0 };
+
+    fn new() -> FileOrder {
+        FileOrder {
+            columns: Columns::new(),
+        }
+    }
+
+    #[inline(always)]
+    fn take_block<R: RecordLayout, W: TakesColumns>(
+        &mut self,
+        walk: &mut Walk,
+        settle: &mut Settle,
+        words: &[[u8; 4]],
+        taker: &mut W,
+    ) -> Result<(), Fault> {
+        self.columns.fill::<R>(words);
+        let Some(ahead) = Ahead::of::<R>(walk, words, &self.columns) else {
+            return walk.words::<R, W>(settle, words, taker);
+        };
+        let clock = walk.clock;
+        if taker
+            .take_columns::<R>(&clock, &self.columns, &ahead)
+            .is_err()
+        {
+            return Err(Fault::WriteFault);
+        }
+        let sums = walk.sums;
+        let first = first_time::<R>(&sums, &self.columns, clock.base());
+        add_block(&mut walk.sums, &ahead.counts, first, ahead.last);
+        let placed = clock.placed() + ahead.counts.records;
+        let low = clock.greatest();
+        let greatest = ahead.greatest.unwrap_or(low);
+        walk.clock.go_on(placed, ahead.base, greatest);
+        walk.given += ahead.counts.photons + ahead.counts.markers;
+        Ok(())
+    }
+}
+
+/// Takes the next words, in blocks.
+pub(crate) fn take_words<R: RecordLayout, O: GivingOrder + Drop, W: TakesColumns>(
     walk: &mut Walk,
+    settle: &mut Settle,
     words: &[[u8; 4]],
     taker: &mut W,
 ) -> Result<(), Fault>
+    requires is_for { O.is_for (how_of walk.old).policy.settle }
     requires meaning { R.meaning ≡ (how_of walk.old).meaning }
-    requires ready { IsReady W.EventTaker walk.old taker.old }
-    ensures delivers { Delivers W.EventTaker (how_of walk.old) (IsBehind walk.old) (IsBehind walk.new)
-        taker.old taker.new (numbers words.now) result }
-    ensures goes_on { OnOk result (WalksOn W.EventTaker walk.old walk.new (greatest_of walk.new)
-        taker.new (length words.now)) }
-    ensures stays { Stays W.EventTaker walk.old walk.new taker.old taker.new }
+    requires ready { IsReady W.EventTaker walk.old settle.old taker.old }
+    ensures delivers { Delivers W.EventTaker (how_of walk.old) (HasTaken walk.old settle.old)
+        (HasTaken walk.new settle.new) taker.old taker.new (numbers words.now) result }
+    ensures goes_on { OnOk result (WalksOn W.EventTaker walk.old walk.new
+        (floor_in walk.new settle.new) taker.new (length words.now)) }
+    ensures stays { StaysKept W.EventTaker walk.old walk.new settle.new taker.old taker.new }
 {
     if words.len() < BLOCK_SIZE {
-        return walk.words::<R, W>(words, taker);
+        return walk.words::<R, W>(settle, words, taker);
     }
-    let mut columns = Columns::new();
+    let mut order = O::new();
     let mut rest = words;
     'many: while rest.len() >= BLOCK_SIZE {
         let (front, back) = rest.split_at(BLOCK_SIZE);
-        take_block::<R, W>(walk, front, &mut columns, taker)?;
+        order.take_block::<R, W>(walk, settle, front, taker)?;
         rest = back;
     }
-    walk.words::<R, W>(rest, taker)
+    walk.words::<R, W>(settle, rest, taker)
 }

@@ -5,12 +5,12 @@ ghost use Rattle.tally_base.{specs.Limits.record_limit, specs.declared.fault.Fau
 ghost use Rattle.ptu_definitions.{specs.Kept.Marked, specs.Streams.{reading, record_refusal, streamed}, specs.Layouts.Fits, specs.Words.{numbers, words_of}, specs.Headers.Shows};
 ghost use Rattle.record_stream.specs.Keeping.{IsKeeping};
 
-use crate::blocks::take_words;
+use crate::blocks::{FileOrder, take_words};
 use crate::columns_taker::TakesColumns;
 use crate::count::Sums;
 use crate::in_blocks::{InBlocks, give_all};
 use crate::settled::give_rest;
-use crate::settled_blocks::settle_blocks;
+use crate::settled_blocks::InPlace;
 use crate::taker::EventTaker;
 use crate::unwritten::Unwritten;
 use crate::walk::Walk;
@@ -128,9 +128,9 @@ impl RecordStream {
         ensures stays { Stays W.EventTaker self.old self.new taker.old taker.new }
     {
         if self.walk.policy.settle == 0 {
-            take_words::<R, W>(&mut self.walk, words, taker)
+            take_words::<R, FileOrder, W>(&mut self.walk, &mut self.settle, words, taker)
         } else {
-            settle_blocks::<R, W>(&mut self.walk, &mut self.settle, words, taker)
+            take_words::<R, InPlace, W>(&mut self.walk, &mut self.settle, words, taker)
         }
     }
 

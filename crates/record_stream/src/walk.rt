@@ -2,13 +2,15 @@
 ghost use Rattle.std.specs.Prelude.{◌≡◌, ◌+◌, ◌*◌, ◌<◌, ◌≤◌, ◌++◌, ◌∷◌, [], List, ℕ, length, Some, OnOk, OnErr, IfOk, IfErr, ◌&&◌, not, IsTrue};
 ghost use Rattle.abs_time.{specs.Placing.{mode_of as clock_mode, placed_by, IsSmall}, specs.Floors.moved_floor};
 ghost use Rattle.tally_base.{specs.RecordTypes.mode_of, specs.Limits.record_limit, specs.declared.fault.Fault.TheVariants.WriteFault, specs.FaultCounts.FailsOnce, specs.Events.is_ordered};
-ghost use Rattle.ptu_definitions.{specs.Kept.Marked, specs.Layouts.Fits, specs.Words.numbers, specs.Streams.refusal};
+ghost use Rattle.ptu_definitions.{specs.Kept.{Marked, is_late}, specs.Layouts.Fits, specs.Words.numbers, specs.Streams.refusal};
 
 use crate::count::{Sums, add_event, add_raw, stops_at, stops_late};
+use crate::settled::settle_event;
 use crate::taker::EventTaker;
 use abs_time::{Clock, Placed};
 use ptu_definitions::Raw;
 use record_layout::RecordLayout;
+use settle::Settle;
 use tally_base::{Event, Fault, Policy, RecordType};
 
 /// How far a stream is in whole records that it refused none of.
@@ -29,7 +31,7 @@ pub struct Walk {
 }
 
 impl Walk {
-    ghost use Rattle.record_stream.{specs.OneMore.with_event, specs.Feeding.{Follows, Delivers}, specs.Walking.{how_of, given_by, greatest_of, records_of, KeepsPlace, IsBehind, IsReady, CanGive, Gave, WalksOn, Stays}, specs.Rows.{IsPlaced, CountsOne, KeepsGiven}};
+    ghost use Rattle.record_stream.{specs.OneMore.with_event, specs.Feeding.{Follows, Delivers}, specs.Walking.{how_of, given_by, KeepsPlace, IsBehind, CanGive, Gave, WalksOn}, specs.Keeping.{Comes, IsKeeping}, specs.Settling.{floor_in, ComesUp, HasTaken, IsFollowedBy, IsReady, StaysKept, Tells}, specs.Rows.{IsPlaced, CountsOne, KeepsGiven}};
 
     /// What a word means.
     #[inline(always)]
@@ -72,30 +74,63 @@ impl Walk {
     #[inline(always)]
     fn step<R: RecordLayout, S: EventTaker>(
         &mut self,
+        settle: &mut Settle,
         word: u32,
         taker: &mut S,
     ) -> Result<(), Fault>
         requires meaning { R.meaning ≡ (how_of self.old).meaning }
-        requires ready { IsReady S.EventTaker self.old taker.old }
-        ensures delivers { Delivers S.EventTaker (how_of self.old) (IsBehind self.old)
-            (IsBehind self.new) taker.old taker.new (word ∷ []) result }
+        requires ready { IsReady S.EventTaker self.old settle.old taker.old }
+        ensures delivers { Delivers S.EventTaker (how_of self.old) (HasTaken self.old settle.old)
+            (HasTaken self.new settle.new) taker.old taker.new (word ∷ []) result }
         ensures goes_on { OnOk result (WalksOn S.EventTaker self.old self.new
-            (greatest_of self.new) taker.new 1) }
-        ensures stays { Stays S.EventTaker self.old self.new taker.old taker.new }
+            (floor_in self.new settle.new) taker.new 1) }
+        ensures stays { StaysKept S.EventTaker self.old self.new settle.new taker.old taker.new }
     {
         match self.place_next::<R>(word)? {
-            Placed::Event(event) => self.give_event(&event, false, taker),
-            Placed::Late { event, before } => {
-                if stops_late(self.policy.order) {
-                    return Err(Fault::BackwardTime {
-                        place: event.place,
-                        time: event.time,
-                        before,
-                    });
-                }
-                self.give_event(&event, true, taker)
-            }
+            Placed::Event(event) => self.take_event(settle, event, event.time, false, taker),
+            Placed::Late { event, before } => self.take_event(settle, event, before, true, taker),
             Placed::Wrap | Placed::Reserved => Ok(()),
+        }
+    }
+
+    /// Takes the next event, of a record that is counted and placed, and gives the taker what goes with it. It is late
+    /// in file order or not, and `before` is the greatest time of the events in order before it, if that is greater.
+    #[inline(always)]
+    fn take_event<S: EventTaker>(
+        &mut self,
+        settle: &mut Settle,
+        event: Event,
+        before: u64,
+        late: bool,
+        taker: &mut S,
+    ) -> Result<(), Fault>
+        requires keeps { IsKeeping self.old settle.old }
+        requires comes { ComesUp self.old settle.old event late }
+        requires follows { IsFollowedBy S.EventTaker self.old settle.old taker.old }
+        ensures tells { (earlier : List Event) (l : Marked)
+            → is_late (how_of self.old).mode earlier event ≡ late
+            → Comes (how_of self.old) settle.old earlier l
+            → Tells S.EventTaker self.old self.new settle.new taker.old taker.new earlier l event
+            before result }
+        ensures goes_on { OnOk result (Follows S.EventTaker (how_of self.old).mode
+            (given_by self.new) (floor_in self.new settle.new) taker.new) }
+        ensures place { KeepsPlace self.old self.new }
+        ensures stays { StaysKept S.EventTaker self.old self.new settle.new taker.old taker.new }
+    {
+        let settled = settle_event(self, settle, event, late);
+        if settled.late {
+            if stops_late(self.policy.order) {
+                return Err(Fault::BackwardTime {
+                    place: event.place,
+                    time: event.time,
+                    before,
+                });
+            }
+            return self.give_event(&event, true, taker);
+        }
+        match settled.emitted {
+            Some(first) => self.give_event(&first, false, taker),
+            None => Ok(()),
         }
     }
 
@@ -125,24 +160,31 @@ impl Walk {
         Ok(())
     }
 
-    /// Takes the next words, where no event is put in its place.
+    /// Takes the next words, one after the other.
     pub(crate) fn words<R: RecordLayout, S: EventTaker>(
         &mut self,
+        settle: &mut Settle,
         words: &[[u8; 4]],
         taker: &mut S,
     ) -> Result<(), Fault>
         requires meaning { R.meaning ≡ (how_of self.old).meaning }
-        requires ready { IsReady S.EventTaker self.old taker.old }
-        ensures delivers { Delivers S.EventTaker (how_of self.old) (IsBehind self.old)
-            (IsBehind self.new) taker.old taker.new (numbers words.now) result }
+        requires ready { IsReady S.EventTaker self.old settle.old taker.old }
+        ensures delivers { Delivers S.EventTaker (how_of self.old) (HasTaken self.old settle.old)
+            (HasTaken self.new settle.new) taker.old taker.new (numbers words.now) result }
         ensures goes_on { OnOk result (WalksOn S.EventTaker self.old self.new
-            (greatest_of self.new) taker.new (length words.now)) }
-        ensures stays { Stays S.EventTaker self.old self.new taker.old taker.new }
+            (floor_in self.new settle.new) taker.new (length words.now)) }
+        ensures stays { StaysKept S.EventTaker self.old self.new settle.new taker.old taker.new }
     {
-        // A copy, whose fields the loop keeps in registers. After a refusal no field is read again.
+        // A copy, whose fields the loop keeps in registers.
         let mut at = *self;
         for word in words {
-            at.step::<R, S>(u32::from_le_bytes(*word), taker)?;
+            match at.step::<R, S>(settle, u32::from_le_bytes(*word), taker) {
+                Ok(()) => {}
+                Err(fault) => {
+                    *self = at;
+                    return Err(fault);
+                }
+            }
         }
         *self = at;
         Ok(())

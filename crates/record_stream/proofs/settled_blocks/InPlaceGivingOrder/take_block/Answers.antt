@@ -1,10 +1,10 @@
 use Rattle.std.{proofs.Common.{◌≡◌, ◌≤◌, ◌++◌, ℕ, List, true, length, map, refl, ap, sym, inr, unwrap_or, ◌∙◌, arith, rules, ◌≢◌, ◌<◌, [], ◌∷◌, if◌then◌else◌}, proofs.lemmas.Bool.ne_eqb, proofs.lemmas.List.Elements.{All-filter, filter-append}}
 use Rattle.ptu_definitions.{specs.Words.numbers, specs.Layouts.KindFits, specs.Settled.{ordered}, specs.Streams.{StreamSettings}, specs.Times.events, proofs.DeliveredLaws.{delivered-append, delivered_after}}
-use Rattle.abs_time.{specs.Floors.orders_markers, proofs.Floors.moves_by}
+use Rattle.abs_time.{specs.Placing.greatest_by, specs.Floors.orders_markers, proofs.Floors.moves_by}
 use Rattle.tally_base.{specs.Columns.{event_at, gathered}, proofs.BlockRows.length-rows, proofs.Floors.order-lower, specs.declared.event.Event.Event, specs.declared.header.Mode.Mode, specs.Events.is_ordered, specs.Tally.{moves_floor, InOrder}}
-use Rattle.settle.{specs.Passing.place_after, specs.declared.settle.Settle.Settle}
-use Rattle.record_stream.{specs.Blocks.{PlacesRise, RisesWithin}, specs.LettingGo.{IsDelivered, AreOrdered}, specs.Rows.ordered_below, specs.Walking.{how_of, clock_in}, specs.Whole.events_below, proofs.Feeds.delivers-both, proofs.Gathering.gathers-lead, proofs.WholeBlocks.few-events, proofs.Settles.kept_on, proofs.Steps.{ok_of, err_of, block_at, block_fed, block_broke, floors_below}, proofs.LettingGo.{block_delivers, come_block}, proofs.Passed.ordered-same}
-use Rattle.record_stream.proofs.settled_blocks.settle_block.Goals as goal
+use Rattle.settle.{specs.Passing.place_after, specs.Standing.last_time, specs.declared.settle.Settle.Settle}
+use Rattle.record_stream.{specs.Blocks.{PlacesRise, RisesWithin}, specs.LettingGo.{IsDelivered, AreOrdered}, specs.Rows.ordered_below, specs.Walking.{how_of, greatest_of, clock_in}, specs.Whole.events_below, proofs.Feeds.delivers-both, proofs.Gathering.gathers-lead, proofs.WholeBlocks.few-events, proofs.Settles.{kept_on, some-is}, proofs.Steps.{ok_of, err_of, block_at, block_fed, block_broke, floors_below}, proofs.LettingGo.{block_delivers, come_block}, proofs.Passed.ordered-same}
+use Rattle.record_stream.proofs.settled_blocks.InPlaceGivingOrder.take_block.Goals as goal
 
 -- the events in order of a list, without the others
 
@@ -88,7 +88,10 @@ pub take_block-requires-clause-fit : goal.take_block-requires-clause-fit
 take_block-requires-clause-fit g c = rw c.requires.ready.follows.mode_is c.let_go.ensures.lets_go.line.fit
 
 pub take_block-requires-clause-in_order : goal.take_block-requires-clause-in_order
-take_block-requires-clause-in_order g c = search (rules, arith, order-lower)
+take_block-requires-clause-in_order g c =
+    let follows = c.requires.ready.follows in
+    let low = some-is _ (greatest_of c.args.walk.now) (last_time c.args.settle.now) c.requires.is_for in
+    rw follows.mode_is (order-lower _ _ (last_time c.args.settle.now) _ (omega (arith, follows.before, low)) c.let_go.ensures.lets_go.line.in_order)
 
 pub go_on-requires-clause-limit : goal.go_on-requires-clause-limit
 go_on-requires-clause-limit g c = (c.in-Some.ensures.gathers true).limit
@@ -100,7 +103,7 @@ go_on-requires-clause-stands g c =
     (gathers-lead _ (lead.gathers true) (omega (arith, c.placed.ensures.value, lead.records)))
 
 pub returns-then-is_err-clause-delivers : goal.returns-then-is_err-clause-delivers
-returns-then-is_err-clause-delivers g c = delivers-both g.S.EventTaker (λ before h.
+returns-then-is_err-clause-delivers g c = delivers-both g.W.EventTaker (λ before h.
     let walk = c.args.walk.now in
     let how = how_of walk in
     let lead = c.in-Some.ensures in
@@ -109,17 +112,17 @@ returns-then-is_err-clause-delivers g c = delivers-both g.S.EventTaker (λ befor
     let below = c.ordered_below-below.ensures ∙ ap ordered_below (c.mode.ensures ∙ walk.same_mode) in
     let kept : gathered c.put_events.new.block ≡ es = c.put_events.ensures.more ∙ rw (c.clear.ensures.empty, below) refl in
     let went = gathered c.let_go.new.out in
-    let adds = all.adds before h.behind in
-    let passed = rw (kept, all.chosen) at (c.let_go.ensures.delivers before h) in
-    let d = delivers-ordered how c.let_go.new.settle before all.came went c.requires.ready.settles passed in
+    let adds = all.adds before h.at in
+    let passed = rw (kept, all.chosen) at (c.let_go.ensures.delivers before (record { behind = h.at; come = h.settles c.requires.is_for })) in
+    let d = delivers-ordered how c.let_go.new.settle before all.came went c.requires.is_for passed in
     let outs = block_delivers _ _ before (before ++ numbers c.args.words.now) all.came went adds.came d in
     let failed = sym c.is_err.ensures.value ∙ c.if-is_err.true in
     let broke = err_of c.take_block.result failed c.take_block.ensures.broken in
-    (tt, inr (refl, block_broke went h.behind.clear adds outs g.S.EventTaker broke (err_of c.take_block.result failed c.take_block.ensures.cause.once))))
+    (tt, inr (refl, block_broke went h.at.clear adds outs g.W.EventTaker broke (err_of c.take_block.result failed c.take_block.ensures.cause.once))))
 
 pub returns : goal.returns
 returns g c =
-    let s = g.S.EventTaker in
+    let s = g.W.EventTaker in
     let words = c.args.words.now in
     let walk = c.args.walk.now in
     let how = how_of walk in
@@ -138,22 +141,25 @@ returns g c =
     record {
       delivers = delivers-both s (λ before h.
           let now = before ++ numbers words in
-          let adds = all.adds before h.behind in
-          let passed = rw (kept, all.chosen) at (c.let_go.ensures.delivers before h) in
-          let d = delivers-ordered how c.let_go.new.settle before all.came went ready.settles passed in
+          let adds = all.adds before h.at in
+          let passed = rw (kept, all.chosen) at (c.let_go.ensures.delivers before (record { behind = h.at; come = h.settles c.requires.is_for })) in
+          let d = delivers-ordered how c.let_go.new.settle before all.came went c.requires.is_for passed in
           let outs = block_delivers how c.let_go.new.settle before now all.came went adds.came d in (
             record {
-              behind = block_at (numbers words) went h.behind adds outs (c.go_on.ensures.same_mode ∙ walk.same_mode)
+              at = block_at (numbers words) went h.at adds outs (c.go_on.ensures.same_mode ∙ walk.same_mode)
                   (omega (arith, c.go_on.ensures.count, c.placed.ensures.value, lead.records)) c.go_on.ensures.base top
                   c.add_given.ensures.value lead.counts (rw c.len.ensures.value refl);
-              come = come_block how c.let_go.new.settle before now all.came went adds.came d c.args.settle.now h.come l.line;
+              settles = λ some. come_block how c.let_go.new.settle before now all.came went adds.came d c.args.settle.now (h.settles some) l.line;
             },
-            block_fed went h.behind.clear adds outs s (ok_of r fine c.take_block.ensures.follows) (ok_of r fine c.take_block.ensures.cause.kept),
+            block_fed went h.at.clear adds outs s (ok_of r fine c.take_block.ensures.follows) (ok_of r fine c.take_block.ensures.cause.kept),
           ));
       goes_on =
           let moved = rw ready.follows.mode_is at (ok_of r fine c.take_block.ensures.moved) in
           let counted = lead.records in
-          search (rules, arith, ok_of, moved, counted, floors_below how.mode _ _ _ went ready.follows.before l.line.greatest);
+          let low = some-is _ (greatest_of walk) (last_time c.args.settle.now) c.requires.is_for in
+          let high = some-is _ (greatest_by c.go_on.new.self) (last_time c.let_go.new.settle) c.requires.is_for in
+          let before : s.floor c.args.taker.now ≤ last_time c.args.settle.now = omega (arith, low, ready.follows.before) in
+          search (rules, arith, ok_of, moved, counted, high, floors_below how.mode _ _ _ went before l.line.greatest);
       stays =
           let behind = chosen-behind how.mode (kept ∙ all.chosen) all.places in
           let many = ap length kept in

@@ -1,9 +1,10 @@
-use Rattle.std.proofs.Common.{◌≡◌, [], false, max, refl, ap, sym, subst, inr, ◌∙◌, unwrap_or, arith}
+use Rattle.std.proofs.Common.{◌≡◌, length, rules, [], false, max, refl, ap, sym, subst, inr, ◌∙◌, unwrap_or, arith}
 use Rattle.tally_base.{specs.declared.header.Mode.Mode, proofs.Floors.order-lower}
 use Rattle.ptu_definitions.{specs.Words.numbers, specs.Kept.floor_of}
-use Rattle.abs_time.specs.{Floors.orders_markers}
-use Rattle.record_stream.{specs.Blocks.on_time, specs.Feeding.CanTake, specs.Whole.events_below, specs.Walking.{how_of, greatest_of, clock_in}, proofs.Gathering.{gathers-all, gathers-lead}, proofs.Feeds.delivers-both, proofs.Steps.{ok_of, err_of, block_at, block_fed, block_broke, length-on_time}, proofs.InBlocks.floor_of-line, proofs.WholeBlocks.{few-events, last-event, first-event}}
-use Rattle.record_stream.proofs.blocks.take_block.Goals as goal
+use Rattle.abs_time.specs.{Floors.orders_markers, Placing.greatest_by}
+use Rattle.record_stream.{specs.Blocks.on_time, specs.Feeding.CanTake, specs.Whole.events_below, specs.Walking.{how_of, greatest_of, clock_in}, proofs.Gathering.{gathers-all, gathers-lead}, proofs.Feeds.delivers-both, proofs.Steps.{ok_of, err_of, block_at, block_fed, block_broke, length-on_time}, proofs.InBlocks.floor_of-line, proofs.WholeBlocks.{few-events, last-event, first-event}, proofs.Settles.{kept_on, plain-is}}
+use Rattle.settle.specs.Standing.{kept_back, last_time}
+use Rattle.record_stream.proofs.blocks.FileOrderGivingOrder.take_block.Goals as goal
 
 pub take_columns-requires-clause-can : goal.take_columns-requires-clause-can
 take_columns-requires-clause-can g c =
@@ -19,7 +20,7 @@ take_columns-requires-clause-can g c =
       mode_is = follows.mode_is;
       room = omega (arith, follows.few, walk.few_given, walk.limit, lead.room, few);
       fit = line.fit;
-      in_order = order-lower (orders_markers (how_of walk).mode) _ (greatest_of walk) es follows.before line.in_order;
+      in_order = order-lower (orders_markers (how_of walk).mode) _ (greatest_of walk) es (omega (arith, follows.before, plain-is _ (greatest_of walk) (last_time c.args.settle.now) c.requires.is_for)) line.in_order;
     })
 
 pub go_on-requires-clause-stands : goal.go_on-requires-clause-stands
@@ -53,10 +54,10 @@ returns-then-is_err-clause-delivers g c = delivers-both g.W.EventTaker (λ befor
     let walk = c.args.walk.now in
     let lead = c.in-Some.ensures in
     let es = events_below 512 (clock_in walk) g.R.RecordLayout.UNIT c.fill.new.self in
-    let adds = (gathers-all walk c.args.words.now _ _ es (lead.gathers false)).1 before h in
+    let adds = (gathers-all walk c.args.words.now _ _ es (lead.gathers false)).1 before h.at in
     let failed = sym c.is_err.ensures.value ∙ c.if-is_err.true in
     let r = c.take_columns.result in
-    (tt, inr (refl, block_broke es h.clear adds (adds.delivers c.requires.ready.plain) g.W.EventTaker (err_of r failed c.take_columns.ensures.broken) (err_of r failed c.take_columns.ensures.cause.once))))
+    (tt, inr (refl, block_broke es h.at.clear adds (adds.delivers c.requires.is_for) g.W.EventTaker (err_of r failed c.take_columns.ensures.broken) (err_of r failed c.take_columns.ensures.cause.once))))
 
 pub returns-clause-delivers : goal.returns-clause-delivers
 returns-clause-delivers g c = delivers-both g.W.EventTaker (λ before h.
@@ -66,16 +67,19 @@ returns-clause-delivers g c = delivers-both g.W.EventTaker (λ before h.
     let columns = c.fill.new.self in
     let words = c.args.words.now in
     let es = events_below 512 (clock_in walk) unit columns in
-    let adds = (gathers-all walk words _ _ es (lead.gathers false)).1 before h in
-    let plain = adds.delivers c.requires.ready.plain in
+    let adds = (gathers-all walk words _ _ es (lead.gathers false)).1 before h.at in
+    let plain = adds.delivers c.requires.is_for in
     let fine = sym c.is_err.ensures.value ∙ c.if-is_err.false in
     let r = c.take_columns.result in
     let last = last-event (clock_in walk) unit columns ∙ sym lead.in_short.last in
     let first = first-event (clock_in walk) unit columns walk.sums.kept walk.sums.first c.first_time-first.result c.in-Some.ahead.last last (rw c.base.ensures.value at c.first_time-first.ensures) in
     let top = c.go_on.ensures.greatest ∙ c.unwrap_or-greatest.ensures ∙ ap (unwrap_or c.in-Some.ahead.greatest) c.greatest-low.ensures in (
-      block_at (numbers words) es h adds plain (c.go_on.ensures.same_mode ∙ walk.same_mode) (omega (arith, c.go_on.ensures.count, c.placed.ensures.value, lead.records))
-          c.go_on.ensures.base top (c.add_block.ensures.value es last first) lead.counts (omega (arith, lead.in_short.events)),
-      block_fed es h.clear adds plain g.W.EventTaker (ok_of r fine c.take_columns.ensures.given).follows (ok_of r fine c.take_columns.ensures.cause.kept),
+      record {
+        at = block_at (numbers words) es h.at adds plain (c.go_on.ensures.same_mode ∙ walk.same_mode) (omega (arith, c.go_on.ensures.count, c.placed.ensures.value, lead.records))
+            c.go_on.ensures.base top (c.add_block.ensures.value es last first) lead.counts (omega (arith, lead.in_short.events));
+        settles = λ some. absurd (some c.requires.is_for);
+      },
+      block_fed es h.at.clear adds plain g.W.EventTaker (ok_of r fine c.take_columns.ensures.given).follows (ok_of r fine c.take_columns.ensures.cause.kept),
     ))
 
 pub returns-clause-goes_on : goal.returns-clause-goes_on
@@ -98,7 +102,16 @@ returns-clause-goes_on g c =
       follows = record {
         mode_is = given.same_mode ∙ follows.mode_is;
         few = omega (arith, g.met.W.EventTaker.taken_is taker _ _ got, follows.few, length-on_time es, lead.in_short.events);
-        before = omega (arith, moved, most, top, follows.before);
+        before = omega (arith, moved, most, top, follows.before, plain-is _ (greatest_of walk) (last_time c.args.settle.now) c.requires.is_for, plain-is _ (greatest_by c.go_on.new.self) (last_time c.args.settle.now) c.requires.is_for);
       };
       counted = omega (arith, c.add_block.ensures.records, lead.records);
     }
+
+pub returns-clause-stays : goal.returns-clause-stays
+returns-clause-stays g c =
+    let keeps = c.requires.ready.keeps in
+    let lead = c.in-Some.ensures in
+    let none : length (kept_back c.args.settle.now) ≡ 0 = omega (arith, c.args.settle.now.few, keeps.reach, c.requires.is_for) in
+    let counted = lead.records in
+    let split = lead.split in
+    search (rules, arith, kept_on, none, counted, split)
