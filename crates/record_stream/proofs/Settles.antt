@@ -96,74 +96,60 @@ module _ (walk : Walk) (from now : Settle) (e : Event) (late : Bool) (answer : S
     (comes : ComesUp walk from e late) (on : is_ordered (how_of walk).mode e ≡ true) (or_emits : KeepsOrEmits from now e answer)
     (moves : MovesTo from now answer.emitted) (stands : StandsBehind from now e.place)
     (pushed : (es given : List Event) → HasSettled from es given → HasPushed from now es given e answer) where
-  abbrev mode : Mode
-  mode = (how_of walk).mode
-
   waits : CanWait (how_of walk).mode e
   waits = record { small = comes.small; ordered = on }
-
-  judges_pushed : (before : List Event) (l : Marked) → Comes (how_of walk) from before l
-      → last_time now ≡ floor_of (how_of walk).mode (l ++ told e answer.late answer.emitted) → Judges (how_of walk) now before l e answer
-  judges_pushed before l come greatest =
-      let how = how_of walk in
-      let c = come some in
-      let p = pushed (ordered how.mode before) (not_marked l) c.settled in
-      let none = ne_eqb how.policy.settle 0 some in
-      record {
-        late = p.overtaken ∙ rw (keeps.reach, on) refl;
-        tells = rw (none, on) (rw keeps.reach at p.tells);
-        come = λ _. record {
-          settled = rw (filter-append (λ (x : Event). is_ordered how.mode x) before (e ∷ []), ordered-on how.mode e on, not_marked-append, not_marked-told e answer.late answer.emitted (λ late. none_late answer.emitted answer.late _ or_emits.emits late)) p.settled;
-          greatest = greatest;
-        };
-      }
-
-  floor-is : (x : Event) (b : Bool) (l : Marked) → last_time from ≡ floor_of (how_of walk).mode l → last_time now ≡ moved_floor (how_of walk).mode (last_time from) x b
-      → (IsTrue (is_ordered (how_of walk).mode x && not b) → last_time from ≤ x.time) → last_time now ≡ floor_of (how_of walk).mode (l ++ (x, b) ∷ [])
-  floor-is x b l is moved in_order = greatest-push (how_of walk).mode l x b (last_time from) (last_time now) moved in_order is
 
   floor : (s : Settle) → floor_in walk s ≡ last_time s
   floor s = some-is (how_of walk).policy.settle (greatest_of walk) (last_time s) some
 
+  becomes : ((l : Marked) → last_time from ≡ floor_of (how_of walk).mode l → last_time now ≡ floor_of (how_of walk).mode (l ++ told e answer.late answer.emitted))
+      → IfSome answer.emitted (λ x. GoesBetween (how_of walk).mode (floor_in walk from) (floor_in walk now) x) → last_time from ≤ last_time now
+      → All (CanWait (how_of walk).mode) (kept_back now) → length (told e answer.late answer.emitted) + length (kept_back now) ≤ length (kept_back from) + 1
+      → Becomes walk from now e late answer
+  becomes greatest goes rises fit count = record {
+    judges = λ before l so come.
+        let how = how_of walk in
+        let c = come some in
+        let p = pushed (ordered how.mode before) (not_marked l) c.settled in
+        let none = ne_eqb how.policy.settle 0 some in
+        let gone = not_marked-told e answer.late answer.emitted (λ sure. none_late answer.emitted answer.late _ or_emits.emits sure) in
+        record {
+          late = p.overtaken ∙ rw (keeps.reach, on) refl;
+          tells = rw (none, on) (rw keeps.reach at p.tells);
+          come = λ _. record {
+            settled = rw (filter-append (λ (x : Event). is_ordered how.mode x) before (e ∷ []), ordered-on how.mode e on, not_marked-append, gone) p.settled;
+            greatest = greatest l c.greatest;
+          };
+        };
+    goes = goes;
+    rises = omega (arith, floor from, floor now, rises);
+    fit = fit;
+    count = count;
+    reach = stands.same_reach;
+    unpopped = stands.same_popped;
+    next = omega (arith, stands.place);
+  }
+
+  -- where it isn't late
+  waiting : answer.late ≡ false → All (CanWait (how_of walk).mode) (kept_back now) × (length (option_to_list answer.emitted) + length (kept_back now) ≡ length (kept_back from) + 1)
+  waiting is =
+      let kept = or_emits.kept is in
+      (those_waiting (CanWait (how_of walk).mode) answer.emitted (kept_back from) (kept_back now) e kept waits keeps.fit, count_waiting answer.emitted (kept_back from) (kept_back now) e kept)
+
   pub becomes_pushed : (o : Option Event) (b : Bool) → answer.emitted ≡ o → answer.late ≡ b → Becomes walk from now e late answer
-  becomes_pushed None true emits is = record {
-    judges = λ before l so come. judges_pushed before l come
-        (rw (emits, is) (floor-is e true l (come some).greatest (moves.same_time emits ∙ search (rules, arith)) (λ h. search (rules, arith))));
-    goes = rw emits tt;
-    rises = omega (arith, floor from, floor now, moves.same_time emits);
-    fit = rw (or_emits.left_out is) keeps.fit;
-    count = rw is (omega (arith, ap length (or_emits.left_out is)));
-    reach = stands.same_reach;
-    unpopped = stands.same_popped;
-    next = omega (arith, stands.place);
-  }
-  becomes_pushed None false emits is = record {
-    judges = λ before l so come. judges_pushed before l come
-        (rw (emits, is, append-nil) (moves.same_time emits ∙ (come some).greatest));
-    goes = rw emits tt;
-    rises = omega (arith, floor from, floor now, moves.same_time emits);
-    fit = those_waiting (CanWait (how_of walk).mode) answer.emitted (kept_back from) (kept_back now) e (or_emits.kept is) waits keeps.fit;
-    count = rw (is, emits) (omega (arith, rw emits at (count_waiting answer.emitted (kept_back from) (kept_back now) e (or_emits.kept is))));
-    reach = stands.same_reach;
-    unpopped = stands.same_popped;
-    next = omega (arith, stands.place);
-  }
+  becomes_pushed None true emits is = becomes
+      (λ l low. rw (emits, is) (greatest-push (how_of walk).mode l e true (last_time from) (last_time now) (moves.same_time emits ∙ search (rules, arith)) (λ h. search (rules, arith)) low))
+      (rw emits tt) (omega (arith, moves.same_time emits)) (rw (or_emits.left_out is) keeps.fit) (rw is (omega (arith, ap length (or_emits.left_out is))))
+  becomes_pushed None false emits is = becomes (λ l low. rw (emits, is, append-nil) (moves.same_time emits ∙ low))
+      (rw emits tt) (omega (arith, moves.same_time emits)) (waiting is).0 (rw (is, emits) (omega (arith, rw emits at (waiting is).1)))
   becomes_pushed (Some x) true emits is = let h : true ≡ false = rw (emits, is) at or_emits.emits in cc
   becomes_pushed (Some x) false emits is =
       let goes = that_goes (CanWait (how_of walk).mode) answer.emitted x (kept_back from) (kept_back now) e emits (or_emits.kept is) waits keeps.fit in
       let time : last_time now ≡ x.time = rw emits at moves.time in
       let low : last_time from ≤ x.time = rw emits at moves.rises in
-      record {
-        judges = λ before l so come. judges_pushed before l come
-            (rw (emits, is) (floor-is x false l (come some).greatest (time ∙ rw goes.ordered refl) (λ _. low)));
-        goes = rw emits (record { small = goes.small; in_order = λ _. (omega (arith, floor from, low), omega (arith, floor now, time)) });
-        rises = omega (arith, floor from, floor now, time, low);
-        fit = those_waiting (CanWait (how_of walk).mode) answer.emitted (kept_back from) (kept_back now) e (or_emits.kept is) waits keeps.fit;
-        count = rw (is, emits) (omega (arith, rw emits at (count_waiting answer.emitted (kept_back from) (kept_back now) e (or_emits.kept is))));
-        reach = stands.same_reach;
-        unpopped = stands.same_popped;
-        next = omega (arith, stands.place);
-      }
+      becomes (λ l is_low. rw (emits, is) (greatest-push (how_of walk).mode l x false (last_time from) (last_time now) (time ∙ rw goes.ordered refl) (λ _. low) is_low))
+      (rw emits (record { small = goes.small; in_order = λ _. (omega (arith, floor from, low), omega (arith, floor now, time)) }))
+      (omega (arith, time, low)) (waiting is).0 (rw (is, emits) (omega (arith, rw emits at (waiting is).1)))
 
 -- The greatest time given is the same where nothing was placed.
 pub floor-same : (old new : Walk) (s : Settle) → how_of new ≡ how_of old → clock_in new ≡ clock_in old → floor_in new s ≡ floor_in old s

@@ -30,7 +30,12 @@ pub(crate) fn settle_event(walk: &Walk, settle: &mut Settle, event: Event, late:
             late: false,
         };
     }
-    settle.push(event)
+    let pushed = settle.push(event);
+    // Field by field, so that in file order none of them goes through memory.
+    Settled {
+        emitted: pushed.emitted,
+        late: pushed.late,
+    }
 }
 
 /// Gives a taker all events that are kept back, in order of time and then of place.

@@ -12,4 +12,4 @@ pub returns : goal.returns
 returns c =
     let walk = c.args.walk.now in
     let on = by_clock walk c.args.event _ _ true c.is_ordered.ensures c.mode.ensures c.if-not-is_ordered.false in
-    becomes_pushed walk _ _ _ _ _ c.if-walk-eq0.false c.requires.keeps c.requires.comes on c.push.ensures.keeps c.push.ensures.moves c.push.ensures.stands c.push.ensures.pushed _ _ refl refl
+    becomes_pushed walk _ _ _ _ _ c.if-walk-eq0.false c.requires.keeps c.requires.comes on c.push-pushed.ensures.keeps c.push-pushed.ensures.moves c.push-pushed.ensures.stands c.push-pushed.ensures.pushed _ _ refl refl

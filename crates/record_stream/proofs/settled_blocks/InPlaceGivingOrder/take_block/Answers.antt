@@ -1,9 +1,10 @@
 use Rattle.std.{proofs.Common.{◌≡◌, ◌≤◌, ◌++◌, ℕ, List, true, length, map, refl, ap, sym, inr, unwrap_or, ◌∙◌, arith, rules, ◌≢◌, ◌<◌, [], ◌∷◌, if◌then◌else◌}, proofs.lemmas.Bool.ne_eqb, proofs.lemmas.List.Elements.{All-filter, filter-append}}
 use Rattle.ptu_definitions.{specs.Words.numbers, specs.Layouts.KindFits, specs.Settled.{ordered}, specs.Streams.{StreamSettings}, specs.Times.events, proofs.DeliveredLaws.{delivered-append, delivered_after}}
-use Rattle.abs_time.{specs.Placing.greatest_by, specs.Floors.orders_markers, proofs.Floors.moves_by}
+use Rattle.abs_time.{specs.Placing.{greatest_by, mode_of as clock_mode}, specs.Floors.orders_markers, proofs.Floors.moves_by}
 use Rattle.tally_base.{specs.Columns.{event_at, gathered}, proofs.BlockRows.length-rows, proofs.Floors.order-lower, specs.declared.event.Event.Event, specs.declared.header.Mode.Mode, specs.Events.is_ordered, specs.Tally.{moves_floor, InOrder}}
+use Rattle.lane_decode.specs.declared.columns.Columns.{Columns}
 use Rattle.settle.{specs.Passing.place_after, specs.Standing.last_time, specs.declared.settle.Settle.Settle}
-use Rattle.record_stream.{specs.Blocks.{PlacesRise, RisesWithin}, specs.LettingGo.{IsDelivered, AreOrdered}, specs.Rows.ordered_below, specs.Walking.{how_of, greatest_of, clock_in}, specs.Whole.events_below, proofs.Feeds.delivers-both, proofs.Gathering.gathers-lead, proofs.WholeBlocks.few-events, proofs.Settles.{kept_on, some-is}, proofs.Steps.{ok_of, err_of, block_at, block_fed, block_broke, floors_below}, proofs.LettingGo.{block_delivers, come_block}, proofs.Passed.ordered-same}
+use Rattle.record_stream.{specs.Blocks.{PlacesRise, RisesWithin}, specs.LettingGo.{IsDelivered, AreOrdered}, specs.Rows.ordered_below, specs.Walking.{how_of, greatest_of, clock_in, Gathers}, specs.Whole.{events_below, LeadsTo}, specs.declared.ahead.Ahead.Ahead, specs.declared.walk.Walk.Walk, proofs.Feeds.delivers-both, proofs.Gathering.gathers-lead, proofs.WholeBlocks.few-events, proofs.Settles.{kept_on, some-is}, proofs.Steps.{ok_of, err_of, block_at, block_fed, block_broke, floors_below}, proofs.LettingGo.{block_delivers, come_block}, proofs.Passed.ordered-same}
 use Rattle.record_stream.proofs.settled_blocks.InPlaceGivingOrder.take_block.Goals as goal
 
 -- the events in order of a list, without the others
@@ -53,15 +54,22 @@ delivers-ordered how settle words came went some d =
       delivers = search (rules, arith, delivered-append);
     }
 
+-- The events of the columns that are in order.
+those_in : {walk : Walk} {words : List (List ℕ)} {unit : ℕ} {columns : Columns} {ahead : Ahead} {mode : Mode} {below : ℕ} {cleared now : List Event}
+    → LeadsTo walk words unit columns ahead → below ≡ ordered_below mode → mode ≡ clock_mode (clock_in walk) → cleared ≡ []
+    → now ≡ cleared ++ events_below below (clock_in walk) unit columns
+    → Gathers walk words true ahead.base (unwrap_or ahead.greatest (greatest_of walk)) now × (length now ≤ 64)
+those_in {walk = walk} {unit = unit} {columns = columns} lead below mode_is none more =
+    let is = below ∙ ap ordered_below (mode_is ∙ walk.same_mode) in
+    rw (more, none, is) (lead.gathers true, few-events (clock_in walk) unit columns (ordered_below (how_of walk).mode))
+
 pub let_go-requires-clause-comes : goal.let_go-requires-clause-comes
 let_go-requires-clause-comes g c =
     let walk = c.args.walk.now in
     let mode = (how_of walk).mode in
-    let all = c.in-Some.ensures.gathers true in
-    let es = events_below (ordered_below mode) (clock_in walk) g.R.RecordLayout.UNIT c.fill.new.self in
-    let below = c.ordered_below-below.ensures ∙ ap ordered_below (c.mode.ensures ∙ walk.same_mode) in
-    let kept : gathered c.put_events.new.block ≡ es = c.put_events.ensures.more ∙ rw (c.clear.ensures.empty, below) refl in
-    rw (kept, all.chosen) (record {
+    let those = those_in c.in-Some.ensures c.ordered_below-below.ensures c.mode.ensures c.clear.ensures.empty c.put_events.ensures.more in
+    let all = those.0 in
+    rw all.chosen (record {
       places = places-ordered mode _ all.came all.places.rises;
       in_order = line-ordered mode _ all.came all.in_line.in_order;
       fit = All-filter (λ (e : Event). is_ordered mode e) (λ (e : Event). KindFits mode e.kind) all.came all.in_line.fit;
@@ -73,16 +81,9 @@ put_events-requires-clause-room g c = omega (arith, length-rows (event_at c.clea
 
 pub take_block-requires-clause-room : goal.take_block-requires-clause-room
 take_block-requires-clause-room g c =
-    let walk = c.args.walk.now in
-    let how = how_of walk in
-    let lead = c.in-Some.ensures in
-    let all = lead.gathers true in
-    let es = events_below (ordered_below how.mode) (clock_in walk) g.R.RecordLayout.UNIT c.fill.new.self in
-    let below = c.ordered_below-below.ensures ∙ ap ordered_below (c.mode.ensures ∙ walk.same_mode) in
-    let kept : gathered c.put_events.new.block ≡ es = c.put_events.ensures.more ∙ rw (c.clear.ensures.empty, below) refl in
-    let few = few-events (clock_in walk) g.R.RecordLayout.UNIT c.fill.new.self (ordered_below how.mode) in
+    let those = those_in c.in-Some.ensures c.ordered_below-below.ensures c.mode.ensures c.clear.ensures.empty c.put_events.ensures.more in
     let ready = c.requires.ready in
-    omega (arith, ready.follows.few, ready.keeps.room, c.let_go.ensures.lets_go.count, ap length kept, few, lead.room, walk.limit)
+    omega (arith, ready.follows.few, ready.keeps.room, c.let_go.ensures.lets_go.count, those.1, c.in-Some.ensures.room, c.args.walk.now.limit)
 
 pub take_block-requires-clause-fit : goal.take_block-requires-clause-fit
 take_block-requires-clause-fit g c = rw c.requires.ready.follows.mode_is c.let_go.ensures.lets_go.line.fit
@@ -104,16 +105,12 @@ go_on-requires-clause-stands g c =
 
 pub returns-then-is_err-clause-delivers : goal.returns-then-is_err-clause-delivers
 returns-then-is_err-clause-delivers g c = delivers-both g.W.EventTaker (λ before h.
-    let walk = c.args.walk.now in
-    let how = how_of walk in
-    let lead = c.in-Some.ensures in
-    let all = lead.gathers true in
-    let es = events_below (ordered_below how.mode) (clock_in walk) g.R.RecordLayout.UNIT c.fill.new.self in
-    let below = c.ordered_below-below.ensures ∙ ap ordered_below (c.mode.ensures ∙ walk.same_mode) in
-    let kept : gathered c.put_events.new.block ≡ es = c.put_events.ensures.more ∙ rw (c.clear.ensures.empty, below) refl in
+    let those = those_in c.in-Some.ensures c.ordered_below-below.ensures c.mode.ensures c.clear.ensures.empty c.put_events.ensures.more in
+    let all = those.0 in
+    let how = how_of c.args.walk.now in
     let went = gathered c.let_go.new.out in
     let adds = all.adds before h.at in
-    let passed = rw (kept, all.chosen) at (c.let_go.ensures.delivers before (record { behind = h.at; come = h.settles c.requires.is_for })) in
+    let passed = rw all.chosen at (c.let_go.ensures.delivers before (record { behind = h.at; come = h.settles c.requires.is_for })) in
     let d = delivers-ordered how c.let_go.new.settle before all.came went c.requires.is_for passed in
     let outs = block_delivers _ _ before (before ++ numbers c.args.words.now) all.came went adds.came d in
     let failed = sym c.is_err.ensures.value ∙ c.if-is_err.true in
@@ -127,11 +124,8 @@ returns g c =
     let walk = c.args.walk.now in
     let how = how_of walk in
     let lead = c.in-Some.ensures in
-    let all = lead.gathers true in
-    let es = events_below (ordered_below how.mode) (clock_in walk) g.R.RecordLayout.UNIT c.fill.new.self in
-    let below = c.ordered_below-below.ensures ∙ ap ordered_below (c.mode.ensures ∙ walk.same_mode) in
-    let kept : gathered c.put_events.new.block ≡ es = c.put_events.ensures.more ∙ rw (c.clear.ensures.empty, below) refl in
-    let few = few-events (clock_in walk) g.R.RecordLayout.UNIT c.fill.new.self (ordered_below how.mode) in
+    let those = those_in c.in-Some.ensures c.ordered_below-below.ensures c.mode.ensures c.clear.ensures.empty c.put_events.ensures.more in
+    let all = those.0 in
     let went = gathered c.let_go.new.out in
     let l = c.let_go.ensures.lets_go in
     let ready = c.requires.ready in
@@ -142,7 +136,7 @@ returns g c =
       delivers = delivers-both s (λ before h.
           let now = before ++ numbers words in
           let adds = all.adds before h.at in
-          let passed = rw (kept, all.chosen) at (c.let_go.ensures.delivers before (record { behind = h.at; come = h.settles c.requires.is_for })) in
+          let passed = rw all.chosen at (c.let_go.ensures.delivers before (record { behind = h.at; come = h.settles c.requires.is_for })) in
           let d = delivers-ordered how c.let_go.new.settle before all.came went c.requires.is_for passed in
           let outs = block_delivers how c.let_go.new.settle before now all.came went adds.came d in (
             record {
@@ -161,35 +155,21 @@ returns g c =
           let before : s.floor c.args.taker.now ≤ last_time c.args.settle.now = omega (arith, low, ready.follows.before) in
           search (rules, arith, ok_of, moved, counted, high, floors_below how.mode _ _ _ went before l.line.greatest);
       stays =
-          let behind = chosen-behind how.mode (kept ∙ all.chosen) all.places in
-          let many = ap length kept in
+          let behind = chosen-behind how.mode all.chosen all.places in
+          let few = those.1 in
           let counted = lead.records in
-          search (rules, arith, kept_on, behind, many, few, counted);
+          search (rules, arith, kept_on, behind, few, counted);
     }
 
 pub returns-then-is_err-clause-stays : goal.returns-then-is_err-clause-stays
 returns-then-is_err-clause-stays g c =
-    let walk = c.args.walk.now in
-    let how = how_of walk in
-    let lead = c.in-Some.ensures in
-    let all = lead.gathers true in
-    let es = events_below (ordered_below how.mode) (clock_in walk) g.R.RecordLayout.UNIT c.fill.new.self in
-    let below = c.ordered_below-below.ensures ∙ ap ordered_below (c.mode.ensures ∙ walk.same_mode) in
-    let kept : gathered c.put_events.new.block ≡ es = c.put_events.ensures.more ∙ rw (c.clear.ensures.empty, below) refl in
-    let few = few-events (clock_in walk) g.R.RecordLayout.UNIT c.fill.new.self (ordered_below how.mode) in
-    let behind = chosen-behind how.mode (kept ∙ all.chosen) all.places in
-    let many = ap length kept in
-    let counted = lead.records in
-    search (rules, arith, kept_on, behind, many, few, counted)
+    let those = those_in c.in-Some.ensures c.ordered_below-below.ensures c.mode.ensures c.clear.ensures.empty c.put_events.ensures.more in
+    let behind = chosen-behind (how_of c.args.walk.now).mode those.0.chosen those.0.places in
+    let few = those.1 in
+    let counted = c.in-Some.ensures.records in
+    search (rules, arith, kept_on, behind, few, counted)
 
 pub invariant_of-walk-clause-few_given : goal.invariant_of-walk-clause-few_given
 invariant_of-walk-clause-few_given g c =
-    let walk = c.args.walk.now in
-    let how = how_of walk in
-    let lead = c.in-Some.ensures in
-    let all = lead.gathers true in
-    let es = events_below (ordered_below how.mode) (clock_in walk) g.R.RecordLayout.UNIT c.fill.new.self in
-    let below = c.ordered_below-below.ensures ∙ ap ordered_below (c.mode.ensures ∙ walk.same_mode) in
-    let kept : gathered c.put_events.new.block ≡ es = c.put_events.ensures.more ∙ rw (c.clear.ensures.empty, below) refl in
-    let few = few-events (clock_in walk) g.R.RecordLayout.UNIT c.fill.new.self (ordered_below how.mode) in
-    omega (arith, c.requires.ready.keeps.room, c.let_go.ensures.lets_go.count, ap length kept, few, c.add_given.ensures.records, lead.records, c.len.ensures.value)
+    let those = those_in c.in-Some.ensures c.ordered_below-below.ensures c.mode.ensures c.clear.ensures.empty c.put_events.ensures.more in
+    omega (arith, c.requires.ready.keeps.room, c.let_go.ensures.lets_go.count, those.1, c.add_given.ensures.records, c.in-Some.ensures.records, c.len.ensures.value)

@@ -1,4 +1,4 @@
-use Rattle.std.{proofs.Common.{refl, ◌≡◌, ℕ, List, [], ◌∷◌, ◌++◌, Bool, Ok, Err, OnOk, map, subst, sym, ◌∙◌, inl, inr, append-nil}, proofs.lemmas.Result.err_from_is_err_and, specs.declared.result.Result.Result}
+use Rattle.std.{proofs.Common.{refl, ◌≡◌, ℕ, List, [], ◌∷◌, ◌++◌, Bool, true, false, Ok, Err, OnOk, map, subst, sym, ◌∙◌, inl, inr, append-nil}, proofs.lemmas.Result.err_from_is_err_and, specs.declared.result.Result.Result}
 use Rattle.abs_time.{specs.declared.clock.Placed.Placed}
 use Rattle.tally_base.{specs.declared.event.Event.Event, specs.declared.fault.Fault.Fault}
 use Rattle.ptu_definitions.{specs.Kept.{Marked, is_late}, specs.Streams.{StreamSettings, refusal, events_in}, specs.Times.events, proofs.StreamLemmas.fresh}
@@ -25,12 +25,12 @@ module _ {T : Type 0} (g : Ghosts T) {old mid : Walk} {ws : List ℕ} {w : ℕ} 
     unfolding marks
     adds = fresh-placed (how_of old) ws ((how_of old).meaning w) p e placed.answer is
 
-    told_word : {X : Type 0} (r : Result X Fault) → Tells g mid new settle' t now (came_in (how_of old) ws) (events_in (how_of old) ws) e (top_in p) r
+    told_mid : {X : Type 0} (r : Result X Fault) → Tells g mid new settle' t now (came_in (how_of old) ws) (events_in (how_of old) ws) e (top_in p) r
         → OnOk r (HasTaken new settle' (ws ++ w ∷ [])) × Fed g (how_of old) t now ws (ws ++ w ∷ []) r
     unfolding marks
-    told_word (Ok x) told_mid =
+    told_mid (Ok x) by_mid =
         let how = how_of old in
-        let told = rw same_how at told_mid in
+        let told = rw same_how at by_mid in
         let none = refuses ∙ told.unrefused in
         let came = (comes how.mode (map how.meaning ws) (how.meaning w) p placed.answer).0 ∙ is in (
           record {
@@ -39,7 +39,7 @@ module _ {T : Type 0} (g : Ghosts T) {old mid : Walk} {ws : List ℕ} {w : ℕ} 
           },
           word_gave marks placed same_how b.at none adds g told.got told.kept,
         )
-    told_word {X} (Err y) untold_mid =
+    told_mid {X} (Err y) untold_mid =
         let untold = subst (λ h. Untold g h t now (came_in (how_of old) ws) e (top_in p) y) same_how untold_mid in (
           tt,
           elim untold [
@@ -48,12 +48,13 @@ module _ {T : Type 0} (g : Ghosts T) {old mid : Walk} {ws : List ℕ} {w : ℕ} 
           ],
         )
 
-  -- what the clock says is said of what was there before
-  late_mid : (e : Event) (late : Bool) → is_late (how_of old).mode (came_in (how_of old) ws) e ≡ late → is_late (how_of mid).mode (came_in (how_of old) ws) e ≡ late
-  late_mid e late so = subst (λ (h : StreamSettings). is_late h.mode (came_in (how_of old) ws) e ≡ late) (sym same_how) so
-
-  come_mid : Comes (how_of mid) settle (came_in (how_of old) ws) (events_in (how_of old) ws)
-  come_mid = subst (λ (h : StreamSettings). Comes h settle (came_in (how_of old) ws) (events_in (how_of old) ws)) (sym same_how) b.settles
+    told_word : {X : Type 0} (late : Bool) (r : Result X Fault) → is_late (how_of old).mode (came_in (how_of old) ws) e ≡ late
+        → ((before : List Event) (l : Marked) → is_late (how_of mid).mode before e ≡ late → Comes (how_of mid) settle before l → Tells g mid new settle' t now before l e (top_in p) r)
+        → OnOk r (HasTaken new settle' (ws ++ w ∷ [])) × Fed g (how_of old) t now ws (ws ++ w ∷ []) r
+    told_word late r so each =
+        let before = came_in (how_of old) ws in
+        told_mid r (each before (events_in (how_of old) ws) (subst (λ (h : StreamSettings). is_late h.mode before e ≡ late) (sym same_how) so)
+        (subst (λ (h : StreamSettings). Comes h settle before (events_in (how_of old) ws)) (sym same_how) b.settles))
 
   skip_word : event_in p ≡ [] → HasTaken mid settle (ws ++ w ∷ []) × Fed g {X = Unit {0}} (how_of old) t t ws (ws ++ w ∷ []) (Ok tt)
   skip_word none =
@@ -70,23 +71,17 @@ returns-in_err-event-clause-delivers g c = delivers-both g.S.EventTaker (λ word
 
 pub returns-in-Event-clause-delivers : goal.returns-in-Event-clause-delivers
 returns-in-Event-clause-delivers g c = delivers-both g.S.EventTaker (λ words h.
-    let how = how_of c.args.self.now in
-    let placed = rw c.in-Event.is at (c.in_ok-event.ensures.placed words h.at) in
     let keeps = c.place_next.ensures.keeps in
-    let late = late_mid g.S.EventTaker c.args.settle.now c.args.settle.now c.args.taker.now placed keeps.same_how keeps.same_given h c.in-Event.event _ (comes how.mode _ _ _ placed.answer).1 in
-    let come = come_mid g.S.EventTaker c.args.settle.now c.args.settle.now c.args.taker.now placed keeps.same_how keeps.same_given h in
+    let placed = rw c.in-Event.is at (c.in_ok-event.ensures.placed words h.at) in
     told_word g.S.EventTaker c.args.settle.now _ _ placed keeps.same_how keeps.same_given h _ _ c.in-Event.event refl
-    c.take_event.ensures.place c.take_event.result (c.take_event.ensures.tells (came_in how words) (events_in how words) late come))
+    c.take_event.ensures.place false c.take_event.result (comes _ _ _ _ placed.answer).1 c.take_event.ensures.tells)
 
 pub returns-in-Late-clause-delivers : goal.returns-in-Late-clause-delivers
 returns-in-Late-clause-delivers g c = delivers-both g.S.EventTaker (λ words h.
-    let how = how_of c.args.self.now in
-    let placed = rw c.in-Late.is at (c.in_ok-event.ensures.placed words h.at) in
     let keeps = c.place_next.ensures.keeps in
-    let late = late_mid g.S.EventTaker c.args.settle.now c.args.settle.now c.args.taker.now placed keeps.same_how keeps.same_given h c.in-Late.event _ (comes how.mode _ _ _ placed.answer).1.0 in
-    let come = come_mid g.S.EventTaker c.args.settle.now c.args.settle.now c.args.taker.now placed keeps.same_how keeps.same_given h in
+    let placed = rw c.in-Late.is at (c.in_ok-event.ensures.placed words h.at) in
     told_word g.S.EventTaker c.args.settle.now _ _ placed keeps.same_how keeps.same_given h _ _ c.in-Late.event refl
-    c.take_event-in-Late.ensures.place c.take_event-in-Late.result (c.take_event-in-Late.ensures.tells (came_in how words) (events_in how words) late come))
+    c.take_event-in-Late.ensures.place true c.take_event-in-Late.result (comes _ _ _ _ placed.answer).1.0 c.take_event-in-Late.ensures.tells)
 
 pub returns-in-Wrap-clause-delivers : goal.returns-in-Wrap-clause-delivers
 returns-in-Wrap-clause-delivers g c = delivers-both g.S.EventTaker (λ words h.
