@@ -89,3 +89,8 @@ module _ {T : Type 0} (g : Ghosts T) where
   abbrev pub Tells : {X : Type 0} → Walk → Walk → Settle → T → T → List Event → Marked → Event → ℕ → Result X Fault → Type 0
   Tells old new settle taker now before l e latest (Ok x) = Told (how_of old) old new settle taker now before l e latest
   Tells old new settle taker now before l e latest (Err fault) = Untold (how_of old) taker now before e latest fault
+
+  -- The same after any events, of which it is late in file order or not.
+  abbrev pub TellsAfterAny : {X : Type 0} → Walk → Walk → Settle → Settle → T → T → Event → ℕ → Bool → Result X Fault → Type 0
+  TellsAfterAny old new from settle taker now e latest late answer =
+      (before : List Event) (l : Marked) → is_late (how_of old).mode before e ≡ late → Comes (how_of old) from before l → Tells old new settle taker now before l e latest answer

@@ -2,7 +2,7 @@
 ghost use Rattle.std.specs.Prelude.{◌≡◌, ◌+◌, ◌*◌, ◌<◌, ◌≤◌, ◌++◌, ◌∷◌, [], List, ℕ, length, Some, OnOk, OnErr, IfOk, IfErr, ◌&&◌, not, IsTrue};
 ghost use Rattle.abs_time.{specs.Placing.{mode_of as clock_mode, placed_by, IsSmall}, specs.Floors.moved_floor};
 ghost use Rattle.tally_base.{specs.RecordTypes.mode_of, specs.Limits.record_limit, specs.declared.fault.Fault.TheVariants.WriteFault, specs.FaultCounts.FailsOnce, specs.Events.is_ordered};
-ghost use Rattle.ptu_definitions.{specs.Kept.{Marked, is_late}, specs.Layouts.Fits, specs.Words.numbers, specs.Streams.refusal};
+ghost use Rattle.ptu_definitions.{specs.Kept.Marked, specs.Layouts.Fits, specs.Words.numbers, specs.Streams.refusal};
 
 use crate::count::{Sums, add_event, add_raw, stops_at, stops_late};
 use crate::settled::settle_event;
@@ -31,7 +31,7 @@ pub struct Walk {
 }
 
 impl Walk {
-    ghost use Rattle.record_stream.{specs.OneMore.with_event, specs.Feeding.{Follows, Delivers}, specs.Walking.{how_of, given_by, KeepsPlace, IsBehind, CanGive, Gave, WalksOn}, specs.Keeping.{Comes, IsKeeping}, specs.Settling.{floor_in, ComesUp, HasTaken, IsFollowedBy, IsReady, StaysKept, Tells}, specs.Rows.{IsPlaced, CountsOne, KeepsGiven}};
+    ghost use Rattle.record_stream.{specs.OneMore.with_event, specs.Feeding.{Follows, Delivers}, specs.Walking.{how_of, given_by, KeepsPlace, IsBehind, CanGive, Gave, WalksOn}, specs.Keeping.IsKeeping, specs.Settling.{floor_in, ComesUp, HasTaken, IsFollowedBy, IsReady, StaysKept, TellsAfterAny}, specs.Rows.{IsPlaced, CountsOne, KeepsGiven}};
 
     /// What a word means.
     #[inline(always)]
@@ -107,11 +107,8 @@ impl Walk {
         requires keeps { IsKeeping self.old settle.old }
         requires comes { ComesUp self.old settle.old event late }
         requires follows { IsFollowedBy S.EventTaker self.old settle.old taker.old }
-        ensures tells { (earlier : List Event) (l : Marked)
-            → is_late (how_of self.old).mode earlier event ≡ late
-            → Comes (how_of self.old) settle.old earlier l
-            → Tells S.EventTaker self.old self.new settle.new taker.old taker.new earlier l event
-            before result }
+        ensures tells { TellsAfterAny S.EventTaker self.old self.new settle.old settle.new taker.old
+            taker.new event before late result }
         ensures goes_on { OnOk result (Follows S.EventTaker (how_of self.old).mode
             (given_by self.new) (floor_in self.new settle.new) taker.new) }
         ensures place { KeepsPlace self.old self.new }

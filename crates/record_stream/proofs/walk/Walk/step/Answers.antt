@@ -3,7 +3,7 @@ use Rattle.abs_time.{specs.declared.clock.Placed.Placed}
 use Rattle.tally_base.{specs.declared.event.Event.Event, specs.declared.fault.Fault.Fault}
 use Rattle.ptu_definitions.{specs.Kept.{Marked, is_late}, specs.Streams.{StreamSettings, refusal, events_in}, specs.Times.events, proofs.StreamLemmas.fresh}
 use Rattle.settle.specs.declared.settle.Settle.{Settle}
-use Rattle.record_stream.{specs.Walking.{how_of, given_by, KeepsPlace}, proofs.Feeds.delivers-both, proofs.Placed.{skipped-event, event_in, top_in, comes, refused-placed, fresh-placed, skipped-fresh}, proofs.Steps.{refused_fed, word_at, word_gave, word_broke, skipped_word}, specs.Feeding.Fed, specs.Keeping.{Comes, Settles, tells, refused_for}, specs.Rows.IsPlaced, specs.Settling.{HasTaken, Tells, Untold}, specs.declared.taker.EventTaker.Ghosts, specs.declared.walk.Walk.Walk, proofs.Settles.come_word}
+use Rattle.record_stream.{specs.Walking.{how_of, given_by, KeepsPlace}, proofs.Feeds.delivers-both, proofs.Placed.{skipped-event, event_in, top_in, comes, refused-placed, fresh-placed, skipped-fresh}, proofs.Steps.{refused_fed, word_at, word_gave, word_broke, skipped_word}, specs.Feeding.Fed, specs.Keeping.{Comes, Settles, tells, refused_for}, specs.Rows.IsPlaced, specs.Settling.{HasTaken, Tells, TellsAfterAny, Untold}, specs.declared.taker.EventTaker.Ghosts, specs.declared.walk.Walk.Walk, proofs.Settles.come_word}
 use Rattle.record_stream.proofs.walk.Walk.step.Goals as goal
 
 -- the events of these words
@@ -49,7 +49,7 @@ module _ {T : Type 0} (g : Ghosts T) {old mid : Walk} {ws : List ℕ} {w : ℕ} 
         )
 
     told_word : {X : Type 0} (late : Bool) (r : Result X Fault) → is_late (how_of old).mode (came_in (how_of old) ws) e ≡ late
-        → ((before : List Event) (l : Marked) → is_late (how_of mid).mode before e ≡ late → Comes (how_of mid) settle before l → Tells g mid new settle' t now before l e (top_in p) r)
+        → TellsAfterAny g mid new settle settle' t now e (top_in p) late r
         → OnOk r (HasTaken new settle' (ws ++ w ∷ [])) × Fed g (how_of old) t now ws (ws ++ w ∷ []) r
     told_word late r so each =
         let before = came_in (how_of old) ws in
