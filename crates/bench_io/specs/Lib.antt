@@ -4,5 +4,6 @@ pub mod Inputs
 pub mod Sinks
 pub mod Memory
 pub mod MemorySlots
-pub mod SinkState
+pub mod MemorySinkState
 pub mod MemorySinks
+pub mod Texts

@@ -3,7 +3,7 @@ use Rattle.std.{proofs.Common.{◌≡◌, ◌≢◌, ◌^◌, ℕ, List, [], len
 use Rattle.tally_base.{specs.declared.fault.Fault.Fault, specs.declared.fault.Fault.TheVariants.TruncatedHeader, specs.declared.header.Header.Header, specs.Faults.fault_in}
 use Rattle.ptu_definitions.{specs.Headers.{header_answer, Shows}, proofs.SeenLaws.cut-size, proofs.Stays.{refused-stays, headed-stays}}
 use Rattle.list_out.specs.HeaderText.{header_text}
-use Rattle.command_work.{specs.Tellings.{Telling, RefusalStays, HeadedGoes, headed_end, headed_work}, proofs.RestEnds.end_with}
+use Rattle.command_work.{specs.RecordsWork.{RecordsWork, RefusalStays, HeadedGoes, headed_end, headed_work}, proofs.RestEnds.end_with}
 use Rattle.file_work.{specs.FileOutcomes.printing, proofs.Ends.{outcome-done, outcome-refused}}
 use Rattle.ptu_cli.proofs.Shapes.{Answer}
 use Rattle.command_laws.specs.Ends.{GoesOnOrShows}
@@ -15,7 +15,7 @@ cut-or _ = inr (λ count e. cc)
 
 -- ## What stands after a header
 
-module _ (tells : Header → Telling) (stays : (header : Header) → RefusalStays (tells header)) (bytes : List ℕ) where
+module _ (tells : Header → RecordsWork) (stays : (header : Header) → RefusalStays (tells header)) (bytes : List ℕ) where
   -- it is refused, or it isn't
   headed : (header : Header) (behind : List ℕ) → header_answer bytes ≡ Ok (header, behind) → (o : Option Fault) → (tells header).refuses behind ≡ o
       → ((tells header).refuses behind ≡ None) ⊎ Shows (λ b. headed_end tells (header_answer b)) bytes ((tells header).ends behind)

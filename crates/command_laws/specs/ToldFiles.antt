@@ -1,11 +1,11 @@
 -- What a run leaves over files that its inputs tell.
-use Rattle.std.{specs.Prelude.{ℕ, ◌≡◌, ◌⊎◌, ◌≤◌, ◌<◌, true, None, Some}, specs.declared.option.Option.Option, specs.Io.KnownBytes.Keeps}
+use Rattle.std.{specs.Prelude.{ℕ, ◌≡◌, ◌⊎◌, ◌≤◌, ◌<◌, true, None, Some}, specs.declared.option.Option.Option}
 use Rattle.tally_base.{specs.declared.slot.Slot.Slot, specs.declared.fault.Fault.Fault, specs.declared.fault.Fault.TheVariants.{OpenFault, ReadFault, WriteFault, OutOfMemory}, specs.FaultCounts.Rose}
-use Rattle.bench_io.{specs.Inputs.File, specs.Given.IsAtEnd}
+use Rattle.bench_io.{specs.Inputs.File, specs.Given.IsAtEnd, specs.Sinks.WroteNone}
 use Rattle.plan_text.specs.Plan.{PlanView}
 use Rattle.ptu_cli.specs.Commands.{Request}
 use Rattle.ptu_cli.{specs.Runs.{Around, TellsOn, EndsIn, NothingFailed}, specs.Behaviours.behaviour}
-use Rattle.command_work.{specs.Outcomes.status, specs.Behaviours.Behaviour, specs.Endings.{outcome, IsPlan, AreItsFiles, Tells, Reaches, LeavesUnread, CutsShort, RunsOut, Asks, LacksMemory, IsGood}}
+use Rattle.command_work.{specs.Outcomes.status, specs.Behaviours.Behaviour, specs.Endings.{outcome, IsPlan, AreItsFiles, InputsHold, Reaches, LeavesUnread, CutsShort, RunsOut, Asks, LacksMemory, IsGood}}
 
 -- The file is this plan, and it lacks nothing.
 abbrev pub IsGoodPlan : File → (PlanView → Option Fault) → PlanView → Type 0
@@ -18,11 +18,11 @@ pub record RunsOver (does : Behaviour) (plan_file data_file : File) (run : Aroun
   -- Where nothing outside failed, it ends as its files call for.
   pub answered : (2 ≤ result → 5 < result) → EndsIn run result (outcome does plan_file data_file)
   -- An opening failed.
-  pub unopened : result ≡ 2 → (slot : Slot) × Reaches does (IsGoodPlan plan_file) slot × Rose (run.before.open_faults slot) (run.after.open_faults slot) × Keeps run.out_before run.out_after × TellsOn run (Some (OpenFault slot))
+  pub unopened : result ≡ 2 → (slot : Slot) × Reaches does (IsGoodPlan plan_file) slot × Rose (run.before.open_faults slot) (run.after.open_faults slot) × WroteNone run.out_before run.out_after × TellsOn run (Some (OpenFault slot))
   -- A read failed, of a file whose end no read had said.
   pub unread : result ≡ 3 → (slot : Slot) × Reaches does (IsGoodPlan plan_file) slot × (run.after.opened slot ≡ true) × ¬ (IsAtEnd (run.after.given slot)) × Rose (run.before.read_faults slot) (run.after.read_faults slot) × LeavesUnread does (IsGoodPlan plan_file) slot run.after run.out_before run.out_after × TellsOn run (Some (ReadFault slot))
   -- A write failed.
-  pub unwritten : result ≡ 4 → Rose run.out_faults_before run.out_faults_after × CutsShort does (outcome does plan_file data_file) run.out_before run.out_after × TellsOn run (Some WriteFault)
+  pub unwritten : result ≡ 4 → Rose run.out_before.faults run.out_after.faults × CutsShort does (outcome does plan_file data_file) run.out_before run.out_after × TellsOn run (Some WriteFault)
   -- It ends for want of memory where it takes memory. That memory was refused is not said.
   pub memory : result ≡ 5 → RunsOut does (IsGoodPlan plan_file) run.after run.out_before run.out_after × TellsOn run (Some OutOfMemory)
   -- What it asked for and took, whatever its status is.
@@ -33,4 +33,4 @@ pub record RunsOver (does : Behaviour) (plan_file data_file : File) (run : Aroun
 
 -- so it is for each run, over all files that its inputs tell
 abbrev pub OverToldFiles : Option Request → Around → ℕ → Type 0
-OverToldFiles request run result = (plan_file data_file : File) → Tells run.before (behaviour request) plan_file data_file → RunsOver (behaviour request) plan_file data_file run result
+OverToldFiles request run result = (plan_file data_file : File) → InputsHold run.before (behaviour request) plan_file data_file → RunsOver (behaviour request) plan_file data_file run result

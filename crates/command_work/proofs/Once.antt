@@ -2,7 +2,7 @@
 use Rattle.std.{proofs.Common.{ℕ, ◌≡◌, Bool, false, None, Some, refl, subst, arith, rules}, specs.declared.option.Option.{Option}}
 use Rattle.tally_base.{specs.declared.slot.Slot.Slot, specs.declared.fault.Fault.Fault, specs.declared.fault.Fault.TheVariants.{OpenFault, ReadFault, WriteFault, OutOfMemory}, specs.Faults.{is_outside, HasReason}, specs.FaultCounts.Rose}
 use Rattle.bench_io.specs.Inputs.{InputState, KeepsOther, OpensNone}
-use Rattle.command_work.specs.Outcomes.{tells_opening, tells_reading, CountsIf, InputsOnce, OutOnce}
+use Rattle.command_work.specs.Outcomes.{tells_opening, tells_reading, tells_writing, CountsIf, InputsOnce}
 
 pub Rose-kept : (before mid now : ℕ) → mid ≡ before → Rose mid now → Rose before now
 Rose-kept before mid now same rose = subst (λ (n : ℕ). Rose n now) same rose
@@ -83,10 +83,10 @@ once-unopened slot a b c so_far other reads once = search (rules, arith, once-be
 
 -- ## The count of standard output
 
-pub out-inside : (fault : Fault) (before now : ℕ) → is_outside fault ≡ false → now ≡ before → OutOnce (Some fault) before now
+pub out-inside : (fault : Fault) (before now : ℕ) → is_outside fault ≡ false → now ≡ before → CountsIf (tells_writing (Some fault)) before now
 out-inside fault before now inside same = search (rules, arith)
 
 -- nor does one that has another reason
 pub out-unwritten : (opening reading : Slot → Type 0) (memory : Type 0) (fault : Fault) (count : ℕ)
-    → HasReason opening reading ⊥ memory fault → OutOnce (Some fault) count count
+    → HasReason opening reading ⊥ memory fault → CountsIf (tells_writing (Some fault)) count count
 out-unwritten opening reading memory fault count reason = search (rules, arith)

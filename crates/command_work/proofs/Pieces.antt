@@ -2,9 +2,8 @@
 use Rattle.std.{proofs.Common.{slice_range, ◌≡◌, ◌+◌, ◌≤◌, ℕ, List, [], ◌++◌, Ok, length, arith, take, drop, refl, sym, ap, ◌∙◌, append_assoc, append-nil, take-append-drop, ◌<◌, rules, true, false, Err, Result, IfOk, IfErr, Some, inl, inr, ⊎_elim}, proofs.Math.Seq.take-add, proofs.lemmas.List.{length-drop, length-take-le, length-take}, specs.declared.option.Option.Option}
 use Rattle.tally_base.{specs.declared.header.Header.Header, specs.declared.fault.Fault.Fault, specs.Faults.{is_outside}, specs.declared.fault.Fault.TheVariants.WriteFault}
 use Rattle.ptu_definitions.{specs.Endings.ending, specs.Headers.header_answer}
-use Rattle.command_work.{specs.Outcomes.{IsCut, SaysNoEnd}, specs.Behaviours.piece_limit, specs.Works.TakesFew, specs.Pieces.StopsSoon, specs.Endings.Span, specs.Tellings.{Telling, IsText, Opens}, specs.Rests.{ReadsRest}, proofs.Once.{quiet-memory, once-refl}, proofs.RestEnds.{end_with, writes-reason, writes-once, writes-quiet}}
-use Rattle.bench_io.{specs.Given.{Given, Consumes, GivesCount}, specs.Inputs.InputState, proofs.States.{Consumes-nil, Consumes-trans}}
-use Rattle.streamed_text.{specs.Texts.{WroteText, CutText, WritesText}, proofs.Texts.{WroteText-trans, CutText-behind, CutText-more}}
+use Rattle.command_work.{specs.Outcomes.{IsCut, SaysNoEnd}, specs.Behaviours.piece_limit, specs.Works.TakesFew, specs.Pieces.StopsSoon, specs.Endings.Span, specs.RecordsWork.{RecordsWork, IsText, Opens}, specs.Rests.{ReadsRest}, proofs.Once.{quiet-memory, once-refl}, proofs.RestEnds.{end_with, writes-reason, writes-once, writes-quiet}}
+use Rattle.bench_io.{specs.Given.{Given, Consumes, GivesCount}, specs.Inputs.InputState, proofs.States.{Consumes-nil, Consumes-trans}, specs.Sinks.SinkState, specs.Texts.{WroteText, CutText, WritesText}, proofs.Texts.{WroteText-trans, CutText-behind, CutText-more}}
 
 -- a first part, and a part of what is left
 pub two-parts : (bytes piece part : List ℕ) (used more : ℕ) → part ≡ drop used piece → (bytes ++ take used piece) ++ take more part ≡ bytes ++ take (used + more) piece
@@ -69,51 +68,51 @@ stops-piece goes_on front len into before mid after r took gives goes size insid
 -- What stands in front of the rest, and the rest.
 
 -- a text was written before
-pub WritesText-behind : (shown mid grown : List ℕ) (refused : Option Fault) (a b c : Option (List ℕ)) (before between after : ℕ) (r : Result (Unit {0}) Fault) → WroteText shown mid a b before between → WritesText mid grown refused b c between after r → WritesText shown grown refused a c before after r
-WritesText-behind shown mid grown refused a b c before between after (Ok x) p q = (q.0, WroteText-trans _ _ _ _ _ _ _ _ _ p q.1)
-WritesText-behind shown mid grown refused a b c before between after (Err fault) p (inl q) = inl (q.0, WroteText-trans _ _ _ _ _ _ _ _ _ p q.1)
-WritesText-behind shown mid grown refused a b c before between after (Err fault) p (inr q) = inr (q.0, CutText-behind _ _ _ _ _ _ _ _ _ p q.1)
+pub WritesText-behind : (shown mid grown : List ℕ) (refused : Option Fault) (a b c : SinkState) (r : Result (Unit {0}) Fault) → WroteText shown mid a b → WritesText mid grown refused b c r → WritesText shown grown refused a c r
+WritesText-behind shown mid grown refused a b c (Ok x) p q = (q.0, WroteText-trans _ _ _ _ _ _ p q.1)
+WritesText-behind shown mid grown refused a b c (Err fault) p (inl q) = inl (q.0, WroteText-trans _ _ _ _ _ _ p q.1)
+WritesText-behind shown mid grown refused a b c (Err fault) p (inr q) = inr (q.0, CutText-behind _ _ _ _ _ _ p q.1)
 
-abbrev pub still : InputState → Option (List ℕ) → Option (List ℕ) → ℕ → ℕ → Span
-still state old new before after = record { before = state; after = state; old = old; new = new; faults_before = before; faults_after = after }
+abbrev pub still : InputState → SinkState → SinkState → Span
+still state old new = record { before = state; after = state; old = old; new = new }
 
-module _ (t : Telling) (is : IsText t) (wants : Type 0) (state : InputState) (a c : Option (List ℕ)) (before after : ℕ) where
+module _ (t : RecordsWork) (is : IsText t) (wants : Type 0) (state : InputState) (a c : SinkState) where
   -- it ended before the rest was read
-  pub front-fails : (first front more : List ℕ) (fault : Fault) → first ≡ front ++ more → WritesText {X = Unit {0}} [] (t.text front) (t.refuses front) a c before after (Err fault) → ReadsRest t [] first wants (still state a c before after) (Err fault)
+  pub front-fails : (first front more : List ℕ) (fault : Fault) → first ≡ front ++ more → WritesText {X = Unit {0}} [] (t.text front) (t.refuses front) a c (Err fault) → ReadsRest t [] first wants (still state a c) (Err fault)
   front-fails first front more fault split writes =
       let whole : (left : List ℕ) → (first ++ []) ++ left ≡ front ++ (more ++ left) =
       λ left. rw append-nil (ap (λ l. l ++ left) split ∙ append_assoc front more left) in
       record {
         answer =
             ⊎_elim
-            (λ (r : (t.refuses front ≡ Some fault) × WroteText [] (t.text front) a c before after).
+            (λ (r : (t.refuses front ≡ Some fault) × WroteText [] (t.text front) a c).
             inr (record {
               taken = [];
               consumes = Consumes-nil _;
               more = r.1.more;
-              written = r.1.written;
+              written = r.1.wrote;
               is = λ left follows. ap t.ends (whole left) ∙ is.refused front (more ++ left) fault r.0 ∙ ap (λ l. end_with l (Some fault)) r.1.adds;
             }))
-            (λ (r : (fault ≡ WriteFault) × CutText [] (t.text front) a c before after). inl (rw r.0 refl))
+            (λ (r : (fault ≡ WriteFault) × CutText [] (t.text front) a c). inl (rw r.0 refl))
             writes;
-        reason = writes-reason _ _ _ _ _ _ _ _ _ (Err fault) (is.inside front) writes
+        reason = writes-reason _ _ _ _ _ _ _ (Err fault) (is.inside front) writes
             (λ short. (
-              short.rose,
+              short.cut.rose,
               record {
                 taken = [];
                 consumes = Consumes-nil _;
                 cut = λ left follows.
                     let tail = is.front front (more ++ left) in
-                    let cut = CutText-more _ _ _ tail.0 a c _ _ (ap (λ l. (t.ends l).text) (whole left) ∙ tail.1) short in
+                    let cut = CutText-more _ _ _ tail.0 a c (ap (λ l. (t.ends l).text) (whole left) ∙ tail.1) short in
                     record { more = cut.more; adds = cut.adds; short = cut.cut };
               },
             ));
-        once = record { inputs = once-refl _ _ (writes-quiet _ _ _ _ _ _ _ (Err fault) (is.inside front) writes); out = writes-once _ _ _ _ _ _ _ (Err fault) (is.inside front) writes };
+        once = record { inputs = once-refl _ _ (writes-quiet _ _ _ _ _ (Err fault) (is.inside front) writes); out = writes-once _ _ _ _ _ (Err fault) (is.inside front) writes };
         few = inl refl;
       }
 
   -- nothing was opened
-  pub open-fails : (first : List ℕ) (fault : Fault) → Opens {X = Unit {0}} t wants a c before after (Err fault)
-      → ReadsRest t [] first wants (still state a c before after) (Err fault)
+  pub open-fails : (first : List ℕ) (fault : Fault) → Opens {X = Unit {0}} t wants a c (Err fault)
+      → ReadsRest t [] first wants (still state a c) (Err fault)
   open-fails first fault (inl h) = front-fails first [] first fault refl h
   open-fails first fault (inr h) = search (rules, arith, once-refl, quiet-memory)

@@ -1,9 +1,9 @@
 -- What a command by a plan leaves, whatever its work is.
 use Rattle.std.{proofs.Common.{◌≡◌, ℕ, List, true, false, None, Some, Ok, Err, refl, sym, ◌∙◌, subst, inl, inr, Result, arith, rules, ◌<◌, ◌≤◌, ◌+◌, [], ◌++◌, length, take, ap, append-nil, ◌≢◌, IfErr}, specs.declared.option.Option.Option, proofs.lemmas.Bool.{cases_Bool, cases_lt}, proofs.lemmas.List.{length-append, length-take-le}}
 use Rattle.tally_base.{specs.declared.fault.Fault.Fault, specs.declared.slot.Slot.Slot, specs.declared.slot.Slot.TheVariants.{Plan as PlanSlot, Data}, specs.Faults.{is_outside, fault_in, HasReason}, proofs.Reasons.{HasReason-follows, HasReason-inside}, specs.declared.fault.Fault.TheVariants.OutOfMemory, specs.declared.header.Mode.Mode}
-use Rattle.bench_io.{specs.Given.{Given, no_bytes, IsOf, Consumes, IsAtEnd}, specs.Inputs.{File, InputState, KeepsOther, Keeps, OnlyReads}, proofs.Bytes.Appends-nil}
+use Rattle.bench_io.{specs.Given.{Given, no_bytes, IsOf, Consumes, IsAtEnd}, specs.Inputs.{File, InputState, KeepsOther, Keeps, OnlyReads}, specs.Sinks.SinkState, proofs.Bytes.Wrote-nil}
 use Rattle.plan_text.{specs.declared.plan.Plan.Plan, specs.Plan.PlanView, specs.ReadPlan.{plan_view, text_limit, plan_answer, plan_seen, IsCalledFor}, specs.Fits.IsMisfit, proofs.Called.plan_answer_long, proofs.Misfits.names_part}
-use Rattle.command_work.{specs.Outcomes.{Outcome, refused, InputsOnce}, specs.Pieces.{IsRead, AnswersPlan, PlanReason, OnlyUses}, specs.Behaviours.{Work, Writing, under, Memory, Behaviour, ByPlan}, specs.Works.{AnswersWork, WorkReason}, specs.Endings.{FileOf, IsPlan, HasPlan, OpensAs, ToldIsIts, TakesPlan, EndsWith, Answers, Cuts, WantsBehind, Span, HasCauses, on_file, outcome, HasWholePlan, WantsForPlan}, proofs.Once.{Rose-kept, IsQuiet, quiet-none, quiet-memory, quiet-inside}, proofs.Told.{all-taken, none-ended, told-is-its, ends-told, stops-told, cuts-told, file-splits}}
+use Rattle.command_work.{specs.Outcomes.{Outcome, refused, InputsOnce}, specs.Pieces.{IsRead, AnswersPlan, PlanReason, OnlyUses}, specs.Behaviours.{Work, Writing, under, Memory, Behaviour, ByPlan}, specs.Works.{AnswersWork, WorkReason}, specs.Endings.{FileOf, IsPlan, HasPlan, OpensAs, ReadAgrees, TakesPlan, EndsWith, Answers, Cuts, WantsBehind, Span, HasCauses, on_file, outcome, HasWholePlan, WantsForPlan}, proofs.Once.{Rose-kept, IsQuiet, quiet-none, quiet-memory, quiet-inside}, proofs.Told.{all-taken, none-ended, read-agrees, ends-told, stops-told, cuts-told, file-splits}}
 
 pub KeepsOther-trans : (slot : Slot) (a b c : InputState) → KeepsOther slot a b → KeepsOther slot b c → KeepsOther slot a c
 KeepsOther-trans slot a b c p q = search (rules, arith)
@@ -39,7 +39,7 @@ unfolding outcome
 outcome-planned plan_name name writing memory lacks work plan_file data_file view is whole = search (rules, arith)
 
 -- a text that is cut by a plan is cut
-cuts-under : (writing : Writing (PlanView → List ℕ → List ℕ)) (view : PlanView) (end : Outcome) (old new : Option (List ℕ))
+cuts-under : (writing : Writing (PlanView → List ℕ → List ℕ)) (view : PlanView) (end : Outcome) (old new : SinkState)
     → Cuts (under view writing) end old new → Cuts writing end old new
 cuts-under writing view end old new h = search (rules, arith)
 
@@ -52,17 +52,17 @@ module _ (plan_name name : List ℕ) (writing : Writing (PlanView → List ℕ �
   unfolding outcome
   outcome-read plan_file data_file fault read = search (rules, arith)
 
-  pub answers-unplanned : (after : InputState) (fault : Fault) (old : Option (List ℕ)) → AnswersPlan after (Err fault) → Answers does after (Err fault) old old
+  pub answers-unplanned : (after : InputState) (fault : Fault) (old : SinkState) → AnswersPlan after (Err fault) → Answers does after (Err fault) old old
   answers-unplanned after fault old (inl outside) = inl outside
   answers-unplanned after fault old (inr read) = inr (λ plan_file data_file may.
-      subst (λ (end : Outcome). EndsWith end (Some fault) old old) (sym (outcome-read plan_file data_file fault (read plan_file may.0))) (record { same = refl; text = Appends-nil old }))
+      subst (λ (end : Outcome). EndsWith end (Some fault) old old) (sym (outcome-read plan_file data_file fault (read plan_file may.0))) (record { same = refl; text = Wrote-nil old }))
 
   -- why there is no plan
-  pub unplanned-causes : (before after : InputState) (old : Option (List ℕ)) (faults : ℕ) (fault : Fault)
+  pub unplanned-causes : (before after : InputState) (old : SinkState) (fault : Fault)
       → KeepsOther PlanSlot before after → before.asked Data ≡ false → PlanReason before after fault
-      → HasCauses does (record { before = before; after = after; old = old; new = old; faults_before = faults; faults_after = faults }) fault
+      → HasCauses does (record { before = before; after = after; old = old; new = old }) fault
   unfolding HasCauses
-  unplanned-causes before after old faults fault other first reason = search (rules, arith)
+  unplanned-causes before after old fault other first reason = search (rules, arith, Wrote-nil)
 
   -- a plan that lacks something ends the run
   outcome-lacking : (plan_file data_file : File) (plan : Plan) (fault : Fault)
@@ -70,11 +70,11 @@ module _ (plan_name name : List ℕ) (writing : Writing (PlanView → List ℕ �
   unfolding outcome
   outcome-lacking plan_file data_file plan fault read lacking = search (rules, arith)
 
-  pub answers-lacking : (after : InputState) (plan : Plan) (fault : Fault) (old : Option (List ℕ))
+  pub answers-lacking : (after : InputState) (plan : Plan) (fault : Fault) (old : SinkState)
       → AnswersPlan after (Ok plan) → lacks (plan_view plan) ≡ Some fault → Answers does after (Err fault) old old
   answers-lacking after plan fault old (inl outside) lacking = absurd outside
   answers-lacking after plan fault old (inr read) lacking = inr (λ plan_file data_file may.
-      subst (λ (end : Outcome). EndsWith end (Some fault) old old) (sym (outcome-lacking plan_file data_file plan fault (read plan_file may.0) lacking)) (record { same = refl; text = Appends-nil old }))
+      subst (λ (end : Outcome). EndsWith end (Some fault) old old) (sym (outcome-lacking plan_file data_file plan fault (read plan_file may.0) lacking)) (record { same = refl; text = Wrote-nil old }))
 
   -- and has no cause outside
   pub lacking-causes : (span : Span) (fault : Fault) → is_outside fault ≡ false → HasCauses does span fault
@@ -86,7 +86,7 @@ module _ (plan_name name : List ℕ) (writing : Writing (PlanView → List ℕ �
     planned plan_file data_file has may = sym (outcome-planned plan_name name writing memory lacks work plan_file data_file view (has.is_plan plan_file may) has.whole)
 
     -- work that ended is that of each such file
-    pub plan-answers : (after : InputState) (start : Given) (old new : Option (List ℕ)) (r : Result (Unit {0}) Fault) → HasPlan after lacks view → start ≡ no_bytes → after.opened Data ≡ true → AnswersWork (work view) start (after.given Data) old new r
+    pub plan-answers : (after : InputState) (start : Given) (old new : SinkState) (r : Result (Unit {0}) Fault) → HasPlan after lacks view → start ≡ no_bytes → after.opened Data ≡ true → AnswersWork (work view) start (after.given Data) old new r
         → Answers does after r old new
     plan-answers after start old new r has none opened (inl outside) = inl outside
     plan-answers after start old new r has none opened (inr ends) = inr (λ plan_file data_file may.
@@ -115,8 +115,8 @@ module _ (plan_name name : List ℕ) (writing : Writing (PlanView → List ℕ �
 -- a file that is told for a word may be its slot's
 pub plan-files : (plan_name name : List ℕ) (before after : InputState) → OpensAs PlanSlot before after plan_name → OpensAs Data before after name
     → ((slot : Slot) (bytes : List ℕ) → after.told slot ≡ Some bytes → IsOf (after.given slot) bytes)
-    → ToldIsIts PlanSlot before after plan_name × ToldIsIts Data before after name
-plan-files plan_name name before after is_plan is_data agrees = search (rules, arith, told-is-its)
+    → ReadAgrees PlanSlot before after plan_name × ReadAgrees Data before after name
+plan-files plan_name name before after is_plan is_data agrees = search (rules, arith, read-agrees)
 
 -- the data were not asked for, nor opened, while the plan was read
 pub data-unasked : (before after : InputState) {P : Type 0} → before.asked Data ≡ false → KeepsOther PlanSlot before after → after.asked Data ≡ true → P

@@ -1,19 +1,19 @@
 -- What the bytes taken say of the whole.
 use Rattle.std.{proofs.Common.{◌≡◌, ◌≢◌, ℕ, List, [], ◌++◌, true, false, Some, refl, sym, ap, ◌∙◌, subst, ⊎_elim, append-nil, arith, rules, None, inl, inr, Result, ◌⊎◌, IsErrAnd}, specs.declared.option.Option.Option}
 use Rattle.tally_base.{specs.declared.slot.Slot.Slot, specs.declared.fault.Fault.Fault, specs.declared.slot.Slot.TheVariants.Data, specs.Faults.{fault_in, is_outside}}
-use Rattle.bench_io.{specs.Inputs.{File, InputState, IsOpened}, specs.Given.{Given, no_bytes, Consumes, GivesCount, IsAtEnd, MayFollow, IsOf}}
+use Rattle.bench_io.{specs.Inputs.{File, InputState, IsOpened}, specs.Given.{Given, no_bytes, Consumes, GivesCount, IsAtEnd, MayFollow, IsOf}, specs.Sinks.SinkState}
 use Rattle.ptu_definitions.specs.Headers.{Shows}
-use Rattle.command_work.{specs.Outcomes.{Says, SaysNoEnd, Outcome, InputsOnce}, specs.Endings.{FileOf, HasPlan, outcome, on_file, Answers, EndsWith, StopsIn, Cuts, Span, TakesData, HasCauses, AreItsFiles, ForItsFiles, Tells, ToldAreIts, Asks}, specs.Behaviours.{Work, Writing, OnFile, Behaviour, Alone, ByPlan}, specs.Works.{AnswersWork, EndsWork, ReadsWork, CutsWork, WantsNone, WorkReason, TakesFew}}
+use Rattle.command_work.{specs.Outcomes.{Decides, SaysNoEnd, Outcome, InputsOnce}, specs.Endings.{FileOf, HasPlan, outcome, on_file, Answers, EndsWith, StopsIn, Cuts, Span, TakesData, HasCauses, AreItsFiles, ForItsFiles, InputsHold, ReadsAgree, Asks}, specs.Behaviours.{Work, Writing, OnFile, Behaviour, Alone, ByPlan}, specs.Works.{AnswersWork, EndsWork, ReadsWork, CutsWork, WantsNone, WorkReason, TakesFew}}
 
 -- at the end nothing stands after
-pub Says-at_end : {A : Type 0} (meaning : List ℕ → A) (taken : List ℕ) (given : Given) (answer : A)
-    → IsAtEnd given → meaning taken ≡ answer → Says meaning taken given answer
-Says-at_end meaning taken given answer end h = search (rules, arith, append-nil)
+pub Decides-at_end : {A : Type 0} (meaning : List ℕ → A) (taken : List ℕ) (given : Given) (answer : A)
+    → IsAtEnd given → meaning taken ≡ answer → Decides meaning taken given answer
+Decides-at_end meaning taken given answer end h = search (rules, arith, append-nil)
 
 -- what bytes show they say, whatever stands after
-pub Says-shown : {A : Type 0} (meaning : List ℕ → A) (taken : List ℕ) (given : Given) (answer : A)
-    → Shows meaning taken answer → Says meaning taken given answer
-Says-shown meaning taken given answer shown = record { means = λ more follows. shown more }
+pub Decides-shown : {A : Type 0} (meaning : List ℕ → A) (taken : List ℕ) (given : Given) (answer : A)
+    → Shows meaning taken answer → Decides meaning taken given answer
+Decides-shown meaning taken given answer shown = record { means = λ more follows. shown more }
 
 -- a read that gives bytes does not say the end
 pub reads-on : (start mid now : Given) (count : ℕ) (into : List ℕ) → SaysNoEnd start mid → GivesCount mid now count into → count ≢ 0 → SaysNoEnd start now
@@ -47,19 +47,19 @@ some-file after slot opened = ((after.given slot).bytes, refl, record { more = [
 -- What the work on a file leaves of the whole run.
 
 -- a file that is told may be the slot's
-pub told-is-its : (contents : Option File) (after : InputState) (slot : Slot) (file : File) → (after.opened slot ≡ true → IsOpened contents (after.told slot)) → ((bytes : List ℕ) → after.told slot ≡ Some bytes → IsOf (after.given slot) bytes) → contents ≡ Some file → FileOf after slot file
-told-is-its None after slot file is agrees known = cc
-told-is-its (Some own) after slot None is agrees known = search (rules, arith)
-told-is-its (Some own) after slot (Some bytes) is agrees known = search (rules, arith)
+pub read-agrees : (contents : Option File) (after : InputState) (slot : Slot) (file : File) → (after.opened slot ≡ true → IsOpened contents (after.told slot)) → ((bytes : List ℕ) → after.told slot ≡ Some bytes → IsOf (after.given slot) bytes) → contents ≡ Some file → FileOf after slot file
+read-agrees None after slot file is agrees known = cc
+read-agrees (Some own) after slot None is agrees known = search (rules, arith)
+read-agrees (Some own) after slot (Some bytes) is agrees known = search (rules, arith)
 
 -- work that ended is that of each such file
-pub ends-told : (work : Work) (after : InputState) (start : Given) (old new : Option (List ℕ)) (fault : Option Fault) (data_file : File) → start ≡ no_bytes → after.opened Data ≡ true → EndsWork work start (after.given Data) old new fault → FileOf after Data data_file → EndsWith (on_file work data_file) fault old new
+pub ends-told : (work : Work) (after : InputState) (start : Given) (old new : SinkState) (fault : Option Fault) (data_file : File) → start ≡ no_bytes → after.opened Data ≡ true → EndsWork work start (after.given Data) old new fault → FileOf after Data data_file → EndsWith (on_file work data_file) fault old new
 ends-told work after start old new fault data_file none opened ends may =
     let split = file-splits after Data data_file start ends.taken may opened none ends.consumes in
     subst (λ (end : Outcome). EndsWith end fault old new)
     (sym (ap (on_file work) split.parts ∙ ends.says.means split.more split.follows)) (record { same = refl; text = ends.written })
 
-pub file-answers : (file : List ℕ) (writing : Writing (List ℕ → List ℕ)) (work : Work) (after : InputState) (start : Given) (old new : Option (List ℕ)) (r : Result (Unit {0}) Fault) → start ≡ no_bytes → after.opened Data ≡ true → AnswersWork work start (after.given Data) old new r
+pub file-answers : (file : List ℕ) (writing : Writing (List ℕ → List ℕ)) (work : Work) (after : InputState) (start : Given) (old new : SinkState) (r : Result (Unit {0}) Fault) → start ≡ no_bytes → after.opened Data ≡ true → AnswersWork work start (after.given Data) old new r
     → Answers (OnFile file writing work) after r old new
 unfolding outcome
 file-answers file writing work after start old new r none opened (inl outside) = inl outside
@@ -67,11 +67,11 @@ file-answers file writing work after start old new r none opened (inr ends) =
     inr (λ plan_file data_file may. ends-told work after start old new (fault_in r) data_file none opened ends may)
 
 -- work that stops where a read failed
-pub stops-told : (writing : Writing (List ℕ → List ℕ)) (work : Work) (after : InputState) (start : Given) (old new : Option (List ℕ)) → start ≡ no_bytes → ReadsWork writing work start (after.given Data) old new → StopsIn writing work after old new
+pub stops-told : (writing : Writing (List ℕ → List ℕ)) (work : Work) (after : InputState) (start : Given) (old new : SinkState) → start ≡ no_bytes → ReadsWork writing work start (after.given Data) old new → StopsIn writing work after old new
 stops-told writing work after start old new none h = search (rules, arith, all-taken)
 
 -- a text that is cut is cut of each such file
-pub cuts-told : {A : Type 0} (writing : Writing (List ℕ → List ℕ)) (whole : Writing A) (work : Work) (after : InputState) (start : Given) (old new : Option (List ℕ)) (data_file : File) → ((end : Outcome) → Cuts writing end old new → Cuts whole end old new) → start ≡ no_bytes → after.opened Data ≡ true
+pub cuts-told : {A : Type 0} (writing : Writing (List ℕ → List ℕ)) (whole : Writing A) (work : Work) (after : InputState) (start : Given) (old new : SinkState) (data_file : File) → ((end : Outcome) → Cuts writing end old new → Cuts whole end old new) → start ≡ no_bytes → after.opened Data ≡ true
     → CutsWork writing work start (after.given Data) old new → FileOf after Data data_file → Cuts whole (on_file work data_file) old new
 cuts-told writing whole work after start old new data_file cuts none opened h may = search (rules, arith, file-splits)
 
@@ -87,7 +87,7 @@ few-told work after start none h = search (rules, arith, all-taken)
 
 -- What holds over all files that may be a run's holds over files that are told.
 
-pub alone-answers : (end : Outcome) (after : InputState) (r : Result (Unit {0}) Fault) (old new : Option (List ℕ)) → IsErrAnd r (λ fault. is_outside fault ≡ true) ⊎ EndsWith end (fault_in r) old new → Answers (Alone end) after r old new
+pub alone-answers : (end : Outcome) (after : InputState) (r : Result (Unit {0}) Fault) (old new : SinkState) → IsErrAnd r (λ fault. is_outside fault ≡ true) ⊎ EndsWith end (fault_in r) old new → Answers (Alone end) after r old new
 unfolding outcome
 alone-answers end after r old new h1 = search (rules, arith)
 
@@ -97,7 +97,7 @@ pub files-map : (does : Behaviour) (after : InputState) (p q : Outcome → Type 
 files-map does after p q f all = λ plan_file data_file may. f (outcome does plan_file data_file) (all plan_file data_file may)
 
 -- files that are told for both words are among those that may be the run's
-pub told-are-its : (does : Behaviour) (before after : InputState) (plan_file data_file : File) → Asks does (HasPlan after) before after → ToldAreIts does before after → Tells before does plan_file data_file → AreItsFiles does after plan_file data_file
-told-are-its (Alone end) before after plan_file data_file asks its tells = tt
-told-are-its (OnFile file writing work) before after plan_file data_file asks its tells = its data_file tells.1
-told-are-its (ByPlan plan file writing memory lacks work) before after plan_file data_file asks its tells = search (rules, arith)
+pub reads-agree : (does : Behaviour) (before after : InputState) (plan_file data_file : File) → Asks does (HasPlan after) before after → ReadsAgree does before after → InputsHold before does plan_file data_file → AreItsFiles does after plan_file data_file
+reads-agree (Alone end) before after plan_file data_file asks its tells = tt
+reads-agree (OnFile file writing work) before after plan_file data_file asks its tells = its data_file tells.1
+reads-agree (ByPlan plan file writing memory lacks work) before after plan_file data_file asks its tells = search (rules, arith)

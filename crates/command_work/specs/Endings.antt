@@ -1,7 +1,7 @@
 -- What a run of the program leaves, by what its command does.
-use Rattle.std.{specs.Prelude.{ℕ, ◌≡◌, ◌⊎◌, ◌+◌, ◌≤◌, ◌<◌, List, ◌++◌, length, true, false, None, Some, Result, Ok, Err, IsErrAnd, IfErr}, specs.declared.option.Option.Option, specs.Io.KnownBytes.{Keeps, Appends}}
+use Rattle.std.{specs.Prelude.{ℕ, ◌≡◌, ◌⊎◌, ◌+◌, ◌≤◌, ◌<◌, List, ◌++◌, length, true, false, None, Some, Result, Ok, Err, IsErrAnd, IfErr}, specs.declared.option.Option.Option}
 use Rattle.tally_base.{specs.declared.slot.Slot.Slot, specs.declared.slot.Slot.TheVariants.{Plan, Data}, specs.declared.fault.Fault.Fault, specs.declared.fault.Fault.TheVariants.OpenFault, specs.Faults.{line_of, is_outside, fault_in, HasReason}, specs.FaultCounts.Rose, specs.declared.header.Header.Header, specs.RecordTypes.mode_of}
-use Rattle.bench_io.{specs.Sinks.AppendsShort, specs.Given.{IsOf, IsAtEnd}, specs.Inputs.{File, InputState, IsOpened}, specs.declared.inputs.Inputs.Ghosts as InputGhosts, specs.declared.sink.Sink.Ghosts as SinkGhosts}
+use Rattle.bench_io.{specs.Given.{IsOf, IsAtEnd}, specs.Inputs.{File, InputState, IsOpened}, specs.declared.inputs.Inputs.Ghosts as InputGhosts, specs.declared.sink.Sink.Ghosts as SinkGhosts, specs.Sinks.{SinkState, Wrote, WroteNone, WroteShort}}
 use Rattle.ptu_definitions.specs.Headers.{header_answer}
 use Rattle.plan_text.{specs.Plan.{PlanView, parts_of}, specs.ReadPlan.{text_limit, plan_answer}, specs.Fits.fits}
 use Rattle.command_work.{specs.Outcomes.{InputsOnce, OutOnce, Outcome, refused, status}, specs.Behaviours.{piece_limit, Work, Writing, AtEnd, AsItReads, so_far, under, Memory, ForPlan, ForTables, Behaviour, Alone, OnFile, ByPlan}}
@@ -76,32 +76,32 @@ TellsPlan state (OnFile file writing work) plan_file = Unit {0}
 TellsPlan state (ByPlan plan file writing memory lacks work) plan_file = state.contents plan ≡ Some plan_file
 
 -- the inputs tell these files for the words PLAN and FILE
-abbrev pub Tells : InputState → Behaviour → File → File → Type 0
-Tells state does plan_file data_file = TellsPlan state does plan_file × TellsData state does plan_file data_file
+abbrev pub InputsHold : InputState → Behaviour → File → File → Type 0
+InputsHold state does plan_file data_file = TellsPlan state does plan_file × TellsData state does plan_file data_file
 
 -- A slot that was opened has the file of this name, where the inputs tell that.
 abbrev pub OpensAs : Slot → InputState → InputState → List ℕ → Type 0
 OpensAs slot before after name = after.opened slot ≡ true → IsOpened (before.contents name) (after.told slot)
 
 -- the file that the inputs tell for this name may be the slot's
-abbrev pub ToldIsIts : Slot → InputState → InputState → List ℕ → Type 0
-ToldIsIts slot before after name = (file : File) → before.contents name ≡ Some file → FileOf after slot file
+abbrev pub ReadAgrees : Slot → InputState → InputState → List ℕ → Type 0
+ReadAgrees slot before after name = (file : File) → before.contents name ≡ Some file → FileOf after slot file
 
 -- The file that they tell for a word may be its slot's, each for itself.
-abbrev pub ToldAreIts : Behaviour → InputState → InputState → Type 0
-ToldAreIts (Alone end) before after = Unit {0}
-ToldAreIts (OnFile file writing work) before after = ToldIsIts Data before after file
-ToldAreIts (ByPlan plan file writing memory lacks work) before after = ToldIsIts Plan before after plan × ToldIsIts Data before after file
+abbrev pub ReadsAgree : Behaviour → InputState → InputState → Type 0
+ReadsAgree (Alone end) before after = Unit {0}
+ReadsAgree (OnFile file writing work) before after = ReadAgrees Data before after file
+ReadsAgree (ByPlan plan file writing memory lacks work) before after = ReadAgrees Plan before after plan × ReadAgrees Data before after file
 
 -- ## What a run leaves
 
 -- the run ended so, and its text was written
-pub record EndsWith (outcome : Outcome) (fault : Option Fault) (old new : Option (List ℕ)) : Type 0 where
+pub record EndsWith (outcome : Outcome) (fault : Option Fault) (old new : SinkState) : Type 0 where
   pub same : fault ≡ outcome.fault
-  pub text : Appends old new outcome.text
+  pub text : Wrote old new outcome.text
 
 -- what a command leaves where the fault is not from outside: it ends as its files call for
-abbrev pub Answers : Behaviour → InputState → Result (Unit {0}) Fault → Option (List ℕ) → Option (List ℕ) → Type 0
+abbrev pub Answers : Behaviour → InputState → Result (Unit {0}) Fault → SinkState → SinkState → Type 0
 Answers does after result old new =
     IsErrAnd result (λ fault. is_outside fault ≡ true)
     ⊎ ForItsFiles does after (λ end. EndsWith end (fault_in result) old new)
@@ -119,24 +119,24 @@ Reaches (ByPlan plan file writing memory lacks work) is_plan Plan = Unit {0}
 Reaches (ByPlan plan file writing memory lacks work) is_plan Data = (view : PlanView) × is_plan lacks view
 
 -- The bytes that the reads of FILE gave call for no end by themselves, and what the command writes of them meanwhile was written.
-pub record StopsIn (writing : Writing (List ℕ → List ℕ)) (work : Work) (after : InputState) (old new : Option (List ℕ)) : Type 0 where
+pub record StopsIn (writing : Writing (List ℕ → List ℕ)) (work : Work) (after : InputState) (old new : SinkState) : Type 0 where
   pub goes_on : work.goes_on (after.given Data).bytes
-  pub text : Appends old new (so_far writing (after.given Data).bytes)
+  pub text : Wrote old new (so_far writing (after.given Data).bytes)
 
 -- What a run leaves on standard output where a read failed.
-abbrev pub LeavesUnread : Behaviour → PlanSays → Slot → InputState → Option (List ℕ) → Option (List ℕ) → Type 0
+abbrev pub LeavesUnread : Behaviour → PlanSays → Slot → InputState → SinkState → SinkState → Type 0
 LeavesUnread (Alone end) is_plan slot after old new = ⊥
 LeavesUnread (OnFile file writing work) is_plan slot after old new = StopsIn writing work after old new
-LeavesUnread (ByPlan plan file writing memory lacks work) is_plan Plan after old new = Keeps old new × (length (after.given Plan).bytes ≤ text_limit)
+LeavesUnread (ByPlan plan file writing memory lacks work) is_plan Plan after old new = WroteNone old new × (length (after.given Plan).bytes ≤ text_limit)
 LeavesUnread (ByPlan plan file writing memory lacks work) is_plan Data after old new = (view : PlanView) × is_plan lacks view × StopsIn (under view writing) (work view) after old new
 
 -- A text was cut short. One that is written at the end is cut only where the run would have ended well.
-abbrev pub Cuts : {A : Type 0} → Writing A → Outcome → Option (List ℕ) → Option (List ℕ) → Type 0
-Cuts AtEnd end old new = (end.fault ≡ None) × AppendsShort old new end.text
-Cuts (AsItReads text) end old new = AppendsShort old new end.text
+abbrev pub Cuts : {A : Type 0} → Writing A → Outcome → SinkState → SinkState → Type 0
+Cuts AtEnd end old new = (end.fault ≡ None) × WroteShort old new end.text
+Cuts (AsItReads text) end old new = WroteShort old new end.text
 
-abbrev pub CutsShort : Behaviour → Outcome → Option (List ℕ) → Option (List ℕ) → Type 0
-CutsShort (Alone written) end old new = (end.fault ≡ None) × AppendsShort old new end.text
+abbrev pub CutsShort : Behaviour → Outcome → SinkState → SinkState → Type 0
+CutsShort (Alone written) end old new = (end.fault ≡ None) × WroteShort old new end.text
 CutsShort (OnFile file writing work) end old new = Cuts writing end old new
 CutsShort (ByPlan plan file writing memory lacks work) end old new = Cuts writing end old new
 
@@ -172,11 +172,11 @@ pub record StopsBehind (memory : Memory) (lacks : PlanView → Option Fault) (is
   pub wants : WantsBehind memory plan (after.given Data).bytes
 
 -- What a run leaves that ends for want of memory: nothing is written, and the command takes memory there. By a plan that is for the plan, and the data were not asked for; or for its tables.
-abbrev pub RunsOut : Behaviour → PlanSays → InputState → Option (List ℕ) → Option (List ℕ) → Type 0
-RunsOut (Alone end) is_plan after old new = (end.fault ≡ None) × Keeps old new
+abbrev pub RunsOut : Behaviour → PlanSays → InputState → SinkState → SinkState → Type 0
+RunsOut (Alone end) is_plan after old new = (end.fault ≡ None) × WroteNone old new
 RunsOut (OnFile file writing work) is_plan after old new = ⊥
 RunsOut (ByPlan plan file writing memory lacks work) is_plan after old new =
-    Keeps old new × (((after.asked Data ≡ false) × WantsForPlan after) ⊎ StopsBehind memory lacks is_plan after)
+    WroteNone old new × (((after.asked Data ≡ false) × WantsForPlan after) ⊎ StopsBehind memory lacks is_plan after)
 
 -- No more of a plan is read than one byte more than a plan may have.
 abbrev pub TakesPlan : InputState → Type 0
@@ -202,32 +202,28 @@ Asks (OnFile file writing work) is_plan before after = (after.asked Plan ≡ fal
 Asks (ByPlan plan file writing memory lacks work) is_plan before after = TakesPlan after × AsksByPlan lacks work is_plan after × (after.opened Data ≡ true → after.asked Data ≡ true)
 
 -- A fault has its line on standard error, and no write there failed; or a prefix of it where one did.
-abbrev pub TellsFault : Option (List ℕ) → Option (List ℕ) → ℕ → ℕ → Option Fault → Type 0
-TellsFault old new before now None = Keeps old new × (now ≡ before)
-TellsFault old new before now (Some fault) = (Appends old new (line_of fault) × (now ≡ before)) ⊎ (Rose before now × AppendsShort old new (line_of fault))
+abbrev pub TellsFault : SinkState → SinkState → Option Fault → Type 0
+TellsFault old new None = WroteNone old new
+TellsFault old new (Some fault) = Wrote old new (line_of fault) ⊎ WroteShort old new (line_of fault)
 
 -- The top call ended so: by the status of the fault, with the whole text on standard output, and the fault's line on standard error.
-abbrev pub EndsBy : Outcome → ℕ → Option (List ℕ) → Option (List ℕ) → Option (List ℕ) → Option (List ℕ) → ℕ → ℕ → Type 0
-EndsBy end result old new err_old err_new before now = (result ≡ status end.fault) × Appends old new end.text × TellsFault err_old err_new before now end.fault
+abbrev pub EndsBy : Outcome → ℕ → SinkState → SinkState → SinkState → SinkState → Type 0
+EndsBy end result old new err_old err_new = (result ≡ status end.fault) × Wrote old new end.text × TellsFault err_old err_new end.fault
 
 -- the states of the inputs and of standard output before a command and after it
 pub record Span : Type 0 where
   pub before : InputState
   pub after : InputState
-  pub old : Option (List ℕ)
-  pub new : Option (List ℕ)
-  pub faults_before : ℕ
-  pub faults_after : ℕ
+  pub old : SinkState
+  pub new : SinkState
 
 -- those of these inputs and of this output
 abbrev pub span : {I O : Type 0} → InputGhosts I → SinkGhosts O → I → I → O → O → Span
 span i o before after old new = record {
   before = i.state before;
   after = i.state after;
-  old = o.written old;
-  new = o.written new;
-  faults_before = o.faults old;
-  faults_after = o.faults new;
+  old = o.state old;
+  new = o.state new;
 }
 
 -- those of this output, where the inputs stay as they are
@@ -235,31 +231,29 @@ abbrev pub alone_span : {O : Type 0} → SinkGhosts O → InputState → O → O
 alone_span o state old new = record {
   before = state;
   after = state;
-  old = o.written old;
-  new = o.written new;
-  faults_before = o.faults old;
-  faults_after = o.faults new;
+  old = o.state old;
+  new = o.state new;
 }
 
 -- No count moved but the one that the fault tells of, by one: nothing else failed.
 pub record Once (span : Span) (fault : Option Fault) : Type 0 where
   pub inputs : InputsOnce span.before span.after fault
-  pub out : OutOnce fault span.faults_before span.faults_after
+  pub out : OutOnce fault span.old span.new
 
 -- An opening failed: the command came to the slot, the count of its openings that failed rose, and nothing was written.
-abbrev pub FailsOpening : Behaviour → Slot → InputState → InputState → Option (List ℕ) → Option (List ℕ) → Type 0
-FailsOpening does slot before after old new = Reaches does (HasPlan after) slot × Rose (before.open_faults slot) (after.open_faults slot) × Keeps old new
+abbrev pub FailsOpening : Behaviour → Slot → InputState → InputState → SinkState → SinkState → Type 0
+FailsOpening does slot before after old new = Reaches does (HasPlan after) slot × Rose (before.open_faults slot) (after.open_faults slot) × WroteNone old new
 
 -- A read of the slot failed: the count of those rose.
 abbrev pub ReadFailed : Slot → InputState → InputState → Type 0
 ReadFailed slot before after = Rose (before.read_faults slot) (after.read_faults slot)
 
 -- A read failed: the command came to the slot, which was opened and of which no read had said the end, the count of its reads that failed rose, and standard output holds what was called for so far.
-abbrev pub FailsReading : Behaviour → Slot → InputState → InputState → Option (List ℕ) → Option (List ℕ) → Type 0
+abbrev pub FailsReading : Behaviour → Slot → InputState → InputState → SinkState → SinkState → Type 0
 FailsReading does slot before after old new = Reaches does (HasPlan after) slot × (after.opened slot ≡ true) × ¬ (IsAtEnd (after.given slot)) × ReadFailed slot before after × LeavesUnread does (HasPlan after) slot after old new
 
 -- The text that its files call for was cut short.
-abbrev pub CutsOutcome : Behaviour → InputState → Option (List ℕ) → Option (List ℕ) → Type 0
+abbrev pub CutsOutcome : Behaviour → InputState → SinkState → SinkState → Type 0
 CutsOutcome does after old new = ForItsFiles does after (λ end. CutsShort does end old new)
 
 -- what a command's fault from outside says: which count rose, and what was written
@@ -267,16 +261,16 @@ unfoldable pub HasCauses : Behaviour → Span → Fault → Type 0
 HasCauses does span = HasReason
     (λ slot. FailsOpening does slot span.before span.after span.old span.new)
     (λ slot. FailsReading does slot span.before span.after span.old span.new)
-    (Rose span.faults_before span.faults_after × CutsOutcome does span.after span.old span.new)
+    (Rose span.old.faults span.new.faults × CutsOutcome does span.after span.old span.new)
     (RunsOut does (HasPlan span.after) span.after span.old span.new)
 
 -- all that a command does
-pub record Does (behaves : Behaviour) (span : Span) (result : Result (Unit {0}) Fault) : Type 0 where
+pub record LeavesCommand (behaves : Behaviour) (span : Span) (result : Result (Unit {0}) Fault) : Type 0 where
   pub answer : Answers behaves span.after result span.old span.new
   pub causes : IfErr result (HasCauses behaves span)
   pub asks : Asks behaves (HasPlan span.after) span.before span.after
   pub once : Once span (fault_in result)
-  pub files : ToldAreIts behaves span.before span.after
+  pub files : ReadsAgree behaves span.before span.after
 
 -- ## Good words and files
 

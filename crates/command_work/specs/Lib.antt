@@ -3,5 +3,5 @@ pub mod Behaviours
 pub mod Endings
 pub mod Works
 pub mod Pieces
-pub mod Tellings
+pub mod RecordsWork
 pub mod Rests

@@ -2,7 +2,7 @@
 use Rattle.std.{specs.Prelude.{ℕ, ◌≡◌, ◌≤◌, List, [], length, None, Some, Bool, true, false, Err, ◌++◌}, specs.declared.option.Option.Option}
 use Rattle.tally_base.{specs.declared.fault.Fault.Fault, specs.declared.fault.Fault.TheVariants.{TruncatedHeader, TruncatedRecord, OpenFault, ReadFault, WriteFault}, specs.Faults.status_of, specs.declared.slot.Slot.Slot, specs.declared.slot.Slot.TheVariants.{Plan, Data}, specs.FaultCounts.Rose}
 use Rattle.ptu_definitions.specs.Headers.{header_answer}
-use Rattle.bench_io.{specs.Given.{Given, IsAtEnd, MayFollow}, specs.Inputs.InputState}
+use Rattle.bench_io.{specs.Given.{Given, IsAtEnd, MayFollow}, specs.Inputs.InputState, specs.Sinks.SinkState}
 
 -- the text on standard output, and the fault where there is one
 pub record Outcome : Type 0 where
@@ -48,7 +48,7 @@ pub record SaysNoEnd (start now : Given) : Type 0 where
   pub said_before : IsAtEnd now → IsAtEnd start
 
 -- The bytes taken mean this, whatever may stand after them.
-pub record Says {A : Type 0} (meaning : List ℕ → A) (taken : List ℕ) (given : Given) (answer : A) : Type 0 where
+pub record Decides {A : Type 0} (meaning : List ℕ → A) (taken : List ℕ) (given : Given) (answer : A) : Type 0 where
   pub means : (more : List ℕ) → MayFollow given more → meaning (taken ++ more) ≡ answer
 
 -- Which counts of faults a call moved.
@@ -83,5 +83,5 @@ pub record InputsOnce (before after : InputState) (fault : Option Fault) : Type 
   pub reads : (slot : Slot) → CountsIf (tells_reading fault slot) (before.read_faults slot) (after.read_faults slot)
 
 -- The count of writes of standard output that failed did not move, or by one where the fault tells of it.
-abbrev pub OutOnce : Option Fault → ℕ → ℕ → Type 0
-OutOnce fault before now = CountsIf (tells_writing fault) before now
+abbrev pub OutOnce : Option Fault → SinkState → SinkState → Type 0
+OutOnce fault old new = CountsIf (tells_writing fault) old.faults new.faults

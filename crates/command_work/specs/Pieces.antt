@@ -2,7 +2,7 @@
 use Rattle.std.specs.Prelude.{ℕ, ◌≡◌, ◌≤◌, ◌<◌, List, length, true, Result, IfOk, IfErr, ◌⊎◌, ◌+◌, [], ◌++◌, take, drop, slice_range, false, Ok, Err, Some, IsErrAnd}
 use Rattle.tally_base.{specs.declared.slot.Slot.TheVariants.{Data, Plan as PlanSlot}, specs.declared.fault.Fault.Fault, specs.Faults.{is_outside, HasReason}, specs.FaultCounts.Rose, specs.declared.slot.Slot.Slot}
 use Rattle.bench_io.{specs.Inputs.{InputState, File, Keeps, KeepsOther}, specs.Given.{Given, Consumes, IsAtEnd}}
-use Rattle.command_work.{specs.Outcomes.{SaysNoEnd, Says, IsCut}, specs.Behaviours.piece_limit, specs.Works.TakesFew, specs.declared.header.Fed.Fed, specs.declared.header.Fed.TheVariants.{More, Done, Refused}, specs.declared.data.FoundHeader.FoundHeader, specs.Endings.{FileOf, WantsForPlan}}
+use Rattle.command_work.{specs.Outcomes.{SaysNoEnd, Decides, IsCut}, specs.Behaviours.piece_limit, specs.Works.TakesFew, specs.declared.header.Fed.Fed, specs.declared.header.Fed.TheVariants.{More, Done, Refused}, specs.declared.data.FoundHeader.FoundHeader, specs.Endings.{FileOf, WantsForPlan}}
 use Rattle.ptu_definitions.specs.Headers.{header_answer, Shows}
 use Rattle.ptu_header.{specs.declared.reader.HeaderReader.HeaderReader, specs.ReadHeader.{HasRead, is_open, bytes_taken}}
 use Rattle.plan_text.{specs.declared.plan.Plan.Plan, specs.ReadPlan.{text_limit, plan_answer, plan_seen}}
@@ -59,7 +59,7 @@ pub record EndsIn (buffer : List ℕ) (found : FoundHeader) : Type 0 where
 -- The header of the bytes taken, with the part of the buffer after it; or a fault.
 abbrev pub HeaderEnds : List ℕ → List ℕ → Given → Result FoundHeader Fault → Type 0
 HeaderEnds buffer taken given (Ok found) = (more : List ℕ) → header_answer (taken ++ more) ≡ Ok (found.header, slice_range buffer found.used found.len ++ more)
-HeaderEnds buffer taken given (Err fault) = (is_outside fault ≡ true) ⊎ Says header_answer taken given (Err fault)
+HeaderEnds buffer taken given (Err fault) = (is_outside fault ≡ true) ⊎ Decides header_answer taken given (Err fault)
 
 -- What reading a plan leaves.
 

@@ -1,39 +1,39 @@
 -- What a command's work on the bytes of FILE leaves.
-use Rattle.std.{specs.Prelude.{ℕ, ◌≡◌, ◌⊎◌, ◌≤◌, List, ◌++◌, length, true, Result, IsErrAnd, IfErr}, specs.declared.option.Option.Option, specs.Io.KnownBytes.{Keeps, Appends}}
+use Rattle.std.{specs.Prelude.{ℕ, ◌≡◌, ◌⊎◌, ◌≤◌, List, ◌++◌, length, true, Result, IsErrAnd, IfErr}, specs.declared.option.Option.Option}
 use Rattle.tally_base.{specs.declared.slot.Slot.TheVariants.Data, specs.declared.fault.Fault.Fault, specs.FaultCounts.Rose, specs.Faults.{is_outside, fault_in, HasReason}}
-use Rattle.bench_io.specs.Given.{Given, Consumes, MayFollow}
+use Rattle.bench_io.{specs.Given.{Given, Consumes, MayFollow}, specs.Sinks.{SinkState, Wrote, WroteNone}}
 use Rattle.plan_text.specs.Plan.{PlanView}
-use Rattle.command_work.{specs.Outcomes.{Says, SaysNoEnd}, specs.Behaviours.{piece_limit, Work, Writing, Memory, so_far, under}, specs.Endings.{Cuts, Span, Once, WantsBehind}}
+use Rattle.command_work.{specs.Outcomes.{Decides, SaysNoEnd}, specs.Behaviours.{piece_limit, Work, Writing, Memory, so_far, under}, specs.Endings.{Cuts, Span, Once, WantsBehind}}
 
 -- The bytes taken end so, whatever may stand after them, and this text was written.
-pub record EndsWork (work : Work) (start now : Given) (old new : Option (List ℕ)) (fault : Option Fault) : Type 0 where
+pub record EndsWork (work : Work) (start now : Given) (old new : SinkState) (fault : Option Fault) : Type 0 where
   pub taken : List ℕ
   pub consumes : Consumes start now taken
   pub text : List ℕ
-  pub written : Appends old new text
-  pub says : Says work.outcome taken now (record { text = text; fault = fault })
+  pub written : Wrote old new text
+  pub says : Decides work.outcome taken now (record { text = text; fault = fault })
 
 -- A fault from outside, or the end that the bytes call for.
-abbrev pub AnswersWork : Work → Given → Given → Option (List ℕ) → Option (List ℕ) → Result (Unit {0}) Fault → Type 0
+abbrev pub AnswersWork : Work → Given → Given → SinkState → SinkState → Result (Unit {0}) Fault → Type 0
 AnswersWork work start now old new result = IsErrAnd result (λ fault. is_outside fault ≡ true) ⊎ EndsWork work start now old new (fault_in result)
 
 -- What is written of the bytes taken was written, more of them may change the end, and no read said that there are none.
-pub record ReadsWork (writing : Writing (List ℕ → List ℕ)) (work : Work) (start now : Given) (old new : Option (List ℕ)) : Type 0 where
+pub record ReadsWork (writing : Writing (List ℕ → List ℕ)) (work : Work) (start now : Given) (old new : SinkState) : Type 0 where
   pub taken : List ℕ
   pub consumes : Consumes start now taken
-  pub written : Appends old new (so_far writing taken)
+  pub written : Wrote old new (so_far writing taken)
   pub goes_on : work.goes_on taken
   pub unended : SaysNoEnd start now
 
 -- The text of the bytes taken was cut short, whatever may stand after them.
-pub record CutsWork (writing : Writing (List ℕ → List ℕ)) (work : Work) (start now : Given) (old new : Option (List ℕ)) : Type 0 where
+pub record CutsWork (writing : Writing (List ℕ → List ℕ)) (work : Work) (start now : Given) (old new : SinkState) : Type 0 where
   pub taken : List ℕ
   pub consumes : Consumes start now taken
   pub cut : (more : List ℕ) → MayFollow now more → Cuts writing (work.outcome (taken ++ more)) old new
 
 -- Nothing was written, and the bytes taken are some after which memory may run out.
-pub record WantsWork (wanting : List ℕ → Type 0) (start now : Given) (old new : Option (List ℕ)) : Type 0 where
-  pub keeps : Keeps old new
+pub record WantsWork (wanting : List ℕ → Type 0) (start now : Given) (old new : SinkState) : Type 0 where
+  pub keeps : WroteNone old new
   pub taken : List ℕ
   pub consumes : Consumes start now taken
   pub wants : wanting taken
@@ -47,7 +47,7 @@ abbrev pub WorkReason : Writing (List ℕ → List ℕ) → (List ℕ → Type 0
 WorkReason writing wanting work span = HasReason
     (λ slot. ⊥)
     (λ slot. (slot ≡ Data) × Rose (span.before.read_faults slot) (span.after.read_faults slot) × ReadsWork writing work (span.before.given Data) (span.after.given Data) span.old span.new)
-    (Rose span.faults_before span.faults_after × CutsWork writing work (span.before.given Data) (span.after.given Data) span.old span.new)
+    (Rose span.old.faults span.new.faults × CutsWork writing work (span.before.given Data) (span.after.given Data) span.old span.new)
     (WantsWork wanting (span.before.given Data) (span.after.given Data) span.old span.new)
 
 -- The bytes taken are some that call for no end by themselves, and no more after them than one read gives.

@@ -2,7 +2,7 @@
 ghost use Rattle.std.specs.Prelude.{◌≡◌, ◌+◌, ◌≤◌, [], List, ℕ, ◌++◌, length, IfOk, OnOk, None, true};
 ghost use Rattle.tally_base.{specs.declared.slot.Slot.TheVariants.Data, specs.declared.header.Header.Header};
 ghost use Rattle.bench_io.specs.Inputs.{OnlyReads};
-ghost use Rattle.command_work.{specs.Behaviours.{Work, Writing}, specs.Endings.span, specs.Pieces.IsReady, specs.Rests.ReadsRest, specs.Tellings.{Telling, IsText, Opens, Suits, WritesPiece, WritesEnd}, specs.Works.LeavesWork};
+ghost use Rattle.command_work.{specs.Behaviours.{Work, Writing}, specs.Endings.span, specs.Pieces.IsReady, specs.Rests.ReadsRest, specs.RecordsWork.{RecordsWork, IsText, Opens, Suits, WritesPiece, WritesEnd}, specs.Works.LeavesWork};
 
 use crate::data::{PIECE, READ_FAULT, read_header};
 use bench_io::{Inputs, Sink};
@@ -11,7 +11,7 @@ use tally_base::{Fault, Header, Slot};
 /// Takes bytes in pieces, writes a text meanwhile, and more of it at their end.
 pub trait Reader: Drop {
     /// What it makes of bytes. No call changes that.
-    ghost tells: { Self → Telling };
+    ghost tells: { Self → RecordsWork };
 
     /// It was given these bytes and refused none.
     ghost stands: { Self → List ℕ → Type 0 };
@@ -24,8 +24,7 @@ pub trait Reader: Drop {
         requires { (bytes : List ℕ) × stands self.old bytes }
         ensures same { tells self.new ≡ tells self.old }
         ensures writes { (bytes : List ℕ) → stands self.old bytes
-            → WritesPiece (tells self.old) bytes piece.now (O.written out.old) (O.written out.new)
-            (O.faults out.old) (O.faults out.new) result }
+            → WritesPiece (tells self.old) bytes piece.now (O.state out.old) (O.state out.new) result }
         ensures takes { OnOk result ((bytes : List ℕ) → stands self.old bytes
             → stands self.new (bytes ++ piece.now)) }
         ensures room { OnOk result (room self.new + length piece.now ≤ room self.old) };
@@ -34,8 +33,7 @@ pub trait Reader: Drop {
     fn end<O: Sink>(self, out: &mut O) -> Result<(), Fault>
         requires { (bytes : List ℕ) × stands self bytes }
         ensures { (bytes : List ℕ) → stands self bytes
-            → WritesEnd (tells self) bytes (O.written out.old) (O.written out.new)
-            (O.faults out.old) (O.faults out.new) result };
+            → WritesEnd (tells self) bytes (O.state out.old) (O.state out.new) result };
 
     ghost law: { (r : Self) → IsText (tells r) };
 
@@ -55,7 +53,7 @@ pub trait Job {
     ghost wanting: { Self → List ℕ → Type 0 };
 
     /// What it makes of the bytes after this header. Where the header is refused, all bytes are.
-    ghost tells: { Self → Header → Telling };
+    ghost tells: { Self → Header → RecordsWork };
 
     /// Why it may be refused memory after this header.
     ghost wants: { Self → Header → Type 0 };
@@ -63,7 +61,7 @@ pub trait Job {
     /// Writes what stands in front, and gives a reader that was given nothing.
     fn open<O: Sink>(&self, header: &Header, out: &mut O) -> Result<Self::Reader, Fault>
         ensures opens { Opens (tells self.now header.now) (wants self.now header.now)
-            (O.written out.old) (O.written out.new) (O.faults out.old) (O.faults out.new) result }
+            (O.state out.old) (O.state out.new) result }
         ensures tells { IfOk result (λ r. Self.Reader.tells r ≡ tells self.now header.now) }
         ensures stands { IfOk result (λ r. Self.Reader.stands r []) };
 

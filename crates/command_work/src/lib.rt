@@ -1,6 +1,6 @@
 //! What all commands share: what a command's work on the bytes of FILE is and what a run of it leaves, PLAN read
 //! whole, FILE read up to the end of its header, and the work done on FILE alone or by a plan. Begin with
-//! `work.rt`, and with `specs/Behaviours.antt` for the four shapes of a command.
+//! `work.rt`, and with `specs/Behaviours.antt` for the three shapes of a command.
 #![tactic(auto)]
 
 mod data;

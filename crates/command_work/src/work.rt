@@ -4,7 +4,7 @@ ghost use Rattle.tally_base.{specs.declared.slot.Slot.Slot, specs.declared.slot.
 ghost use Rattle.bench_io.specs.Inputs.{OnlyReads};
 ghost use Rattle.ptu_definitions.specs.Words.{record_limit};
 ghost use Rattle.plan_text.{specs.Plan.PlanView, specs.ReadPlan.plan_view};
-ghost use Rattle.command_work.{specs.Behaviours.{Work, Writing, Memory, OnFile, ByPlan}, specs.Endings.{Does, span}, specs.Works.{WantsNone, LeavesWork, LeavesPlanned}};
+ghost use Rattle.command_work.{specs.Behaviours.{Work, Writing, Memory, OnFile, ByPlan}, specs.Endings.{LeavesCommand, span}, specs.Works.{WantsNone, LeavesWork, LeavesPlanned}};
 
 use crate::plan::plan_of;
 use bench_io::{Inputs, Sink};
@@ -35,7 +35,7 @@ pub fn on_file<W: FileWork, I: Inputs, O: Sink>(
 ) -> Result<(), Fault>
     requires meant { (I.state inputs.old).meant Data file.now ≡ true }
     requires first { (slot : Slot) → (I.state inputs.old).asked slot ≡ false }
-    ensures { Does (OnFile file.now W.writing W.work)
+    ensures { LeavesCommand (OnFile file.now W.writing W.work)
         (span I.Inputs O.Sink inputs.old inputs.new out.old out.new) result }
 {
     match inputs.open(Slot::Data, file) {
@@ -89,7 +89,7 @@ pub fn by_plan<W: PlanWork, I: Inputs, O: Sink>(
     requires meant_plan { (I.state inputs.old).meant PlanSlot plan_name.now ≡ true }
     requires meant_data { (I.state inputs.old).meant Data data_name.now ≡ true }
     requires first { (slot : Slot) → (I.state inputs.old).asked slot ≡ false }
-    ensures { Does (ByPlan plan_name.now data_name.now (W.writing work.now) W.memory
+    ensures { LeavesCommand (ByPlan plan_name.now data_name.now (W.writing work.now) W.memory
         (W.lacking work.now) (W.work work.now))
         (span I.Inputs O.Sink inputs.old inputs.new out.old out.new) result }
 {

@@ -1,19 +1,18 @@
 -- How printing the header of a file ends.
-use Rattle.std.{proofs.Common.{◌≡◌, ℕ, List, [], ◌++◌, None, Some, refl, sym, ap, Ok, Err, ◌<◌, ◌==◌, Bool, length, map, arith, ◌∙◌, inl, inr, length-append, append_assoc, Result, if◌then◌else◌, rules, ◌≤◌, ◌↔◌, OnOk, OnErr, IfErr, IsErr, ◌∷◌}, specs.declared.option.Option.Option, specs.Io.KnownBytes.Appends, proofs.lemmas.Bool.cases_lt}
-use Rattle.tally_base.{specs.declared.fault.Fault.Fault, specs.declared.header.Header.Header, specs.Faults.fault_in, specs.declared.header.Mode.Mode, specs.declared.fault.Fault.TheVariants.{RecordLimit, WriteFault}, specs.declared.header.RecordType.RecordType, specs.FaultCounts.FailsOnce}
-use Rattle.bench_io.{specs.Sinks.{AppendsShort, PassesOn}, proofs.Bytes.{Appends-trans, Appends-same, AppendsShort-behind, AppendsShort-more, AppendsShort-same, AppendsShort-passed, PassesOn-trans}}
+use Rattle.std.{proofs.Common.{◌≡◌, ℕ, List, [], ◌++◌, None, Some, refl, sym, ap, Ok, Err, ◌<◌, ◌==◌, Bool, length, map, arith, ◌∙◌, inl, inr, length-append, append_assoc, Result, if◌then◌else◌, rules, ◌≤◌, ◌↔◌, OnOk, OnErr, IfErr, IsErr, ◌∷◌}, specs.declared.option.Option.Option, proofs.lemmas.Bool.cases_lt}
+use Rattle.tally_base.{specs.declared.fault.Fault.Fault, specs.declared.header.Header.Header, specs.Faults.fault_in, specs.declared.header.Mode.Mode, specs.declared.fault.Fault.TheVariants.{RecordLimit, WriteFault}, specs.declared.header.RecordType.RecordType}
+use Rattle.bench_io.{specs.Sinks.{SinkState, Wrote, WroteShort, PassesOn}, proofs.Bytes.{Wrote-trans, Wrote-same, WroteShort-same, WroteShort-behind, WroteShort-more, WroteShort-passed, PassesOn-trans}, proofs.Texts.WroteText-none}
 use Rattle.ptu_definitions.{specs.Headers.{header_answer, Shows, seen}, specs.declared.records.Summary.Summary, specs.Words.{words_of, counted, record_limit}, specs.Kept.{Marked, marked}, specs.Prefixes.each, specs.Settled.{ordered, settles, delivered}, specs.Times.events, specs.Streams.{StreamSettings, given, last_in, streamed}, proofs.DeliveredLaws.delivered_last-0, specs.declared.records.KindCounts.KindCounts, specs.TagList.Item}
 use Rattle.list_out.{specs.HeaderText.header_text, proofs.Final.{header_text-grows, header_text-refused, header_text-done}, specs.Lines.{events_text, lines_of}}
 use Rattle.file_work.{specs.FileOutcomes.{header_outcome, counts_text, counted_end, counts, lists}, specs.BodyPieces.{PutsMore, CutsMore, AppendsHeader, CutsHeader}, specs.CountPieces.CountsBytes, specs.CountLaws.counts-clear}
-use Rattle.command_work.specs.Tellings.{WritesEnd, WritesPiece}
+use Rattle.command_work.specs.RecordsWork.{WritesEnd, WritesPiece}
 use Rattle.record_stream.{specs.declared.taker.EventTaker.Ghosts, specs.Ending.Ended}
-use Rattle.streamed_text.proofs.Texts.{WroteText-none}
 use Rattle.record_layout.{specs.declared.counter.Counter.Counter, specs.Counting.HasCounted}
 
 -- ## A text that grows on
 
 -- more of it is put
-pub PutsMore-next : (shown grown further text : List ℕ) (a b c : Option (List ℕ)) (held now later : List ℕ) → PutsMore shown grown a b held now → further ≡ grown ++ text → PassesOn b c (now ++ text) later → PutsMore shown further a c held later
+pub PutsMore-next : (shown grown further text : List ℕ) (a b c : SinkState) (held now later : List ℕ) → PutsMore shown grown a b held now → further ≡ grown ++ text → PassesOn b c (now ++ text) later → PutsMore shown further a c held later
 PutsMore-next shown grown further text a b c held now later h more put = record {
   added = h.added ++ text;
   text = more ∙ ap (λ l. l ++ text) h.text ∙ append_assoc shown h.added text;
@@ -21,13 +20,13 @@ PutsMore-next shown grown further text a b c held now later h more put = record 
 }
 
 -- more of it is cut, and the rest is missing
-pub CutsMore-next : (shown grown further whole text rest : List ℕ) (a b c : Option (List ℕ)) (held now : List ℕ) → PutsMore shown grown a b held now → further ≡ grown ++ text → whole ≡ further ++ rest → AppendsShort b c (now ++ text) → CutsMore shown whole a c held
+pub CutsMore-next : (shown grown further whole text rest : List ℕ) (a b c : SinkState) (held now : List ℕ) → PutsMore shown grown a b held now → further ≡ grown ++ text → whole ≡ further ++ rest → WroteShort b c (now ++ text) → CutsMore shown whole a c held
 CutsMore-next shown grown further whole text rest a b c held now h more all cut = record {
   added = (h.added ++ text) ++ rest;
   text = all ∙ ap (λ l. l ++ rest) (more ∙ ap (λ l. l ++ text) h.text ∙ append_assoc shown h.added text) ∙ append_assoc shown (h.added ++ text) rest;
-  cut = AppendsShort-same a c _ _ (append_assoc held (h.added ++ text) rest)
-      (AppendsShort-more a c (held ++ (h.added ++ text)) rest
-      (AppendsShort-same a c _ _ (append_assoc held h.added text) (AppendsShort-passed a b c (held ++ h.added) now text h.put cut)));
+  cut = WroteShort-same a c _ _ (append_assoc held (h.added ++ text) rest)
+      (WroteShort-more a c (held ++ (h.added ++ text)) rest
+      (WroteShort-same a c _ _ (append_assoc held h.added text) (WroteShort-passed a b c (held ++ h.added) now text h.put cut)));
 }
 
 pub outcome-at : (file text : List ℕ) (fault : Option Fault) → header_text file ≡ text
@@ -35,16 +34,16 @@ pub outcome-at : (file text : List ℕ) (fault : Option Fault) → header_text f
 outcome-at file text fault t f = rw (t, f) refl
 
 -- the text so far and that of a piece
-pub text-appended : (bytes piece : List ℕ) (a b c : Option (List ℕ)) → Appends a b (header_text bytes)
-    → AppendsHeader bytes piece b c → Appends a c (header_text (bytes ++ piece))
-text-appended bytes piece a b c p q = Appends-same a c _ _ (sym q.text) (Appends-trans a b c (header_text bytes) q.added p q.written)
+pub text-appended : (bytes piece : List ℕ) (a b c : SinkState) → Wrote a b (header_text bytes)
+    → AppendsHeader bytes piece b c → Wrote a c (header_text (bytes ++ piece))
+text-appended bytes piece a b c p q = Wrote-same a c _ _ (sym q.text) (Wrote-trans a b c (header_text bytes) q.added p q.written)
 
-pub text-cut : (bytes piece more : List ℕ) (a b c : Option (List ℕ)) → Appends a b (header_text bytes)
-    → CutsHeader bytes piece b c [] → AppendsShort a c (header_text ((bytes ++ piece) ++ more))
+pub text-cut : (bytes piece more : List ℕ) (a b c : SinkState) → Wrote a b (header_text bytes)
+    → CutsHeader bytes piece b c [] → WroteShort a c (header_text ((bytes ++ piece) ++ more))
 text-cut bytes piece more a b c p q =
     let behind = header_text-grows (bytes ++ piece) more in
-    AppendsShort-same a c _ _ (sym behind.1) (AppendsShort-more a c (header_text (bytes ++ piece)) behind.0
-    (AppendsShort-same a c _ _ (sym q.text) (AppendsShort-behind a b c (header_text bytes) q.added p q.cut)))
+    WroteShort-same a c _ _ (sym behind.1) (WroteShort-more a c (header_text (bytes ++ piece)) behind.0
+    (WroteShort-same a c _ _ (sym q.text) (WroteShort-behind a b c (header_text bytes) q.added p q.cut)))
 
 pub outcome-done : (bytes more behind : List ℕ) (header : Header) → ((more : List ℕ) → header_answer (bytes ++ more) ≡ Ok (header, behind ++ more))
     → header_outcome (bytes ++ more) ≡ record { text = header_text bytes; fault = None }
@@ -71,8 +70,8 @@ ended-plain g how old new bytes (Err fault) zero (inr e) =
     absurd (none-broken e.1.front e.1.back e.1.some (sym (last-none how (words_of bytes) zero) ∙ e.1.adds))
 
 -- its answer, where no line is left to write
-pub ends-listed : (how : StreamSettings) (bytes : List ℕ) (a : Option (List ℕ)) (faults : ℕ) (r : Result Summary Fault) (done : Result (Unit {0}) Fault) → r ≡ streamed how bytes → fault_in done ≡ fault_in r → WritesEnd (lists how) bytes a a faults faults done
-ends-listed how bytes a faults r done is same = search (rules, arith)
+pub ends-listed : (how : StreamSettings) (bytes : List ℕ) (a : SinkState) (r : Result Summary Fault) (done : Result (Unit {0}) Fault) → r ≡ streamed how bytes → fault_in done ≡ fault_in r → WritesEnd (lists how) bytes a a done
+ends-listed how bytes a r done is same = search (rules, arith)
 
 -- ## No bytes
 
@@ -90,10 +89,10 @@ lines_of-none how = ap events_text (none-delivered (how.policy.settle == 0) how.
 within_limit : (bytes : List ℕ) → (IsErr {T = Unit {0}} {E = Fault} (Ok tt) ↔ (record_limit < length (words_of bytes))) → length (words_of bytes) ≤ record_limit
 within_limit bytes limit = elim (cases_lt record_limit (length (words_of bytes))) [ inr within ↦ within | inl many ↦ let bad = limit.1 many in cc ]
 
-pub writes-piece : (header : Header) (bytes piece : List ℕ) (a : Option (List ℕ)) (faults : ℕ) (r : Result (Unit {0}) Fault) → (IsErr r ↔ (record_limit < length (words_of (bytes ++ piece)))) → IfErr r (λ fault. fault ≡ RecordLimit record_limit) → WritesPiece (counts header) bytes piece a a faults faults r
-writes-piece header bytes piece a faults (Ok done) limit fault =
-    (counts-clear (bytes ++ piece) (within_limit (bytes ++ piece) limit), WroteText-none [] a faults)
-writes-piece header bytes piece a faults (Err own) limit fault = search (rules, arith)
+pub writes-piece : (header : Header) (bytes piece : List ℕ) (a : SinkState) (r : Result (Unit {0}) Fault) → (IsErr r ↔ (record_limit < length (words_of (bytes ++ piece)))) → IfErr r (λ fault. fault ≡ RecordLimit record_limit) → WritesPiece (counts header) bytes piece a a r
+writes-piece header bytes piece a (Ok done) limit fault =
+    (counts-clear (bytes ++ piece) (within_limit (bytes ++ piece) limit), WroteText-none [] a)
+writes-piece header bytes piece a (Err own) limit fault = search (rules, arith)
 
 pub takes-piece : (old new : Counter) (record_type : RecordType) (piece : List ℕ) (r : Result (Unit {0}) Fault) → ((record_type : RecordType) (bytes : List ℕ) → HasCounted old record_type bytes → HasCounted new record_type (bytes ++ piece))
     → ((record_type : RecordType) (bytes : List ℕ) → HasCounted old record_type bytes → (IsErr r ↔ (record_limit < length (words_of (bytes ++ piece))))) → OnOk r ((bytes : List ℕ) → CountsBytes old record_type bytes → CountsBytes new record_type (bytes ++ piece))
@@ -105,13 +104,13 @@ module _ (header : Header) (bytes : List ℕ) where
   ends-is : (r : Result KindCounts Fault) → r ≡ counted header.record_type bytes → (counts header).ends bytes ≡ counted_end header r
   ends-is r is = ap (counted_end header) (sym is)
 
-  pub ends-refused : (fault : Fault) (a : Option (List ℕ)) (faults : ℕ)
-      → Err fault ≡ counted header.record_type bytes → WritesEnd (counts header) bytes a a faults faults (Err fault)
-  ends-refused fault a faults is = rw (ends-is (Err fault) is) (inl (refl, WroteText-none [] a faults))
+  pub ends-refused : (fault : Fault) (a : SinkState)
+      → Err fault ≡ counted header.record_type bytes → WritesEnd (counts header) bytes a a (Err fault)
+  ends-refused fault a is = rw (ends-is (Err fault) is) (inl (refl, WroteText-none [] a))
 
-  pub ends-written : (kinds : KindCounts) (r : Result (Unit {0}) Fault) (old new : Option (List ℕ)) (before after : ℕ) → Ok kinds ≡ counted header.record_type bytes → OnOk r (Appends old new (counts_text header kinds)) → OnErr r (AppendsShort old new (counts_text header kinds)) → IfErr r (λ fault. fault ≡ WriteFault)
-      → FailsOnce before after r → WritesEnd (counts header) bytes old new before after r
-  ends-written kinds r old new before after is text short write cause = search (rules, arith, ends-is)
+  pub ends-written : (kinds : KindCounts) (r : Result (Unit {0}) Fault) (old new : SinkState) → Ok kinds ≡ counted header.record_type bytes → OnOk r (Wrote old new (counts_text header kinds)) → OnErr r (WroteShort old new (counts_text header kinds)) → IfErr r (λ fault. fault ≡ WriteFault)
+      → WritesEnd (counts header) bytes old new r
+  ends-written kinds r old new is text short write = search (rules, arith, ends-is)
 
 -- What a printer stands for.
 

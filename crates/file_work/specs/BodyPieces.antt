@@ -1,6 +1,6 @@
 -- What printing the body of a tag in pieces leaves.
-use Rattle.std.{specs.Prelude.{ℕ, ◌≡◌, List, [], ◌++◌, codes, Bool, if◌then◌else◌, ◌+◌, ◌∷◌, length, true, false, Ok, Err}, specs.declared.option.Option.Option, specs.Io.KnownBytes.Appends}
-use Rattle.bench_io.specs.Sinks.{AppendsShort, PassesOn}
+use Rattle.std.specs.Prelude.{ℕ, ◌≡◌, List, [], ◌++◌, codes, Bool, if◌then◌else◌, ◌+◌, ◌∷◌, length, true, false, Ok, Err}
+use Rattle.bench_io.specs.Sinks.{SinkState, Wrote, WroteShort, PassesOn}
 use Rattle.ptu_tag.specs.declared.kind.TagKind.{TagKind}
 use Rattle.list_out.{specs.HeaderText.{body_text, kind_with, header_text}, specs.Lines.HasPut}
 use Rattle.tally_base.{specs.declared.header.Header.Header, specs.Faults.is_outside}
@@ -12,30 +12,30 @@ use Rattle.file_work.{specs.declared.print.HeaderPrinter.HeaderPrinter, specs.de
 -- ## A text that has grown
 
 -- What the text has grown by was put after what a block holds.
-pub record PutsMore (shown grown : List ℕ) (old new : Option (List ℕ)) (held now : List ℕ) : Type 0 where
+pub record PutsMore (shown grown : List ℕ) (old new : SinkState) (held now : List ℕ) : Type 0 where
   pub added : List ℕ
   pub text : grown ≡ shown ++ added
   pub put : PassesOn old new (held ++ added) now
 
 -- It was written.
-pub record AppendsMore (shown grown : List ℕ) (old new : Option (List ℕ)) : Type 0 where
+pub record AppendsMore (shown grown : List ℕ) (old new : SinkState) : Type 0 where
   pub added : List ℕ
   pub text : grown ≡ shown ++ added
-  pub written : Appends old new added
+  pub written : Wrote old new added
 
 -- It was cut short, after what a block held.
-pub record CutsMore (shown grown : List ℕ) (old new : Option (List ℕ)) (held : List ℕ) : Type 0 where
+pub record CutsMore (shown grown : List ℕ) (old new : SinkState) (held : List ℕ) : Type 0 where
   pub added : List ℕ
   pub text : grown ≡ shown ++ added
-  pub cut : AppendsShort old new (held ++ added)
+  pub cut : WroteShort old new (held ++ added)
 
 -- ## The text of a body
 
 -- What bytes add to the text of a body was put after what a block holds; was cut short.
-abbrev pub PutsBody : TagKind → List ℕ → List ℕ → Option (List ℕ) → Option (List ℕ) → List ℕ → List ℕ → Type 0
+abbrev pub PutsBody : TagKind → List ℕ → List ℕ → SinkState → SinkState → List ℕ → List ℕ → Type 0
 PutsBody kind part bytes = PutsMore (body_text kind part) (body_text kind (part ++ bytes))
 
-abbrev pub CutsBody : TagKind → List ℕ → List ℕ → Option (List ℕ) → Option (List ℕ) → List ℕ → Type 0
+abbrev pub CutsBody : TagKind → List ℕ → List ℕ → SinkState → SinkState → List ℕ → Type 0
 CutsBody kind part bytes = CutsMore (body_text kind part) (body_text kind (part ++ bytes))
 
 -- the end of the line of a body, where the body is whole
@@ -57,13 +57,13 @@ Leaves bytes piece printer Done = (header : Header) × (behind : List ℕ) × ((
 Leaves bytes piece printer (Refused fault) = Shows header_answer (bytes ++ piece) (Err fault)
 
 -- What a piece after some bytes adds to the text of the header was put after what a block holds; was written; was cut short.
-abbrev pub PutsHeader : List ℕ → List ℕ → Option (List ℕ) → Option (List ℕ) → List ℕ → List ℕ → Type 0
+abbrev pub PutsHeader : List ℕ → List ℕ → SinkState → SinkState → List ℕ → List ℕ → Type 0
 PutsHeader bytes piece = PutsMore (header_text bytes) (header_text (bytes ++ piece))
 
-abbrev pub AppendsHeader : List ℕ → List ℕ → Option (List ℕ) → Option (List ℕ) → Type 0
+abbrev pub AppendsHeader : List ℕ → List ℕ → SinkState → SinkState → Type 0
 AppendsHeader bytes piece = AppendsMore (header_text bytes) (header_text (bytes ++ piece))
 
-abbrev pub CutsHeader : List ℕ → List ℕ → Option (List ℕ) → Option (List ℕ) → List ℕ → Type 0
+abbrev pub CutsHeader : List ℕ → List ℕ → SinkState → SinkState → List ℕ → Type 0
 CutsHeader bytes piece = CutsMore (header_text bytes) (header_text (bytes ++ piece))
 
 -- A printer that goes on has taken the whole piece. A refusal is one that the bytes call for.

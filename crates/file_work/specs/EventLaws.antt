@@ -4,7 +4,7 @@ use Rattle.tally_base.specs.Faults.{fault_in}
 use Rattle.ptu_definitions.{specs.Kept.Marked, specs.Words.{words_of, rest_of}, specs.Streams.{StreamSettings, record_refusal, given}, proofs.Firsts.{record_refusal-inside, streamed-inside}, proofs.WordsLemmas.words_of-append, proofs.StreamLemmas.{given-front, given-stays}}
 use Rattle.record_stream.{specs.declared.stream.RecordStream.RecordStream, specs.Standing.how_of, proofs.Lasts.{streamed-shown, streamed-clear}}
 use Rattle.list_out.specs.Lines.{event_text, events_text, lines_of}
-use Rattle.command_work.{specs.Behaviours.AsItReads, specs.Works.WantsNone, specs.Tellings.{IsText, Suits}, proofs.RestEnds.{same-end, suits-as_it_reads}}
+use Rattle.command_work.{specs.Behaviours.AsItReads, specs.Works.WantsNone, specs.RecordsWork.{IsText, Suits}, proofs.RestEnds.{same-end, suits-as_it_reads}}
 use Rattle.file_work.{specs.FileOutcomes.{listing, listed, lists, lists_by, events_so_far, listing_all}, specs.EventLines.HasListed}
 
 pub events_text-append : (l m : Marked) → events_text (l ++ m) ≡ events_text l ++ events_text m

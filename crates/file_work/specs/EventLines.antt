@@ -1,10 +1,10 @@
 -- The lines of events on their way to a sink.
-use Rattle.std.{specs.Prelude.{ℕ, ◌≡◌, ◌+◌, max, List, [], ◌++◌, length, refl, None, Result}, proofs.Common.{append-nil, arith}, specs.declared.option.Option.Option}
+use Rattle.std.{specs.Prelude.{ℕ, ◌≡◌, ◌+◌, max, List, [], ◌++◌, length, refl, None, Result}, proofs.Common.{append-nil, arith}}
 use Rattle.tally_base.{specs.declared.header.Mode.Mode, specs.declared.fault.Fault.Fault}
-use Rattle.bench_io.{specs.Sinks.{AppendsShort, PassesOn}, proofs.Bytes.PassesOn-held, specs.declared.sink.Sink.Ghosts}
+use Rattle.bench_io.{specs.declared.sink.Sink.Ghosts, specs.Sinks.{SinkState, WroteShort, PassesOn}, proofs.Bytes.PassesOn-held}
 use Rattle.ptu_definitions.specs.Kept.{Marked, floor_of}
 use Rattle.list_out.specs.Lines.{events_text}
-use Rattle.command_work.specs.Tellings.{WritesPiece}
+use Rattle.command_work.specs.RecordsWork.{WritesPiece}
 use Rattle.record_stream.{specs.declared.stream.RecordStream.RecordStream, specs.Standing.{how_of, refused_with, HasStreamed}}
 use Rattle.file_work.specs.FileOutcomes.{lists}
 
@@ -15,21 +15,20 @@ pub record ListsNone (taken floor : ℕ) (held : List ℕ) : Type 0 where
   pub empty : held ≡ []
 
 -- The lines of these events were put after what a block held, for the same sink, of which no write failed.
-pub record Listed (name name' : ℕ) (mode mode' : Mode) (taken taken' floor floor' faults faults' : ℕ) (old new : Option (List ℕ)) (held held' : List ℕ) (l : Marked) : Type 0 where
+pub record Listed (name name' : ℕ) (mode mode' : Mode) (taken taken' floor floor' : ℕ) (old new : SinkState) (held held' : List ℕ) (l : Marked) : Type 0 where
   pub same_sink : name' ≡ name
   pub same_mode : mode' ≡ mode
   pub counted : taken' ≡ taken + length l
   pub moved : floor' ≡ max floor (floor_of mode l)
-  pub kept : faults' ≡ faults
   pub text : PassesOn old new (held ++ events_text l) held'
 
 -- They were cut short, and the block holds none.
-pub record ListedShort (old new : Option (List ℕ)) (held held' : List ℕ) (l : Marked) : Type 0 where
-  pub text : AppendsShort old new (held ++ events_text l)
+pub record ListedShort (old new : SinkState) (held held' : List ℕ) (l : Marked) : Type 0 where
+  pub text : WroteShort old new (held ++ events_text l)
   pub empty : held' ≡ []
 
-pub listed_none : (name : ℕ) (mode : Mode) (taken floor faults : ℕ) (old : Option (List ℕ)) (held : List ℕ) → Listed name name mode mode taken taken floor floor faults faults old old held held []
-listed_none name mode taken floor faults old held = record { same_sink = refl; same_mode = refl; counted = omega arith; moved = omega arith; kept = refl; text = rw (append-nil held) (PassesOn-held old held) }
+pub listed_none : (name : ℕ) (mode : Mode) (taken floor : ℕ) (old : SinkState) (held : List ℕ) → Listed name name mode mode taken taken floor floor old old held held []
+listed_none name mode taken floor old held = record { same_sink = refl; same_mode = refl; counted = omega arith; moved = omega arith; text = rw (append-nil held) (PassesOn-held old held) }
 
 -- The stream is read in this mode, keeps no event back, and has refused nothing.
 pub record IsOpenIn (mode : Mode) (stream : RecordStream) : Type 0 where
@@ -46,4 +45,4 @@ pub record HasListed (stream : RecordStream) (bytes : List ℕ) : Type 0 where
 abbrev pub ListsPiece : {O : Type 0} → Ghosts O → RecordStream → List ℕ → O → O → Result (Unit {0}) Fault → Type 0
 ListsPiece o stream piece old new result =
     refused_with stream ≡ None → (bytes : List ℕ) → HasStreamed stream bytes
-    → WritesPiece (lists (how_of stream)) bytes piece (o.written old) (o.written new) (o.faults old) (o.faults new) result
+    → WritesPiece (lists (how_of stream)) bytes piece (o.state old) (o.state new) result

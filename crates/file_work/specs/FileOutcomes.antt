@@ -3,7 +3,7 @@ use Rattle.std.{specs.Prelude.{ℕ, List, [], ◌++◌, length, nat_lt, codes, d
 use Rattle.tally_base.{specs.declared.fault.Fault.Fault, specs.declared.fault.Fault.TheVariants.RecordLimit, specs.declared.header.Header.Header, specs.RecordTypes.name_of, specs.Faults.fault_in, specs.declared.event.Policy.Policy, specs.declared.event.Order.TheVariants.Drop, specs.declared.event.OnReserved.TheVariants.Skip}
 use Rattle.ptu_definitions.{specs.declared.records.KindCounts.KindCounts, specs.Headers.header_answer, specs.Words.{counted, record_limit, words_of}, specs.Streams.{StreamSettings, reading, record_refusal, streamed}}
 use Rattle.list_out.{specs.Lines.{lines_of, line, announced}, specs.HeaderText.header_text}
-use Rattle.command_work.{specs.Outcomes.{Outcome, refused, written, IsCut}, specs.Behaviours.{Work, AreWhole, AreRead, IsHeaded}, specs.Tellings.{Telling, headed_work, headed_so_far}}
+use Rattle.command_work.{specs.Outcomes.{Outcome, refused, written, IsCut}, specs.Behaviours.{Work, AreWhole, AreRead, IsHeaded}, specs.RecordsWork.{RecordsWork, headed_work, headed_so_far}}
 
 -- what `count` prints
 unfoldable pub counts_text : Header → KindCounts → List ℕ
@@ -26,7 +26,7 @@ abbrev pub too_many : List ℕ → Option Fault
 too_many bytes = if nat_lt record_limit (length (words_of bytes)) then Some (RecordLimit record_limit) else None
 
 -- the counts of the records, at their end
-abbrev pub counts : Header → Telling
+abbrev pub counts : Header → RecordsWork
 counts header = record {
   text = λ bytes. [];
   ends = λ bytes. counted_end header (counted header.record_type bytes);
@@ -49,7 +49,7 @@ abbrev pub listed : StreamSettings → List ℕ → Outcome
 listed how bytes = record { text = lines_of how (words_of bytes); fault = fault_in (streamed how bytes) }
 
 -- the lines of events, as they are read
-abbrev pub lists : StreamSettings → Telling
+abbrev pub lists : StreamSettings → RecordsWork
 lists how = record {
   text = λ bytes. lines_of how (words_of bytes);
   ends = listed how;
@@ -57,7 +57,7 @@ lists how = record {
 }
 
 -- those of a file with this header
-abbrev pub lists_by : Header → Telling
+abbrev pub lists_by : Header → RecordsWork
 lists_by header = lists (listing header)
 
 -- ## What they do

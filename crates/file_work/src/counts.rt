@@ -1,7 +1,6 @@
 // The lines of `count`.
-ghost use Rattle.std.{specs.Prelude.{◌≡◌, IfErr, OnOk, OnErr}, specs.Io.KnownBytes.{Appends}};
-ghost use Rattle.bench_io.specs.Sinks.{AppendsShort};
-ghost use Rattle.tally_base.specs.FaultCounts.{FailsOnce};
+ghost use Rattle.std.specs.Prelude.{◌≡◌, IfErr, OnOk, OnErr};
+ghost use Rattle.bench_io.specs.Sinks.{Wrote, WroteShort};
 ghost use Rattle.file_work.specs.FileOutcomes.{counts_text};
 
 use arrayvec::ArrayVec;
@@ -29,12 +28,11 @@ fn put_counts(header: &Header, counts: &KindCounts, into: &mut ArrayVec<u8, 256>
 /// of records, and how many are of each kind. Refuses with `WriteFault` where a write fails; then a
 /// beginning of the lines was written.
 pub fn write_counts<O: Sink>(header: &Header, counts: &KindCounts, out: &mut O) -> Result<(), Fault>
-    ensures text { OnOk result (Appends (O.written out.old) (O.written out.new)
+    ensures text { OnOk result (Wrote (O.state out.old) (O.state out.new)
         (counts_text header.now counts.now)) }
-    ensures short { OnErr result (AppendsShort (O.written out.old) (O.written out.new)
+    ensures short { OnErr result (WroteShort (O.state out.old) (O.state out.new)
         (counts_text header.now counts.now)) }
     ensures fault { IfErr result (λ fault. fault ≡ Fault.WriteFault) }
-    ensures cause { FailsOnce (O.faults out.old) (O.faults out.new) result }
 {
     let mut text = ArrayVec::<u8, 256>::new();
     put_counts(header, counts, &mut text);

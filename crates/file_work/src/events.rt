@@ -40,10 +40,9 @@ impl<'o, O: Sink> EventTaker for EventLines<'o, O> {
     ghost use Rattle.std.{specs.Prelude.{refl, true}, proofs.Common.{◌∙◌}};
 
     ghost got = { λ s t l. Listed s.out.ghost_name t.out.ghost_name s.mode t.mode s.taken t.taken
-        s.floor t.floor (O.faults s.out.now) (O.faults t.out.now)
-        (O.written s.out.now) (O.written t.out.now) s.block t.block l };
+        s.floor t.floor (O.state s.out.now) (O.state t.out.now) s.block t.block l };
 
-    ghost broke = { λ s t l. ListedShort (O.written s.out.now) (O.written t.out.now)
+    ghost broke = { λ s t l. ListedShort (O.state s.out.now) (O.state t.out.now)
         s.block t.block l };
 
     ghost same = { λ s t. t.out.ghost_name ≡ s.out.ghost_name };
@@ -58,9 +57,9 @@ impl<'o, O: Sink> EventTaker for EventLines<'o, O> {
 
     ghost floor = { λ t. t.floor };
 
-    ghost faults = { λ t. O.faults t.out.now };
+    ghost faults = { λ t. (O.state t.out.now).faults };
 
-    ghost got_none = { λ t. listed_none _ _ _ _ _ _ _ };
+    ghost got_none = { λ t. listed_none _ _ _ _ _ _ };
 
     ghost taken_is = { λ s t l is. is.counted };
 

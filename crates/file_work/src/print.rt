@@ -1,8 +1,8 @@
 // Prints a header while it is read.
 ghost use Rattle.std.specs.Prelude.{◌≡◌, ◌≤◌, ◌^◌, ◌++◌, [], List, ℕ, true, false, IfOk, OnOk, OnErr, Err};
-ghost use Rattle.tally_base.{specs.Faults.is_outside, specs.FaultCounts.FailsOnce};
+ghost use Rattle.tally_base.specs.Faults.{is_outside};
 ghost use Rattle.ptu_definitions.{specs.Headers.header_answer, specs.TagList.code_in};
-ghost use Rattle.bench_io.specs.Sinks.{AppendsShort, PassesOn};
+ghost use Rattle.bench_io.specs.Sinks.{CountsFault, WroteShort, PassesOn};
 ghost use Rattle.ptu_tag.{specs.declared.kind.TagKind.TagKind, specs.Kinds.{IsHead, code_of}};
 ghost use Rattle.ptu_header.specs.ReadHeader.{bytes_taken, is_open};
 ghost use Rattle.list_out.{specs.HeaderText.{head_text, bare_end}, specs.Lines.HasPut};
@@ -56,11 +56,11 @@ fn put_body<O: Sink>(
     ensures taken { OnOk result ((kind : TagKind) (part : List ℕ) → HasPut text.old kind part
         → HasPut text.new kind (part ++ bytes.now)) }
     ensures all { OnOk result ((kind : TagKind) (part : List ℕ) → HasPut text.old kind part
-        → PutsBody kind part bytes.now (O.written out.old)
-        (O.written out.new) block.old block.new) }
+        → PutsBody kind part bytes.now (O.state out.old)
+        (O.state out.new) block.old block.new) }
     ensures short { OnErr result ((kind : TagKind) (part : List ℕ) → HasPut text.old kind part
-        → CutsBody kind part bytes.now (O.written out.old) (O.written out.new) block.old) }
-    ensures cause { FailsOnce (O.faults out.old) (O.faults out.new) result }
+        → CutsBody kind part bytes.now (O.state out.old) (O.state out.new) block.old) }
+    ensures cause { CountsFault (O.state out.old) (O.state out.new) result }
 {
     for byte in bytes {
         block.put(out, text.put(*byte).as_slice())?;
@@ -70,11 +70,10 @@ fn put_body<O: Sink>(
 
 /// Puts the newline after the last byte of a body.
 fn put_end<O: Sink>(last: bool, block: &mut OutBuffer, out: &mut O) -> Result<(), Failed>
-    ensures all { OnOk result (PassesOn (O.written out.old) (O.written out.new)
+    ensures all { OnOk result (PassesOn (O.state out.old) (O.state out.new)
         (block.old ++ end_line last) block.new) }
-    ensures short { OnErr result (AppendsShort (O.written out.old) (O.written out.new)
+    ensures short { OnErr result (WroteShort (O.state out.old) (O.state out.new)
         (block.old ++ end_line last)) }
-    ensures cause { FailsOnce (O.faults out.old) (O.faults out.new) result }
 {
     let end: &[u8] = if last { b"\n" } else { b"" };
     block.put(out, end)
@@ -105,13 +104,13 @@ impl HeaderPrinter {
         ensures leaves { IfOk result (λ printed. (bytes : List ℕ) → Prints self.old bytes
             → Leaves bytes piece.now self.new printed) }
         ensures text { OnOk result ((bytes : List ℕ) → Prints self.old bytes
-            → PutsHeader bytes piece.now (O.written out.old) (O.written out.new)
+            → PutsHeader bytes piece.now (O.state out.old) (O.state out.new)
             block.old block.new) }
         ensures short { OnErr result ((bytes : List ℕ) → Prints self.old bytes
-            → CutsHeader bytes piece.now (O.written out.old) (O.written out.new) block.old) }
+            → CutsHeader bytes piece.now (O.state out.old) (O.state out.new) block.old) }
         ensures ends { IfOk result (EndsPiece self.old self.new piece.now) }
         ensures limit { IfOk result (λ printed. bytes_taken self.new.reader ≤ 2 ^ 24) }
-        ensures cause { FailsOnce (O.faults out.old) (O.faults out.new) result }
+        ensures cause { CountsFault (O.state out.old) (O.state out.new) result }
     {
         let mut used = 0;
         'steps: loop {
@@ -158,12 +157,12 @@ impl HeaderPrinter {
         ensures leaves { IfOk result (λ printed. (bytes : List ℕ) → Prints self.old bytes
             → Leaves bytes piece.now self.new printed) }
         ensures text { OnOk result ((bytes : List ℕ) → Prints self.old bytes
-            → AppendsHeader bytes piece.now (O.written out.old) (O.written out.new)) }
+            → AppendsHeader bytes piece.now (O.state out.old) (O.state out.new)) }
         ensures short { OnErr result ((bytes : List ℕ) → Prints self.old bytes
-            → CutsHeader bytes piece.now (O.written out.old) (O.written out.new) []) }
+            → CutsHeader bytes piece.now (O.state out.old) (O.state out.new) []) }
         ensures ends { IfOk result (EndsPiece self.old self.new piece.now) }
         ensures limit { IfOk result (λ printed. bytes_taken self.new.reader ≤ 2 ^ 24) }
-        ensures cause { FailsOnce (O.faults out.old) (O.faults out.new) result }
+        ensures cause { CountsFault (O.state out.old) (O.state out.new) result }
     {
         let mut block = OutBuffer::new();
         let printed = self.put_piece(piece, &mut block, out)?;

@@ -1,6 +1,6 @@
 -- What is after the lines of the bins that are closed.
-use Rattle.std.{proofs.Common.{◌≡◌, ◌∙◌, ℕ, ◌+◌, ◌-◌, ◌<◌, Bool, true, false, ◌&&◌, cond, List, [], ◌++◌, refl, sym, ap, subst, arith, append-nil, append_assoc, nat_lt, ◌==◌, count_by, if◌then◌else◌, rules}, proofs.lemmas.Bool.cases_eq, proofs.lemmas.Bool.Decides.nat_tests, specs.declared.option.Option.Option}
-use Rattle.bench_io.{specs.Sinks.{AppendsShort, PassesOn}, proofs.Bytes.{PassesOn-trans, AppendsShort-passed, AppendsShort-more, AppendsShort-same}}
+use Rattle.std.{proofs.Common.{◌≡◌, ◌∙◌, ℕ, ◌+◌, ◌-◌, ◌<◌, Bool, true, false, ◌&&◌, cond, List, [], ◌++◌, refl, sym, ap, subst, arith, append-nil, append_assoc, nat_lt, ◌==◌, count_by, if◌then◌else◌, rules}, proofs.lemmas.Bool.cases_eq, proofs.lemmas.Bool.Decides.nat_tests}
+use Rattle.bench_io.{specs.Sinks.{SinkState, WroteShort, PassesOn}, proofs.Bytes.{WroteShort-same, WroteShort-more, WroteShort-passed, PassesOn-trans}}
 use Rattle.tally_base.{specs.Settings.TraceView, specs.Tally.History}
 use Rattle.count_trace.specs.TraceCounts.{in_trace_bin, count_before}
 use Rattle.long_trace.{specs.Texts.{frequency_limit, span, bin_line, bin_lines, closed_lines, counts, frequency, frequency_line, frequency_lines, frequencies_text, summary_text, open_text, whole_text}, specs.Bins.{BinState, CountsBins}, proofs.Firsts.{lines-more, lines-front, count-more}, proofs.Steps.closed-is}
@@ -69,19 +69,19 @@ lines-next all n line held is =
     append_assoc held (frequency_lines all n) line
     ∙ ap (λ l. held ++ l) (ap (λ l. frequency_lines all n ++ l) is ∙ sym (lines-more (λ c. frequency_line c (frequency all c)) n (n + 1) refl))
 
-pub next-put : (all : List ℕ) (n : ℕ) (line : List ℕ) (a b c : Option (List ℕ)) (held mid now : List ℕ) → line ≡ frequency_line n (frequency all n) → PassesOn a b (held ++ frequency_lines all n) mid → PassesOn b c (mid ++ line) now → PassesOn a c (held ++ frequency_lines all (n + 1)) now
+pub next-put : (all : List ℕ) (n : ℕ) (line : List ℕ) (a b c : SinkState) (held mid now : List ℕ) → line ≡ frequency_line n (frequency all n) → PassesOn a b (held ++ frequency_lines all n) mid → PassesOn b c (mid ++ line) now → PassesOn a c (held ++ frequency_lines all (n + 1)) now
 next-put all n line a b c held mid now is so_far put =
     subst (λ t. PassesOn a c t now) (lines-next all n line held is) (PassesOn-trans a b c (held ++ frequency_lines all n) mid line now so_far put)
 
-pub next-cut : (all : List ℕ) (n : ℕ) (line : List ℕ) (a b c : Option (List ℕ)) (held mid : List ℕ) → n < frequency_limit → line ≡ frequency_line n (frequency all n) → PassesOn a b (held ++ frequency_lines all n) mid → AppendsShort b c (mid ++ line) → AppendsShort a c (held ++ frequencies_text all)
+pub next-cut : (all : List ℕ) (n : ℕ) (line : List ℕ) (a b c : SinkState) (held mid : List ℕ) → n < frequency_limit → line ≡ frequency_line n (frequency all n) → PassesOn a b (held ++ frequency_lines all n) mid → WroteShort b c (mid ++ line) → WroteShort a c (held ++ frequencies_text all)
 unfolding frequencies_text
 next-cut all n line a b c held mid inside is so_far cut =
     let rest = lines-front (λ c. frequency_line c (frequency all c)) (n + 1) (frequency_limit - (n + 1)) frequency_limit (omega (arith, inside)) in
-    AppendsShort-same a c _ _
+    WroteShort-same a c _ _
     (ap (λ l. l ++ rest.0) (lines-next all n line held is) ∙ append_assoc held (frequency_lines all (n + 1)) rest.0 ∙ ap (λ l. held ++ l) (sym rest.1))
-    (AppendsShort-more a c _ rest.0 (AppendsShort-passed a b c (held ++ frequency_lines all n) mid line so_far cut))
+    (WroteShort-more a c _ rest.0 (WroteShort-passed a b c (held ++ frequency_lines all n) mid line so_far cut))
 
-pub all-put : (all : List ℕ) (n : ℕ) (a b : Option (List ℕ)) (held now : List ℕ) → n ≡ frequency_limit
+pub all-put : (all : List ℕ) (n : ℕ) (a b : SinkState) (held now : List ℕ) → n ≡ frequency_limit
     → PassesOn a b (held ++ frequency_lines all n) now → PassesOn a b (held ++ frequencies_text all) now
 unfolding frequencies_text
 all-put all n a b held now is put = rw is at put
@@ -93,21 +93,21 @@ pub end-front : (last before frequencies many : List ℕ) → (last ++ before) +
 end-front last before frequencies many = append_assoc last before (frequencies ++ many) ∙ ap (λ l. last ++ l) (sym (append_assoc before frequencies many))
 
 -- The lines at the end, in their order: those of the last bin and before the origin, those of the frequencies, and the last.
-module _ (a b c : Option (List ℕ)) (held first last before frequencies mid now : List ℕ) (none : held ≡ []) (is : first ≡ last ++ before)
+module _ (a b c : SinkState) (held first last before frequencies mid now : List ℕ) (none : held ≡ []) (is : first ≡ last ++ before)
     (put : PassesOn a b (held ++ first) mid) where
   first-put : PassesOn a b (last ++ before) mid
   first-put = rw (none, is) at put
 
-  pub first-cut : (rest : List ℕ) → AppendsShort b c (mid ++ frequencies) → AppendsShort a c (last ++ ((before ++ frequencies) ++ rest))
-  first-cut rest cut = AppendsShort-same a c _ _ (end-same last before frequencies rest)
-      (AppendsShort-more a c _ rest (AppendsShort-passed a b c (last ++ before) mid frequencies first-put cut))
+  pub first-cut : (rest : List ℕ) → WroteShort b c (mid ++ frequencies) → WroteShort a c (last ++ ((before ++ frequencies) ++ rest))
+  first-cut rest cut = WroteShort-same a c _ _ (end-same last before frequencies rest)
+      (WroteShort-more a c _ rest (WroteShort-passed a b c (last ++ before) mid frequencies first-put cut))
 
-  module _ (d : Option (List ℕ)) (many line : List ℕ) (all : PassesOn b c (mid ++ frequencies) now) (line_is : line ≡ many) where
+  module _ (d : SinkState) (many line : List ℕ) (all : PassesOn b c (mid ++ frequencies) now) (line_is : line ≡ many) where
     two-put : PassesOn a c ((last ++ before) ++ frequencies) now
     two-put = PassesOn-trans a b c (last ++ before) mid frequencies now first-put all
 
-    pub two-cut : AppendsShort c d (now ++ line) → AppendsShort a d (last ++ ((before ++ frequencies) ++ many))
-    two-cut cut = AppendsShort-same a d _ _ (end-same last before frequencies many) (AppendsShort-passed a c d _ now many two-put (rw line_is at cut))
+    pub two-cut : WroteShort c d (now ++ line) → WroteShort a d (last ++ ((before ++ frequencies) ++ many))
+    two-cut cut = WroteShort-same a d _ _ (end-same last before frequencies many) (WroteShort-passed a c d _ now many two-put (rw line_is at cut))
 
     pub end-put : (then' : List ℕ) → PassesOn c d (now ++ line) then' → PassesOn a d (last ++ ((before ++ frequencies) ++ many)) then'
     end-put then' more = subst (λ t. PassesOn a d t then') (end-same last before frequencies many) (PassesOn-trans a c d _ now many then' two-put (rw line_is at more))

@@ -1,7 +1,6 @@
 // What a trace without end prints at the end.
-ghost use Rattle.std.{specs.Prelude.{◌≡◌, ◌++◌, ℕ, List, OnOk, OnErr}, specs.Io.KnownBytes.{Appends}};
-ghost use Rattle.bench_io.specs.Sinks.{AppendsShort, PassesOn};
-ghost use Rattle.tally_base.specs.FaultCounts.{FailsOnce};
+ghost use Rattle.std.specs.Prelude.{◌≡◌, ◌++◌, ℕ, List, OnOk, OnErr};
+ghost use Rattle.bench_io.specs.Sinks.{CountsFault, Wrote, WroteShort, PassesOn};
 ghost use Rattle.long_trace.{specs.Texts.{bin_line, frequencies_text, above, before_line, above_line}, specs.States.{AreFrequencies, end_text}};
 
 use crate::closed::{Closed, FREQUENCIES};
@@ -41,12 +40,12 @@ fn put_frequencies<O: Sink>(
     out: &mut O,
 ) -> Result<(), Failed>
     ensures all { OnOk result ((all : List ℕ) → AreFrequencies closed.now all
-        → PassesOn (O.written out.old) (O.written out.new)
+        → PassesOn (O.state out.old) (O.state out.new)
         (block.old ++ frequencies_text all) block.new) }
     ensures short { OnErr result ((all : List ℕ) → AreFrequencies closed.now all
-        → AppendsShort (O.written out.old) (O.written out.new)
+        → WroteShort (O.state out.old) (O.state out.new)
         (block.old ++ frequencies_text all)) }
-    ensures cause { FailsOnce (O.faults out.old) (O.faults out.new) result }
+    ensures cause { CountsFault (O.state out.old) (O.state out.new) result }
 {
     for count in 0..FREQUENCIES {
         let line = frequency_line(count as u64, closed.frequencies[count]);
@@ -63,12 +62,12 @@ pub(crate) fn put_end<O: Sink>(
     out: &mut O,
 ) -> Result<(), Failed>
     ensures all { OnOk result ((all : List ℕ) → AreFrequencies closed.now all
-        → closed.now.many ≡ above all → Appends (O.written out.old) (O.written out.new)
+        → closed.now.many ≡ above all → Wrote (O.state out.old) (O.state out.new)
         (end_text newest.now all before)) }
     ensures short { OnErr result ((all : List ℕ) → AreFrequencies closed.now all
-        → closed.now.many ≡ above all → AppendsShort (O.written out.old) (O.written out.new)
+        → closed.now.many ≡ above all → WroteShort (O.state out.old) (O.state out.new)
         (end_text newest.now all before)) }
-    ensures cause { FailsOnce (O.faults out.old) (O.faults out.new) result }
+    ensures cause { CountsFault (O.state out.old) (O.state out.new) result }
 {
     let mut block = OutBuffer::new();
     block.put(out, last_lines(newest, before).as_slice())?;

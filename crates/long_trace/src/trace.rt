@@ -1,7 +1,7 @@
 // A trace without end.
-ghost use Rattle.std.{specs.Prelude.{◌≡◌, ◌+◌, ◌*◌, ◌<◌, ◌≤◌, ◌&&◌, if◌then◌else◌, IfErr, OnOk, OnErr, max, slice_index, sum, ◌++◌, ◌∷◌, [], IsTrue, true, false, is_ok, length}, specs.Io.KnownBytes.Appends};
-ghost use Rattle.bench_io.specs.Sinks.{AppendsShort};
-ghost use Rattle.tally_base.{specs.FaultCounts.FailsOnce, specs.Events.{is_photon, is_in}, specs.Columns.{gathered, events_in, IsSorted}, specs.Tally.{floor_after, InOrder, History}, specs.Limits.record_limit, specs.Settings.trace_view};
+ghost use Rattle.std.specs.Prelude.{◌≡◌, ◌+◌, ◌*◌, ◌<◌, ◌≤◌, ◌&&◌, if◌then◌else◌, IfErr, OnOk, OnErr, max, slice_index, sum, ◌++◌, ◌∷◌, [], IsTrue, true, false, is_ok, length};
+ghost use Rattle.bench_io.specs.Sinks.{CountsFault, Wrote, WroteShort};
+ghost use Rattle.tally_base.{specs.Events.{is_photon, is_in}, specs.Columns.{gathered, events_in, IsSorted}, specs.Tally.{floor_after, InOrder, History}, specs.Limits.record_limit, specs.Settings.trace_view};
 
 use crate::closed::Closed;
 use crate::counting::{OpenBin, closed_with, count_at, count_block};
@@ -73,11 +73,10 @@ impl LongTrace {
     /// isn't all of it was written.
     pub fn start<O: Sink>(&mut self, out: &mut O) -> Result<(), Fault>
         requires first { was_begun self.old ≡ false }
-        ensures text { OnOk result (Appends (O.written out.old) (O.written out.new) (first_line (trace_view (set_of self.old)))) }
-        ensures short { OnErr result (AppendsShort (O.written out.old) (O.written out.new)
+        ensures text { OnOk result (Wrote (O.state out.old) (O.state out.new) (first_line (trace_view (set_of self.old)))) }
+        ensures short { OnErr result (WroteShort (O.state out.old) (O.state out.new)
             (first_line (trace_view (set_of self.old)))) }
         ensures fault { IfErr result (λ fault. fault ≡ Fault.WriteFault) }
-        ensures cause { FailsOnce (O.faults out.old) (O.faults out.new) result }
         ensures starts { Starts self.old self.new result }
         ensures held { held self.new ≤ 1032 }
     {
@@ -150,13 +149,13 @@ impl LongTrace {
         requires room { taken_of self.old < record_limit }
         requires in_order { IsTrue (is_photon e.now) → floor_of self.old ≤ e.now.time }
         ensures text { (h : History) → Holds self.old h → OnOk result (AppendsRest
-            (O.written out.old) (O.written out.new) (printed_by self.old h)
+            (O.state out.old) (O.state out.new) (printed_by self.old h)
             (printed_by self.old (h ++ (e.now, groups) ∷ []))) }
         ensures short { (h : History) → Holds self.old h → OnErr result (CutsRest
-            (O.written out.old) (O.written out.new) (printed_by self.old h)
+            (O.state out.old) (O.state out.new) (printed_by self.old h)
             (printed_by self.old (h ++ (e.now, groups) ∷ []))) }
         ensures fault { IfErr result (λ fault. fault ≡ Fault.WriteFault) }
-        ensures cause { FailsOnce (O.faults out.old) (O.faults out.new) result }
+        ensures cause { CountsFault (O.state out.old) (O.state out.new) result }
         ensures set { set_of self.new ≡ set_of self.old }
         ensures follows { (h : History) → Holds self.old h → Holds self.new (h ++ (e.now, groups) ∷ []) }
         ensures going { is_going self.new ≡ is_ok result }
@@ -179,13 +178,13 @@ impl LongTrace {
     pub fn finish<O: Sink>(self, out: &mut O) -> Result<(), Fault>
         requires going { is_going self ≡ true }
         ensures text { (h : History) → Holds self h → OnOk result (AppendsRest
-            (O.written out.old) (O.written out.new) (printed_by self h)
+            (O.state out.old) (O.state out.new) (printed_by self h)
             (whole_text (trace_view (set_of self)) h)) }
         ensures short { (h : History) → Holds self h → OnErr result (CutsRest
-            (O.written out.old) (O.written out.new) (printed_by self h)
+            (O.state out.old) (O.state out.new) (printed_by self h)
             (whole_text (trace_view (set_of self)) h)) }
         ensures fault { IfErr result (λ fault. fault ≡ Fault.WriteFault) }
-        ensures cause { FailsOnce (O.faults out.old) (O.faults out.new) result }
+        ensures cause { CountsFault (O.state out.old) (O.state out.new) result }
     {
         let closed = closed_with(&self.newest, self.closed);
         match put_end(&self.newest, self.before, &closed, out) {
@@ -206,10 +205,9 @@ fn photons_in(e: &Event, groups: u64, group: u8) -> u64
 
 /// Writes all the bytes.
 fn write_or_refuse<O: Sink>(out: &mut O, bytes: &[u8]) -> Result<(), Fault>
-    ensures text { OnOk result (Appends (O.written out.old) (O.written out.new) bytes.now) }
-    ensures short { OnErr result (AppendsShort (O.written out.old) (O.written out.new) bytes.now) }
+    ensures text { OnOk result (Wrote (O.state out.old) (O.state out.new) bytes.now) }
+    ensures short { OnErr result (WroteShort (O.state out.old) (O.state out.new) bytes.now) }
     ensures fault { IfErr result (λ fault. fault ≡ Fault.WriteFault) }
-    ensures cause { FailsOnce (O.faults out.old) (O.faults out.new) result }
 {
     match write_all(out, bytes) {
         Ok(()) => Ok(()),

@@ -1,11 +1,10 @@
 -- What the end of a stream writes of the photons of a group.
-use Rattle.std.{proofs.Common.{◌≡◌, ◌∙◌, ℕ, List, [], ◌++◌, Bool, None, Some, Ok, Err, map, refl, sym, ap, inl, inr, ⊎_elim, append-nil, Result, arith, rules, true}, specs.List.filter, specs.declared.option.Option.Option, specs.Io.KnownBytes.Appends}
-use Rattle.tally_base.{specs.declared.event.Event.Event, specs.declared.fault.Fault.Fault, specs.declared.fault.Fault.TheVariants.WriteFault, specs.FaultCounts.Rose, specs.declared.header.Mode.Mode, specs.Events.{is_photon, is_ordered}}
-use Rattle.bench_io.specs.Sinks.{AppendsShort}
+use Rattle.std.{proofs.Common.{◌≡◌, ◌∙◌, ℕ, List, [], ◌++◌, Bool, None, Some, Ok, Err, map, refl, sym, ap, inl, inr, ⊎_elim, append-nil, Result, arith, rules, true}, specs.List.filter}
+use Rattle.tally_base.{specs.declared.event.Event.Event, specs.declared.fault.Fault.Fault, specs.declared.fault.Fault.TheVariants.WriteFault, specs.declared.header.Mode.Mode, specs.Events.{is_photon, is_ordered}}
+use Rattle.bench_io.{specs.Sinks.{SinkState, Wrote, WroteShort}, specs.Texts.{WroteText, CutText}, proofs.Bytes.WroteShort-none}
 use Rattle.ptu_definitions.{specs.declared.records.Summary.Summary, specs.Kept.Marked, specs.Settled.{not_marked, delivered, delivered_last}, specs.Streams.{StreamSettings, record_refusal, last_in, streamed, summary, given}, specs.Times.events, specs.Words.{words_of, rest_of}, proofs.DeliveredLaws.{delivered-kept, delivered-none}, proofs.Firsts.given-all}
 use Rattle.record_stream.{specs.declared.taker.EventTaker.Ghosts, specs.Ending.{GaveRest, BrokeFirst, Ended}}
-use Rattle.streamed_text.specs.Texts.{WroteText, CutText}
-use Rattle.photon_pick.{specs.Giving.{Stand, Took, Refused}, specs.Texts.{photons_in, text_in, answer_by, HasPickedIn}, specs.Ends.{photons_kept, photons_by, end_text, end_fault, WritesEnd}, proofs.Parts.{AppendsShort-none, chosen-more, bytes_of, took-clear, took-wrote, took-cut, refused-wrote, refused-cut}, specs.Chosen.is_chosen}
+use Rattle.photon_pick.{specs.Giving.{Stand, TookPhotons, Refused}, specs.Texts.{photons_in, text_in, answer_by, HasPickedIn}, specs.Ends.{photons_kept, photons_by, end_text, end_fault, WritesEnd}, proofs.Parts.{chosen-more, bytes_of, took-clear, took-wrote, took-cut, refused-wrote, refused-cut}, specs.Chosen.is_chosen}
 use Rattle.gate_plan.specs.Shifting.{Sorting}
 
 -- the kept list has what was given, and what is given at the end
@@ -22,8 +21,8 @@ streamed-whole : (how : StreamSettings) (bytes : List ℕ) → record_refusal ho
 unfolding streamed
 streamed-whole how bytes clear whole = rw (clear, whole) refl
 
-module _ {T : Type 0} (g : Ghosts T) (a b : T) (at : T → Stand) (chooses : Event → Bool) (how : StreamSettings) (same_choice : (at a).chooses ≡ chooses) (same_mode : (at a).mode ≡ how.mode) (empty : (at a).held ≡ []) (c : Option (List ℕ)) (faults : ℕ)
-    (none : g.got a a []) (gets : (l : Marked) → g.got a b l → Took (at a) (at b) l) (breaks : (l : Marked) → g.broke a b l → Refused (at a) (at b) l) (bytes : List ℕ) (clear : record_refusal how (words_of bytes) ≡ None) (has : HasPickedIn chooses how (at a).picker (words_of bytes)) where
+module _ {T : Type 0} (g : Ghosts T) (a b : T) (at : T → Stand) (chooses : Event → Bool) (how : StreamSettings) (same_choice : (at a).chooses ≡ chooses) (same_mode : (at a).mode ≡ how.mode) (empty : (at a).held ≡ []) (c : SinkState)
+    (none : g.got a a []) (gets : (l : Marked) → g.got a b l → TookPhotons (at a) (at b) l) (breaks : (l : Marked) → g.broke a b l → Refused (at a) (at b) l) (bytes : List ℕ) (clear : record_refusal how (words_of bytes) ≡ None) (has : HasPickedIn chooses how (at a).picker (words_of bytes)) where
   abbrev s : Stand
   s = at a
 
@@ -37,19 +36,17 @@ module _ {T : Type 0} (g : Ghosts T) (a b : T) (at : T → Stand) (chooses : Eve
   total = photons_kept chooses how (words_of bytes)
 
   -- what was given
-  gave : (sum : Summary) (h : GaveRest g how a b bytes sum) → Took s t (last_in how (words_of bytes))
+  gave : (sum : Summary) (h : GaveRest g how a b bytes sum) → TookPhotons s t (last_in how (words_of bytes))
   gave sum h = gets (last_in how (words_of bytes)) (h.follows a [] none)
 
-  gave-wrote : (sum : Summary) (h : GaveRest g how a b bytes sum) → Appends t.written c t.held
-      → faults ≡ t.sink → WroteText (text_in chooses how (words_of bytes)) (end_text chooses how bytes) s.written c s.sink faults
-  gave-wrote sum h flushed still = search (rules, arith, took-wrote, s, t, before, total, gave, kept-are)
+  gave-wrote : (sum : Summary) (h : GaveRest g how a b bytes sum) → Wrote t.sink c t.held → WroteText (text_in chooses how (words_of bytes)) (end_text chooses how bytes) s.sink c
+  gave-wrote sum h flushed = search (rules, arith, took-wrote, s, t, before, total, gave, kept-are)
 
   gave-clear : (sum : Summary) (h : GaveRest g how a b bytes sum) → end_fault chooses how bytes ≡ None
   gave-clear sum h = rw (h.streams, took-clear s t chooses how.mode same_choice same_mode empty before total has.in_time has.picked (last_in how (words_of bytes)) (gave sum h) (kept-are chooses how (words_of bytes) clear)) refl
 
-  gave-cut : (sum : Summary) (h : GaveRest g how a b bytes sum) → AppendsShort t.written c t.held
-      → Rose t.sink faults → CutText (text_in chooses how (words_of bytes)) (end_text chooses how bytes) s.written c s.sink faults
-  gave-cut sum h short rose = search (rules, arith, took-cut, s, t, before, total, gave, kept-are)
+  gave-cut : (sum : Summary) (h : GaveRest g how a b bytes sum) → WroteShort t.sink c t.held → CutText (text_in chooses how (words_of bytes)) (end_text chooses how bytes) s.sink c
+  gave-cut sum h short = rw h.streams (took-cut s t chooses how.mode same_choice same_mode empty before total has.in_time has.picked (last_in how (words_of bytes)) (gave sum h) (kept-are chooses how (words_of bytes) clear) c short)
 
   -- a photon of the group was refused
   broke : (h : BrokeFirst g a b (last_in how (words_of bytes))) → Refused s t h.front
@@ -66,41 +63,41 @@ module _ {T : Type 0} (g : Ghosts T) (a b : T) (at : T → Stand) (chooses : Eve
   left-text fault is = ap (λ r. bytes_of how.mode (photons_by chooses how (words_of bytes) r)) is ∙ sym (append-nil (text_in chooses how (words_of bytes)))
 
   -- What the end wrote, where the block was flushed.
-  pub ends-on : (r : Result Summary Fault) → s.fault ≡ None → Appends t.written c t.held → faults ≡ t.sink
-      → Ended g how a b bytes r → WritesEnd chooses how s.written c s.sink faults bytes (answer_by t.fault r)
-  ends-on (Ok sum) free flushed still h =
+  pub ends-on : (r : Result Summary Fault) → s.fault ≡ None → Wrote t.sink c t.held
+      → Ended g how a b bytes r → WritesEnd chooses how s.sink c bytes (answer_by t.fault r)
+  ends-on (Ok sum) free flushed h =
       let kept : t.fault ≡ None = (gave sum h).same_fault ∙ free in
-      rw kept (gave-clear sum h, gave-wrote sum h flushed still)
-  ends-on (Err fault) free flushed still h =
+      rw kept (gave-clear sum h, gave-wrote sum h flushed)
+  ends-on (Err fault) free flushed h =
       ⊎_elim
       (λ (r : (streamed how bytes ≡ Err fault) × (b ≡ a)).
       let same : t ≡ s = ap at r.1 in
       let kept : t.fault ≡ None = ap (λ (x : Stand). x.fault) same ∙ free in
       let held : t.held ≡ [] = ap (λ (x : Stand). x.held) same ∙ empty in
-      let told : t.written ≡ s.written = ap (λ (x : Stand). x.written) same in
-      rw kept (inl (left-over fault r.0, record { more = []; adds = left-text fault r.0; written = rw (held, told) at flushed; kept = still ∙ ap (λ (x : Stand). x.sink) same })))
+      let told : t.sink ≡ s.sink = ap (λ (x : Stand). x.sink) same in
+      rw kept (inl (left-over fault r.0, record { more = []; adds = left-text fault r.0; wrote = rw (held, told) at flushed })))
       (λ (r : (fault ≡ WriteFault) × BrokeFirst g a b (last_in how (words_of bytes)) × (rest_of bytes ≡ [])).
       let it =
       refused-wrote s t chooses how.mode same_choice same_mode empty before total has.in_time has.picked r.1.front r.1.back (broke r.1)
-      (broke-are r.1) c faults None flushed still in
+      (broke-are r.1) c None flushed in
       rw (streamed-whole how bytes clear r.2, it.1) it.2)
       h
 
   -- What it wrote where the flush failed.
-  pub ends-cut : (r : Result Summary Fault) → AppendsShort t.written c t.held → Rose t.sink faults
-      → Ended g how a b bytes r → WritesEnd chooses how s.written c s.sink faults bytes (Err WriteFault)
-  ends-cut (Ok sum) short rose h = inr (refl, gave-cut sum h short rose)
-  ends-cut (Err fault) short rose h =
+  pub ends-cut : (r : Result Summary Fault) → WroteShort t.sink c t.held
+      → Ended g how a b bytes r → WritesEnd chooses how s.sink c bytes (Err WriteFault)
+  ends-cut (Ok sum) short h = inr (refl, gave-cut sum h short)
+  ends-cut (Err fault) short h =
       ⊎_elim
       (λ (r : (streamed how bytes ≡ Err fault) × (b ≡ a)).
       let held : t.held ≡ [] = ap (λ (x : Stand). x.held) (ap at r.1) ∙ empty in
-      absurd (AppendsShort-none t.written c (rw held at short)))
+      absurd (WroteShort-none t.sink c (rw held at short)))
       (λ (r : (fault ≡ WriteFault) × BrokeFirst g a b (last_in how (words_of bytes)) × (rest_of bytes ≡ [])).
       inr (
         refl,
         rw (streamed-whole how bytes clear r.2)
             (refused-cut s t chooses how.mode same_choice same_mode empty before total has.in_time has.picked r.1.front r.1.back (broke r.1)
-            (broke-are r.1) c faults short rose),
+            (broke-are r.1) c short),
       ))
       h
 

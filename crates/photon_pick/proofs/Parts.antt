@@ -1,12 +1,11 @@
 -- What was put of photons after others, and what is left of them.
-use Rattle.std.{proofs.Common.{◌≡◌, ◌∙◌, ℕ, List, [], ◌∷◌, ◌++◌, Bool, true, false, Some, cond, refl, sym, ap, subst, append_assoc, append-nil, arith, length, length-append, rules, inl, inr, ⊎_elim, Err}, specs.List.filter, specs.declared.option.Option.Option, proofs.lemmas.List.Elements.filter-append, specs.Io.KnownBytes.Appends}
-use Rattle.tally_base.{specs.declared.event.Event.Event, specs.declared.header.Mode.Mode, specs.declared.fault.Fault.Fault, specs.declared.fault.Fault.TheVariants.{PickTime, WriteFault}, specs.FaultCounts.Rose}
-use Rattle.bench_io.{specs.Sinks.{AppendsShort, PassesOn}, proofs.Bytes.{Appends-flushed, AppendsShort-flushed, AppendsShort-more, AppendsShort-kept, Keeps-from_none}}
+use Rattle.std.{proofs.Common.{◌≡◌, ◌∙◌, ℕ, List, [], ◌∷◌, ◌++◌, Bool, true, false, Some, cond, refl, sym, ap, subst, append_assoc, append-nil, arith, length, length-append, rules, inl, inr, ⊎_elim, Err}, specs.List.filter, specs.declared.option.Option.Option, proofs.lemmas.List.Elements.filter-append}
+use Rattle.tally_base.{specs.declared.event.Event.Event, specs.declared.header.Mode.Mode, specs.declared.fault.Fault.Fault, specs.declared.fault.Fault.TheVariants.{PickTime, WriteFault}}
+use Rattle.bench_io.{specs.Sinks.{SinkState, Wrote, WroteShort, PassesOn}, specs.Texts.{WroteText, CutText, WritesText}, proofs.Bytes.{Wrote-flushed, WroteShort-none, WroteShort-more, WroteShort-kept, WroteShort-flushed}}
 use Rattle.ptu_definitions.{specs.Kept.Marked, specs.Prefixes.{each_after, first}, specs.Settled.not_marked, proofs.DeliveredLaws.not_marked-append, proofs.PrefixLemmas.each_after-append}
 use Rattle.minimal_file.{specs.ShortFiles.bytes_in, proofs.ShortHeaders.bytes_in-append}
 use Rattle.record_write.{specs.Picked.{is_too_late, photon_words, picked_words}, specs.Picker.HasPicked}
-use Rattle.photon_pick.{specs.Late.{too_late, writable}, specs.Giving.{Stand, Took, Refused, RefusedLate, RefusedCut, PutsPhotons}, specs.Texts.late_or}
-use Rattle.streamed_text.specs.Texts.{WroteText, CutText, WritesText}
+use Rattle.photon_pick.{specs.Late.{too_late, writable}, specs.Giving.{Stand, TookPhotons, Refused, RefusedLate, RefusedCut, PutsPhotons}, specs.Texts.late_or}
 
 -- ## Photons that are too late
 
@@ -37,7 +36,7 @@ writable-late mode ps back e p late = writable-clear mode ps (e ∷ back) p ∙ 
 move-time : (m n : Mode) (time : ℕ) (b : Bool) → m ≡ n → is_too_late m time ≡ b → is_too_late n time ≡ b
 move-time m n time b same h = subst (λ x. is_too_late x time ≡ b) same h
 
-move-cut : (m n : Mode) (a b : Option (List ℕ)) (held : List ℕ) (behind photons : List Event) → m ≡ n → held ≡ [] → AppendsShort a b (held ++ bytes_in (each_after (photon_words m) behind photons)) → AppendsShort a b (bytes_in (each_after (photon_words n) behind photons))
+move-cut : (m n : Mode) (a b : SinkState) (held : List ℕ) (behind photons : List Event) → m ≡ n → held ≡ [] → WroteShort a b (held ++ bytes_in (each_after (photon_words m) behind photons)) → WroteShort a b (bytes_in (each_after (photon_words n) behind photons))
 move-cut m n a b held behind photons same none h = search (rules, arith)
 
 -- ## Texts
@@ -47,9 +46,6 @@ pub words-more : (mode : Mode) (ps qs : List Event)
     → bytes_in (picked_words mode (ps ++ qs)) ≡ bytes_in (picked_words mode ps) ++ bytes_in (each_after (photon_words mode) ps qs)
 unfolding picked_words
 words-more mode ps qs = search (rules, arith, each_after-append, bytes_in-append)
-
-pub AppendsShort-none : (a b : Option (List ℕ)) → AppendsShort a b [] → ⊥
-AppendsShort-none a b q = let e : length {A = ℕ} [] ≡ length (q.0 ++ q.1) = ap length q.3 in let some = q.2 in omega (arith, e, some, length-append q.0 q.1)
 
 -- the photons that are chosen of more events
 pub chosen-more : (chooses : Event → Bool) (l m : Marked)
@@ -71,13 +67,13 @@ module _ (s t : Stand) (chooses : Event → Bool) (mode : Mode) (same_choice : s
 
   -- what was put, from a block that held nothing
   put-in : (qs : List Event) → ((behind : List Event) → HasPicked s.picker behind → PutsPhotons s t behind qs)
-      → PassesOn s.written t.written (bytes_in (each_after (photon_words mode) before qs)) t.held
+      → PassesOn s.sink t.sink (bytes_in (each_after (photon_words mode) before qs)) t.held
   put-in qs puts = rw (same_mode, empty) at (puts before picked)
 
   chosen-is : (l : Marked) → filter s.chooses (not_marked l) ≡ filter chooses (not_marked l)
   chosen-is l = rw same_choice refl
 
-  module _ (more : Marked) (took : Took s t more) (are : total ≡ before ++ filter chooses (not_marked more)) where
+  module _ (more : Marked) (took : TookPhotons s t more) (are : total ≡ before ++ filter chooses (not_marked more)) where
     -- All photons that are chosen were put.
     pub took-clear : too_late mode total ≡ []
     took-clear = search (rules, arith, too_late-both)
@@ -85,24 +81,15 @@ module _ (s t : Stand) (chooses : Event → Bool) (mode : Mode) (same_choice : s
     took-bytes : bytes_of mode total ≡ bytes_of mode before ++ bytes_in (each_after (photon_words mode) before (filter chooses (not_marked more)))
     took-bytes = bytes-now (filter chooses (not_marked more)) (writable-all mode total took-clear ∙ are)
 
-    took-put : PassesOn s.written t.written (bytes_in (each_after (photon_words mode) before (filter chooses (not_marked more)))) t.held
+    took-put : PassesOn s.sink t.sink (bytes_in (each_after (photon_words mode) before (filter chooses (not_marked more)))) t.held
     took-put = rw (chosen-is more) at (put-in (filter s.chooses (not_marked more)) took.text)
 
     -- what is written of them, where the block was flushed, and where that failed
-    pub took-wrote : (c : Option (List ℕ)) (faults : ℕ) → Appends t.written c t.held
-        → faults ≡ t.sink → WroteText (bytes_of mode before) (bytes_of mode total) s.written c s.sink faults
-    took-wrote c faults flushed still =
-        record { more = _; adds = took-bytes; written = Appends-flushed s.written t.written c _ t.held took-put flushed; kept = still ∙ took.kept_sink }
+    pub took-wrote : (c : SinkState) → Wrote t.sink c t.held → WroteText (bytes_of mode before) (bytes_of mode total) s.sink c
+    took-wrote c flushed = record { more = _; adds = took-bytes; wrote = Wrote-flushed s.sink t.sink c _ t.held took-put flushed }
 
-    pub took-cut : (c : Option (List ℕ)) (faults : ℕ) → AppendsShort t.written c t.held
-        → Rose t.sink faults → CutText (bytes_of mode before) (bytes_of mode total) s.written c s.sink faults
-    took-cut c faults short rose =
-        record {
-          more = _;
-          adds = took-bytes;
-          cut = AppendsShort-flushed s.written t.written c _ t.held took-put short;
-          rose = subst (λ n. Rose n faults) took.kept_sink rose;
-        }
+    pub took-cut : (c : SinkState) → WroteShort t.sink c t.held → CutText (bytes_of mode before) (bytes_of mode total) s.sink c
+    took-cut c short = record { more = _; adds = took-bytes; cut = WroteShort-flushed s.sink t.sink c _ t.held took-put short }
 
     pub took-picked : HasPicked t.picker total
     took-picked = let it = took.picked before picked in rw (are, ← chosen-is more) it
@@ -126,7 +113,7 @@ module _ (s t : Stand) (chooses : Event → Bool) (mode : Mode) (same_choice : s
       late-bytes : bytes_of mode total ≡ bytes_of mode before ++ bytes_in (each_after (photon_words mode) before r.front)
       late-bytes = search (rules, arith, bytes-now, refused-are, writable-late, refused-clear, move-time)
 
-      late-put : PassesOn s.written t.written (bytes_in (each_after (photon_words mode) before r.front)) t.held
+      late-put : PassesOn s.sink t.sink (bytes_in (each_after (photon_words mode) before r.front)) t.held
       late-put = put-in r.front late.text
 
     -- a write failed at it
@@ -150,46 +137,35 @@ module _ (s t : Stand) (chooses : Event → Bool) (mode : Mode) (same_choice : s
                 ∙ ap (λ l. bytes_of mode before ++ l) (ap bytes_in (each_after-append (photon_words mode) before (f ++ e ∷ []) more) ∙ bytes_in-append (each_after (photon_words mode) before (f ++ e ∷ [])) (each_after (photon_words mode) (before ++ (f ++ e ∷ [])) more)),
           )
 
-      cut-short : AppendsShort s.written t.written (bytes_in (each_after (photon_words mode) before (r.front ++ r.e ∷ []))) × (t.held ≡ [])
+      cut-short : WroteShort s.sink t.sink (bytes_in (each_after (photon_words mode) before (r.front ++ r.e ∷ []))) × (t.held ≡ [])
       cut-short = search (rules, arith, move-cut)
 
     -- what is written of them, where the block was flushed, and where that failed
-    pub refused-wrote : (c : Option (List ℕ)) (faults : ℕ) (other : Option Fault) → Appends t.written c t.held → faults ≡ t.sink
+    pub refused-wrote : (c : SinkState) (other : Option Fault) → Wrote t.sink c t.held
         → (fault : Fault) × (t.fault ≡ Some fault) × WritesText {X = Unit {0}} (bytes_of mode before) (bytes_of mode total)
-        (late_or (first (too_late mode total)) other) s.written c s.sink faults (Err fault)
-    refused-wrote c faults other flushed still =
+        (late_or (first (too_late mode total)) other) s.sink c (Err fault)
+    refused-wrote c other flushed =
         ⊎_elim
         (λ (late : RefusedLate s t r.front r.e). (
           PickTime r.e.place,
           late.fault,
           inl (
             rw (late-first late) refl,
-            record {
-              more = _;
-              adds = late-bytes late;
-              written = Appends-flushed s.written t.written c _ t.held (late-put late) flushed;
-              kept = still ∙ late.kept;
-            },
+            record { more = _; adds = late-bytes late; wrote = Wrote-flushed s.sink t.sink c _ t.held (late-put late) flushed },
           ),
         ))
         (λ (cut : RefusedCut s t r.front r.e).
         let it = cut-bytes cut in
         let gone = cut-short cut in
         let short =
-        AppendsShort-more s.written c _ it.0 (AppendsShort-kept s.written t.written c _ gone.0 (Keeps-from_none t.written c (rw gone.1 at flushed))) in
-        (WriteFault, cut.fault, inr (refl, record { more = _; adds = it.1; cut = short; rose = subst (λ n. Rose s.sink n) (sym still) cut.rose })))
+        WroteShort-more s.sink c _ it.0 (WroteShort-kept s.sink t.sink c _ gone.0 (rw gone.1 at flushed)) in
+        (WriteFault, cut.fault, inr (refl, record { more = _; adds = it.1; cut = short })))
         r.why
 
-    pub refused-cut : (c : Option (List ℕ)) (faults : ℕ) → AppendsShort t.written c t.held
-        → Rose t.sink faults → CutText (bytes_of mode before) (bytes_of mode total) s.written c s.sink faults
-    refused-cut c faults short rose =
+    pub refused-cut : (c : SinkState) → WroteShort t.sink c t.held → CutText (bytes_of mode before) (bytes_of mode total) s.sink c
+    refused-cut c short =
         ⊎_elim
         (λ (late : RefusedLate s t r.front r.e).
-        record {
-          more = _;
-          adds = late-bytes late;
-          cut = AppendsShort-flushed s.written t.written c _ t.held (late-put late) short;
-          rose = subst (λ n. Rose n faults) late.kept rose;
-        })
-        (λ (cut : RefusedCut s t r.front r.e). let gone = cut-short cut in absurd (AppendsShort-none t.written c (rw (gone.1) at short)))
+        record { more = _; adds = late-bytes late; cut = WroteShort-flushed s.sink t.sink c _ t.held (late-put late) short })
+        (λ (cut : RefusedCut s t r.front r.e). let gone = cut-short cut in absurd (WroteShort-none t.sink c (rw (gone.1) at short)))
         r.why

@@ -1,13 +1,13 @@
 -- More events for a picker.
 use Rattle.std.{proofs.Common.{◌≡◌, ◌∙◌, ℕ, ◌+◌, ◌<◌, ◌≤◌, Bool, true, false, List, [], ◌∷◌, ◌++◌, Some, cond, ap, sym, subst, refl, arith, append_assoc, inl, inr, length, length-append, max, ◌⊎◌, ⊎_elim, IsTrue, if◌then◌else◌, rules}, specs.List.filter, proofs.lemmas.List.Elements.filter-append}
-use Rattle.tally_base.{specs.declared.event.Event.Event, specs.declared.fault.Fault.Fault, specs.Events.is_photon, specs.FaultCounts.Rose, specs.Tally.{moves_floor, floor_after, InOrder}}
+use Rattle.tally_base.{specs.declared.event.Event.Event, specs.declared.fault.Fault.Fault, specs.Events.is_photon, specs.Tally.{moves_floor, floor_after, InOrder}}
 use Rattle.ptu_definitions.{specs.Kept.{Marked, floor_of}, specs.Prefixes.each_after, specs.Settled.not_marked, proofs.PrefixLemmas.each_after-append}
 use Rattle.record_write.{specs.Picked.{is_too_late, photon_words}, specs.Picker.{mode_of, HasPicked}, specs.Writing.{PutsWords, CutsWords}, proofs.Puts.{puts-more, cuts-behind}}
-use Rattle.photon_pick.{specs.Giving.{Pen, pen, words_behind, TooLate, WriteFailed, Stand, Took, Refused, chosen_of}, specs.Chosen.is_chosen, specs.Late.too_late, proofs.Parts.chosen-more, proofs.Ends.chosen-photon}
+use Rattle.photon_pick.{specs.Giving.{Pen, pen, words_behind, TooLate, WriteFailed, Stand, TookPhotons, Refused, chosen_of}, specs.Chosen.is_chosen, specs.Late.too_late, proofs.Parts.chosen-more, proofs.Ends.chosen-photon}
 use Rattle.gate_plan.specs.Shifting.{Sorting}
 
 abbrev pub pen_of : Stand → Pen
-pen_of t = pen t.picker t.written t.held t.sink
+pen_of t = pen t.picker t.sink t.held
 
 -- ## The order of those that are chosen
 
@@ -78,7 +78,7 @@ up_to p (a ∷ es) xs ys e is = pick (p a) xs refl is (λ firsts more. up_to p e
 
 -- ## More events
 
-module _ (s t : Stand) (l : Marked) (h : Took s t l) (of_mode : mode_of t.picker ≡ t.mode) (m : Marked) (ps : List Event) (are : filter t.chooses (not_marked m) ≡ ps) where
+module _ (s t : Stand) (l : Marked) (h : TookPhotons s t l) (of_mode : mode_of t.picker ≡ t.mode) (m : Marked) (ps : List Event) (are : filter t.chooses (not_marked m) ≡ ps) where
   mode : mode_of t.picker ≡ s.mode
   mode = of_mode ∙ h.same_mode
 
@@ -93,32 +93,31 @@ module _ (s t : Stand) (l : Marked) (h : Took s t l) (of_mode : mode_of t.picker
   late-more qs none = search (rules, arith, mode, filter-append)
 
   puts-behind : (q : Pen) (qs : List Event) → ((behind : List Event) → HasPicked t.picker behind
-      → PutsWords t.written q.written t.held q.held (each_after (photon_words (mode_of t.picker)) behind qs))
+      → PutsWords t.sink q.sink t.held q.held (each_after (photon_words (mode_of t.picker)) behind qs))
       → (behind : List Event) → HasPicked s.picker behind
-      → PutsWords s.written q.written s.held q.held (each_after (photon_words s.mode) behind (chosen_of s l ++ qs))
+      → PutsWords s.sink q.sink s.held q.held (each_after (photon_words s.mode) behind (chosen_of s l ++ qs))
   puts-behind q qs puts behind stands = search (rules, arith, words-more, puts-more, mode)
 
   cuts-more : (q : Pen) (qs : List Event) → ((behind : List Event) → HasPicked t.picker behind
-      → CutsWords t.written q.written t.held q.held (each_after (photon_words (mode_of t.picker)) behind qs))
+      → CutsWords t.sink q.sink t.held q.held (each_after (photon_words (mode_of t.picker)) behind qs))
       → (behind : List Event) → HasPicked s.picker behind
-      → CutsWords s.written q.written s.held q.held (each_after (photon_words s.mode) behind (chosen_of s l ++ qs))
+      → CutsWords s.sink q.sink s.held q.held (each_after (photon_words s.mode) behind (chosen_of s l ++ qs))
   cuts-more q qs cuts behind stands =
-      subst (λ w. CutsWords s.written q.written s.held q.held w) (sym (words-more behind qs))
-      (cuts-behind s.written t.written q.written s.held t.held q.held (each_after (photon_words s.mode) behind (chosen_of s l)) (each_after (photon_words s.mode) (behind ++ chosen_of s l) qs) (h.text behind stands)
-      (subst (λ m. CutsWords t.written q.written t.held q.held (each_after (photon_words m) (behind ++ chosen_of s l) qs)) mode (cuts (behind ++ chosen_of s l) (h.picked behind stands))))
+      subst (λ w. CutsWords s.sink q.sink s.held q.held w) (sym (words-more behind qs))
+      (cuts-behind s.sink t.sink q.sink s.held t.held q.held (each_after (photon_words s.mode) behind (chosen_of s l)) (each_after (photon_words s.mode) (behind ++ chosen_of s l) qs) (h.text behind stands)
+      (subst (λ m. CutsWords t.sink q.sink t.held q.held (each_after (photon_words m) (behind ++ chosen_of s l) qs)) mode (cuts (behind ++ chosen_of s l) (h.picked behind stands))))
 
   -- The photons that are chosen of them were given.
-  pub Took-more : (q : Pen) (taken floor : ℕ) → too_late (mode_of t.picker) ps ≡ []
+  pub TookPhotons-more : (q : Pen) (taken floor : ℕ) → too_late (mode_of t.picker) ps ≡ []
       → ((behind : List Event) → HasPicked t.picker behind → HasPicked q.picker (behind ++ ps))
-      → ((behind : List Event) → HasPicked t.picker behind → PutsWords t.written q.written t.held q.held (words_behind (pen_of t) behind ps))
-      → q.faults ≡ t.sink → taken ≡ t.taken + length m → floor ≡ max s.floor (floor_of t.mode (l ++ m))
-      → Took s (record t { taken = taken; floor = floor; sink = q.faults; picker = q.picker; written = q.written; held = q.held }) (l ++ m)
-  Took-more q taken floor in_time picked text kept counted moved = record {
+      → ((behind : List Event) → HasPicked t.picker behind → PutsWords t.sink q.sink t.held q.held (words_behind (pen_of t) behind ps))
+      → taken ≡ t.taken + length m → floor ≡ max s.floor (floor_of t.mode (l ++ m))
+      → TookPhotons s (record t { taken = taken; floor = floor; sink = q.sink; picker = q.picker; held = q.held }) (l ++ m)
+  TookPhotons-more q taken floor in_time picked text counted moved = record {
     same_choice = h.same_choice;
     same_mode = h.same_mode;
     counted = omega (arith, counted, h.counted, length-append l m);
     moved = moved ∙ rw h.same_mode refl;
-    kept_sink = kept ∙ h.kept_sink;
     same_fault = h.same_fault;
     in_time = ap (too_late s.mode) chosen-now ∙ late-more ps in_time;
     picked = λ behind stands. rw (chosen-now, ← append_assoc behind (chosen_of s l) ps) (picked (behind ++ chosen_of s l) (h.picked behind stands));
@@ -137,13 +136,11 @@ module _ (s t : Stand) (l : Marked) (h : Took s t l) (of_mode : mode_of t.picker
         (λ late. inl (record {
           late = subst (λ m. is_too_late m e.time ≡ true) mode late.late;
           fault = is ∙ ap Some late.is;
-          kept = late.kept ∙ h.kept_sink;
           text = puts-behind (pen_of now) front late.text;
         }))
         (λ cut. inr (record {
           soon = subst (λ m. is_too_late m e.time ≡ false) mode cut.soon;
           fault = is ∙ ap Some cut.is;
-          rose = subst (λ n. Rose n now.sink) h.kept_sink cut.rose;
           text = λ behind stands. rw (append_assoc (chosen_of s l) front (e ∷ [])) (cuts-more (pen_of now) (front ++ e ∷ []) cut.text behind stands);
         }))
         why;

@@ -2,7 +2,7 @@
 use Rattle.std.{specs.Prelude.{ℕ, ◌≡◌, Bool, List, [], map, Result, Ok, Err}, specs.List.filter, specs.declared.option.Option.Option}
 use Rattle.tally_base.{specs.declared.event.Event.Event, specs.declared.fault.Fault.Fault, specs.declared.header.Mode.Mode, specs.Faults.fault_in}
 use Rattle.ptu_definitions.{specs.declared.records.Summary.Summary, specs.Prefixes.first, specs.Settled.kept_by, specs.Streams.{StreamSettings, streamed}, specs.Times.events, specs.Words.words_of}
-use Rattle.streamed_text.specs.Texts.{WritesText}
+use Rattle.bench_io.{specs.Sinks.SinkState, specs.Texts.WritesText}
 use Rattle.minimal_file.specs.ShortFiles.{bytes_in}
 use Rattle.record_write.specs.Picked.{picked_words, CanBePicked}
 use Rattle.photon_pick.{specs.Late.{too_late, writable}, specs.Texts.{photons_in, text_in, late_or}}
@@ -28,9 +28,9 @@ abbrev pub end_fault : (Event → Bool) → StreamSettings → List ℕ → Opti
 end_fault chooses how bytes = late_or (first (too_late how.mode (photons_of chooses how bytes))) (fault_in (streamed how bytes))
 
 -- What the end of the bytes wrote after what their words wrote while more might come, by the answer.
-abbrev pub WritesEnd : (Event → Bool) → StreamSettings → Option (List ℕ) → Option (List ℕ) → ℕ → ℕ → List ℕ → Result (Unit {0}) Fault → Type 0
-WritesEnd chooses how old new before after bytes result =
-    WritesText (text_in chooses how (words_of bytes)) (end_text chooses how bytes) (end_fault chooses how bytes) old new before after result
+abbrev pub WritesEnd : (Event → Bool) → StreamSettings → SinkState → SinkState → List ℕ → Result (Unit {0}) Fault → Type 0
+WritesEnd chooses how old new bytes result =
+    WritesText (text_in chooses how (words_of bytes)) (end_text chooses how bytes) (end_fault chooses how bytes) old new result
 
 -- The photons that are chosen can be written: all of the kept list where none of them is too late, and always those before the first that is, of all bytes after a header and of what words settle while more may come.
 pub record CanBeWritten (mode : Mode) (chooses : Event → Bool) (how : StreamSettings) : Type 0 where

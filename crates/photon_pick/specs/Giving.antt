@@ -1,21 +1,20 @@
 -- What giving photons to a picker writes.
 use Rattle.std.{specs.Prelude.{ℕ, ◌≡◌, ◌<◌, ◌≤◌, ◌⊎◌, All, slice_index, true, false, List, [], ◌∷◌, ◌++◌, ◌+◌, max, Bool, Some, length, refl}, specs.declared.option.Option.Option, specs.List.filter, proofs.Common.{append-nil, arith}}
-use Rattle.tally_base.{specs.declared.event.Event.Event, specs.declared.fault.Fault.Fault, specs.declared.fault.Fault.TheVariants.{PickTime, WriteFault}, specs.FaultCounts.Rose, specs.Tally.{floor_after, InOrder}, specs.Events.is_photon, specs.Columns.{count, event_at, rows}, specs.declared.block.Block.Block, specs.declared.header.Mode.Mode}
+use Rattle.tally_base.{specs.declared.event.Event.Event, specs.declared.fault.Fault.Fault, specs.declared.fault.Fault.TheVariants.{PickTime, WriteFault}, specs.Tally.{floor_after, InOrder}, specs.Events.is_photon, specs.Columns.{count, event_at, rows}, specs.declared.block.Block.Block, specs.declared.header.Mode.Mode}
 use Rattle.record_stream.specs.Blocks.{AllFit}
-use Rattle.bench_io.{specs.declared.sink.Sink.Ghosts, proofs.Bytes.PassesOn-held}
+use Rattle.bench_io.{specs.declared.sink.Sink.Ghosts, specs.Sinks.SinkState, proofs.Bytes.PassesOn-held}
 use Rattle.ptu_definitions.{specs.Prefixes.each_after, specs.Kept.{Marked, floor_of}, specs.Settled.not_marked}
 use Rattle.record_write.{specs.declared.picker.Picker.Picker, specs.Picked.{is_too_late, photon_words}, specs.Picker.{mode_of, last_by, is_going, HasPicked}, specs.Writing.{PutsWords, CutsWords}}
 use Rattle.photon_pick.specs.Late.{too_late}
 
--- A picker, the bytes that its sink tells, those that its block holds, and how often a write has failed.
+-- A picker, what its sink tells, and the bytes that its block holds.
 pub record Pen : Type 0 where
   pub picker : Picker
-  pub written : Option (List ℕ)
+  pub sink : SinkState
   pub held : List ℕ
-  pub faults : ℕ
 
-abbrev pub pen : Picker → Option (List ℕ) → List ℕ → ℕ → Pen
-pen picker written held faults = record { picker = picker; written = written; held = held; faults = faults }
+abbrev pub pen : Picker → SinkState → List ℕ → Pen
+pen picker sink held = record { picker = picker; sink = sink; held = held }
 
 -- the words of photons after others
 abbrev pub words_behind : Pen → List Event → List Event → List ℕ
@@ -37,25 +36,22 @@ pub record CanBeGiven (picker : Picker) (photons : List Event) : Type 0 where
 pub record Gave (p q : Pen) (photons : List Event) : Type 0 where
   pub in_time : too_late (mode_of p.picker) photons ≡ []
   pub picked : (behind : List Event) → HasPicked p.picker behind → HasPicked q.picker (behind ++ photons)
-  pub text : (behind : List Event) → HasPicked p.picker behind → PutsWords p.written q.written p.held q.held (words_behind p behind photons)
+  pub text : (behind : List Event) → HasPicked p.picker behind → PutsWords p.sink q.sink p.held q.held (words_behind p behind photons)
   pub same_mode : mode_of q.picker ≡ mode_of p.picker
   pub going : is_going q.picker ≡ true
   pub last : last_by q.picker ≡ floor_after true (last_by p.picker) photons
-  pub kept : q.faults ≡ p.faults
 
 -- A photon was too late: those before it were put.
 pub record TooLate (p q : Pen) (front : List Event) (e : Event) (fault : Fault) : Type 0 where
   pub late : is_too_late (mode_of p.picker) e.time ≡ true
   pub is : fault ≡ PickTime e.place
-  pub kept : q.faults ≡ p.faults
-  pub text : (behind : List Event) → HasPicked p.picker behind → PutsWords p.written q.written p.held q.held (words_behind p behind front)
+  pub text : (behind : List Event) → HasPicked p.picker behind → PutsWords p.sink q.sink p.held q.held (words_behind p behind front)
 
 -- A write failed at a photon: of the bytes with its words a front was written that is not the whole.
 pub record WriteFailed (p q : Pen) (front : List Event) (e : Event) (fault : Fault) : Type 0 where
   pub soon : is_too_late (mode_of p.picker) e.time ≡ false
   pub is : fault ≡ WriteFault
-  pub rose : Rose p.faults q.faults
-  pub text : (behind : List Event) → HasPicked p.picker behind → CutsWords p.written q.written p.held q.held (words_behind p behind (front ++ e ∷ []))
+  pub text : (behind : List Event) → HasPicked p.picker behind → CutsWords p.sink q.sink p.held q.held (words_behind p behind (front ++ e ∷ []))
 
 -- The picker refused one of these photons.
 pub record Stopped (p q : Pen) (photons : List Event) (fault : Fault) : Type 0 where
@@ -68,7 +64,7 @@ pub record Stopped (p q : Pen) (photons : List Event) (fault : Fault) : Type 0 w
 
 -- a picker with its sink, and what its block holds
 abbrev pub pen_on : {O : Type 0} → Ghosts O → Picker → O → List ℕ → Pen
-pen_on o picker out held = pen picker (o.written out) held (o.faults out)
+pen_on o picker out held = pen picker (o.state out) held
 
 -- Events of a block by their places.
 
@@ -86,23 +82,20 @@ pub record Stand : Type 0 where
   pub mode : Mode
   pub taken : ℕ
   pub floor : ℕ
-  -- how often a write of the sink has failed
-  pub sink : ℕ
-  -- the bytes that the sink tells, and those that the block holds
-  pub written : Option (List ℕ)
+  -- what the sink tells, and the bytes that the block holds
+  pub sink : SinkState
   pub held : List ℕ
   -- why the last photon was refused
   pub fault : Option Fault
 
-abbrev pub stand : (Event → Bool) → Picker → Mode → ℕ → ℕ → ℕ → Option (List ℕ) → List ℕ → Option Fault → Stand
-stand chooses picker mode taken floor sink written held fault = record {
+abbrev pub stand : (Event → Bool) → Picker → Mode → ℕ → ℕ → SinkState → List ℕ → Option Fault → Stand
+stand chooses picker mode taken floor sink held fault = record {
   chooses = chooses;
   picker = picker;
   mode = mode;
   taken = taken;
   floor = floor;
   sink = sink;
-  written = written;
   held = held;
   fault = fault;
 }
@@ -113,15 +106,14 @@ chosen_of s l = filter s.chooses (not_marked l)
 
 -- The words of these photons after others were put.
 abbrev pub PutsPhotons : Stand → Stand → List Event → List Event → Type 0
-PutsPhotons s t behind photons = PutsWords s.written t.written s.held t.held (each_after (photon_words s.mode) behind photons)
+PutsPhotons s t behind photons = PutsWords s.sink t.sink s.held t.held (each_after (photon_words s.mode) behind photons)
 
 -- The photons that are chosen among these were given to the picker, which refused none.
-pub record Took (s t : Stand) (l : Marked) : Type 0 where
+pub record TookPhotons (s t : Stand) (l : Marked) : Type 0 where
   pub same_choice : t.chooses ≡ s.chooses
   pub same_mode : t.mode ≡ s.mode
   pub counted : t.taken ≡ s.taken + length l
   pub moved : t.floor ≡ max s.floor (floor_of s.mode l)
-  pub kept_sink : t.sink ≡ s.sink
   pub same_fault : t.fault ≡ s.fault
   pub in_time : too_late s.mode (chosen_of s l) ≡ []
   pub picked : (behind : List Event) → HasPicked s.picker behind → HasPicked t.picker (behind ++ chosen_of s l)
@@ -131,15 +123,13 @@ pub record Took (s t : Stand) (l : Marked) : Type 0 where
 pub record RefusedLate (s t : Stand) (front : List Event) (e : Event) : Type 0 where
   pub late : is_too_late s.mode e.time ≡ true
   pub fault : t.fault ≡ Some (PickTime e.place)
-  pub kept : t.sink ≡ s.sink
   pub text : (behind : List Event) → HasPicked s.picker behind → PutsPhotons s t behind front
 
 -- It was refused, since a write failed: of the bytes with its words a front was written that is not the whole.
 pub record RefusedCut (s t : Stand) (front : List Event) (e : Event) : Type 0 where
   pub soon : is_too_late s.mode e.time ≡ false
   pub fault : t.fault ≡ Some WriteFault
-  pub rose : Rose s.sink t.sink
-  pub text : (behind : List Event) → HasPicked s.picker behind → CutsWords s.written t.written s.held t.held (each_after (photon_words s.mode) behind (front ++ e ∷ []))
+  pub text : (behind : List Event) → HasPicked s.picker behind → CutsWords s.sink t.sink s.held t.held (each_after (photon_words s.mode) behind (front ++ e ∷ []))
 
 pub record Refused (s t : Stand) (l : Marked) : Type 0 where
   pub front : List Event
@@ -148,15 +138,14 @@ pub record Refused (s t : Stand) (l : Marked) : Type 0 where
   pub in_time : too_late s.mode front ≡ []
   pub why : RefusedLate s t front e ⊎ RefusedCut s t front e
 
-pub took_none : (s : Stand) → Took s s []
+pub took_none : (s : Stand) → TookPhotons s s []
 took_none s = record {
   same_choice = refl;
   same_mode = refl;
   counted = omega arith;
   moved = omega arith;
-  kept_sink = refl;
   same_fault = refl;
   in_time = refl;
   picked = λ behind h. rw (append-nil behind) h;
-  text = λ behind h. rw (append-nil s.held) (PassesOn-held s.written s.held);
+  text = λ behind h. rw (append-nil s.held) (PassesOn-held s.sink s.held);
 }

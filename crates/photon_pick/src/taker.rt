@@ -47,17 +47,17 @@ pub(crate) struct Picks<'g, 'p, 'o, O: Sink> {
 
 impl<'g, 'p, 'o, O: Sink> EventTaker for Picks<'g, 'p, 'o, O> {
     ghost use Rattle.std.{specs.Prelude.{refl}, proofs.Common.{◌∙◌}};
-    ghost use Rattle.photon_pick.specs.Giving.{Took, Refused, took_none, stand};
+    ghost use Rattle.photon_pick.specs.Giving.{TookPhotons, Refused, took_none, stand};
 
-    ghost got = { λ s t l. Took (stand (is_chosen (sorting_of s.gates.now) s.group) s.picker.now s.mode s.taken s.floor
-        (O.faults s.out.now) (O.written s.out.now) s.block s.fault)
+    ghost got = { λ s t l. TookPhotons (stand (is_chosen (sorting_of s.gates.now) s.group) s.picker.now s.mode s.taken s.floor
+        (O.state s.out.now) s.block s.fault)
         (stand (is_chosen (sorting_of t.gates.now) t.group) t.picker.now t.mode t.taken t.floor
-        (O.faults t.out.now) (O.written t.out.now) t.block t.fault) l };
+        (O.state t.out.now) t.block t.fault) l };
 
     ghost broke = { λ s t l. s.fault ≡ None → Refused (stand (is_chosen (sorting_of s.gates.now) s.group) s.picker.now s.mode s.taken s.floor
-        (O.faults s.out.now) (O.written s.out.now) s.block s.fault)
+        (O.state s.out.now) s.block s.fault)
         (stand (is_chosen (sorting_of t.gates.now) t.group) t.picker.now t.mode t.taken t.floor
-        (O.faults t.out.now) (O.written t.out.now) t.block t.fault) l };
+        (O.state t.out.now) t.block t.fault) l };
 
     ghost same = { λ s t. (t.out.ghost_name ≡ s.out.ghost_name)
         × (t.picker.ghost_name ≡ s.picker.ghost_name) × (t.mode ≡ s.mode) };

@@ -1,7 +1,7 @@
 -- A text that stands after another one.
 use Rattle.std.{proofs.Common.{◌≡◌, ◌∙◌, ℕ, Bool, List, [], ◌++◌, None, Ok, Err, sym, ap, append_assoc, append-nil, inl, inr, Result, arith, rules}, specs.declared.option.Option.{Option}}
 use Rattle.tally_base.{specs.declared.event.Event.Event, specs.declared.fault.Fault.Fault, specs.declared.header.Header.Header, specs.RecordTypes.mode_of}
-use Rattle.streamed_text.specs.Texts.{WroteText, CutText, WritesText}
+use Rattle.bench_io.{specs.Sinks.SinkState, specs.Texts.{WroteText, CutText, WritesText}}
 use Rattle.ptu_definitions.specs.Streams.{StreamSettings}
 use Rattle.plan_text.{specs.Plan.PlanView, specs.Fits.fits}
 use Rattle.gate_plan.{specs.Shifting.{Sorting, sorting}, specs.Histories.reading_by}
@@ -11,18 +11,18 @@ use Rattle.photon_pick.{specs.Chosen.is_chosen, proofs.Stays.{text-none, has-non
 use Rattle.command_work.proofs.RestEnds.{refused-none}
 use Rattle.pick_work.specs.PickOutcomes.{picks, picks_by}
 
-module _ (head shown grown : List ℕ) (refused : Option Fault) (old new : Option (List ℕ)) (before after : ℕ) where
+module _ (head shown grown : List ℕ) (refused : Option Fault) (old new : SinkState) where
   adds : (more : List ℕ) → grown ≡ shown ++ more → head ++ grown ≡ (head ++ shown) ++ more
   adds more is = ap (λ l. head ++ l) is ∙ sym (append_assoc head shown more)
 
-  wrote : WroteText shown grown old new before after → WroteText (head ++ shown) (head ++ grown) old new before after
-  wrote h = record { more = h.more; adds = adds h.more h.adds; written = h.written; kept = h.kept }
+  wrote : WroteText shown grown old new → WroteText (head ++ shown) (head ++ grown) old new
+  wrote h = record { more = h.more; adds = adds h.more h.adds; wrote = h.wrote }
 
-  cut : CutText shown grown old new before after → CutText (head ++ shown) (head ++ grown) old new before after
-  cut h = record { more = h.more; adds = adds h.more h.adds; cut = h.cut; rose = h.rose }
+  cut : CutText shown grown old new → CutText (head ++ shown) (head ++ grown) old new
+  cut h = record { more = h.more; adds = adds h.more h.adds; cut = h.cut }
 
-  pub writes-headed : (r : Result (Unit {0}) Fault) → WritesText shown grown refused old new before after r
-      → WritesText (head ++ shown) (head ++ grown) refused old new before after r
+  pub writes-headed : (r : Result (Unit {0}) Fault) → WritesText shown grown refused old new r
+      → WritesText (head ++ shown) (head ++ grown) refused old new r
   writes-headed (Ok done) h = (h.0, wrote h.1)
   writes-headed (Err fault) (inl h) = inl (h.0, wrote h.1)
   writes-headed (Err fault) (inr h) = inr (h.0, cut h.1)

@@ -8,7 +8,7 @@ use Rattle.record_stream.{specs.declared.stream.RecordStream.RecordStream, specs
 use Rattle.minimal_file.specs.ShortFiles.{short_header}
 use Rattle.record_write.specs.declared.picker.Picker.{Picker}
 use Rattle.photon_pick.{specs.Texts.{text_in, refusal_in}, proofs.Stays.{text-front, refused-stays, refused-inside, end-inside, unrefused}}
-use Rattle.command_work.{specs.Behaviours.AsItReads, specs.Works.WantsNone, specs.Tellings.{IsText, Suits}, proofs.RestEnds.{same-end, suited-law, suits-as_it_reads}}
+use Rattle.command_work.{specs.Behaviours.AsItReads, specs.Works.WantsNone, specs.RecordsWork.{IsText, Suits}, proofs.RestEnds.{same-end, suited-law, suits-as_it_reads}}
 use Rattle.pick_work.specs.PickOutcomes.{chosen_by, pick_so_far, picking, picks, picks_by, HasWritten}
 
 pub picks-law : (chooses : Event → Bool) (how : StreamSettings) → IsText (picks chooses how)

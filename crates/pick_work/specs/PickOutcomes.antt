@@ -6,7 +6,7 @@ use Rattle.plan_text.{specs.Plan.PlanView, specs.Fits.fits}
 use Rattle.gate_plan.{specs.Shifting.sorting, specs.Histories.reading_by}
 use Rattle.minimal_file.specs.ShortFiles.{short_header}
 use Rattle.photon_pick.{specs.Chosen.is_chosen, specs.Texts.{text_in, refusal_in, HasPickedIn}, specs.Ends.{photons_kept, end_text, end_fault}, specs.Late.too_late, specs.Pieces.IsNoFurther}
-use Rattle.command_work.{specs.Behaviours.{Work, AreRead, IsHeaded}, specs.Tellings.{Telling, if_suited, headed_work, headed_so_far}}
+use Rattle.command_work.{specs.Behaviours.{Work, AreRead, IsHeaded}, specs.RecordsWork.{RecordsWork, if_suited, headed_work, headed_so_far}}
 use Rattle.record_stream.{specs.declared.stream.RecordStream.RecordStream, specs.Standing.{how_of, refused_with, HasStreamed}}
 use Rattle.record_write.specs.declared.picker.Picker.{Picker}
 
@@ -19,7 +19,7 @@ abbrev pub chosen_by : PlanView → ℕ → Event → Bool
 chosen_by plan group = is_chosen (sorting plan) group
 
 -- a file of the photons that are chosen, written as they are read: their words after the header, and why they are refused
-abbrev pub picks : (Event → Bool) → StreamSettings → Telling
+abbrev pub picks : (Event → Bool) → StreamSettings → RecordsWork
 picks chooses how = record {
   text = λ bytes. short_header how.mode ++ text_in chooses how (words_of bytes);
   ends = λ bytes. record { text = short_header how.mode ++ end_text chooses how bytes; fault = end_fault chooses how bytes };
@@ -27,10 +27,10 @@ picks chooses how = record {
 }
 
 -- those of a plan's group, where the plan's parts suit the file
-abbrev pub picks_of : ℕ → PlanView → Header → Telling
+abbrev pub picks_of : ℕ → PlanView → Header → RecordsWork
 picks_of group plan header = picks (chosen_by plan group) (reading_by plan header)
 
-abbrev pub picks_by : ℕ → PlanView → Header → Telling
+abbrev pub picks_by : ℕ → PlanView → Header → RecordsWork
 picks_by group plan = if_suited plan (picks_of group plan)
 
 -- What has been written of the bytes of a file, where the next read fails: nothing before the header is whole and suits the plan.

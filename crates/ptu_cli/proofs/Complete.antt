@@ -1,9 +1,9 @@
 -- Good words and files end well, only words that are no command end as a bad command line, and a run leaves what is promised.
-use Rattle.std.{proofs.Common.{◌≡◌, ◌≤◌, ◌<◌, ℕ, List, true, None, Some, Ok, Err, refl, sym, ap, ◌∙◌, subst, arith, rules, inl, inr, ◌⊎◌, Result, IfErr}, specs.declared.option.Option.{Option}}
+use Rattle.std.{proofs.Common.{◌≡◌, ◌≤◌, ◌<◌, ℕ, true, None, Some, Ok, Err, refl, sym, ap, ◌∙◌, subst, arith, rules, inl, inr, ◌⊎◌, Result, IfErr}, specs.declared.option.Option.{Option}}
 use Rattle.tally_base.{specs.declared.slot.Slot.Slot, specs.declared.slot.Slot.TheVariants.{Plan, Data}, specs.declared.fault.Fault.Fault, specs.declared.fault.Fault.TheVariants.{Usage, OpenFault, ReadFault, WriteFault, OutOfMemory}, specs.Faults.{is_outside, fault_in, status_of, HasReason}, specs.FaultCounts.Rose}
-use Rattle.bench_io.specs.Inputs.{File, InputState}
+use Rattle.bench_io.{specs.Inputs.{File, InputState}, specs.Sinks.SinkState}
 use Rattle.ptu_cli.{specs.Commands.Request, specs.Runs.{Around, Runs, TellsOn, EndsIn, NothingFailed}, specs.Behaviours.behaviour, specs.Tables.HasStatus, specs.CommandCases.cases, proofs.Sound.{WorkIsSound, IsSound, sound}, proofs.Told.{some-status, usage}}
-use Rattle.command_work.{specs.Outcomes.{Outcome, status, IsIn}, specs.Behaviours.{Work, Behaviour, Alone}, specs.Endings.{HasPlan, on_file, outcome, Span, HasCauses, NoneRose, IsGood, IsGoodFor, AreItsFiles, ForItsFiles, Answers, EndsWith, Does, RunsOut, LacksMemory}, proofs.Told.{files-map, some-file}, proofs.Once.{IsQuiet}}
+use Rattle.command_work.{specs.Outcomes.{Outcome, status, IsIn}, specs.Behaviours.{Work, Behaviour, Alone}, specs.Endings.{HasPlan, on_file, outcome, Span, HasCauses, NoneRose, IsGood, IsGoodFor, AreItsFiles, ForItsFiles, Answers, EndsWith, LeavesCommand, RunsOut, LacksMemory}, proofs.Told.{files-map, some-file}, proofs.Once.{IsQuiet}}
 
 -- ## Good files
 
@@ -28,7 +28,7 @@ pub some-files : (does : Behaviour) (after : InputState) → AreItsFiles does af
 some-files does after = search (rules, some-file)
 
 -- A run that ends so had words that are no command.
-bad-words : (request : Option Request) (r : Result (Unit {0}) Fault) (after : InputState) (old new : Option (List ℕ))
+bad-words : (request : Option Request) (r : Result (Unit {0}) Fault) (after : InputState) (old new : SinkState)
     → Answers (behaviour request) after r old new → status (fault_in r) ≡ 1 → request ≡ None
 bad-words None r after old new answers one = refl
 bad-words (Some request) (Ok done) after old new (inl never) one = absurd never
@@ -68,7 +68,7 @@ abbrev Completes : Behaviour → InputState → ℕ → Type 0
 Completes does after result = LacksMemory does result ⊎ ForItsFiles does after (λ end. result ≡ status end.fault)
 
 completes : (does : Behaviour) (span : Span) (r : Result (Unit {0}) Fault) (result : ℕ) → result ≡ status (fault_in r)
-    → NoneRose span.before span.after → ¬ (Rose span.faults_before span.faults_after)
+    → NoneRose span.before span.after → ¬ (Rose span.old.faults span.new.faults)
     → IfErr r (HasCauses does span) → Answers does span.after r span.old span.new → Completes does span.after result
 unfolding HasCauses
 completes does span r result is none quiet causes (inr some) =
@@ -91,8 +91,8 @@ alone-quiet end span r causes = search (rules, arith)
 
 -- ## What is said of a request is said of what the words ask for, and a status names its fault
 
-pub does_as : (r : Result (Unit {0}) Fault) (a b : Option Request) (span : Span) → a ≡ b → Does (behaviour a) span r → Does (behaviour b) span r
-does_as r a b span e h = subst (λ (request : Option Request). Does (behaviour request) span r) e h
+pub does_as : (r : Result (Unit {0}) Fault) (a b : Option Request) (span : Span) → a ≡ b → LeavesCommand (behaviour a) span r → LeavesCommand (behaviour b) span r
+does_as r a b span e h = subst (λ (request : Option Request). LeavesCommand (behaviour request) span r) e h
 
 module _ (opening reading : Slot → Type 0) (writing memory : Type 0) where
   abbrev Reason : Result (Unit {0}) Fault → Type 0
@@ -118,13 +118,11 @@ span_of run = record {
   after = run.after;
   old = run.out_before;
   new = run.out_after;
-  faults_before = run.out_faults_before;
-  faults_after = run.out_faults_after;
 }
 
 -- A command that does this, with the status of its fault and the line of it, leaves what is promised.
 pub runs : (request : Option Request) (run : Around) (r : Result (Unit {0}) Fault) (result : ℕ) → result ≡ status (fault_in r) → TellsOn run (fault_in r)
-    → Does (behaviour request) (span_of run) r → (request ≡ None → r ≡ Err Usage) → Runs request run result
+    → LeavesCommand (behaviour request) (span_of run) r → (request ≡ None → r ≡ Err Usage) → Runs request run result
 unfolding HasCauses
 runs request run r result is tells does usage =
     let does_it = behaviour request in

@@ -1,5 +1,5 @@
 -- What `header` ends with is what its table calls for.
-use Rattle.std.{proofs.Common.{◌≡◌, ℕ, List, [], ◌∷◌, ◌++◌, None, Some, Ok, Err, refl, sym, ap, ◌∙◌, subst, inl, inr, ◌⊎◌, flat_map, arith, rules}, specs.declared.option.Option.{Option}}
+use Rattle.std.{proofs.Common.{◌≡◌, ℕ, List, [], ◌++◌, None, Some, Ok, Err, refl, sym, ap, ◌∙◌, subst, inl, inr, ◌⊎◌, flat_map, arith, rules}, specs.declared.option.Option.{Option}}
 use Rattle.tally_base.{specs.declared.fault.Fault.Fault, specs.Faults.{fault_in}}
 use Rattle.ptu_definitions.{specs.TagList.Item, specs.Endings.HasHeader, specs.Headers.{header_answer, head_of, seen, seen_preamble, HasNoFront, HasLongestFront}, proofs.Sound.one_answer, proofs.SeenLemmas.{seen-header, seen_preamble-header}, proofs.SeenLaws.{seen-longest, seen-none}, proofs.Longest.some-longest}
 use Rattle.list_out.specs.HeaderText.{preamble_part, item_text, shown_text, header_text}
@@ -17,8 +17,10 @@ unfolding header_text
 head-text bytes = refl
 
 shown-header : (bytes : List ℕ) (items : List Item) (h : HasHeader bytes items)
-    → shown_text bytes ≡ preamble_part (Some h.start) ++ flat_map item_text (h.inner ++ h.last ∷ [])
-shown-header bytes items h = search (rules, arith, shown-at, seen_preamble-header, seen-header)
+    → shown_text bytes ≡ preamble_part (Some h.start) ++ flat_map item_text items
+shown-header bytes items h = shown-at bytes (Some h.start) items
+    (ap seen_preamble h.bytes_are ∙ seen_preamble-header h.start h.inner h.last h.header h.rest h.is_header)
+    (ap seen h.bytes_are ∙ seen-header h.start h.inner h.last h.header h.rest h.is_header ∙ sym h.items_are)
 
 prints-holds : (bytes : List ℕ) → Prints bytes (shown_text bytes)
 prints-holds bytes = by (some-longest bytes)
@@ -28,16 +30,12 @@ prints-holds bytes = by (some-longest bytes)
     by (inr (inl h)) =
         let shown = seen-longest bytes h.0 h.1 h.2 h.3 h.4 in
         inr (inl (record { start = h.0; items = h.1; front = h.2; rest = h.3; longest = h.4; text_is = shown-at bytes (Some h.0) _ shown.0 shown.1 }))
-    by (inr (inr h)) =
-        let it = h.1 in
-        inr (inr (record { start = it.start; inner = it.inner; last = it.last; header = it.header; rest = it.rest; is_header = it.is_header; bytes_are = it.bytes_are; text_is = shown-header bytes h.0 it }))
+    by (inr (inr h)) = inr (inr (record { items = h.0; found = h.1; text_is = shown-header bytes h.0 h.1 }))
 
 prints-only : (bytes text : List ℕ) → Prints bytes text → shown_text bytes ≡ text
 prints-only bytes text (inl h) = let shown = seen-none bytes h.0 in shown-at bytes None [] shown.0 shown.1 ∙ sym h.1
 prints-only bytes text (inr (inl h)) = search (rules, arith, seen-longest, shown-at)
-prints-only bytes text (inr (inr h)) =
-    shown-header bytes (h.inner ++ h.last ∷ []) (record { start = h.start; inner = h.inner; last = h.last; header = h.header; rest = h.rest; is_header = h.is_header; items_are = refl; bytes_are = h.bytes_are })
-    ∙ sym h.text_is
+prints-only bytes text (inr (inr h)) = shown-header bytes h.items h.found ∙ sym h.text_is
 
 pub print-meets : {K : Type 0} → Meets {K = K} (λ known. Unit {0}) print_lines (λ known bytes. header_outcome bytes)
 print-meets = record {

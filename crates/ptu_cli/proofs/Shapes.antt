@@ -5,7 +5,7 @@ use Rattle.tally_base.{specs.declared.slot.Slot.TheVariants.{Plan, Data}, specs.
 use Rattle.bench_io.specs.Inputs.{File}
 use Rattle.ptu_definitions.{specs.Headers.{header_answer, HasAnswer}, proofs.Sound.one_answer}
 use Rattle.plan_text.{specs.Plan.{PlanView, plan}, specs.ReadPlan.plan_answer, specs.Fits.fits, proofs.Called.{called, valid, answers, plans}, proofs.Misfits.{misfit_named, is_first}}
-use Rattle.command_work.{specs.Outcomes.{Outcome, refused, status, IsIn, StatusIn}, specs.Behaviours.{Work, Writing, Memory, ByPlan}, specs.Endings.{on_file, unless, by_plan, outcome}, specs.Tellings.{Telling, unless_declined, if_suited, headed_end, headed_work}}
+use Rattle.command_work.{specs.Outcomes.{Outcome, refused, status, IsIn, StatusIn}, specs.Behaviours.{Work, Writing, Memory, ByPlan}, specs.Endings.{on_file, unless, by_plan, outcome}, specs.RecordsWork.{RecordsWork, unless_declined, if_suited, headed_end, headed_work}}
 use Rattle.ptu_cli.{proofs.ByteFaults.{InHeader, answer_as-in, called-status, misfit-status}, specs.Tables.{Phase, InPhase, Lines, NoLine, Line, within, Applies, Sound}, specs.CommandCases.{IsValidPlan, Need, NeedsNothing, Needs, Has, Suits, file_lines, header_lines, suited_lines, need_lines, plan_lines, planned_lines}, proofs.Tables.{Meets, as-status, in-within, of-within, within-sound}}
 
 abbrev pub Answer : Type 0
@@ -48,7 +48,7 @@ module _ {K : Type 0} (given : K → Type 0) where
       holds k None has = inl (refl, refl)
       holds k (Some bytes) has = in-file k _ lines (Some bytes) bytes refl (told.holds k bytes has)
 
-  pub header-meets : (lines : Lines K (Header × List ℕ)) (tells : K → Header → Telling) → Meets given lines (λ k found. (tells k found.0).ends found.1)
+  pub header-meets : (lines : Lines K (Header × List ℕ)) (tells : K → Header → RecordsWork) → Meets given lines (λ k found. (tells k found.0).ends found.1)
       → Meets given (header_lines lines) (λ k bytes. headed_end (tells k) (header_answer bytes))
   header-meets lines tells told = record {
     holds = λ k bytes has. by k bytes has (header_answer bytes) refl;
@@ -72,7 +72,7 @@ fit = Ok tt
 not_fit : (fault : Fault) → fit ≡ Err fault → ⊥
 not_fit fault e = cc
 
-module _ (given : PlanView → Type 0) (lines : Lines PlanView (Header × List ℕ)) (tells : PlanView → Header → Telling) (told : Meets given lines (λ view found. (tells view found.0).ends found.1)) where
+module _ (given : PlanView → Type 0) (lines : Lines PlanView (Header × List ℕ)) (tells : PlanView → Header → RecordsWork) (told : Meets given lines (λ view found. (tells view found.0).ends found.1)) where
   -- what is made of the bytes after a header, by what the plan's fit to it is
   abbrev end_as : PlanView → Header × List ℕ → Result (Unit {0}) Fault → Outcome
   end_as view found fit = (unless_declined (fault_in fit) (tells view found.0)).ends found.1
@@ -199,7 +199,7 @@ module _ (lines : Lines PlanView File) (lacks : PlanView → Option Fault) (work
           ap (λ (f : File). outcome (ByPlan plan_name file writing memory lacks work) f data_file) it.1.present ∙ ap (plan_end data_file) (plan-ok plan_file it.0 it.1) ∙ it.2
 
 -- A command by a plan meets the lines of FILE by a plan.
-pub planned-meets : (need : Need) (lines : Lines PlanView (Header × List ℕ)) (tells : PlanView → Header → Telling) (good : PlanView → List ℕ → Type 0) (lacks : PlanView → Option Fault)
+pub planned-meets : (need : Need) (lines : Lines PlanView (Header × List ℕ)) (tells : PlanView → Header → RecordsWork) (good : PlanView → List ℕ → Type 0) (lacks : PlanView → Option Fault)
     (plan file : List ℕ) (writing : Writing (PlanView → List ℕ → List ℕ)) (memory : Memory)
     → NeedMeets need lacks → Meets (Has need) lines (λ view found. (tells view found.0).ends found.1)
     → Meets (λ (plan_file : File). Unit {0}) (planned_lines need lines)

@@ -4,7 +4,7 @@ use Rattle.tally_base.{specs.Faults.fault_in, specs.declared.header.Header.Heade
 use Rattle.ptu_definitions.{specs.Headers.header_answer, specs.Words.{words_of, record_limit, records_of, counted}, specs.Kinds.counts_of, specs.Streams.{StreamSettings, summary, streamed}}
 use Rattle.plan_text.{specs.Plan.PlanView, specs.Fits.fits}
 use Rattle.gate_plan.{specs.Histories.reading_by, specs.Shifting.sorting}
-use Rattle.command_work.{specs.Outcomes.{Outcome}, specs.Behaviours.{Work, Behaviour, AreWhole, AreRead, Alone, OnFile, ByPlan}, specs.Tellings.{Telling, unless_declined, if_suited, headed_end}}
+use Rattle.command_work.{specs.Outcomes.{Outcome}, specs.Behaviours.{Work, Behaviour, AreWhole, AreRead, Alone, OnFile, ByPlan}, specs.RecordsWork.{RecordsWork, unless_declined, if_suited, headed_end}}
 use Rattle.file_work.{specs.FileOutcomes.{listing, counting, listing_all}}
 use Rattle.trace_work.{specs.TraceOutcomes.{trace_of, traced, traces_with, tracing}}
 use Rattle.report_work.{specs.Reports.{reporting, reported, reports}}
@@ -31,7 +31,7 @@ streamed-read : (how : StreamSettings) (behind : List ℕ) → AreRead how behin
 unfolding streamed
 streamed-read how behind h = rw (h.unrefused, h.whole) refl
 
-planned-end : (view : PlanView) (tells : Header → Telling) (bytes behind : List ℕ) (header : Header) → header_answer bytes ≡ Ok (header, behind)
+planned-end : (view : PlanView) (tells : Header → RecordsWork) (bytes behind : List ℕ) (header : Header) → header_answer bytes ≡ Ok (header, behind)
     → fits (mode_of header.record_type) view ≡ Ok tt → headed_end (if_suited view tells) (header_answer bytes) ≡ (tells header).ends behind
 planned-end view tells bytes behind header answer suits = ap (headed_end (if_suited view tells)) answer
     ∙ ap (λ (r : Result (Unit {0}) Fault). (unless_declined (fault_in r) (tells header)).ends behind) suits

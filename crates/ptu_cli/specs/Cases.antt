@@ -1,7 +1,7 @@
 -- How commands end by the header and the records of FILE, as cases over whole lists: relations, plain counts and the texts of lines. No function is cited that finds an answer for the program (`header_answer`, `plan_answer`, `fits`, `counted`, `record_refusal`, `streamed`, `given`, `seen`).
 use Rattle.std.{specs.Prelude.{ℕ, ◌≡◌, ◌≢◌, ◌⊎◌, ◌<◌, ◌≤◌, List, [], ◌∷◌, ◌++◌, length, take, get_or, map, flat_map, codes, decimal, nat_le, count_by, ◌+◌, ◌/◌, ◌==◌, true, None, Some, Result, Ok, Err}, specs.List.filter, specs.declared.option.Option.Option}
 use Rattle.tally_base.{specs.declared.event.Event.Event, specs.declared.fault.Fault.Fault, specs.declared.fault.Fault.TheVariants.{RecordLimit, TruncatedRecord, PickTime}, specs.declared.header.Header.Header, specs.declared.header.Mode.Mode, specs.Faults.fault_in, specs.RecordTypes.mode_of, specs.Settings.{PartSettings, StartStopView, TraceView}, specs.Settings.PartSettings.StartStopSettings}
-use Rattle.ptu_definitions.{specs.declared.records.Summary.Summary, specs.TagList.{Item, IsHeader}, specs.Headers.{HasAnswer, head_of, begun, IsLongestFront, HasNoFront}, specs.Words.{words_of, rest_of, record_limit}, specs.Layouts.meaning_of, specs.Kinds.counts_of, specs.Prefixes.each, specs.Settled.{kept_by, settled_by}, specs.Times.events, specs.Streams.{StreamSettings, refusal, events_in, summary_of, IsFirst}}
+use Rattle.ptu_definitions.{specs.declared.records.Summary.Summary, specs.TagList.Item, specs.Endings.HasHeader, specs.Headers.{HasAnswer, head_of, begun, IsLongestFront, HasNoFront}, specs.Words.{words_of, rest_of, record_limit}, specs.Layouts.meaning_of, specs.Kinds.counts_of, specs.Prefixes.each, specs.Settled.{kept_by, settled_by}, specs.Times.events, specs.Streams.{StreamSettings, refusal, events_in, summary_of, IsFirst}}
 use Rattle.plan_text.specs.Plan.{PlanView, parts_of}
 use Rattle.coincidence.specs.Intervals.{count_pairs}
 use Rattle.gate_plan.{specs.Shifting.sorting, specs.Histories.{history, settled_history, reading_by}}
@@ -45,14 +45,9 @@ pub record PrintsFront (bytes text : List ℕ) : Type 0 where
 
 -- The header that the bytes begin with is printed so.
 pub record PrintsHeader (bytes text : List ℕ) : Type 0 where
-  pub start : List ℕ
-  pub inner : List Item
-  pub last : Item
-  pub header : List ℕ
-  pub rest : List ℕ
-  pub is_header : IsHeader start inner last header
-  pub bytes_are : bytes ≡ header ++ rest
-  pub text_is : text ≡ preamble_text start ++ flat_map item_text (inner ++ last ∷ [])
+  pub items : List Item
+  pub found : HasHeader bytes items
+  pub text_is : text ≡ preamble_text found.start ++ flat_map item_text items
 
 abbrev pub Prints : List ℕ → List ℕ → Type 0
 Prints bytes text = (HasNoFront bytes × (text ≡ [])) ⊎ (PrintsFront bytes text ⊎ PrintsHeader bytes text)

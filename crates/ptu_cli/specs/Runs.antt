@@ -1,53 +1,45 @@
 -- What a run of the whole program leaves, by what its words ask for.
-use Rattle.std.{specs.Prelude.{ℕ, ◌≡◌, ◌⊎◌, ◌↔◌, ◌≤◌, ◌<◌, List, None, Some}, specs.declared.option.Option.{Option}}
+use Rattle.std.{specs.Prelude.{ℕ, ◌≡◌, ◌⊎◌, ◌↔◌, ◌≤◌, ◌<◌, None, Some}, specs.declared.option.Option.{Option}}
 use Rattle.tally_base.{specs.declared.slot.Slot.Slot, specs.declared.fault.Fault.Fault, specs.declared.fault.Fault.TheVariants.{OpenFault, ReadFault, WriteFault, OutOfMemory}, specs.FaultCounts.Rose}
-use Rattle.bench_io.{specs.Inputs.{File, InputState}, specs.declared.inputs.Inputs.Ghosts as InputGhosts, specs.declared.sink.Sink.Ghosts as SinkGhosts}
+use Rattle.bench_io.{specs.Inputs.{File, InputState}, specs.declared.inputs.Inputs.Ghosts as InputGhosts, specs.declared.sink.Sink.Ghosts as SinkGhosts, specs.Sinks.SinkState}
 use Rattle.ptu_cli.{specs.Commands.Request, specs.Behaviours.behaviour}
-use Rattle.command_work.{specs.Outcomes.{InputsOnce, OutOnce, Outcome, status}, specs.Endings.{HasPlan, AreItsFiles, ForItsFiles, ToldAreIts, TellsFault, EndsBy, FailsOpening, FailsReading, CutsOutcome, RunsOut, Asks, LacksMemory, NoneRose, IsGood}}
+use Rattle.command_work.{specs.Outcomes.{InputsOnce, OutOnce, Outcome, status}, specs.Endings.{HasPlan, AreItsFiles, ForItsFiles, ReadsAgree, TellsFault, EndsBy, FailsOpening, FailsReading, CutsOutcome, RunsOut, Asks, LacksMemory, NoneRose, IsGood}}
 
--- The states before a run and after it: of the inputs, of standard output and of standard error, each with the count of its failed writes.
+-- The states before a run and after it: of the inputs, of standard output and of standard error.
 pub record Around : Type 0 where
   pub before : InputState
   pub after : InputState
-  pub out_before : Option (List ℕ)
-  pub out_after : Option (List ℕ)
-  pub out_faults_before : ℕ
-  pub out_faults_after : ℕ
-  pub err_before : Option (List ℕ)
-  pub err_after : Option (List ℕ)
-  pub err_faults_before : ℕ
-  pub err_faults_after : ℕ
+  pub out_before : SinkState
+  pub out_after : SinkState
+  pub err_before : SinkState
+  pub err_after : SinkState
 
 -- those of these inputs, of this standard output and of this standard error
 abbrev pub around : {I O E : Type 0} → InputGhosts I → SinkGhosts O → SinkGhosts E → I → I → O → O → E → E → Around
 around i o e before after out_before out_after err_before err_after = record {
   before = i.state before;
   after = i.state after;
-  out_before = o.written out_before;
-  out_after = o.written out_after;
-  out_faults_before = o.faults out_before;
-  out_faults_after = o.faults out_after;
-  err_before = e.written err_before;
-  err_after = e.written err_after;
-  err_faults_before = e.faults err_before;
-  err_faults_after = e.faults err_after;
+  out_before = o.state out_before;
+  out_after = o.state out_after;
+  err_before = e.state err_before;
+  err_after = e.state err_after;
 }
 
 -- this fault's line is on standard error and no write there failed, or a prefix of it where one did; without a fault nothing is
 abbrev pub TellsOn : Around → Option Fault → Type 0
-TellsOn run fault = TellsFault run.err_before run.err_after run.err_faults_before run.err_faults_after fault
+TellsOn run fault = TellsFault run.err_before run.err_after fault
 
 -- standard output and standard error hold what the outcome says, and the status is its
 abbrev pub EndsIn : Around → ℕ → Outcome → Type 0
-EndsIn run result end = EndsBy end result run.out_before run.out_after run.err_before run.err_after run.err_faults_before run.err_faults_after
+EndsIn run result end = EndsBy end result run.out_before run.out_after run.err_before run.err_after
 
 -- No count of the inputs and of standard output moved but the one that the fault tells of, by one.
 abbrev pub MovesOnly : Around → Option Fault → Type 0
-MovesOnly run fault = InputsOnce run.before run.after fault × OutOnce fault run.out_faults_before run.out_faults_after
+MovesOnly run fault = InputsOnce run.before run.after fault × OutOnce fault run.out_before run.out_after
 
 -- No count of the inputs and of standard output rose.
 abbrev pub NothingFailed : Around → Type 0
-NothingFailed run = NoneRose run.before run.after × ¬ (Rose run.out_faults_before run.out_faults_after)
+NothingFailed run = NoneRose run.before run.after × ¬ (Rose run.out_before.faults run.out_after.faults)
 
 -- The promise of the whole program.
 pub record Runs (request : Option Request) (run : Around) (result : ℕ) : Type 0 where
@@ -62,7 +54,7 @@ pub record Runs (request : Option Request) (run : Around) (result : ℕ) : Type 
   -- A read failed, of a file whose end no read had said.
   pub unread : result ≡ 3 → (slot : Slot) × FailsReading (behaviour request) slot run.before run.after run.out_before run.out_after × TellsOn run (Some (ReadFault slot))
   -- A write failed.
-  pub unwritten : result ≡ 4 → Rose run.out_faults_before run.out_faults_after × CutsOutcome (behaviour request) run.after run.out_before run.out_after × TellsOn run (Some WriteFault)
+  pub unwritten : result ≡ 4 → Rose run.out_before.faults run.out_after.faults × CutsOutcome (behaviour request) run.after run.out_before run.out_after × TellsOn run (Some WriteFault)
   -- It ends for want of memory where it takes memory. That memory was refused is not said.
   pub memory : result ≡ 5 → RunsOut (behaviour request) (HasPlan run.after) run.after run.out_before run.out_after × TellsOn run (Some OutOfMemory)
   -- What it asked for and took, whatever its status is.
@@ -73,4 +65,4 @@ pub record Runs (request : Option Request) (run : Around) (result : ℕ) : Type 
   pub complete : NothingFailed run → LacksMemory (behaviour request) result ⊎ ForItsFiles (behaviour request) run.after (λ end. result ≡ status end.fault)
   pub good : (plan_file data_file : File) → AreItsFiles (behaviour request) run.after plan_file data_file → IsGood (behaviour request) plan_file data_file → NothingFailed run → LacksMemory (behaviour request) result ⊎ (result ≡ 0)
   -- The file that the inputs tell for the word PLAN may be that of the plan, and that for FILE that of the data, each for itself.
-  pub files : ToldAreIts (behaviour request) run.before run.after
+  pub files : ReadsAgree (behaviour request) run.before run.after

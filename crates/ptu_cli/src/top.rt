@@ -1,7 +1,7 @@
 // The whole program: the words of its command line, the command that they ask for, and its exit status.
 ghost use Rattle.std.{specs.Prelude.{◌≡◌, drop, false, None, Some, Ok, Err, IsOk, IfOk, IfErr}, specs.Process.exit_status, specs.IoError.error_kind, specs.Vec.Iter.into_iter_items};
 ghost use Rattle.tally_base.{specs.declared.slot.Slot.Slot, specs.declared.fault.Fault.TheVariants.OutOfMemory, specs.Faults.status_of};
-ghost use Rattle.command_work.specs.Endings.{IsMeant, TellsFault, Does, span};
+ghost use Rattle.command_work.specs.Endings.{IsMeant, TellsFault, LeavesCommand, span};
 ghost use Rattle.ptu_cli.{specs.Edge.fault_of_kind, specs.Behaviours.{request_in, behaviour_of}, specs.Runs.{Runs, around}};
 
 use crate::edge::{FileInputs, StreamSink};
@@ -30,7 +30,7 @@ fn obey<I: Inputs, O: Sink>(
 ) -> Result<(), Fault>
     requires meant { IsMeant (I.state inputs.old) (behaviour_of words.now) }
     requires first { (slot : Slot) → (I.state inputs.old).asked slot ≡ false }
-    ensures does { Does (behaviour_of words.now)
+    ensures does { LeavesCommand (behaviour_of words.now)
         (span I.Inputs O.Sink inputs.old inputs.new out.old out.new) result }
     ensures usage { request_in words.now ≡ None → result ≡ Err Fault.Usage }
 {
@@ -57,8 +57,7 @@ fn obey<I: Inputs, O: Sink>(
 
 /// Writes the line of a fault, or a prefix of it where a write fails.
 pub fn tell<E: Sink>(fault: &Fault, err: &mut E)
-    ensures { TellsFault (E.written err.old) (E.written err.new) (E.faults err.old)
-        (E.faults err.new) (Some fault.now) }
+    ensures { TellsFault (E.state err.old) (E.state err.new) (Some fault.now) }
 {
     let mut line = ArrayVec::<u8, 96>::new();
     fault_line(fault, &mut line);
@@ -175,9 +174,8 @@ pub fn exit_of<I: Inputs, O: Sink, E: Sink>(
     ensures runs { IfOk words (λ line. Runs (request_in line.items)
         (around I.Inputs O.Sink E.Sink inputs.old inputs.new out.old out.new err.old err.new)
         (exit_status result)) }
-    ensures no_words { IfErr words (λ fault. (exit_status result ≡ status_of fault)
-        × TellsFault (E.written err.old) (E.written err.new)
-        (E.faults err.old) (E.faults err.new) (Some fault)) }
+    ensures without_words { IfErr words (λ fault. (exit_status result ≡ status_of fault)
+        × TellsFault (E.state err.old) (E.state err.new) (Some fault)) }
     ensures untouched { IfErr words (λ fault. (inputs.new ≡ inputs.old) × (out.new ≡ out.old)) }
 {
     match words {

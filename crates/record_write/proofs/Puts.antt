@@ -1,7 +1,7 @@
 -- Words that are put into a block one after another.
-use Rattle.std.{proofs.Common.{◌≡◌, ◌≢◌, ◌+◌, ◌-◌, ◌/◌, ◌%◌, ◌<◌, ℕ, false, List, [], ◌∷◌, ◌++◌, replicate, refl, sym, ap, subst, ◌∙◌, append_assoc, append-nil, arith, ◌==◌}, specs.declared.option.Option.Option, proofs.lemmas.List.{replicate_more, replicate-append-replicate}, proofs.lemmas.Bool.ne_eqb}
+use Rattle.std.{proofs.Common.{◌≡◌, ◌≢◌, ◌+◌, ◌-◌, ◌/◌, ◌%◌, ◌<◌, ℕ, false, List, [], ◌∷◌, ◌++◌, replicate, refl, sym, ap, subst, ◌∙◌, append_assoc, append-nil, arith, ◌==◌}, proofs.lemmas.List.{replicate_more, replicate-append-replicate}, proofs.lemmas.Bool.ne_eqb}
 use Rattle.tally_base.{specs.declared.event.Event.Event, specs.declared.event.EventKind.TheVariants.Photon, specs.declared.header.Mode.Mode}
-use Rattle.bench_io.{specs.Sinks.{AppendsShort, PassesOn}, proofs.Bytes.{PassesOn-held, PassesOn-trans, AppendsShort-passed, AppendsShort-more, AppendsShort-same, AppendsShort-flushed}}
+use Rattle.bench_io.{specs.Sinks.{SinkState, WroteShort, PassesOn}, proofs.Bytes.{WroteShort-same, WroteShort-more, WroteShort-flushed, WroteShort-passed, PassesOn-held, PassesOn-trans}}
 use Rattle.ptu_definitions.proofs.PrefixLemmas.{last_after-push}
 use Rattle.minimal_file.{specs.ShortFiles.bytes_in, proofs.ShortHeaders.bytes_in-append}
 use Rattle.record_write.{specs.Picked.{unit_of, wrap_word, wraps, photon_word, words_behind, time_or_none, last_time}, specs.Writing.{PutsWords, CutsWords}}
@@ -9,34 +9,34 @@ use Rattle.record_write.{specs.Picked.{unit_of, wrap_word, wraps, photon_word, w
 more-bytes : (held xs ys : List ℕ) → (held ++ bytes_in xs) ++ bytes_in ys ≡ held ++ bytes_in (xs ++ ys)
 more-bytes held xs ys = append_assoc held (bytes_in xs) (bytes_in ys) ∙ ap (λ l. held ++ l) (sym (bytes_in-append xs ys))
 
-pub puts-none : (a : Option (List ℕ)) (held : List ℕ) → PutsWords a a held held []
+pub puts-none : (a : SinkState) (held : List ℕ) → PutsWords a a held held []
 puts-none a held = rw append-nil (PassesOn-held a held)
 
-pub puts-more : (a b c : Option (List ℕ)) (held mid now xs ys : List ℕ)
+pub puts-more : (a b c : SinkState) (held mid now xs ys : List ℕ)
     → PutsWords a b held mid xs → PutsWords b c mid now ys → PutsWords a c held now (xs ++ ys)
 puts-more a b c held mid now xs ys p q =
     subst (λ text. PassesOn a c text now) (more-bytes held xs ys) (PassesOn-trans a b c (held ++ bytes_in xs) mid (bytes_in ys) now p q)
 
-pub cuts-behind : (a b c : Option (List ℕ)) (held mid now xs ys : List ℕ)
+pub cuts-behind : (a b c : SinkState) (held mid now xs ys : List ℕ)
     → PutsWords a b held mid xs → CutsWords b c mid now ys → CutsWords a c held now (xs ++ ys)
 cuts-behind a b c held mid now xs ys p q = record {
-  short = AppendsShort-same a c _ _ (more-bytes held xs ys) (AppendsShort-passed a b c (held ++ bytes_in xs) mid (bytes_in ys) p q.short);
+  short = WroteShort-same a c _ _ (more-bytes held xs ys) (WroteShort-passed a b c (held ++ bytes_in xs) mid (bytes_in ys) p q.short);
   empty = q.empty;
 }
 
-pub cuts-front : (a b : Option (List ℕ)) (held now xs ys : List ℕ) → CutsWords a b held now xs → CutsWords a b held now (xs ++ ys)
+pub cuts-front : (a b : SinkState) (held now xs ys : List ℕ) → CutsWords a b held now xs → CutsWords a b held now (xs ++ ys)
 cuts-front a b held now xs ys q = record {
-  short = AppendsShort-same a b _ _ (more-bytes held xs ys) (AppendsShort-more a b (held ++ bytes_in xs) (bytes_in ys) q.short);
+  short = WroteShort-same a b _ _ (more-bytes held xs ys) (WroteShort-more a b (held ++ bytes_in xs) (bytes_in ys) q.short);
   empty = q.empty;
 }
 
 -- one copy more
-pub puts-copy : (a b c : Option (List ℕ)) (held mid now : List ℕ) (n word : ℕ) → PutsWords a b held mid (replicate n word)
+pub puts-copy : (a b c : SinkState) (held mid now : List ℕ) (n word : ℕ) → PutsWords a b held mid (replicate n word)
     → PutsWords b c mid now (word ∷ []) → PutsWords a c held now (replicate (n + 1) word)
 puts-copy a b c held mid now n word p q =
     subst (λ words. PutsWords a c held now words) (replicate_more n word) (puts-more a b c held mid now (replicate n word) (word ∷ []) p q)
 
-pub cuts-copy : (a b c : Option (List ℕ)) (held mid now : List ℕ) (n count word : ℕ) → n < count
+pub cuts-copy : (a b c : SinkState) (held mid now : List ℕ) (n count word : ℕ) → n < count
     → PutsWords a b held mid (replicate n word) → CutsWords b c mid now (word ∷ []) → CutsWords a c held now (replicate count word)
 cuts-copy a b c held mid now n count word few p q =
     let whole : (n + 1) + (count - (n + 1)) ≡ count = omega arith in
@@ -58,9 +58,9 @@ pub photon-parts : (mode : Mode) (before input dtime time most units word : ℕ)
 photon-parts mode before input dtime time most units word m u w = rw (m, u, w) refl
 
 -- What a block passes on that held nothing before.
-pub short-flushed : (a b c : Option (List ℕ)) (held now words : List ℕ) → held ≡ []
-    → PutsWords a b held now words → AppendsShort b c now → AppendsShort a c (bytes_in words)
-short-flushed a b c held now words none p q = let all = rw none at p in AppendsShort-flushed a b c (bytes_in words) now all q
+pub short-flushed : (a b c : SinkState) (held now words : List ℕ) → held ≡ []
+    → PutsWords a b held now words → WroteShort b c now → WroteShort a c (bytes_in words)
+short-flushed a b c held now words none p q = let all = rw none at p in WroteShort-flushed a b c (bytes_in words) now all q
 
 pub last_time-push : (photons : List Event) (e : Event) → e.time ≡ last_time (photons ++ e ∷ [])
 last_time-push photons e = sym (ap time_or_none (last_after-push _ photons e))

@@ -1,7 +1,7 @@
 // Writes photons one after another.
-ghost use Rattle.std.{specs.Prelude.{◌≡◌, ◌≤◌, ◌↔◌, ◌++◌, ◌∷◌, [], List, Err, true, false, OnOk, OnErr, IfErr}, specs.Io.KnownBytes.Appends};
-ghost use Rattle.tally_base.{specs.declared.event.Event.Event, specs.declared.fault.Fault.TheVariants.{PickTime, WriteFault}, specs.Events.is_photon, specs.FaultCounts.FailsOnce};
-ghost use Rattle.bench_io.specs.Sinks.{AppendsShort};
+ghost use Rattle.std.specs.Prelude.{◌≡◌, ◌≤◌, ◌↔◌, ◌++◌, ◌∷◌, [], List, Err, true, false, OnOk, OnErr, IfErr};
+ghost use Rattle.tally_base.{specs.declared.event.Event.Event, specs.declared.fault.Fault.TheVariants.{PickTime, WriteFault}, specs.Events.is_photon};
+ghost use Rattle.bench_io.specs.Sinks.{Wrote, WroteShort};
 ghost use Rattle.ptu_definitions.specs.Layouts.{KindFits};
 ghost use Rattle.minimal_file.specs.ShortFiles.{bytes_in, short_header};
 ghost use Rattle.record_write.{specs.Picked.is_too_late, specs.Writing.{PutsOrCuts, WritesOrCuts, PickCause}};
@@ -53,10 +53,9 @@ impl Picker {
     /// Writes the header of the file, 112 bytes, which come before all photons.
     pub fn start<O: Sink>(&mut self, out: &mut O) -> Result<(), Fault>
         requires first { was_begun self.old ≡ false }
-        ensures all { OnOk result (Appends (O.written out.old) (O.written out.new) (short_header (mode_of self.old))) }
-        ensures short { OnErr result (AppendsShort (O.written out.old) (O.written out.new) (short_header (mode_of self.old))) }
+        ensures all { OnOk result (Wrote (O.state out.old) (O.state out.new) (short_header (mode_of self.old))) }
+        ensures short { OnErr result (WroteShort (O.state out.old) (O.state out.new) (short_header (mode_of self.old))) }
         ensures fault { IfErr result (λ fault. fault ≡ WriteFault) }
-        ensures cause { FailsOnce (O.faults out.old) (O.faults out.new) result }
         ensures starts { Starts self.old self.new result }
     {
         self.begun = true;
@@ -72,11 +71,11 @@ impl Picker {
     #[inline(always)]
     fn put_words<O: Sink>(&self, e: &Event, block: &mut OutBuffer, out: &mut O) -> Result<(), Fault>
         requires next { IsNext self.now e.now }
-        ensures puts { OnWordsOf self.now e.now (λ words. PutsOrCuts (O.written out.old)
-            (O.written out.new) block.old block.new words result) }
+        ensures puts { OnWordsOf self.now e.now (λ words. PutsOrCuts (O.state out.old)
+            (O.state out.new) block.old block.new words result) }
         ensures late { (result ≡ Err (PickTime e.now.place)) ↔ (is_too_late (mode_of self.now) e.now.time ≡ true) }
         ensures untouched { result ≡ Err (PickTime e.now.place) → (out.new ≡ out.old) × (block.new ≡ block.old) }
-        ensures cause { PickCause e.now.place (O.faults out.old) (O.faults out.new) result }
+        ensures cause { PickCause e.now.place (O.state out.old) (O.state out.new) result }
     {
         if is_too_late(self.mode, e.time) {
             return Err(Fault::PickTime { place: e.place });
@@ -106,11 +105,11 @@ impl Picker {
     ) -> Result<(), Fault>
         requires next { IsNext self.old e.now }
         ensures picks { OnOk result (Picks self.old self.new e.now) }
-        ensures puts { OnWordsOf self.old e.now (λ words. PutsOrCuts (O.written out.old)
-            (O.written out.new) block.old block.new words result) }
+        ensures puts { OnWordsOf self.old e.now (λ words. PutsOrCuts (O.state out.old)
+            (O.state out.new) block.old block.new words result) }
         ensures late { (result ≡ Err (PickTime e.now.place)) ↔ (is_too_late (mode_of self.old) e.now.time ≡ true) }
         ensures untouched { result ≡ Err (PickTime e.now.place) → (out.new ≡ out.old) × (block.new ≡ block.old) }
-        ensures cause { PickCause e.now.place (O.faults out.old) (O.faults out.new) result }
+        ensures cause { PickCause e.now.place (O.state out.old) (O.state out.new) result }
         ensures closes { OnErr result (Closes self.old self.new) }
     {
         match self.put_words(e, block, out) {
@@ -129,10 +128,10 @@ impl Picker {
     pub fn photon<O: Sink>(&mut self, e: &Event, out: &mut O) -> Result<(), Fault>
         requires next { IsNext self.old e.now }
         ensures picks { OnOk result (Picks self.old self.new e.now) }
-        ensures writes { OnWordsOf self.old e.now (λ words. WritesOrCuts (O.written out.old) (O.written out.new) words result) }
+        ensures writes { OnWordsOf self.old e.now (λ words. WritesOrCuts (O.state out.old) (O.state out.new) words result) }
         ensures late { (result ≡ Err (PickTime e.now.place)) ↔ (is_too_late (mode_of self.old) e.now.time ≡ true) }
         ensures untouched { result ≡ Err (PickTime e.now.place) → out.new ≡ out.old }
-        ensures cause { PickCause e.now.place (O.faults out.old) (O.faults out.new) result }
+        ensures cause { PickCause e.now.place (O.state out.old) (O.state out.new) result }
         ensures closes { OnErr result (Closes self.old self.new) }
     {
         let mut block = OutBuffer::new();

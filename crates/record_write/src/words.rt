@@ -1,6 +1,6 @@
 // The words of photons, put into a block on the way to a sink.
 ghost use Rattle.std.specs.Prelude.{◌≡◌, ◌-◌, ◌/◌, ◌<◌, ◌≤◌, ◌∷◌, [], replicate, OnOk, OnErr};
-ghost use Rattle.tally_base.{specs.declared.event.EventKind.TheVariants.{Photon}, specs.FaultCounts.FailsOnce};
+ghost use Rattle.tally_base.specs.declared.event.EventKind.TheVariants.{Photon};
 ghost use Rattle.ptu_definitions.specs.Layouts.{KindFits};
 ghost use Rattle.record_write.{specs.Picked.{is_too_late, unit_of, wraps, photon_word, words_behind}, specs.Writing.{PutsWords, CutsWords}};
 
@@ -69,9 +69,8 @@ fn photon_word(mode: Mode, input: u8, dtime: u16, time: u64) -> u32
 
 #[inline(always)]
 fn put_word<O: Sink>(word: u32, block: &mut OutBuffer, out: &mut O) -> Result<(), Failed>
-    ensures all { OnOk result (PutsWords (O.written out.old) (O.written out.new) block.old block.new (word ∷ [])) }
-    ensures cut { OnErr result (CutsWords (O.written out.old) (O.written out.new) block.old block.new (word ∷ [])) }
-    ensures cause { FailsOnce (O.faults out.old) (O.faults out.new) result }
+    ensures all { OnOk result (PutsWords (O.state out.old) (O.state out.new) block.old block.new (word ∷ [])) }
+    ensures cut { OnErr result (CutsWords (O.state out.old) (O.state out.new) block.old block.new (word ∷ [])) }
 {
     block.put(out, &word.to_le_bytes())
 }
@@ -83,9 +82,8 @@ fn put_copies<O: Sink>(
     block: &mut OutBuffer,
     out: &mut O,
 ) -> Result<(), Failed>
-    ensures all { OnOk result (PutsWords (O.written out.old) (O.written out.new) block.old block.new (replicate count word)) }
-    ensures cut { OnErr result (CutsWords (O.written out.old) (O.written out.new) block.old block.new (replicate count word)) }
-    ensures cause { FailsOnce (O.faults out.old) (O.faults out.new) result }
+    ensures all { OnOk result (PutsWords (O.state out.old) (O.state out.new) block.old block.new (replicate count word)) }
+    ensures cut { OnErr result (CutsWords (O.state out.old) (O.state out.new) block.old block.new (replicate count word)) }
 {
     for copy in 0..count {
         put_word(word, block, out)?;
@@ -102,9 +100,8 @@ fn put_wraps<O: Sink>(
 ) -> Result<(), Failed>
     requires some { 0 < most }
     requires small { most < 33554432 }
-    ensures all { OnOk result (PutsWords (O.written out.old) (O.written out.new) block.old block.new (wraps most units)) }
-    ensures cut { OnErr result (CutsWords (O.written out.old) (O.written out.new) block.old block.new (wraps most units)) }
-    ensures cause { FailsOnce (O.faults out.old) (O.faults out.new) result }
+    ensures all { OnOk result (PutsWords (O.state out.old) (O.state out.new) block.old block.new (wraps most units)) }
+    ensures cut { OnErr result (CutsWords (O.state out.old) (O.state out.new) block.old block.new (wraps most units)) }
 {
     put_copies(units / most, WRAP + most as u32, block, out)?;
     let rest = units % most;
@@ -128,11 +125,10 @@ pub(crate) fn put_photon<O: Sink>(
 ) -> Result<(), Failed>
     requires fits { KindFits mode (Photon input dtime) }
     requires in_order { before ≤ time }
-    ensures all { OnOk result (PutsWords (O.written out.old) (O.written out.new)
+    ensures all { OnOk result (PutsWords (O.state out.old) (O.state out.new)
         block.old block.new (words_behind mode before (Photon input dtime) time)) }
-    ensures cut { OnErr result (CutsWords (O.written out.old) (O.written out.new)
+    ensures cut { OnErr result (CutsWords (O.state out.old) (O.state out.new)
         block.old block.new (words_behind mode before (Photon input dtime) time)) }
-    ensures cause { FailsOnce (O.faults out.old) (O.faults out.new) result }
 {
     let (most, units) = units_between(mode, before, time);
     put_wraps(most, units, block, out)?;

@@ -1,15 +1,14 @@
 -- What `demo` leaves.
-use Rattle.std.{proofs.Common.{◌≡◌, ◌≤◌, ◌++◌, ℕ, List, None, Some, Ok, Err, true, refl, sym, ap, subst, ◌∙◌, inl, inr, arith, ◌≢◌, ◌⊎◌, Result, IsErrAnd, IfErr, [], OnOk, OnErr}, specs.declared.option.Option.Option, proofs.lemmas.Result.IfErr-weaker, specs.Io.KnownBytes.Appends}
-use Rattle.tally_base.{specs.declared.fault.Fault.Fault, specs.declared.fault.Fault.TheVariants.{OutOfMemory, WriteFault}, specs.declared.slot.Slot.TheVariants.Data, specs.declared.header.Mode.TheVariants.T2, specs.declared.header.RecordType.TheVariants.HydraHarp2T2, specs.Faults.{is_outside, fault_in}, specs.RecordTypes.mode_of, proofs.Reasons.HasReason-follows, specs.declared.header.Header.Header, specs.FaultCounts.FailsOnce}
-use Rattle.bench_io.{specs.Given.{Given, no_bytes, Consumes, MayFollow}, specs.Inputs.InputState, proofs.Bytes.{Appends-same, Appends-nil, Keeps-from_none}, specs.Sinks.AppendsShort}
+use Rattle.std.{proofs.Common.{◌≡◌, ◌≤◌, ◌++◌, ℕ, List, None, Some, Ok, Err, true, refl, sym, ap, subst, ◌∙◌, inl, inr, arith, ◌≢◌, ◌⊎◌, Result, IsErrAnd, IfErr, [], OnOk, OnErr}, proofs.lemmas.Result.IfErr-weaker}
+use Rattle.tally_base.{specs.declared.fault.Fault.Fault, specs.declared.fault.Fault.TheVariants.{OutOfMemory, WriteFault}, specs.declared.slot.Slot.TheVariants.Data, specs.declared.header.Mode.TheVariants.T2, specs.declared.header.RecordType.TheVariants.HydraHarp2T2, specs.Faults.{is_outside, fault_in}, specs.RecordTypes.mode_of, proofs.Reasons.HasReason-follows, specs.declared.header.Header.Header}
+use Rattle.bench_io.{specs.Given.{Given, no_bytes, Consumes, MayFollow}, specs.Inputs.InputState, specs.Sinks.{SinkState, Wrote, WroteShort}, proofs.Bytes.{Wrote-nil, Wrote-same}, proofs.Texts.WroteText-none}
 use Rattle.ptu_definitions.{specs.Headers.header_answer, specs.Words.words_of, specs.Streams.{record_refusal, streamed, summary}}
 use Rattle.plan_text.{specs.declared.plan.Plan.Plan, specs.Plan.PlanView, specs.ReadPlan.{plan_view, plan_answer}, specs.Fits.fits, proofs.Called.plan_on_literals}
 use Rattle.gate_plan.specs.Histories.{policy_of, reading_by, history}
 use Rattle.ptu_made.{specs.Generator.{made_words, photon_limit}, specs.Records.{made_file, made_header}, specs.declared.made.Made.Made, specs.Made.{made_state, made_agrees}, proofs.MadeEvents.{all-made, words-bytes, few-words, unrefused}}
 use Rattle.minimal_file.{specs.ShortFiles.{short_header, minimal_file, bytes_in}, proofs.ShortHeaders.short-answer}
 use Rattle.report_work.{specs.Reports.{reporting, reported, reports, reports_by, MayWant, CountsBy}, specs.Demo.{demo_text, demo_plan, demo_reading, demo_report}}
-use Rattle.command_work.{specs.Outcomes.{Outcome, written}, specs.Behaviours.{Alone, AtEnd, ForTables}, specs.Endings.{Cuts, EndsWith, HasCauses, WantsBehind, outcome}, specs.Works.{AnswersWork, WorkReason}, proofs.Told.all-taken, specs.Tellings.{WritesPiece, WritesEnd, Opens, unless_declined, headed_end}, proofs.RestEnds.opens-misfit}
-use Rattle.streamed_text.proofs.Texts.{WroteText-none}
+use Rattle.command_work.{specs.Outcomes.{Outcome, written}, specs.Behaviours.{Alone, AtEnd, ForTables}, specs.Endings.{Cuts, EndsWith, HasCauses, WantsBehind, outcome}, specs.Works.{AnswersWork, WorkReason}, proofs.Told.all-taken, specs.RecordsWork.{WritesPiece, WritesEnd, Opens, unless_declined, headed_end}, proofs.RestEnds.opens-misfit}
 use Rattle.tally_engine.{specs.declared.engine.Engine.Engine, specs.Engine.{header_of, engine_sorting, reading_of, refused_by, HasFed, IsFor, SameEngine, IsCounted, OpensAs}}
 use Rattle.tally_engine.{specs.declared.results.Results.Results, specs.Parts.settings_in}
 use Rattle.table_out.{specs.Report.{Table, report, with_events, EachHolds}, proofs.Putting.each_holds_all}
@@ -70,22 +69,22 @@ module _ (seed count : ℕ) (plan : PlanView) (few : count ≤ photon_limit) (sa
       (is.more, is.may_follow, ap (reporting plan).outcome whole ∙ ap (λ (view : PlanView). (reporting view).outcome file) same_plan ∙ made-report seed count few)
 
   -- the report was written, or a fault from outside came
-  pub ends-demo : (after : Made) (start : Given) (old new : Option (List ℕ)) (r : Result (Unit {0}) Fault) → start ≡ no_bytes → (made_state after).told Data ≡ Some (made_file seed count) → AnswersWork (reporting plan) start ((made_state after).given Data) old new r
+  pub ends-demo : (after : Made) (start : Given) (old new : SinkState) (r : Result (Unit {0}) Fault) → start ≡ no_bytes → (made_state after).told Data ≡ Some (made_file seed count) → AnswersWork (reporting plan) start ((made_state after).given Data) old new r
       → IsErrAnd r (λ fault. is_outside fault ≡ true) ⊎ EndsWith (written (demo_report seed count)) (fault_in r) old new
   ends-demo after start old new r none told (inl outside) = inl outside
   ends-demo after start old new r none told (inr h) =
       let is = demo-told after start h.taken none told h.consumes in
       let end = sym (h.says.means is.0 is.1) ∙ is.2 in
-      inr (record { same = ap (λ (end : Outcome). end.fault) end; text = Appends-same old new _ _ (ap (λ (end : Outcome). end.text) end) h.written })
+      inr (record { same = ap (λ (end : Outcome). end.fault) end; text = Wrote-same old new _ _ (ap (λ (end : Outcome). end.text) end) h.written })
 
   -- no read of the made file fails
-  pub demo-causes : (before after : Made) (state : InputState) (old new : Option (List ℕ)) (faults now : ℕ) (r : Result (Unit {0}) Fault) → (made_state before).given Data ≡ no_bytes → (made_state after).told Data ≡ Some (made_file seed count)
+  pub demo-causes : (before after : Made) (state : InputState) (old new : SinkState) (r : Result (Unit {0}) Fault) → (made_state before).given Data ≡ no_bytes → (made_state after).told Data ≡ Some (made_file seed count)
       → IfErr r (WorkReason AtEnd (WantsBehind ForTables plan) (reporting plan)
-      (record { before = made_state before; after = made_state after; old = old; new = new; faults_before = faults; faults_after = now }))
+      (record { before = made_state before; after = made_state after; old = old; new = new }))
       → IfErr r (HasCauses (Alone (written (demo_report seed count)))
-      (record { before = state; after = state; old = old; new = new; faults_before = faults; faults_after = now }))
+      (record { before = state; after = state; old = old; new = new }))
   unfolding HasCauses outcome made_state
-  demo-causes before after state old new faults now r none told reason =
+  demo-causes before after state old new r none told reason =
       IfErr-weaker r _ _
       (λ fault h.
       HasReason-follows _ _ _ _ _ _ _ _ fault
@@ -124,9 +123,9 @@ reports-same plan own header suits same =
 
 -- ## A piece
 
-pub writes-fed : (plan : PlanView) (engine : Engine) (bytes piece : List ℕ) (a : Option (List ℕ)) (faults : ℕ) (r : Result (Unit {0}) Fault) → IsFor engine plan (header_of engine) → fault_in r ≡ record_refusal (reading_of engine) (words_of (bytes ++ piece)) → WritesPiece (reports plan (header_of engine)) bytes piece a a faults faults r
-writes-fed plan engine bytes piece a faults (Ok done) is same = (rw is.reads at (sym same), WroteText-none [] a faults)
-writes-fed plan engine bytes piece a faults (Err fault) is same = inl (rw is.reads at (sym same), WroteText-none [] a faults)
+pub writes-fed : (plan : PlanView) (engine : Engine) (bytes piece : List ℕ) (a : SinkState) (r : Result (Unit {0}) Fault) → IsFor engine plan (header_of engine) → fault_in r ≡ record_refusal (reading_of engine) (words_of (bytes ++ piece)) → WritesPiece (reports plan (header_of engine)) bytes piece a a r
+writes-fed plan engine bytes piece a (Ok done) is same = (rw is.reads at (sym same), WroteText-none [] a)
+writes-fed plan engine bytes piece a (Err fault) is same = inl (rw is.reads at (sym same), WroteText-none [] a)
 
 pub takes-fed : (plan : PlanView) (old new : Engine) (piece : List ℕ) (r : Result (Unit {0}) Fault) → SameEngine old new → refused_by new ≡ fault_in r → ((bytes : List ℕ) → HasFed old bytes → HasFed new (bytes ++ piece)) → OnOk r ((bytes : List ℕ) → CountsBy plan old bytes → CountsBy plan new (bytes ++ piece))
 takes-fed plan old new piece (Ok done) same refused taken =
@@ -135,22 +134,22 @@ takes-fed plan old new piece (Err fault) same refused taken = tt
 
 -- ## An engine that wasn't opened
 
-pub opens-unopened : (plan : PlanView) (header : Header) (a : Option (List ℕ)) (faults : ℕ) (fault : Fault)
+pub opens-unopened : (plan : PlanView) (header : Header) (a : SinkState) (fault : Fault)
     → OpensAs {A = Engine} (mode_of header.record_type) plan (Err fault)
-    → Opens {X = Unit {0}} (reports_by plan header) (MayWant plan header) a a faults faults (Err fault)
-opens-unopened plan header a faults fault (inl misfit) =
-    opens-misfit (Unit {0}) (reports plan header) _ a a faults faults (fits (mode_of header.record_type) plan) fault misfit
-opens-unopened plan header a faults fault (inr h) = inr (h.1, (h.2, h.0), Keeps-from_none a a (Appends-nil a), refl)
+    → Opens {X = Unit {0}} (reports_by plan header) (MayWant plan header) a a (Err fault)
+opens-unopened plan header a fault (inl misfit) =
+    opens-misfit (Unit {0}) (reports plan header) _ a a (fits (mode_of header.record_type) plan) fault misfit
+opens-unopened plan header a fault (inr h) = inr (h.1, (h.2, h.0), Wrote-nil a)
 
 -- ## The end
 
 module _ (plan : PlanView) (engine : Engine) (bytes : List ℕ) (is : IsFor engine plan (header_of engine)) where
   -- records that are refused, or a cut one
-  pub ends-refused : (fault : Fault) (a : Option (List ℕ)) (faults : ℕ) → streamed (reading_of engine) bytes ≡ Err fault
-      → WritesEnd (reports plan (header_of engine)) bytes a a faults faults (Err fault)
-  ends-refused fault a faults refused =
+  pub ends-refused : (fault : Fault) (a : SinkState) → streamed (reading_of engine) bytes ≡ Err fault
+      → WritesEnd (reports plan (header_of engine)) bytes a a (Err fault)
+  ends-refused fault a refused =
       let ends = ap (reported plan (header_of engine) bytes) (rw is.reads at refused) in
-      inl (ap (λ (o : Outcome). o.fault) ends, record { more = []; adds = ap (λ (o : Outcome). o.text) ends; written = Appends-nil a; kept = refl })
+      inl (ap (λ (o : Outcome). o.fault) ends, record { more = []; adds = ap (λ (o : Outcome). o.text) ends; wrote = Wrote-nil a })
 
   module _ (results : Results) (counted : IsCounted engine bytes results) where
     abbrev tables : List Table
@@ -165,9 +164,8 @@ module _ (plan : PlanView) (engine : Engine) (bytes : List ℕ) (is : IsFor engi
         ∙ rw (counted.header_is, counted.parts_are, is.parts_are, is.sorting_is, is.reads) refl
 
     -- the report was written, or cut short
-    pub ends-reported : (r : Result (Unit {0}) Fault) (old new : Option (List ℕ)) (before after : ℕ) → OnOk r ((tables : List Table) → EachHolds results.parts.items tables → Appends old new (report results.header results.summary tables))
-        → OnErr r ((tables : List Table) → EachHolds results.parts.items tables → AppendsShort old new (report results.header results.summary tables))
-        → IfErr r (λ fault. fault ≡ WriteFault) → FailsOnce before after r
-        → WritesEnd (reports plan (header_of engine)) bytes old new before after r
-    ends-reported (Ok done) old new before after text short write cause = (ap (λ (o : Outcome). o.fault) ends-counted, record { more = report results.header results.summary tables; adds = ap (λ (o : Outcome). o.text) ends-counted; written = text tables each-holds; kept = cause.kept })
-    ends-reported (Err fault) old new before after text short write cause = inr (write, record { more = report results.header results.summary tables; adds = ap (λ (o : Outcome). o.text) ends-counted; cut = short tables each-holds; rose = cause.once })
+    pub ends-reported : (r : Result (Unit {0}) Fault) (old new : SinkState) → OnOk r ((tables : List Table) → EachHolds results.parts.items tables → Wrote old new (report results.header results.summary tables))
+        → OnErr r ((tables : List Table) → EachHolds results.parts.items tables → WroteShort old new (report results.header results.summary tables))
+        → IfErr r (λ fault. fault ≡ WriteFault) → WritesEnd (reports plan (header_of engine)) bytes old new r
+    ends-reported (Ok done) old new text short write = (ap (λ (o : Outcome). o.fault) ends-counted, record { more = report results.header results.summary tables; adds = ap (λ (o : Outcome). o.text) ends-counted; wrote = text tables each-holds })
+    ends-reported (Err fault) old new text short write = inr (write, record { more = report results.header results.summary tables; adds = ap (λ (o : Outcome). o.text) ends-counted; cut = short tables each-holds })

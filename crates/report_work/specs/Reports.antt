@@ -5,7 +5,7 @@ use Rattle.ptu_definitions.{specs.declared.records.Summary.Summary, specs.Words.
 use Rattle.plan_text.{specs.Plan.{PlanView, parts_of}, specs.Fits.fits}
 use Rattle.gate_plan.{specs.Shifting.sorting, specs.Histories.{history, reading_by}}
 use Rattle.table_out.specs.Report.{report, with_events}
-use Rattle.command_work.{specs.Outcomes.{Outcome, refused, written}, specs.Behaviours.{Work, AreRead, IsHeaded}, specs.Tellings.{Telling, if_suited, headed_work}}
+use Rattle.command_work.{specs.Outcomes.{Outcome, refused, written}, specs.Behaviours.{Work, AreRead, IsHeaded}, specs.RecordsWork.{RecordsWork, if_suited, headed_work}}
 use Rattle.tally_engine.{specs.declared.engine.Engine.Engine, specs.Engine.{HasFed, header_of, refused_by, IsFor}}
 
 -- what the records after a header end with: the report, where none is refused
@@ -14,7 +14,7 @@ reported plan header bytes (Ok summary) = written (report header summary (with_e
 reported plan header bytes (Err fault) = refused fault
 
 -- the report at their end
-abbrev pub reports : PlanView → Header → Telling
+abbrev pub reports : PlanView → Header → RecordsWork
 reports plan header = record {
   text = λ bytes. [];
   ends = λ bytes. reported plan header bytes (streamed (reading_by plan header) bytes);
@@ -22,7 +22,7 @@ reports plan header = record {
 }
 
 -- where the plan's parts suit the file
-abbrev pub reports_by : PlanView → Header → Telling
+abbrev pub reports_by : PlanView → Header → RecordsWork
 reports_by plan = if_suited plan (reports plan)
 
 -- a plan of any parts will do

@@ -6,7 +6,7 @@ use Rattle.plan_text.specs.Plan.{PlanView}
 use Rattle.record_stream.proofs.Lasts.{streamed-shown, streamed-clear}
 use Rattle.tally_engine.{specs.declared.engine.Engine.Engine, specs.Engine.header_of}
 use Rattle.gate_plan.specs.Histories.{reading_by}
-use Rattle.command_work.{specs.Behaviours.{AtEnd, ForTables}, specs.Endings.WantsBehind, specs.Tellings.{IsText, IsAllOrNothing, Suits}, proofs.RestEnds.{suited-law, declined-late, suits-at_end}}
+use Rattle.command_work.{specs.Behaviours.{AtEnd, ForTables}, specs.Endings.WantsBehind, specs.RecordsWork.{IsText, IsAllOrNothing, Suits}, proofs.RestEnds.{suited-law, declined-late, suits-at_end}}
 use Rattle.report_work.specs.Reports.{reported, reporting, reports, reports_by, MayWant, CountsBy}
 
 pub ends-fault : (plan : PlanView) (header : Header) (bytes : List ℕ) (r : Result Summary Fault) → (reported plan header bytes r).fault ≡ fault_in r

@@ -59,11 +59,11 @@ fn made_data(seed: u64, count: u64) -> Made
 pub fn demo<O: Sink>(alloc: Global, out: &mut O, seed: u64, count: u64) -> Result<(), Fault>
     requires { count ≤ photon_limit }
     ensures answer { (state : InputState) → Answers (Alone (written (demo_report seed count))) state
-        result (O.written out.old) (O.written out.new) }
+        result (O.state out.old) (O.state out.new) }
     ensures causes { (state : InputState)
         → IfErr result (HasCauses (Alone (written (demo_report seed count)))
         (alone_span O.Sink state out.old out.new)) }
-    ensures once { OutOnce (fault_in result) (O.faults out.old) (O.faults out.new) }
+    ensures once { OutOnce (fault_in result) (O.state out.old) (O.state out.new) }
 {
     let plan = read_plan(alloc, DEMO_PLAN)?;
     let mut made = made_data(seed, count);

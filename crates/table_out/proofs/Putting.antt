@@ -1,6 +1,6 @@
 -- More text is put after a text, whatever the tables stand for.
-use Rattle.std.{proofs.Common.{◌≡◌, ℕ, zero, suc, ◌+◌, ◌-◌, ◌<◌, List, [], ◌++◌, refl, sym, ap, ◌∙◌, append_assoc, append-nil, arith, ◌≤◌, ◌∷◌, take, drop, get_or, length, subst, take-append-drop, Bool, count_by, cond, fold}, specs.declared.option.Option.Option, proofs.lemmas.List.{take_all, take_more}, proofs.lemmas.List.Elements.{All-head, All-tail}}
-use Rattle.bench_io.{specs.Sinks.{AppendsShort, PassesOn}, proofs.Bytes.{PassesOn-held, PassesOn-trans, AppendsShort-passed, AppendsShort-more, AppendsShort-same}}
+use Rattle.std.{proofs.Common.{◌≡◌, ℕ, zero, suc, ◌+◌, ◌-◌, ◌<◌, List, [], ◌++◌, refl, sym, ap, ◌∙◌, append_assoc, append-nil, arith, ◌≤◌, ◌∷◌, take, drop, get_or, length, subst, take-append-drop, Bool, count_by, cond, fold}, proofs.lemmas.List.{take_all, take_more}, proofs.lemmas.List.Elements.{All-head, All-tail}}
+use Rattle.bench_io.{specs.Sinks.{SinkState, WroteShort, PassesOn}, proofs.Bytes.{WroteShort-same, WroteShort-more, WroteShort-passed, PassesOn-held, PassesOn-trans}}
 use Rattle.table_out.{specs.Printed.{texts, texts_of}, specs.Report.{PutsText, CutsText, Table, StandsFor, EachHolds, same_kind, part_text, table_text, parts_text, with_events}}
 use Rattle.tally_base.{specs.Settings.PartSettings, specs.Tally.History}
 use Rattle.ptu_definitions.{specs.Prefixes.each_after, proofs.PrefixLemmas.{each-push, each_after-append}}
@@ -20,44 +20,44 @@ texts-front text n (suc k) m e =
     (fewer.0 ++ next, rw is (ap (λ l. l ++ next) fewer.1 ∙ append_assoc (texts text n) fewer.0 next))
 
 module _ {A : Type 0} (holds : A → Type 0) where
-  pub puts-none : (a : Option (List ℕ)) (held : List ℕ) → PutsText holds (λ h. []) a a held held
+  pub puts-none : (a : SinkState) (held : List ℕ) → PutsText holds (λ h. []) a a held held
   puts-none a held h is = rw (append-nil held) (PassesOn-held a held)
 
   -- a piece is put that is the text
-  pub puts-piece : (text : A → List ℕ) (piece : List ℕ) (a b : Option (List ℕ)) (held now : List ℕ)
+  pub puts-piece : (text : A → List ℕ) (piece : List ℕ) (a b : SinkState) (held now : List ℕ)
       → ((h : A) → holds h → piece ≡ text h) → PassesOn a b (held ++ piece) now → PutsText holds text a b held now
   puts-piece text piece a b held now same put h is = rw (← same h is) put
 
-  pub cuts-piece : (text : A → List ℕ) (piece : List ℕ) (a b : Option (List ℕ)) (held : List ℕ)
-      → ((h : A) → holds h → piece ≡ text h) → AppendsShort a b (held ++ piece) → CutsText holds text a b held
+  pub cuts-piece : (text : A → List ℕ) (piece : List ℕ) (a b : SinkState) (held : List ℕ)
+      → ((h : A) → holds h → piece ≡ text h) → WroteShort a b (held ++ piece) → CutsText holds text a b held
   cuts-piece text piece a b held same cut h is = rw (← same h is) cut
 
-  pub puts-more : (text next : A → List ℕ) (a b c : Option (List ℕ)) (held mid now : List ℕ) → PutsText holds text a b held mid
+  pub puts-more : (text next : A → List ℕ) (a b c : SinkState) (held mid now : List ℕ) → PutsText holds text a b held mid
       → PutsText holds next b c mid now → PutsText holds (λ h. text h ++ next h) a c held now
   puts-more text next a b c held mid now first then' h is =
       rw (← append_assoc held (text h) (next h)) (PassesOn-trans a b c (held ++ text h) mid (next h) now (first h is) (then' h is))
 
   -- the sink fails after a text
-  pub cuts-behind : (text next : A → List ℕ) (a b c : Option (List ℕ)) (held mid : List ℕ)
+  pub cuts-behind : (text next : A → List ℕ) (a b c : SinkState) (held mid : List ℕ)
       → PutsText holds text a b held mid → CutsText holds next b c mid → CutsText holds (λ h. text h ++ next h) a c held
   cuts-behind text next a b c held mid first then' h is =
-      AppendsShort-same a c _ _ (append_assoc held (text h) (next h)) (AppendsShort-passed a b c (held ++ text h) mid (next h) (first h is) (then' h is))
+      WroteShort-same a c _ _ (append_assoc held (text h) (next h)) (WroteShort-passed a b c (held ++ text h) mid (next h) (first h is) (then' h is))
 
   -- a text that is cut has more after it
-  pub cuts-front : (text whole : A → List ℕ) (a b : Option (List ℕ)) (held : List ℕ)
+  pub cuts-front : (text whole : A → List ℕ) (a b : SinkState) (held : List ℕ)
       → ((h : A) → (rest : List ℕ) × (whole h ≡ text h ++ rest)) → CutsText holds text a b held → CutsText holds whole a b held
   cuts-front text whole a b held begins cut h is =
       let more = begins h in
-      AppendsShort-same a b _ _ (append_assoc held (text h) more.0 ∙ ap (λ l. held ++ l) (sym more.1))
-      (AppendsShort-more a b (held ++ text h) more.0 (cut h is))
+      WroteShort-same a b _ _ (append_assoc held (text h) more.0 ∙ ap (λ l. held ++ l) (sym more.1))
+      (WroteShort-more a b (held ++ text h) more.0 (cut h is))
 
   -- the text of one place more is put
-  pub puts-next : (text : ℕ → A → List ℕ) (n : ℕ) (a b c : Option (List ℕ)) (held mid now : List ℕ) → PutsText holds (texts_of text n) a b held mid → PutsText holds (text n) b c mid now → PutsText holds (texts_of text (n + 1)) a c held now
+  pub puts-next : (text : ℕ → A → List ℕ) (n : ℕ) (a b c : SinkState) (held mid now : List ℕ) → PutsText holds (texts_of text n) a b held mid → PutsText holds (text n) b c mid now → PutsText holds (texts_of text (n + 1)) a c held now
   puts-next text n a b c held mid now so_far next h is =
       rw (texts-push (λ place. text place h) n) (puts-more (texts_of text n) (text n) a b c held mid now so_far next h is)
 
   -- the sink fails in the text of a place
-  pub cuts-next : (text : ℕ → A → List ℕ) (n size : ℕ) (a b c : Option (List ℕ)) (held mid : List ℕ) → n < size → PutsText holds (texts_of text n) a b held mid → CutsText holds (text n) b c mid → CutsText holds (texts_of text size) a c held
+  pub cuts-next : (text : ℕ → A → List ℕ) (n size : ℕ) (a b c : SinkState) (held mid : List ℕ) → n < size → PutsText holds (texts_of text n) a b held mid → CutsText holds (text n) b c mid → CutsText holds (texts_of text size) a c held
   cuts-next text n size a b c held mid inside so_far cut =
       cuts-front (texts_of text (suc n)) (texts_of text size) a c held
       (λ h. texts-front (λ place. text place h) (suc n) (size - suc n) size (omega (arith, inside)))
@@ -140,14 +140,14 @@ module _ (parts : List Part) (n number : ℕ) (p : Part) (inside : n < length pa
       ∙ ap (λ k. first_texts n tables ++ part_text k (ghosts.settings p) it.1) place
 
   -- one table more
-  pub puts-part : (a b c : Option (List ℕ)) (held mid now : List ℕ) → PutsText (EachHolds parts) (first_texts n) a b held mid
+  pub puts-part : (a b c : SinkState) (held mid now : List ℕ) → PutsText (EachHolds parts) (first_texts n) a b held mid
       → PutsText (ghosts.holds p) (part_text number (ghosts.settings p)) b c mid now → PutsText (EachHolds parts) (first_texts (n + 1)) a c held now
   puts-part a b c held mid now so_far put tables each =
       rw (more tables each) (puts-more (EachHolds parts) (first_texts n) text_there a b c held mid now so_far
       (λ tables each. put (table_there tables).1 (stands tables each).1) tables each)
 
   -- the sink fails in a table
-  pub cuts-part : (a b c : Option (List ℕ)) (held mid : List ℕ) → PutsText (EachHolds parts) (first_texts n) a b held mid
+  pub cuts-part : (a b c : SinkState) (held mid : List ℕ) → PutsText (EachHolds parts) (first_texts n) a b held mid
       → CutsText (ghosts.holds p) (part_text number (ghosts.settings p)) b c mid → CutsText (EachHolds parts) parts_text a c held
   cuts-part a b c held mid so_far cut =
       cuts-front (EachHolds parts) (first_texts (n + 1)) parts_text a c held (λ tables. first_texts-front tables (n + 1))

@@ -1,11 +1,11 @@
 -- What the report of a run prints.
-use Rattle.std.{specs.Str.bytes_eq, specs.Prelude.{ℕ, ◌≡◌, ◌+◌, Bool, List, [], ◌∷◌, ◌++◌, count_by, map, codes, decimal}, specs.declared.option.Option.Option}
+use Rattle.std.{specs.Str.bytes_eq, specs.Prelude.{ℕ, ◌≡◌, ◌+◌, Bool, List, [], ◌∷◌, ◌++◌, count_by, map, codes, decimal}}
 use Rattle.tally_base.{specs.declared.header.Header.Header, specs.RecordTypes.name_of, specs.Settings.PartSettings, specs.Settings.PartSettings.{HistSettings, TraceSettings, StartStopSettings, CoincidenceSettings, ImageSettings, CorrelationSettings, CubeSettings, FoldSettings}, specs.Tally.History}
 use Rattle.ptu_definitions.{specs.declared.records.Summary.Summary, specs.Prefixes.each}
 use Rattle.tally_engine.{specs.declared.part.Part.Part, specs.declared.results.Results.Results, specs.contracts.part.PartTally.TheImpl.ghosts}
 use Rattle.list_out.specs.Lines.{line, announced, bits_text, time_text}
 use Rattle.table_out.{specs.Printed.{Printed, table_lines}, specs.Histogram.histogram_printed, specs.Trace.trace_printed, specs.StartStop.startstop_printed, specs.Coincidence.coincidence_printed, specs.Image.image_printed, specs.Correlation.correlation_printed, specs.Cube.cube_printed, specs.Fold.fold_printed}
-use Rattle.bench_io.specs.Sinks.{AppendsShort, PassesOn}
+use Rattle.bench_io.specs.Sinks.{SinkState, WroteShort, PassesOn}
 
 -- what stands before the tables
 unfoldable pub head_text : Header → Summary → List ℕ
@@ -72,9 +72,9 @@ EachHolds (p ∷ parts) (table ∷ tables) = StandsFor p table × EachHolds part
 -- What is put into a block of a text that depends on the events of a table, or of tables.
 
 -- For everything that the table or the tables may stand for, the text is put after the bytes that the block held.
-abbrev pub PutsText : {A : Type 0} → (A → Type 0) → (A → List ℕ) → Option (List ℕ) → Option (List ℕ) → List ℕ → List ℕ → Type 0
+abbrev pub PutsText : {A : Type 0} → (A → Type 0) → (A → List ℕ) → SinkState → SinkState → List ℕ → List ℕ → Type 0
 PutsText {A} holds text old new held now = (h : A) → holds h → PassesOn old new (held ++ text h) now
 
 -- The sink has failed, and has only a beginning of them.
-abbrev pub CutsText : {A : Type 0} → (A → Type 0) → (A → List ℕ) → Option (List ℕ) → Option (List ℕ) → List ℕ → Type 0
-CutsText {A} holds text old new held = (h : A) → holds h → AppendsShort old new (held ++ text h)
+abbrev pub CutsText : {A : Type 0} → (A → Type 0) → (A → List ℕ) → SinkState → SinkState → List ℕ → Type 0
+CutsText {A} holds text old new held = (h : A) → holds h → WroteShort old new (held ++ text h)

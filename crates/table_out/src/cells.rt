@@ -1,6 +1,7 @@
 // The lines of a table of cells.
 ghost use Rattle.std.specs.Prelude.{◌≡◌, ◌<◌, ◌≤◌, true, length, OnOk, OnErr, codes, decimal};
-ghost use Rattle.tally_base.{specs.FaultCounts.{FailsOnce}, specs.Tally.{History}};
+ghost use Rattle.bench_io.specs.Sinks.{CountsFault};
+ghost use Rattle.tally_base.specs.Tally.{History};
 ghost use Rattle.list_out.specs.Lines.{line};
 ghost use Rattle.table_out.{specs.Printed.{cell_line, pair_line, row_lines, cell_lines, first_line}, specs.Report.{PutsText, CutsText, printed, part_text}};
 
@@ -90,11 +91,11 @@ fn put_row<T: Prints, O: Sink>(
     requires row { row < (printed (T.settings table.now)).rows }
     ensures all { OnOk result (PutsText (T.holds table.now)
         (row_lines (printed (T.settings table.now)) row)
-        (O.written out.old) (O.written out.new) block.old block.new) }
+        (O.state out.old) (O.state out.new) block.old block.new) }
     ensures short { OnErr result (CutsText (T.holds table.now)
         (row_lines (printed (T.settings table.now)) row)
-        (O.written out.old) (O.written out.new) block.old) }
-    ensures cause { FailsOnce (O.faults out.old) (O.faults out.new) result }
+        (O.state out.old) (O.state out.new) block.old) }
+    ensures cause { CountsFault (O.state out.old) (O.state out.new) result }
 {
     let mut line = [0; LINE_SIZE];
     for column in 0..table.column_count(row) {
@@ -108,11 +109,11 @@ fn put_rows<T: Prints, O: Sink>(table: &T, block: &mut OutBuffer, out: &mut O) -
     requires closed { T.closed table.now ≡ true }
     ensures all { OnOk result (PutsText (T.holds table.now)
         (cell_lines (printed (T.settings table.now)))
-        (O.written out.old) (O.written out.new) block.old block.new) }
+        (O.state out.old) (O.state out.new) block.old block.new) }
     ensures short { OnErr result (CutsText (T.holds table.now)
         (cell_lines (printed (T.settings table.now)))
-        (O.written out.old) (O.written out.new) block.old) }
-    ensures cause { FailsOnce (O.faults out.old) (O.faults out.new) result }
+        (O.state out.old) (O.state out.new) block.old) }
+    ensures cause { CountsFault (O.state out.old) (O.state out.new) result }
 {
     for row in 0..table.row_count() {
         put_row(table, row, block, out)?;
@@ -143,11 +144,11 @@ pub(crate) fn put_table<T: Prints, O: Sink>(
     requires closed { T.closed table.now ≡ true }
     ensures all { OnOk result (PutsText (T.holds table.now)
         (part_text number (T.settings table.now))
-        (O.written out.old) (O.written out.new) block.old block.new) }
+        (O.state out.old) (O.state out.new) block.old block.new) }
     ensures short { OnErr result (CutsText (T.holds table.now)
         (part_text number (T.settings table.now))
-        (O.written out.old) (O.written out.new) block.old) }
-    ensures cause { FailsOnce (O.faults out.old) (O.faults out.new) result }
+        (O.state out.old) (O.state out.new) block.old) }
+    ensures cause { CountsFault (O.state out.old) (O.state out.new) result }
 {
     block.put(out, first_line(number, table).as_slice())?;
     put_rows(table, block, out)?;

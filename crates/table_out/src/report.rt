@@ -1,7 +1,6 @@
 // The report of a run.
-ghost use Rattle.std.{specs.Prelude.{◌≡◌, ◌+◌, ◌≤◌, true, List, count_by, OnOk, OnErr, IfErr}, specs.Io.KnownBytes.{Appends}};
-ghost use Rattle.bench_io.specs.Sinks.{AppendsShort};
-ghost use Rattle.tally_base.specs.FaultCounts.{FailsOnce};
+ghost use Rattle.std.specs.Prelude.{◌≡◌, ◌+◌, ◌≤◌, true, List, count_by, OnOk, OnErr, IfErr};
+ghost use Rattle.bench_io.specs.Sinks.{CountsFault, Wrote, WroteShort};
 ghost use Rattle.tally_engine.specs.Parts.{settings_in, AllClosed};
 ghost use Rattle.table_out.specs.Report.{Table, EachHolds, printed, same_kind, part_text, parts_text, report_of, PutsText, CutsText};
 
@@ -48,11 +47,11 @@ fn put_part<O: Sink>(
     requires closed { ⟦<Part as Tally>⟧.closed part.now ≡ true }
     ensures all { OnOk result (PutsText (⟦<Part as Tally>⟧.holds part.now)
         (part_text number (⟦<Part as Tally>⟧.settings part.now))
-        (O.written out.old) (O.written out.new) block.old block.new) }
+        (O.state out.old) (O.state out.new) block.old block.new) }
     ensures short { OnErr result (CutsText (⟦<Part as Tally>⟧.holds part.now)
         (part_text number (⟦<Part as Tally>⟧.settings part.now))
-        (O.written out.old) (O.written out.new) block.old) }
-    ensures cause { FailsOnce (O.faults out.old) (O.faults out.new) result }
+        (O.state out.old) (O.state out.new) block.old) }
+    ensures cause { CountsFault (O.state out.old) (O.state out.new) result }
 {
     in_part!(part, table => put_table(number, table, block, out))
 }
@@ -61,9 +60,9 @@ fn put_part<O: Sink>(
 fn put_parts<O: Sink>(parts: &[Part], block: &mut OutBuffer, out: &mut O) -> Result<(), Failed>
     requires closed { AllClosed parts.now }
     ensures all { OnOk result (PutsText (EachHolds parts.now) parts_text
-        (O.written out.old) (O.written out.new) block.old block.new) }
-    ensures short { OnErr result (CutsText (EachHolds parts.now) parts_text (O.written out.old) (O.written out.new) block.old) }
-    ensures cause { FailsOnce (O.faults out.old) (O.faults out.new) result }
+        (O.state out.old) (O.state out.new) block.old block.new) }
+    ensures short { OnErr result (CutsText (EachHolds parts.now) parts_text (O.state out.old) (O.state out.new) block.old) }
+    ensures cause { CountsFault (O.state out.old) (O.state out.new) result }
 {
     for (place, part) in parts.iter().enumerate() {
         let number = number_of(&parts[..place], part);
@@ -76,12 +75,12 @@ fn put_parts<O: Sink>(parts: &[Part], block: &mut OutBuffer, out: &mut O) -> Res
 fn put_report<O: Sink>(results: &Results, out: &mut O) -> Result<(), Failed>
     requires closed { AllClosed results.now.parts.items }
     ensures text { OnOk result ((tables : List Table) → EachHolds results.now.parts.items tables
-        → Appends (O.written out.old) (O.written out.new)
+        → Wrote (O.state out.old) (O.state out.new)
         (report_of results.now tables)) }
     ensures short { OnErr result ((tables : List Table) → EachHolds results.now.parts.items tables
-        → AppendsShort (O.written out.old) (O.written out.new)
+        → WroteShort (O.state out.old) (O.state out.new)
         (report_of results.now tables)) }
-    ensures cause { FailsOnce (O.faults out.old) (O.faults out.new) result }
+    ensures cause { CountsFault (O.state out.old) (O.state out.new) result }
 {
     let mut block = OutBuffer::new();
     let head = report_head(&results.header, &results.summary);
@@ -101,13 +100,13 @@ fn put_report<O: Sink>(results: &Results, out: &mut O) -> Result<(), Failed>
 pub fn write_report<O: Sink>(results: &Results, out: &mut O) -> Result<(), Fault>
     requires closed { AllClosed results.now.parts.items }
     ensures text { OnOk result ((tables : List Table) → EachHolds results.now.parts.items tables
-        → Appends (O.written out.old) (O.written out.new)
+        → Wrote (O.state out.old) (O.state out.new)
         (report_of results.now tables)) }
     ensures short { OnErr result ((tables : List Table) → EachHolds results.now.parts.items tables
-        → AppendsShort (O.written out.old) (O.written out.new)
+        → WroteShort (O.state out.old) (O.state out.new)
         (report_of results.now tables)) }
     ensures fault { IfErr result (λ fault. fault ≡ Fault.WriteFault) }
-    ensures cause { FailsOnce (O.faults out.old) (O.faults out.new) result }
+    ensures cause { CountsFault (O.state out.old) (O.state out.new) result }
 {
     match put_report(results, out) {
         Ok(()) => Ok(()),

@@ -6,7 +6,7 @@ use Rattle.plan_text.specs.Plan.{PlanView}
 use Rattle.gate_plan.{specs.Shifting.{Sorting, sorting}, specs.Histories.reading_by}
 use Rattle.record_stream.{specs.declared.stream.RecordStream.RecordStream, specs.Standing.how_of, proofs.Lasts.streamed-clear}
 use Rattle.long_trace.specs.declared.trace.LongTrace.{LongTrace}
-use Rattle.command_work.{specs.Behaviours.AsItReads, specs.Works.WantsNone, specs.Tellings.{IsText, headed_work, headed_so_far, Suits}, proofs.RestEnds.{suited-law, suits-as_it_reads}}
+use Rattle.command_work.{specs.Behaviours.AsItReads, specs.Works.WantsNone, specs.RecordsWork.{IsText, headed_work, headed_so_far, Suits}, proofs.RestEnds.{suited-law, suits-as_it_reads}}
 use Rattle.trace_work.{specs.TraceOutcomes.{trace_of, traces, traces_by, trace_so_far, tracing}, specs.TracePieces.HasTraced, specs.TraceTexts.{text-front, refused-ends, ends-fault}}
 
 pub traces-law : (set : TraceSet) (by : Sorting) (how : StreamSettings) → IsText (traces (trace_view set) by how)

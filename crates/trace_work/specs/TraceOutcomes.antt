@@ -5,8 +5,8 @@ use Rattle.ptu_definitions.{specs.declared.records.Summary.Summary, specs.Words.
 use Rattle.plan_text.{specs.Plan.{PlanView, parts_of}, specs.Fits.fits}
 use Rattle.gate_plan.{specs.Shifting.{Sorting, sorting}, specs.Histories.{history, settled_history, reading_by, with_groups}}
 use Rattle.long_trace.{specs.Texts.{open_text, whole_text}, specs.declared.trace.LongTrace.LongTrace, specs.LongTrace.{Holds, GivenMore, set_of}, proofs.Steps.GivenMore-nil}
-use Rattle.command_work.{specs.Outcomes.{Outcome, written}, specs.Behaviours.{Work, AreRead, IsHeaded}, specs.Tellings.{Telling, if_suited, headed_work, headed_so_far}}
-use Rattle.bench_io.{specs.Sinks.{AppendsShort, PassesOn}, proofs.Bytes.PassesOn-held}
+use Rattle.command_work.{specs.Outcomes.{Outcome, written}, specs.Behaviours.{Work, AreRead, IsHeaded}, specs.RecordsWork.{RecordsWork, if_suited, headed_work, headed_so_far}}
+use Rattle.bench_io.{specs.Sinks.{SinkState, WroteShort, PassesOn}, proofs.Bytes.PassesOn-held}
 
 -- the first trace of some tables
 abbrev pub first_trace : List PartSettings → Option TraceView
@@ -54,18 +54,18 @@ abbrev pub records_traced : Option TraceView → Sorting → StreamSettings → 
 records_traced set by how bytes = traced set by how bytes (streamed how bytes)
 
 -- the lines of a trace of these settings, as they are read
-abbrev pub traces_with : Option TraceView → Sorting → StreamSettings → Telling
+abbrev pub traces_with : Option TraceView → Sorting → StreamSettings → RecordsWork
 traces_with set by how = record {
   text = λ bytes. words_traced set by how (words_of bytes);
   ends = records_traced set by how;
   refuses = λ bytes. record_refusal how (words_of bytes);
 }
 
-abbrev pub traces : TraceView → Sorting → StreamSettings → Telling
+abbrev pub traces : TraceView → Sorting → StreamSettings → RecordsWork
 traces set = traces_with (Some set)
 
 -- the same by a plan, where its parts suit the file
-abbrev pub traces_by : Option TraceView → PlanView → Header → Telling
+abbrev pub traces_by : Option TraceView → PlanView → Header → RecordsWork
 traces_by set plan = if_suited plan (λ header. traces_with set (sorting plan) (reading_by plan header))
 
 -- What has been printed of the bytes of a file, where the next read fails: nothing before the header is whole and suits the plan.
@@ -79,30 +79,28 @@ tracing plan = headed_work (traces_by (trace_of plan) plan) (IsHeaded (λ header
 -- The lines of a trace on their way to a sink.
 
 -- The trace was given those of the events that aren't marked late, each with its groups, and the lines of the bins that they closed were put after what a block held, for a sink of which no write failed.
-pub record Traced (start now : LongTrace) (by by' : Sorting) (mode mode' : Mode) (taken taken' floor floor' faults faults' : ℕ) (old new : Option (List ℕ)) (held held' : List ℕ) (l : Marked) : Type 0 where
+pub record Traced (start now : LongTrace) (by by' : Sorting) (mode mode' : Mode) (taken taken' floor floor' : ℕ) (old new : SinkState) (held held' : List ℕ) (l : Marked) : Type 0 where
   pub same_sorting : by' ≡ by
   pub same_mode : mode' ≡ mode
   pub counted : taken' ≡ taken + length l
   pub moved : floor' ≡ max floor (floor_of mode l)
-  pub kept : faults' ≡ faults
   pub lines : List ℕ
   pub given : GivenMore start now (with_groups by (not_marked l)) lines
   pub text : PassesOn old new (held ++ lines) held'
 
 -- They were cut short, and the block holds none.
-pub record TracedShort (start : LongTrace) (by : Sorting) (old new : Option (List ℕ)) (held held' : List ℕ) (l : Marked) : Type 0 where
+pub record TracedShort (start : LongTrace) (by : Sorting) (old new : SinkState) (held held' : List ℕ) (l : Marked) : Type 0 where
   pub lines : List ℕ
   pub closed : (h : History) → Holds start h → open_text (trace_view (set_of start)) (h ++ with_groups by (not_marked l)) ≡ open_text (trace_view (set_of start)) h ++ lines
-  pub text : AppendsShort old new (held ++ lines)
+  pub text : WroteShort old new (held ++ lines)
   pub empty : held' ≡ []
 
-pub traced_none : (trace : LongTrace) (by : Sorting) (mode : Mode) (taken floor faults : ℕ) (old : Option (List ℕ)) (held : List ℕ) → Traced trace trace by by mode mode taken taken floor floor faults faults old old held held []
-traced_none trace by mode taken floor faults old held = record {
+pub traced_none : (trace : LongTrace) (by : Sorting) (mode : Mode) (taken floor : ℕ) (old : SinkState) (held : List ℕ) → Traced trace trace by by mode mode taken taken floor floor old old held held []
+traced_none trace by mode taken floor old held = record {
   same_sorting = refl;
   same_mode = refl;
   counted = omega arith;
   moved = omega arith;
-  kept = refl;
   lines = [];
   given = GivenMore-nil trace;
   text = rw (append-nil held) (PassesOn-held old held);

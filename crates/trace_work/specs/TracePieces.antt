@@ -1,13 +1,12 @@
 -- What the trace of words writes that come after others.
-use Rattle.std.{specs.Prelude.{ℕ, ◌≡◌, ◌⊎◌, ◌≤◌, List, ◌++◌, OnOk, true, false, None, Some, Result, Ok, Err}, specs.Io.KnownBytes.Keeps}
+use Rattle.std.specs.Prelude.{ℕ, ◌≡◌, ◌⊎◌, ◌≤◌, List, ◌++◌, OnOk, true, false, None, Some, Result, Ok, Err}
 use Rattle.tally_base.{specs.declared.fault.Fault.Fault, specs.declared.fault.Fault.TheVariants.WriteFault, specs.Faults.{is_outside, fault_in}, specs.Settings.trace_view}
-use Rattle.bench_io.specs.declared.sink.Sink.{Ghosts}
-use Rattle.streamed_text.specs.Texts.{WroteText, CutText}
+use Rattle.bench_io.{specs.declared.sink.Sink.Ghosts, specs.Sinks.WroteNone, specs.Texts.{WroteText, CutText}}
 use Rattle.ptu_definitions.{specs.Words.words_of, specs.Streams.{StreamSettings, streamed}}
 use Rattle.gate_plan.{specs.Shifting.Sorting, specs.Histories.history}
 use Rattle.record_stream.{specs.declared.stream.RecordStream.RecordStream, specs.Standing.{how_of, given_by, greatest_of, refused_with, HasStreamed}}
 use Rattle.long_trace.{specs.declared.trace.LongTrace.LongTrace, specs.LongTrace.{Holds, set_of, taken_of, floor_of, is_going}, specs.Texts.open_text}
-use Rattle.command_work.specs.Tellings.{WritesPiece, WritesEnd}
+use Rattle.command_work.specs.RecordsWork.{WritesPiece, WritesEnd}
 use Rattle.trace_work.specs.TraceOutcomes.{settled_before, words_traced, traces}
 
 -- The trace has written its first line and refused nothing, and is no further on than the stream.
@@ -29,7 +28,7 @@ pub record HasTraced (by : Sorting) (stream : RecordStream) (trace : LongTrace) 
 
 -- What feeding a piece after these bytes wrote on an output, and that the trace then stands for them with the piece.
 pub record TracedPiece {O : Type 0} (o : Ghosts O) (by : Sorting) (stream : RecordStream) (trace now : LongTrace) (bytes piece : List ℕ) (old new : O) (result : Result (Unit {0}) Fault) : Type 0 where
-  pub writes : WritesPiece (traces (trace_view (set_of trace)) by (how_of stream)) bytes piece (o.written old) (o.written new) (o.faults old) (o.faults new) result
+  pub writes : WritesPiece (traces (trace_view (set_of trace)) by (how_of stream)) bytes piece (o.state old) (o.state new) result
   pub stands : OnOk result (TracesBytes by (how_of stream) now (bytes ++ piece))
 
 -- the same of a stream that has refused nothing, with a trace that stands for what came before
@@ -48,18 +47,18 @@ text_of_all trace by how bytes = open_text (trace_view (set_of trace)) (history 
 pub record WroteLast {O : Type 0} (o : Ghosts O) (by : Sorting) (how : StreamSettings) (trace now : LongTrace) (old new : O) (bytes : List ℕ) : Type 0 where
   pub clear : fault_in (streamed how bytes) ≡ None
   pub stands : Holds now (history by how (words_of bytes))
-  pub wrote : WroteText (text_so_far trace by how bytes) (text_of_all trace by how bytes) (o.written old) (o.written new) (o.faults old) (o.faults new)
+  pub wrote : WroteText (text_so_far trace by how bytes) (text_of_all trace by how bytes) (o.state old) (o.state new)
 
 -- The lines were cut short.
 pub record CutLast {O : Type 0} (o : Ghosts O) (by : Sorting) (how : StreamSettings) (trace : LongTrace) (old new : O) (bytes : List ℕ) : Type 0 where
   pub clear : fault_in (streamed how bytes) ≡ None
-  pub cut : CutText (text_so_far trace by how bytes) (text_of_all trace by how bytes) (o.written old) (o.written new) (o.faults old) (o.faults new)
+  pub cut : CutText (text_so_far trace by how bytes) (text_of_all trace by how bytes) (o.state old) (o.state new)
 
 -- what giving it what a stream keeps back wrote, by the answer
 abbrev pub WritesLast : {O : Type 0} → Ghosts O → Sorting → StreamSettings → LongTrace → LongTrace → O → O → List ℕ → Result (Unit {0}) Fault → Type 0
 WritesLast o by how trace now old new bytes (Ok done) = WroteLast o by how trace now old new bytes
 WritesLast o by how trace now old new bytes (Err fault) =
-    ((is_outside fault ≡ false) × (fault_in (streamed how bytes) ≡ Some fault) × Keeps (o.written old) (o.written new) × (o.faults new ≡ o.faults old)) ⊎ ((fault ≡ WriteFault) × CutLast o by how trace old new bytes)
+    ((is_outside fault ≡ false) × (fault_in (streamed how bytes) ≡ Some fault) × WroteNone (o.state old) (o.state new)) ⊎ ((fault ≡ WriteFault) × CutLast o by how trace old new bytes)
 
 -- the same of a stream and a trace that stand for the same bytes
 abbrev pub EndsLines : {O : Type 0} → Ghosts O → Sorting → RecordStream → LongTrace → LongTrace → O → O → Result (Unit {0}) Fault → Type 0
@@ -70,7 +69,7 @@ EndsLines o by stream trace now old new result =
 abbrev pub EndsTrace : {O : Type 0} → Ghosts O → Sorting → RecordStream → LongTrace → O → O → Result (Unit {0}) Fault → Type 0
 EndsTrace o by stream trace old new result =
     (bytes : List ℕ) → HasStreamed stream bytes → TracesBytes by (how_of stream) trace bytes
-    → WritesEnd (traces (trace_view (set_of trace)) by (how_of stream)) bytes (o.written old) (o.written new) (o.faults old) (o.faults new) result
+    → WritesEnd (traces (trace_view (set_of trace)) by (how_of stream)) bytes (o.state old) (o.state new) result
 
 -- what ends a stream whose last lines are flushed
 abbrev pub both_ended : {X Y : Type 0} → Result X Fault → Result (Unit {0}) Y → Result (Unit {0}) Fault

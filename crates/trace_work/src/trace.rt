@@ -6,7 +6,7 @@ ghost use Rattle.plan_text.specs.ReadPlan.{plan_view};
 ghost use Rattle.record_stream.{specs.Standing.{how_of, refused_with, HasStreamed}, specs.Pieces.{TakesOn, StaysOpen, Begins}};
 ghost use Rattle.gate_plan.specs.Groups.{sorting_of};
 ghost use Rattle.long_trace.specs.LongTrace.{set_of, taken_of, floor_of, is_going};
-ghost use Rattle.command_work.specs.Tellings.{WritesEnd};
+ghost use Rattle.command_work.specs.RecordsWork.{WritesEnd};
 ghost use Rattle.trace_work.{specs.TraceOutcomes.trace_of, specs.TracePieces.{IsBehindStream, TracesBytes, TracesPiece, EndsLines, EndsTrace, both_ended}};
 
 use abs_time::{moved_floor, orders_markers};
@@ -42,11 +42,10 @@ impl<'g, 't, 'o, O: Sink> EventTaker for TraceLines<'g, 't, 'o, O> {
     ghost use Rattle.trace_work.specs.TraceOutcomes.{Traced, TracedShort, traced_none};
 
     ghost got = { λ s t l. Traced s.trace.now t.trace.now (sorting_of s.gates.now) (sorting_of t.gates.now)
-        s.mode t.mode s.taken t.taken s.floor t.floor (O.faults s.out.now) (O.faults t.out.now)
-        (O.written s.out.now) (O.written t.out.now) s.block t.block l };
+        s.mode t.mode s.taken t.taken s.floor t.floor (O.state s.out.now) (O.state t.out.now) s.block t.block l };
 
-    ghost broke = { λ s t l. TracedShort s.trace.now (sorting_of s.gates.now) (O.written s.out.now)
-        (O.written t.out.now) s.block t.block l };
+    ghost broke = { λ s t l. TracedShort s.trace.now (sorting_of s.gates.now) (O.state s.out.now)
+        (O.state t.out.now) s.block t.block l };
 
     ghost same = { λ s t. (t.out.ghost_name ≡ s.out.ghost_name)
         × (t.trace.ghost_name ≡ s.trace.ghost_name) × (set_of t.trace.now ≡ set_of s.trace.now) };
@@ -61,9 +60,9 @@ impl<'g, 't, 'o, O: Sink> EventTaker for TraceLines<'g, 't, 'o, O> {
 
     ghost floor = { λ t. t.floor };
 
-    ghost faults = { λ t. O.faults t.out.now };
+    ghost faults = { λ t. (O.state t.out.now).faults };
 
-    ghost got_none = { λ t. traced_none _ _ _ _ _ _ _ _ };
+    ghost got_none = { λ t. traced_none _ _ _ _ _ _ _ };
 
     ghost taken_is = { λ s t l is. is.counted };
 

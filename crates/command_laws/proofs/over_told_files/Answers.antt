@@ -1,10 +1,10 @@
-use Rattle.std.{proofs.Common.{ℕ, List, inl, inr, arith, rules}, specs.declared.option.Option.Option}
+use Rattle.std.{proofs.Common.{ℕ, inl, inr, arith, rules}, specs.declared.option.Option.Option}
 use Rattle.tally_base.{specs.declared.slot.Slot.Slot, specs.declared.slot.Slot.TheVariants.Plan, specs.declared.fault.Fault.Fault}
-use Rattle.bench_io.specs.Inputs.{File, InputState}
+use Rattle.bench_io.{specs.Inputs.{File, InputState}, specs.Sinks.SinkState}
 use Rattle.plan_text.specs.Plan.{PlanView}
 use Rattle.ptu_cli.specs.Commands.{Request}
 use Rattle.ptu_cli.{specs.Runs.{Around, Runs}, specs.Behaviours.behaviour}
-use Rattle.command_work.{specs.Behaviours.{Behaviour, Alone, OnFile, ByPlan}, specs.Endings.{FileOf, AreItsFiles, HasPlan, Reaches, LeavesUnread, RunsOut, Asks}, proofs.Told.told-are-its}
+use Rattle.command_work.{specs.Behaviours.{Behaviour, Alone, OnFile, ByPlan}, specs.Endings.{FileOf, AreItsFiles, HasPlan, Reaches, LeavesUnread, RunsOut, Asks}, proofs.Told.reads-agree}
 use Rattle.command_laws.specs.ToldFiles.{IsGoodPlan, OverToldFiles}
 use Rattle.command_laws.proofs.over_told_files.Goals as goal
 
@@ -18,11 +18,11 @@ reaches : (does : Behaviour) (after : InputState) (plan_file data_file : File) (
     → AreItsFiles does after plan_file data_file → Reaches does (HasPlan after) slot → Reaches does (IsGoodPlan plan_file) slot
 reaches does after plan_file data_file slot may h = search (rules, arith, good-plan)
 
-leaves : (does : Behaviour) (after : InputState) (plan_file data_file : File) (slot : Slot) (old new : Option (List ℕ))
+leaves : (does : Behaviour) (after : InputState) (plan_file data_file : File) (slot : Slot) (old new : SinkState)
     → AreItsFiles does after plan_file data_file → LeavesUnread does (HasPlan after) slot after old new → LeavesUnread does (IsGoodPlan plan_file) slot after old new
 leaves does after plan_file data_file slot old new may h = search (rules, arith, good-plan)
 
-runs-out : (does : Behaviour) (after : InputState) (plan_file data_file : File) (old new : Option (List ℕ))
+runs-out : (does : Behaviour) (after : InputState) (plan_file data_file : File) (old new : SinkState)
     → AreItsFiles does after plan_file data_file → RunsOut does (HasPlan after) after old new → RunsOut does (IsGoodPlan plan_file) after old new
 runs-out (Alone end) after plan_file data_file old new may h = h
 runs-out (OnFile file writing work) after plan_file data_file old new may h = h
@@ -41,7 +41,7 @@ asks does before after plan_file data_file may h = search (rules, arith, good-pl
 over-told : (request : Option Request) (run : Around) (result : ℕ) → Runs request run result → OverToldFiles request run result
 over-told request run result h plan_file data_file tells =
     let does = behaviour request in
-    let may = told-are-its does run.before run.after plan_file data_file h.asks h.files tells in
+    let may = reads-agree does run.before run.after plan_file data_file h.asks h.files tells in
     record {
       files = may;
       answered = λ further. h.answered further plan_file data_file may;

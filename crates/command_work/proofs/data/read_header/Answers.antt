@@ -1,7 +1,7 @@
 use Rattle.std.{proofs.Common.{arith, [], ◌++◌, Ok, Err, take, refl, sym, ap, ◌∙◌, append-nil, inr, rules}, proofs.lemmas.List.length-take, proofs.lemmas.Slice.between_is}
 use Rattle.tally_base.{specs.declared.slot.Slot.TheVariants.Data, proofs.Reasons.HasReason-inside}
 use Rattle.bench_io.proofs.States.{Consumes-nil, Consumes-kept, Consumes-trans, OnlyReads-refl}
-use Rattle.command_work.{proofs.Pieces.{IsCut-nil, some_used, stops-unread, stops-piece}, specs.Outcomes.IsCut, proofs.Told.{Says-shown, reads-on, fails-on}, proofs.Once.{Rose-kept, quiet-none, quiet-inside, once-refl, once-read, once-unread}}
+use Rattle.command_work.{proofs.Pieces.{IsCut-nil, some_used, stops-unread, stops-piece}, specs.Outcomes.IsCut, proofs.Told.{Decides-shown, reads-on, fails-on}, proofs.Once.{Rose-kept, quiet-none, quiet-inside, once-refl, once-read, once-unread}}
 use Rattle.ptu_definitions.specs.Headers.{header_answer}
 use Rattle.command_work.proofs.data.read_header.Goals as goal
 
@@ -37,7 +37,7 @@ returns-in-Refused g c =
       reason = HasReason-inside _ _ _ _ fault inside;
       once = once-read Data _ _ _ _ (quiet-inside fault inside) c.pieces.invariant.once c.read.ensures.keeps_other c.read.ensures.opens_none c.in-Ok.ensures.cause.kept;
       part = tt;
-      answer = (so_far.0 ++ piece, took, inr (Says-shown header_answer (so_far.0 ++ piece) _ (Err fault) (c.in-Refused.ensures.ends so_far.0 so_far.2)));
+      answer = (so_far.0 ++ piece, took, inr (Decides-shown header_answer (so_far.0 ++ piece) _ (Err fault) (c.in-Refused.ensures.ends so_far.0 so_far.2)));
       stops = stops-piece IsCut so_far.0 c.in-Ok.len c.read.new.into _ _ _ _ so_far.1 c.in-Ok.ensures.gives so_far.3 (omega (arith, c.requires.small, c.pieces.auto.buffer, c.read.auto.into)) inside tt;
     }
 

@@ -7,7 +7,7 @@ pub pieces-init : goal.pieces-init
 pieces-init g c = record {
   reads = OnlyReads-refl _ _;
   same = refl;
-  so_far = ([], λ bytes h. (rw append-nil h, so-none _ _ _ _ _ (g.met.R.Reader.law c.args.reader) (g.met.R.Reader.clear _ _ h)));
+  so_far = ([], λ bytes h. (rw append-nil h, so-none _ _ _ _ (g.met.R.Reader.law c.args.reader) (g.met.R.Reader.clear _ _ h)));
 }
 
 pub pieces-preserved : goal.pieces-preserved
@@ -24,7 +24,7 @@ pieces-preserved g c =
             let at = inv.so_far.1 bytes h in (
               rw (← append_assoc bytes taken (take c.in-Ok.len c.read.new.into)) (c.in_ok-piece.ensures.takes (bytes ++ taken) at.0),
               so-piece ⊥ at.1 (record { other = c.read.ensures.keeps_other; none = c.read.ensures.opens_none }) c.in-Ok.len c.read.new.into
-                  (omega (arith, c.requires.ready.small, c.pieces.auto.buffer, c.read.auto.into)) c.in-Ok.ensures.gives.0 c.in-Ok.ensures.cause.kept _ _
+                  (omega (arith, c.requires.ready.small, c.pieces.auto.buffer, c.read.auto.into)) c.in-Ok.ensures.gives.0 c.in-Ok.ensures.cause.kept _
                   (reads-on _ _ _ _ _ at.1.unended c.in-Ok.ensures.gives c.if-len-eq0.false)
                   (rw inv.same at (c.in_ok-piece.ensures.writes (bytes ++ taken) at.0)),
             ),
@@ -42,7 +42,7 @@ returns-then-len-eq0-clause-rest g c = λ bytes h.
     let inv = c.pieces.invariant in
     let at = inv.so_far.1 bytes h in
     rest-end ⊥ at.1 (record { other = c.read.ensures.keeps_other; none = c.read.ensures.opens_none }) c.in-Ok.len c.read.new.into
-    (omega (arith, c.requires.ready.small, c.pieces.auto.buffer, c.read.auto.into)) c.in-Ok.ensures.gives.0 c.in-Ok.ensures.cause.kept _ _ c.end.result
+    (omega (arith, c.requires.ready.small, c.pieces.auto.buffer, c.read.auto.into)) c.in-Ok.ensures.gives.0 c.in-Ok.ensures.cause.kept _ c.end.result
     (rw c.if-len-eq0.true refl)
     (c.in-Ok.ensures.gives.1.1 (inr (c.if-len-eq0.true, omega (arith, c.requires.ready.room, c.pieces.auto.buffer, c.read.auto.into))))
     (rw inv.same at (c.end.ensures (bytes ++ inv.so_far.0) at.0))
@@ -55,7 +55,7 @@ returns-in_err-piece-clause-rest g c = λ bytes h.
     rw (p.1, p.2)
     (rest-piece ⊥ at.1 (record { other = c.read.ensures.keeps_other; none = c.read.ensures.opens_none }) c.in-Ok.len c.read.new.into
     (omega (arith, c.requires.ready.small, c.pieces.auto.buffer, c.read.auto.into))
-    c.in-Ok.ensures.gives.0 c.in-Ok.ensures.cause.kept _ _ c.in_err-piece.field-0.0
+    c.in-Ok.ensures.gives.0 c.in-Ok.ensures.cause.kept _ c.in_err-piece.field-0.0
     (rw inv.same at (c.in_err-piece.ensures.writes (bytes ++ inv.so_far.0) at.0)))
 
 pub piece-requires : goal.piece-requires

@@ -1,6 +1,6 @@
 use Rattle.std.{proofs.Common.{ℕ, List, refl, sym, ap, ◌∙◌, subst, inl}, specs.declared.option.Option.Option, proofs.lemmas.Result.{IfErr-weaker, err_from_is_err_and}}
 use Rattle.tally_base.specs.declared.slot.Slot.TheVariants.{Data}
-use Rattle.bench_io.{specs.Inputs.{File, IsOpened}, proofs.Bytes.{Appends-nil, Keeps-from_none}}
+use Rattle.bench_io.{specs.Inputs.{File, IsOpened}, proofs.Bytes.Wrote-nil}
 use Rattle.plan_text.specs.ReadPlan.{plan_view}
 use Rattle.command_work.{specs.Endings.{span, HasCauses}, proofs.PlanTold.{KeepsOther-trans, has-plan, data-unasked, has-later, none-lacking, names-later, takes-later, answers-unplanned, unplanned-causes, answers-lacking, lacking-causes, plan-answers, plan-causes, plan-files}, proofs.Told.few-told, proofs.Once.{Rose-kept, quiet-inside, out-inside, out-unwritten, once-none, once-behind, once-opened, once-unopened}}
 use Rattle.command_work.proofs.work.by_plan.Goals as goal
@@ -13,7 +13,7 @@ returns-in_err-plan g c =
     let p = err_from_is_err_and c.from_residual.result c.from_residual.ensures.1 in
     rw (p.1, p.2) (record {
       answer = answers-unplanned _ _ _ _ _ _ after fault _ c.in_err-plan.ensures.answer;
-      causes = unplanned-causes _ _ _ _ _ _ before after _ _ fault c.plan_of.ensures.uses.keeps_other (c.requires.first Data) c.in_err-plan.ensures.reason;
+      causes = unplanned-causes _ _ _ _ _ _ before after _ fault c.plan_of.ensures.uses.keeps_other (c.requires.first Data) c.in_err-plan.ensures.reason;
       asks = (c.plan_of.ensures.takes, data-unasked before after (c.requires.first Data) c.plan_of.ensures.uses.keeps_other, g.met.I.Inputs.asked_first c.plan_of.new.inputs Data);
       once = record { inputs = c.in_err-plan.ensures.once; out = out-unwritten _ _ _ fault _ c.in_err-plan.ensures.reason };
       files = plan-files c.args.plan_name.now c.args.data_name.now before after c.plan_of.ensures.names
@@ -47,7 +47,7 @@ returns-in-Err g c =
     let has = has-later planned after (does.lacking it) view c.open.ensures.keeps_other (has-plan planned (does.lacking it) c.in_ok-plan.plan c.in_ok-plan.ensures.answer (none-lacking _ c.lacks.result c.lacks.ensures.answer c.in_default.not-Some)) in
     record {
       answer = inl refl;
-      causes = ((view, has), Rose-kept _ _ _ (c.in_ok-plan.ensures.once.openings Data) c.in-Err.ensures.cause.once, Keeps-from_none _ _ (Appends-nil _));
+      causes = ((view, has), Rose-kept _ _ _ (c.in_ok-plan.ensures.once.openings Data) c.in-Err.ensures.cause.once, Wrote-nil _);
       asks = (
         takes-later planned after c.plan_of.ensures.takes c.open.ensures.keeps_other,
         λ asked. (view, has, λ opened. data-unasked before planned (c.requires.first Data) c.plan_of.ensures.uses.keeps_other (g.met.I.Inputs.asked_first c.plan_of.new.inputs Data (sym c.in-Err.ensures.unopened ∙ opened))),

@@ -1,14 +1,14 @@
 use Rattle.std.{proofs.Common.{ℕ, List, None, refl, sym, ap, ◌∙◌, subst, inl}, specs.declared.option.Option.Option, proofs.lemmas.Result.IfErr-weaker}
 use Rattle.tally_base.specs.declared.slot.Slot.TheVariants.{Plan, Data}
-use Rattle.bench_io.{specs.Inputs.IsOpened, proofs.Bytes.{Appends-nil, Keeps-from_none}}
-use Rattle.command_work.{specs.Endings.{span, HasCauses}, proofs.Told.{told-is-its, file-answers, file-causes, few-told}, proofs.Once.{quiet-none, once-refl, once-behind, once-opened, once-unopened}}
+use Rattle.bench_io.{specs.Inputs.IsOpened, proofs.Bytes.Wrote-nil}
+use Rattle.command_work.{specs.Endings.{span, HasCauses}, proofs.Told.{read-agrees, file-answers, file-causes, few-told}, proofs.Once.{quiet-none, once-refl, once-behind, once-opened, once-unopened}}
 use Rattle.command_work.proofs.work.on_file.Goals as goal
 
 pub returns-in-Err : goal.returns-in-Err
 unfolding HasCauses
 returns-in-Err g c = record {
   answer = inl refl;
-  causes = (tt, c.in-Err.ensures.cause.once, Keeps-from_none _ _ (Appends-nil _));
+  causes = (tt, c.in-Err.ensures.cause.once, Wrote-nil _);
   asks = (
     c.open.ensures.keeps_other.asked ∙ c.requires.first Plan,
     λ opened. cc (g.met.I.Inputs.asked_first c.args.inputs.now Data (sym c.in-Err.ensures.unopened ∙ opened), c.requires.first Data),
@@ -35,7 +35,7 @@ returns-in-Ok g c =
         λ was. few-told work after _ c.in-Ok.ensures.given c.read.ensures.leaves.few,
       );
       once = record { inputs = once-behind before opened after _ once c.read.ensures.leaves.once.inputs; out = c.read.ensures.leaves.once.out };
-      files = λ file. told-is-its (before.contents c.args.file.now) after Data file
+      files = λ file. read-agrees (before.contents c.args.file.now) after Data file
           (λ o. subst (λ (told : Option (List ℕ)). IsOpened (before.contents c.args.file.now) told)
           (sym (ap (λ f. f Data) c.read.ensures.reads.opens_none.told)) c.in-Ok.ensures.file)
           (g.met.I.Inputs.agrees c.read.new.inputs Data);

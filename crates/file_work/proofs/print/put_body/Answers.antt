@@ -27,5 +27,5 @@ loop-byte-preserved g c =
       all = λ kind part h. PutsMore-next _ _ _ c.put.result.items _ _ _ c.args.block.now c.loop-byte.block c.put-in-loop-byte.new.self (c.loop-byte.invariant.all kind part h)
           (rw (take_more bytes i 0 c.loop-byte-test.true, ← append_assoc) (c.put.ensures.text kind (part ++ take i bytes) (c.loop-byte.invariant.taken kind part h)))
           (rw c.as_slice.ensures.value at c.in_ok-put.ensures.all);
-      kept = c.in_ok-put.ensures.cause.kept ∙ c.loop-byte.invariant.kept;
+      kept = c.in_ok-put.ensures.all.passed.kept ∙ c.loop-byte.invariant.kept;
     }

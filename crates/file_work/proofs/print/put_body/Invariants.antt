@@ -7,10 +7,10 @@ use Rattle.file_work.proofs.print.put_body.Given as goal
 -- the bytes so far are put
 abbrev pub invariant-loop-byte : goal.invariant-loop-byte
 invariant-loop-byte g l =
-    let written = g.O.Sink.written in
+    let state = g.O.Sink.state in
     record {
       taken : (kind : TagKind) (part : List ℕ) → HasPut l.fn.text kind part → HasPut l.text kind (part ++ take l.byte-index l.bytes);
       all : (kind : TagKind) (part : List ℕ) → HasPut l.fn.text kind part
-          → PutsBody kind part (take l.byte-index l.bytes) (written l.initial.out) (written l.out) l.fn.block l.block;
-      kept : g.O.Sink.faults l.out ≡ g.O.Sink.faults l.initial.out;
+          → PutsBody kind part (take l.byte-index l.bytes) (state l.initial.out) (state l.out) l.fn.block l.block;
+      kept : (state l.out).faults ≡ (state l.initial.out).faults;
     }

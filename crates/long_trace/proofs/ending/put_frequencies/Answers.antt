@@ -8,7 +8,7 @@ loop-count-preserved g c =
     let inside : n < frequency_limit = search (rules, arith) in
     record {
       put = λ all is. next-put all n c.as_slice.result.now _ _ _ c.args.block.now c.loop-count.block _ (c.as_slice.ensures.value ∙ c.frequency_line-line.ensures ∙ ap (frequency_line n) (is n inside)) (c.loop-count.invariant.put all is) c.in_ok-put.ensures.all;
-      kept = c.in_ok-put.ensures.cause.kept ∙ c.loop-count.invariant.kept;
+      kept = c.in_ok-put.ensures.all.passed.kept ∙ c.loop-count.invariant.kept;
     }
 
 pub returns-in_err-put-clause-short : goal.returns-in_err-put-clause-short

@@ -5,6 +5,6 @@ use Rattle.long_trace.proofs.ending.put_frequencies.Given as goal
 
 abbrev pub invariant-loop-count : goal.invariant-loop-count
 invariant-loop-count g l = record {
-  put : (all : List ℕ) → ((c : ℕ) → c < frequency_limit → slice_index l.closed.frequencies c ≡ frequency all c) → PassesOn (g.O.Sink.written l.initial.out) (g.O.Sink.written l.out) (l.initial.block ++ frequency_lines all l.count) l.block;
-  kept : g.O.Sink.faults l.out ≡ g.O.Sink.faults l.initial.out;
+  put : (all : List ℕ) → ((c : ℕ) → c < frequency_limit → slice_index l.closed.frequencies c ≡ frequency all c) → PassesOn (g.O.Sink.state l.initial.out) (g.O.Sink.state l.out) (l.initial.block ++ frequency_lines all l.count) l.block;
+  kept : (g.O.Sink.state l.out).faults ≡ (g.O.Sink.state l.initial.out).faults;
 }

@@ -53,7 +53,7 @@ returns-in_err-put-clause-stopped g c =
       back = part.0;
       are = part.1;
       in_time = gave.in_time;
-      why = refuses _ _ (rows f c.loop-k.k) e gave _ _ told.late (λ is. let kept = told.untouched is in (ap g.O.Sink.written kept.0, kept.1)) told.puts told.cause;
+      why = refuses _ _ (rows f c.loop-k.k) e gave _ _ told.late (λ is. let kept = told.untouched is in (ap g.O.Sink.state kept.0, kept.1)) told.puts told.cause;
     })
 
 pub returns-in_err-put-clause-last : goal.returns-in_err-put-clause-last
@@ -75,4 +75,4 @@ loop-k-preserved g c =
     let told = rw c.event.ensures at c.in_ok-put.ensures in
     let old = pen_on g.O.Sink c.args.picker.now c.args.out.now c.args.block.now in
     let new = pen_on g.O.Sink c.put.new.self c.put.new.out c.put.new.block in
-    record { gave = subst (λ l. Gave old new l) (sym (more_rows f c.loop-k.k)) (Gave-more old _ (rows f c.loop-k.k) e gave new _ told.late told.picks told.puts told.cause.kept) }
+    record { gave = subst (λ l. Gave old new l) (sym (more_rows f c.loop-k.k)) (Gave-more old _ (rows f c.loop-k.k) e gave new _ told.late told.picks told.puts) }

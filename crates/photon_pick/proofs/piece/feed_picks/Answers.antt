@@ -15,15 +15,15 @@ pub returns-in-Ok-clause-writes : goal.returns-in-Ok-clause-writes
 returns-in-Ok-clause-writes g c = λ bytes h has.
     let picks = c.args.picks.now in
     rw c.answer.ensures
-    (feeds-on _ _ _ (λ (t : Picks g.row.O.Denot g.O.Sink). stand (is_chosen (sorting_of t.gates.now) t.group) t.picker.now t.mode t.taken t.floor (g.O.Sink.faults t.out.now) (g.O.Sink.written t.out.now) t.block t.fault)
-    (is_chosen (sorting_of picks.gates.now) picks.group) (how_of c.args.stream.now) refl c.requires.begins.same_mode c.requires.begins.empty _ _ (took_none _) (λ l is. is) (λ l is. is c.requires.unrefused) _ _ has c.feed-fed.result c.requires.unrefused c.in-Ok.ensures.all c.in-Ok.ensures.cause.kept (c.feed-fed.ensures.fed c.requires.going bytes h))
+    (feeds-on _ _ _ (λ (t : Picks g.row.O.Denot g.O.Sink). stand (is_chosen (sorting_of t.gates.now) t.group) t.picker.now t.mode t.taken t.floor (g.O.Sink.state t.out.now) t.block t.fault)
+    (is_chosen (sorting_of picks.gates.now) picks.group) (how_of c.args.stream.now) refl c.requires.begins.same_mode c.requires.begins.empty _ (took_none _) (λ l is. is) (λ l is. is c.requires.unrefused) _ _ has c.feed-fed.result c.requires.unrefused c.in-Ok.ensures.all (c.feed-fed.ensures.fed c.requires.going bytes h))
 
 pub returns-in-Err-clause-writes : goal.returns-in-Err-clause-writes
 returns-in-Err-clause-writes g c = λ bytes h has.
     let picks = c.args.picks.now in (
       feeds-cut _ _ _ (λ (t : Picks g.row.O.Denot g.O.Sink). stand (is_chosen (sorting_of t.gates.now) t.group) t.picker.now t.mode t.taken t.floor
-          (g.O.Sink.faults t.out.now) (g.O.Sink.written t.out.now) t.block t.fault)
-          (is_chosen (sorting_of picks.gates.now) picks.group) (how_of c.args.stream.now) refl c.requires.begins.same_mode c.requires.begins.empty _ _ (took_none _) (λ l is. is) (λ l is. is c.requires.unrefused) _ _ has c.feed-fed.result c.in-Err.ensures.short c.in-Err.ensures.cause.once (c.feed-fed.ensures.fed c.requires.going bytes h),
+          (g.O.Sink.state t.out.now) t.block t.fault)
+          (is_chosen (sorting_of picks.gates.now) picks.group) (how_of c.args.stream.now) refl c.requires.begins.same_mode c.requires.begins.empty _ (took_none _) (λ l is. is) (λ l is. is c.requires.unrefused) _ _ has c.feed-fed.result c.in-Err.ensures.short (c.feed-fed.ensures.fed c.requires.going bytes h),
       tt,
     )
 

@@ -1,5 +1,5 @@
 use Rattle.std.proofs.Common.{Ok, Err, refl}
-use Rattle.bench_io.proofs.Bytes.{Appends-nil, Keeps-from_none}
+use Rattle.bench_io.proofs.Bytes.{Wrote-nil}
 use Rattle.ptu_cli.proofs.Complete.{runs}
 use Rattle.ptu_cli.proofs.top.ptu_main.Goals as goal
 
@@ -7,4 +7,4 @@ pub returns-in-Err : goal.returns-in-Err
 returns-in-Err g c = runs _ _ (Err c.in-Err.fault) _ c.status.ensures c.tell.ensures c.in-Err.ensures.does c.in-Err.ensures.usage
 
 pub returns-in-Ok : goal.returns-in-Ok
-returns-in-Ok g c = runs _ _ (Ok tt) _ refl (Keeps-from_none _ _ (Appends-nil _), refl) c.in-Ok.ensures.does c.in-Ok.ensures.usage
+returns-in-Ok g c = runs _ _ (Ok tt) _ refl (Wrote-nil _) c.in-Ok.ensures.does c.in-Ok.ensures.usage

@@ -1,9 +1,9 @@
-use Rattle.std.{proofs.Common.{arith, rules, refl}, proofs.lemmas.Result.err_from_is_err_and}
+use Rattle.std.{proofs.Common.{arith, rules}, proofs.lemmas.Result.err_from_is_err_and}
 use Rattle.record_write.proofs.Puts.{puts-none, puts-copy, cuts-copy}
 use Rattle.record_write.proofs.words.put_copies.Goals as goal
 
 pub loop-copy-init : goal.loop-copy-init
-loop-copy-init g c = record { puts = puts-none _ c.args.block.now; kept = refl }
+loop-copy-init g c = puts-none _ c.args.block.now
 
 pub loop-copy-preserved : goal.loop-copy-preserved
 loop-copy-preserved g c = search (rules, arith, puts-copy)
@@ -12,4 +12,4 @@ pub returns-in_err-put_word-clause-cut : goal.returns-in_err-put_word-clause-cut
 returns-in_err-put_word-clause-cut g c =
     let e = err_from_is_err_and c.from_residual.result c.from_residual.ensures.1 in
     rw e.1 (cuts-copy _ _ _ c.args.block.now c.loop-copy.block _ c.loop-copy.copy c.args.count
-    c.args.word c.loop-copy-test.true c.loop-copy.invariant.puts c.in_err-put_word.ensures.cut)
+    c.args.word c.loop-copy-test.true c.loop-copy.invariant c.in_err-put_word.ensures.cut)

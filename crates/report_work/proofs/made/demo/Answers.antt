@@ -1,6 +1,6 @@
 use Rattle.std.{proofs.Common.{◌≡◌, refl, ap, ◌∙◌, inl}, proofs.lemmas.Result.err_from_is_err_and}
 use Rattle.tally_base.specs.declared.slot.Slot.TheVariants.{Data}
-use Rattle.bench_io.proofs.Bytes.{Appends-nil, Keeps-from_none}
+use Rattle.bench_io.proofs.Bytes.{Wrote-nil}
 use Rattle.plan_text.specs.ReadPlan.{plan_view}
 use Rattle.report_work.{specs.Demo.demo_plan, proofs.Reports.{demo-view, plan-wanted, ends-demo, demo-causes}}
 use Rattle.command_work.{specs.Endings.HasCauses, proofs.Told.alone-answers}
@@ -17,7 +17,7 @@ unfolding HasCauses
 returns-in_err-plan-clause-causes g c = λ state.
     let p = err_from_is_err_and c.from_residual.result c.from_residual.ensures.1 in
     let wanted = plan-wanted c.in_err-plan.field-0.0 c.in_err-plan.ensures.answer in
-    rw (p.1, p.2, wanted) (refl, Keeps-from_none _ _ (Appends-nil _))
+    rw (p.1, p.2, wanted) (refl, Wrote-nil _)
 
 pub returns-in_err-plan-clause-once : goal.returns-in_err-plan-clause-once
 returns-in_err-plan-clause-once g c =
@@ -36,7 +36,7 @@ pub returns-clause-causes : goal.returns-clause-causes
 returns-clause-causes g c = λ state.
     let view : plan_view c.in_ok-plan.plan ≡ demo_plan = demo-view c.in_ok-plan.plan c.in_ok-plan.ensures.answer in
     let told = ap (λ f. f Data) c.read_file.ensures.reads.opens_none.told ∙ c.made_data-made.ensures.told in
-    demo-causes c.args.seed c.args.count (plan_view c.in_ok-plan.plan) c.requires view c.made_data-made.result c.read_file.new.inputs state _ _ _ _ c.read_file.result c.made_data-made.ensures.given told c.read_file.ensures.leaves.reason
+    demo-causes c.args.seed c.args.count (plan_view c.in_ok-plan.plan) c.requires view c.made_data-made.result c.read_file.new.inputs state _ _ c.read_file.result c.made_data-made.ensures.given told c.read_file.ensures.leaves.reason
 
 pub returns-clause-once : goal.returns-clause-once
 returns-clause-once g c = c.read_file.ensures.leaves.once.out

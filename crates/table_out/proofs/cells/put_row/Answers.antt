@@ -24,5 +24,5 @@ loop-column-preserved g c =
     record {
       put = puts-next holds text n _ _ _ c.args.block.now c.loop-column.block _ c.loop-column.invariant.put
           (puts-piece holds (text n) c.line_of.result.now _ _ c.loop-column.block _ next c.in_ok-put.ensures.all);
-      kept = c.in_ok-put.ensures.cause.kept ∙ c.loop-column.invariant.kept;
+      kept = c.in_ok-put.ensures.all.passed.kept ∙ c.loop-column.invariant.kept;
     }

@@ -1,5 +1,5 @@
 use Rattle.std.{proofs.Common.{ℕ, List, ◌∙◌, ◌≡◌, ◌++◌, refl}, proofs.lemmas.Result.{err_from_is_err_and, on_ok_weaker, on_err_weaker}}
-use Rattle.bench_io.proofs.Bytes.{Appends-flushed, AppendsShort-flushed}
+use Rattle.bench_io.proofs.Bytes.{Wrote-flushed, WroteShort-flushed}
 use Rattle.tally_base.specs.declared.header.Header.{Header}
 use Rattle.ptu_definitions.specs.declared.records.Summary.{Summary}
 use Rattle.table_out.{specs.Report.{Table, EachHolds, head_text, parts_text, report}, proofs.Putting.{puts-piece, puts-more, cuts-behind}}
@@ -31,7 +31,7 @@ returns-clause-text g c =
     let both =
     puts-more holds head parts_text _ _ _ c.new-block.result _ c.put_parts.new.block first (rw c.deref.ensures.value at c.in_ok-put_parts.ensures.all) in
     on_ok_weaker c.flush.result (λ flushed tables is. rw (report-text results.header results.summary tables)
-    (Appends-flushed _ _ _ _ _ (rw c.new-block.ensures at (both tables is)) flushed)) c.flush.ensures.all
+    (Wrote-flushed _ _ _ _ _ (rw c.new-block.ensures at (both tables is)) flushed)) c.flush.ensures.all
 
 pub returns-clause-short : goal.returns-clause-short
 returns-clause-short g c =
@@ -43,4 +43,4 @@ returns-clause-short g c =
     let both =
     puts-more holds head parts_text _ _ _ c.new-block.result _ c.put_parts.new.block first (rw c.deref.ensures.value at c.in_ok-put_parts.ensures.all) in
     on_err_weaker c.flush.result (λ cut tables is. rw (report-text results.header results.summary tables)
-    (AppendsShort-flushed _ _ _ _ _ (rw c.new-block.ensures at (both tables is)) cut)) c.flush.ensures.short
+    (WroteShort-flushed _ _ _ _ _ (rw c.new-block.ensures at (both tables is)) cut)) c.flush.ensures.short

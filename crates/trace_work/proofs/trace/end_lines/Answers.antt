@@ -10,8 +10,8 @@ returns-clause-writes g c = λ bytes h holds.
     let fin = c.finish-finished.ensures in
     let clear = streamed-clear _ _ _ _ _ _ _ bytes h c.requires.going in
     rw c.both.ensures
-    (ends-both _ (λ t. t.trace.now) (λ t. g.O.Sink.written t.out.now) (λ t. t.block) (sorting_of c.args.lines.now.gates.now) _ _ _ _ _ (traced_none _ _ _ _ _ _ _ _)
+    (ends-both _ (λ t. t.trace.now) (λ t. g.O.Sink.state t.out.now) (λ t. t.block) (sorting_of c.args.lines.now.gates.now) _ _ _ _ (traced_none _ _ _ _ _ _ _)
     (λ l is. record { lines = is.lines; given = is.given; text = rw c.requires.begins.empty at is.text })
     (λ l is. record { lines = is.lines; closed = is.closed; text = rw c.requires.begins.empty at is.text; empty = is.empty })
-    c.args.lines.now.trace.now.set.some_width.0 bytes holds g.O.Sink _ _ refl refl refl refl c.finish-finished.result c.flush-flushed.result (fin.inside c.requires.going) clear c.requires.begins.empty c.flush-flushed.ensures.all c.flush-flushed.ensures.short c.flush-flushed.ensures.cause
+    c.args.lines.now.trace.now.set.some_width.0 bytes holds g.O.Sink _ _ refl refl c.finish-finished.result c.flush-flushed.result (fin.inside c.requires.going) clear c.requires.begins.empty c.flush-flushed.ensures.all c.flush-flushed.ensures.short
     (fin.answer (not_written _ c.requires.going) bytes h))

@@ -1,19 +1,15 @@
-use Rattle.std.{proofs.lemmas.Result.err_from_is_err_and, proofs.Common.{◌≡◌, ◌∙◌, ℕ, List, [], None, Some, Ok, Err, sym, ap, inl, inr, append-nil, Result, OnOk, OnErr, IfErr, arith, rules}, specs.declared.option.Option.Option, specs.Io.KnownBytes.{Appends, Keeps}}
+use Rattle.std.{proofs.lemmas.Result.err_from_is_err_and, proofs.Common.{◌≡◌, ◌∙◌, ℕ, List, [], None, Some, Ok, Err, sym, ap, inl, inr, append-nil, Result, OnOk, OnErr, IfErr, arith, rules}, specs.declared.option.Option.Option}
 use Rattle.gate_plan.{specs.Groups.sorting_of, specs.Shifting.Sorting, specs.Histories.history}
 use Rattle.record_stream.specs.Standing.{how_of}
-use Rattle.tally_base.{specs.declared.fault.Fault.Fault, specs.declared.fault.Fault.TheVariants.WriteFault, specs.Faults.fault_in, specs.FaultCounts.Rose, specs.Settings.{TraceView, trace_view}, specs.Tally.History}
-use Rattle.bench_io.specs.declared.sink.Sink.{Ghosts}
-use Rattle.streamed_text.proofs.Texts.{WroteText-trans, CutText-behind, CutText-more}
+use Rattle.tally_base.{specs.declared.fault.Fault.Fault, specs.declared.fault.Fault.TheVariants.WriteFault, specs.Faults.fault_in, specs.Settings.{TraceView, trace_view}, specs.Tally.History}
+use Rattle.bench_io.{specs.declared.sink.Sink.Ghosts, proofs.Texts.{WroteText-trans, CutText-behind, CutText-more}}
 use Rattle.ptu_definitions.{specs.Words.words_of, specs.Streams.{StreamSettings, streamed}}
 use Rattle.long_trace.{specs.declared.trace.LongTrace.LongTrace, specs.LongTrace.set_of, specs.Texts.{open_text, whole_text}, specs.Written.{AppendsRest, CutsRest}, proofs.Rising.whole-front}
-use Rattle.command_work.{specs.Outcomes.{Outcome, written}, specs.Tellings.WritesEnd}
+use Rattle.command_work.{specs.Outcomes.{Outcome, written}, specs.RecordsWork.WritesEnd}
 use Rattle.trace_work.{specs.TraceOutcomes.{words_traced, records_traced, traces}, specs.TracePieces.{WroteLast, WritesLast}}
 use Rattle.trace_work.proofs.trace.end_trace.Goals as goal
 
 -- the end of a trace
-Keeps-append : (a b : Option (List ℕ)) → Keeps a b → Appends a b []
-Keeps-append a b k = search (rules, arith, append-nil)
-
 abbrev end_with : List ℕ → Option Fault → Outcome
 end_with text fault = record { text = text; fault = fault }
 
@@ -39,7 +35,7 @@ module _ {O : Type 0} (o : Ghosts O) (by : Sorting) (how : StreamSettings) (trac
 
   -- The lines of what was kept back were not all written.
   last-refused : (old new : O) (fault : Fault) → WritesLast o by how trace now old new bytes (Err fault)
-      → WritesEnd (traces set by how) bytes (o.written old) (o.written new) (o.faults old) (o.faults new) (Err fault)
+      → WritesEnd (traces set by how) bytes (o.state old) (o.state new) (Err fault)
   last-refused old new fault (inl h) =
       let is = ends-refused fault h.1 in
       inl (
@@ -47,32 +43,31 @@ module _ {O : Type 0} (o : Ghosts O) (by : Sorting) (how : StreamSettings) (trac
         record {
           more = [];
           adds = ap (λ (end : Outcome). end.text) is ∙ sym (append-nil (text (words_of bytes)));
-          written = Keeps-append (o.written old) (o.written new) h.2;
-          kept = h.3;
+          wrote = h.2;
         },
       )
   last-refused old new fault (inr h) =
       let front = whole-front set all in
-      inr (h.0, CutText-more _ _ _ front.0 _ _ _ _ (ap (λ (end : Outcome). end.text) (ends-whole h.1.clear) ∙ front.1) h.1.cut)
+      inr (h.0, CutText-more _ _ _ front.0 _ _ (ap (λ (end : Outcome). end.text) (ends-whole h.1.clear) ∙ front.1) h.1.cut)
 
   -- They were written, and then the rest.
   last-ended : (old mid new : O) (r : Result (Unit {0}) Fault) → set_of now ≡ set_of trace → WroteLast o by how trace now old mid bytes
-      → OnOk r (AppendsRest (o.written mid) (o.written new) (open_text (trace_view (set_of now)) all) (whole_text (trace_view (set_of now)) all))
-      → OnErr r (CutsRest (o.written mid) (o.written new) (open_text (trace_view (set_of now)) all) (whole_text (trace_view (set_of now)) all))
-      → IfErr r (λ fault. fault ≡ WriteFault) → OnErr r (Rose (o.faults mid) (o.faults new)) → OnOk r (o.faults new ≡ o.faults mid)
-      → WritesEnd (traces set by how) bytes (o.written old) (o.written new) (o.faults old) (o.faults new) r
-  last-ended old mid new (Ok done) same h all_of cut write rose kept =
+      → OnOk r (AppendsRest (o.state mid) (o.state new) (open_text (trace_view (set_of now)) all) (whole_text (trace_view (set_of now)) all))
+      → OnErr r (CutsRest (o.state mid) (o.state new) (open_text (trace_view (set_of now)) all) (whole_text (trace_view (set_of now)) all))
+      → IfErr r (λ fault. fault ≡ WriteFault)
+      → WritesEnd (traces set by how) bytes (o.state old) (o.state new) r
+  last-ended old mid new (Ok done) same h all_of cut write =
       let rest = rw same at all_of in
       let is = ends-whole h.clear in (
         ap (λ (end : Outcome). end.fault) is,
-        WroteText-trans _ _ _ _ _ _ _ _ _ h.wrote (record { more = rest.rest; adds = ap (λ (end : Outcome). end.text) is ∙ rest.whole; written = rest.appended; kept = kept }),
+        WroteText-trans _ _ _ _ _ _ h.wrote (record { more = rest.rest; adds = ap (λ (end : Outcome). end.text) is ∙ rest.whole; wrote = rest.appended }),
       )
-  last-ended old mid new (Err fault) same h all_of cut write rose kept =
+  last-ended old mid new (Err fault) same h all_of cut write =
       let rest = rw same at cut in
       inr (
         write,
-        CutText-behind _ _ _ _ _ _ _ _ _ h.wrote
-            (record { more = rest.rest; adds = ap (λ (end : Outcome). end.text) (ends-whole h.clear) ∙ rest.whole; cut = rest.cut; rose = rose }),
+        CutText-behind _ _ _ _ _ _ h.wrote
+            (record { more = rest.rest; adds = ap (λ (end : Outcome). end.text) (ends-whole h.clear) ∙ rest.whole; cut = rest.cut }),
       )
 
 pub returns-in_err-last_lines : goal.returns-in_err-last_lines
@@ -84,4 +79,4 @@ returns-in_err-last_lines g c = λ bytes h holds.
 pub returns : goal.returns
 returns g c = λ bytes h holds.
     let wrote = c.in_ok-last_lines.ensures.writes bytes h holds in
-    last-ended g.O.Sink (sorting_of c.args.gates.now) (how_of c.args.stream) c.args.trace _ bytes _ _ _ c.finish.result c.last_lines.ensures.set wrote (c.finish.ensures.text _ wrote.stands) (c.finish.ensures.short _ wrote.stands) c.finish.ensures.fault c.finish.ensures.cause.once c.finish.ensures.cause.kept
+    last-ended g.O.Sink (sorting_of c.args.gates.now) (how_of c.args.stream) c.args.trace _ bytes _ _ _ c.finish.result c.last_lines.ensures.set wrote (c.finish.ensures.text _ wrote.stands) (c.finish.ensures.short _ wrote.stands) c.finish.ensures.fault

@@ -1,6 +1,6 @@
-use Rattle.std.{proofs.Common.{◌≡◌, List, ℕ, ◌-◌, ◌^◌, true, None}, specs.Io.KnownBytes.{Appends}}
+use Rattle.std.proofs.Common.{◌≡◌, List, ℕ, ◌-◌, ◌^◌, true, None}
 use Rattle.tally_base.specs.declared.slot.Slot.TheVariants.{Data}
-use Rattle.bench_io.{specs.Given.Consumes, specs.Inputs.OnlyReads}
+use Rattle.bench_io.{specs.Given.Consumes, specs.Inputs.OnlyReads, specs.Sinks.Wrote}
 use Rattle.ptu_header.specs.ReadHeader.{bytes_taken, is_open}
 use Rattle.list_out.specs.HeaderText.{header_text}
 use Rattle.command_work.specs.Outcomes.{SaysNoEnd, IsCut, InputsOnce}
@@ -11,15 +11,14 @@ use Rattle.file_work.proofs.data.PrintingFileWork.read.Given as goal
 abbrev pub invariant-pieces : goal.invariant-pieces
 invariant-pieces g l =
     let state = g.I.Inputs.state in
-    let written = g.O.Sink.written in
+    let out = g.O.Sink.state in
     record {
       reads : OnlyReads Data (state l.initial.inputs) (state l.inputs);
       once : InputsOnce (state l.initial.inputs) (state l.inputs) None;
-      taken : (taken : List ℕ) × Consumes ((state l.initial.inputs).given Data) ((state l.inputs).given Data) taken × Prints l.printer taken × Appends
-          (written l.initial.out) (written l.out) (header_text taken) × IsCut taken;
+      taken : (taken : List ℕ) × Consumes ((state l.initial.inputs).given Data) ((state l.inputs).given Data) taken × Prints l.printer taken
+          × Wrote (out l.initial.out) (out l.out) (header_text taken) × IsCut taken;
       unended : SaysNoEnd ((state l.initial.inputs).given Data) ((state l.inputs).given Data);
       is_open : is_open l.printer.reader ≡ true;
-      kept : g.O.Sink.faults l.out ≡ g.O.Sink.faults l.initial.out;
     }
 
 abbrev pub decreases-pieces : goal.decreases-pieces

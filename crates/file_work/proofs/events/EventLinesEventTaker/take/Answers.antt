@@ -8,4 +8,4 @@ returns-in_err-put-clause-broken g c =
     rw p.1 (λ start l h. ListedShort-more l _ _ h (c.format_event-text.ensures.text ∙ sym (append-nil _)) c.in_err-put.ensures.short c.in_err-put.ensures.empty)
 
 pub returns-clause-follows : goal.returns-clause-follows
-returns-clause-follows g c = λ start l h. Listed-more l _ _ h refl refl (c.format_event-text.ensures.text ∙ sym (append-nil _)) c.in_ok-put.ensures.all c.in_ok-put.ensures.cause.kept refl (floor-event _ _ _ _ _ l _ _ c.requires.in_order c.moved_floor-self.ensures)
+returns-clause-follows g c = λ start l h. Listed-more l _ _ h refl refl (c.format_event-text.ensures.text ∙ sym (append-nil _)) c.in_ok-put.ensures.all refl (floor-event _ _ _ _ _ l _ _ c.requires.in_order c.moved_floor-self.ensures)

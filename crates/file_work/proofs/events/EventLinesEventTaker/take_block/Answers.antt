@@ -1,6 +1,6 @@
 use Rattle.std.{proofs.Common.{arith, rules, sym, append-nil, ◌≡◌, ◌+◌, ℕ, List, ◌++◌, refl, ap, subst, ◌∙◌, take, drop}, proofs.lemmas.List.{map-append, take-append-drop, take_all}, proofs.Math.Seq.take-add, proofs.lemmas.Result.err_from_is_err_and}
 use Rattle.tally_base.{specs.Columns.gathered, specs.declared.event.Event.Event}
-use Rattle.bench_io.{specs.Sinks.{AppendsShort, PassesOn}, proofs.Bytes.{PassesOn-held, PassesOn-trans, AppendsShort-passed}}
+use Rattle.bench_io.{specs.Sinks.{WroteShort, PassesOn}, proofs.Bytes.{WroteShort-passed, PassesOn-held, PassesOn-trans}}
 use Rattle.record_stream.{specs.Blocks.on_time, proofs.Steps.length-on_time}
 use Rattle.list_out.specs.Lines.{events_text}
 use Rattle.file_work.proofs.EventSteps.{lines_more, Listed-more, ListedShort-more, floor-block}
@@ -14,7 +14,7 @@ part_more held es from lines is =
     ∙ ap (λ l. held ++ events_text l) (sym (map-append _ (take from es) (take 64 (drop from es)))) ∙ ap (λ l. held ++ events_text (on_time l)) (sym (take-add from 64 es))
 
 pub parts-init : goal.parts-init
-parts-init g c = record { sink = refl; mode = refl; taken = refl; floor = refl; kept = refl; text = rw (append-nil c.args.self.now.block) (PassesOn-held _ _) }
+parts-init g c = record { sink = refl; mode = refl; taken = refl; floor = refl; text = rw (append-nil c.args.self.now.block) (PassesOn-held _ _) }
 
 pub parts-preserved : goal.parts-preserved
 parts-preserved g c =
@@ -25,8 +25,7 @@ parts-preserved g c =
       mode = inv.mode;
       taken = inv.taken;
       floor = inv.floor;
-      kept = c.in_ok-put.ensures.cause.kept ∙ inv.kept;
-      text = subst (λ t. PassesOn (g.O.Sink.written c.args.self.now.out.now) (g.O.Sink.written c.put.new.sink) t c.put.new.self) (part_more _ es c.parts.from _ c.format_block-lines.ensures)
+      text = subst (λ t. PassesOn (g.O.Sink.state c.args.self.now.out.now) (g.O.Sink.state c.put.new.sink) t c.put.new.self) (part_more _ es c.parts.from _ c.format_block-lines.ensures)
           (PassesOn-trans _ _ _ _ _ _ _ inv.text c.in_ok-put.ensures.all);
     }
 
@@ -36,8 +35,8 @@ returns-in_err-put-clause-broken g c =
     let es = gathered c.args.block.now in
     let front = take (c.parts.from + 64) es in
     let p = err_from_is_err_and c.from_residual.result c.from_residual.ensures.1 in
-    let short = subst (λ t. AppendsShort (g.O.Sink.written c.args.self.now.out.now) (g.O.Sink.written c.put.new.sink) t) (part_more _ es c.parts.from _ c.format_block-lines.ensures)
-    (AppendsShort-passed _ _ _ _ _ _ inv.text c.in_err-put.ensures.short) in
+    let short = subst (λ t. WroteShort (g.O.Sink.state c.args.self.now.out.now) (g.O.Sink.state c.put.new.sink) t) (part_more _ es c.parts.from _ c.format_block-lines.ensures)
+    (WroteShort-passed _ _ _ _ _ _ inv.text c.in_err-put.ensures.short) in
     rw p.1 (record {
       front = front;
       back = drop (c.parts.from + 64) es;
@@ -51,4 +50,4 @@ returns-clause-follows g c = λ start l h.
     let inv = c.parts.invariant in
     let es = gathered c.args.block.now in
     let all : take c.parts.from es ≡ es = take_all c.parts.from es (search (rules, arith)) in
-    Listed-more l (on_time es) _ h inv.sink inv.mode refl (rw all at inv.text) inv.kept (rw length-on_time (search (rules, arith, inv.taken))) (floor-block _ _ _ _ _ l es c.requires.in_order (search (rules, arith, inv.mode, inv.floor)))
+    Listed-more l (on_time es) _ h inv.sink inv.mode refl (rw all at inv.text) (rw length-on_time (search (rules, arith, inv.taken))) (floor-block _ _ _ _ _ l es c.requires.in_order (search (rules, arith, inv.mode, inv.floor)))

@@ -11,8 +11,7 @@ invariant-parts g l = record {
   mode : l.self.mode ≡ l.fn.self.mode;
   taken : l.self.taken ≡ l.fn.self.taken;
   floor : l.self.floor ≡ l.fn.self.floor;
-  kept : g.O.Sink.faults l.self.out.now ≡ g.O.Sink.faults l.fn.self.out.now;
-  text : PassesOn (g.O.Sink.written l.fn.self.out.now) (g.O.Sink.written l.self.out.now)
+  text : PassesOn (g.O.Sink.state l.fn.self.out.now) (g.O.Sink.state l.self.out.now)
       (l.fn.self.block ++ events_text (on_time (take l.from (gathered l.block)))) l.self.block;
 }
 

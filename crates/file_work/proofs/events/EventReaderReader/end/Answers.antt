@@ -9,5 +9,5 @@ returns-in_err-end_lines g c = search (rules, arith, err_from_is_err_and, ends-l
 
 pub returns : goal.returns
 returns g c = λ bytes h.
-    rw c.end_lines.ensures.untouched (ends-listed (how_of c.args.self.stream) bytes _ _ c.end_lines.result
+    rw c.end_lines.ensures.untouched (ends-listed (how_of c.args.self.stream) bytes _ c.end_lines.result
     (Ok (tt {0})) (c.end_lines.ensures.answer bytes h.streamed) (sym (ap fault_in c.in_ok-end_lines.was)))

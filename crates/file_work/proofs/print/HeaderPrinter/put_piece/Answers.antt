@@ -1,9 +1,9 @@
-use Rattle.std.{proofs.Common.{refl, ◌≡◌, ◌^◌, ◌≤◌, ◌++◌, List, ℕ, length, take, sym, ap, ◌∙◌, subst, append_assoc, arith, length-append, ◌+◌, [], Bool, drop, take-append-drop, rules}, proofs.lemmas.List.{length-take, take_all}, proofs.lemmas.Result.err_from_is_err_and, specs.declared.option.Option.Option}
+use Rattle.std.{proofs.Common.{refl, ◌≡◌, ◌^◌, ◌≤◌, ◌++◌, List, ℕ, length, take, sym, ap, ◌∙◌, subst, append_assoc, arith, length-append, ◌+◌, [], Bool, drop, take-append-drop, rules}, proofs.lemmas.List.{length-take, take_all}, proofs.lemmas.Result.err_from_is_err_and}
 use Rattle.ptu_definitions.{specs.TagList.{code_in, Item}, specs.Headers.{header_answer, seen, seen_preamble}}
 use Rattle.list_out.{specs.HeaderText.{kind_with, body_text, head_text, bare_end, preamble_lines_of, header_text}, specs.declared.body.BodyText.BodyText, specs.Lines.HasPut, proofs.Final.{header_text-grows, header_text-refused, header_text-done}, proofs.StepTexts.{header_text-same, header_text-preamble, header_text-tag, header_text-body, kind_with-is}}
 use Rattle.command_work.{specs.Outcomes.IsCut, proofs.Pieces.{two-parts, whole-piece}}
 use Rattle.tally_base.{specs.declared.fault.Fault.Fault, specs.declared.header.Header.Header}
-use Rattle.bench_io.{specs.Sinks.{AppendsShort, PassesOn}, proofs.Bytes.{PassesOn-trans, AppendsShort-passed, AppendsShort-more, AppendsShort-same}}
+use Rattle.bench_io.{specs.Sinks.{SinkState, WroteShort, PassesOn}, proofs.Bytes.{WroteShort-same, WroteShort-more, WroteShort-passed, PassesOn-trans}}
 use Rattle.ptu_tag.{specs.declared.kind.TagKind.TagKind, specs.declared.head.TagHead.TagHead}
 use Rattle.ptu_header.{specs.declared.reader.HeaderReader.HeaderReader, specs.declared.step.HeaderStep.TheVariants.{More, Preamble, Tag, Body, Done, Refused}, specs.ReadHeader.{Steps, bytes_taken}}
 use Rattle.file_work.{specs.BodyPieces.{Prints, PutsHeader, CutsHeader, end_line}, specs.declared.print.HeaderPrinter.HeaderPrinter, proofs.Ends.{no_items, last_item, PutsMore-next, CutsMore-next}}
@@ -14,20 +14,20 @@ abbrev printer : HeaderReader → BodyText → HeaderPrinter
 printer reader body = record { reader = reader; body = body }
 
 -- what a step makes of the part that it took, after what was taken before
-abbrev TakesPart : HeaderPrinter → List ℕ → ℕ → Option (List ℕ) → Option (List ℕ) → List ℕ → List ℕ → List ℕ → Type 0
+abbrev TakesPart : HeaderPrinter → List ℕ → ℕ → SinkState → SinkState → List ℕ → List ℕ → List ℕ → Type 0
 TakesPart new left more b c now later front = (text : List ℕ) × (header_text (front ++ take more left) ≡ header_text front ++ text) × PassesOn b c (now ++ text) later × Prints new (front ++ take more left)
 
 -- more text is put
-PutsHeader-next : (bytes piece left : List ℕ) (used more : ℕ) (new : HeaderPrinter) (a b c : Option (List ℕ)) (held now later : List ℕ) → left ≡ drop used piece
+PutsHeader-next : (bytes piece left : List ℕ) (used more : ℕ) (new : HeaderPrinter) (a b c : SinkState) (held now later : List ℕ) → left ≡ drop used piece
     → PutsHeader bytes (take used piece) a b held now → TakesPart new left more b c now later (bytes ++ take used piece) → PutsHeader bytes (take (used + more) piece) a c held later
 PutsHeader-next bytes piece left used more new a b c held now later e h part =
     PutsMore-next _ _ _ part.0 a b c held now later h (ap header_text (sym (two-parts bytes piece left used more e)) ∙ part.1) part.2
 
 -- more text is cut
-CutsHeader-next : (bytes piece left text : List ℕ) (used more : ℕ) (a b c : Option (List ℕ)) (held now : List ℕ)
+CutsHeader-next : (bytes piece left text : List ℕ) (used more : ℕ) (a b c : SinkState) (held now : List ℕ)
     → left ≡ drop used piece → PutsHeader bytes (take used piece) a b held now
     → header_text ((bytes ++ take used piece) ++ take more left) ≡ header_text (bytes ++ take used piece) ++ text
-    → AppendsShort b c (now ++ text) → CutsHeader bytes piece a c held
+    → WroteShort b c (now ++ text) → CutsHeader bytes piece a c held
 CutsHeader-next bytes piece left text used more a b c held now e h grown cut =
     let rest = header_text-grows (bytes ++ take (used + more) piece) (drop (used + more) piece) in
     CutsMore-next _ _ (header_text (bytes ++ take (used + more) piece)) _ text rest.0 a b c held now h (ap header_text (sym (two-parts bytes piece left used more e)) ∙ grown)
@@ -38,7 +38,7 @@ front-size : (front left : List ℕ) (more : ℕ) → more ≤ length left → l
 front-size front left more h = omega (arith, h, length-append front (take more left), length-take more left)
 
 -- what is left of the piece adds nothing
-PutsHeader-end : (bytes piece left : List ℕ) (used : ℕ) (a b : Option (List ℕ)) (held now : List ℕ)
+PutsHeader-end : (bytes piece left : List ℕ) (used : ℕ) (a b : SinkState) (held now : List ℕ)
     → left ≡ drop used piece → PutsHeader bytes (take used piece) a b held now
     → header_text ((bytes ++ take used piece) ++ left) ≡ header_text (bytes ++ take used piece) → PutsHeader bytes piece a b held now
 PutsHeader-end bytes piece left used a b held now e h same = search (rules, arith, whole-piece)
@@ -111,16 +111,16 @@ Prints-more : (old : HeaderPrinter) (bytes left : List ℕ) (reader : HeaderRead
 Prints-more old bytes left reader h s taken = record { read = s.0; taken = taken; body = λ items tag part shows. h.body items tag part (sym s.3.items ∙ shows) }
 
 -- the text of a body and the end of its line
-PassesOn-body : (a b c : Option (List ℕ)) (held added end now later : List ℕ) → PassesOn a b (held ++ added) now
+PassesOn-body : (a b c : SinkState) (held added end now later : List ℕ) → PassesOn a b (held ++ added) now
     → PassesOn b c (now ++ end) later → PassesOn a c (held ++ (added ++ end)) later
 PassesOn-body a b c held added end now later p q = rw (← append_assoc held added end) (PassesOn-trans a b c (held ++ added) now end later p q)
 
-AppendsShort-body : (a b : Option (List ℕ)) (held added end : List ℕ) → AppendsShort a b (held ++ added) → AppendsShort a b (held ++ (added ++ end))
-AppendsShort-body a b held added end p = AppendsShort-same a b _ _ (append_assoc held added end) (AppendsShort-more a b (held ++ added) end p)
+WroteShort-body : (a b : SinkState) (held added end : List ℕ) → WroteShort a b (held ++ added) → WroteShort a b (held ++ (added ++ end))
+WroteShort-body a b held added end p = WroteShort-same a b _ _ (append_assoc held added end) (WroteShort-more a b (held ++ added) end p)
 
-AppendsShort-end : (a b c : Option (List ℕ)) (held added end now : List ℕ) → PassesOn a b (held ++ added) now
-    → AppendsShort b c (now ++ end) → AppendsShort a c (held ++ (added ++ end))
-AppendsShort-end a b c held added end now p q = AppendsShort-same a c _ _ (append_assoc held added end) (AppendsShort-passed a b c (held ++ added) now end p q)
+WroteShort-end : (a b c : SinkState) (held added end now : List ℕ) → PassesOn a b (held ++ added) now
+    → WroteShort b c (now ++ end) → WroteShort a c (held ++ (added ++ end))
+WroteShort-end a b c held added end now p q = WroteShort-same a c _ _ (append_assoc held added end) (WroteShort-passed a b c (held ++ added) now end p q)
 
 pub returns-in-More-clause-leaves : goal.returns-in-More-clause-leaves
 returns-in-More-clause-leaves g c = λ bytes h.
@@ -158,7 +158,7 @@ steps-preserved-in-Preamble g c =
     let left = c.split_at.result.1.now in
     let more = c.in-Preamble.more in
     let new = printer c.feed.new.self c.steps.self.body in
-    let goes : (front : List ℕ) → Prints c.steps.self front → TakesPart new left more (g.O.Sink.written c.steps.out) (g.O.Sink.written c.put.new.sink) c.steps.block c.put.new.self front = λ front p.
+    let goes : (front : List ℕ) → Prints c.steps.self front → TakesPart new left more (g.O.Sink.state c.steps.out) (g.O.Sink.state c.put.new.sink) c.steps.block c.put.new.self front = λ front p.
     let s = c.in-Preamble.ensures.step front p.read in
     let size = front-size front left more s.0.0 in (
       preamble_lines_of c.in-Preamble.magic c.in-Preamble.version,
@@ -173,7 +173,7 @@ steps-preserved-in-Preamble g c =
       prints = λ bytes h. subst (Prints new) (two-parts bytes c.args.piece.now left c.steps.used more c.split_at.ensures.back) (goes _ (c.steps.invariant.prints bytes h)).3;
       text = λ bytes h. PutsHeader-next bytes c.args.piece.now left c.steps.used more _ _ _ _ _ _ _ c.split_at.ensures.back (c.steps.invariant.text bytes h) (goes _ (c.steps.invariant.prints bytes h));
       taken = omega (arith, c.in-Preamble.ensures.room.1, c.steps.invariant.taken);
-      kept = c.in_ok-put-in-Preamble.ensures.cause.kept ∙ c.steps.invariant.kept;
+      kept = c.in_ok-put-in-Preamble.ensures.all.passed.kept ∙ c.steps.invariant.kept;
     }
 
 pub returns-in_err-put-in-Tag-clause-short : goal.returns-in_err-put-in-Tag-clause-short
@@ -195,7 +195,7 @@ steps-preserved-in-Tag g c =
     let left = c.split_at.result.1.now in
     let more = c.in-Tag.more in
     let new = printer c.feed.new.self c.new-self.result in
-    let goes : (front : List ℕ) → Prints c.steps.self front → TakesPart new left more (g.O.Sink.written c.steps.out) (g.O.Sink.written c.put-in-Tag.new.sink) c.steps.block c.put-in-Tag.new.self front = λ front p.
+    let goes : (front : List ℕ) → Prints c.steps.self front → TakesPart new left more (g.O.Sink.state c.steps.out) (g.O.Sink.state c.put-in-Tag.new.sink) c.steps.block c.put-in-Tag.new.self front = λ front p.
     let s = c.in-Tag.ensures.step front p.read in
     let size = front-size front left more s.0.0 in (
       head_text c.in-Tag.tag c.in-Tag.kind ++ bare_end s.2.0,
@@ -210,7 +210,7 @@ steps-preserved-in-Tag g c =
       prints = λ bytes h. subst (Prints new) (two-parts bytes c.args.piece.now left c.steps.used more c.split_at.ensures.back) (goes _ (c.steps.invariant.prints bytes h)).3;
       text = λ bytes h. PutsHeader-next bytes c.args.piece.now left c.steps.used more _ _ _ _ _ _ _ c.split_at.ensures.back (c.steps.invariant.text bytes h) (goes _ (c.steps.invariant.prints bytes h));
       taken = omega (arith, c.in-Tag.ensures.room.1, c.steps.invariant.taken);
-      kept = c.in_ok-put-in-Tag.ensures.cause.kept ∙ c.steps.invariant.kept;
+      kept = c.in_ok-put-in-Tag.ensures.all.passed.kept ∙ c.steps.invariant.kept;
     }
 
 pub returns-in-Done-clause-leaves : goal.returns-in-Done-clause-leaves
@@ -259,7 +259,7 @@ returns-in_err-put_body-in-Body-clause-short g c =
     CutsHeader-next bytes c.args.piece.now left (body.added ++ end_line c.in-Body.last) c.steps.used more _ _ _ c.args.block.now c.steps.block c.split_at.ensures.back
     (c.steps.invariant.text bytes h)
     (text-body front left body.added more c.in-Body.last c.feed.new.self s (omega (arith, p.taken, front-size front left more s.0.0, c.in-Body.ensures.room.1, c.in-Body.ensures.limit)) body.text)
-    (AppendsShort-body _ _ c.steps.block body.added (end_line c.in-Body.last) body.cut))
+    (WroteShort-body _ _ c.steps.block body.added (end_line c.in-Body.last) body.cut))
 
 pub returns-in_err-put_end-in-Body-clause-short : goal.returns-in_err-put_end-in-Body-clause-short
 returns-in_err-put_end-in-Body-clause-short g c =
@@ -275,14 +275,14 @@ returns-in_err-put_end-in-Body-clause-short g c =
     CutsHeader-next bytes c.args.piece.now left (body.added ++ end_line c.in-Body.last) c.steps.used more _ _ _ c.args.block.now c.steps.block c.split_at.ensures.back
     (c.steps.invariant.text bytes h)
     (text-body front left body.added more c.in-Body.last c.feed.new.self s (omega (arith, p.taken, front-size front left more s.0.0, c.in-Body.ensures.room.1, c.in-Body.ensures.limit)) body.text)
-    (AppendsShort-end _ _ _ c.steps.block body.added (end_line c.in-Body.last) c.put_body.new.block body.put c.in_err-put_end-in-Body.ensures.short))
+    (WroteShort-end _ _ _ c.steps.block body.added (end_line c.in-Body.last) c.put_body.new.block body.put c.in_err-put_end-in-Body.ensures.short))
 
 pub steps-preserved : goal.steps-preserved
 steps-preserved g c =
     let left = c.split_at.result.1.now in
     let more = c.in-Body.more in
     let new = printer c.feed.new.self c.put_body.new.text in
-    let goes : (front : List ℕ) → Prints c.steps.self front → TakesPart new left more (g.O.Sink.written c.steps.out) (g.O.Sink.written c.put_end.new.out) c.steps.block c.put_end.new.block front = λ front p.
+    let goes : (front : List ℕ) → Prints c.steps.self front → TakesPart new left more (g.O.Sink.state c.steps.out) (g.O.Sink.state c.put_end.new.out) c.steps.block c.put_end.new.block front = λ front p.
     let s = c.in-Body.ensures.step front p.read in
     let size = front-size front left more s.0.0 in
     let part = p.body s.2.items s.2.tag s.2.part s.2.before_are in
@@ -300,5 +300,5 @@ steps-preserved g c =
       prints = λ bytes h. subst (Prints new) (two-parts bytes c.args.piece.now left c.steps.used more c.split_at.ensures.back) (goes _ (c.steps.invariant.prints bytes h)).3;
       text = λ bytes h. PutsHeader-next bytes c.args.piece.now left c.steps.used more _ _ _ _ _ _ _ c.split_at.ensures.back (c.steps.invariant.text bytes h) (goes _ (c.steps.invariant.prints bytes h));
       taken = omega (arith, c.in-Body.ensures.room.1, c.steps.invariant.taken);
-      kept = c.in_ok-put_end-in-Body.ensures.cause.kept ∙ c.in_ok-put_body-in-Body.ensures.cause.kept ∙ c.steps.invariant.kept;
+      kept = c.in_ok-put_end-in-Body.ensures.all.passed.kept ∙ c.in_ok-put_body-in-Body.ensures.cause.kept ∙ c.steps.invariant.kept;
     }

@@ -6,14 +6,14 @@ use Rattle.file_work.proofs.print.HeaderPrinter.put_piece.Given as goal
 -- the text of the first `used` bytes of the piece is put
 abbrev pub invariant-steps : goal.invariant-steps
 invariant-steps g l =
-    let written = g.O.Sink.written in
+    let state = g.O.Sink.state in
     record {
       fits : l.used ≤ length l.piece;
       started : (bytes : List ℕ) × Prints l.self bytes;
       prints : (bytes : List ℕ) → Prints l.fn.self bytes → Prints l.self (bytes ++ take l.used l.piece);
-      text : (bytes : List ℕ) → Prints l.fn.self bytes → PutsHeader bytes (take l.used l.piece) (written l.initial.out) (written l.out) l.fn.block l.block;
+      text : (bytes : List ℕ) → Prints l.fn.self bytes → PutsHeader bytes (take l.used l.piece) (state l.initial.out) (state l.out) l.fn.block l.block;
       taken : bytes_taken l.self.reader ≡ bytes_taken l.fn.self.reader + l.used;
-      kept : g.O.Sink.faults l.out ≡ g.O.Sink.faults l.initial.out;
+      kept : (state l.out).faults ≡ (state l.initial.out).faults;
     }
 
 abbrev pub decreases-steps : goal.decreases-steps

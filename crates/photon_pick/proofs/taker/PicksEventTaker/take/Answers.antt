@@ -3,14 +3,14 @@ use Rattle.tally_base.{specs.declared.event.Event.Event, specs.Events.is_ordered
 use Rattle.ptu_definitions.{specs.Kept.{Marked, floor_of}, specs.Settled.not_marked}
 use Rattle.record_write.proofs.Puts.{puts-none}
 use Rattle.abs_time.{specs.Floors.moved_floor, proofs.Floors.moved_floor-push}
-use Rattle.photon_pick.{specs.Giving.{pen_on, Stand, Took}, proofs.Gives.{Gave-none, Gave-more, refuses}, proofs.Takes.{Took-more, Refused-more}}
+use Rattle.photon_pick.{specs.Giving.{pen_on, Stand, TookPhotons}, proofs.Gives.{Gave-none, Gave-more, refuses}, proofs.Takes.{TookPhotons-more, Refused-more}}
 use Rattle.photon_pick.proofs.taker.PicksEventTaker.take.Goals as goal
 
 -- which events are wanted
 wanted : (chooses : Event → Bool) (e : Event) (late b : Bool) → b ≡ (not late && chooses e) → filter chooses (not_marked ((e, late) ∷ [])) ≡ (if b then e ∷ [] else [])
 wanted chooses e late b is = search (rules, arith)
 
-moves : (s t : Stand) (l : Marked) (h : Took s t l) (e : Event) (late : Bool) (floor : ℕ) → floor ≡ moved_floor t.mode t.floor e late
+moves : (s t : Stand) (l : Marked) (h : TookPhotons s t l) (e : Event) (late : Bool) (floor : ℕ) → floor ≡ moved_floor t.mode t.floor e late
     → (IsTrue (is_ordered t.mode e && not late) → t.floor ≤ e.time) → floor ≡ max s.floor (floor_of t.mode (l ++ (e, late) ∷ []))
 moves s t l h e late floor is order = is ∙ moved_floor-push t.mode s.floor t.floor l e late (rw h.same_mode h.moved) order
 
@@ -19,8 +19,8 @@ returns-then-not-wanted-clause-follows g c = λ start l h.
     let t = c.args.self.now in
     let none : c.is_wanted-wanted.result ≡ false = search rules in
     let old = pen_on g.O.Sink t.picker.now t.out.now t.block in
-    Took-more _ _ l h t.of_mode ((c.args.event.now, c.args.late) ∷ []) [] (wanted _ c.args.event.now c.args.late false (sym none ∙ c.is_wanted-wanted.ensures)) old _ _ refl
-    (λ behind is. rw append-nil is) (λ behind is. puts-none old.written old.held) refl refl (moves _ _ l h c.args.event.now c.args.late _ c.moved_floor-self.ensures c.requires.in_order)
+    TookPhotons-more _ _ l h t.of_mode ((c.args.event.now, c.args.late) ∷ []) [] (wanted _ c.args.event.now c.args.late false (sym none ∙ c.is_wanted-wanted.ensures)) old _ _ refl
+    (λ behind is. rw append-nil is) (λ behind is. puts-none old.sink old.held) refl (moves _ _ l h c.args.event.now c.args.late _ c.moved_floor-self.ensures c.requires.in_order)
 
 pub returns-in-Ok-clause-follows : goal.returns-in-Ok-clause-follows
 returns-in-Ok-clause-follows g c = λ start l h.
@@ -30,8 +30,8 @@ returns-in-Ok-clause-follows g c = λ start l h.
     let some : c.is_wanted-wanted.result ≡ true = search rules in
     let old = pen_on g.O.Sink t.picker.now t.out.now t.block in
     let new = pen_on g.O.Sink c.put.new.self c.put.new.out c.put.new.block in
-    let gave = Gave-more old old [] e (Gave-none old (t.going (search rules))) new _ told.late told.picks told.puts told.cause.kept in
-    Took-more _ _ l h t.of_mode ((e, c.args.late) ∷ []) (e ∷ []) (wanted _ e c.args.late true (sym some ∙ c.is_wanted-wanted.ensures)) new _ _ gave.in_time gave.picked gave.text gave.kept refl
+    let gave = Gave-more old old [] e (Gave-none old (t.going (search rules))) new _ told.late told.picks told.puts in
+    TookPhotons-more _ _ l h t.of_mode ((e, c.args.late) ∷ []) (e ∷ []) (wanted _ e c.args.late true (sym some ∙ c.is_wanted-wanted.ensures)) new _ _ gave.in_time gave.picked gave.text refl
     (moves _ _ l h e c.args.late _ c.moved_floor-self.ensures c.requires.in_order)
 
 pub returns-in-Err-clause-broken : goal.returns-in-Err-clause-broken
@@ -43,5 +43,5 @@ returns-in-Err-clause-broken g c = λ start l h none.
     let old = pen_on g.O.Sink t.picker.now t.out.now t.block in
     let new = pen_on g.O.Sink c.put.new.self c.put.new.out c.put.new.block in
     let why = refuses old old [] e (Gave-none old (t.going (search rules))) new c.in-Err.fault told.late
-    (λ is. let kept = told.untouched is in (ap g.O.Sink.written kept.0, kept.1)) told.puts told.cause in
+    (λ is. let kept = told.untouched is in (ap g.O.Sink.state kept.0, kept.1)) told.puts told.cause in
     Refused-more _ _ l h t.of_mode ((e, c.args.late) ∷ []) (e ∷ []) (wanted _ e c.args.late true (sym some ∙ c.is_wanted-wanted.ensures)) c.in-Err.fault [] e refl refl _ why refl

@@ -5,7 +5,7 @@ use Rattle.gate_plan.specs.Groups.{sorting_of}
 use Rattle.abs_time.specs.Floors.{orders_markers}
 use Rattle.record_stream.{specs.Blocks.on_time, proofs.Steps.length-on_time, proofs.Gathering.floor_of-block}
 use Rattle.record_write.specs.Picker.{mode_of, last_by}
-use Rattle.photon_pick.{specs.Chosen.is_chosen, specs.Giving.{pen_on, CanBeGiven, Gave, Stopped}, proofs.Ends.chosen-photon, proofs.Takes.{order-chosen, last-chosen, up_to, Took-more, Refused-more}}
+use Rattle.photon_pick.{specs.Chosen.is_chosen, specs.Giving.{pen_on, CanBeGiven, Gave, Stopped}, proofs.Ends.chosen-photon, proofs.Takes.{order-chosen, last-chosen, up_to, TookPhotons-more, Refused-more}}
 use Rattle.photon_pick.proofs.taker.PicksEventTaker.take_block.Goals as goal
 
 pub give_photons-given-requires-clause-can : goal.give_photons-given-requires-clause-can
@@ -66,5 +66,5 @@ returns-clause-follows g c = λ start l h.
     let old = pen_on g.O.Sink t.picker.now t.out.now t.block in
     let new = pen_on g.O.Sink c.give_photons-given.new.picker c.give_photons-given.new.out c.give_photons-given.new.block in
     let gave : Gave old new (filter p es) = subst (λ ps. Gave old new ps) c.choose-many.ensures.chosen c.in_default.ensures.gave in
-    Took-more _ _ l h t.of_mode (on_time es) (filter p es) (ap (filter p) (not_marked-false es)) new _ _ gave.in_time gave.picked gave.text gave.kept (omega (arith, c.len-2.ensures.value, length-on_time es))
+    TookPhotons-more _ _ l h t.of_mode (on_time es) (filter p es) (ap (filter p) (not_marked-false es)) new _ _ gave.in_time gave.picked gave.text (omega (arith, c.len-2.ensures.value, length-on_time es))
     (rw c.orders_markers.ensures at c.floor_after-self.ensures ∙ floor_of-block t.mode l es _ t.floor (rw h.same_mode h.moved) c.requires.in_order)

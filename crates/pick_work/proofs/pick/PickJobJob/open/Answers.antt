@@ -17,14 +17,14 @@ returns-in_err-start-clause-opens g c =
     let job = c.args.self.now in
     let suits = sym (rw c.mode-mode.ensures at c.in_ok-fits.ensures.answer) in
     let short = rw (c.new-picker.ensures.mode, c.mode-mode.ensures) at c.in_err-start.ensures.short in
-    rw (p.1, p.2, suits) (opens-cut (Unit {0}) (picks (chosen_by (plan_view job.plan.now) job.group) (reading_by (plan_view job.plan.now) c.args.header.now)) _ _ _ _ _ c.in_err-start.field-0.0 _ (picks-start _ _) c.in_err-start.ensures.fault short c.in_err-start.ensures.cause.once)
+    rw (p.1, p.2, suits) (opens-cut (Unit {0}) (picks (chosen_by (plan_view job.plan.now) job.group) (reading_by (plan_view job.plan.now) c.args.header.now)) _ _ _ c.in_err-start.field-0.0 _ (picks-start _ _) c.in_err-start.ensures.fault short)
 
 pub returns-clause-opens : goal.returns-clause-opens
 returns-clause-opens g c =
     let job = c.args.self.now in
     let suits = sym (rw c.mode-mode.ensures at c.in_ok-fits.ensures.answer) in
     let wrote = rw (c.new-picker.ensures.mode, c.mode-mode.ensures) at c.in_ok-start.ensures.all in
-    rw suits (opens-wrote (Unit {0}) (picks (chosen_by (plan_view job.plan.now) job.group) (reading_by (plan_view job.plan.now) c.args.header.now)) ⊥ _ _ _ _ tt _ (picks-start _ _) (picks-none _ _ c.new-picker.result c.new-picker.ensures.none) wrote c.in_ok-start.ensures.cause.kept)
+    rw suits (opens-wrote (Unit {0}) (picks (chosen_by (plan_view job.plan.now) job.group) (reading_by (plan_view job.plan.now) c.args.header.now)) ⊥ _ _ tt _ (picks-start _ _) (picks-none _ _ c.new-picker.result c.new-picker.ensures.none) wrote)
 
 pub returns-clause-tells : goal.returns-clause-tells
 returns-clause-tells g c =

@@ -1,6 +1,6 @@
 use Rattle.std.proofs.lemmas.Result.{err_from_is_err_and}
 use Rattle.plan_text.specs.ReadPlan.{plan_view}
-use Rattle.streamed_text.proofs.Texts.{WroteText-none}
+use Rattle.bench_io.proofs.Texts.{WroteText-none}
 use Rattle.command_work.proofs.RestEnds.{refused-none}
 use Rattle.report_work.proofs.Reports.{for-own, reports-same, opens-unopened}
 use Rattle.report_work.proofs.run.RunJobJob.open.Goals as goal
@@ -8,10 +8,10 @@ use Rattle.report_work.proofs.run.RunJobJob.open.Goals as goal
 pub returns-in_err-engine-clause-opens : goal.returns-in_err-engine-clause-opens
 returns-in_err-engine-clause-opens g c =
     let p = err_from_is_err_and c.from_residual.result c.from_residual.ensures.1 in
-    rw (p.1, p.2) (opens-unopened (plan_view c.args.self.now.plan.now) c.args.header.now _ _ c.in_err-engine.field-0.0 c.in_err-engine.ensures.answer)
+    rw (p.1, p.2) (opens-unopened (plan_view c.args.self.now.plan.now) c.args.header.now _ c.in_err-engine.field-0.0 c.in_err-engine.ensures.answer)
 
 pub returns-clause-opens : goal.returns-clause-opens
-returns-clause-opens g c = rw c.in_ok-engine.ensures.answer (refused-none _, WroteText-none _ _ _)
+returns-clause-opens g c = rw c.in_ok-engine.ensures.answer (refused-none _, WroteText-none _ _)
 
 pub returns-clause-tells : goal.returns-clause-tells
 returns-clause-tells g c =

@@ -32,7 +32,7 @@ returns-in_err-start-clause-opens g c =
     let view = plan_view job.plan.now in
     let suits = sym (rw c.mode-mode.ensures at c.in_ok-fits.ensures.answer) in
     let short = rw c.new-trace.ensures.set at c.in_err-start.ensures.short in
-    rw (p.1, p.2, suits) (opens-cut (Unit {0}) (traces (trace_view job.set) (sorting view) (reading_by view c.args.header.now)) _ _ _ _ _ c.in_err-start.field-0.0 _ (text-none (trace_view job.set) (sorting view) (reading_by view c.args.header.now)) c.in_err-start.ensures.fault short c.in_err-start.ensures.cause.once)
+    rw (p.1, p.2, suits) (opens-cut (Unit {0}) (traces (trace_view job.set) (sorting view) (reading_by view c.args.header.now)) _ _ _ c.in_err-start.field-0.0 _ (text-none (trace_view job.set) (sorting view) (reading_by view c.args.header.now)) c.in_err-start.ensures.fault short)
 
 pub returns-clause-opens : goal.returns-clause-opens
 returns-clause-opens g c =
@@ -40,7 +40,7 @@ returns-clause-opens g c =
     let view = plan_view job.plan.now in
     let suits = sym (rw c.mode-mode.ensures at c.in_ok-fits.ensures.answer) in
     let wrote = rw c.new-trace.ensures.set at c.in_ok-start.ensures.text in
-    rw suits (opens-wrote (Unit {0}) (traces (trace_view job.set) (sorting view) (reading_by view c.args.header.now)) ⊥ _ _ _ _ tt _ (text-none (trace_view job.set) (sorting view) (reading_by view c.args.header.now)) (refused-none _) wrote c.in_ok-start.ensures.cause.kept)
+    rw suits (opens-wrote (Unit {0}) (traces (trace_view job.set) (sorting view) (reading_by view c.args.header.now)) ⊥ _ _ tt _ (text-none (trace_view job.set) (sorting view) (reading_by view c.args.header.now)) (refused-none _) wrote)
 
 pub returns-clause-tells : goal.returns-clause-tells
 returns-clause-tells g c =

@@ -20,14 +20,14 @@ returns-in_err-put-clause-broken g c =
       back = [];
       some = some;
       are = sym (append-nil es);
-      broken = λ start l h. TracedShort-block _ _ _ _ _ _ _ _ _ _ _ _ _ _ _ _ l _ _ _ es c.take_block.new.lines.items h given
+      broken = λ start l h. TracedShort-block _ _ _ _ _ _ _ _ _ _ _ _ _ _ l _ _ _ es c.take_block.new.lines.items h given
           (rw c.as_slice.ensures.value at c.in_err-put.ensures.short) c.in_err-put.ensures.empty;
     })
 
 pub returns-clause-follows : goal.returns-clause-follows
 returns-clause-follows g c = λ start l h.
     let given = rw c.sort_events.ensures.sorted at c.take_block.ensures.given in
-    Traced-block _ _ _ _ _ _ _ _ _ _ _ _ _ _ _ _ l _ _ _ _ (gathered c.args.block.now) c.take_block.new.lines.items _ _ h given (rw c.as_slice.ensures.value at c.in_ok-put.ensures.all) c.in_ok-put.ensures.cause.kept c.requires.in_order (search (rules, arith)) (search rules)
+    Traced-block _ _ _ _ _ _ _ _ _ _ _ _ _ _ l _ _ _ (gathered c.args.block.now) c.take_block.new.lines.items _ _ h given (rw c.as_slice.ensures.value at c.in_ok-put.ensures.all) c.requires.in_order (search (rules, arith)) (search rules)
 
 pub take_block-requires-clause-in_order : goal.take_block-requires-clause-in_order
 take_block-requires-clause-in_order g c = search (rules, arith, block-in_order)
