@@ -3,7 +3,7 @@ ghost use Rattle.std.specs.Prelude.{◌≡◌, ◌+◌, ◌*◌, ◌≤◌, ◌+
 ghost use Rattle.tally_base.{specs.declared.event.Event.Event, specs.Limits.record_limit, specs.Columns.{count, sorted, gathered}};
 ghost use Rattle.ptu_definitions.specs.Words.{numbers};
 ghost use Rattle.record_layout.specs.Sums.{IsSplit};
-ghost use Rattle.record_stream.specs.{Feeding.Delivers, OneMore.{summed, with_block, first_with, last_with}, Whole.{events_below, InReach}, Walking.{how_of, WalksOn}, Settling.{floor_in, HasTaken, IsReady, StaysKept}};
+ghost use Rattle.record_stream.specs.{Feeding.Delivers, OneMore.{summed, with_block, first_with, last_with}, Whole.{events_below, InReach}, Walking.{how_of, WalksOn}, Keeping.IsKeeping, Settling.{floor_in, Becomes, ComesUp, HasTaken, IsReady, StaysKept}};
 
 use crate::ahead::{Ahead, first_time};
 use crate::columns_taker::TakesColumns;
@@ -13,8 +13,8 @@ use abs_time::Clock;
 use lane_decode::Columns;
 use ptu_definitions::KindCounts;
 use record_layout::RecordLayout;
-use settle::Settle;
-use tally_base::{BLOCK_SIZE, Block, Fault, TABLE_BLOCK};
+use settle::{Settle, Settled};
+use tally_base::{BLOCK_SIZE, Block, Event, Fault, TABLE_BLOCK};
 
 /// Puts the events of 64 records whose codes are below `below` after those of a block, several records at once.
 #[inline(always)]
@@ -67,11 +67,21 @@ pub(crate) fn first_kept(kept: bool, first: u64, time: u64) -> u64
     if kept { first } else { time }
 }
 
-/// The order in which a stream gives its events, with room for a block of words.
-pub(crate) trait GivingOrder {
-    /// It is this order where so many events may overtake one.
+/// What becomes of events, in file order or where they are put in their places.
+pub(crate) trait SettlesEvents {
+    /// It is for policies by which so many events may overtake one.
     ghost is_for: { ℕ → Type 0 };
 
+    /// What becomes of the next event, of a record that is counted and placed, which is late in file order or not.
+    fn settle_event(walk: &Walk, settle: &mut Settle, event: Event, late: bool) -> Settled
+        requires is_for { is_for (how_of walk.now).policy.settle }
+        requires keeps { IsKeeping walk.now settle.old }
+        requires comes { ComesUp walk.now settle.old event late }
+        ensures { Becomes walk.now settle.old settle.new event late result };
+}
+
+/// The order in which a stream gives its events, with room for a block of words.
+pub(crate) trait GivingOrder: SettlesEvents {
     fn new() -> Self;
 
     /// Takes a block of words.
@@ -82,7 +92,7 @@ pub(crate) trait GivingOrder {
         words: &[[u8; 4]],
         taker: &mut W,
     ) -> Result<(), Fault>
-        requires is_for { is_for (how_of walk.old).policy.settle }
+        requires is_for { Self.is_for (how_of walk.old).policy.settle }
         requires whole { length words.now ≡ BLOCK_SIZE }
         requires meaning { R.meaning ≡ (how_of walk.old).meaning }
         requires ready { IsReady W.EventTaker walk.old settle.old taker.old }
@@ -99,9 +109,18 @@ pub(crate) struct FileOrder {
     columns: Columns,
 }
 
-impl GivingOrder for FileOrder {
+impl SettlesEvents for FileOrder {
     ghost is_for = { λ k. k ≡ 0 };
 
+    /// It is given at once.
+    #[inline(always)]
+    fn settle_event(_walk: &Walk, _settle: &mut Settle, event: Event, late: bool) -> Settled {
+        let emitted = if late { None } else { Some(event) };
+        Settled { emitted, late }
+    }
+}
+
+impl GivingOrder for FileOrder {
     fn new() -> FileOrder {
         FileOrder {
             columns: Columns::new(),
@@ -118,7 +137,7 @@ impl GivingOrder for FileOrder {
     ) -> Result<(), Fault> {
         self.columns.fill::<R>(words);
         let Some(ahead) = Ahead::of::<R>(walk, words, &self.columns) else {
-            return walk.words::<R, W>(settle, words, taker);
+            return walk.words::<R, FileOrder, W>(settle, words, taker);
         };
         let clock = walk.clock;
         if taker
@@ -156,7 +175,7 @@ pub(crate) fn take_words<R: RecordLayout, O: GivingOrder + Drop, W: TakesColumns
     ensures stays { StaysKept W.EventTaker walk.old walk.new settle.new taker.old taker.new }
 {
     if words.len() < BLOCK_SIZE {
-        return walk.words::<R, W>(settle, words, taker);
+        return walk.words::<R, O, W>(settle, words, taker);
     }
     let mut order = O::new();
     let mut rest = words;
@@ -165,5 +184,5 @@ pub(crate) fn take_words<R: RecordLayout, O: GivingOrder + Drop, W: TakesColumns
         order.take_block::<R, W>(walk, settle, front, taker)?;
         rest = back;
     }
-    walk.words::<R, W>(settle, rest, taker)
+    walk.words::<R, O, W>(settle, rest, taker)
 }

@@ -5,16 +5,17 @@ ghost use Rattle.record_stream.specs.OneMore.{summed, with_block};
 ghost use Rattle.record_layout.specs.Sums.{IsSplit};
 
 use crate::ahead::{Ahead, ordered_below};
-use crate::blocks::{GivingOrder, add_block, first_kept, put_events};
+use crate::blocks::{GivingOrder, SettlesEvents, add_block, first_kept, put_events};
 use crate::columns_taker::TakesColumns;
 use crate::count::Sums;
 use crate::letting_go::let_go;
 use crate::walk::Walk;
+use abs_time::is_ordered;
 use arrayvec::ArrayVec;
 use lane_decode::Columns;
 use ptu_definitions::KindCounts;
 use record_layout::RecordLayout;
-use settle::Settle;
+use settle::{Settle, Settled};
 use tally_base::{BLOCK_SIZE, Block, Event, Fault, TABLE_BLOCK};
 
 /// Counts the records of words, of which these are the kinds, and the events that are given with them.
@@ -50,9 +51,22 @@ pub(crate) struct InPlace {
     stay: ArrayVec<Event, 64>,
 }
 
-impl GivingOrder for InPlace {
+impl SettlesEvents for InPlace {
     ghost is_for = { λ k. k ≢ 0 };
 
+    /// It is left out if it isn't in order, and otherwise the least of it and those kept back goes.
+    fn settle_event(walk: &Walk, settle: &mut Settle, event: Event, _late: bool) -> Settled {
+        if !is_ordered(walk.clock.mode(), &event) {
+            return Settled {
+                emitted: None,
+                late: false,
+            };
+        }
+        settle.push(event)
+    }
+}
+
+impl GivingOrder for InPlace {
     fn new() -> InPlace {
         InPlace {
             columns: Columns::new(),
@@ -72,7 +86,7 @@ impl GivingOrder for InPlace {
     ) -> Result<(), Fault> {
         self.columns.fill::<R>(words);
         let Some(ahead) = Ahead::of::<R>(walk, words, &self.columns) else {
-            return walk.words::<R, W>(settle, words, taker);
+            return walk.words::<R, InPlace, W>(settle, words, taker);
         };
         let clock = walk.clock;
         let below = ordered_below(clock.mode());

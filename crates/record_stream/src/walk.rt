@@ -4,8 +4,8 @@ ghost use Rattle.abs_time.{specs.Placing.{mode_of as clock_mode, placed_by, IsSm
 ghost use Rattle.tally_base.{specs.RecordTypes.mode_of, specs.Limits.record_limit, specs.declared.fault.Fault.TheVariants.WriteFault, specs.FaultCounts.FailsOnce, specs.Events.is_ordered};
 ghost use Rattle.ptu_definitions.{specs.Kept.Marked, specs.Layouts.Fits, specs.Words.numbers, specs.Streams.refusal};
 
+use crate::blocks::SettlesEvents;
 use crate::count::{Sums, add_event, add_raw, stops_at, stops_late};
-use crate::settled::settle_event;
 use crate::taker::EventTaker;
 use abs_time::{Clock, Placed};
 use ptu_definitions::Raw;
@@ -72,13 +72,14 @@ impl Walk {
 
     /// Takes the next word.
     #[inline(always)]
-    fn step<R: RecordLayout, S: EventTaker>(
+    fn step<R: RecordLayout, O: SettlesEvents, S: EventTaker>(
         &mut self,
         settle: &mut Settle,
         word: u32,
         taker: &mut S,
     ) -> Result<(), Fault>
         requires meaning { R.meaning ≡ (how_of self.old).meaning }
+        requires is_for { O.is_for (how_of self.old).policy.settle }
         requires ready { IsReady S.EventTaker self.old settle.old taker.old }
         ensures delivers { Delivers S.EventTaker (how_of self.old) (HasTaken self.old settle.old)
             (HasTaken self.new settle.new) taker.old taker.new (word ∷ []) result }
@@ -87,8 +88,10 @@ impl Walk {
         ensures stays { StaysKept S.EventTaker self.old self.new settle.new taker.old taker.new }
     {
         match self.place_next::<R>(word)? {
-            Placed::Event(event) => self.take_event(settle, event, event.time, false, taker),
-            Placed::Late { event, before } => self.take_event(settle, event, before, true, taker),
+            Placed::Event(event) => self.take_event::<O, S>(settle, event, event.time, false, taker),
+            Placed::Late { event, before } => {
+                self.take_event::<O, S>(settle, event, before, true, taker)
+            }
             Placed::Wrap | Placed::Reserved => Ok(()),
         }
     }
@@ -96,7 +99,7 @@ impl Walk {
     /// Takes the next event, of a record that is counted and placed, and gives the taker what goes with it. It is late
     /// in file order or not, and `before` is the greatest time of the events in order before it, if that is greater.
     #[inline(always)]
-    fn take_event<S: EventTaker>(
+    fn take_event<O: SettlesEvents, S: EventTaker>(
         &mut self,
         settle: &mut Settle,
         event: Event,
@@ -104,6 +107,7 @@ impl Walk {
         late: bool,
         taker: &mut S,
     ) -> Result<(), Fault>
+        requires is_for { O.is_for (how_of self.old).policy.settle }
         requires keeps { IsKeeping self.old settle.old }
         requires comes { ComesUp self.old settle.old event late }
         requires follows { IsFollowedBy S.EventTaker self.old settle.old taker.old }
@@ -114,7 +118,7 @@ impl Walk {
         ensures place { KeepsPlace self.old self.new }
         ensures stays { StaysKept S.EventTaker self.old self.new settle.new taker.old taker.new }
     {
-        let settled = settle_event(self, settle, event, late);
+        let settled = O::settle_event(self, settle, event, late);
         if settled.late {
             if stops_late(self.policy.order) {
                 return Err(Fault::BackwardTime {
@@ -158,13 +162,14 @@ impl Walk {
     }
 
     /// Takes the next words, one after the other.
-    pub(crate) fn words<R: RecordLayout, S: EventTaker>(
+    pub(crate) fn words<R: RecordLayout, O: SettlesEvents, S: EventTaker>(
         &mut self,
         settle: &mut Settle,
         words: &[[u8; 4]],
         taker: &mut S,
     ) -> Result<(), Fault>
         requires meaning { R.meaning ≡ (how_of self.old).meaning }
+        requires is_for { O.is_for (how_of self.old).policy.settle }
         requires ready { IsReady S.EventTaker self.old settle.old taker.old }
         ensures delivers { Delivers S.EventTaker (how_of self.old) (HasTaken self.old settle.old)
             (HasTaken self.new settle.new) taker.old taker.new (numbers words.now) result }
@@ -175,7 +180,7 @@ impl Walk {
         // A copy, whose fields the loop keeps in registers.
         let mut at = *self;
         for word in words {
-            match at.step::<R, S>(settle, u32::from_le_bytes(*word), taker) {
+            match at.step::<R, O, S>(settle, u32::from_le_bytes(*word), taker) {
                 Ok(()) => {}
                 Err(fault) => {
                     *self = at;

@@ -87,3 +87,9 @@ pub returns-in-Wrap-clause-delivers : goal.returns-in-Wrap-clause-delivers
 returns-in-Wrap-clause-delivers g c = delivers-both g.S.EventTaker (λ words h.
     skip_word g.S.EventTaker c.args.settle.now c.args.settle.now c.args.taker.now (c.in_ok-event.ensures.placed words h.at)
     c.place_next.ensures.keeps.same_how c.place_next.ensures.keeps.same_given h (skipped-event _ c.in-Wrap.is))
+
+pub take_event-requires-clause-is_for : goal.take_event-requires-clause-is_for
+take_event-requires-clause-is_for g c = subst (λ (h : StreamSettings). g.O.SettlesEvents.is_for h.policy.settle) (sym c.place_next.ensures.keeps.same_how) c.requires.is_for
+
+pub take_event-requires-in-Late-clause-is_for : goal.take_event-requires-in-Late-clause-is_for
+take_event-requires-in-Late-clause-is_for g c = subst (λ (h : StreamSettings). g.O.SettlesEvents.is_for h.policy.settle) (sym c.place_next.ensures.keeps.same_how) c.requires.is_for

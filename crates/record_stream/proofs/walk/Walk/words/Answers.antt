@@ -1,4 +1,5 @@
-use Rattle.std.{proofs.Common.{refl, arith, rules}, proofs.lemmas.List.take_all}
+use Rattle.std.{proofs.Common.{refl, arith, rules, sym, subst}, proofs.lemmas.List.take_all}
+use Rattle.ptu_definitions.specs.Streams.{StreamSettings}
 use Rattle.record_stream.{proofs.Feeds.{took-none, took-more, took-stop, took-all}, proofs.Wraps.{step-numbers, whole-numbers}}
 use Rattle.record_stream.proofs.walk.Walk.words.Goals as goal
 
@@ -25,3 +26,6 @@ returns-in-Err-clause-delivers g c =
 pub returns-clause-delivers : goal.returns-clause-delivers
 returns-clause-delivers g c =
     search (rules, arith, took-all, take_all)
+
+pub step-requires-clause-is_for : goal.step-requires-clause-is_for
+step-requires-clause-is_for g c = subst (λ (h : StreamSettings). g.O.SettlesEvents.is_for h.policy.settle) (sym c.loop-word.invariant.took.stays.same_how) c.requires.is_for
