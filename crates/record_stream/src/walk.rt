@@ -88,7 +88,9 @@ impl Walk {
         ensures stays { StaysKept S.EventTaker self.old self.new settle.new taker.old taker.new }
     {
         match self.place_next::<R>(word)? {
-            Placed::Event(event) => self.take_event::<O, S>(settle, event, event.time, false, taker),
+            Placed::Event(event) => self.take_event::<O, S>(
+                settle, event, event.time, false, taker,
+            ),
             Placed::Late { event, before } => {
                 self.take_event::<O, S>(settle, event, before, true, taker)
             }
