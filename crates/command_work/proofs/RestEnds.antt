@@ -1,5 +1,5 @@
 -- The text of bytes that grow, and how a call of the loop's body ends it.
-use Rattle.std.{proofs.Common.{◌≡◌, ◌∙◌, ◌≤◌, ℕ, List, [], ◌++◌, None, Some, Ok, Err, refl, sym, ap, inl, inr, ⊎_elim, append_assoc, append-nil, length, take, arith, ◌⊎◌, true, false, Result, IfErr, IsErrAnd, rules, length-append, ◌≢◌, ◌+◌, ◌<◌, OnOk}, specs.declared.option.Option.Option, proofs.lemmas.List.length-take}
+use Rattle.std.{proofs.Common.{◌≡◌, ◌∙◌, ◌≤◌, ℕ, List, [], ◌++◌, None, Some, Ok, Err, refl, sym, ap, inl, inr, ⊎_elim, append_assoc, append-nil, length, take, arith, ◌⊎◌, true, false, Result, IfErr, IsErrAnd, rules, ◌≢◌, ◌+◌, ◌<◌, OnOk}, specs.declared.option.Option.Option, proofs.lemmas.List.length-take}
 use Rattle.tally_base.{specs.declared.fault.Fault.Fault, specs.declared.fault.Fault.TheVariants.{ReadFault, WriteFault}, specs.declared.slot.Slot.Slot, specs.declared.slot.Slot.TheVariants.Data, specs.Faults.{is_outside, fault_in, HasReason}, proofs.Reasons.HasReason-inside, specs.FaultCounts.Rose, specs.declared.header.Header.Header, specs.RecordTypes.mode_of}
 use Rattle.bench_io.{specs.Given.{Consumes, IsAtEnd}, specs.Inputs.{InputState, KeepsOther, OpensNone}, proofs.States.{Consumes-nil, Consumes-kept, Consumes-trans}, specs.Sinks.{SinkState, Wrote, WroteShort}, specs.Texts.{WroteText, CutText, WritesText}, proofs.Bytes.WroteShort-none, proofs.Texts.{WroteText-none, WroteText-trans, CutText-behind, CutText-more}}
 use Rattle.command_work.{specs.Outcomes.{SaysNoEnd, InputsOnce, OutOnce, Outcome}, specs.Behaviours.{piece_limit, AtEnd, AsItReads}, specs.Endings.{Span, Cuts}, specs.Works.{TakesFew, WantsNone}, specs.RecordsWork.{RecordsWork, RefusalStays, IsText, WritesPiece, WritesEnd, Opens, unless_declined, if_suited, headed_end, headed_text, headed_work, headed_so_far, IsAllOrNothing, Suits}, specs.Rests.{EndsText, ReadsRest}, proofs.Once.{out-inside, counts-behind, IsQuiet, quiet-none, quiet-write, quiet-inside, once-refl, once-read, once-unread, Rose-kept}, proofs.Told.fails-on, proofs.PlanTold.misfit-inside}

@@ -1,5 +1,5 @@
 -- What was put of photons after others, and what is left of them.
-use Rattle.std.{proofs.Common.{◌≡◌, ◌∙◌, ℕ, List, [], ◌∷◌, ◌++◌, Bool, true, false, Some, cond, refl, sym, ap, subst, append_assoc, append-nil, arith, length, length-append, rules, inl, inr, ⊎_elim, Err}, specs.List.filter, specs.declared.option.Option.Option, proofs.lemmas.List.Elements.filter-append}
+use Rattle.std.{proofs.Common.{◌≡◌, ◌∙◌, ℕ, List, [], ◌∷◌, ◌++◌, Bool, true, false, Some, cond, refl, sym, ap, subst, append_assoc, append-nil, arith, rules, inl, inr, ⊎_elim, Err}, specs.List.filter, specs.declared.option.Option.Option, proofs.lemmas.List.Elements.filter-append}
 use Rattle.tally_base.{specs.declared.event.Event.Event, specs.declared.header.Mode.Mode, specs.declared.fault.Fault.Fault, specs.declared.fault.Fault.TheVariants.{PickTime, WriteFault}}
 use Rattle.bench_io.{specs.Sinks.{SinkState, Wrote, WroteShort, PassesOn}, specs.Texts.{WroteText, CutText, WritesText}, proofs.Bytes.{Wrote-flushed, WroteShort-none, WroteShort-more, WroteShort-kept, WroteShort-flushed}}
 use Rattle.ptu_definitions.{specs.Kept.Marked, specs.Prefixes.{each_after, first}, specs.Settled.not_marked, proofs.DeliveredLaws.not_marked-append, proofs.PrefixLemmas.each_after-append}
