@@ -1,14 +1,17 @@
 """Fixtures of all tests: the program, and small files."""
 
+import itertools
 import os
 import subprocess
-from collections.abc import Callable, Iterable
+from collections.abc import Callable, Iterable, Iterator
 from pathlib import Path
 from typing import Any
 
 import made
 import pytest
+from hosts import Cluster, cluster, until
 from hypothesis import HealthCheck, settings
+from trials import Trial
 
 import ptulab
 
@@ -19,12 +22,18 @@ ROOT = Path(__file__).resolve().parents[2]  # the checkout
 EXAMPLES = ROOT / "examples"
 
 
-LONG = ("test_many_hosts", "test_app_browser", "test_app", "test_app_results", "test_many", "test_browser", "test_notebook", "test_smfret", "test_fits")
+LONG = ("test_many_hosts", "test_many_hosts_sums", "test_many", "test_app_browser", "test_app", "test_app_results", "test_browser", "test_fits", "test_notebook", "test_smfret")
+PARTS = {"test_many": 3, "test_fits": 2}  # files whose tests share nothing, in so many parts
 
 
-def pytest_collection_modifyitems(items: list[pytest.Item]) -> None:
-    """The longest files first: each runs in one process, and the last one to begin would be waited for."""
+@pytest.hookimpl(tryfirst=True)  # type: ignore[misc]
+def pytest_collection_modifyitems(config: pytest.Config, items: list[pytest.Item]) -> None:
+    """The longest files first, each or each part of it in one process: the last one to begin would be waited for."""
     items.sort(key=lambda item: LONG.index(item.path.stem) if item.path.stem in LONG else len(LONG))
+    if config.pluginmanager.hasplugin("xdist"):
+        for name, found in itertools.groupby(items, key=lambda item: item.path.stem):
+            for place, item in enumerate(found):
+                item.add_marker(pytest.mark.xdist_group(f"{name}-{place % PARTS.get(name, 1)}"))
 
 
 def pytest_sessionfinish(session: pytest.Session) -> None:
@@ -74,3 +83,18 @@ def make_plan(tmp_path: Path) -> Callable[..., Path]:
 def record_type(request: pytest.FixtureRequest) -> str:
     """Each of the twelve record types."""
     return str(request.param)
+
+
+@pytest.fixture(scope="module")
+def hosts(tmp_path_factory: pytest.TempPathFactory) -> Iterator[Cluster]:
+    """A scheduler, and three workers on hosts of their own."""
+    with cluster(tmp_path_factory.mktemp("hosts")) as found:
+        until(found.is_ready, "three workers")
+        yield found
+
+
+@pytest.fixture
+def trial(tmp_path: Path, hosts: Cluster, program: str) -> Trial:
+    hosts.mend()
+    until(hosts.is_ready, "three workers")
+    return Trial(tmp_path, hosts, program)

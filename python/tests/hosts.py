@@ -200,6 +200,7 @@ class Cluster:
         self.scheduler = f"tcp://{self.boss.address}:8786"
         self.odd: set[str] = set()  # hosts whose workers are others than `mend` starts
         self.asked: subprocess.Popen[str] | None = None
+        self.asks_again = 0.0
 
     def start_scheduler(self) -> None:
         words = [sys.executable, "-m", "distributed.cli.dask_scheduler", "--host", self.boss.address, "--port", "8786", "--no-dashboard"]
@@ -243,7 +244,9 @@ class Cluster:
         return self.ask()[0] == workers
 
     def ask(self) -> tuple[int, list[str]]:
-        """How many workers the scheduler has, and its tasks, by a process on a host of its own."""
+        """How many workers the scheduler has, and its tasks, by a process on a host of its own; four times a second at most."""
+        time.sleep(max(0.0, self.asks_again - time.monotonic()))
+        self.asks_again = time.monotonic() + 0.25
         if self.asked is None or self.asked.poll() is not None:
             pipes: dict[str, Any] = {"stdin": subprocess.PIPE, "stdout": subprocess.PIPE, "stderr": subprocess.DEVNULL}
             self.asked = self.network.host("asker").start(sys.executable, "-c", ASKED, environment=self.environment, **pipes)
