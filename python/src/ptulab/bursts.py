@@ -1,9 +1,8 @@
 """Bursts of single molecules: background, search, and E and S of each.
 
 Photons are those of ``photons_of`` (or ``read_events(..).photons``), whose header tells how long a tick is; times alone do too.
-The search is that of FRETBursts (Ingargiola, Lerner, Chung, Weiss and Michalet, PLoS ONE 11, e0160716, 2016), after
-Fries and others (Journal of Physical Chemistry A 102, 6601, 1998): m photons that follow one another begin a burst where they
-take no longer than a threshold. Corrections are calibrated, and molecules that change looked for, in ``ptulab.smfret``.
+The search is that of FRETBursts (Ingargiola, Lerner, Chung, Weiss and Michalet, PLoS ONE 11, e0160716, 2016), by a window of
+photons that slides: m photons that follow one another begin a burst where they take no longer than a threshold. Corrections are calibrated, and molecules that change looked for, in ``ptulab.smfret``.
 """
 
 from collections.abc import Callable, Mapping, Sequence
