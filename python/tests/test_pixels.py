@@ -56,7 +56,7 @@ def test_shared_lifetimes_of_pixels_that_have_one_alone() -> None:
 
 
 def test_shared_lifetimes_have_the_errors_of_their_scatter(monkeypatch: pytest.MonkeyPatch) -> None:
-    curves = pixels._Curves(SHAPE, SETTINGS["shift"], WIDTH, BINS)
+    curves = pixels._Curves(SHAPE, SETTINGS["shift"], BINS, True)
     monkeypatch.setattr(pixels, "_Curves", lambda *_: curves)  # the same for all, made once
     found = [pixels.fit_pixels(picture(seed, 8, {0.8: 200, 3.2: 200}), PULSE, WIDTH, [0.5, 4.0], kind="shared", **SETTINGS) for seed in range(200)]
     values, errors = np.array([one.lifetimes[0, 0] for one in found]), np.array([one.errors[0, 0] for one in found])
@@ -68,6 +68,18 @@ def test_two_lifetimes_of_each_pixel() -> None:
     found = pixels.fit_pixels(picture(6, 40, {0.6: 20_000, 4.0: 20_000}), PULSE, WIDTH, [0.5, 3.0], **SETTINGS)
     assert found.lifetimes.mean(axis=(0, 1)) == pytest.approx([0.6, 4.0], rel=0.02)
     assert found.errors.mean(axis=(0, 1)) == pytest.approx(found.lifetimes.std(axis=(0, 1)), rel=0.1)
+
+
+@pytest.mark.parametrize("part", [0.0, 0.05, 0.5])
+def test_no_pixel_is_less_likely_than_the_truth(part: float) -> None:
+    """Of two free lifetimes and 300 photons a pixel, also where one of the decays is all or next to all there is."""
+    truth = {0.8: 300 * part, 3.2: 300 * (1 - part)}
+    counts = picture(3, 40, truth, 0.2)
+    found = pixels.fit_pixels(counts, PULSE, WIDTH, [0.5, 4.0], background=0.2, **SETTINGS)
+    curves = np.moveaxis(pixels._Curves(SHAPE, SETTINGS["shift"], BINS, False).of(np.log(np.moveaxis(found.lifetimes, -1, 0)))[:2], 0, -2)
+    exact = sum(photons * SHAPE.decay(lifetime, SETTINGS["shift"]) for lifetime, photons in truth.items())
+    fitted, known = (np.sum(counts * np.log(one + 0.2) - one, axis=-1) for one in (np.einsum("xyt,xytb->xyb", found.amplitudes, curves), exact))
+    assert (fitted > known).mean() > 0.98 and 1 < (fitted - known).mean() < 2.2  # 2 in the mean of four parameters
 
 
 def test_a_lone_photon_before_the_pulse_moves_no_pixel_to_and_fro() -> None:

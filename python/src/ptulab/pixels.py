@@ -16,11 +16,14 @@ from ._values import Compared
 __all__ = ["Lifetimes", "binned", "fit_pixels", "inside", "with_neighbours"]
 
 Numbers = NDArray[np.float64]
-TOGETHER = 1 << 17  # counts that are fitted together, so that their arrays stay in the processor's cache
+TOGETHER = 1 << 16  # counts that are fitted together, so that their arrays stay in the processor's cache
 LIFETIMES = 500  # between the shortest and the longest one, of which curves are kept
 STEPS = 60  # of a fit, at most
 LEAST = 1e-9  # of an amplitude, in photons of its pixel
-NEAR = 1e-4  # of a lifetime: a step that ends a fit
+NEAR = 1e-5  # of the likelihood's logarithm, which a last step may gain: it is 3 thousandths of the errors long
+WORSE = 0.01  # of the likelihood's logarithm, by which a step may make it less
+PARTS = (0.3, 2.0)  # of a step of Fisher's scoring, between which it is taken
+MANY = 1 << 12  # photons of a pixel that want numbers of 64 bits
 SOME = 16  # blocks of which one is taken first where lifetimes are shared
 
 
@@ -68,140 +71,178 @@ def fit_pixels(
     bins = counts.shape[-1]
     if not 1 <= len(lifetimes) <= 2 or not pulse.sum() > 0 or pulse.ndim != 1 or len(pulse) % bins:
         raise ValueError(f"{len(lifetimes)} lifetimes, and a pulse of {pulse.sum():g} counts in {len(pulse)} bins for {bins}")
-    curves = _Curves(Convolved(pulse, len(pulse) // bins, width, period), shift, width, bins)
     pixels, terms = counts.reshape(-1, bins), len(lifetimes)
     level = np.broadcast_to(np.asarray(background, dtype=np.float64), counts.shape).reshape(-1, bins)
-    kept = np.flatnonzero(pixels.sum(axis=1) >= max(threshold, 1))
-    many = -(-len(kept) * bins // TOGETHER)
-    blocks = [kept[at::many] for at in range(many)]  # each from all over the picture
-    found = np.full((3, len(pixels), terms), np.nan)
-    begin = np.log(np.asarray(lifetimes, dtype=np.float64))
-    amplitudes = [_begun(pixels[block].astype(np.float64), level[block], terms) for block in blocks]
-    if kind == "shared" and blocks:
-        begin, error = _shared(pixels, level, blocks, curves, begin, amplitudes)
-        found[2, kept] = error
-    for block, now in zip(blocks, amplitudes, strict=True):
-        found[:2, block], more = _fitted(pixels[block].astype(np.float64), level[block], curves, begin, now, kind == "free")
-        if kind == "free":
-            found[2, block] = more
-    shape = (*counts.shape[:-1], terms)
-    return Lifetimes(*(one.reshape(shape) for one in found))
+    photons = pixels.sum(axis=1)
+    kept = np.flatnonzero(photons >= max(threshold, 1))
+    curves = _Curves(Convolved(pulse, len(pulse) // bins, width, period), shift, bins, photons.max(initial=0) < MANY)
+    begin, amplitudes = np.log(np.asarray(lifetimes, dtype=np.float64)), _begun(photons, level, terms)
+    if kind == "free":
+        found = _fitted(pixels, level, curves, np.stack([amplitudes, np.repeat(begin[:, None], len(pixels), axis=1)]), kept)
+    else:
+        found, many = np.full((3, terms, len(pixels)), np.nan), -(-len(kept) * bins // TOGETHER)
+        blocks = [kept[at::many] for at in range(many)]  # each from all over the picture
+        if kind == "shared" and blocks:
+            begin, error = _shared(pixels, level, blocks, curves, begin, amplitudes)
+            found[2][:, kept] = error[:, None]
+        for block in blocks:
+            some, dark = (one[block].astype(curves.kind) for one in (pixels, level))
+            found[0][:, block] = _held(some, dark, curves, curves.of(begin)[:terms], amplitudes[:, block])
+        found[1][:, kept] = np.exp(begin)[:, None]
+    return Lifetimes(*(one.T.reshape(*counts.shape[:-1], terms) for one in found))
+
+
+def _begun(photons: NDArray[Any], level: Numbers, terms: int) -> Numbers:
+    """Where amplitudes begin, (terms, pixels): the photons that are no background, alike."""
+    return np.repeat(np.maximum(photons - level.sum(axis=1), 0.1 * photons)[None] / terms, terms, axis=0)
 
 
 class _Curves:
     """What part of a decay's photons each bin has, and its derivative by the logarithm of the lifetime, from a table."""
 
-    def __init__(self, shape: Convolved, shift: float, width: float, bins: int) -> None:
+    def __init__(self, shape: Convolved, shift: float, bins: int, short: bool) -> None:
+        self.kind, self.ridge = (np.float32, 1e-5) if short else (np.float64, 1e-10)
+        width = shape.width * shape.finer
         self.logarithms = np.linspace(np.log(width / 20), np.log(20 * bins * width), LIFETIMES)
         self.step = float(self.logarithms[1] - self.logarithms[0])
         each = np.stack([shape.decay(float(np.exp(one)), shift) for one in self.logarithms])
-        self.table = np.stack([each, np.gradient(each, self.step, axis=0)], axis=1)
+        slopes = np.gradient(each, self.step, axis=0)
+        self.table = np.stack([each, slopes, np.gradient(slopes, self.step, axis=0)]).astype(self.kind)
 
     def of(self, logarithms: Numbers) -> Numbers:
-        """Of lifetimes of shape (.., terms): (.., 2 * terms, bins), first all parts and then all derivatives."""
-        at = np.clip((logarithms - self.logarithms[0]) / self.step, 0, LIFETIMES - 1.001)
-        below = at.astype(np.int64)
-        beyond = (at - below)[..., None, None]
-        both = self.table[below] * (1 - beyond) + self.table[below + 1] * beyond
-        return np.concatenate((both[..., 0, :], both[..., 1, :]), axis=-2)
+        """Of lifetimes of shape (terms, ..): (2 * terms, .., bins), first all parts and then all derivatives."""
+        at = (logarithms - self.logarithms[0]) / self.step
+        near = np.rint(at)
+        rows = self.table.take(near.astype(np.int64), axis=1)
+        beyond = ((at - near) * self.step).astype(self.kind)[..., None]
+        rows[2] *= beyond
+        rows[0] += beyond * (rows[1] + rows[2] / 2)
+        rows[1] += rows[2]
+        return rows[:2].reshape(2 * len(logarithms), *rows.shape[2:])
 
 
-def _sums(counts: Numbers, level: Numbers, rows: Numbers, amplitudes: Numbers) -> tuple[Numbers, Numbers]:
-    """The gradient of the likelihood by amplitudes and by logarithms of lifetimes, (pixels, rows), and Fisher's information."""
-    terms, shared = amplitudes.shape[1], rows.ndim == 2
-    parts = rows[..., :terms, :]
-    curve = amplitudes @ parts if shared else np.einsum("pt,ptb->pb", amplitudes, parts)
-    over = 1 / np.maximum(curve + level, 1e-12)
-    if shared:
-        many = len(rows)
-        slope = (counts * over) @ rows.T - rows.sum(axis=1)
-        inform = (over @ (rows[:, None] * rows).reshape(many * many, -1).T).reshape(-1, many, many)
-    else:
-        slope = np.einsum("prb,pb->pr", rows, counts * over - 1)
-        inform = np.matmul(rows * over[:, None], rows.transpose(0, 2, 1))
-    scale = np.concatenate((np.ones(amplitudes.shape), amplitudes), axis=1)
-    return slope * scale, inform * scale[:, :, None] * scale[:, None]
+def _sums(counts: Numbers, level: Numbers, rows: Numbers, amplitudes: Numbers) -> tuple[Numbers, Numbers, Numbers]:
+    """The logarithm of the likelihood, (pixels,), its gradient by amplitudes and by logarithms of lifetimes, (rows, pixels), and
+    Fisher's information, (rows, rows, pixels)."""
+    terms = len(amplitudes)
+    curve = np.maximum(np.einsum("tp,tpb->pb", amplitudes.astype(rows.dtype), rows[:terms]) + level, 1e-12)
+    likely = np.einsum("pb,pb->p", counts, np.log(curve)) - curve.sum(axis=1)
+    over = 1 / curve
+    slope = np.einsum("rpb,pb->rp", rows, counts * over - 1).astype(np.float64)
+    inform = np.empty((len(rows), *slope.shape))
+    for at, row in enumerate(rows * over):
+        inform[at, : at + 1] = inform[: at + 1, at] = np.einsum("pb,rpb->rp", row, rows[: at + 1])
+    return likely, *_by_logarithms(slope, inform, amplitudes)
 
 
-def _held(slope: Numbers, inform: Numbers, held: NDArray[np.bool_]) -> tuple[Numbers, Numbers]:
-    """The same where these parameters are held."""
+def _by_logarithms(slope: Numbers, inform: Numbers, amplitudes: Numbers) -> tuple[Numbers, Numbers]:
+    """The gradient and the information by logarithms of lifetimes, of those by what amplitudes of 1 would have."""
+    terms = len(amplitudes)
+    slope[terms:] *= amplitudes
+    inform[terms:] *= amplitudes[:, None]
+    inform[:, terms:] *= amplitudes
+    return slope, inform
+
+
+def _step(slope: Numbers, inform: Numbers, held: NDArray[np.bool_], ridge: float) -> tuple[Numbers, Numbers]:
+    """A step of Fisher's scoring where these parameters are held, (rows, pixels), and the inverse of the information."""
     free = ~held
-    inform = inform * free[:, :, None] * free[:, None] + np.eye(slope.shape[1]) * np.where(held, 1.0, 0.0)[:, None]
-    ridge = 1e-10 * np.einsum("prr->pr", inform)[:, None] * np.eye(slope.shape[1])
-    return slope * free, inform + ridge + 1e-300 * np.eye(slope.shape[1])
-
-
-def _begun(counts: Numbers, level: Numbers, terms: int) -> Numbers:
-    photons = np.maximum(counts.sum(axis=1) - level.sum(axis=1), 0.1 * counts.sum(axis=1))
-    return np.repeat(photons[:, None] / terms, terms, axis=1)
-
-
-def _fitted(
-    counts: Numbers, level: Numbers, curves: _Curves, begin: Numbers, amplitudes: Numbers, free: bool, steps: int = STEPS
-) -> tuple[Numbers, Numbers]:
-    """Amplitudes and lifetimes of some pixels, (2, pixels, terms), and the errors of the lifetimes, (pixels, terms)."""
-    terms, photons = len(begin), counts.sum(axis=1)
-    logs = np.repeat(begin[None], len(counts), axis=0)
-    errors, going = np.full(logs.shape, np.nan), np.arange(len(counts))
-    for turn in range(steps):
-        now, times = amplitudes[going], logs[going]
-        some, dark = (counts, level) if len(going) == len(counts) else (counts[going], level[going])
-        slope, inform = _sums(some, dark, curves.of(times), now) if free else _linear(some, dark, curves.of(begin)[:terms], now)
-        least = LEAST * photons[going, None]
-        at_bound = (now <= least) & (slope[:, :terms] < 0)
-        outward = np.where(slope[:, terms:] > 0, times >= curves.logarithms[-1], times <= curves.logarithms[0]) if free else at_bound
-        held = np.concatenate((at_bound, (now <= least) | outward), axis=1) if free else at_bound
-        slope, inform = _held(slope, inform, held)
-        inverse = _inverse(inform)
-        moves = np.einsum("prs,ps->pr", inverse, slope)
-        moves[:, :terms] *= _part(turn, free)
-        amplitudes[going] = np.maximum(now + np.clip(moves[:, :terms], -0.9 * now - least, photons[going, None]), least)
-        done = np.abs(moves[:, :terms]).max(axis=1) < NEAR * np.maximum(photons[going], 1)
-        if free:
-            step = _part(turn, free) * np.clip(moves[:, terms:], -0.7, 0.7)
-            step = np.clip(times + step, curves.logarithms[0], curves.logarithms[-1]) - times
-            logs[going] = times + step
-            spread = np.sqrt(np.maximum(np.einsum("prr->pr", inverse)[:, terms:], 0.0))
-            errors[going] = np.where(held[:, terms:], np.nan, spread * np.exp(logs[going]))
-            done &= np.abs(step).max(axis=1) < NEAR
-        going = going[~done]
-        if not len(going):
-            break
-    return np.stack([amplitudes, np.exp(logs)]), errors
-
-
-def _part(turn: int, free: bool) -> float:
-    """What part of a step is taken, since by whole ones some pixels go to and fro for ever: amplitudes where a lone photon comes
-    before the pulse, and lifetimes that are hardly told apart."""
-    return (1.0 if turn < 8 else 0.4) if free else 1.0 if turn % 2 == 0 else 0.5
-
-
-def _linear(counts: Numbers, level: Numbers, rows: Numbers, amplitudes: Numbers) -> tuple[Numbers, Numbers]:
-    """The gradient and the information by amplitudes alone, of decays that all pixels share."""
-    over = 1 / np.maximum(amplitudes @ rows + level, 1e-12)
-    terms = len(rows)
-    inform = (over @ (rows[:, None] * rows).reshape(terms * terms, -1).T).reshape(-1, terms, terms)
-    return (counts * over) @ rows.T - rows.sum(axis=1), inform
+    inform = inform * (free[:, None] & free)
+    every = np.arange(len(held))
+    inform[every, every] += ridge * inform[every, every] + np.where(held, 1.0, 1e-300)
+    inverse = _inverse(inform)
+    return np.einsum("rsp,sp->rp", inverse, slope * free), inverse
 
 
 def _inverse(matrices: Numbers) -> Numbers:
-    """The inverses of symmetric matrices, (pixels, rows, rows)."""
-    if matrices.shape[1] > 2:
-        return np.asarray(np.linalg.inv(matrices))
-    if matrices.shape[1] == 1:
-        return 1 / matrices
-    one, both, other = matrices[:, 0, 0], matrices[:, 0, 1], matrices[:, 1, 1]
-    turned = np.stack((other, -both, -both, one), axis=1) / (one * other - both**2)[:, None]
-    return np.asarray(turned.reshape(-1, 2, 2))
+    """The inverses of symmetric matrices, (rows, rows, pixels), by Gauss and Jordan's steps in all pixels at once."""
+    found = matrices.copy()
+    for at in range(len(found)):
+        one = 1 / found[at, at]
+        row, column = found[at] * one, found[:, at].copy()
+        found -= column[:, None] * row
+        found[at], found[:, at], found[at, at] = row, -column * one, one
+    return found
+
+
+def _fitted(pixels: NDArray[Any], level: Numbers, curves: _Curves, begin: Numbers, kept: NDArray[np.int64]) -> Numbers:
+    """Amplitudes, lifetimes and the errors of these of the pixels that are kept, (3, terms, pixels).
+
+    ``begin``: amplitudes and logarithms of lifetimes, (2, terms, pixels).
+    """
+    _, terms, many = begin.shape
+    found, going = np.full((3, terms, many), np.nan), kept
+    state = np.concatenate((begin.reshape(-1, many), np.zeros((2 * terms, many)), np.full((1, many), -np.inf), np.ones((2, many))))
+    for _ in range(STEPS):
+        parts = np.array_split(going, -(-len(going) * pixels.shape[1] // TOGETHER) or 1)
+        going = np.concatenate([_turned(*(one[some].astype(curves.kind) for one in (pixels, level)), curves, state, found[2], some) for some in parts])
+        if not len(going):
+            break
+    found[0][:, kept], found[1][:, kept] = state[:terms, kept], np.exp(state[terms : 2 * terms, kept])
+    found[2] *= found[1]
+    return found
+
+
+def _turned(
+    counts: Numbers, level: Numbers, curves: _Curves, state: Numbers, errors: Numbers, some: NDArray[np.int64]
+) -> NDArray[np.int64]:
+    """Those of some pixels that aren't at their best fit after a step of Fisher's scoring more, which changes their state.
+
+    The state has amplitudes and logarithms of lifetimes, the last step of each, the logarithm of the likelihood before it, what part
+    it was of a step of the scoring, and its rise by the slope. The next one is as much longer or shorter as the slope changed less or
+    more along the last one than Fisher's information has it (Barzilai and Borwein, IMA Journal of Numerical Analysis 8, 141,
+    1988). One that makes the likelihood less is taken back by half, and by half again.
+    """
+    terms, (first, last) = len(errors), curves.logarithms[[0, -1]]
+    now, ahead, (best, part, rise) = np.split(state[:, some], [2 * terms, 4 * terms])
+    likely, slope, inform = _sums(counts, level, curves.of(now[terms:]), now[:terms])
+    least = LEAST * counts.sum(axis=1, dtype=np.float64)
+    none, outward = now[:terms] <= least, np.where(slope[terms:] > 0, now[terms:] >= last, now[terms:] <= first)
+    held = np.concatenate((none & (slope[:terms] < 0), none | outward))
+    step, inverse = _step(slope, inform, held, curves.ridge)
+    if (again := none & (step[:terms] < 0)).any():
+        held[:terms] |= again
+        step, inverse = _step(slope, inform, held, curves.ridge)
+    errors[:, some] = np.where(none | outward, np.nan, np.sqrt(np.maximum(inverse[range(terms, 2 * terms), range(terms, 2 * terms)], 0.0)))
+    back, bent = likely < best - WORSE, rise - (ahead * slope).sum(axis=0)
+    part = np.clip(np.divide(part * rise, bent, out=np.full(len(some), np.inf), where=bent > 0), *PARTS)
+    room = np.concatenate((np.where(step[:terms] < 0, now[:terms] - least, np.inf), np.full(none.shape, 0.7)))
+    part = np.minimum(part, np.divide(room, np.abs(step), out=np.full(step.shape, np.inf), where=step != 0).min(axis=0))
+    moves = np.where(back, -0.5 * ahead, part * step)
+    ahead = np.where(back, 0.5 * ahead, moves)
+    rise, part = np.where(back, 0.5 * rise, (moves * slope).sum(axis=0)), np.where(back, 0.5 * state[-2, some], part)
+    now = np.concatenate((np.maximum(now[:terms] + moves[:terms], least), np.clip(now[terms:] + moves[terms:], first, last)))
+    state[:, some] = np.concatenate((now, ahead, [np.where(back, best, likely), part, rise]))
+    return some[back | ((slope * step).sum(axis=0) > NEAR)]
+
+
+def _held(counts: Numbers, level: Numbers, curves: _Curves, parts: Numbers, amplitudes: Numbers, steps: int = STEPS) -> Numbers:
+    """The amplitudes of some pixels, (terms, pixels), of decays with these parts, (terms, bins), that all pixels share."""
+    found, going, photons = amplitudes.copy(), np.arange(len(counts)), counts.sum(axis=1, dtype=np.float64)
+    for turn in range(steps):
+        now, least = found[:, going], LEAST * photons
+        slope, inform = _linear(counts, level, parts, now)
+        step, _ = _step(slope, inform, (now <= least) & (slope < 0), curves.ridge)
+        part = 1.0 if turn % 2 == 0 else 0.5  # by whole steps a lone photon before the pulse moves some pixels to and fro for ever
+        found[:, going] = np.maximum(now + np.clip(part * step, -0.9 * now - least, photons), least)
+        more = (slope * step).sum(axis=0) > NEAR
+        counts, level, photons, going = counts[more], level[more], photons[more], going[more]
+        if not len(going):
+            break
+    return found
+
+
+def _linear(counts: Numbers, level: Numbers, rows: Numbers, amplitudes: Numbers) -> tuple[Numbers, Numbers]:
+    """The gradient, (rows, pixels), and the information, (rows, rows, pixels), by these rows, (rows, bins), which all pixels share, and
+    of which the first are parts of decays with these amplitudes."""
+    many = len(rows)
+    over = 1 / np.maximum(amplitudes.T.astype(rows.dtype) @ rows[: len(amplitudes)] + level, 1e-12)
+    inform = (rows[:, None] * rows).reshape(many * many, -1) @ over.T
+    return (rows @ (counts * over - 1).T).astype(np.float64), inform.reshape(many, many, -1).astype(np.float64)
 
 
 def _shared(
-    pixels: NDArray[Any],
-    level: Numbers,
-    blocks: list[NDArray[np.int64]],
-    curves: _Curves,
-    begin: Numbers,
-    amplitudes: list[Numbers],
+    pixels: NDArray[Any], level: Numbers, blocks: list[NDArray[np.int64]], curves: _Curves, begin: Numbers, amplitudes: Numbers
 ) -> tuple[Numbers, Numbers]:
     """The logarithms of the lifetimes that all pixels share, and the errors of the lifetimes; amplitudes go along.
 
@@ -209,50 +250,47 @@ def _shared(
     """
     every = np.concatenate(blocks)
     total, dark = (one[every].sum(axis=0, dtype=np.float64)[None] for one in (pixels, level))
-    logs = np.log(_fitted(total, dark, curves, begin, _begun(total, dark, len(begin)), True)[0][1, 0])
-    logs, _ = _settled(pixels, level, blocks[::SOME], curves, logs, amplitudes[::SOME])
+    at = np.stack([_begun(total.sum(axis=1), dark, len(begin)), begin[:, None]])
+    logs = np.log(_fitted(total, dark, curves, at, np.zeros(1, np.int64))[1][:, 0])
+    logs, _ = _settled(pixels, level, blocks[::SOME], curves, logs, amplitudes)
     return _settled(pixels, level, blocks, curves, logs, amplitudes)
 
 
 def _settled(
-    pixels: NDArray[Any],
-    level: Numbers,
-    blocks: list[NDArray[np.int64]],
-    curves: _Curves,
-    logs: Numbers,
-    amplitudes: list[Numbers],
+    pixels: NDArray[Any], level: Numbers, blocks: list[NDArray[np.int64]], curves: _Curves, logs: Numbers, amplitudes: Numbers
 ) -> tuple[Numbers, Numbers]:
     """The logarithms of the lifetimes that these pixels share, and the errors of the lifetimes."""
+    now = [amplitudes[:, block] for block in blocks]
     for turn in range(STEPS):
-        found = [_efficient(pixels[block], level[block], curves, logs, now, 2 if turn else 8) for block, now in zip(blocks, amplitudes, strict=True)]
+        found = [_efficient(pixels[block], level[block], curves, logs, one, 2 if turn else 8) for block, one in zip(blocks, now, strict=True)]
         whole, left = (np.sum([one[at] for one in found], axis=0) for at in (0, 1))
         step = np.clip(np.linalg.solve(whole, left), -0.7, 0.7)
         logs = np.clip(logs + step, curves.logarithms[0], curves.logarithms[-1])
-        for now, (_, _, along) in zip(amplitudes, found, strict=True):
-            now[:] = np.maximum(now - along @ step, LEAST)
+        now = [np.maximum(one - np.einsum("rap,a->rp", along, step), LEAST) for _, _, one, along in found]
         errors = np.sqrt(np.diagonal(np.linalg.inv(whole)))
         if np.all(np.abs(step) < 0.03 * errors):
             break
+    amplitudes[:, np.concatenate(blocks)] = np.concatenate(now, axis=1)
     return logs, errors * np.exp(logs)
 
 
 def _efficient(
     counts: NDArray[Any], level: Numbers, curves: _Curves, logs: Numbers, now: Numbers, steps: int
-) -> tuple[Numbers, Numbers, Numbers]:
+) -> tuple[Numbers, Numbers, Numbers, Numbers]:
     """What is left of Fisher's information and of the gradient by the logarithms where amplitudes go along, even below 0 (the
-    efficient score: Lindsay, Philosophical Transactions A 296, 639, 1980), and how amplitudes go along, after these steps of them.
+    efficient score: Lindsay, Philosophical Transactions A 296, 639, 1980), the amplitudes after these steps, and how they go along.
 
     The likelihood itself, with no amplitude below 0, would pull the lifetimes apart where pixels have one of them alone. There
     a part in a hundred of the lifetimes is left of that at 250 photons a pixel, which may be more than the errors.
     """
-    counts, terms = counts.astype(np.float64), len(logs)
-    now[:] = _fitted(counts, level, curves, logs, now, False, steps)[0][0]
-    slope, inform = _sums(counts, level, curves.of(logs), now)
-    own, fisher = _held(slope[:, :terms], inform[:, :terms, :terms], np.zeros(now.shape, np.bool_))
-    inverse, across = _inverse(fisher), inform[:, :terms, terms:]
-    alone, along = np.einsum("prs,ps->pr", inverse, own), np.matmul(inverse, across)
-    whole = inform[:, terms:, terms:].sum(axis=0) - np.einsum("pra,prb->ab", across, along)
-    return whole, slope[:, terms:].sum(axis=0) - np.einsum("pra,pr->a", across, alone), along
+    counts, level, rows, terms = counts.astype(curves.kind), level.astype(curves.kind), curves.of(logs), len(logs)
+    now = _held(counts, level, curves, rows[:terms], now, steps)
+    slope, inform = _by_logarithms(*_linear(counts, level, rows, now), now)
+    across = inform[:terms, terms:]
+    alone, inverse = _step(slope[:terms], inform[:terms, :terms], np.zeros(now.shape, np.bool_), curves.ridge)
+    along = np.einsum("rsp,sap->rap", inverse, across)
+    whole = inform[terms:, terms:].sum(axis=-1) - np.einsum("rap,rbp->ab", across, along)
+    return whole, slope[terms:].sum(axis=1) - np.einsum("rap,rp->a", across, alone), now, along
 
 
 def with_neighbours(counts: NDArray[Any], reach: int = 1) -> NDArray[Any]:
