@@ -1,6 +1,7 @@
 """Small measurements of which the truth is known: a scan of two lifetimes, diffusing molecules, emitters, and bursts of FRET with one laser or two."""
 
 from pathlib import Path
+from typing import Any
 
 import made
 import numpy as np
@@ -114,3 +115,24 @@ def picture(path: Path) -> Path:
         photons = [(start + 10 * column + place % 10, 1 + place % 2) for column in range(8) for place in range(row + column)]
         events += [(start, Bits(1)), *sorted(photons), (start + 80, Bits(2))]
     return made.write(path, "HydraHarp2T3", events, tick=1e-6)
+
+
+def told_over_scatter(found: Any, known: dict[str, float], variances: Any = None) -> dict[str, float]:
+    """The errors that fits tell of these parameters over the fits' scatter, which some forty fits so tell to 2 %.
+
+    Beside each fit is the best estimate that is straight in the same data, whose scatter is known: what these estimates scatter more
+    or less by chance is taken off the fits' scatter, and off the errors that segments tell (control variates). ``variances``: of the
+    points, where their law doesn't tell.
+    """
+    problem, whole = found[0].problem, {**found[0].values, **known}
+    spread = np.sqrt(problem.law.variances(problem.curve(whole)) if variances is None else variances)
+    slopes = [(problem.curve({**whole, name: 1.001 * one}) - problem.curve({**whole, name: 0.999 * one})) / (0.002 * one) for name, one in known.items()]
+    straight = np.linalg.pinv((np.array(slopes) / spread).T) / spread
+    exact = np.linalg.norm(straight * spread, axis=1)
+    values, errors = (np.array([[getattr(fit, what)[name] for name in known] for fit in found]) for what in ("values", "errors"))
+    scatter = values.std(axis=0) * exact / np.std([straight @ (fit.data - fit.problem.curve(whole)) for fit in found], axis=0)
+    told = np.sqrt(np.nanmean(errors**2, axis=0))
+    if problem.parts is not None:
+        parts = np.array([fit.problem.parts for fit in found])
+        told *= exact / np.sqrt(((parts - parts.mean(axis=1, keepdims=True)) @ straight.T).var(axis=(0, 1)) / (parts.shape[1] - 1))
+    return dict(zip(known, (told / scatter).tolist()))

@@ -189,6 +189,8 @@ def test_scattered_light_and_a_measured_background(part: float) -> None:
     assert some.axis[0] == 1 and len(some.axis) == 280 and some.values["lifetime_1"] == pytest.approx(2.6, rel=0.02)
     slow = fits.fit_tail(counts, edges[:-1], 3.0, background=ramp)
     assert slow.values["lifetime_1"] == pytest.approx(2.6, rel=0.02) and slow.values["background"] == pytest.approx(ramp.mean(), rel=0.06)
+    known, measured = (fits.fit_tail(counts, edges[:-1], 3.0, background=one) for one in (ramp + 0.001, np.rint(ramp)))
+    assert known.errors["lifetime_1"] == pytest.approx(slow.errors["lifetime_1"], rel=1e-3) and measured.errors["lifetime_1"] > 1.05 * slow.errors["lifetime_1"]
     for bad in (ramp * 0, ramp[1:], ramp - 9):
         with pytest.raises(ValueError):
             fits.fit_tail(counts, edges[:-1], 3.0, background=bad)

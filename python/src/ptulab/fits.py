@@ -14,7 +14,9 @@ it. ``fit_together`` shares parameters between fits.
 """
 
 import math
-from collections.abc import Mapping
+from collections.abc import Callable, Mapping
+from dataclasses import replace
+from itertools import combinations
 from typing import Any, Literal
 
 import numpy as np
@@ -37,6 +39,8 @@ __all__ = [
     "mean_lifetime",
 ]
 
+TRIED = 24  # lifetimes with which a fit of a decay may begin
+
 
 def _names(terms: int) -> list[tuple[str, str]]:
     if not 1 <= terms <= 4:
@@ -44,13 +48,29 @@ def _names(terms: int) -> list[tuple[str, str]]:
     return [(f"amplitude_{n}", f"lifetime_{n}") for n in range(1, terms + 1)]
 
 
-def _begin_decay(terms: int, amplitude: float, lifetime: float, most: float, background: float) -> Any:
-    """Parameters of a decay: terms of lifetimes around a first guess, each less than ``most``, and a background."""
+def _begin_decay(
+    counts: Numbers, decay: Callable[[float], Numbers], others: Mapping[str, tuple[Numbers, float]], terms: int, length: float
+) -> Any:
+    """Where a fit of a decay begins: at the best lifetimes of a grid, over which amplitudes are linear.
+
+    ``decay``: what an amplitude of 1 has in each bin, of a lifetime; ``others``: the same of what has none, by its name, and
+    with how many it begins at least, since a fit hardly leaves 0; ``length``: of all bins.
+    """
+    names, grid = _names(terms), length * np.geomspace(2e-3, 2.0, TRIED)
+    scale = np.sqrt(np.maximum(counts, 1.0))
+    columns = np.stack([*(decay(float(one)) for one in grid), *(shape for shape, _ in others.values())]) / scale
+    both, by = columns @ columns.T, columns @ (counts / scale)
+    both[np.diag_indices(len(both))] *= 1 + 1e-9
+    tries = np.array([(*one, *range(TRIED, len(columns))) for one in combinations(range(TRIED), terms)])
+    heights = np.linalg.solve(both[tries[:, :, None], tries[:, None]], by[tries][:, :, None])[:, :, 0]
+    less = (heights * by[tries]).sum(axis=1)  # so much less than without a decay are the squares
+    best = int(np.argmax(less + np.where((heights[:, :terms] > 0).all(axis=1), less.max(), 0.0)))
     begin = want("lmfit", "fits").Parameters()
-    for n, (size, time) in enumerate(_names(terms)):
-        begin.add(size, value=amplitude / terms, min=0)
-        begin.add(time, value=min(lifetime * 3.0 ** (n - (terms - 1) / 2), most / 2), min=lifetime * 1e-4, max=most)
-    begin.add("background", value=background, min=0, brute_step=background)
+    for at, (size, time) in enumerate(names):
+        begin.add(size, value=max(heights[best, at], 1e-3 * float(np.abs(heights[best, :terms]).max())), min=0)
+        begin.add(time, value=grid[tries[best, at]], min=1e-4 * grid[0], max=100 * length)
+    for at, (name, (_, least)) in enumerate(others.items(), terms):
+        begin.add(name, value=max(heights[best, at], least), min=0, brute_step=least)
     return begin
 
 
@@ -76,8 +96,8 @@ def fit_tail(
     ``counts``: shape (bins,), a histogram; ``axis``: shape (bins,), where its bins begin, evenly spaced, in seconds or
     ticks. ``span``: t0, from which on bins are fitted, or t0 and the time before which they are; the pulse must be over by
     t0. Amplitudes and ``background`` are counts a bin, lifetimes in the unit of the axis. ``background``: shape (bins,), one
-    that was measured, of any height: its mean is taken as 1. Raises ``FitError`` and ``ValueError`` where there are no such
-    bins, or they have no counts, or one is less than 0.
+    that was measured, of any height: its mean is taken as 1. In whole numbers it is counts, whose scatter adds to the errors.
+    Raises ``FitError`` and ``ValueError`` where there are no such bins, or they have no counts, or one is less than 0.
     """
     axis, counts = np.asarray(axis, dtype=np.float64), np.asarray(counts, dtype=np.float64)
     _good_counts(counts, axis)
@@ -86,16 +106,24 @@ def fit_tail(
     times, tail, level = axis[inside], counts[inside], _level(background, axis)[inside]
     if len(times) < 3 or not tail.sum() > 0:
         raise ValueError(f"a tail of {len(times)} bins and {tail.sum():g} counts")
-    names, length, since = _names(terms), float(times[-1] - times[0]), times - first
-    least = float(np.median(tail[-max(len(tail) // 10, 1) :]))
-    mean = float((since * tail).sum() / tail.sum())
-    begin = _begin_decay(terms, max(float(tail.max()) - least, 1.0), max(mean, length / 1000), 100 * length, max(least, 0.1))
+    others = {"background": (level, max(float(np.median(tail[-max(len(tail) // 10, 1) :])), 0.1))}
+    begin = _begin_decay(tail, lambda lifetime: np.asarray(np.exp((first - times) / lifetime)), others, terms, float(times[-1] - times[0]))
 
     def model(at: Numbers, now: Mapping[str, float]) -> Numbers:
-        decays = [now[size] * np.exp(-(at - first) / now[time]) for size, time in names]
+        decays = [now[size] * np.exp((first - at) / now[time]) for size, time in _names(terms)]
         return np.asarray(now["background"] * np.interp(at, times, level) + sum(decays))
 
-    return solved(Problem(times, tail, model, poisson(tail), steered(begin, fixed, start, bounds)))
+    return _solved(Problem(times, tail, model, poisson(tail), steered(begin, fixed, start, bounds)), background, inside)
+
+
+def _solved(problem: Problem, background: NDArray[Any] | None, inside: NDArray[np.bool_]) -> Fit:
+    """The fit of a decay, over counts of a background once more with variances to which these counts add theirs."""
+    found = solved(problem)
+    if background is None or np.any(np.asarray(background) % 1):
+        return found
+    scale = found.values["background"] / float(np.mean(background))
+    more = scale**2 * np.asarray(background, dtype=np.float64)[inside] / np.maximum(found.curve, 1e-12)
+    return solved(replace(problem, law=poisson(problem.data, doubled=1 + more)))
 
 
 def _level(background: NDArray[Any] | None, beside: Numbers) -> Numbers:
@@ -165,9 +193,9 @@ def fit_reconvolution(
     lifetime), which ``reduced`` shows. Where the decay has such bins, as in a cube, give the pulse in finer ones.
 
     ``amplitude_n`` are photons, ``lifetime_n`` and ``shift`` are in the unit of ``width`` (any part of a bin), ``background`` is
-    counts a bin, and with ``scatter`` there are photons of that name, of scattered light, which come with the shifted pulse. ``background``: shape (bins,), one that was measured, of any height: its mean is taken as 1. Raises ``FitError`` and
-    ``ValueError`` where the shapes don't go together, there are no counts, or one is less than 0, or the last bin begins
-    behind the period.
+    counts a bin, and with ``scatter`` there are photons of that name, of scattered light, which come with the shifted pulse.
+    ``background``: shape (bins,), as of ``fit_tail``. Raises ``FitError`` and ``ValueError`` where the shapes don't go
+    together, there are no counts, or one is less than 0, or the last bin begins behind the period.
     """
     counts, pulse = np.asarray(counts, dtype=np.float64), np.asarray(pulse, dtype=np.float64)
     bins = len(counts) if counts.ndim == 1 and pulse.size and pulse.size % max(counts.size, 1) == 0 else 0
@@ -178,14 +206,14 @@ def fit_reconvolution(
         raise ValueError("a decay and a pulse need counts, in as many bins")
     if period is not None and not (bins - 1) * width < period:
         raise ValueError(f"{bins} bins of {width} are longer than a period of {period}: leave out those behind it")
-    axis, times = np.arange(bins) * width, np.arange(bins * finer) * (width / finer)
-    mean = max(float((axis * counts).sum() / counts.sum() - (times * pulse).sum() / pulse.sum()), width)
-    begin = _begin_decay(terms, float(counts.sum()), mean, 100 * bins * width, max(float(counts.min()), 0.1))
-    begin.add("shift", value=0.0, min=-bins * width / 4, max=bins * width / 4, brute_step=width)
-    if scatter:
-        begin.add("scatter", value=0.01 * float(counts.sum()), min=0, brute_step=float(counts.sum()) / 100)
+    axis = np.arange(bins) * width
     shape, inside = Convolved(pulse, finer, width, period), (axis >= span[0]) & (axis < span[1])
     level = shape.parts if background is None else _level(background, axis)
+    others = {"background": (level[inside], max(float(counts.min()), 0.1))}
+    if scatter:
+        others["scatter"] = shape.decay(1e-3 * shape.width, 0.0)[inside], 0.01 * float(counts.sum())
+    begin = _begin_decay(counts[inside], lambda lifetime: shape.decay(lifetime, 0.0)[inside], others, terms, bins * width)
+    begin.add("shift", value=0.0, min=-bins * width / 4, max=bins * width / 4, brute_step=width)
 
     def model(_: Numbers, now: Mapping[str, float]) -> Numbers:
         terms_of = [now[size] * shape.decay(now[time], now["shift"]) for size, time in _names(terms)]
@@ -193,7 +221,8 @@ def fit_reconvolution(
             terms_of.append(now["scatter"] * shape.decay(1e-3 * shape.width, now["shift"]))
         return np.asarray(now["background"] * level + sum(terms_of, np.zeros(bins)))[inside]
 
-    return solved(Problem(axis[inside], counts[inside], model, poisson(counts[inside]), steered(begin, fixed, start, bounds)))
+    problem = Problem(axis[inside], counts[inside], model, poisson(counts[inside]), steered(begin, fixed, start, bounds))
+    return _solved(problem, background, inside)
 
 
 class Convolved:
