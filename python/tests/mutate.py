@@ -37,6 +37,8 @@ MODULES = {  # with the tests of each
     "fits": ["test_fits.py", "test_steered.py"],
     "_fitting": ["test_steered.py", "test_fits.py"],
     "segments": ["test_segments.py", "test_edges.py"],
+    "fcs": ["test_fcs.py"],
+    "pixels": ["test_pixels.py"],
     "antibunching": ["test_antibunching.py", "test_edges.py", "test_fits.py", "test_segments.py", "test_steered.py"],
     "intensity": ["test_intensity.py"],
     "phasors": ["test_fits.py", "test_edges.py", "test_pixels.py"],
@@ -47,7 +49,7 @@ MODULES = {  # with the tests of each
     "events": ["test_events.py", "test_cut.py", "test_edges.py"],
 }
 LIBRARIES = ("hypothesis", "lmfit", "multipletau", "numpy", "scipy.stats")  # of the tests, but ptulab
-SPEED = {"BLOCK", "DENSE", "GIVEN_BACK", "PIECE", "SHORT"}
+SPEED = {"BLOCK", "DENSE", "GIVEN_BACK", "PIECE", "SHORT", "SOME", "TOGETHER"}
 LONGEST = 60  # seconds of processor time of the tests of one change, beside five times what they take without it
 MEMORY = 6 << 30  # bytes of address space of one run
 KINDS: list[list[type[ast.AST]]] = [

@@ -1,5 +1,6 @@
 """Correlations beyond a curve, against known light: a source that switches on and off, background, afterpulses, species."""
 
+from types import SimpleNamespace
 from typing import Any
 
 import numpy as np
@@ -92,6 +93,34 @@ def test_afterpulses_are_taken_off_by_those_of_a_lamp() -> None:
         fcs.without_afterpulsing(curve, correlation_by_segments(events_of([part(draws, lamp, 2.0)]), 1, 1, lags=8))
 
 
+def curve_of(values: Any, errors: Any, rates: tuple[float, float], unit: float | None = None) -> Curve:
+    values, errors = np.array(values), np.array(errors)
+    return Curve(np.arange(1, len(values) + 1), np.zeros(len(values), np.int64), values, errors, np.stack([values, values + 0.1]), unit, rates)
+
+
+def test_afterpulses_and_background_are_those_of_the_formulas() -> None:
+    """Of a pattern of three times the rate, and with fewer delays, behind which nothing is taken off."""
+    curve, pattern = curve_of([2.0, 1.8, 1.5], [0.3, 0.4, 0.2], (2.0, 8.0)), curve_of([1.4, 1.2], [0.1, 0.1], (6.0, 24.0))
+    clean = fcs.without_afterpulsing(curve, pattern)
+    assert clean.values == pytest.approx([2 - 3 * 0.4, 1.8 - 3 * 0.2, 1.5]) and clean.errors == pytest.approx([np.hypot(0.3, 0.3), 0.5, 0.2])
+    assert clean.segments == pytest.approx(curve.segments - [1.2, 0.6, 0])
+    assert fcs.without_afterpulsing(pattern, curve).values == pytest.approx([1.4 - 1 / 3, 1.2 - 0.8 / 3])
+    slow = curve_of([2.0], [0.3], (2e-6, 8e-6), unit=1e-3)
+    assert fcs.signal_of(slow, 1e-3, 2e-3) == pytest.approx(np.sqrt(0.5 * 0.75)) and fcs.signal_of(slow, 9.0) == 0
+    whole = fcs.curve_without_background(slow, 0.5)
+    assert [whole.values[0], whole.errors[0], *whole.segments[:, 0]] == pytest.approx([5, 1.2, 5, 5.4])
+
+
+def test_errors_of_what_is_converted_are_those_of_its_parts() -> None:
+    fit: Any = SimpleNamespace(values={"number": 2.0, "diffusion": 1e-4, "structure": 6.0}, errors={"number": 0.1, "diffusion": 8e-6})
+    focus = fcs.Focus.calibrated(fit, 4e-10, 2.4e-11)
+    assert focus.radius == pytest.approx(4e-7) and focus.radius_error / focus.radius == pytest.approx(0.05) and focus.structure == 6
+    assert focus.constant(fit) == pytest.approx((4e-10, 4e-10 * np.hypot(0.1, 0.08)))
+    density = 2 / (6.02214076e23 * 1e3 * np.pi**1.5 * 6 * 4e-7**3)
+    assert focus.concentration(fit) == pytest.approx((density, density * np.hypot(0.15, 0.05)))
+    assert fcs.brightness(fit, 5000.0, 1000.0) == pytest.approx((2000, 100)) and fcs.brightness(fit, 5000.0)[0] == 2500
+
+
 def patterns_of(*lifetimes: float | None) -> Any:
     """The decays of species in bins of 1 ns: 100,000 photons each."""
     draws = np.random.default_rng(9)
@@ -128,9 +157,9 @@ def test_filters_take_off_afterpulses() -> None:
 
 
 def test_filters_are_those_of_the_formula() -> None:
-    patterns, decay = np.array([[8.0, 1, 1, 0], [2.0, 3, 5, 0]]), np.array([10.0, 4, 6, 0])
+    patterns, decay = np.array([[8.0, 1, 1, 0], [2.0, 3, 5, 0]]), np.array([10.0, 4, 1, 0])
     rows = fcs.filters(patterns, decay)
-    assert rows @ (patterns / 10).T == pytest.approx(np.eye(2), abs=1e-12) and (rows[:, 3] == 0).all()
+    assert rows @ (patterns / 10).T == pytest.approx(np.eye(2), abs=1e-12) and ((rows == 0) == [False, False, False, True]).all()
     for bad in (patterns[:, :3], -patterns, np.array([patterns[0], patterns[0]])):
         with pytest.raises(ValueError):
             fcs.filters(bad, decay)

@@ -13,6 +13,7 @@ import pytest
 from conftest import ROOT
 
 import ptulab
+from ptulab import photon_hdf5
 from ptulab.groups import Alternated, EventsLike, Group
 from ptulab.photon_hdf5 import Setup, read_photon_hdf5, write_photon_hdf5
 
@@ -143,7 +144,8 @@ def test_polarisations_and_wavelengths_are_told(molecules: ptulab.Events, tmp_pa
     assert {name.removeprefix(specs): found[name].tolist() for name in found if name.startswith(specs)} == {
         "spectral_ch1": [0, 1], "spectral_ch2": [2, 3], "polarization_ch1": [0, 2], "polarization_ch2": [1, 3]
     }
-    assert (found["setup/num_spectral_ch"], found["setup/num_polarization_ch"], found["setup/num_pixels"]) == (2, 2, 4)
+    many = [found[f"setup/num_{what}"] for what in ("spectral_ch", "polarization_ch", "pixels", "spots", "split_ch")]
+    assert many == [2, 2, 4, 1, 1] and written(molecules[:0], tmp_path / "none.h5")["acquisition_duration"] == 0
     assert found["setup/excitation_wavelengths"].tolist() == [532e-9] and found["setup/detection_wavelengths"].tolist() == [580e-9, 680e-9]
 
 
@@ -294,3 +296,18 @@ def test_numbers_that_events_do_not_hold_are_refused(tmp_path: Path) -> None:
     (tmp_path / "text.h5").write_text("no HDF5")
     with pytest.raises(OSError):
         read_photon_hdf5(tmp_path / "text.h5")
+
+
+@pytest.mark.parametrize(
+    ("flat", "period", "pairs"),
+    [
+        ([10, 20, 30, 40], None, [(10, 20), (30, 40)]),
+        ([1500, 500], 2000, [(1500, 2000), (0, 500)]),
+        ([1500, 0], 2000, [(1500, 2000)]),
+        ([1500, 1], 2000, [(1500, 2000), (0, 1)]),
+        ([100, 100], 2000, [(100, 2000), (0, 100)]),
+        ([1500, 500], None, [(1500, 500)]),
+    ],
+)
+def test_times_of_a_laser_may_go_over_the_end_of_a_period(flat: list[int], period: int | None, pairs: list[tuple[int, int]]) -> None:
+    assert photon_hdf5._pairs(flat, period) == pairs

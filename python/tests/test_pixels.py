@@ -149,3 +149,22 @@ def test_neighbours_bins_and_regions() -> None:
     mask = pixels.inside(places, [1.5 + 0.5j, 5.5 + 0.5j, 5.5 + 3.5j, 1.5 + 3.5j])
     assert (np.argwhere(mask).min(axis=0) == [1, 2]).all() and (np.argwhere(mask).max(axis=0) == [3, 5]).all() and mask.sum() == 12
     assert not pixels.inside(np.array([np.nan + 1j]), [0j, 9 + 0j, 9j])[0]
+
+
+def test_regions_that_share_an_edge_share_no_pixel_and_lose_none() -> None:
+    """A rectangle in four, with corners and edges on pixels, and a triangle in two."""
+    places = np.add.outer(1j * np.arange(9), np.arange(9))
+    parts = [[a + b * 1j, c + b * 1j, c + d * 1j, a + d * 1j] for a, c in ((1, 4), (4, 7)) for b, d in ((2, 3), (3, 8))]
+    whole = pixels.inside(places, [1 + 2j, 7 + 2j, 7 + 8j, 1 + 8j])
+    assert (np.sum([pixels.inside(places, one) for one in parts], axis=0) == whole).all() and whole.sum() == 36
+    halves = [pixels.inside(places, corners) for corners in ([0j, 8 + 0j, 4 + 4j], [0j, 4 + 4j, 8j], [8 + 0j, 8 + 8j, 4 + 4j], [4 + 4j, 8 + 8j, 8j])]
+    assert (np.sum(halves, axis=0) == pixels.inside(places, [0j, 8 + 0j, 8 + 8j, 8j])).all()
+
+
+def test_numbers_of_32_bits_tell_what_those_of_64_do(monkeypatch: pytest.MonkeyPatch) -> None:
+    counts = picture(5, 12, {0.8: 150, 3.2: 150}, 0.2)
+    short = pixels.fit_pixels(counts, PULSE, WIDTH, [0.5, 4.0], background=0.2, **SETTINGS)
+    monkeypatch.setattr(pixels, "MANY", 0)
+    long = pixels.fit_pixels(counts, PULSE, WIDTH, [0.5, 4.0], background=0.2, **SETTINGS)
+    off = np.abs(short.lifetimes - long.lifetimes) / long.errors
+    assert np.nanmedian(off) < 0.002 and np.nanquantile(off, 0.97) < 0.02

@@ -89,6 +89,17 @@ def test_a_background_is_taken_off_and_told() -> None:
     assert again.mean(kind == 1)["E"][0] == result.mean(kind == 1)["E"][0]
 
 
+def test_nothing_is_left_of_bursts_without_noise() -> None:
+    """By the true factors each lies on the line of E and S; by a wrong one, as with its other sign, it doesn't."""
+    E, bright = np.array(EFFICIENCIES), np.array([100.0, 50.0, 80.0, 120.0])
+    donor, own = bright * (1 - E) / TRUTH["gamma"], bright * TRUTH["beta"]
+    photons = np.stack([donor, bright * E + TRUTH["leakage"] * donor + TRUTH["direct_excitation"] * own, own], axis=1)
+    line = smfret._Line({}, np.ones(4))
+    assert line.scatter(photons, np.eye(4, dtype=np.bool_), np.array(list(TRUTH.values()))) == pytest.approx(np.zeros(4), abs=1e-18)
+    for wrong in np.eye(4) * 0.1:
+        assert (line.scatter(photons, np.eye(4, dtype=np.bool_), np.array(list(TRUTH.values())) * (1 - wrong)) > 0.01).all()
+
+
 def test_factors_can_be_held() -> None:
     counts, kind = measured(np.random.default_rng(3), each=500)
     free = calibrated(counts, kind)

@@ -63,7 +63,7 @@ def filters(patterns: NDArray[Any], decay: NDArray[Any]) -> NDArray[np.float64]:
 def signal_of(curve: Curve, *backgrounds: float) -> float:
     """The part of a curve's photons that are no background, of two groups the root of the product of both.
 
-    ``backgrounds``: the rate of each group's background, in photons a second, where the file doesn't tell of seconds a tick.
+    ``backgrounds``: the rate of each group's background, in photons a second, or a tick where the file doesn't tell how long that is.
     """
     unit = curve.unit_seconds or 1.0
     first, second = (1 - background * unit / rate for background, rate in zip(backgrounds * (3 - len(backgrounds)), curve.rates))

@@ -118,7 +118,7 @@ class _Curves:
         rows[2] *= beyond
         rows[0] += beyond * (rows[1] + rows[2] / 2)
         rows[1] += rows[2]
-        return rows[:2].reshape(2 * len(logarithms), *rows.shape[2:])
+        return np.asarray(rows[:2].reshape(2 * len(logarithms), *rows.shape[2:]))
 
 
 def _sums(counts: Numbers, level: Numbers, rows: Numbers, amplitudes: Numbers) -> tuple[Numbers, Numbers, Numbers]:
@@ -175,7 +175,7 @@ def _fitted(pixels: NDArray[Any], level: Numbers, curves: _Curves, begin: Number
     state = np.concatenate((begin.reshape(-1, many), np.zeros((2 * terms, many)), np.full((1, many), -np.inf), np.ones((2, many))))
     for _ in range(STEPS):
         parts = np.array_split(going, -(-len(going) * pixels.shape[1] // TOGETHER) or 1)
-        going = np.concatenate([_turned(*(one[some].astype(curves.kind) for one in (pixels, level)), curves, state, found[2], some) for some in parts])
+        going = np.concatenate([_turned(pixels, level, curves, state, found[2], some) for some in parts])
         if not len(going):
             break
     found[0][:, kept], found[1][:, kept] = state[:terms, kept], np.exp(state[terms : 2 * terms, kept])
@@ -184,7 +184,7 @@ def _fitted(pixels: NDArray[Any], level: Numbers, curves: _Curves, begin: Number
 
 
 def _turned(
-    counts: Numbers, level: Numbers, curves: _Curves, state: Numbers, errors: Numbers, some: NDArray[np.int64]
+    pixels: NDArray[Any], level: Numbers, curves: _Curves, state: Numbers, errors: Numbers, some: NDArray[np.int64]
 ) -> NDArray[np.int64]:
     """Those of some pixels that aren't at their best fit after a step of Fisher's scoring more, which changes their state.
 
@@ -195,7 +195,8 @@ def _turned(
     """
     terms, (first, last) = len(errors), curves.logarithms[[0, -1]]
     now, ahead, (best, part, rise) = np.split(state[:, some], [2 * terms, 4 * terms])
-    likely, slope, inform = _sums(counts, level, curves.of(now[terms:]), now[:terms])
+    counts = pixels[some].astype(curves.kind)
+    likely, slope, inform = _sums(counts, level[some].astype(curves.kind), curves.of(now[terms:]), now[:terms])
     least = LEAST * counts.sum(axis=1, dtype=np.float64)
     none, outward = now[:terms] <= least, np.where(slope[terms:] > 0, now[terms:] >= last, now[terms:] <= first)
     held = np.concatenate((none & (slope[:terms] < 0), none | outward))
@@ -213,7 +214,7 @@ def _turned(
     rise, part = np.where(back, 0.5 * rise, (moves * slope).sum(axis=0)), np.where(back, 0.5 * state[-2, some], part)
     now = np.concatenate((np.maximum(now[:terms] + moves[:terms], least), np.clip(now[terms:] + moves[terms:], first, last)))
     state[:, some] = np.concatenate((now, ahead, [np.where(back, best, likely), part, rise]))
-    return some[back | ((slope * step).sum(axis=0) > NEAR)]
+    return np.asarray(some[back | ((slope * step).sum(axis=0) > NEAR)])
 
 
 def _held(counts: Numbers, level: Numbers, curves: _Curves, parts: Numbers, amplitudes: Numbers, steps: int = STEPS) -> Numbers:
