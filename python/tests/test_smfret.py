@@ -261,6 +261,8 @@ def test_bins_of_e_have_their_edges() -> None:
     variance = (3 * 0.01 + 0.09) / 4
     assert found[1] == pytest.approx([0, np.nan, np.nan, np.sqrt(variance)], nan_ok=True)
     assert found[2][3] == pytest.approx(np.hypot(3 * (0.01 - variance), 0.09 - variance) / 4 / (2 * np.sqrt(variance)))
+    upper = smfret.BurstVariance(E / 2 + 0.5, deviations, pieces, 5).binned(4, (0.5, 1.0))
+    assert np.array(upper[1:]) == pytest.approx(np.array(found[1:]), nan_ok=True) and upper[0] == pytest.approx(found[0] / 2 + 0.5, nan_ok=True)
 
 
 def test_two_channels_leave_molecules_with_one_dye_out() -> None:

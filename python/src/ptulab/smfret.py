@@ -213,7 +213,7 @@ class BurstVariance(Compared):
     def binned(self, bins: int = 20, span: tuple[float, float] = (0.0, 1.0)) -> tuple[NDArray[np.float64], NDArray[np.float64], NDArray[np.float64]]:
         """By bins of E the mean E, the deviation over all pieces of its bursts, and that one's standard deviation by the scatter
         of the bursts: each of shape (bins,), nan where a bin has fewer than two bursts."""
-        free = np.where(self.pieces > 1, self.pieces - 1.0, 0.0)
+        free = np.maximum(self.pieces - 1.0, 0.0)
         place = np.floor((self.E - span[0]) / (span[1] - span[0]) * bins)
         place = np.where(self.E == span[1], bins - 1, place)
         inside = (free > 0) & (place >= 0) & (place < bins)
