@@ -149,10 +149,10 @@ def test_pairs_of_measurements_add_up(make_file: Callable[..., Path]) -> None:
         times = np.sort(draws.integers(0, last, many))
         path = make_file("HydraHarp2T3", [(int(time), int(draws.integers(0, 2))) for time in times], name=f"{place}.ptu", tick=1e-7)
         ones.append(antibunching.coincidences(path, 0, 1, 6, width=2))
-    whole = sum(ones, start=ones[0])
-    assert sum(ones) == ones[0] + ones[1] + ones[2] != whole
-    assert (sum(ones).counts == sum(one.counts for one in ones)).all() and sum(ones).length == sum(one.length for one in ones)
-    assert sum(ones).expected() == pytest.approx(sum(one.expected() for one in ones)) and (ones[0] + ones[0]).expected() == pytest.approx(2 * ones[0].expected())
+    whole: Any = sum(ones)
+    assert whole == ones[0] + ones[1] + ones[2] != whole + ones[0]
+    assert (whole.counts == sum(one.counts for one in ones)).all() and whole.length == sum(one.length for one in ones)
+    assert whole.expected() == pytest.approx(sum(one.expected() for one in ones)) and (ones[0] + ones[0]).expected() == pytest.approx(2 * ones[0].expected())
     for other in (replace(ones[0], period=2), replace(ones[0], unit_seconds=None), replace(ones[0], reach=5)):
         with pytest.raises(ptulab.UnlikeError):
             ones[0] + other

@@ -347,7 +347,7 @@ def test_a_page_and_a_session_of_a_result(served: Served, folder: Path) -> None:
     assert served.ask("sessions") == {"sessions": ["one"]}
     opened = served.ask("session", name="one")
     begun, names = opened.pop("begun"), opened.pop("names")
-    view = {"regions": [], "phasors": [], "thresholds": {}}
+    view: dict[str, Any] = {"regions": [], "phasors": [], "thresholds": {}}
     assert opened == {"analysis": "decay", "settings": {"terms": 1}, "second": None, "file": "decay.ptu", "files": None, "plan": DECAY, "view": view}
     assert {"plan.toml", "analysis.py", "analysis.ipynb", "report.txt", "page.html"} <= set(names)
     shown = served.client.get(f"/result/{begun}/shown.json").json()
@@ -430,8 +430,8 @@ def test_a_name_that_is_no_utf_8(served: Served, folder: Path, tmp_path: Path) -
         assert name in [one["name"] for one in served.ask("files")["files"]]
         assert served.work("look", file=name)["result"]["info"]["photons"] == 8000
         groups = "[[group]]\ninputs = [1]\n[[group]]\ninputs = [2]\n"
-        trace = {"plan": groups + "[[trace]]\ngroup = 1\nwidth = 100000\nbins = 20\n", "analysis": "trace", "settings": {}}
-        asked = [("run", {"file": name, **trace}), ("many", {"files": [name, "pairs.ptu"], **trace}),
+        trace: dict[str, Any] = {"plan": groups + "[[trace]]\ngroup = 1\nwidth = 100000\nbins = 20\n", "analysis": "trace", "settings": {}}
+        asked: list[tuple[str, dict[str, Any]]] = [("run", {"file": name, **trace}), ("many", {"files": [name, "pairs.ptu"], **trace}),
                  ("run", {"file": name, "plan": groups, "analysis": "correlation", "settings": {"segments": 3}})]  # fmt: skip
         for place, (kind, words) in enumerate(asked):
             told = served.work(kind, **words)

@@ -106,7 +106,12 @@ def test_python_tells_how_far_it_reads_where_it_counts(folder: Path, tmp_path: P
 
     heard: list[float] = []
     has_read = _job.Work.has_read
-    monkeypatch.setattr(_job.Work, "has_read", lambda work, *told: (has_read(work, *told), heard.append(work.done)))
+
+    def listened(work: Any, path: str, part: float) -> None:
+        has_read(work, path, part)
+        heard.append(work.done)
+
+    monkeypatch.setattr(_job.Work, "has_read", listened)
     monkeypatch.setattr("ptulab.groups.PIECE", 10_000)
     asked = {"plan": PAIR.format(0, 1), "analysis": "pulsed", "settings": {}}
     done_here("run", folder / "pulsed.ptu", tmp_path, **asked)

@@ -116,7 +116,8 @@ def test_a_path_is_read_in_pieces_to_the_same_file(make_file: Callable[..., Path
     draws = np.random.default_rng(11)
     photons = [(int(t), int(n), int(d)) for t, n, d in zip(np.sort(draws.integers(0, 10**6, 5000)), draws.integers(0, 4, 5000), draws.integers(0, 2000, 5000))]
     for kind, resolution in (("MultiHarpT3", 50e-12), ("HydraHarp2T2", None)):
-        path, parts = make_file(kind, photons[:4000] + [(photons[3999][0], made.Bits(1)), (max(0, photons[3999][0] // 1024 * 1024), 1, 7)] + photons[4000:], tick=100e-9, resolution=resolution), []
+        path = make_file(kind, photons[:4000] + [(photons[3999][0], made.Bits(1)), (max(0, photons[3999][0] // 1024 * 1024), 1, 7)] + photons[4000:], tick=100e-9, resolution=resolution)
+        parts: list[float] = []
         whole = written(ptulab.read_events(path), tmp_path / "one.h5", filename="data.ptu", group=[1, 2])
         pieces = written(path, tmp_path / "two.h5", filename="data.ptu", group=[1, 2], progress=parts.append)
         assert whole.keys() == pieces.keys() and len(whole["photon_data/timestamps"]) > 2000

@@ -102,7 +102,8 @@ def test_one_measurement_together_is_itself(make_file: Callable[..., Path]) -> N
     for other in (replace(curve, unit_seconds=1e-7), replace(curve, ticks=curve.ticks + 1)):
         with pytest.raises(ptulab.UnlikeError):
             together([curve, other])
-    for none in ([], [replace(curve, rates=(0.0, 0.0))]):
+    nothing: list[Any] = [[], [replace(curve, rates=(0.0, 0.0))]]
+    for none in nothing:
         with pytest.raises(ValueError, match="no photons"):
             together(none)
 

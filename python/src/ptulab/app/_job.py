@@ -243,7 +243,8 @@ def many(work: Work) -> Any:
         csv.writer(out, lineterminator="\n").writerows([heads, *rows])
     work.done, work.words = len(files) / (len(files) + 1), "counts the sum"
     (folder / "sum.py").write_text(sum_script(script, files), "utf-8", errors="surrogateescape")
-    names, printed = {}, io.StringIO(f"{numbers}== the sum of {len(files)} files\n")
+    names: dict[str, Any] = {}
+    printed = io.StringIO(f"{numbers}== the sum of {len(files)} files\n")
     printed.seek(0, os.SEEK_END)
     try:
         names, _ = _ran(folder, "sum.py", printed)

@@ -244,7 +244,7 @@ def make_app(folder: str | os.PathLike[str], *, token: str, port: int, work: str
     kept: dict[str, bytes] = {}
 
     def answered(answer: Callable[[dict[str, Any]], Any]) -> Callable[[Request], Any]:
-        async def endpoint(request: Request) -> Response:
+        async def endpoint(request: Request) -> Any:
             try:
                 return _json(await asyncio.to_thread(answer, await _asked(request)))
             except ODD as error:
