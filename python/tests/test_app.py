@@ -463,7 +463,7 @@ def printed(served: Served, result: str, name: str, here: Path) -> str:
 
 
 def test_little_memory_gets_a_line(folder: Path, program: str, tmp_path: Path) -> None:
-    one = Served(folder, tmp_path / "results", program, megabytes=40)
+    one = Served(folder, tmp_path / "results", program, megabytes=32)
     try:
         told = one.work("run", file="pairs.ptu", plan="[[group]]\ninputs = [1]\n[[group]]\ninputs=[2]\n", analysis="correlation", settings={"segments": 3})
         assert "memory" in told["error"].lower() or "allocate" in told["error"], told
