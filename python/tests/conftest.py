@@ -23,9 +23,9 @@ EXAMPLES = ROOT / "examples"
 
 
 LONG = (
-    *("test_many_hosts", "test_many_hosts_sums", "test_many", "test_app_browser", "test_app_page", "test_app"),
-    *("test_app_results", "test_browser", "test_fits", "test_notebook", "test_smfret"),
-)
+    "test_many_hosts test_many_hosts_sums test_many test_app_browser test_app_page test_app test_app_results test_browser test_fits "
+    "test_notebook test_smfret"
+).split()
 PARTS = {"test_many": 3, "test_fits": 2}  # files whose tests share nothing, in so many parts
 
 
