@@ -25,7 +25,7 @@ pub enum Command<'a> {
         plan: &'a str,
         file: &'a str,
     },
-    /// Prints a plan's first trace over a file without end, while the file is read.
+    /// Prints a plan's first trace with as many bins as FILE needs, while FILE is read.
     Trace {
         plan: &'a str,
         file: &'a str,
