@@ -219,7 +219,7 @@ def test_weights_of_any_size_are_counted_exactly() -> None:
 def test_lags_that_no_correlation_has() -> None:
     with pytest.raises(ValueError):
         delays(2**20 + 2, 40)
-    assert delays(2**10, 40)[0][-1] == 2**49
+    assert delays(2**10, 40)[0][-1] == 2**49 and len(delays(2**20, 1)[0]) == 2**20
 
 
 def test_cells_are_those_of_multipletau() -> None:
