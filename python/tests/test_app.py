@@ -673,6 +673,28 @@ def test_long_lines_of_a_plan_take_no_time(served: Served) -> None:
     assert time.monotonic() - begun_at < 5
 
 
+@pytest.mark.parametrize(
+    ("plan", "line", "words"),
+    [
+        ("[[group]]\n" * 6550, 1, "6550 of group, and at most 64"),
+        ("".join(f"k{number}.a=1\n" for number in range(6550))[:65_000], 1, "k0 is no key"),
+        ("[[histogram]]\ngroup = 1\nwidth = 0\n" * 1770, 1, "1770 of histogram"),
+        ("version = 1\n" + "a." * 32_000 + "a = 1\n", 2, "more than 80 deep"),
+        ("version = 1\nx = " + "9" * 65_490, 2, r"more than 64 bits \(at line 2, column 5\)"),
+        ("version = 1\nx = 0x" + "f" * 65_000, 2, "more than 64 bits"),
+        ('x = "\\"' + '\\"' * 32_000 + "\n", 1, "at line 1"),
+    ],
+    ids=["groups", "dotted", "histograms", "deep", "digits", "hexadecimal", "escapes"],
+)
+def test_what_is_wrong_with_a_full_plan_is_told_in_no_time(plan: str, line: int, words: str) -> None:
+    from ptulab.app._groups import looked_over
+
+    begun_at = time.process_time()
+    findings = looked_over(plan)["findings"]
+    assert time.process_time() - begun_at < 1
+    assert len(findings) <= 100 and findings[0]["line"] == line and re.search(words, findings[0]["text"])
+
+
 # ## Two windows, many requests, and the end
 
 

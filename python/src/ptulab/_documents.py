@@ -21,15 +21,16 @@ from .errors import BadPlanError
 
 PlanLike = Plan | str | os.PathLike[str] | bytes  # a plan, a path, or the text of one: bytes, or more than one line
 LONGEST = 65_536  # bytes of a plan
-DEEPEST = 80  # arrays and inline tables in one another
+DEEPEST = 80  # arrays, inline tables and the parts of dotted keys in one another
 
 _TOKEN = re.compile(
-    r'"""(?:[^\\]|\\.)*?"{3,5}|\'\'\'.*?\'{3,5}'  # texts of several lines
-    r"|\"(?:[^\"\\\n]|\\.)*\"|'[^'\n]*'"
+    r'"""(?:[^\\]|\\.)*?(?:"{3,5}|\\?\Z)|\'\'\'.*?(?:\'{3,5}|\Z)'  # texts of several lines; one without an end goes to that of its line or plan
+    r"|\"(?:[^\"\\\n]|\\[^\n])*\"?|'[^'\n]*'?"
     r"|\#[^\n]*|[{}\[\],]|\r?\n|[ \t]+|[^\s{}\[\],\"'#]+|.",
     re.DOTALL,
 )
 _ESCAPE = re.compile(r"\\(?:x([0-9A-Fa-f]{2})|(e)|(.))", re.DOTALL)
+_DIGITS = re.compile(r"[0-9][0-9_]{4300}")
 _CLOCK = re.compile(r"(?<![\d:+-])(\d\d:\d\d)(?![\d:])")
 
 
@@ -89,15 +90,28 @@ def _document(source: bytes) -> dict[str, Any]:
         raise BadPlanError(f"the plan is longer than {LONGEST} bytes")
     try:
         text = source.decode("utf-8").removeprefix("\ufeff")
-        if _deepest(text) > DEEPEST:
-            raise BadPlanError(f"the plan is not TOML for the program: it is more than {DEEPEST} deep")
-        document = _parsed(text)
     except UnicodeDecodeError as error:
         raise BadPlanError(f"the plan is not TOML: byte {error.start} is no UTF-8") from error
+    if _deepest(text) > DEEPEST:
+        raise BadPlanError(f"the plan is not TOML for the program: it is more than {DEEPEST} deep")
+    try:
+        document = _parsed(text)
     except (tomllib.TOMLDecodeError, RecursionError) as error:
         raise BadPlanError(f"the plan is not TOML: {error}") from error
+    except ValueError as error:  # Python reads no number of so many digits
+        raise BadPlanError(f"the plan is not TOML for the program: a number has more than 64 bits{_place_of_digits(text)}") from error
     _within_limits(document)
     return document
+
+
+def _place_of_digits(text: str) -> str:
+    """The place of the first number of thousands of digits, as ``tomllib`` tells one."""
+    at = 0
+    for token in _TOKEN.findall(text):
+        if _DIGITS.search(token) and token[0] not in "\"'#":
+            return f" (at line {text.count(chr(10), 0, at) + 1}, column {at - text.rfind(chr(10), 0, at)})"
+        at += len(token)
+    return ""
 
 
 def _parsed(text: str) -> dict[str, Any]:
@@ -153,16 +167,26 @@ def _older_escape(found: re.Match[str]) -> str:
 def _within_limits(value: Any) -> None:
     """The program reads whole numbers of 64 bits, with their signs."""
     if isinstance(value, int) and not -(1 << 63) <= value < 1 << 63:
-        raise BadPlanError(f"the plan is not TOML for the program: {value} has more than 64 bits")
+        told = value if value.bit_length() < 1000 else "a number"
+        raise BadPlanError(f"the plan is not TOML for the program: {told} has more than 64 bits")
     if isinstance(value, dict | list):
         for part in value.values() if isinstance(value, dict) else value:
             _within_limits(part)
 
 
 def _deepest(text: str) -> int:
-    """How many brackets stand in one another."""
+    """How many brackets and parts of dotted keys stand in one another."""
+    depths = [0]  # of each bracket that is open
     depth = most = 0
     for token in _TOKEN.findall(text):
-        depth += (token in ("{", "[")) - (token in ("}", "]"))
+        if token in ("{", "["):
+            depths.append(depth)
+            depth += 1
+        elif token in ("}", "]"):
+            depth = depths.pop() if len(depths) > 1 else 0
+        elif token == "," or "\n" in token[:2]:
+            depth = depths[-1] + (len(depths) > 1)
+        elif token[0] not in "\"'#":
+            depth += token.count(".")
         most = max(most, depth)
     return most

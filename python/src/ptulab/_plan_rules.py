@@ -11,6 +11,7 @@ import difflib
 import math
 from collections.abc import Callable, Iterable, Iterator, Mapping
 from dataclasses import dataclass, field
+from itertools import islice
 from typing import Any, TypeGuard
 
 KINDS = ("group", "histogram", "trace", "startstop", "coincidence", "image", "correlation", "shift", "cube", "fold")
@@ -172,16 +173,19 @@ SHAPES = {
 }
 
 
-def broken_rules(document: Mapping[str, Any]) -> list[Finding]:
-    """Each rule that a document breaks, the least first as the program tells it; none of a good plan."""
-    plan = Document(document)
-    found = [*_document(plan), *_lists(plan)]
+def broken_rules(document: Mapping[str, Any], most: int | None = None) -> list[Finding]:
+    """Each rule that a document breaks, or the first ``most`` that are found; the least first as the program tells it; none of a good plan."""
+    return sorted(islice(_broken(Document(document)), most), key=lambda finding: (finding.rule, finding.index))
+
+
+def _broken(plan: Document) -> Iterator[Finding]:
+    yield from _document(plan)
+    yield from _lists(plan)
     for kind in KINDS:
         for number, table in enumerate(plan.tables(kind), 1):
-            found += _keys(plan, kind, number, table)
-            found += _values(plan, kind, number, table)
-    found += _shifts(plan)
-    return sorted(found, key=lambda finding: (finding.rule, finding.index))
+            yield from _keys(plan, kind, number, table)
+            yield from _values(plan, kind, number, table)
+    yield from _shifts(plan)
 
 
 def _document(plan: Document) -> Iterator[Finding]:

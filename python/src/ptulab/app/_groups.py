@@ -14,7 +14,9 @@ from ._lengths import lengths_of
 
 HEADER = re.compile(r"\s*\[\[\s*(\w+)\s*\]\]\s*(?:#(.*))?$")  # takes time by the length of the line alone
 AT_LINE = re.compile(r"\(at line (\d+), column \d+\)")
+KEY = re.compile(r"\s*(?:\[+\s*)?([\w-]+)\s*[=\].]")
 NAME = 60  # letters of a group's name
+MOST = 100  # findings that are told
 
 
 def looked_over(text: str) -> dict[str, Any]:
@@ -25,7 +27,8 @@ def looked_over(text: str) -> dict[str, Any]:
         place = AT_LINE.search(str(error))
         line = int(place[1]) if place else len(text.splitlines()) or 1
         return {"groups": None, "lengths": [], "findings": [{"line": line, "text": str(error), "refused": True}]}
-    found = [told(one, text) for one in broken_rules(document)]
+    lines = Lines(text)
+    found = [{"line": lines.of(one), "text": str(one), "refused": one.refused} for one in broken_rules(document, MOST)]
     groups = Document(document).tables("group")
     names = [(match[2] or "").strip() for match in map(HEADER.match, text.splitlines()) if match and match[1] == "group"]
     inline = len(names) != len(groups)
@@ -41,28 +44,33 @@ def _group(table: dict[str, Any], name: str) -> dict[str, Any]:
     }
 
 
-def told(finding: Finding, text: str) -> dict[str, Any]:
-    """A finding as JSON has it, with the line of the plan that it is about."""
-    return {"line": line_of(finding, text), "text": str(finding), "refused": finding.refused}
+class Lines:
+    """Where the parts and keys of a plan stand: each line is read once, however many are looked for."""
 
+    def __init__(self, text: str) -> None:
+        self.headers: dict[str, list[int]] = {}  # the lines of the parts of each kind, from 1
+        self.keys: dict[int, dict[str, int]] = {0: {}}  # the first line of each key below a header, by the line of that
+        self.all: dict[str, int] = {}  # and in the whole plan
+        below = self.keys[0]
+        for at, line in enumerate(text.splitlines(), 1):
+            if header := HEADER.match(line):
+                self.headers.setdefault(header[1], []).append(at)
+            if line.lstrip().startswith("["):
+                below = self.keys[at] = {}
+            if key := KEY.match(line):
+                below.setdefault(key[1], at)
+                self.all.setdefault(key[1], at)
 
-def line_of(finding: Finding, text: str) -> int:
-    """The line, from 1, of the key that a finding names, else that of its part, else the first."""
-    lines = text.splitlines()
-    kind, _, number = finding.part.rpartition(" ")
-    begin, end = 0, len(lines)
-    if number.isdigit():
-        headers = [at for at, match in enumerate(map(HEADER.match, lines)) if match and match[1] == kind]
+    def of(self, finding: Finding) -> int:
+        """The line, from 1, of the key that a finding names, else that of its part, else the first."""
+        kind, _, number = finding.part.rpartition(" ")
+        if not number.isdigit():
+            return self.all.get(finding.key, 1)
+        headers = self.headers.get(kind, [])
         if not 0 < int(number) <= len(headers):
-            return _line_with(lines, kind, 0, end) or 1
+            return self.all.get(kind, 1)
         begin = headers[int(number) - 1]
-        end = next((at for at in range(begin + 1, len(lines)) if lines[at].lstrip().startswith("[")), end)
-    return _line_with(lines, finding.key, begin, end) or begin + 1
-
-
-def _line_with(lines: Sequence[str], key: str, begin: int, end: int) -> int | None:
-    wanted = re.compile(rf"^\s*(?:\[+\s*)?{re.escape(key)}\s*[=\].]") if key else None
-    return next((at + 1 for at in range(begin, end) if wanted and wanted.match(lines[at])), None)
+        return self.keys[begin].get(finding.key, begin)
 
 
 def with_groups(text: str, groups: Sequence[dict[str, Any]]) -> str:
