@@ -9,7 +9,7 @@ import made
 import numpy as np
 import pytest
 import simulated
-from test_app import Served
+from test_app import Served, begun, gone
 from test_app_browser import FAULTS
 from window import BROWSER, DRIVER, Window, browser
 
@@ -220,6 +220,60 @@ def test_another_result_and_the_keys_of_undo(window: Window) -> None:
     window.until(lambda: window.text("#numbers") == first, "the first result")
     window.click("#redo")
     window.until(lambda: window.text("#numbers") == second, "the second one")
+
+
+def test_what_was_held_and_ticked_comes_back(window: Window) -> None:
+    held = "return document.getElementById('hold-background').checked"
+    window.choose("scan.ptu", "decay")
+    free = window.run()
+    typed(window, "fit-background", 3)
+    window.js("document.getElementById('hold-background').checked = true")
+    assert "\nbackground: 3\n" in window.run("#fit-again") and window.js(held)
+    window.click("#undo")
+    window.until(lambda: window.text("#numbers") == free and not window.js(held), "the free fit")
+    assert window.run() == free
+    ticked = "return [...document.querySelectorAll('#many-list input:checked')].map((one) => one.value)"
+    window.click("#tick-all")
+    every = window.js(ticked)
+    window.click("#tick-none")
+    assert "scan.ptu" in every and not window.js(ticked)
+    window.click("#undo")
+    assert window.js(ticked) == every and window.text("#undo-said") == "Taken back: All ticks were taken away."
+
+
+def test_checks_and_regions_are_stopped(window: Window) -> None:
+    """A check by its button, a region with the result that it is of."""
+    window.choose("scan.ptu", "image")
+    window.click("#check")
+    process = begun(window.served)
+    window.until(lambda: window.js("return document.querySelector('.halt') && document.getElementById('check').disabled"))
+    window.click(".halt")
+    window.until(lambda: "Stopped." in window.text("#findings") and not window.js("return document.querySelector('.halt') || document.getElementById('check').disabled"), "no check")
+    assert gone(process)
+    window.run()
+    window.click("#add-region")
+    process = begun(window.served)
+    window.until(lambda: window.js("return document.querySelector('#regions-progress progress')"), "a bar")
+    window.choose("emitter.ptu", "antibunching")
+    assert gone(process) and window.js("return document.getElementById('result').hidden")
+
+
+def test_the_folder_is_read_again(window: Window) -> None:
+    seen = "return document.querySelector('#files button[data-name=\"new.ptu\"]')?.textContent ?? ''"
+    window.click("#files-again")
+    says(window, "files-again-said", "No file is new or changed.")
+    new = window.served.folder / "new.ptu"
+    try:
+        for many in (3, 5):
+            made.write(new, "HydraHarp2T2", [(number, 1) for number in range(1, many + 1)], tick=1e-9)
+            window.click("#files-again")
+            says(window, "files-again-said", "1 file is new or changed.")
+            window.until(lambda: f"{many} photons" in window.js(seen), "a look")
+            window.js("document.getElementById('files-again-said').textContent = ''")
+    finally:
+        new.unlink()
+    window.click("#files-again")
+    window.until(lambda: not window.js(seen), "no such file")
 
 
 def test_regions_are_typed_in_micrometres_and_come_back(window: Window) -> None:

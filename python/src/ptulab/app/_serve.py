@@ -64,10 +64,11 @@ class Window:
         return {"folder": named(self.folder.root) or "/", "files": [self._file(name) for name in self.folder.names()]}
 
     def _file(self, name: str) -> dict[str, Any]:
-        told: dict[str, Any] = {"name": name, "bytes": 0, "type": "", "wrong": ""}
+        told: dict[str, Any] = {"name": name, "bytes": 0, "changed": "", "type": "", "wrong": ""}
         try:
             path = self.folder.path(name)
-            told["bytes"] = os.path.getsize(path)
+            now = os.stat(path)
+            told |= {"bytes": now.st_size, "changed": f"{now.st_size} {now.st_mtime_ns}"}
             header = read_header(path)
         except (PtulabError, OSError) as error:
             return told | {"wrong": str(getattr(error, "line", "") or getattr(error, "strerror", "") or error)}

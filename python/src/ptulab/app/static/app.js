@@ -1,6 +1,6 @@
 // @ts-check
 // The window: files and sessions on the left, and the one that was chosen on the right.
-import { byId, make, trouble } from "./dom.js";
+import { byId, make, say, trouble } from "./dom.js";
 import { list, lookAround, mark } from "./files.js";
 import { look } from "./look.js";
 import { leave, open, questions, stop } from "./questions.js";
@@ -60,6 +60,16 @@ async function sessions() {
 document.addEventListener("back", (heard) => {
   const { was, words } = /** @type {CustomEvent} */ (heard).detail;
   choose(was.file, was, words);
+});
+byId("files-again").addEventListener("click", async () => {
+  try {
+    const many = await list(choose);
+    say(byId("files-again-said"), many ? `${many} ${many === 1 ? "file is" : "files are"} new or changed.` : "No file is new or changed.");
+    await sessions();
+    await lookAround();
+  } catch (error) {
+    trouble(error instanceof Error ? error.message : String(error));
+  }
 });
 document.addEventListener("kept", () => { sessions().catch((error) => trouble(error.message)); });
 list(choose).then(sessions).then(lookAround).catch((error) => trouble(error.message)).finally(() => { document.documentElement.dataset.ready = "yes"; });

@@ -3,7 +3,7 @@
 import { byId, make, short } from "./dom.js";
 import { ask, bar, work } from "./server.js";
 
-/** @type {{name: string, bytes: number, type: string, wrong: string, odd?: string, records?: number}[]} */
+/** @type {{name: string, bytes: number, changed: string, type: string, wrong: string, odd?: string, records?: number}[]} */
 export let files = [];
 /** @type {Map<string, any>} what the first looks told */
 export const looks = new Map();
@@ -11,17 +11,21 @@ export const looks = new Map();
 let background = null;
 let paused = 0, looking = false, stopped = false;
 
-/** Lists the files.
+/** Lists the files, and forgets the looks at those that have changed; gives how many are new or have changed.
  * @param {(name: string) => void} chosen */
 export async function list(chosen) {
-  const told = await ask("files");
+  const told = await ask("files"), was = new Map(files.map((file) => [file.name, file.changed]));
   files = told.files;
+  const others = files.filter((file) => was.get(file.name) !== file.changed), current = document.querySelector("#files [aria-current=true]")?.getAttribute("data-name");
+  for (const file of others) looks.delete(file.name);
   byId("files-said").textContent = files.length ? `${files.length} files` : "There is no PTU file in this folder.";
   byId("files").replaceChildren(...files.map((file) => {
     const button = make("button", { type: "button", disabled: Boolean(file.wrong), "data-name": file.name, on: { click: () => chosen(file.name) } },
       make("strong", { text: file.name }), make("span", { class: file.wrong ? "wrong" : "faint", text: said(file) }));
     return make("li", {}, button);
   }));
+  if (current) mark(current);
+  return others.length;
 }
 
 /** @param {typeof files[0]} file */
@@ -59,7 +63,7 @@ export async function lookAround() {
   } } });
   byId("files-progress").append(halt);
   try {
-    for (const file of files) if (!file.wrong && !looks.has(file.name) && !paused && !stopped) await lookAt(file, progress.heard);
+    for (let file; !paused && !stopped && (file = files.find((one) => !one.wrong && !looks.has(one.name)));) await lookAt(file, progress.heard);
     byId("files-said").textContent = files.length ? `${files.length} files` : "There is no PTU file in this folder.";
   } finally {
     looking = false;

@@ -3,7 +3,7 @@
 import { byId, make, say, short, teller, trouble } from "./dom.js";
 import { alone, files } from "./files.js";
 import * as plans from "./plan.js";
-import { bar, work } from "./server.js";
+import { bar, beside, work } from "./server.js";
 import { hide, show, shown } from "./take.js";
 import { asTime, scaleOf } from "./times.js";
 import { did, some } from "./undo.js";
@@ -14,6 +14,7 @@ import { did, some } from "./undo.js";
 const now = { file: "", inputs: [], mode: "", asked: null, settings: [], second: null, run: null, fit: {}, scale: scaleOf({}), begun: "" };
 /** @type {Map<string, [number, number]>} windows of time that were chosen on a trace, by the files */
 const windows = new Map();
+let leaving = new AbortController(); // ends the check of a plan that is left
 const button = (/** @type {string} */ id) => /** @type {HTMLButtonElement} */ (byId(id));
 
 /** Shows what can be asked of a file.
@@ -43,6 +44,8 @@ function state() {
 export function leave(words) {
   const was = state(), { shown: told, ...asked } = was;
   if (was.file && (some() || told || now.asked && JSON.stringify(asked) !== now.begun)) did(words, () => { document.dispatchEvent(new CustomEvent("back", { detail: { was, words } })); });
+  leaving.abort();
+  leaving = new AbortController();
   hide();
   now.asked = null;
   byId("ask").hidden = true;
@@ -110,8 +113,14 @@ function others(ticked) {
 }
 
 const boxes = () => /** @type {HTMLInputElement[]} */ ([...document.querySelectorAll("#many-list input")]);
-/** @param {boolean} checked */
-const tick = (checked) => boxes().forEach((box) => { box.checked = checked; });
+/** Ticks these files alone, which can be undone.
+ * @param {string[]} wanted @param {string} words */
+function tick(wanted, words) {
+  const was = boxes().filter((box) => box.checked).map((box) => box.value);
+  if (was.join("/") === wanted.join("/")) return;
+  did(words, () => tick(was, words));
+  boxes().forEach((box) => { box.checked = wanted.includes(box.value); });
+}
 
 /** Runs the question over the file, or over many.
  * @param {"run" | "many"} kind */
@@ -175,23 +184,30 @@ document.addEventListener("steered", (heard) => {
   now.fit = /** @type {CustomEvent} */ (heard).detail;
   run("run");
 });
+document.addEventListener("refitted", (heard) => { // of a result that came back, if the model is still that of it
+  const { fit, ...others } = /** @type {CustomEvent} */ (heard).detail, chosen = /** @type {Record<string, any>} */ (settings());
+  now.fit = ["terms", "dimensions", "triplet"].every((key) => others[key] === chosen[key]) && fit || {};
+});
 byId("settings").addEventListener("change", (event) => {
   const key = /** @type {HTMLElement} */ (event.target).dataset.key || "second", { from_seconds, to_seconds } = /** @type {any} */ (settings());
   if (["terms", "dimensions", "triplet", "second"].includes(key)) now.fit = {}; // of another model
   if (["from_seconds", "to_seconds"].includes(key)) taken(from_seconds || to_seconds ? [from_seconds, to_seconds] : null);
 });
 byId("run-many").addEventListener("click", () => run("many"));
-byId("tick-all").addEventListener("click", () => tick(true));
-byId("tick-none").addEventListener("click", () => tick(false));
+byId("tick-all").addEventListener("click", () => tick(boxes().map((box) => box.value), "All files were ticked."));
+byId("tick-none").addEventListener("click", () => tick([], "All ticks were taken away."));
 byId("run").addEventListener("click", () => run("run"));
 byId("stop").addEventListener("click", () => now.run?.abort());
 byId("settings").addEventListener("submit", (event) => { event.preventDefault(); run("run"); });
-byId("check").addEventListener("click", async () => {
+byId("check").addEventListener("click", () => {
+  const left = leaving.signal;
   plans.say([], "Checks it ..");
-  try {
-    plans.say((await alone(() => work("check", { file: now.file, plan: plans.plan() }, () => {}, new AbortController().signal))).findings, "It is good for this file.");
-  } catch (error) {
-    plans.say([], error instanceof Error ? error.message : String(error));
-  }
+  beside(byId("check"), "Check it for this file", left, async (heard, signal) => {
+    try {
+      plans.say((await alone(() => work("check", { file: now.file, plan: plans.plan() }, heard, signal))).findings, "It is good for this file.");
+    } catch (error) {
+      if (!left.aborted) plans.say([], signal.aborted ? "Stopped." : error instanceof Error ? error.message : String(error));
+    }
+  });
 });
 export const stop = () => now.run?.abort();

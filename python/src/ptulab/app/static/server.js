@@ -1,5 +1,6 @@
 // @ts-check
 // What is asked of the server. Every answer is JSON, that of work a line of it for each thing that is said.
+import { make } from "./dom.js";
 
 /** @param {string} name @param {object} asked @param {AbortSignal} [signal] */
 const post = (name, asked, signal) => fetch("/api/" + name, { method: "POST", body: JSON.stringify(asked), signal });
@@ -55,4 +56,22 @@ export function bar(place, label) {
     heard(line) { if (typeof line.progress === "number") shown.value = line.progress; },
     end() { if (shown.parentNode === place) place.replaceChildren(); },
   };
+}
+
+/** Does work with a bar and a Stop beside its button, which can't be clicked meanwhile; `leaving` ends it too.
+ * @param {HTMLElement} button @param {string} text @param {AbortSignal} leaving
+ * @param {(heard: (line: any) => void, signal: AbortSignal) => Promise<void>} what */
+export async function beside(button, text, leaving, what) {
+  const mine = new AbortController(), place = make("span"), halt = make("button", { type: "button", class: "halt", text: "Stop", "aria-label": `Stop: ${text}`, on: { click: () => mine.abort() } });
+  leaving.addEventListener("abort", () => mine.abort());
+  button.toggleAttribute("disabled", true);
+  button.after(" ", place, halt);
+  try {
+    await what(bar(place, text).heard, mine.signal);
+  } finally {
+    button.toggleAttribute("disabled", false);
+    if (document.activeElement === halt) button.focus();
+    place.remove();
+    halt.remove();
+  }
 }

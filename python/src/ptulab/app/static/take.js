@@ -3,7 +3,7 @@
 import { byId, make, renew, say, short, table, trouble } from "./dom.js";
 import { alone } from "./files.js";
 import { draw } from "./plots.js";
-import { ask, bar, work } from "./server.js";
+import { ask, bar, beside, work } from "./server.js";
 import { did } from "./undo.js";
 
 /** @typedef {{begun: string, figures: any[], numbers: string, script: string, files: string[], fit?: Parameter[], table?: {heads: string[], rows: string[][]}}} Result */
@@ -42,7 +42,10 @@ export function hide() {
  * @param {Result} told @param {any} asked what was asked, of a session or of what comes back with its `view` */
 export function show(told, asked) {
   const /** @type {View | undefined} */ before = asked.view, was = shown();
-  if (was) did("There is another result.", () => show(was.told, was.asked));
+  if (was) did("There is another result.", () => {
+    show(was.told, was.asked);
+    document.dispatchEvent(new CustomEvent("refitted", { detail: was.asked.settings }));
+  });
   leave();
   now = { told, asked };
   view = () => ({ regions: [], phasors: [], thresholds: thresholds() });
@@ -55,22 +58,14 @@ export function show(told, asked) {
   const has = { figures: told.figures.length > 0, image: told.figures.some((one) => one.kind === "picture"), "": !told.table };
   const others = OTHERS.filter(([, , wanted]) => has[/** @type {keyof typeof has} */ (wanted)]).map(([kind, text]) => {
     const button = make("button", { type: "button", "data-kind": kind, text, on: { click: async () => {
-      const mine = new AbortController(), place = make("span"), halt = make("button", { type: "button", class: "halt", text: "Stop", "aria-label": `Stop: ${text}`, on: { click: () => mine.abort() } });
-      leaving.signal.addEventListener("abort", () => mine.abort());
-      button.toggleAttribute("disabled", true);
-      button.after(" ", place, halt);
-      const progress = bar(place, text);
       trouble("");
-      try {
-        list((await alone(() => work(kind, { result: told.begun }, progress.heard, mine.signal))).files);
-      } catch (error) {
-        if (!mine.signal.aborted) trouble(words(error));
-      } finally {
-        button.toggleAttribute("disabled", false);
-        if (document.activeElement === halt) button.focus();
-        place.remove();
-        halt.remove();
-      }
+      await beside(button, text, leaving.signal, async (heard, signal) => {
+        try {
+          list((await alone(() => work(kind, { result: told.begun }, heard, signal))).files);
+        } catch (error) {
+          if (!signal.aborted) trouble(words(error));
+        }
+      });
     } } });
     return button;
   });
@@ -126,7 +121,8 @@ function regions(told, list, before) {
   let those = { picture: [], plane: [] };
   /** @type {AbortController | null} */
   let asking = null;
-  const said = make("p", { role: "status", id: "regions-said" }), results = make("div", { id: "regions-shown" }), buttons = make("p", { class: "controls", id: "regions-list" });
+  leaving.signal.addEventListener("abort", () => asking?.abort());
+  const said = make("p", { role: "status", id: "regions-said" }), place = make("div", { id: "regions-progress" }), results = make("div", { id: "regions-shown" }), buttons = make("p", { class: "controls", id: "regions-list" });
   const least = /** @type {HTMLInputElement} */ (make("input", { type: "number", id: "region-threshold", min: "0", step: "1", max: picture.most, value: before?.threshold ?? picture.threshold, on: { change: () => ask() } }));
   document.addEventListener("change", (heard) => { // of a slider of one of the pictures
     const slider = /** @type {HTMLInputElement} */ (heard.target);
@@ -140,8 +136,9 @@ function regions(told, list, before) {
     results.replaceChildren();
     say(said, many ? "Adds up the pixels .." : "No regions.");
     if (!many) return paint(null);
+    const progress = bar(place, "How far the sum of the pixels is");
     try {
-      const found = await alone(() => work("region", { result: told.begun, regions: those.picture, phasors: those.plane, threshold }, () => {}, mine.signal));
+      const found = await alone(() => work("region", { result: told.begun, regions: those.picture, phasors: those.plane, threshold }, progress.heard, mine.signal));
       if (mine.signal.aborted) return;
       say(said, `${short(many)} ${many === 1 ? "region" : "regions"}, of pixels with at least ${short(threshold)} photons`);
       results.replaceChildren(make("pre", { id: "region-numbers", tabindex: "0", role: "region", "aria-label": "Numbers of the regions", text: found.numbers }), ...found.figures.map((/** @type {any} */ one) => draw(one)));
@@ -149,6 +146,8 @@ function regions(told, list, before) {
       paint(found.paint);
     } catch (error) {
       if (!mine.signal.aborted) say(said, words(error));
+    } finally {
+      progress.end();
     }
   };
   const paint = (/** @type {object | null} */ detail) => { document.dispatchEvent(new CustomEvent("painted", { detail })); };
@@ -172,7 +171,7 @@ function regions(told, list, before) {
   return make("section", { "aria-labelledby": "regions-title", class: "plain" }, make("h3", { id: "regions-title", text: "Regions of the image and of its phasors" }),
     make("p", { text: "Choose that dragging draws a region, above an image or the phasors, and draw one; or give a rectangle by numbers. The decay of its pixels and a fit appear here, and the pixels of a region of phasors are painted in the images." }),
     make("p", {}, make("label", { for: least.id, text: "Only pixels with at least so many photons: " }), least),
-    of_image(picture, (corners) => put({ ...those, picture: [...those.picture, corners] }, "A region was added."), complain), ...of_phasors, buttons, said, results);
+    of_image(picture, (corners) => put({ ...those, picture: [...those.picture, corners] }, "A region was added."), complain), ...of_phasors, buttons, said, place, results);
 }
 
 /** A rectangle of an image: in micrometres, as its axes are, where the size of its pixels is known.
