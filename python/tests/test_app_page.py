@@ -115,6 +115,22 @@ def test_a_plan_is_shown_and_typed_in_times_and_lengths(window: Window) -> None:
     window.until(lambda: "\ndwidth = 4\n" in window.js(PLAN) and value(window, "length-cube-1-dwidth") == "200 ps")
 
 
+def test_a_short_trace_is_in_microseconds(window: Window) -> None:
+    """A window that is dragged over it stands in the settings in seconds, and lies where it was dragged."""
+    window.choose("scan.ptu", "decay")
+    window.until(lambda: window.js("return document.getElementById('figure-look-trace-plot')?.dataset.drawn") == "yes")
+    label, most = window.js("const plot = document.getElementById('figure-look-trace-plot'); return [plot.layout.xaxis.title.text, plot.data[0].x.at(-1)]")
+    assert label in ("time (ms)", "time (\u00b5s)")
+    many = {"m": 1e3, "\u00b5": 1e6}[label[6]]
+    window.dragging("look-trace")
+    window.plot("look-trace", (0.25, 0.5), (0.4, 0.5), (0.5, 0.5))
+    window.until(lambda: float(value(window, "setting-to_seconds")) > 0, "a window")
+    ends = [many * float(value(window, f"setting-{key}")) for key in ("from_seconds", "to_seconds")]
+    assert 0.15 * most < ends[0] < 0.35 * most < ends[1] < 0.6 * most
+    band = window.js("return document.getElementById('figure-look-trace-plot').layout.shapes[0]")
+    assert [band["x0"], band["x1"]] == pytest.approx(ends)
+
+
 def test_the_times_of_a_plan_by_their_lines() -> None:
     """Each key that is a time or a size, in the table where it stands; not those that only look like one."""
     text = "# width = 3\nperiod = 1_000 # ticks\nversion = 2\n\n[limits]\nrecords = 5\nwidth = 9\n[[group]]\ninputs = [1]\nwidth = 3\n[[ histogram ]] # one\ngroup = 1\nwidth=8\n  bins = 250\n" \
@@ -258,8 +274,12 @@ def test_checks_and_regions_are_stopped(window: Window) -> None:
     assert gone(process) and window.js("return document.getElementById('result').hidden")
 
 
+def seen_of(window: Window, file: str, words: str) -> None:
+    """The list says this of a file, at the latest after a while."""
+    window.until(lambda: words in window.text(f"#files button[data-name='{file}']"), words)
+
+
 def test_the_folder_is_read_again(window: Window) -> None:
-    seen = "return document.querySelector('#files button[data-name=\"new.ptu\"]')?.textContent ?? ''"
     window.click("#files-again")
     says(window, "files-again-said", "No file is new or changed.")
     new = window.served.folder / "new.ptu"
@@ -268,12 +288,12 @@ def test_the_folder_is_read_again(window: Window) -> None:
             made.write(new, "HydraHarp2T2", [(number, 1) for number in range(1, many + 1)], tick=1e-9)
             window.click("#files-again")
             says(window, "files-again-said", "1 file is new or changed.")
-            window.until(lambda: f"{many} photons" in window.js(seen), "a look")
+            seen_of(window, "new.ptu", f"{many} photons")
             window.js("document.getElementById('files-again-said').textContent = ''")
     finally:
         new.unlink()
     window.click("#files-again")
-    window.until(lambda: not window.js(seen), "no such file")
+    window.until(lambda: not window.text("#files button[data-name='new.ptu']"), "no such file")
 
 
 def test_regions_are_typed_in_micrometres_and_come_back(window: Window) -> None:
@@ -371,6 +391,8 @@ def test_phasors_are_calibrated_by_a_dye(window: Window, tmp_path: Path) -> None
         return [complex(np.average(points[which], weights=many[rows, columns][which])) for which in (nearer, ~nearer)]
 
     window.choose("scan.ptu", "image")
+    labels = window.js("return [...document.querySelectorAll('#settings select, #settings input')].map((one) => one.id)")
+    assert labels.index("setting-reference") == labels.index("second") + 1  # of which it tells the lifetime
     window.set(threshold=40, reference=simulated.DYE * 1e9)
     window.run()
     assert max(abs(one - other) for one, other in zip(clouds(), wanted)) > 0.015

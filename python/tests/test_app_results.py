@@ -43,7 +43,7 @@ def columns(path: Path) -> dict[str, Any]:
     """The columns of a CSV file."""
     with open(path, encoding="utf-8", newline="") as lines:
         head, *rows = csv.reader(lines)
-    return {name: np.array([float(row[at]) for row in rows]) for at, name in enumerate(head)}
+    return {name: np.array([row[at] if name == "file" else float(row[at]) for row in rows]) for at, name in enumerate(head)}
 
 
 def by_itself(script: Path) -> str:
@@ -88,6 +88,7 @@ def test_an_image_without_lifetimes(folder: Path, tmp_path: Path) -> None:
     """Of a file whose header tells no tick of the delay: its photons, pixel by pixel, and as OME-TIFF."""
     tifffile = pytest.importorskip("tifffile", reason="python3-tifffile isn't on this machine")
     asked = {one["name"]: one for one in done_here("look", folder / "picture.ptu", tmp_path)["questions"]}
+    assert not asked["pulsed"]["reason"]  # which counts sync periods alone
     assert "how long a tick is" in asked["image"]["reason"] and not asked["light"]["reason"] and "[[image]]\ngroup = 3\n" in asked["light"]["plan"]
     told = done_here("run", folder / "picture.ptu", tmp_path, plan=asked["light"]["plan"], analysis="light", settings={})
     truth = np.add.outer(np.arange(8), np.arange(8))
@@ -161,6 +162,7 @@ def test_bursts_of_files_stand_one_behind_the_other(window: Any, sums: Any) -> N
     told, whole, parts = sums("bursts", PAIR.format(1, 2), {"rate": 15, **window}, ["bursts", "bursts2"])
     found, each = columns(whole / "bursts.csv"), [columns(part / "bursts.csv") for part in parts]
     assert all((found[name] == np.concatenate([one[name] for one in each])).all() for name in ("start", "stop", "E")) and len(found["E"]) > 450
+    assert found["file"].tolist() == ["bursts.ptu"] * len(each[0]["E"]) + ["bursts2.ptu"] * len(each[1]["E"]) and "file" not in each[0]
     assert f"bursts: {len(found['E'])}\n" in told["numbers"] and found["E"].mean() == pytest.approx(simulated.EFFICIENCY, abs=0.01)
 
 

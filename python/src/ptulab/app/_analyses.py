@@ -219,18 +219,20 @@ def _known(value: float | None) -> bool:
     return value is not None and math.isfinite(value) and value > 0
 
 
-def _only(mode: str, what: str) -> Callable[[Look], str]:
+def _only(mode: str, what: str, delays: bool = True) -> Callable[[Look], str]:
+    """Why a file doesn't suit an analysis of one mode, which in T3 takes the ticks of delays, or sync periods alone."""
+
     def wanting(seen: Look) -> str:
         if seen.header.mode != mode:
             return f"{what}: this is a {seen.header.mode} file, and it takes {mode}"
-        known = _known(seen.header.global_seconds) and (mode == "T2" or _known(seen.header.resolution_seconds))
+        known = _known(seen.header.global_seconds) and (mode == "T2" or not delays or _known(seen.header.resolution_seconds))
         return "" if known else "the header doesn't tell how long a tick is"
 
     return wanting
 
 
 def _two_detectors(mode: str, what: str) -> Callable[[Look], str]:
-    first = _only(mode, what)
+    first = _only(mode, what, delays=False)
     return lambda seen: first(seen) or ("" if len(seen.inputs) > 1 else "it takes two detectors, and the file has one input")
 
 
@@ -469,7 +471,7 @@ def _bursts_settings(seen: Look) -> list[Setting]:
         Setting("rate", "Threshold in thousand photons a second", float(f"{5 * mean / 1e3:.2g}"), 1e-6, 1e9, whole=False),
         Setting("minimum", "Least photons of a burst", 30, 2, 100_000),
         Setting("m", "Photons in a row that are looked at", 10, 2, 1000),
-        Setting("gamma", "gamma", 1.0, 1e-3, 1e3, whole=False),
+        Setting("gamma", "gamma: by how much better the acceptor is seen than the donor", 1.0, 1e-3, 1e3, whole=False),
     ]
 
 

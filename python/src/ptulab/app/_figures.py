@@ -19,6 +19,7 @@ from ..phasors import phasor_of_lifetime
 Floats = NDArray[np.float64]
 Drawn = dict[str, Any]
 CELLS = 100  # of the plane of phasors, in a unit of g or s
+UNITS = {"s": 1.0, "ms": 1e3, "µs": 1e6, "ns": 1e9, "ps": 1e12}  # how many of each a second has
 MARKED = (0.25, 0.5, 1, 2, 4, 8, 16)  # nanoseconds on the half circle
 
 
@@ -72,7 +73,7 @@ def _numbers(listed: Sequence[float | None]) -> Floats:
 
 def units_of_second(one: Drawn) -> float:
     """How many units of its x axis a figure has for a second."""
-    return {"s": 1.0, "ms": 1e3, "µs": 1e6, "ns": 1e9, "ps": 1e12}.get(one["xunit"], math.nan)
+    return UNITS.get(one["xunit"], math.nan)
 
 
 def _picture(one: Picture) -> Drawn:
@@ -108,22 +109,27 @@ def figures_of_look(seen: Info) -> list[Drawn]:
     if not seen.inputs:
         return []
     tick, mode = seen.tick_seconds, seen.header.mode
-    factor, unit = (tick, "s") if tick else (1.0, "ticks" if mode == "T2" else "sync periods")
     last = seen.head.last or 0
+    unit, many = _unit_of(last * tick) if tick else ("ticks" if mode == "T2" else "sync periods", 1.0)
+    factor = tick * many if tick else 1.0
     starts = np.arange(0, last + 1, seen.bin_ticks, dtype=np.float64)
     rate = 1 / (seen.bin_ticks * tick) if tick else 1.0
     traces = [curve(f"input {one.number}", starts * factor, one.trace[: len(starts)] * rate) for one in seen.inputs]
     told = f"The light of each input over the file, in {len(starts)} bins of {lasting(seen.bin_ticks * tick) if tick else f'{seen.bin_ticks:,} {unit}'}."
     ylabel = ("photons a second", "a second") if tick else ("photons in a bin", "photons")
-    figures = [figure("look-trace", "Over the time", told, (f"time ({unit})", unit), ylabel, traces, drag="time" if tick else None)]
+    figures = [figure("look-trace", "Over the time", told, (f"time ({unit})", unit), ylabel, traces, tick=many, drag="time" if tick else None)]
     return figures + ([_decays(seen)] if mode == "T3" else [])
 
 
 def lasting(seconds: float) -> str:
     """A time with the unit that makes it short."""
-    units = {"s": 1.0, "ms": 1e-3, "µs": 1e-6, "ns": 1e-9, "ps": 1e-12}
-    unit = next((word for word, factor in units.items() if seconds >= 0.9999999 * factor), "ps")
-    return f"{seconds / units[unit]:.4g} {unit}"
+    unit, many = _unit_of(seconds)
+    return f"{seconds * many:.4g} {unit}"
+
+
+def _unit_of(seconds: float) -> tuple[str, float]:
+    """The unit in which a time is short, and how many of them a second has."""
+    return next(((unit, many) for unit, many in UNITS.items() if seconds * many >= 0.9999999), ("ps", UNITS["ps"]))
 
 
 def _decays(seen: Info) -> Drawn:

@@ -27,8 +27,7 @@ def looked_over(text: str) -> dict[str, Any]:
         place = AT_LINE.search(str(error))
         line = int(place[1]) if place else len(text.splitlines()) or 1
         return {"groups": None, "lengths": [], "findings": [{"line": line, "text": str(error), "refused": True}]}
-    lines = Lines(text)
-    found = [{"line": lines.of(one), "text": str(one), "refused": one.refused} for one in broken_rules(document, MOST)]
+    found = told(broken_rules(document, MOST), text)
     groups = Document(document).tables("group")
     names = [(match[2] or "").strip() for match in map(HEADER.match, text.splitlines()) if match and match[1] == "group"]
     inline = len(names) != len(groups)
@@ -42,6 +41,12 @@ def _group(table: dict[str, Any], name: str) -> dict[str, Any]:
         "inputs": [one for one in inputs if is_whole(one)] if isinstance(inputs, list) else [],
         "gates": [one for one in gates if isinstance(one, list) and len(one) == 2 and all(map(is_whole, one))] if isinstance(gates, list) else [],
     }
+
+
+def told(findings: Sequence[Finding], text: str) -> list[dict[str, Any]]:
+    """Findings as JSON has them, each with the line of the plan that it is about; at most 100."""
+    lines = Lines(text)
+    return [{"line": lines.of(one), "text": str(one), "refused": one.refused} for one in findings[:MOST]]
 
 
 class Lines:

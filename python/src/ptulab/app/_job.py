@@ -111,7 +111,7 @@ def check(work: Work) -> Any:
 
     text, plan = work.request["plan"], Path(work.request["out"], "checked.toml")
     plan.write_text(text, "utf-8")
-    findings = [told(one, text) for one in check_plan(plan, work.path)]
+    findings = told(check_plan(plan, work.path), text)
     plan.unlink()
     return {"findings": findings}
 

@@ -135,7 +135,8 @@ def sum_script(script: str, files: Sequence[str]) -> str:
     if by_program:
         return script.replace(f"\n{REPORT}", f"\n{ADDED}")
     more = f", {part[1]}" if part else ""
-    return COUNTS.sub(lambda line: f"{line[1]} = summed(lambda file: {line[2]}, files{more})", script, count=1)
+    script = COUNTS.sub(lambda line: f"{line[1]} = summed(lambda file: {line[2]}, files{more})", script, count=1)
+    return script.replace("bursts, *counted = ", "bursts, *counted, of_file = ").replace('"bursts": {"start"', '"bursts": {"file": of_file, "start"')
 
 
 def results_of(printed: str) -> tuple[list[str], list[list[str]]]:

@@ -114,7 +114,7 @@ def summed(count: Callable[[PathLike], Any], files: Sequence[PathLike], start: f
     """What is counted of each file, or of its window from the second ``start`` to ``stop``, added up.
 
     Reports and coincidences add up; correlations are taken ``together``, each by its photons; of arrays, as of bursts, those of one
-    file stand behind those of another. A line is printed of each file that is left out: one that can't be counted, or is of
+    file stand behind those of another, and a last array has the name of the file of each. A line is printed of each file that is left out: one that can't be counted, or is of
     another type or tick than the first. It ends with that where none is left.
     """
     found = _each(count, files, start, stop)
@@ -143,7 +143,7 @@ def _each(count: Callable[[PathLike], Any], files: Sequence[PathLike], start: fl
         finally:
             drop_parts()
         kind = mine
-        yield found
+        yield (*found, np.full(len(found[0]), named(file))) if isinstance(found, tuple) else found
 
 
 def _records(file: PathLike, begin: float, end: float, records: int) -> tuple[int, int]:

@@ -244,7 +244,7 @@ function valueAt(one, x) {
  * @param {Curves} figure @returns {any[]} */
 function bands(figure) {
   const tick = figure.tick || 1, last = Math.max(0, ...figure.curves.map((one) => one.x[one.x.length - 1] || 0));
-  const those = figure.drag === "gate" ? over.gates.map((gate) => gate.map((end) => end * tick)) : figure.drag === "time" && over.time ? [[over.time[0], over.time[1] || last]] : [];
+  const those = figure.drag === "gate" ? over.gates.map((gate) => gate.map((end) => end * tick)) : figure.drag === "time" && over.time ? [[over.time[0] * tick, over.time[1] * tick || last]] : [];
   return those.map(([x0, x1]) => ({ type: "rect", yref: "paper", y0: 0, y1: 1, x0, x1, fillcolor: colour("accent"), opacity: 0.18, line: { width: 0 } }));
 }
 

@@ -66,7 +66,8 @@ export async function open(one, kept = null) {
     type: "number", id: `setting-${each.key}`, "data-key": each.key, min: each.least, max: each.most, step: each.whole ? "1" : "any", value: values[each.key] ?? each.value, required: true })));
   const fields = now.settings.map((input, at) => make("p", {}, make("label", { for: input.id, text: one.settings[at].label }), input, ...lasting(input, one.settings[at])));
   now.second = one.second ? second(one.second, kept?.second) : null;
-  if (now.second) fields.push(make("p", {}, make("label", { for: "second", text: one.second.label }), now.second));
+  const before = now.settings.findIndex((input) => input.dataset.key === "reference"); // what is told of the other file stands behind it
+  if (now.second) fields.splice(before < 0 ? fields.length : before, 0, make("p", {}, make("label", { for: "second", text: one.second.label }), now.second));
   byId("settings").replaceChildren(...fields);
   if (kept) windowed(now.file, values.from_seconds || values.to_seconds ? [values.from_seconds, values.to_seconds] : null);
   byId("run-said").textContent = "";
@@ -177,8 +178,8 @@ function taken(range) {
 const span = ([from, to]) => to ? `${short(from)} s to ${short(to)} s` : `what is after ${short(from)} s`;
 
 document.addEventListener("chosen", (heard) => {
-  const { what, range } = /** @type {CustomEvent} */ (heard).detail;
-  if (what === "time") taken(range.map((/** @type {number} */ end) => Number(Math.max(0, end).toPrecision(6))));
+  const { what, range, tick } = /** @type {CustomEvent} */ (heard).detail;
+  if (what === "time") taken(range.map((/** @type {number} */ end) => Number((Math.max(0, end) / tick).toPrecision(6))));
 });
 document.addEventListener("steered", (heard) => {
   now.fit = /** @type {CustomEvent} */ (heard).detail;
