@@ -237,6 +237,23 @@ def test_a_look_and_a_check_here(folder: Path, tmp_path: Path) -> None:
     assert done_here("check", folder / "pairs.ptu", tmp_path, plan=DECAY)["findings"][0]["refused"]
 
 
+def test_markers_are_ticks_or_a_curve_of_the_trace(tmp_path: Path) -> None:
+    """Up to 1,000 of a bit are ticks, more are counted in the bins of the trace; times have the unit that makes the file's length short."""
+    marks = [(10 + at, made.Bits(2)) for at in range(1001)]
+    path = made.write(tmp_path / "marks.ptu", "HydraHarp2T3", [(0, made.Bits(1)), (0, 0, 5), *marks, (1500, made.Bits(5)), (2047, 0, 7)], tick=1e-6)
+    trace = done_here("look", path, tmp_path)["figures"][0]
+    curves = {one["label"]: one for one in trace["curves"]}
+    assert (trace["xlabel"], trace["xunit"], trace["tick"], trace["ylabel"]) == ("time (ms)", "ms", 1e3, "photons or markers a second")
+    assert (curves["marker bit 1"]["shape"], curves["marker bit 1"]["x"], curves["marker bit 3"]["x"]) == ("marks", [0, 1.5], [1.5])
+    width = curves["input 0"]["x"][1] / 1e3  # seconds of a bin
+    many = curves["marker bit 2"]
+    assert many["shape"] == "hv" and many["x"] == curves["input 0"]["x"] and sum(many["y"]) * width == pytest.approx(1001) and max(many["y"]) * width == pytest.approx(2)
+    less = made.write(tmp_path / "less.ptu", "HydraHarp2T3", [(0, 0, 5), *marks[1:], (2047, 0, 7)])
+    told = done_here("look", less, tmp_path)["figures"][0]
+    assert [(one["label"], one["shape"]) for one in told["curves"]] == [("input 0", "hv"), ("marker bit 2", "marks")] and "tick below" in told["summary"]
+    assert (told["xunit"], told["ylabel"], told["tick"], told["drag"]) == ("sync periods", "photons in a bin", None, None)
+
+
 def test_broken_files_get_a_line_and_end_nothing(served: Served, folder: Path) -> None:
     assert served.work("look", file="text.ptu")["error"] == "text.ptu: not a PTU file"
     gone = folder / "gone.ptu"
@@ -621,6 +638,21 @@ def test_the_notebook_prints_the_same(folder: Path, tmp_path: Path) -> None:
     source = str(Path(ptulab.__file__).resolve().parents[1])
     done = subprocess.run([sys.executable, "-c", cells[1]["source"]], cwd=tmp_path, capture_output=True, text=True, check=False, env=os.environ | {"PYTHONPATH": source})
     assert done.stdout == told["numbers"] == "".join(cells[1]["outputs"][0]["text"]), done.stderr
+
+
+def test_the_notebook_of_many_files_prints_the_same(folder: Path, tmp_path: Path) -> None:
+    """Its two codes, run after each other in the folder of the result; without a sum it has the first alone."""
+    files = [str(folder / "decay.ptu"), str(folder / "pairs.ptu"), str(folder / "pulse.ptu")]
+    told = done_here("many", Path(files[0]), tmp_path, files=files, plan=DECAY, analysis="decay", settings={})
+    cells = json.loads((tmp_path / "many.ipynb").read_text())["cells"]
+    each, added = ("".join(cell["outputs"][0]["text"]) for cell in cells[1:3])
+    assert told["numbers"] == f"{each}== the sum of 3 files\n{added}" and "left out" in each and "left out of the sum" in added and "plt.plot" in cells[3]["source"]
+    source = str(Path(ptulab.__file__).resolve().parents[1])
+    code = "\n".join(cell["source"] for cell in cells[1:3])
+    done = subprocess.run([sys.executable, "-c", code], cwd=tmp_path, capture_output=True, text=True, check=False, env=os.environ | {"PYTHONPATH": source})
+    assert done.stdout == each + added, done.stderr
+    done_here("many", folder / "pairs.ptu", tmp_path, files=files[1:2], plan=DECAY, analysis="decay", settings={})
+    assert [cell["id"] for cell in json.loads((tmp_path / "many.ipynb").read_text())["cells"]] == ["title", "analysis-1"]
 
 
 def test_a_session_keeps_regions_thresholds_and_what_was_held(served: Served, folder: Path) -> None:

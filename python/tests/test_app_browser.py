@@ -125,6 +125,24 @@ def test_gates_and_windows_of_time_by_dragging(window: Window) -> None:
     a_window_of_time_is_shown_and_can_be_taken_back(window, begin, end)
 
 
+def test_a_window_of_microseconds_over_ticks_of_markers(window: Window) -> None:
+    """The scan lasts 391 µs, and its trace has them on its axis; its 33 markers are ticks below it, in rows by their bits."""
+    window.choose("scan.ptu", "trace")
+    window.dragging("look-trace")
+    title, marks = window.js("const plot = document.getElementById('figure-look-trace-plot'); return [plot.layout.xaxis.title.text, plot.data.filter((one) => one.yaxis === 'y2').map((one) => [one.name, one.x.length, one.text[0]])]")
+    assert title == "time (µs)" and marks == [["marker bit 1", 16, "marker bit 1: 5 µs"], ["marker bit 2", 16, "marker bit 2: 21 µs"], ["marker bit 3", 1, "marker bit 3: 0 µs"]]
+    lasts = window.js("return document.getElementById('figure-look-trace-plot')._fullLayout.xaxis.range")
+    window.plot("look-trace", (0.25, 0.5), (0.4, 0.5), (0.5, 0.5))
+    window.until(lambda: float(window.js("return document.getElementById('setting-to_seconds').value")) > 0, "a window")
+    begin, end = (float(window.js(f"return document.getElementById('setting-{key}').value")) for key in ("from_seconds", "to_seconds"))
+    width = lasts[1] - lasts[0]
+    assert [1e6 * begin, 1e6 * end] == pytest.approx([lasts[0] + part * width for part in (0.25, 0.5)], abs=0.01 * width)
+    band = window.js("const [band] = document.getElementById('figure-look-trace-plot').layout.shapes; return [band.x0, band.x1]")
+    assert band == pytest.approx([1e6 * begin, 1e6 * end]) and re.search(r"only \S+ µs to \S+ µs", window.text("#look-window"))
+    window.run()
+    assert f"part_of(file, {begin!r}, {end!r})" in window.text("#script")
+
+
 def a_window_of_time_is_shown_and_can_be_taken_back(window: Window, begin: float, end: float) -> None:
     """The window that was chosen of bursts.ptu stays with it, in sight, till a click takes all of the file."""
 

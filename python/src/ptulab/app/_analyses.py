@@ -468,10 +468,10 @@ def _bursts_settings(seen: Look) -> list[Setting]:
         Setting("donor", "Group of the donor", 1, 1, 64),
         Setting("acceptor", "Group of the acceptor", 2, 1, 64),
         Setting("own", "Group of the acceptor by its own laser (0: none)", 0, 0, 64),
-        Setting("rate", "Threshold in thousand photons a second", float(f"{5 * mean / 1e3:.2g}"), 1e-6, 1e9, whole=False),
+        Setting("rate", "Threshold: so many thousand photons a second begin a burst", float(f"{5 * mean / 1e3:.2g}"), 1e-6, 1e9, whole=False),
         Setting("minimum", "Least photons of a burst", 30, 2, 100_000),
         Setting("m", "Photons in a row that are looked at", 10, 2, 1000),
-        Setting("gamma", "gamma: by how much better the acceptor is seen than the donor", 1.0, 1e-3, 1e3, whole=False),
+        Setting("gamma", "gamma: how much better the acceptor is seen than the donor", 1.0, 1e-3, 1e3, whole=False),
     ]
 
 

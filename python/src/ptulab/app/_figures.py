@@ -11,6 +11,7 @@ from typing import Any
 import numpy as np
 from numpy.typing import NDArray
 
+from .._looks import BITS, Look
 from ..first_look import Info
 from ..page._document import packed
 from ..page._figures import POINTS, Curve, Figure, Line, Picture, figures_of, limits_of
@@ -19,7 +20,8 @@ from ..phasors import phasor_of_lifetime
 Floats = NDArray[np.float64]
 Drawn = dict[str, Any]
 CELLS = 100  # of the plane of phasors, in a unit of g or s
-UNITS = {"s": 1.0, "ms": 1e3, "µs": 1e6, "ns": 1e9, "ps": 1e12}  # how many of each a second has
+PER_SECOND = {"s": 1.0, "ms": 1e3, "µs": 1e6, "ns": 1e9, "ps": 1e12}
+FEW = 1000  # markers of a bit that are drawn each by itself
 MARKED = (0.25, 0.5, 1, 2, 4, 8, 16)  # nanoseconds on the half circle
 
 
@@ -33,7 +35,7 @@ def curve(label: str, xs: NDArray[Any], ys: NDArray[Any], errors: NDArray[Any] |
 def figure(name: str, title: str, summary: str, xaxis: tuple[str, str], yaxis: tuple[str, str], curves: Sequence[Drawn], **more: Any) -> Drawn:
     """A figure of curves: the axes are their labels and units; ``more`` has ``xlog``, ``log``, ``level`` and ``start``."""
     axes = {"xlabel": xaxis[0], "xunit": xaxis[1], "ylabel": yaxis[0], "yunit": yaxis[1]}
-    usual = {"xlog": False, "log": None, "level": None, "start": None, "names": None, "drag": None}
+    usual = {"xlog": False, "log": None, "level": None, "start": None, "names": None, "drag": None, "tick": None}
     return {"kind": "curves", "name": name, "title": title, "summary": summary, **axes, **usual, **more, "curves": list(curves)}
 
 
@@ -73,7 +75,7 @@ def _numbers(listed: Sequence[float | None]) -> Floats:
 
 def units_of_second(one: Drawn) -> float:
     """How many units of its x axis a figure has for a second."""
-    return UNITS.get(one["xunit"], math.nan)
+    return PER_SECOND.get(one["xunit"], math.nan)
 
 
 def _picture(one: Picture) -> Drawn:
@@ -104,32 +106,52 @@ def _cells(values: Floats, usual: float) -> tuple[int, int]:
     return math.floor(values.min(initial=-0.1) * CELLS), math.floor(values.max(initial=usual) * CELLS) + 1
 
 
-def figures_of_look(seen: Info) -> list[Drawn]:
-    """The traces of all inputs over the time of the file, and of T3 their decays."""
+def figures_of_look(seen: Info, known: Look) -> list[Drawn]:
+    """The traces of all inputs and the markers over the time of the file, and of T3 the decays of the inputs."""
     if not seen.inputs:
         return []
     tick, mode = seen.tick_seconds, seen.header.mode
-    last = seen.head.last or 0
-    unit, many = _unit_of(last * tick) if tick else ("ticks" if mode == "T2" else "sync periods", 1.0)
-    factor = tick * many if tick else 1.0
-    starts = np.arange(0, last + 1, seen.bin_ticks, dtype=np.float64)
+    unit = unit_of((seen.head.last or 0) * tick) if tick else "ticks" if mode == "T2" else "sync periods"
+    factor = tick * PER_SECOND[unit] if tick else 1.0
+    starts = np.arange(0, (seen.head.last or 0) + 1, seen.bin_ticks, dtype=np.float64)
     rate = 1 / (seen.bin_ticks * tick) if tick else 1.0
     traces = [curve(f"input {one.number}", starts * factor, one.trace[: len(starts)] * rate) for one in seen.inputs]
+    markers = [_markers(bit, times, starts, (factor, rate)) for bit, times in _times_of_bits(known)]
     told = f"The light of each input over the file, in {len(starts)} bins of {lasting(seen.bin_ticks * tick) if tick else f'{seen.bin_ticks:,} {unit}'}."
-    ylabel = ("photons a second", "a second") if tick else ("photons in a bin", "photons")
-    figures = [figure("look-trace", "Over the time", told, (f"time ({unit})", unit), ylabel, traces, tick=many, drag="time" if tick else None)]
+    told += " Of each marker there is a tick below it." if any(one["shape"] == "marks" for one in markers) else ""
+    what = "photons or markers" if any(one["shape"] != "marks" for one in markers) else "photons"
+    ylabel = (f"{what} a second", "a second") if tick else (f"{what} in a bin", what)
+    more = {"drag": "time", "tick": PER_SECOND[unit]} if tick else {}
+    figures = [figure("look-trace", "Over the time", told, (f"time ({unit})", unit), ylabel, traces + markers, **more)]
     return figures + ([_decays(seen)] if mode == "T3" else [])
+
+
+def _times_of_bits(known: Look) -> Iterator[tuple[int, NDArray[np.int64]]]:
+    """The times of the markers that have each bit, of those that occur."""
+    times, bits = known.marks
+    for bit in BITS:
+        if len(some := times[bits & (1 << (bit - 1)) != 0]):
+            yield bit, some
+
+
+def _markers(bit: int, times: NDArray[np.int64], starts: Floats, scales: tuple[float, float]) -> Drawn:
+    """Few markers of a bit as ticks, of many how often they come; ``scales`` are those of both axes."""
+    factor, rate = scales
+    if len(times) <= FEW:
+        return curve(f"marker bit {bit}", times * factor, np.full(len(times), bit), shape="marks")
+    counts = np.diff(np.searchsorted(np.sort(times), np.append(starts, np.inf)))
+    return curve(f"marker bit {bit}", starts * factor, counts * rate)
+
+
+def unit_of(seconds: float) -> str:
+    """The unit that makes a time short."""
+    return next((word for word, factor in PER_SECOND.items() if seconds * factor >= 0.9999999), "ps")
 
 
 def lasting(seconds: float) -> str:
     """A time with the unit that makes it short."""
-    unit, many = _unit_of(seconds)
-    return f"{seconds * many:.4g} {unit}"
-
-
-def _unit_of(seconds: float) -> tuple[str, float]:
-    """The unit in which a time is short, and how many of them a second has."""
-    return next(((unit, many) for unit, many in UNITS.items() if seconds * many >= 0.9999999), ("ps", UNITS["ps"]))
+    unit = unit_of(seconds)
+    return f"{seconds * PER_SECOND[unit]:.4g} {unit}"
 
 
 def _decays(seen: Info) -> Drawn:

@@ -101,7 +101,7 @@ def look(work: Work) -> Any:
     told = seen.as_json()
     for one in told["inputs"]:
         del one["trace"], one["decay"]
-    return {"info": told, "text": str(seen), "figures": figures_of_look(seen), "questions": proposals(known)}
+    return {"info": told, "text": str(seen), "figures": figures_of_look(seen, known), "questions": proposals(known)}
 
 
 def check(work: Work) -> Any:
@@ -129,7 +129,7 @@ def run(work: Work) -> Any:
     _written(folder, names, numbers)
     from ._more import notebook_of
 
-    (folder / "analysis.ipynb").write_text(notebook_of(analysis.title, script, work.path, numbers), "utf-8", errors="surrogateescape")
+    (folder / "analysis.ipynb").write_text(notebook_of(analysis.title, [(script, numbers)], work.path), "utf-8", errors="surrogateescape")
     return _shown(folder, {"figures": analysis.draw(names), "numbers": numbers, "script": script, "fit": parameters_of(names) if analysis.fits else []})
 
 
@@ -230,27 +230,29 @@ def many(work: Work) -> Any:
 
     from ..errors import PtulabError
     from ._analyses import analysis_of
-    from ._more import many_script, results_of, sum_script
+    from ._more import many_script, notebook_of, results_of, sum_script
 
     folder, files = Path(work.request["out"]), work.request["files"]
     analysis = analysis_of(work.request["analysis"])
     script = _prepared(work, folder)
-    (folder / "many.py").write_text(many_script(analysis, files), "utf-8", errors="surrogateescape")
+    each, added = many_script(analysis, files), sum_script(script, files)
+    (folder / "many.py").write_text(each, "utf-8", errors="surrogateescape")
     with _listening(work, analysis.by_python):
         _, numbers = _ran(folder, "many.py", _Heard(lambda number: work.goes_on_with(number, len(files) + 1, files[number])))
     heads, rows = results_of(numbers)
     with open(folder / "results.csv", "w", encoding="utf-8", errors="surrogateescape", newline="") as out:
         csv.writer(out, lineterminator="\n").writerows([heads, *rows])
     work.done, work.words = len(files) / (len(files) + 1), "counts the sum"
-    (folder / "sum.py").write_text(sum_script(script, files), "utf-8", errors="surrogateescape")
+    (folder / "sum.py").write_text(added, "utf-8", errors="surrogateescape")
     names: dict[str, Any] = {}
-    printed = io.StringIO(f"{numbers}== the sum of {len(files)} files\n")
-    printed.seek(0, os.SEEK_END)
+    printed = io.StringIO()
     try:
         names, _ = _ran(folder, "sum.py", printed)
     except (PtulabError, OSError, ValueError, SystemExit) as error:  # of the sum alone: what was found of each file stays
         printed.write(f"no sum: {_said(error, work.request)}\n")
-    numbers = printed.getvalue()[:ENOUGH]
+    parts = [(each, numbers), (added, printed.getvalue()[:ENOUGH])][: 2 if names else 1]
+    (folder / "many.ipynb").write_text(notebook_of(f"{analysis.title} of many files", parts), "utf-8", errors="surrogateescape")
+    numbers = f"{numbers}== the sum of {len(files)} files\n{printed.getvalue()}"[:ENOUGH]
     _written(folder, names, numbers)
     return _shown(folder, {"figures": analysis.draw(names) if names else [], "numbers": numbers, "script": script, "table": {"heads": heads, "rows": rows}})
 

@@ -152,18 +152,29 @@ def results_of(printed: str) -> tuple[list[str], list[list[str]]]:
     return heads, [[row.get(word, "") for word in heads] for row in rows]
 
 
-def notebook_of(title: str, script: str, path: str, printed: str) -> str:
-    """A notebook with a script and what it printed."""
-    lines = [line for line in script.splitlines() if not line.startswith(("#", "import sys"))]
-    changed = {"here": 'here = Path(".")', "file": f"file = {path!r}"}
-    lines = [changed.get(line.split(" = ")[0], line) if " = Path(__file__)" in line or "sys.argv" in line else line for line in lines]
-    output = {"output_type": "stream", "name": "stdout", "text": printed.splitlines(keepends=True)}
-    said = f"# {title}\n\nAs the window of ptulab {__version__} showed it. plan.toml stands beside this."
-    code: dict[str, Any] = {"cell_type": "code", "id": "analysis", "execution_count": None, "metadata": {}, "outputs": [output], "source": "\n".join(lines).strip()}
-    plots: dict[str, Any] = {"cell_type": "code", "id": "plots", "execution_count": None, "metadata": {}, "outputs": [], "source": PLOT}
-    cells = [{"cell_type": "markdown", "id": "title", "metadata": {}, "source": said}, code, plots]
+def notebook_of(title: str, scripts: Sequence[tuple[str, str]], path: str = "") -> str:
+    """A notebook with scripts and what each printed; ``path`` is the file of one that counts a single file. It draws the curves
+    of the last one, if that has any."""
+    said = f"# {title}\n\nAs the window of ptulab {__version__} showed it. plan.toml{' and analysis.py stand' if len(scripts) > 1 else ' stands'} beside this."
+    cells: list[dict[str, Any]] = [{"cell_type": "markdown", "id": "title", "metadata": {}, "source": said}]
+    cells += [_code(f"analysis-{number}", _in_notebook(script, path), printed) for number, (script, printed) in enumerate(scripts, 1)]
+    cells += [_code("plots", PLOT)] if "\ncurves = " in scripts[-1][0] else []
     kernel = {"kernelspec": {"name": "python3", "display_name": "Python 3", "language": "python"}, "language_info": {"name": "python"}}
     return json.dumps({"cells": cells, "metadata": kernel, "nbformat": 4, "nbformat_minor": 5}, indent=1)
+
+
+def _in_notebook(script: str, path: str) -> str:
+    """A script without what only a script knows: its own place, and the words of its call."""
+    changed = {"here": 'here = Path(".")', "file": f"file = {path!r}", "files": "files = ["}
+    lines = [line for line in script.splitlines() if not line.startswith("#")]
+    lines = [changed.get(line.split(" = ")[0], line) if " = Path(__file__)" in line or " = sys.argv" in line else line for line in lines]
+    used = "\n".join(lines).strip()
+    return used if "sys." in used else used.replace("import sys\n", "", 1)
+
+
+def _code(name: str, source: str, printed: str = "") -> dict[str, Any]:
+    outputs = [{"output_type": "stream", "name": "stdout", "text": printed.splitlines(keepends=True)}] if printed else []
+    return {"cell_type": "code", "id": name, "execution_count": None, "metadata": {}, "outputs": outputs, "source": source}
 
 
 PLOT = """\

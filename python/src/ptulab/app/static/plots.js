@@ -43,7 +43,7 @@ for (const media of [dark, narrow]) media.addEventListener("change", () => {
 
 /** A number with its unit; seconds with the one that makes it short.
  * @param {number | null} value @param {string} unit */
-function measured(value, unit) {
+export function measured(value, unit) {
   if (value === null) return "nothing";
   if (unit !== "s" || value === 0) return short(value) + (unit ? " " + unit : "");
   const [factor, name] = times.find(([least]) => Math.abs(value) >= least) || times[times.length - 1];
@@ -108,11 +108,11 @@ export function draw(figure, of = "") {
   return section;
 }
 
-/** What was chosen by dragging over a figure.
+/** What was chosen by dragging over a figure: a gate in ns or ticks with what a tick is, or a time in seconds.
  * @param {any} figure @param {number[]} range */
 function chosen(figure, range) {
-  const [from, to] = [Math.min(...range), Math.max(...range)];
-  document.dispatchEvent(new CustomEvent("chosen", { detail: { what: figure.drag, range: [from, to], tick: figure.tick } }));
+  const tick = figure.tick, unit = figure.drag === "time" ? tick : 1, ends = [Math.min(...range) / unit, Math.max(...range) / unit];
+  document.dispatchEvent(new CustomEvent("chosen", { detail: { what: figure.drag, range: ends, tick } }));
   again_all();
 }
 
@@ -186,9 +186,9 @@ function curves(figure, controls) {
   const log = figure.names ? null : box(controls, figure.log === null ? "logarithmic values" : "logarithmic counts", Boolean(figure.log));
   const xlog = figure.names ? null : box(controls, `logarithmic ${figure.xlabel.replace(/ \(.*/, "")}`, figure.xlog);
   const all = figure.start === null ? null : box(controls, "all delays", false);
-  const first = figure.curves[0] || { x: [], y: [], errors: null };
+  const first = figure.curves[0] || { x: [], y: [], errors: null }, lines = figure.curves.filter((one) => one.shape !== "marks");
   /** @param {Curve} one @param {number} at */
-  const words = (one, at) => `${figure.curves.length > 1 ? one.label + ", " : ""}${figure.names ? figure.names[at] : measured(one.x[at], figure.xunit)}: ${measured(one.y[at], figure.yunit)}` +
+  const words = (one, at) => one.shape === "marks" ? `${one.label}: ${measured(one.x[at], figure.xunit)}` : `${figure.curves.length > 1 ? one.label + ", " : ""}${figure.names ? figure.names[at] : measured(one.x[at], figure.xunit)}: ${measured(one.y[at], figure.yunit)}` +
     (one.errors && one.errors[at] !== null ? ` \u00b1 ${Number(Number(one.errors[at]).toPrecision(2))}` : "");
   return {
     count: first.x.length, step: Math.max(1, Math.round(first.x.length / 20)), columns: 0,
@@ -196,7 +196,7 @@ function curves(figure, controls) {
     told: (curve, at) => words(figure.curves[curve], at),
     table() {
       const step = Math.ceil(first.x.length / ROWS) || 1;
-      const columns = figure.curves.map((one) => ({ label: one.label, cells: first.x.flatMap((x, at) => at % step ? [] : [valueAt(one, x)]) })).filter((one) => one.cells.some((cell) => cell));
+      const columns = lines.map((one) => ({ label: one.label, cells: first.x.flatMap((x, at) => at % step ? [] : [valueAt(one, x)]) })).filter((one) => one.cells.some((cell) => cell));
       const rows = first.x.flatMap((x, at) => at % step ? [] : [[figure.names ? figure.names[at] : short(x), ...columns.map((one) => one.cells[at / step])]]);
       return table(`${figure.title}: every ${step === 1 ? "value" : `${step}th value`}`, [figure.xlabel, ...columns.map((one) => one.label)], rows);
     },
@@ -205,8 +205,9 @@ function curves(figure, controls) {
       const traces = figure.curves.map((one, at) => ({
         type: figure.names ? "bar" : "scatter", name: plain(one.label), x: figure.names ? figure.names.map(plain) : one.x, text: one.y.map((_, place) => plain(words(one, place))),
         y: logarithmic ? one.y.map((y) => (y !== null && y > 0 ? y : null)) : one.y, hovertemplate: "%{text}<extra></extra>", textposition: figure.names ? "none" : undefined,
-        mode: one.shape === "points" ? "markers" : one.errors ? "lines+markers" : "lines", marker: { color: colour(`curve-${at % 6}`), size: 5 },
-        line: { color: colour(`curve-${at % 6}`), width: 1.6, shape: one.shape === "points" ? "linear" : one.shape },
+        mode: dots(one) ? "markers" : one.errors ? "lines+markers" : "lines", yaxis: one.shape === "marks" ? "y2" : "y",
+        marker: one.shape === "marks" ? { color: colour(`curve-${at % 6}`), size: 10, symbol: "line-ns", line: { color: colour(`curve-${at % 6}`), width: 1 } } : { color: colour(`curve-${at % 6}`), size: 5 },
+        line: { color: colour(`curve-${at % 6}`), width: 1.6, shape: dots(one) ? "linear" : one.shape },
         error_y: one.errors ? { type: "data", array: one.errors, color: colour("faint"), thickness: 1, width: 0 } : undefined,
       }));
       look.showlegend = traces.length > 1;
@@ -214,7 +215,8 @@ function curves(figure, controls) {
       if (figure.names) look.xaxis.type = "category";
       look.yaxis = axis(figure.ylabel, logarithmic);
       labelled(look.xaxis, figure.curves.flatMap((one) => one.x));
-      labelled(look.yaxis, figure.curves.flatMap((one) => one.y));
+      labelled(look.yaxis, lines.flatMap((one) => one.y));
+      below(look, figure.curves.filter((one) => one.shape === "marks"));
       for (const each of [look.xaxis, look.yaxis]) each.uirevision = `${each.type} ${Boolean(all?.checked)}`;
       if (figure.start !== null && !all?.checked && first.x.length) {
         const ends = [figure.start, first.x[first.x.length - 1]], start = figure.start;
@@ -230,6 +232,21 @@ function curves(figure, controls) {
   };
 }
 
+/** Whether a curve is drawn as points or ticks, without lines between them.
+ * @param {Curve} one */
+const dots = (one) => ["points", "marks"].includes(one.shape);
+
+/** Leaves room below a plot for the ticks of markers, a row for each bit.
+ * @param {any} look @param {Curve[]} marks */
+function below(look, marks) {
+  if (!marks.length) return;
+  const bits = marks.map((one) => Number(one.y[0])), height = 0.05 * marks.length;
+  look.yaxis.domain = [height + 0.02, 1];
+  look.yaxis2 = { domain: [0, height], range: [Math.max(...bits) + 0.5, Math.min(...bits) - 0.5], fixedrange: true, visible: false };
+  look.xaxis.anchor = "free";
+  look.xaxis.position = 0;
+}
+
 /** The value of a curve at a place: on a line between two of its points too, and nothing beyond its ends.
  * @param {Curve} one @param {number} x */
 function valueAt(one, x) {
@@ -243,9 +260,9 @@ function valueAt(one, x) {
 /** What was chosen by dragging, as bands over a figure.
  * @param {Curves} figure @returns {any[]} */
 function bands(figure) {
-  const tick = figure.tick || 1, last = Math.max(0, ...figure.curves.map((one) => one.x[one.x.length - 1] || 0));
-  const those = figure.drag === "gate" ? over.gates.map((gate) => gate.map((end) => end * tick)) : figure.drag === "time" && over.time ? [[over.time[0] * tick, over.time[1] * tick || last]] : [];
-  return those.map(([x0, x1]) => ({ type: "rect", yref: "paper", y0: 0, y1: 1, x0, x1, fillcolor: colour("accent"), opacity: 0.18, line: { width: 0 } }));
+  const tick = figure.tick || 1, last = Math.max(0, ...figure.curves.map((one) => one.x[one.x.length - 1] || 0)) / tick;
+  const those = figure.drag === "gate" ? over.gates : figure.drag === "time" && over.time ? [[over.time[0], over.time[1] || last]] : [];
+  return those.map((ends) => ends.map((end) => end * tick)).map(([x0, x1]) => ({ type: "rect", yref: "paper", y0: 0, y1: 1, x0, x1, fillcolor: colour("accent"), opacity: 0.18, line: { width: 0 } }));
 }
 
 /** @param {{kind: string, base64: string}} packed */

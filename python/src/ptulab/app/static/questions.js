@@ -1,8 +1,9 @@
 // @ts-check
 // What can be asked of a file: the questions, the settings of one, its run and its result.
-import { byId, make, say, short, teller, trouble } from "./dom.js";
+import { byId, make, say, teller, trouble } from "./dom.js";
 import { alone, files } from "./files.js";
 import * as plans from "./plan.js";
+import { measured } from "./plots.js";
 import { bar, beside, work } from "./server.js";
 import { hide, show, shown } from "./take.js";
 import { asTime, scaleOf } from "./times.js";
@@ -175,11 +176,11 @@ function taken(range) {
 }
 
 /** @param {[number, number]} range */
-const span = ([from, to]) => to ? `${short(from)} s to ${short(to)} s` : `what is after ${short(from)} s`;
+const span = ([from, to]) => to ? `${measured(from, "s")} to ${measured(to, "s")}` : `what is after ${measured(from, "s")}`;
 
 document.addEventListener("chosen", (heard) => {
-  const { what, range, tick } = /** @type {CustomEvent} */ (heard).detail;
-  if (what === "time") taken(range.map((/** @type {number} */ end) => Number((Math.max(0, end) / tick).toPrecision(6))));
+  const { what, range } = /** @type {CustomEvent} */ (heard).detail;
+  if (what === "time") taken(range.map((/** @type {number} */ end) => Number(Math.max(0, end).toPrecision(6))));
 });
 document.addEventListener("steered", (heard) => {
   now.fit = /** @type {CustomEvent} */ (heard).detail;
