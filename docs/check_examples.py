@@ -19,7 +19,7 @@ A page is README.md, CONTRIBUTING.md, CHANGELOG.md, a page of docs/ or examples/
 The blocks of a page are tried in their order, in a folder of their own that has what the pages speak of: the folders
 examples, docs, bench and python, ./ptu, ./ptulab, FILE and PLAN, which are the sample of a scan and its plan, the same as big.ptu,
 big.ptu.gz and plan.toml, and the folder data with three such files. A block with a program that isn't on this machine is
-left out, and that is said. PROGRAM is ./ptu of this tree by default. What differs is shown, and so is each link to a
+left out, and that is said. PROGRAM is the one that ./ptu of this tree runs by default. What differs is shown, and so is each link to a
 file or a title that isn't there, each name of a crate's file, as `ptu_cli/specs/Runs.antt`, that none has, each path of
 this tree, as `bench/run`, that isn't there, and each command in the prose, as `rt check --only`, that there isn't with these
 words (inline_commands.py says which are known); it ends with 1 if there is any. The scripts of examples/ want what ptulab
@@ -244,9 +244,14 @@ def try_page(page: Any, program: str) -> Any:
     return tried, wrong
 
 
+def program_here() -> str:
+    """The program that ./ptu of this tree runs; in the folder of a page the script itself would find no tree beside it."""
+    return subprocess.run([os.path.join(ROOT, "ptu"), "--path"], capture_output=True, text=True, check=True).stdout.strip()
+
+
 def main() -> None:
     given = sys.argv[1:]
-    program = os.path.abspath(given.pop(0)) if given and not given[0].endswith((".md", ".1")) else os.path.join(ROOT, "ptu")
+    program = os.path.abspath(given.pop(0)) if given and not given[0].endswith((".md", ".1")) else program_here()
     results = [(page, *try_page(page, program)) for page in given or pages()]
     dead = [f"{page}: {target} leads nowhere" for page, _, _ in results for target in dead_links(page)]
     dead += [f"{page}: {fault}" for page, _, _ in results for fault in wrong_commands(page, read_or_nothing(os.path.join(ROOT, page)))]

@@ -40,3 +40,10 @@ def test_the_options_of_a_synopsis_are_those_of_its_help(monkeypatch: pytest.Mon
     assert check_examples.fault_of_synopsis("ptulab plan FILE [-o PLAN] [--from LIST]\n") is None
     assert check_examples.fault_of_synopsis("ptulab plan FILE [-o PLAN]\n") is not None
     assert check_examples.fault_of_synopsis("ptulab plan FILE [-o PLAN] [--from LIST] [--left LIST]\n") is not None
+
+
+def test_the_program_is_one_that_needs_no_tree_beside_it(tmp_path: Path) -> None:
+    """By default it is no script, so a copy of it runs alone."""
+    program = tmp_path / "ptu"
+    program.write_bytes(Path(check_examples.program_here()).read_bytes())
+    assert program.read_bytes()[:4] == b"\x7fELF"
