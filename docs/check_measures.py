@@ -58,6 +58,10 @@ def files(*patterns: str) -> list[str]:
     return [str(path) for pattern in patterns for path in ROOT.glob(pattern)]
 
 
+def lines_of_proofs(crate: str) -> int:
+    return sum(pathlib.Path(name).read_text("utf-8").count("\n") for name in files(f"crates/{crate}/proofs/**/*.antt"))
+
+
 PROGRAM = ROOT / "bin/x86-64-v2/ptu"
 
 
@@ -90,6 +94,10 @@ COUNTERS: dict[str, Callable[[], float | str | None]] = {
     "record_types": lambda: len(re.findall(r"\w+,", read("crates/tally_base/src/header.rt").split("enum RecordType {")[1].split("}")[0])),
     "kinds": lambda: len(re.findall(r"\w+_kind ∷", read("crates/plan_text/specs/Kinds.antt"))),
     "greatest_status": lambda: max(int(number) for number in re.findall(r"^  ( \d|\d\d) ", read("docs/help.txt"), flags=re.M)),
+    "proofs_of_a_trace": lambda: lines_of_proofs("count_trace"),
+    "proofs_of_a_decay": lambda: lines_of_proofs("tcspc_hist"),
+    "proofs_of_a_cube": lambda: lines_of_proofs("flim_cube"),
+    "proofs_of_a_correlation": lambda: lines_of_proofs("tau_cascade"),
     "least_coverage": lambda: int(re.findall(r"fail-under=(\d+)", read("python/check"))[0]),
 }
 
