@@ -9,6 +9,8 @@ A command is what begins with one of these, perhaps behind settings of variables
 - rt, where the kit is on this machine: a command that 'rt help' tells, with options that this or the kit's guide tells, crates
   of this tree, and functions of these, as bin::Bin::of. Elsewhere it isn't looked at.
 
+- dask COMMAND and snakemake, where they are on this machine: options that their own --help tells.
+
 Words in capitals, '..', and what begins with a bracket stand for others. Of anything else nothing is known here.
 """
 
@@ -73,6 +75,21 @@ def fault_of_ptulab(words: list[str]) -> str | None:
     return next((f"no option {option}" for option in options(words) if lacks(told, option)), None)
 
 
+@functools.cache
+def help_of_other(*words: str) -> str | None:
+    """What another program tells of itself, None where it isn't on this machine or tells nothing."""
+    if not shutil.which(words[0]):
+        return None
+    run = subprocess.run([*words, "--help"], capture_output=True, text=True, check=False)
+    return run.stdout if run.returncode == 0 else None
+
+
+def fault_of_other(words: list[str]) -> str | None:
+    """What is wrong with the words of a call of dask or snakemake, or None."""
+    told = help_of_other(*words[:1], *names(words[1:2] if words[0] == "dask" else []))
+    return next((f"no option {option}" for option in options(words) if told is not None and lacks(told, option)), None)
+
+
 def fault_of_script(path: str, words: list[str], is_called: bool) -> str | None:
     """What is wrong with the call of a program of this tree, or None; a path alone is a name of it."""
     file = ROOT / path
@@ -132,6 +149,8 @@ def fault_of(words: list[str]) -> str | None:
         return fault_of_ptulab(rest)
     if first.startswith(FOLDERS):
         return fault_of_script(first, rest, is_called)
+    if first in ("dask", "snakemake"):
+        return fault_of_other(words)
     return fault_of_rt(rest) if first == "rt" else None
 
 

@@ -76,3 +76,12 @@ def test_the_help_of_ptulab_is_its_own(monkeypatch: pytest.MonkeyPatch) -> None:
     inline_commands.help_of_ptulab.cache_clear()
     assert inline_commands.help_of_ptulab("nothing") == "" and calls[0][1:] == ["nothing", "--help"]
     inline_commands.help_of_ptulab.cache_clear()
+
+
+def test_options_of_dask_and_snakemake(monkeypatch: pytest.MonkeyPatch) -> None:
+    monkeypatch.setattr(inline_commands, "help_of_other", lambda *words: {"dask": "  --nthreads INTEGER", "snakemake": "--unlock"}.get(words[0]))
+    assert fault_of(["dask", "worker", "--nthreads", "8"]) is None and fault_of(["snakemake", "--unlock"]) is None
+    assert fault_of(["dask", "worker", "--threads", "8"]) == "no option --threads"
+    assert fault_of(["snakemake", "--unlok"]) == "no option --unlok"
+    monkeypatch.setattr(inline_commands, "help_of_other", lambda *words: None)
+    assert fault_of(["snakemake", "--unlok"]) is None
