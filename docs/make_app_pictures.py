@@ -28,7 +28,13 @@ import simulated  # noqa: E402
 from window import Window, browser  # noqa: E402
 
 WIDE, NARROW = 1100, 390
+WAYS = ((False, WIDE), (True, WIDE), (False, NARROW))  # light, dark, and on a phone
+GREY = (128, 128, 128)
+# Whether all plots have the colour and the width of the page.
+SETTLED = """const paper = getComputedStyle(document.documentElement).getPropertyValue('--paper').trim();
+return [...document.querySelectorAll('#result-told figure > .plot')].every((one) => one._fullLayout && one._fullLayout.width === one.clientWidth && one.layout.paper_bgcolor === paper)"""
 PICTURES: dict[str, Callable[[Window], list[str]]] = {}  # what is done before each, and the parts of the page that it shows
+SHEETS: dict[str, tuple[Callable[[Window], None], list[str]]] = {}  # the same of those that are shown in each of the ways, side by side
 
 
 def picture(make: Callable[[Window], list[str]]) -> Callable[[Window], list[str]]:
@@ -95,33 +101,58 @@ def part(window: Window) -> list[str]:
     return ["#look-title", "#figure-look-trace .plot"]
 
 
-@picture
-def dark(window: Window) -> list[str]:
-    """A correlation with its fit, in a dark theme."""
-    window.open(dark=True)
+def flim(window: Window) -> None:
+    """The lifetime image of a scan."""
+    window.choose("scan.ptu", "image")
+    window.run()
+
+
+def fcs(window: Window) -> None:
+    """A correlation with its fit."""
     window.choose("diffusion.ptu", "correlation")
     window.set(dimensions=2, first=1, second=2, begin=50)
     window.run()
-    return ["#result-title", "#figure-correlation .plot"]
 
 
-@picture
-def antibunching(window: Window) -> list[str]:
+def antibunching(window: Window) -> None:
     """A dip at 0."""
-    window.open()
     window.choose("emitter.ptu", "antibunching")
     window.run()
-    return ["#result-title", "#result-told figure .plot"]
 
 
-@picture
-def phone(window: Window) -> list[str]:
-    """Bursts by their E, on a phone."""
-    window.open(width=NARROW)
+def smfret(window: Window) -> None:
+    """Bursts by their E."""
     window.choose("bursts.ptu", "bursts")
     window.set(rate=15)
     window.run()
-    return ["#result-title", "#figure-efficiency .plot"]
+
+
+SHEETS |= {
+    "flim": (flim, ["#result-title", "#numbers", "#figure-cube-1-delays .plot"]),
+    "fcs": (fcs, ["#result-title", "#numbers", "#figure-correlation .plot"]),
+    "antibunching": (antibunching, ["#result-title", "#numbers", "#result-told figure .plot"]),
+    "smfret": (smfret, ["#result-title", "#numbers", "#figure-efficiency .plot"]),
+}
+
+
+def sheet(window: Window, name: str) -> bytes:
+    """One way from a file to a picture as it looks in light, in dark and on a phone, side by side."""
+    do, parts = SHEETS[name]
+    window.open()
+    do(window)
+    shown = []
+    for dark, width in WAYS:
+        window.shown_as(dark, width)
+        window.until(lambda: window.js(SETTLED))
+        shown.append(Image.open(io.BytesIO(taken(window, parts))))
+    whole = Image.new("RGB", (sum(one.width for one in shown) + 16 * (len(shown) - 1), max(one.height for one in shown)), GREY)
+    across = 0
+    for one in shown:
+        whole.paste(one, (across, 0))
+        across += one.width + 16
+    out = io.BytesIO()
+    whole.save(out, "PNG")
+    return in_few_colours(out.getvalue())
 
 
 @contextmanager
@@ -142,7 +173,7 @@ def taken(window: Window, parts: list[str]) -> bytes:
     left, top, right = max(0, left - 8), max(0, top - 8), min(right + 8, window.js("return document.documentElement.clientWidth"))
     clip = {"x": left, "y": top, "width": right - left, "height": bottom + 8 - top, "scale": 1}
     shot = window.driver.execute_cdp_cmd("Page.captureScreenshot", {"format": "png", "clip": clip, "captureBeyondViewport": True})
-    return in_few_colours(base64.b64decode(shot["data"]))
+    return base64.b64decode(shot["data"])
 
 
 def in_few_colours(data: bytes) -> bytes:
@@ -153,7 +184,7 @@ def in_few_colours(data: bytes) -> bytes:
 
 
 def main() -> None:
-    names = sys.argv[1:] or list(PICTURES)
+    names = sys.argv[1:] or [*PICTURES, *SHEETS]
     with tempfile.TemporaryDirectory() as work:
         folder, saved = Path(work, "measurements"), Path(work, "saved")
         folder.mkdir()
@@ -165,8 +196,8 @@ def main() -> None:
             try:
                 window = Window(driver, address, saved, lambda path: path)
                 for name in names:
-                    parts = PICTURES[name](window)
-                    (DOCS / "python_files" / f"app_{name}.png").write_bytes(taken(window, parts))
+                    data = sheet(window, name) if name in SHEETS else in_few_colours(taken(window, PICTURES[name](window)))
+                    (DOCS / "python_files" / f"app_{name}.png").write_bytes(data)
                     print(f"app_{name}.png", flush=True)
             finally:
                 driver.quit()

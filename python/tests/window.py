@@ -41,12 +41,16 @@ class Window:
         self.driver, self.first, self.saved, self.served = driver, first, saved, served
 
     def open(self, dark: bool = False, width: int = 1100) -> None:
+        self.shown_as(dark, width)
+        self.driver.get(self.first)
+        self.until(lambda: self.js("return document.documentElement.dataset.ready") == "yes")
+
+    def shown_as(self, dark: bool, width: int) -> None:
+        """Changes the theme and the width, of a page that is open too."""
         scheme = [{"name": "prefers-color-scheme", "value": "dark" if dark else "light"}]
         self.driver.execute_cdp_cmd("Emulation.setEmulatedMedia", {"features": scheme})
         told = {"width": width, "height": 1400, "deviceScaleFactor": 1, "mobile": width < 500}
         self.driver.execute_cdp_cmd("Emulation.setDeviceMetricsOverride", told)
-        self.driver.get(self.first)
-        self.until(lambda: self.js("return document.documentElement.dataset.ready") == "yes")
 
     def js(self, words: str, *more: Any) -> Any:
         return self.driver.execute_script(words, *more)
