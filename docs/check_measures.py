@@ -2,8 +2,9 @@
 """Checks the figures that documents state against measures.toml: check_measures.py [--write]
 
 A figure is a number with a decimal point, with a per cent sign, or with one of the `units` of measures.toml after it, or a number
-in a word, as twelve, with one of its `things` after it. On the `pages` of measures.toml (patterns of names, but for those that are
-`apart`) each figure outside of blocks of code and made parts must be in one of these:
+in a word, as twelve, with one of its `things` after it. Words as twice, a third or a hundred aren't looked at. On the
+`pages` of measures.toml (patterns of names, but for those that are `apart`) each figure outside of blocks of code and made
+parts must be in one of these:
 
 - measure.NAME: one number, or the version, that one or more pages state. It has a `value` and the day on which it was measured (`on`), or is
   `counted` here in the tree; with both, what is counted may differ by a tenth. `said` lists its places as PAGE: WORDS, where {}

@@ -1,12 +1,14 @@
 """Tests of check_measures.py: pytest docs"""
 
 import datetime
+import tomllib
 from pathlib import Path
 from typing import Any
 
 import check_measures
 import pytest
 from check_measures import faults_of_constants, faults_of_counts, faults_of_days, pages_of, put_figures, unmeasured
+from made_parts import ROOT
 
 PAGE = """A run takes 1.5 to
 2.25 seconds and 30 MiB, in version 3.11.2.
@@ -97,3 +99,11 @@ def test_constants_of_the_code_are_known_on_any_page(monkeypatch: pytest.MonkeyP
 def test_every_page_is_checked_but_those_apart() -> None:
     found = pages_of({"pages": ["README.md", "docs/*.md"], "apart": ["docs/notebook.md"]})
     assert {"README.md", "docs/plan.md", "docs/app.md"} <= set(found) and "docs/notebook.md" not in found
+
+
+def test_angles_and_multiples_in_words_are_figures(monkeypatch: pytest.MonkeyPatch) -> None:
+    text = "It turns every point by 36 degrees, and is preset to six times the mean.\n"
+    monkeypatch.setattr(check_measures, "read", lambda name: text)
+    kinds = tomllib.loads((ROOT / "docs" / "measures.toml").read_text("utf-8"))
+    found = list(unmeasured("p.md", {**NOTHING, "units": kinds["units"], "things": kinds["things"]}))
+    assert len(found) == 2 and "36 degrees" in found[0] and "six times" in found[1]
