@@ -67,6 +67,21 @@ def test_count_and_sum_name_the_files_that_were_cut(
     assert capsys.readouterr().err == told.replace(".ptu", ".txt") == left.read_text()
 
 
+def test_run_says_once_that_a_file_was_cut(
+    cut: Path, program: str, capsys: pytest.CaptureFixture[str], caplog: pytest.LogCaptureFixture
+) -> None:
+    """On standard error, or in the log; what is asked to be quiet isn't told, and of a whole file there is nothing to say."""
+    plan, told = str(cut.with_name("plan.toml")), f"{cut}: {SAID}"
+    for path, more, said in ((cut, [], f"{told}\n"), (cut, ["--quiet"], ""), (cut.with_name("whole.ptu"), [], "")):
+        assert main(["run", plan, str(path), *more, "--program", program]) == 0
+        assert capsys.readouterr().err == said
+    caplog.clear()
+    assert ptulab.run(plan, cut, program=program).head.records == 250
+    assert [(one.levelname, one.getMessage()) for one in caplog.records] == [("WARNING", told)]
+    caplog.clear()
+    assert ptulab.check_plan(plan, cut, program=program) and ptulab.info(cut, program=program).is_cut and not caplog.records
+
+
 def test_the_whole_records_of_a_file_that_was_cut_within_one(cut: Path) -> None:
     odd = cut.with_name("odd.ptu")
     with pytest.raises(BadFileError, match=r"2 bytes of a record at the end .*partial=True.*head -c -2 ") as fault:

@@ -11,7 +11,7 @@ from .errors import NoProgramError, RefusalError
 from .headers import other_records
 from ._looks import Look, look
 from ._plan_rules import Finding, Document, broken_rules
-from .program import find_program, run
+from .program import find_program, report_of
 from .report import Report
 from .tables import Table
 
@@ -126,7 +126,7 @@ def _delays(plan: Document, seen: Look) -> Iterator[Finding]:
 def _counted(plan: PlanLike, file: PathLike, program: PathLike | None) -> Iterator[Finding]:
     """What a run of the program shows: late events, and tables that leave many photons out."""
     try:
-        report = run(plan, file, program=find_program(program))
+        report = report_of(plan, file, find_program(program))
     except NoProgramError as error:
         yield _warning("", "", f"photons that are in no cell weren't counted: {error}")
         return

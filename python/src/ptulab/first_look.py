@@ -28,7 +28,7 @@ from ._values import Compared
 from ._words import PIECE, Told, words_of, workers
 from .errors import UnlikeError
 from .headers import Header, other_records, read_header
-from .program import run
+from .program import report_of
 from .report import Head, Report
 
 __all__ = ["Info", "Input", "info"]
@@ -270,7 +270,7 @@ def _counted(name: str, header: Header, told: Told, program: PathLike | None) ->
     with tempfile.TemporaryDirectory() as folder, _whole_records(name, header, folder) as read:
 
         def count(numbers: Sequence[int]) -> Report:
-            return run(_plan(numbers, width, -(-told.until // width), header.mode).encode("ascii"), read(), program=program)
+            return report_of(_plan(numbers, width, -(-told.until // width), header.mode).encode("ascii"), read(), program=program)
 
         with ThreadPoolExecutor(len(parts)) as pool:
             reports = list(pool.map(count, parts))

@@ -1,5 +1,6 @@
 """Runs of the program ``ptu``, whose counts are proved. What it refuses is an exception here."""
 
+import logging
 import os
 import subprocess
 import tempfile
@@ -13,10 +14,12 @@ from ._refusals import meaning_of
 from .errors import BadPlanError, BadReportError, RefusalError, UnlikeError
 from ._found import find_program
 from ._optional import want
+from .headers import other_records
 from .report import Report, read_stream
 
 __all__ = ["find_program", "refusal", "run"]
 
+LOG = logging.getLogger(__name__)
 LOOKS = 0.1  # seconds between two looks at how far the program is
 
 
@@ -35,18 +38,26 @@ def run(
     arrays of that one once it is whole, and the sum is given; a file that is refused and what is ``UnlikeError`` it, as a plan
     of other tables or a file of another record type or tick, leave it as it is. Raises ``RefusalError`` where the program ends
     with another status than 0, with its line and its meaning; ``NoProgramError``; and ``MissingLibraryError`` where a bar is wanted and tqdm
-    isn't there.
+    isn't there. A file that may have been cut, by the number of records in its header, is logged as a warning.
     """
+    report = report_of(plan, file, program, progress)
+    if odd := other_records(report.head.announced, report.head.records):
+        LOG.warning("%s: %s", file, odd)
+    if whole is None:
+        return report
+    whole += report
+    return whole
+
+
+def report_of(plan: PlanLike, file: str | os.PathLike[str], program: str | os.PathLike[str] | None, progress: bool = False) -> Report:
+    """The report of ``run``, where what is odd about the file is told otherwise."""
     named = find_program(program)
     bar = want("tqdm", "the progress of a run").tqdm if progress else None
     with plan_path(plan, file) as path:
         report = _counted([named, "run", path, os.fspath(file)], _document(path), bar)
     if not isinstance(report, Report):
         raise report
-    if whole is None:
-        return report
-    whole += report
-    return whole
+    return report
 
 
 def _counted(words: list[str], document: dict[str, Any] | None, bar: Callable[..., Any] | None) -> Report | BadReportError | UnlikeError:
