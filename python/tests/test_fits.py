@@ -309,9 +309,9 @@ def of_period(lifetime: float, width: float, period: float, photons: float, back
     return photons * decay + background * np.diff(edges) / width
 
 
-def tell_their_scatter(found: Any, known: dict[str, float], variances: Any = None, few: float = 0.0) -> None:
-    """Errors are as the scatter within a tenth, and means as the truth within four of their errors, and ``few`` of the scatter."""
-    assert told_over_scatter(found, known, variances) == pytest.approx(dict.fromkeys(known, 1.0), abs=0.1)
+def tell_their_scatter(found: Any, known: dict[str, float], variances: Any = None, few: float = 0.0, tolerance: float = 0.1) -> None:
+    """Errors are as the scatter, by default within a tenth, and means as the truth within four of their errors, and ``few`` of the scatter."""
+    assert told_over_scatter(found, known, variances) == pytest.approx(dict.fromkeys(known, 1.0), abs=tolerance)
     for name, value in known.items():
         values = np.array([fit.values[name] for fit in found])
         assert values.mean() == pytest.approx(value, abs=(4 / np.sqrt(len(found)) + few) * values.std())
@@ -372,9 +372,42 @@ def test_told_errors_over_a_measured_background_are_their_scatter(known: dict[st
         )
         for _ in range(40)
     ]
-    tolerance = 0.1 if longer > 1 else 0.25  # 40 fits over a background of which little is known tell it to 5 %
-    assert told_over_scatter(found, known) == pytest.approx(dict.fromkeys(known, 1.0), abs=tolerance)
+    tell_their_scatter(found, known, tolerance=0.1 if longer > 1 else 0.25)  # 40 fits over a background of which little is known tell it to 5 %
     assert np.mean([fit.reduced for fit in found]) == pytest.approx(1, abs=0.15)
+
+
+@pytest.mark.parametrize("longer", [1, 0.3])
+def test_tails_over_a_background_of_few_counts_are_right(longer: float) -> None:
+    """Of 10 and of 3 counts a bin, which scatter more than those of the sample do."""
+    draws, axis, decay = np.random.default_rng(7), np.arange(200) * 0.1, np.exp(-np.arange(200) * 0.1 / 2.5)
+    found = [fits.fit_tail(draws.poisson(10 + 500 * decay), axis, 0.0, background=draws.poisson(10 * longer, 200)) for _ in range(60)]
+    for name, value in {"lifetime_1": 2.5, "amplitude_1": 500.0, "background": 10.0}.items():
+        values, errors = np.array([(fit.values[name], fit.errors[name]) for fit in found]).T
+        assert abs(values.mean() - value) < 0.6 * errors.mean()  # of which 0.4 are three errors of the mean
+        assert np.sqrt((errors**2).mean()) == pytest.approx(values.std(), rel=0.3)  # known to 9 %, and not half as large
+    assert np.mean([fit.reduced for fit in found]) == pytest.approx(1, abs=0.05)
+    assert found[0].lmfit.chisqr == pytest.approx((found[0].residuals ** 2).sum())
+
+
+def test_a_background_of_too_few_counts_is_refused() -> None:
+    """Where it matters: one that was measured long enough beside the sample may have few counts."""
+    draws, axis, decay = np.random.default_rng(8), np.arange(200) * 0.1, np.exp(-np.arange(200) * 0.1 / 2.5)
+    with pytest.raises(ptulab.FitError, match=r"background of \S+ counts a bin .* measure it longer, .* wider bins"):
+        fits.fit_tail(draws.poisson(10 + 500 * decay), axis, 0.0, background=draws.poisson(1.0, 200))
+    fit = fits.fit_tail(draws.poisson(0.1 + 500 * decay), axis, 0.0, background=draws.poisson(1.0, 200))
+    assert within(fit, "lifetime_1", 2.5) and fit.errors["lifetime_1"] < 0.04
+
+
+def test_the_most_likely_level_of_a_background() -> None:
+    """No other is likelier, also of 0 counts of either, and without a signal."""
+    some = np.array([(n, s, m) for n in (0.0, 1.0, 40.0) for s in (0.0, 0.7, 30.0) for m in (0.0, 2.0, 25.0)]).T
+    for height in (0.05, 1.0, 8.0):
+        best = _fitting.best_level(some[0], some[1], height, some[2])
+        least, others = (
+            _fitting.deviance(some[0], some[1] + height * level) ** 2 + _fitting.deviance(some[2], level) ** 2
+            for level in (best, np.linspace(0, 60, 6001)[:, None])
+        )
+        assert np.all(best >= 0) and np.all(least <= others.min(axis=0) + 1e-9)
 
 
 @pytest.mark.parametrize("told", [True, False])

@@ -45,6 +45,34 @@ def poisson(counts: Numbers, scale: Numbers | float = 1.0, doubled: Numbers | fl
     )
 
 
+def poisson_over(counts: Numbers, level: Numbers, height: float) -> Law:
+    """That of counts over ``height`` times a background, which was counted itself where ``level`` is expected."""
+    plain, more = poisson(counts), height**2 * level
+    return Law(
+        plain.residuals,
+        lambda curve: plain.variances(curve) + more,
+        lambda curve: np.asarray((curve * plain.squares(curve) + more * mean_deviance(level)) / np.maximum(curve + more, 1e-12)),
+    )
+
+
+def best_level(counts: Numbers, signal: Numbers, height: float, background: Numbers) -> Numbers:
+    """The most likely b in each bin where ``counts`` are of ``signal`` + ``height`` * b, and those of a ``background`` of b:
+    shape of them (Wachter, Leach and Kellogg, Astrophysical Journal 230, 274, 1979)."""
+    r, s = max(height, 1e-12), np.maximum(signal, 0.0)
+    linear = (1 + r) * s - r * (counts + background)
+    root = np.sqrt(linear**2 + 4 * r * (1 + r) * background * s)
+    above = (root - linear) / (2 * r * (1 + r))  # of the two forms that which subtracts no like numbers
+    below = 2 * background * s / np.maximum(root + linear, 1e-300)
+    return np.asarray(np.where(linear > 0, below, above))
+
+
+def smoothed(level: Numbers) -> Numbers:
+    """The same in the mean with neighbours, where bins have few counts: with so many as have some 25, at most four on either side."""
+    near = np.ones(min(2 * min(NEAR, int(12 / max(float(level.mean()), 0.1))) + 1, len(level)))
+    sums, cells = (np.convolve(one, near, "same") for one in (level, np.ones(len(level))))
+    return np.asarray(sums / cells)
+
+
 def normal(values: Numbers, errors: Numbers) -> Law:
     return Law(lambda curve: np.asarray((values - curve) / errors), lambda curve: errors**2, np.ones_like)
 
@@ -54,7 +82,7 @@ class Problem:
     """What is fitted where, by which model, how it scatters, and lmfit's parameters as the fit begins.
 
     ``parts``: the curves of segments, shape (segments, points), whose scatter tells errors; ``scaled``: whether the
-    scatter of the points tells them.
+    scatter of the points tells them. ``own``: residuals of parameters, where the law needs more than the curve.
     """
 
     axis: Numbers
@@ -64,12 +92,16 @@ class Problem:
     begin: Any
     parts: Numbers | None = None
     scaled: bool = False
+    own: Callable[[Mapping[str, float]], Numbers] | None = None
 
     def curve(self, values: Mapping[str, float]) -> Numbers:
         return self.model(self.axis, values)
 
+    def residuals(self, values: Mapping[str, float]) -> Numbers:
+        return self.law.residuals(self.curve(values)) if self.own is None else self.own(values)
+
     def left(self, parameters: Any) -> Numbers:
-        return self.law.residuals(self.curve(parameters.valuesdict()))
+        return self.residuals(parameters.valuesdict())
 
 
 @dataclass(frozen=True, eq=False)
@@ -149,7 +181,7 @@ class Fit(Compared):
 
         def left(now: Any) -> Numbers:
             back = {name: offset[name] + self.errors[name] * one.value if name in offset else one.value for name, one in now.items()}
-            return self.problem.law.residuals(self.problem.curve(back))
+            return self.problem.residuals(back)
 
         def within(best: Any, other: Any) -> float:
             more = max(other.chisqr - best.chisqr, 0.0)
@@ -216,7 +248,7 @@ def solved(problem: Problem) -> Fit:
         raise FitError(f"the fit found no end: {result.message}")
     values = {name: float(one.value) for name, one in result.params.items()}
     curve, errors = problem.curve(values), _errors(problem, result.params)
-    left = problem.law.residuals(curve)
+    left = problem.residuals(values)
     expected = float(problem.law.squares(curve).sum()) - free
     reduced = float((left**2).sum()) / expected if expected > 0 else float("nan")
     if problem.scaled:
@@ -312,8 +344,9 @@ def _joined(problems: Sequence[Problem], names: Sequence[Mapping[str, str]], beg
     if len({one.scaled for one in problems}) > 1:
         raise ValueError("fits together need errors of all curves, or of none")
 
-    def model(_: Numbers, now: Mapping[str, float]) -> Numbers:
-        return np.concatenate([one.curve({name: now[it] for name, it in by.items()}) for one, by in zip(problems, names, strict=True)])
+    def of_each(what: str, now: Mapping[str, float]) -> Numbers:
+        values = [{name: now[it] for name, it in by.items()} for by in names]
+        return np.concatenate([getattr(one, what)(by) for one, by in zip(problems, values, strict=True)])
 
     def each(what: str) -> Callable[[Numbers], Numbers]:
         calls = [getattr(one.law, what) for one in problems]
@@ -321,7 +354,9 @@ def _joined(problems: Sequence[Problem], names: Sequence[Mapping[str, str]], beg
 
     axis, data = (np.concatenate([getattr(one, what) for one in problems]) for what in ("axis", "data"))
     law = Law(each("residuals"), each("variances"), each("squares"))
-    return Problem(axis, data, model, law, begin, np.concatenate(parts, axis=1) if parts else None, problems[0].scaled)
+    whole = np.concatenate(parts, axis=1) if parts else None
+    model: Model = lambda _, now: of_each("curve", now)
+    return Problem(axis, data, model, law, begin, whole, problems[0].scaled, lambda now: of_each("residuals", now))
 
 
 def _errors(problem: Problem, parameters: Any) -> dict[str, float]:

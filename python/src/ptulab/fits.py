@@ -24,7 +24,8 @@ from numpy.typing import NDArray
 
 from .errors import FitError
 from ._fitting import (
-    Bounds, Fit, Numbers, Problem, Values, errors_of_cells, fit_model, fit_together, normal, parts_of, poisson, solved, steered
+    Bounds, Fit, Model, Numbers, Problem, Values, best_level, deviance, errors_of_cells, fit_model, fit_together, normal, parts_of,
+    poisson, poisson_over, smoothed, solved, steered
 )
 from ._optional import want
 
@@ -39,6 +40,7 @@ __all__ = [
     "mean_lifetime",
 ]
 
+FEWEST = 2  # counts a bin of a measured background, unless it was measured five times as long; of less errors are too small
 TRIED = 24  # lifetimes with which a fit of a decay may begin
 
 
@@ -96,8 +98,9 @@ def fit_tail(
     ``counts``: shape (bins,), a histogram; ``axis``: shape (bins,), where its bins begin, evenly spaced, in seconds or
     ticks. ``span``: t0, from which on bins are fitted, or t0 and the time before which they are; the pulse must be over by
     t0. Amplitudes and ``background`` are counts a bin, lifetimes in the unit of the axis. ``background``: shape (bins,), one
-    that was measured, of any height: its mean is taken as 1. In whole numbers it is counts, whose scatter adds to the errors.
-    Raises ``FitError`` and ``ValueError`` where there are no such bins, or they have no counts, or one is less than 0.
+    that was measured, of any height: its mean is taken as 1. In whole numbers it is counts, and what is expected of them in
+    each bin is fitted too. Raises ``FitError`` and ``ValueError`` where there are no such bins, or they have no counts, or one
+    is less than 0, and where a background that matters has so few counts that errors would be too small.
     """
     axis, counts = np.asarray(axis, dtype=np.float64), np.asarray(counts, dtype=np.float64)
     _good_counts(counts, axis)
@@ -109,21 +112,43 @@ def fit_tail(
     others = {"background": (level, max(float(np.median(tail[-max(len(tail) // 10, 1) :])), 0.1))}
     begin = _begin_decay(tail, lambda lifetime: np.asarray(np.exp((first - times) / lifetime)), others, terms, float(times[-1] - times[0]))
 
-    def model(at: Numbers, now: Mapping[str, float]) -> Numbers:
-        decays = [now[size] * np.exp((first - at) / now[time]) for size, time in _names(terms)]
-        return np.asarray(now["background"] * np.interp(at, times, level) + sum(decays))
+    def over(level: Numbers) -> Model:
+        def model(at: Numbers, now: Mapping[str, float]) -> Numbers:
+            decays = [now[size] * np.exp((first - at) / now[time]) for size, time in _names(terms)]
+            return np.asarray(now["background"] * np.interp(at, times, level) + sum(decays))
 
-    return _solved(Problem(times, tail, model, poisson(tail), steered(begin, fixed, start, bounds)), background, inside)
+        return model
+
+    problem = Problem(times, tail, over(level), poisson(tail), steered(begin, fixed, start, bounds))
+    return _solved(problem, over, background, inside)
 
 
-def _solved(problem: Problem, background: NDArray[Any] | None, inside: NDArray[np.bool_]) -> Fit:
-    """The fit of a decay, over counts of a background once more with variances to which these counts add theirs."""
-    found = solved(problem)
-    if background is None or np.any(np.asarray(background) % 1):
+def _solved(problem: Problem, over: Callable[[Numbers], Model], background: NDArray[Any] | None, inside: NDArray[np.bool_]) -> Fit:
+    """The fit of a decay. ``over``: its model over a background; where that was counted, what is expected of it in each bin
+    is a parameter too, for which the most likely is taken."""
+    found, level = solved(problem), np.zeros(0) if background is None else np.asarray(background, dtype=np.float64)[inside]
+    if background is None or np.any(level % 1) or np.all(level == level[0]):
         return found
-    scale = found.values["background"] / float(np.mean(background))
-    more = scale**2 * np.asarray(background, dtype=np.float64)[inside] / np.maximum(found.curve, 1e-12)
-    return solved(replace(problem, law=poisson(problem.data, doubled=1 + more)))
+    mean = float(np.mean(background))
+
+    def most_likely(now: Mapping[str, float]) -> tuple[Numbers, Numbers, float]:
+        signal, height = problem.curve({**now, "background": 0.0}), now["background"] / mean
+        return best_level(problem.data, signal, height, level), signal, height
+
+    def residuals(now: Mapping[str, float]) -> Numbers:
+        best, signal, height = most_likely(now)
+        of_both = deviance(problem.data, signal + height * best), deviance(level, best)
+        return np.asarray(np.copysign(np.hypot(*of_both), of_both[0]))
+
+    best, _, height = most_likely(solved(replace(problem, own=residuals)).values)
+    if height > 0.2 and level.mean() < FEWEST:
+        raise FitError(
+            f"a measured background of {level.mean():.2g} counts a bin tells too little, as there must be {FEWEST}: "
+            "measure it longer, take wider bins, or give its curve, if that is known, in numbers that aren't whole"
+        )
+    best = smoothed(best)
+    law = poisson_over(problem.data, best, height)
+    return solved(replace(problem, model=over(best / mean), law=law, own=residuals))
 
 
 def _level(background: NDArray[Any] | None, beside: Numbers) -> Numbers:
@@ -215,14 +240,18 @@ def fit_reconvolution(
     begin = _begin_decay(counts[inside], lambda lifetime: shape.decay(lifetime, 0.0)[inside], others, terms, bins * width)
     begin.add("shift", value=0.0, min=-bins * width / 4, max=bins * width / 4, brute_step=width)
 
-    def model(_: Numbers, now: Mapping[str, float]) -> Numbers:
+    def photons(now: Mapping[str, float]) -> Numbers:
         terms_of = [now[size] * shape.decay(now[time], now["shift"]) for size, time in _names(terms)]
         if now.get("scatter"):
             terms_of.append(now["scatter"] * shape.decay(1e-3 * shape.width, now["shift"]))
-        return np.asarray(now["background"] * level + sum(terms_of, np.zeros(bins)))[inside]
+        return np.asarray(sum(terms_of, np.zeros(bins))[inside])
 
-    problem = Problem(axis[inside], counts[inside], model, poisson(counts[inside]), steered(begin, fixed, start, bounds))
-    return _solved(problem, background, inside)
+    def over(level: Numbers) -> Model:
+        return lambda _, now: np.asarray(now["background"] * level + photons(now))
+
+    begin = steered(begin, fixed, start, bounds)
+    problem = Problem(axis[inside], counts[inside], over(level[inside]), poisson(counts[inside]), begin)
+    return _solved(problem, over, background, inside)
 
 
 class Convolved:
