@@ -398,6 +398,29 @@ def test_a_background_of_too_few_counts_is_refused() -> None:
     assert within(fit, "lifetime_1", 2.5) and fit.errors["lifetime_1"] < 0.04
 
 
+def test_a_flat_background_of_any_height_is_exact() -> None:
+    """Nobody counts the same in each bin: the errors are those without a measured one. So is one that was scaled."""
+    draws, axis, decay = np.random.default_rng(9), np.arange(200) * 0.1, np.exp(-np.arange(200) * 0.1 / 2.5)
+    counts, measured = draws.poisson(10 + 500 * decay), draws.poisson(10, 200)
+    plain = fits.fit_tail(counts, axis, 0.5)
+    for flat in (np.ones(200), np.full(200, 7), np.full(200, 1.5), np.where(axis < 0.5, 0, 1)):
+        fit = fits.fit_tail(counts, axis, 0.5, background=flat)
+        assert [fit.values["lifetime_1"], fit.errors["lifetime_1"], fit.reduced] == pytest.approx(
+            [plain.values["lifetime_1"], plain.errors["lifetime_1"], plain.reduced], rel=1e-3
+        )
+    exact, counted = (fits.fit_tail(counts, axis, 0.5, background=one) for one in (measured / 3, measured))
+    assert exact.errors["background"] < 0.9 * counted.errors["background"]
+
+
+def test_a_background_without_counts_where_bins_are_fitted_is_refused() -> None:
+    axis, counts = np.arange(60) * 0.4, np.random.default_rng(4).poisson(5 + 500 * np.exp(-np.arange(60) / 6))
+    for background in (np.where(axis < 2, 9, 0), np.zeros(60)):
+        with pytest.raises(ValueError, match="background without counts in the bins"):
+            fits.fit_tail(counts, axis, 2.0, background=background)
+        with pytest.raises(ValueError, match="background without counts in the bins"):
+            fits.fit_reconvolution(counts, np.arange(60) == 2, 0.4, background=background, span=(2.0, 20.0))
+
+
 def test_the_most_likely_level_of_a_background() -> None:
     """No other is likelier, also of 0 counts of either, and without a signal."""
     some = np.array([(n, s, m) for n in (0.0, 1.0, 40.0) for s in (0.0, 0.7, 30.0) for m in (0.0, 2.0, 25.0)]).T

@@ -76,7 +76,7 @@ def _begin_decay(
     return begin
 
 
-def _good_counts(counts: Numbers, beside: Numbers) -> None:
+def _good_counts(counts: Numbers, beside: NDArray[Any]) -> None:
     """Counts stand in one row, one beside each of these numbers, and none is less than 0."""
     if counts.ndim != 1 or counts.shape != beside.shape or np.any(counts < 0):
         raise ValueError(f"no counts of a decay: shape {counts.shape} beside {beside.shape}, the least {counts.min(initial=0):g}")
@@ -98,15 +98,15 @@ def fit_tail(
     ``counts``: shape (bins,), a histogram; ``axis``: shape (bins,), where its bins begin, evenly spaced, in seconds or
     ticks. ``span``: t0, from which on bins are fitted, or t0 and the time before which they are; the pulse must be over by
     t0. Amplitudes and ``background`` are counts a bin, lifetimes in the unit of the axis. ``background``: shape (bins,), one
-    that was measured, of any height: its mean is taken as 1. In whole numbers it is counts, and what is expected of them in
-    each bin is fitted too. Raises ``FitError`` and ``ValueError`` where there are no such bins, or they have no counts, or one
+    that was measured, of any height: its mean is taken as 1. In whole numbers that aren't all alike it is counts, and what is
+    expected of them in each bin is fitted too; any other is taken as exact, as one that is flat, scaled or smoothed. Raises ``FitError`` and ``ValueError`` where there are no such bins, or they have no counts, or one
     is less than 0, and where a background that matters has so few counts that errors would be too small.
     """
     axis, counts = np.asarray(axis, dtype=np.float64), np.asarray(counts, dtype=np.float64)
     _good_counts(counts, axis)
     first, last = span if isinstance(span, tuple) else (span, np.inf)
     inside = (axis >= first) & (axis < last)
-    times, tail, level = axis[inside], counts[inside], _level(background, axis)[inside]
+    times, tail, level = axis[inside], counts[inside], _level(background, inside)[inside]
     if len(times) < 3 or not tail.sum() > 0:
         raise ValueError(f"a tail of {len(times)} bins and {tail.sum():g} counts")
     others = {"background": (level, max(float(np.median(tail[-max(len(tail) // 10, 1) :])), 0.1))}
@@ -151,14 +151,14 @@ def _solved(problem: Problem, over: Callable[[Numbers], Model], background: NDAr
     return solved(replace(problem, model=over(best / mean), law=law, own=residuals))
 
 
-def _level(background: NDArray[Any] | None, beside: Numbers) -> Numbers:
-    """What a background of 1 count a bin has in each: that of a measured one, or the same in all."""
+def _level(background: NDArray[Any] | None, inside: NDArray[np.bool_]) -> Numbers:
+    """What a background of 1 count a bin has in each: that of a measured one, or the same in all. ``inside``: those that are fitted."""
     if background is None:
-        return np.ones(len(beside))
+        return np.ones(len(inside))
     level = np.asarray(background, dtype=np.float64)
-    _good_counts(level, beside)
-    if not level.sum() > 0:
-        raise ValueError("a measured background without counts")
+    _good_counts(level, inside)
+    if not level[inside].sum() > 0:
+        raise ValueError("a measured background without counts in the bins that are fitted")
     return level / float(level.mean())
 
 
@@ -233,7 +233,7 @@ def fit_reconvolution(
         raise ValueError(f"{bins} bins of {width} are longer than a period of {period}: leave out those behind it")
     axis = np.arange(bins) * width
     shape, inside = Convolved(pulse, finer, width, period), (axis >= span[0]) & (axis < span[1])
-    level = shape.parts if background is None else _level(background, axis)
+    level = shape.parts if background is None else _level(background, inside)
     others = {"background": (level[inside], max(float(counts.min()), 0.1))}
     if scatter:
         others["scatter"] = shape.decay(1e-3 * shape.width, 0.0)[inside], 0.01 * float(counts.sum())
