@@ -72,7 +72,8 @@ def test_run_says_once_that_a_file_was_cut(
 ) -> None:
     """On standard error, or in the log; what is asked to be quiet isn't told, and of a whole file there is nothing to say."""
     plan, told = str(cut.with_name("plan.toml")), f"{cut}: {SAID}"
-    for path, more, said in ((cut, [], f"{told}\n"), (cut, ["--quiet"], ""), (cut.with_name("whole.ptu"), [], "")):
+    cases: list[tuple[Path, list[str], str]] = [(cut, [], f"{told}\n"), (cut, ["--quiet"], ""), (cut.with_name("whole.ptu"), [], "")]
+    for path, more, said in cases:
         assert main(["run", plan, str(path), *more, "--program", program]) == 0
         assert capsys.readouterr().err == said
     caplog.clear()
