@@ -1,8 +1,9 @@
 """The names that a page has in the code of its prose, or in a block that isn't tried: whether there are such.
 
 - Debian's packages: what `apt install` names, and each python3-NAME, is in python/debian-packages or .ci/debian-packages.
-- ptulab's names, on the pages of PYTHON: `module.name` of a module of ptulab, which may also be a variable that is called so, and
-  `name(`: both are names that some module or class of ptulab has, or a function that its scripts define.
+- ptulab's names, on all pages but that of Rattle's contracts: `ptulab.name`; `module.name` of a module of ptulab, which may also be
+  a variable that is called so; and `name(`, after a point too: all are names that some module or class of ptulab has, or a function
+  that its scripts define.
 - an option alone, as `--check`: some program of this tree, a command of ptulab, or the kit has it.
 
 That the name is the right one isn't known here: `name(` of another module passes, and so does an option of another program.
@@ -21,7 +22,7 @@ from collections.abc import Iterator
 from inline_commands import FOLDERS, help_of_ptulab, inline, lacks, words_of_kit
 from made_parts import ROOT, read
 
-PYTHON = ("docs/python.md", "docs/app.md", "docs/recipes.md", "docs/start.md", "docs/correlation.md", "docs/report.md")
+RATTLE = "docs/contracts.md"  # names functions of the crates
 OTHERS = {"git", "python3-bokeh"}  # packages that no check here needs
 OPTIONS = {"--executor"}  # of a later Snakemake than Debian's
 ENDINGS = ("py", "js", "md", "json", "npz", "ptu", "toml", "csv")  # of files that are called as a module is
@@ -64,13 +65,15 @@ def wrong_names(line: str) -> Iterator[str]:
     for module, name in re.findall(r"(?<![\w.])(?:ptulab\.)?([a-z]\w*)\.([a-zA-Z]\w*)(?![\w-])", line):
         if module in known[0] and name not in known[0][module]:
             yield f"{module}.{name}"
-    yield from (f"{name}(" for name in re.findall(r"(?<![\w.])([a-z]\w+)\(", line) if name not in known[1])
+    yield from (f"ptulab.{name}" for name in re.findall(r"(?<![\w.])ptulab\.([a-zA-Z]\w*)(?![\w-])", line) if name not in {*known[0], *known[1], *ENDINGS})
+    yield from (f"{name}(" for name in re.findall(r"(?<!\w)(?<!np\.)([a-z]\w+)\(", line) if name not in known[1])
 
 
 @functools.cache
 def texts_with_options() -> str:
     """The programs of this tree, the help of ptulab's commands, and what the kit tells."""
-    there = [path for folder in FOLDERS for path in (ROOT / folder).glob("*") if path.is_file() and path.suffix in ("", ".py")]
+    found = [path for folder in FOLDERS for path in (ROOT / folder).glob("*") if path.is_file() and path.suffix in ("", ".py")]
+    there = [path for path in found if not path.name.startswith("test_")]
     there += [ROOT / "ptu", ROOT / "install.sh"]
     commands = re.findall(r"^    ([a-z]+)  ", help_of_ptulab(), flags=re.M)
     helps = [help_of_ptulab(), *map(help_of_ptulab, commands)]
@@ -89,5 +92,5 @@ def wrong_words(page: str, text: str) -> Iterator[str]:
     for line in inline(page, text):
         yield from (f"'{name}' is in no list of Debian packages" for name in wrong_packages(line))
         yield from (f"no program here has '{name}'" for name in wrong_options(line))
-        if page in PYTHON:
+        if page != RATTLE:
             yield from (f"ptulab has no '{name}'" for name in wrong_names(line))

@@ -30,6 +30,9 @@ def test_a_package_is_in_a_list(line: str, wrong: list[str]) -> None:
         ("report.head", []),
         ("report.json", []),
         ("events.array", []),
+        ("ptulab.burst", ["ptulab.burst"]),
+        ("focus.constants(fit)", ["constants("]),
+        ("np.cumsum(", []),
         ("docs/fits.nothing", []),
     ],
 )
@@ -48,4 +51,4 @@ def test_names_of_prose_and_of_blocks_that_arent_tried() -> None:
     text = "Call `segments.joined`.\n\n```sh (needs root)\napt install python3-nunpy\n```\n"
     package = "'python3-nunpy' is in no list of Debian packages"
     assert list(wrong_words("docs/python.md", text)) == [package, "ptulab has no 'segments.joined'"]
-    assert list(wrong_words("docs/many.md", text)) == [package]
+    assert list(wrong_words("docs/contracts.md", text)) == [package]

@@ -181,7 +181,7 @@ PLOT = """\
 import matplotlib.pyplot as plt
 
 for name, columns in curves.items():
-    (across, xs), *others = columns.items()
+    (across, xs), *others = [(label, one) for label, one in columns.items() if not (len(one) and isinstance(one[0], str))]
     for label, ys in others:
         plt.plot(xs, ys, label=label)
     plt.title(name), plt.xlabel(across), plt.legend(), plt.show()"""

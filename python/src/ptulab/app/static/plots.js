@@ -90,7 +90,7 @@ export function draw(figure, of = "") {
   const again = () => {
     const [traces, look] = shape.draw();
     if (drag?.value === "choose") Object.assign(look, flat ? { dragmode: "drawclosedpath", newshape: { line: { color: REGION, width: 2 }, drawdirection: "diagonal" } } : { dragmode: "select", selectdirection: "h" });
-    return Plotly.react(plot, traces, look, { responsive: true, displaylogo: false, displayModeBar: narrow.matches ? false : "hover" });
+    return Plotly.react(plot, traces, look, { responsive: true, displaylogo: false, modeBarButtonsToRemove: ["select2d", "lasso2d"], displayModeBar: narrow.matches ? false : "hover" });
   };
   controls.addEventListener("input", again);
   drag?.addEventListener("change", again);
@@ -207,6 +207,7 @@ function curves(figure, controls) {
         y: logarithmic ? one.y.map((y) => (y !== null && y > 0 ? y : null)) : one.y, hovertemplate: "%{text}<extra></extra>", textposition: figure.names ? "none" : undefined,
         mode: dots(one) ? "markers" : one.errors ? "lines+markers" : "lines", yaxis: one.shape === "marks" ? "y2" : "y",
         marker: one.shape === "marks" ? { color: colour(`curve-${at % 6}`), size: 10, symbol: "line-ns", line: { color: colour(`curve-${at % 6}`), width: 1 } } : { color: colour(`curve-${at % 6}`), size: 5 },
+        unselected: one.shape === "marks" ? { marker: { opacity: 1 } } : undefined,
         line: { color: colour(`curve-${at % 6}`), width: 1.6, shape: dots(one) ? "linear" : one.shape },
         error_y: one.errors ? { type: "data", array: one.errors, color: colour("faint"), thickness: 1, width: 0 } : undefined,
       }));

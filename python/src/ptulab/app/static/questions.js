@@ -187,8 +187,8 @@ document.addEventListener("steered", (heard) => {
   run("run");
 });
 document.addEventListener("refitted", (heard) => { // of a result that came back, if the model is still that of it
-  const { fit, ...others } = /** @type {CustomEvent} */ (heard).detail, chosen = /** @type {Record<string, any>} */ (settings());
-  now.fit = ["terms", "dimensions", "triplet"].every((key) => others[key] === chosen[key]) && fit || {};
+  const { fit, ...others } = /** @type {CustomEvent} */ (heard).detail, chosen = /** @type {Record<string, any>} */ ({ ...settings(), second: now.second?.value || null });
+  now.fit = ["terms", "dimensions", "triplet", "second"].every((key) => others[key] === chosen[key]) && fit || {};
 });
 byId("settings").addEventListener("change", (event) => {
   const key = /** @type {HTMLElement} */ (event.target).dataset.key || "second", { from_seconds, to_seconds } = /** @type {any} */ (settings());

@@ -64,8 +64,10 @@ export function bar(place, label) {
 export async function beside(button, text, leaving, what) {
   const mine = new AbortController(), place = make("span"), halt = make("button", { type: "button", class: "halt", text: "Stop", "aria-label": `Stop: ${text}`, on: { click: () => mine.abort() } });
   leaving.addEventListener("abort", () => mine.abort());
+  const was = document.activeElement === button;
   button.toggleAttribute("disabled", true);
   button.after(" ", place, halt);
+  if (was) halt.focus();
   try {
     await what(bar(place, text).heard, mine.signal);
   } finally {

@@ -44,7 +44,7 @@ export function show(told, asked) {
   const /** @type {View | undefined} */ before = asked.view, was = shown();
   if (was) did("There is another result.", () => {
     show(was.told, was.asked);
-    document.dispatchEvent(new CustomEvent("refitted", { detail: was.asked.settings }));
+    document.dispatchEvent(new CustomEvent("refitted", { detail: { ...was.asked.settings, second: was.asked.second || null } }));
   });
   leave();
   now = { told, asked };
