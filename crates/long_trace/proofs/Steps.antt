@@ -162,10 +162,10 @@ GivenMore-trans a b c m n lines lines' p q = record {
 }
 
 -- Its numbers were counted on, and those beside them.
-pub GivenMore-counts : (old new : LongTrace) (more : History) (lines lines' : List ℕ) → new.set ≡ old.set → is_going new ≡ is_going old → was_begun new ≡ was_begun old → CountsOn (trace_view old.set) (state_of old.newest old.closed) (state_of new.newest new.closed) more lines lines' → lines ≡ []
-    → new.before ≡ old.before + count_before (trace_view old.set) more → new.taken ≡ old.taken + length more → ((h : History) → old.floor ≡ greatest_time false h → new.floor ≡ greatest_time false (h ++ more)) → GivenMore old new more lines'
+pub GivenMore-counts : (old new : LongTrace) (more : History) (lines lines' : List ℕ) → set_of new ≡ set_of old → is_going new ≡ is_going old → was_begun new ≡ was_begun old → CountsOn (trace_view (set_of old)) (state_of old.counting old.closed) (state_of new.counting new.closed) more lines lines' → lines ≡ []
+    → new.counting.before ≡ old.counting.before + count_before (trace_view (set_of old)) more → new.taken ≡ old.taken + length more → ((h : History) → old.floor ≡ greatest_time false h → new.floor ≡ greatest_time false (h ++ more)) → GivenMore old new more lines'
 GivenMore-counts old new more lines lines' same going begun on none before taken floor =
-    let set = trace_view old.set in
+    let set = trace_view (set_of old) in
     let text : lines' ≡ on.text = on.put ∙ ap (λ l. l ++ on.text) none in
     record {
       same_set = same;

@@ -1,12 +1,12 @@
 -- What a trace without end stands for.
-use Rattle.std.specs.Prelude.{◌≡◌, ℕ, ◌+◌, Bool, List, ◌++◌, true, false, length, Result, is_ok}
-use Rattle.tally_base.{specs.declared.fault.Fault.Fault, specs.declared.settings.TraceSet.TraceSet, specs.Settings.trace_view, specs.Tally.{History, greatest_time}}
+use Rattle.std.specs.Prelude.{◌≡◌, ℕ, ◌+◌, ◌<◌, ◌≤◌, Bool, List, [], ◌∷◌, ◌++◌, true, false, length, Result, is_ok, IsTrue, if◌then◌else◌}
+use Rattle.tally_base.{specs.declared.fault.Fault.Fault, specs.declared.event.Event.Event, specs.Events.is_photon, specs.Limits.record_limit, specs.declared.settings.TraceSet.TraceSet, specs.Settings.trace_view, specs.Tally.{History, greatest_time}}
 use Rattle.count_trace.specs.TraceCounts.{count_before}
 use Rattle.long_trace.{specs.declared.trace.LongTrace.LongTrace, specs.Bins.CountsBins, specs.States.state_of, specs.Texts.open_text}
 
 -- what it was made with
 abbrev pub set_of : LongTrace → TraceSet
-set_of t = t.set
+set_of t = t.counting.set
 
 -- how many events it was given, and the greatest time of the photons among them
 abbrev pub taken_of : LongTrace → ℕ
@@ -29,8 +29,8 @@ held t = length t.closed.frequencies + 7
 
 -- Its counts are those of the events.
 pub record Holds (t : LongTrace) (h : History) : Type 0 where
-  pub bins : CountsBins (trace_view t.set) (state_of t.newest t.closed) h
-  pub before : t.before ≡ count_before (trace_view t.set) h
+  pub bins : CountsBins (trace_view (set_of t)) (state_of t.counting t.closed) h
+  pub before : t.counting.before ≡ count_before (trace_view (set_of t)) h
   pub taken : t.taken ≡ length h
   pub floor : t.floor ≡ greatest_time false h
 
@@ -42,14 +42,29 @@ pub record Starts (old new : LongTrace) (result : Result (Unit {0}) Fault) : Typ
   pub same_counts : (taken_of new ≡ taken_of old) × (floor_of new ≡ floor_of old)
   pub stands : (h : History) → Holds old h → Holds new h
 
+-- It goes on, fewer than 2^40 events came, and a photon doesn't come at a smaller time than one before it.
+pub record CanTake (t : LongTrace) (e : Event) : Type 0 where
+  pub going : is_going t ≡ true
+  pub room : taken_of t < record_limit
+  pub in_order : IsTrue (is_photon e) → floor_of t ≤ e.time
+
+-- It took an event, and goes on where its line was written.
+pub record GoesOn (old new : LongTrace) (e : Event) (groups : ℕ) (result : Result (Unit {0}) Fault) : Type 0 where
+  pub same_set : set_of new ≡ set_of old
+  pub same_begun : was_begun new ≡ was_begun old
+  pub going : is_going new ≡ is_ok result
+  pub follows : (h : History) → Holds old h → Holds new (h ++ (e, groups) ∷ [])
+  pub one_more : taken_of new ≡ taken_of old + 1
+  pub moved : floor_of new ≡ (if is_photon e then e.time else floor_of old)
+
 -- It was given more events, of which the lines of the bins that they closed are these bytes.
 pub record GivenMore (old new : LongTrace) (more : History) (lines : List ℕ) : Type 0 where
-  pub same_set : new.set ≡ old.set
+  pub same_set : set_of new ≡ set_of old
   pub same_going : is_going new ≡ is_going old
   pub same_begun : was_begun new ≡ was_begun old
   pub follows : (h : History) → Holds old h → Holds new (h ++ more)
-  pub closed : (h : History) → Holds old h → open_text (trace_view old.set) (h ++ more) ≡ open_text (trace_view old.set) h ++ lines
+  pub closed : (h : History) → Holds old h → open_text (trace_view (set_of old)) (h ++ more) ≡ open_text (trace_view (set_of old)) h ++ lines
 
 -- what it has printed of these events before the end
 abbrev pub printed_by : LongTrace → History → List ℕ
-printed_by t h = open_text (trace_view t.set) h
+printed_by t h = open_text (trace_view (set_of t)) h

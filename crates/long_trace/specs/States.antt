@@ -1,15 +1,15 @@
 -- The numbers that a trace without end keeps, as definitions see them.
 use Rattle.std.specs.Prelude.{ℕ, ◌≡◌, ◌+◌, ◌*◌, ◌^◌, ◌<◌, ◌≤◌, max, nat_lt, if◌then◌else◌, List, [], ◌++◌, length, sum, slice_index}
-use Rattle.tally_base.{specs.declared.settings.TraceSet.TraceSet, specs.Settings.trace_view, specs.Tally.History}
+use Rattle.tally_base.{specs.Settings.trace_view, specs.Tally.History}
 use Rattle.count_trace.specs.TraceCounts.{count_before}
-use Rattle.long_trace.{specs.declared.counting.OpenBin.OpenBin, specs.declared.closed.Closed.Closed, specs.Bins.{BinState, CountsOn}, specs.Texts.{bin_line, frequency_limit, frequency, summary_text}}
+use Rattle.long_trace.{specs.declared.counting.Counting.Counting, specs.declared.closed.Closed.Closed, specs.Bins.{BinState, CountsOn}, specs.Texts.{bin_line, frequency_limit, frequency, summary_text}}
 
-abbrev pub state_of : OpenBin → Closed → BinState
-state_of newest closed = record { bin = newest.bin.index; count = newest.count; frequencies = closed.frequencies; many = closed.many }
+abbrev pub state_of : Counting → Closed → BinState
+state_of n closed = record { bin = n.newest.bin.index; count = n.newest.count; frequencies = closed.frequencies; many = closed.many }
 
 -- what is printed after the lines of the bins before the newest
-abbrev pub end_text : OpenBin → List ℕ → ℕ → List ℕ
-end_text newest all before = bin_line newest.bin.index newest.count ++ summary_text all before
+abbrev pub end_text : Counting → List ℕ → List ℕ
+end_text n all = bin_line n.newest.bin.index n.newest.count ++ summary_text all n.before
 
 -- A closed bin that isn't empty took a photon: of so many photons as came, none is lost where bins are counted too.
 abbrev pub Fills : BinState → BinState → ℕ → Type 0
@@ -20,38 +20,43 @@ abbrev pub AreFrequencies : Closed → List ℕ → Type 0
 AreFrequencies closed all = (c : ℕ) → c < frequency_limit → slice_index closed.frequencies c ≡ frequency all c
 
 -- The newest bin begins where its number says, and every bin before it is closed.
-pub record IsInStep (set : TraceSet) (newest : OpenBin) (closed : Closed) : Type 0 where
-  pub edge : newest.bin.low ≡ set.origin + newest.bin.index * set.width
-  pub all : sum closed.frequencies + closed.many ≡ newest.bin.index
+pub record IsInStep (n : Counting) (closed : Closed) : Type 0 where
+  pub edge : n.newest.bin.low ≡ n.set.origin + n.newest.bin.index * n.set.width
+  pub all : sum closed.frequencies + closed.many ≡ n.newest.bin.index
 
--- The same, and it begins no later than this time.
-pub record IsUpTo (set : TraceSet) (newest : OpenBin) (closed : Closed) (floor : ℕ) : Type 0 where
-  pub step : IsInStep set newest closed
-  pub low : newest.bin.low ≤ max floor set.origin
+-- The same, and the newest begins no later than this time.
+pub record IsUpTo (n : Counting) (closed : Closed) (floor : ℕ) : Type 0 where
+  pub step : IsInStep n closed
+  pub low : n.newest.bin.low ≤ max floor n.set.origin
 
 -- A photon at this time can be counted, where `more` is 1, or none: the newest bin begins no later, and one count more has room.
-pub record CanCount (set : TraceSet) (early : ℕ) (newest : OpenBin) (time more : ℕ) : Type 0 where
+pub record CanCount (n : Counting) (closed : Closed) (time more : ℕ) : Type 0 where
+  pub step : IsInStep n closed
   pub one : more ≤ 1
-  pub order : 0 < more → newest.bin.low ≤ max time set.origin
-  pub few : early + newest.count + more < 2 ^ 64
+  pub order : 0 < more → n.newest.bin.low ≤ max time n.set.origin
+  pub few : n.before + n.newest.count + more < 2 ^ 64
 
 -- It was counted: before the origin, or in the newest bin, which then begins no later, and else that stays.
-pub record Counted (set : TraceSet) (early early' : ℕ) (newest newest' : OpenBin) (closed closed' : Closed) (time more : ℕ) : Type 0 where
-  pub low : 0 < more → newest'.bin.low ≤ max time set.origin
-  pub same : more ≡ 0 → newest' ≡ newest
-  pub few : early' + newest'.count ≤ early + newest.count + more
-  pub filled : Fills (state_of newest closed) (state_of newest' closed') more
-  pub before : early' ≡ early + (if nat_lt time set.origin then more else 0)
+pub record Counted (n n' : Counting) (closed closed' : Closed) (time more : ℕ) : Type 0 where
+  pub step : IsInStep n' closed'
+  pub same_set : n'.set ≡ n.set
+  pub low : 0 < more → n'.newest.bin.low ≤ max time n.set.origin
+  pub same : more ≡ 0 → n'.newest ≡ n.newest
+  pub few : n'.before + n'.newest.count ≤ n.before + n.newest.count + more
+  pub filled : Fills (state_of n closed) (state_of n' closed') more
+  pub before : n'.before ≡ n.before + (if nat_lt time n.set.origin then more else 0)
 
 -- The next bin that isn't empty was opened, for a photon at this time.
-pub record Opens (newest next : OpenBin) (closed closed' : Closed) (time : ℕ) : Type 0 where
-  pub low : next.bin.low ≤ time
-  pub one : next.count ≡ 1
-  pub filled : Fills (state_of newest closed) (state_of next closed') 1
+pub record Opens (n next : Counting) (closed closed' : Closed) (time : ℕ) : Type 0 where
+  pub same : (next.set ≡ n.set) × (next.before ≡ n.before)
+  pub low : next.newest.bin.low ≤ time
+  pub one : next.newest.count ≡ 1
+  pub filled : Fills (state_of n closed) (state_of next closed') 1
 
 -- The events of a block were counted.
-pub record CountsAll (set : TraceSet) (early early' : ℕ) (newest newest' : OpenBin) (closed closed' : Closed) (more : History) (lines : List ℕ) : Type 0 where
-  pub few : early' + newest'.count ≤ early + newest.count + length more
-  pub filled : Fills (state_of newest closed) (state_of newest' closed') (length more)
-  pub before : early' ≡ early + count_before (trace_view set) more
-  pub counts : CountsOn (trace_view set) (state_of newest closed) (state_of newest' closed') more [] lines
+pub record CountsAll (n n' : Counting) (closed closed' : Closed) (more : History) (lines : List ℕ) : Type 0 where
+  pub same_set : n'.set ≡ n.set
+  pub few : n'.before + n'.newest.count ≤ n.before + n.newest.count + length more
+  pub filled : Fills (state_of n closed) (state_of n' closed') (length more)
+  pub before : n'.before ≡ n.before + count_before (trace_view n.set) more
+  pub counts : CountsOn (trace_view n.set) (state_of n closed) (state_of n' closed') more [] lines

@@ -4,20 +4,21 @@ ghost use Rattle.bench_io.specs.Sinks.{CountsFault, Wrote, WroteShort, PassesOn}
 ghost use Rattle.long_trace.{specs.Texts.{bin_line, frequencies_text, above, before_line, above_line}, specs.States.{AreFrequencies, end_text}};
 
 use crate::closed::{Closed, FREQUENCIES};
-use crate::counting::OpenBin;
+use crate::counting::Counting;
 use crate::lines::{frequency_line, put_bin};
 use arrayvec::ArrayVec;
 use bench_io::{OutBuffer, Sink};
 use tally_base::{Failed, put_decimal, put_text};
 
 /// The line of the last bin, unless it is empty, and that of what came before the origin.
-fn last_lines(newest: &OpenBin, before: u64) -> ArrayVec<u8, 96>
-    ensures { result.items ≡ bin_line newest.now.bin.index newest.now.count ++ before_line before }
+fn last_lines(counting: &Counting) -> ArrayVec<u8, 96>
+    ensures { result.items ≡ bin_line counting.now.newest.bin.index counting.now.newest.count
+        ++ before_line counting.now.before }
 {
     let mut lines = ArrayVec::new();
-    put_bin(&mut lines, newest.bin.index, newest.count);
+    put_bin(&mut lines, counting.newest.bin.index, counting.newest.count);
     put_text(&mut lines, b"before ");
-    put_decimal(&mut lines, before);
+    put_decimal(&mut lines, counting.before);
     put_text(&mut lines, b"\n");
     lines
 }
@@ -56,21 +57,20 @@ fn put_frequencies<O: Sink>(
 
 /// Writes what is after the lines of the bins before the last, by how often each count came.
 pub(crate) fn put_end<O: Sink>(
-    newest: &OpenBin,
-    before: u64,
+    counting: &Counting,
     closed: &Closed,
     out: &mut O,
 ) -> Result<(), Failed>
     ensures all { OnOk result ((all : List ℕ) → AreFrequencies closed.now all
         → closed.now.many ≡ above all → Wrote (O.state out.old) (O.state out.new)
-        (end_text newest.now all before)) }
+        (end_text counting.now all)) }
     ensures short { OnErr result ((all : List ℕ) → AreFrequencies closed.now all
         → closed.now.many ≡ above all → WroteShort (O.state out.old) (O.state out.new)
-        (end_text newest.now all before)) }
+        (end_text counting.now all)) }
     ensures cause { CountsFault (O.state out.old) (O.state out.new) result }
 {
     let mut block = OutBuffer::new();
-    block.put(out, last_lines(newest, before).as_slice())?;
+    block.put(out, last_lines(counting).as_slice())?;
     put_frequencies(closed, &mut block, out)?;
     block.put(out, above_line(closed.many).as_slice())?;
     block.flush(out)

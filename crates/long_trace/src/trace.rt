@@ -2,9 +2,10 @@
 ghost use Rattle.std.specs.Prelude.{◌≡◌, ◌+◌, ◌*◌, ◌<◌, ◌≤◌, ◌&&◌, if◌then◌else◌, IfErr, OnOk, OnErr, max, slice_index, sum, ◌++◌, ◌∷◌, [], IsTrue, true, false, is_ok, length};
 ghost use Rattle.bench_io.specs.Sinks.{CountsFault, Wrote, WroteShort};
 ghost use Rattle.tally_base.{specs.Events.{is_photon, is_in}, specs.Columns.{gathered, events_in, IsSorted}, specs.Tally.{floor_after, InOrder, History}, specs.Limits.record_limit, specs.Settings.trace_view};
+ghost use Rattle.long_trace.specs.States.{IsUpTo};
 
 use crate::closed::Closed;
-use crate::counting::{OpenBin, closed_with, count_at, count_block};
+use crate::counting::{Counting, OpenBin, closed_with};
 use crate::ending::put_end;
 use crate::lines::{LINE_SIZE, LINES_SIZE, first_line};
 use arrayvec::ArrayVec;
@@ -23,25 +24,21 @@ use tally_base::{Block, Event, Failed, Fault, TABLE_BLOCK, TraceSet, floor_behin
 /// The lists and arrays that it keeps: the frequencies of `closed`.
 #[derive(Drop)]
 pub struct LongTrace {
-    set: TraceSet,
-    before: u64,
-    newest: OpenBin,
+    counting: Counting,
     closed: Closed,
     taken: u64,
     floor: u64,
     // Whether `start` was called, and whether it answered Ok and no call was refused.
     begun: bool,
     going: bool,
-    ghost edge: { newest.bin.low ≡ set.origin + newest.bin.index * set.width },
-    ghost low: { newest.bin.low ≤ max floor set.origin },
-    ghost all: { sum closed.frequencies + closed.many ≡ newest.bin.index },
-    ghost few: { before + newest.count ≤ taken },
+    ghost stands: { IsUpTo counting closed floor },
+    ghost few: { counting.before + counting.newest.count ≤ taken },
     // A closed bin that isn't empty took an event.
-    ghost filled: { newest.count + newest.bin.index ≤ taken + slice_index closed.frequencies 0 },
+    ghost filled: { counting.newest.count + counting.newest.bin.index ≤ taken + slice_index closed.frequencies 0 },
 }
 
 impl LongTrace {
-    ghost use Rattle.long_trace.{specs.Texts.{first_line, whole_text}, specs.Written.{AppendsRest, CutsRest}, specs.LongTrace.{Holds, GivenMore, Starts, set_of, taken_of, floor_of, was_begun, is_going, held, printed_by}};
+    ghost use Rattle.long_trace.{specs.Texts.{first_line, whole_text}, specs.Written.{AppendsRest, CutsRest}, specs.LongTrace.{Holds, GivenMore, GoesOn, CanTake, Starts, set_of, taken_of, floor_of, was_begun, is_going, held, printed_by}};
 
     /// A trace of no events. It doesn't look at the number of bins.
     pub fn new(set: &TraceSet) -> LongTrace
@@ -51,15 +48,15 @@ impl LongTrace {
         ensures fresh { was_begun result ≡ false }
         ensures held { held result ≤ 1032 }
     {
+        let bin = Bin {
+            index: 0,
+            low: set.origin,
+        };
         LongTrace {
-            set: *set,
-            before: 0,
-            newest: OpenBin {
-                bin: Bin {
-                    index: 0,
-                    low: set.origin,
-                },
-                count: 0,
+            counting: Counting {
+                set: *set,
+                before: 0,
+                newest: OpenBin { bin, count: 0 },
             },
             closed: Closed::new(),
             taken: 0,
@@ -81,7 +78,7 @@ impl LongTrace {
         ensures held { held self.new ≤ 1032 }
     {
         self.begun = true;
-        let written = write_or_refuse(out, first_line(&self.set).as_slice());
+        let written = write_or_refuse(out, first_line(&self.counting.set).as_slice());
         self.going = written.is_ok();
         written
     }
@@ -100,16 +97,9 @@ impl LongTrace {
         ensures held { held self.new ≤ 1032 }
     {
         let mut line = ArrayVec::new();
-        let more = photons_in(e, groups, self.set.group);
-        count_at(
-            &self.set,
-            &mut self.before,
-            &mut self.newest,
-            &mut self.closed,
-            e.time,
-            more,
-            &mut line,
-        );
+        let more = photons_in(e, groups, self.counting.set.group);
+        self.counting
+            .count_at(&mut self.closed, e.time, more, &mut line);
         self.taken += 1;
         self.floor = floor_behind(self.floor, e);
         line
@@ -128,15 +118,9 @@ impl LongTrace {
         ensures held { held self.new ≤ 1032 }
     {
         self.taken += block.len() as u64;
-        self.floor = count_block(
-            &self.set,
-            &mut self.before,
-            &mut self.newest,
-            &mut self.closed,
-            self.floor,
-            block,
-            lines,
-        );
+        self.floor = self
+            .counting
+            .count_block(&mut self.closed, self.floor, block, lines);
     }
 
     /// Takes an event as `take` does, and writes the line of the bin that it closes. After `start` and such
@@ -145,9 +129,7 @@ impl LongTrace {
     /// Refuses with `WriteFault` where a write fails: then a beginning of the line that isn't all of it was
     /// written.
     pub fn event<O: Sink>(&mut self, e: &Event, groups: u64, out: &mut O) -> Result<(), Fault>
-        requires going { is_going self.old ≡ true }
-        requires room { taken_of self.old < record_limit }
-        requires in_order { IsTrue (is_photon e.now) → floor_of self.old ≤ e.now.time }
+        requires can { CanTake self.old e.now }
         ensures text { (h : History) → Holds self.old h → OnOk result (AppendsRest
             (O.state out.old) (O.state out.new) (printed_by self.old h)
             (printed_by self.old (h ++ (e.now, groups) ∷ []))) }
@@ -156,12 +138,7 @@ impl LongTrace {
             (printed_by self.old (h ++ (e.now, groups) ∷ []))) }
         ensures fault { IfErr result (λ fault. fault ≡ Fault.WriteFault) }
         ensures cause { CountsFault (O.state out.old) (O.state out.new) result }
-        ensures set { set_of self.new ≡ set_of self.old }
-        ensures follows { (h : History) → Holds self.old h → Holds self.new (h ++ (e.now, groups) ∷ []) }
-        ensures going { is_going self.new ≡ is_ok result }
-        ensures begun { was_begun self.new ≡ was_begun self.old }
-        ensures one_more { taken_of self.new ≡ taken_of self.old + 1 }
-        ensures moved { floor_of self.new ≡ (if is_photon e.now then e.now.time else floor_of self.old) }
+        ensures follows { GoesOn self.old self.new e.now groups result }
         ensures held { held self.new ≤ 1032 }
     {
         let line = self.take(e, groups);
@@ -186,8 +163,8 @@ impl LongTrace {
         ensures fault { IfErr result (λ fault. fault ≡ Fault.WriteFault) }
         ensures cause { CountsFault (O.state out.old) (O.state out.new) result }
     {
-        let closed = closed_with(&self.newest, self.closed);
-        match put_end(&self.newest, self.before, &closed, out) {
+        let closed = closed_with(&self.counting.newest, self.closed);
+        match put_end(&self.counting, &closed, out) {
             Ok(()) => Ok(()),
             Err(Failed) => Err(Fault::WriteFault),
         }

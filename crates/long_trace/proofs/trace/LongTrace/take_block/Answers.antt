@@ -8,7 +8,7 @@ returns-clause-given c =
     let t = c.args.self.now in
     let b = c.args.block.now in
     let done = c.count_block-self.ensures.counted in
-    GivenMore-counts t _ (events_in b) _ c.count_block-self.new.lines.items refl refl refl done.counts refl done.before
+    GivenMore-counts t _ (events_in b) _ c.count_block-self.new.lines.items done.same_set refl refl done.counts refl done.before
     (omega (arith, c.len.ensures.count, length-rows (item b) b.len))
     (λ h is.
     let order : InOrder false (greatest_time false h) (gathered b) = rw (← is) c.requires.in_order in
