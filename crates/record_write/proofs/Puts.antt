@@ -1,10 +1,10 @@
 -- Words that are put into a block one after another.
 use Rattle.std.{proofs.Common.{◌≡◌, ◌≢◌, ◌+◌, ◌-◌, ◌/◌, ◌%◌, ◌<◌, ℕ, false, List, [], ◌∷◌, ◌++◌, replicate, refl, sym, ap, subst, ◌∙◌, append_assoc, append-nil, arith, ◌==◌}, proofs.lemmas.List.{replicate_more, replicate-append-replicate}, proofs.lemmas.Bool.ne_eqb}
-use Rattle.tally_base.{specs.declared.event.Event.Event, specs.declared.event.EventKind.TheVariants.Photon, specs.declared.header.Mode.Mode}
+use Rattle.tally_base.{specs.declared.event.Event.Event}
 use Rattle.bench_io.{specs.Sinks.{SinkState, WroteShort, PassesOn}, proofs.Bytes.{WroteShort-same, WroteShort-more, WroteShort-flushed, WroteShort-passed, PassesOn-held, PassesOn-trans}}
 use Rattle.ptu_definitions.proofs.PrefixLemmas.{last_after-push}
 use Rattle.minimal_file.{specs.ShortFiles.bytes_in, proofs.ShortHeaders.bytes_in-append}
-use Rattle.record_write.{specs.Picked.{unit_of, wrap_word, wraps, photon_word, words_behind, time_or_none, last_time}, specs.Writing.{PutsWords, CutsWords}}
+use Rattle.record_write.{specs.Picked.{wrap_word, wraps, time_or_none, last_time}, specs.Writing.{PutsWords, CutsWords}}
 
 more-bytes : (held xs ys : List ℕ) → (held ++ bytes_in xs) ++ bytes_in ys ≡ held ++ bytes_in (xs ++ ys)
 more-bytes held xs ys = append_assoc held (bytes_in xs) (bytes_in ys) ∙ ap (λ l. held ++ l) (sym (bytes_in-append xs ys))
@@ -50,12 +50,6 @@ even-wraps most units word is none = rw (is, none) (sym (append-nil (replicate (
 pub odd-wraps : (most units first last : ℕ) → first ≡ wrap_word most → last ≡ wrap_word (units % most)
     → units % most ≢ 0 → replicate (units / most) first ++ last ∷ [] ≡ wraps most units
 odd-wraps most units first last is is_last some = let left : (units % most == 0) ≡ false = ne_eqb (units % most) 0 some in rw (is, is_last, left) refl
-
--- A photon.
-pub photon-parts : (mode : Mode) (before input dtime time most units word : ℕ) → most ≡ unit_of mode - 1
-    → units ≡ time / unit_of mode - before / unit_of mode → word ≡ photon_word mode input dtime time
-    → wraps most units ++ word ∷ [] ≡ words_behind mode before (Photon input dtime) time
-photon-parts mode before input dtime time most units word m u w = rw (m, u, w) refl
 
 -- What a block passes on that held nothing before.
 pub short-flushed : (a b c : SinkState) (held now words : List ℕ) → held ≡ []

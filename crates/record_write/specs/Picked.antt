@@ -27,10 +27,13 @@ abbrev pub own_word : Mode → EventKind → ℕ → List ℕ
 own_word mode (Photon input dtime) time = photon_word mode input dtime time ∷ []
 own_word mode (Marker bits) time = []
 
--- The words of an event after a time: the wraps of the units that have begun since, each of fewer units than a unit has ticks, and
--- its own word.
+-- the wraps of the units that have begun from one time to another, each of fewer units than a unit has ticks
+abbrev pub wraps_between : Mode → ℕ → ℕ → List ℕ
+wraps_between mode before time = wraps (unit_of mode - 1) (time / unit_of mode - before / unit_of mode)
+
+-- the words of an event after a time: those wraps, and its own word
 abbrev pub words_behind : Mode → ℕ → EventKind → ℕ → List ℕ
-words_behind mode before kind time = wraps (unit_of mode - 1) (time / unit_of mode - before / unit_of mode) ++ own_word mode kind time
+words_behind mode before kind time = wraps_between mode before time ++ own_word mode kind time
 
 abbrev pub time_or_none : Option Event → ℕ
 time_or_none None = 0

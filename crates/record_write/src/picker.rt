@@ -6,7 +6,7 @@ ghost use Rattle.ptu_definitions.specs.Layouts.{KindFits};
 ghost use Rattle.minimal_file.specs.ShortFiles.{bytes_in, short_header};
 ghost use Rattle.record_write.{specs.Picked.is_too_late, specs.Writing.{PutsOrCuts, WritesOrCuts, PickCause}};
 
-use crate::words::{is_too_late, put_photon};
+use crate::words::{is_too_late, photon_word, put_photon};
 use bench_io::{OutBuffer, Sink, write_all};
 use minimal_file::short_header;
 use tally_base::{Event, EventKind, Failed, Fault, Mode};
@@ -82,7 +82,8 @@ impl Picker {
         }
         match e.kind {
             EventKind::Photon { input, dtime } => {
-                match put_photon(self.mode, self.last, input, dtime, e.time, block, out) {
+                let word = photon_word(self.mode, input, dtime, e.time);
+                match put_photon(self.mode, self.last, e.time, word, block, out) {
                     Ok(()) => Ok(()),
                     Err(Failed) => Err(Fault::WriteFault),
                 }

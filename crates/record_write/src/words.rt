@@ -1,8 +1,8 @@
 // The words of photons, put into a block on the way to a sink.
-ghost use Rattle.std.specs.Prelude.{◌≡◌, ◌-◌, ◌/◌, ◌<◌, ◌≤◌, ◌∷◌, [], replicate, OnOk, OnErr};
+ghost use Rattle.std.specs.Prelude.{◌≡◌, ◌-◌, ◌/◌, ◌<◌, ◌≤◌, ◌∷◌, ◌++◌, [], replicate, OnOk, OnErr};
 ghost use Rattle.tally_base.specs.declared.event.EventKind.TheVariants.{Photon};
 ghost use Rattle.ptu_definitions.specs.Layouts.{KindFits};
-ghost use Rattle.record_write.{specs.Picked.{is_too_late, unit_of, wraps, photon_word, words_behind}, specs.Writing.{PutsWords, CutsWords}};
+ghost use Rattle.record_write.{specs.Picked.{is_too_late, unit_of, wraps, photon_word, wraps_between}, specs.Writing.{PutsWords, CutsWords}};
 
 use bench_io::{OutBuffer, Sink};
 use tally_base::{Failed, Mode, WRAP_LIMIT};
@@ -50,7 +50,7 @@ fn units_between(mode: Mode, before: u64, time: u64) -> (u64, u64)
 
 /// The word of a photon.
 #[inline(always)]
-fn photon_word(mode: Mode, input: u8, dtime: u16, time: u64) -> u32
+pub(crate) fn photon_word(mode: Mode, input: u8, dtime: u16, time: u64) -> u32
     requires { KindFits mode (Photon input dtime) }
     ensures { result ≡ photon_word mode input dtime time }
 {
@@ -111,26 +111,23 @@ fn put_wraps<O: Sink>(
     put_word(WRAP + rest as u32, block, out)
 }
 
-/// Puts the words of a photon whose time is no less than that of the photon before it, or than 0 where
-/// there is none.
+/// Puts the word of a photon, after the wraps from the time of the photon before it, or from 0 where there is none.
 #[inline(always)]
 pub(crate) fn put_photon<O: Sink>(
     mode: Mode,
     before: u64,
-    input: u8,
-    dtime: u16,
     time: u64,
+    word: u32,
     block: &mut OutBuffer,
     out: &mut O,
 ) -> Result<(), Failed>
-    requires fits { KindFits mode (Photon input dtime) }
     requires in_order { before ≤ time }
     ensures all { OnOk result (PutsWords (O.state out.old) (O.state out.new)
-        block.old block.new (words_behind mode before (Photon input dtime) time)) }
+        block.old block.new (wraps_between mode before time ++ word ∷ [])) }
     ensures cut { OnErr result (CutsWords (O.state out.old) (O.state out.new)
-        block.old block.new (words_behind mode before (Photon input dtime) time)) }
+        block.old block.new (wraps_between mode before time ++ word ∷ [])) }
 {
     let (most, units) = units_between(mode, before, time);
     put_wraps(most, units, block, out)?;
-    put_word(photon_word(mode, input, dtime, time), block, out)
+    put_word(word, block, out)
 }
