@@ -68,6 +68,7 @@ impl LongTrace {
 
     /// Writes the first line. Refuses with `WriteFault` where a write fails: then a beginning of the line that
     /// isn't all of it was written.
+    #[tactic(auto, using(std::proofs::lemmas::Result::on_err_weaker))]
     pub fn start<O: Sink>(&mut self, out: &mut O) -> Result<(), Fault>
         requires first { was_begun self.old ≡ false }
         ensures text { OnOk result (Wrote (O.state out.old) (O.state out.new) (first_line (trace_view (set_of self.old)))) }
@@ -128,6 +129,7 @@ impl LongTrace {
     ///
     /// Refuses with `WriteFault` where a write fails: then a beginning of the line that isn't all of it was
     /// written.
+    #[tactic(auto, using(std::proofs::lemmas::Result::on_ok_weaker, std::proofs::lemmas::Result::on_err_weaker))]
     pub fn event<O: Sink>(&mut self, e: &Event, groups: u64, out: &mut O) -> Result<(), Fault>
         requires can { CanTake self.old e.now }
         ensures text { (h : History) → Holds self.old h → OnOk result (AppendsRest
