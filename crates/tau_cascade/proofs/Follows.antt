@@ -3,7 +3,7 @@ use Rattle.std.{proofs.Common.{◌≡◌, ◌≢◌, ℕ, suc, ◌+◌, ◌-◌,
 use mir.Val.{bool_byte}
 use Rattle.tally_base.{specs.Settings.CorrelationView, specs.Tally.History}
 use Rattle.lag_ring.{specs.declared.ring.Entry.Entry, proofs.Lists.{all_back, all_join, of_some}, proofs.Rising.all_weaker}
-use Rattle.tau_cascade.{specs.Correlation.{Given, bin}, specs.Levels.{IsBin, Chain, CanFinish}, specs.Bins.{raised, both_of, merged, merged_all, stretch, Come, Follow, CanTake, Took, CanCome, CanShutAll}, specs.declared.level.Level.Level}
+use Rattle.tau_cascade.{specs.Correlation.{Given, bin}, specs.Levels.{IsBin, Chain, CanFinish}, specs.Bins.{raised, both_of, merged, merged_all, stretch, Come, Follow, CanTake, Took, CanCome, CanShutAll}, specs.Opens.{coming_bins, closed_bins}, specs.declared.level.{Level.Level, Coming.Coming}, proofs.Passes.raised-again}
 
 module _ (set : CorrelationView) (level : ℕ) (l : Level) (e : Entry) (is : l.open ≡ Some e) (closed open' : History) (can : CanFinish set level l closed open') where
   -- the open bin has the photons that are not in closed ones
@@ -79,6 +79,10 @@ module _ (set : CorrelationView) (level : ℕ) where
       → AllByRecursion (λ x. bin level x ≤ e.index) (came ++ xs) → Come set level came (es ++ e ∷ []) (xs ++ run)
   come_push [] e came xs run come is after = search (rules, arith, append-nil)
   come_push (f ∷ es) e came xs run come is after = search (rules, arith, append_assoc, come_push es e (came ++ come.0) come.1 run come.5 is)
+
+-- bins that were closed come to the next level
+pub up_one : (coming : Coming) (bins : List Entry) → 0 < coming.levels → map (raised 1) (closed_bins coming bins) ≡ coming_bins coming bins
+up_one coming bins some = search (rules, arith, raised-again)
 
 -- the first bin of a stretch, and those after it
 pub stretch_more : (from count levels : ℕ) (list : List Entry) (none : Entry) → 0 < count → from < length list

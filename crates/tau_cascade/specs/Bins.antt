@@ -2,7 +2,7 @@
 use Rattle.std.{specs.Prelude.{◌≡◌, ℕ, ◌+◌, ◌-◌, ◌/◌, ◌^◌, ◌<◌, ◌≤◌, ◌==◌, ⊤, false, Option, None, Some, List, [], ◌∷◌, ◌++◌, map, take, drop, length, filter, nat_le, nat_lt, sum_by, if◌then◌else◌}, specs.List.{AllByRecursion}}
 use Rattle.tally_base.{specs.Settings.CorrelationView, specs.Tally.{History, greatest_time, InOrder}, specs.Limits.record_limit, specs.declared.block.Block.Block, specs.Columns.{gathered, events_in}}
 use Rattle.lag_ring.{specs.declared.ring.Entry.Entry, specs.Ring.{Ring, IsRising}, specs.Cells.Cells}
-use Rattle.tau_cascade.{specs.declared.level.Level.Level, specs.Correlation.{Given, bin, in_first, in_second, photons_of}, specs.Levels.{IsBin, LevelIs, RingIs, CellsAre, Chain, PairsMore}}
+use Rattle.tau_cascade.{specs.declared.level.Level.Level, specs.Correlation.{Given, bin, in_first, in_second, photons_of}, specs.Levels.{IsBin, LevelIs, LevelDone, RingIs, CellsAre, Chain, PairsMore}}
 
 -- the bin so many levels up in which a bin lies
 abbrev pub raised : ℕ → Entry → Entry
@@ -96,6 +96,10 @@ module _ (set : CorrelationView) (level : ℕ) where
   abbrev pub Takes : Level → Level → List Entry → List Entry → Type 0
   Takes old new es shut =
       (closed open' xs : History) → CanTake old es closed open' xs → (done : History) × (now : History) × Took new shut closed open' xs done now
+
+  -- all that came is in closed bins, and what was in the open one comes in these
+  abbrev pub Finished : Level → List Entry → History → History → Type 0
+  Finished l es closed open' = LevelDone set level l (closed ++ open') × Come closed es open'
 
   -- This holds of the photons of closed bins together with those of bins that may be closed after them.
   abbrev pub HoldsOfAll : Ring → Cells → List Entry → (History → Type 0) → Type 0

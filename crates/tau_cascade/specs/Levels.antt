@@ -51,9 +51,6 @@ module _ (set : CorrelationView) (level : ℕ) where
     pub none : l.open ≡ None
     pub has : ClosedAre l.ring l.cells l.paired came
 
-  abbrev pub Finished : Level → Option Entry → History → History → Type 0
-  Finished l last closed open' = LevelDone l (closed ++ open') × OpenIs last closed open'
-
 -- from a level upwards: what came to one, and is in its closed bins, came to the next
 abbrev pub Chain : CorrelationView → ℕ → List Level → History → Type 0
 Chain set level [] came = ⊤

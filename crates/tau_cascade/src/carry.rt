@@ -3,7 +3,7 @@ ghost use Rattle.std.specs.Prelude.{◌≡◌, ◌+◌, ◌<◌, ◌≤◌, ◌�
 ghost use Rattle.tally_base.{specs.Settings.correlation_view, specs.Tally.History};
 ghost use Rattle.tau_cascade.{specs.Levels.{CanEnd, Complete, LevelDone, spent}, specs.Bins.{CanCome, Carries}, specs.Opens.coming_bins, specs.Comes.HasCome};
 
-use crate::bins::{FIRST_PLACE, Gaps, LEVELS, LIST, NO_BIN};
+use crate::bins::{LEVELS, LIST, NO_BIN};
 use crate::level::{Coming, Level};
 use crate::scratch::Scratch;
 use lag_ring::Entry;
@@ -46,26 +46,14 @@ fn end_first<L: Ledger>(
 )
     requires stands { ∥ ((came : History) × CanEnd (correlation_view set.now) level (first.old ∷ rest.old) came) ∥₁ }
     requires depth { level + 1 + length rest.old ≤ LEVELS }
-    ensures first { (came : History) → CanEnd (correlation_view set.now) level (first.old ∷ rest.old) came → LevelDone (correlation_view set.now) level first.new came }
-    ensures rest { (came : History) → CanEnd (correlation_view set.now) level (first.old ∷ rest.old) came → CanEnd (correlation_view set.now) (level + 1) rest.new came }
+    ensures follows { (came : History) → CanEnd (correlation_view set.now) level (first.old ∷ rest.old) came
+        → LevelDone (correlation_view set.now) level first.new came × CanEnd (correlation_view set.now) (level + 1) rest.new came }
     ensures steps { steps.new + (first.old.cells.added + spent rest.old) ≡ steps.old + (first.new.cells.added + spent rest.new) }
 {
     let mut list = [NO_BIN; LIST];
     let mut scratch = Scratch::empty();
-    let ended = first.end(set, level, &mut list, &mut scratch, steps);
-    if let Some(last) = ended {
-        list[FIRST_PLACE] = last;
-        let one = Coming {
-            level: level + 1,
-            from: FIRST_PLACE,
-            count: 1,
-            levels: 1,
-            apart: 0,
-            gaps: Gaps::unknown(),
-            most: last.a | last.b,
-        };
-        carry_all(rest, set, &mut list, one, &mut scratch, steps);
-    }
+    let next = first.end(set, level, &mut list, &mut scratch, steps);
+    carry_all(rest, set, &mut list, next, &mut scratch, steps);
 }
 
 /// Closes the open bins from the first level upwards.

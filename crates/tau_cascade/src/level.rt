@@ -5,8 +5,8 @@ ghost use Rattle.tally_base.{specs.Settings.correlation_view, specs.Tally.Histor
 ghost use Rattle.tau_cascade.{specs.Correlation.skipped_lags, specs.Bins.{raised, merged_at, merged_all, kept_of, FitCounts, IsSpaced, AreAlike, ComeAlike}, specs.Dense.{bins_of, AreBins, IsZero}, specs.Grid.{IsEmpty, IsGrid, FewFirsts, CanClose, counted, kept_and}, specs.Opens.{IsComing, coming_bins, closed_bins}, specs.Comes.{HasCome, IsClosing}};
 
 use crate::bins::{
-    Bins, Gaps, LEVELS, LIST, LagRange, apart_all, copy_into, cut_last, first_kept, heaviest_of,
-    known_gaps, lay_out, lower_open, lower_ring, merge,
+    Bins, FIRST_PLACE, Gaps, LEVELS, LIST, LagRange, apart_all, copy_into, cut_last, first_kept,
+    heaviest_of, known_gaps, lay_out, lower_open, lower_ring, merge,
 };
 use crate::grid::{Grid, SPAN, TOO_MANY};
 use crate::laid::TOO_HEAVY;
@@ -147,7 +147,7 @@ fn merge_many(list: &mut [Entry], closing: Coming, grid: &Grid, heaviest: u64) -
 }
 
 impl Level {
-    ghost use Rattle.tau_cascade.{specs.Levels.{LevelIs, CanFinish, Finished}, specs.Bins.{CanShutAll, CanTake, Takes, Shuts}};
+    ghost use Rattle.tau_cascade.{specs.Levels.{LevelIs, CanFinish}, specs.Bins.{CanShutAll, CanTake, Takes, Shuts, Finished}};
 
     /// A level to which nothing came, or `AllocError` where there is not enough memory for it.
     pub(crate) fn open(alloc: Global, set: &CorrelationSet, level: u32) -> Result<Level, AllocError>
@@ -328,7 +328,7 @@ impl Level {
         }
     }
 
-    /// Closes the open bin, and answers it. What is in the list is lost.
+    /// Closes the open bin, where there is one, and answers where it is then. What is in the list is lost.
     pub(crate) fn end<L: Ledger>(
         &mut self,
         set: &CorrelationSet,
@@ -336,31 +336,41 @@ impl Level {
         list: &mut [Entry],
         scratch: &mut Scratch,
         steps: &mut Steps<L>,
-    ) -> Option<Entry>
-        requires room { (length list.old ≡ LIST) × IsZero scratch.old.window × IsEmpty scratch.old.grid }
+    ) -> Coming
+        requires room { (length list.old ≡ LIST) × (level < LEVELS) × IsZero scratch.old.window × IsEmpty scratch.old.grid }
         requires stands { ∥ ((closed : History) × (open' : History)
             × CanFinish (correlation_view set.now) level self.old closed open') ∥₁ }
         ensures follows { (closed open' : History)
             → CanFinish (correlation_view set.now) level self.old closed open'
-            → Finished (correlation_view set.now) level self.new result closed open' }
-        ensures room { IsZero scratch.new.window × IsEmpty scratch.new.grid }
+            → Finished (correlation_view set.now) level self.new (closed_bins result list.new) closed open' }
+        ensures comes { HasCome list.new result scratch.new × (0 < result.levels) × (result.level ≡ level + 1) }
         ensures steps { steps.new + self.old.cells.added ≡ steps.old + self.new.cells.added }
     {
+        let none = Coming {
+            level,
+            from: FIRST_PLACE,
+            count: 0,
+            levels: 0,
+            apart: 0,
+            gaps: Gaps::unknown(),
+            most: 0,
+        };
         match self.open {
             Some(last) => {
-                let from = lay_out(&self.ring, list);
-                list[from] = last;
-                let bins = Bins {
-                    list: &list[..from + 1],
-                    start: from,
-                    levels: 0,
-                    apart: 0,
-                };
-                self.shut(set, level, bins, scratch, steps);
+                list[FIRST_PLACE] = last;
                 self.open = None;
-                Some(last)
+                let one = Coming {
+                    count: 1,
+                    most: last.a | last.b,
+                    ..none
+                };
+                self.close(set, list, one, scratch, steps)
             }
-            None => None,
+            None => Coming {
+                level: level + 1,
+                levels: 1,
+                ..none
+            },
         }
     }
 }

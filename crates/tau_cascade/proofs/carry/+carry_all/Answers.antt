@@ -1,12 +1,8 @@
-use Rattle.std.{proofs.Common.{◌≡◌, ℕ, ◌+◌, ◌<◌, List, ◌∷◌, ◌++◌, map, add-one, rules, arith}, proofs.Math.Logic.∥∥₁_map}
+use Rattle.std.{proofs.Common.{ℕ, ◌+◌, ◌<◌, List, ◌∷◌, ◌++◌, add-one, rules, arith}, proofs.Math.Logic.∥∥₁_map}
 use Rattle.tally_base.specs.{Settings.{CorrelationView, correlation_view}, Tally.History}
 use Rattle.lag_ring.specs.declared.ring.Entry.{Entry}
-use Rattle.tau_cascade.{specs.{declared.level.{Level.Level, Coming.Coming}, Levels.Chain, Bins.{raised, CanCome, Takes, Carries}, Opens.{coming_bins, closed_bins}}, proofs.{Follows.{can_take, come_on, chain_took}, Passes.raised-again}}
+use Rattle.tau_cascade.{specs.{declared.level.{Level.Level, Coming.Coming}, Levels.Chain, Bins.{CanCome, Takes, Carries}, Opens.{coming_bins, closed_bins}}, proofs.{Follows.{can_take, come_on, chain_took, up_one}}}
 use Rattle.tau_cascade.proofs.carry.+carry_all.Goals as goal
-
--- bins that were closed come to the next level
-up_one : (coming : Coming) (bins : List Entry) → 0 < coming.levels → map (raised 1) (closed_bins coming bins) ≡ coming_bins coming bins
-up_one coming bins some = search (rules, arith, raised-again)
 
 module _ (set : CorrelationView) (level : ℕ) (l l' : Level) (ls : List Level) (es bins : List Entry) (coming : Coming) (some : 0 < coming.levels)
     (follows : Takes set level l l' es (closed_bins coming bins)) (came xs : History) (can : CanCome set level (l ∷ ls) es came xs) where

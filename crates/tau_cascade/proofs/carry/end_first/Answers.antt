@@ -1,7 +1,7 @@
-use Rattle.std.{proofs.Common.{add-one, ℕ, ◌+◌, ◌<◌, List, [], ◌∷◌, length, refl, sym, ap, append-nil, arith, rules, length-append, slice_set}, proofs.lemmas.List.drop-set, proofs.Math.Logic.∥∥₁_map, specs.List.AllByRecursion}
+use Rattle.std.{proofs.Common.{add-one, ℕ, ◌+◌, ◌<◌, List, ◌∷◌, length, ap, arith, rules, length-append}, proofs.Math.Logic.∥∥₁_map}
 use Rattle.tally_base.{specs.Settings.{correlation_view, CorrelationView}, specs.Tally.History}
 use Rattle.lag_ring.specs.declared.ring.Entry.{Entry}
-use Rattle.tau_cascade.{specs.declared.level.Level.Level, specs.Correlation.bin, specs.Levels.{IsBin, CanEnd, CanFinish}, specs.Bins.{stretch, CanCome}, proofs.{Follows.{follow_comes, goes_up}}}
+use Rattle.tau_cascade.{specs.declared.level.Level.Level, specs.Levels.{CanEnd, CanFinish}, specs.Bins.{CanCome, Finished}, specs.Opens.{coming_bins, closed_bins}, specs.declared.level.Coming.Coming, proofs.{Follows.{goes_up, up_one}}, proofs.carry.end_first.Goals.{After-end-next}, proofs.carry.end_first.Given.{Over}}
 use Rattle.tau_cascade.proofs.carry.end_first.Goals as goal
 
 -- the open bins in the end, from level to level
@@ -10,25 +10,29 @@ module _ (set : CorrelationView) (level : ℕ) (l : Level) (ls : List Level) (ca
   can_finish : CanFinish set level l can.chain.0 can.chain.1
   can_finish = record { few = omega (arith, can.few, length-append can.chain.0 can.chain.1, ap length can.chain.2); was = can.chain.3 }
 
-  -- a closed bin may go on to the next level, alone in the list
-  next_come : (e : Entry) (list : List Entry) → 168 < length list → IsBin set level e can.chain.1 → AllByRecursion (λ x. bin level x < e.index) can.chain.0
-      → CanCome set (level + 1) ls (stretch 168 1 1 (slice_set list 168 e)) can.chain.0 can.chain.1
-  next_come e list inside weighs after =
-      let come = follow_comes set level (e ∷ []) can.chain.0 can.chain.1 (can.chain.1, [], sym (append-nil can.chain.1), weighs, after, refl) in
-      rw (add-one, drop-set list 168 e inside) (record { few = can_finish.few; chain = can.chain.4; come = goes_up set level (e ∷ []) can.chain.0 can.chain.1 come })
+  -- the bins that are closed then come to the next level
+  next_come : (l' : Level) (next : Coming) (list : List Entry) → 0 < next.levels → Finished set level l' (closed_bins next list) can.chain.0 can.chain.1
+      → CanCome set (level + 1) ls (coming_bins next list) can.chain.0 can.chain.1
+  next_come l' next list some finished = rw (add-one, ← up_one next list some) (record { few = can_finish.few; chain = can.chain.4; come = goes_up set level _ can.chain.0 can.chain.1 finished.1 })
 
-pub end-ended-requires : goal.end-ended-requires
-end-ended-requires g c = record {
-  room = (search (rules, arith), c.empty-scratch.ensures.0, c.empty-scratch.ensures.1);
+pub end-next-requires : goal.end-next-requires
+end-next-requires g c = record {
+  room = (search (rules, arith), omega arith, c.empty-scratch.ensures.0, c.empty-scratch.ensures.1);
   stands = ∥∥₁_map c.requires.stands (λ w. (w.1.chain.0, w.1.chain.1, can_finish (correlation_view c.args.set.now) c.args.level _ _ w.0 w.1));
 }
 
-pub carry_all-requires-clause-stands : goal.carry_all-requires-clause-stands
-carry_all-requires-clause-stands g c = ∥∥₁_map c.requires.stands (λ w.
-    let end = c.in-Some.ensures.follows w.1.chain.0 w.1.chain.1 (can_finish (correlation_view c.args.set.now) c.args.level _ _ w.0 w.1) in
-    (w.1.chain.0, w.1.chain.1, next_come _ _ _ _ _ w.1 c.in-Some.last c.end-ended.new.list (omega arith) end.1.0 end.1.1))
+module _ (g : Over) (c : After-end-next g) (came : History) (can : CanEnd (correlation_view c.args.set.now) c.args.level (c.args.first.now ∷ c.args.rest.now) came) where
+  finished : Finished (correlation_view c.args.set.now) c.args.level c.end-next.new.self (closed_bins c.end-next.result c.end-next.new.list) can.chain.0 can.chain.1
+  finished = c.end-next.ensures.follows can.chain.0 can.chain.1 (can_finish (correlation_view c.args.set.now) c.args.level _ _ came can)
 
-pub returns-in-Some-clause-rest : goal.returns-in-Some-clause-rest
-returns-in-Some-clause-rest g c = λ came given.
-    let end = c.in-Some.ensures.follows given.chain.0 given.chain.1 (can_finish (correlation_view c.args.set.now) c.args.level _ _ came given) in
-    record { few = given.few; chain = rw given.chain.2 (c.carry_all.ensures.follows given.chain.0 given.chain.1 (next_come _ _ _ _ _ given c.in-Some.last c.end-ended.new.list (omega arith) end.1.0 end.1.1)) }
+  coming : CanCome (correlation_view c.args.set.now) (c.args.level + 1) c.args.rest.now (coming_bins c.end-next.result c.end-next.new.list) can.chain.0 can.chain.1
+  coming = next_come _ _ _ _ _ can _ c.end-next.result c.end-next.new.list c.end-next.ensures.comes.1 finished
+
+pub carry_all-requires-clause-stands : goal.carry_all-requires-clause-stands
+carry_all-requires-clause-stands g c = rw c.end-next.ensures.comes.2 (∥∥₁_map c.requires.stands (λ w. (w.1.chain.0, w.1.chain.1, coming g (goal.at.carry_all-requires-clause-stands g c).After-end-next w.0 w.1)))
+
+pub returns-clause-follows : goal.returns-clause-follows
+returns-clause-follows g c = λ came can.
+    let up = (rw c.end-next.ensures.comes.2 at c.carry_all.ensures.follows) in
+    let at' = (goal.at.returns-clause-follows g c).After-end-next in
+    (rw can.chain.2 (finished g at' came can).0, record { few = can.few; chain = rw can.chain.2 (up can.chain.0 can.chain.1 (coming g at' came can)) })

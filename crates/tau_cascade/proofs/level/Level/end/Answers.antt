@@ -1,43 +1,44 @@
-use Rattle.std.{proofs.Common.{rules}, proofs.Common.{◌≡◌, ◌+◌, ◌<◌, [], ◌∷◌, ◌++◌, length, map, take, drop, refl, arith, slice_set}, proofs.Props.props, proofs.lemmas.Bool.Decides.nat_tests, proofs.Math.Seq.{take-append_seam, drop-append_seam}, proofs.Math.Logic.{∥∥₁_map, ∥∥₁_elim}, proofs.lemmas.List.{take_more_set, length-take-le, length-set}}
-use Rattle.tally_base.specs.Settings.{correlation_view}
-use Rattle.tau_cascade.{specs.Bins.{raised}, proofs.{Paired.occupied_all, Follows.{raised-none, finish_open, finish_shut}, Spread.{spaced-prop, spaced_join}}, proofs.level.Level.end.Goals.{After-lay_out-from}, proofs.level.Level.end.Given.{Over}}
+use Rattle.std.{proofs.Common.{rules, refl, Some, ◌≡◌, ℕ, List, ◌*◌, ◌^◌, ◌<◌, [], ◌∷◌, ◌++◌, length, arith, slice_set}, proofs.Props.props, proofs.Math.Logic.{∥∥₁_map, ∥∥₁_elim}, proofs.lemmas.List.drop-set, specs.List.{AllByRecursion, AllByRecursion-prop}}
+use Rattle.tally_base.specs.{Settings.{CorrelationView, correlation_view}, Tally.History}
+use Rattle.lag_ring.{specs.declared.ring.Entry.Entry, proofs.Rising.all_weaker}
+use Rattle.tau_cascade.{specs.declared.level.Level.Level, specs.Levels.CanFinish, specs.Bins.{stretch, IsSpaced}, proofs.{Paired.occupied_all, Follows.{raised-none, finish_open, finish_shut, follow_comes}, Spread.{spaced-prop, spaced_join}, Onward.{off_grid, is_grid}}}
 use Rattle.tau_cascade.proofs.level.Level.end.Goals as goal
 
-inside : (g : Over) (c : After-lay_out-from g) → c.lay_out-from.result < length c.lay_out-from.new.list
-inside g c = ∥∥₁_elim c.requires.stands (hlevel props) (λ w. omega (arith, w.2.was.has.ring.keeps.within, w.2.was.has.ring.reach, c.args.set.now.some_lags, c.requires.room))
+-- the open bin alone in the list
+alone : (e : Entry) (list : List Entry) → 168 < length list → stretch 168 1 0 (slice_set list 168 e) ≡ e ∷ []
+alone e list inside = rw (raised-none, drop-set list 168 e inside) refl
 
--- the ring's entries and the bin after them
-put : (g : Over) (c : After-lay_out-from g) → map (raised 0) (take (c.lay_out-from.result + 1) (slice_set c.lay_out-from.new.list c.lay_out-from.result c.in-Some.last)) ≡ c.args.self.now.ring.entries ++ c.in-Some.last ∷ []
-put g c = rw (raised-none, take_more_set c.lay_out-from.new.list c.lay_out-from.result c.in-Some.last (inside g c), c.lay_out-from.ensures.entries) refl
+-- it is after the ring's entries
+module _ (set : CorrelationView) (level : ℕ) (l : Level) (e : Entry) (is : l.open ≡ Some e) (closed open' : History) (can : CanFinish set level l closed open') where
+  sorted : IsSpaced 0 (l.ring.entries ++ e ∷ [])
+  sorted = spaced_join _ e [] can.was.has.ring.rising (can.was.has.ring.keeps.bounded _ (finish_open _ _ _ _ is _ _ can).1) (tt, tt)
 
-alone : (g : Over) (c : After-lay_out-from g) → drop c.lay_out-from.result (map (raised 0) (take (c.lay_out-from.result + 1) (slice_set c.lay_out-from.new.list c.lay_out-from.result c.in-Some.last))) ≡ c.in-Some.last ∷ []
-alone g c = rw (put g c, c.lay_out-from.ensures.count) (drop-append_seam c.args.self.now.ring.entries (c.in-Some.last ∷ []))
+  below : e.index < 2 ^ 64 → AllByRecursion (λ f. f.index * 1 < 2 ^ 64) l.ring.entries
+  below fits = all_weaker (λ f. f.index < e.index) (λ f. f.index * 1 < 2 ^ 64) (λ f under. omega arith) l.ring.entries (can.was.has.ring.keeps.bounded _ (finish_open _ _ _ _ is _ _ can).1)
 
-pub shut-requires : goal.shut-requires
-shut-requires g c =
-    let at' = (goal.at.shut-requires g c).After-lay_out-from in
-    let few = inside g at' in
-    let long : length (take (c.lay_out-from.result + 1) (slice_set c.lay_out-from.new.list c.lay_out-from.result c.in-Some.last)) ≡ c.lay_out-from.result + 1 = search (rules, arith, length-take-le, length-set) in
+pub close-requires : goal.close-requires
+close-requires g c =
+    let one = alone c.in-Some.last c.args.list.now (omega arith) in
     record {
-      list = (
-        record {
-          within = omega (arith, long);
-          levels = omega arith;
-          sorted = rw (put g at') (∥∥₁_elim c.requires.stands (spaced-prop _) (λ w.
-              spaced_join _ c.in-Some.last [] w.2.was.has.ring.rising (w.2.was.has.ring.keeps.bounded _ (finish_open _ _ _ _ c.in-Some.is _ _ w.2).1) (tt, tt)));
-        },
-        rw (put g at', c.lay_out-from.ensures.count) (take-append_seam c.args.self.now.ring.entries (c.in-Some.last ∷ [])),
-        λ none. absurd (omega arith),
+      comes = (
+        record { bins = record { places = omega arith; up = omega arith; spaced = λ far. absurd (omega arith); nearer = c.unknown.ensures _ }; up = omega arith; some = omega arith; level = c.requires.room.1; long = search (rules, arith) },
+        rw one (record { grid = off_grid _ [] _ (omega arith) (is_grid _ [] c.requires.room.3.0); dense = omega (arith, c.requires.room.3.1); sorted = (tt, tt); fit = omega arith }),
       );
-      room = search (rules, arith, length-take-le, length-set);
-      grid = search (rules, arith);
-      few = rw (alone g at') (grind (arith, nat_tests, long));
-      stands = rw (alone g at') (∥∥₁_map c.requires.stands (λ w. (w.0, w.1, finish_shut _ _ _ _ c.in-Some.is _ _ w.2)));
+      room = (
+        c.requires.room.2,
+        ∥∥₁_elim c.requires.stands (hlevel props) (λ w. omega (arith, w.2.was.has.ring.keeps.within, w.2.was.has.ring.reach, c.args.set.now.some_lags)),
+        ∥∥₁_elim c.requires.stands (AllByRecursion-prop (λ f. f.index * 1 < 2 ^ 64) (λ f. hlevel props) _) (λ w. below _ _ _ c.in-Some.last c.in-Some.is _ _ w.2 (omega arith)),
+      );
+      bins = rw one (∥∥₁_elim c.requires.stands (spaced-prop _) (λ w. sorted _ _ _ _ c.in-Some.is _ _ w.2), λ on. absurd (omega (arith, c.requires.room.3.1)));
+      stands = rw one (∥∥₁_map c.requires.stands (λ w. (w.0, w.1, finish_shut _ _ _ _ c.in-Some.is _ _ w.2)));
     }
 
 pub returns-in-Some-clause-follows : goal.returns-in-Some-clause-follows
 returns-in-Some-clause-follows g c = λ closed open' can.
-    let one = alone g (goal.at.returns-in-Some-clause-follows g c).After-lay_out-from in
+    let one = alone c.in-Some.last c.args.list.now (omega arith) in
+    let view = correlation_view c.args.set.now in
     let may = finish_shut _ _ _ _ c.in-Some.is closed open' can in
-    let was = finish_open _ _ _ _ c.in-Some.is closed open' can in
-    (record { none = refl; has = record { ring = c.shut.ensures.shuts.ring closed open' (rw one may); cells = c.shut.ensures.shuts.cells closed open' (rw one may); paired = omega (arith, (rw one at c.shut.ensures.shuts.paired), can.was.has.paired, occupied_all (correlation_view c.args.set.now) c.args.level (c.in-Some.last ∷ []) closed open' may.bins) } }, was)
+    let shuts = (rw one at c.close.ensures.shuts) in (
+      record { none = shuts.opened; has = record { ring = shuts.ring closed open' may; cells = shuts.cells closed open' may; paired = omega (arith, shuts.paired, can.was.has.paired, occupied_all view c.args.level (c.in-Some.last ∷ []) closed open' may.bins) } },
+      (rw one at c.close.ensures.comes.3) view c.args.level closed open' (follow_comes view c.args.level (c.in-Some.last ∷ []) closed open' may.bins),
+    )
