@@ -1,5 +1,5 @@
 -- Bins of one index that are neighbours, as they are and merged.
-use Rattle.std.{proofs.Common.{◌≡◌, ◌^◌, ◌&&◌, length-append, append-nil, append_assoc, ◌/◌, ℕ, ◌+◌, ◌-◌, ◌<◌, ◌≤◌, Bool, true, false, cond, eqb, leb, List, [], ◌∷◌, ◌++◌, length, map, take, drop, get_or, refl, sym, ap, ◌∙◌, arith, rules}, specs.List.{sum_by, count_by, filter, AllByRecursion}, proofs.lemmas.Bool.Decides.nat_tests, proofs.Props.props, proofs.Math.Logic.∥∥₁_elim, proofs.Math.Nat.{mul-le-mul_left}, proofs.lemmas.List.{take_rest, take-append-drop, drop-map, length-drop, length-map, get_or-drop, get_or-map}, proofs.lemmas.List.Sums.{sum_by_push, count_by-le-length}}
+use Rattle.std.{proofs.Common.{◌≡◌, ◌^◌, ◌&&◌, length-append, append-nil, append_assoc, ◌/◌, ℕ, ◌+◌, ◌-◌, ◌<◌, ◌≤◌, Bool, true, false, cond, eqb, leb, List, [], ◌∷◌, ◌++◌, length, map, take, drop, get_or, refl, sym, ap, ◌∙◌, arith, rules}, specs.List.{sum_by, count_by, filter, AllByRecursion}, proofs.lemmas.Bool.Decides.nat_tests, proofs.Props.props, proofs.Math.Logic.∥∥₁_elim, proofs.Math.Nat.{mul-le-mul_left}, proofs.lemmas.List.{take_rest, take-append-drop, drop-map, length-drop, length-map, get_or-drop, get_or-map}, proofs.lemmas.List.Sums.{sum_by_push, count_by-le-length, length-filter}}
 use Rattle.lag_ring.{specs.declared.ring.Entry.Entry, specs.Ring.{Ring, ring, IsRising, IsInReach, weight_where}, specs.Cells.{Cells, added_at}, proofs.Lists.all_join, proofs.Rising.{all_weaker, rising_back}, proofs.Sums.sum_by-filter}
 use Rattle.tally_base.{specs.Settings.CorrelationView, specs.Tally.History}
 use Rattle.tau_cascade.{proofs.Close.no_bin, specs.Correlation.{Given, bin, skipped_lags, in_first, in_second}, specs.Levels.{weight_before, RingIs, CellsAre}, specs.Dense.{paired, paired_from}, specs.Bins.{raised, both_of, merged, merged_all, kept_of, stretch, FitCounts, IsSpaced, Follow, CanShutAll}, specs.declared.grid.Grid.Grid, specs.Grid.{Stands, kept_and}, proofs.Gridded.keeps_dense, proofs.Paired.{all_rising, cells_all}, proofs.Keeping.{rising-prop, last_of, ring_all, filter_again, kept_is}}
@@ -162,3 +162,7 @@ module _ {set : CorrelationView} {level skipped : ℕ} {r : Ring} {levels start 
     dense_stands g place on is =
         let prop = rising-prop (kept_and before r.entries g place) in
         ∥∥₁_elim stands (hlevel (props, prop)) (λ w. let kept = dense_near w.0 w.1 w.2 g place on is in (kept.rising, kept.keeps.within, omega (arith, w.2.ring.keeps.within, w.2.ring.reach)))
+
+-- entries that are not before an index are no more than all
+pub fewer : (before : ℕ) (es : List Entry) → length (filter (λ e. leb before e.index) es) ≤ length es
+fewer before es = omega (arith, length-filter (λ e. leb before e.index) es, count_by-le-length (λ e. leb before e.index) es)

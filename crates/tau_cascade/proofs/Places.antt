@@ -9,8 +9,8 @@ abbrev pub AreIn : ℕ → ℕ → List Entry → Type 0
 AreIn base len es = AllByRecursion (λ e. (base ≤ e.index) × (e.index < base + len)) es
 
 -- a place has no more than all photons
-pub weight_at-few : (side : Side) (base p : ℕ) (es : List Entry) → weight_at side 0 base p es ≤ sum_by photons es
-weight_at-few side base p es = search (rules, arith, weight_at-le, sum_by-le-sum_by)
+pub weight_few : (side : Side) (base p : ℕ) (es : List Entry) → weight_at side 0 base p es ≤ sum_by photons es
+weight_few side base p es = search (rules, arith, weight_at-le, sum_by-le-sum_by)
 
 -- the place of a bin so many levels up
 pub has_place : (base levels : ℕ) (es : List Entry) (i : ℕ) → i < length es → AreIn base 4096 (map (raised levels) es)
@@ -53,7 +53,7 @@ module _ (side : Side) (base len : ℕ) (places : List ℕ) (es : List Entry) (h
   at_all p = search (rules, arith, have p, behind p, get_or_past)
 
   places_few : (total : ℕ) → (sum_by photons es ≤ total) × (total < 32768) → (p : ℕ) → IsLow len places p
-  places_few total light p = rw (at_all p) (omega (arith, weight_at-few side base p es, light), behind p)
+  places_few total light p = rw (at_all p) (omega (arith, weight_few side base p es, light), behind p)
 
   -- two places as one
   weight_halved : (low off p : ℕ) → base % 2 ≡ 0 → low + off ≡ base / 2 → (fs : List Entry) → AreIn base len fs

@@ -65,6 +65,7 @@ impl Gaps {
     ghost use Rattle.std.specs.Prelude.{List};
 
     /// Nothing is known.
+    #[tactic(auto, using(crate::proofs::Few::near_zero))]
     pub(crate) fn unknown() -> Gaps
         ensures { (es : List Entry) → near result.usual es ≤ result.nearer }
     {
@@ -116,6 +117,7 @@ pub(crate) fn gather(
 }
 
 /// A distance that no two of these bins fall below, or 0.
+#[tactic(auto, using(crate::proofs::Passes::spaced_one, crate::proofs::Passes::spaced_more))]
 pub(crate) fn spacing(bins: &[Entry]) -> u64
     ensures { 0 < result → IsSpaced result bins.now }
 {
@@ -129,6 +131,7 @@ pub(crate) fn spacing(bins: &[Entry]) -> u64
 /// A distance, at most `apart`, that no two of these bins fall below; or 0 where `apart`, so many levels up, is within
 /// reach of the lags.
 #[inline(always)]
+#[tactic(auto, using(crate::proofs::Passes::spaced_nearer))]
 pub(crate) fn apart_all(bins: &[Entry], apart: u64, levels: u32, lags: u32) -> u64
     requires { levels < 64 }
     ensures { 0 < result → (result ≤ apart) × IsSpaced result bins.now }
@@ -151,6 +154,7 @@ fn joined(apart: bool, was: u64, more: u64) -> u64
 
 /// Merges neighbours of one index, of so many bins of a list from a place on, so many levels up, and answers how many they
 /// are then. They begin at the same place.
+#[tactic(auto, using(crate::proofs::Follows::stretch_more, crate::proofs::Follows::next_fits))]
 pub(crate) fn merge(list: &mut [Entry], from: usize, count: usize, levels: u32) -> usize
     requires places { (0 < count) × (from + count ≤ length list.old) }
     requires levels { levels < 64 }
@@ -206,6 +210,7 @@ pub(crate) fn lay_out(ring: &LagRing, list: &mut [Entry]) -> usize
 
 /// Copies entries, so many levels down, before those of a list from a place on, and answers where they begin.
 #[inline(always)]
+#[tactic(auto, using(crate::proofs::Spread::lower_more, crate::proofs::Spread::lower_done, lag_ring::proofs::Lists::each_at, std::proofs::lemmas::List::take_all))]
 fn lower_before(entries: &[Entry], list: &mut [Entry], from: usize, levels: u32) -> usize
     requires room { (length entries.now ≤ from) × (from ≤ length list.old) × (levels < 64) }
     requires fits { AllByRecursion (λ e. e.index * 2 ^ levels < 2 ^ 64) entries.now }
@@ -246,6 +251,7 @@ pub(crate) fn lower_open(was: &Option<Entry>, list: &mut [Entry], from: usize, l
 /// Puts the entries of a ring before the bins of a list from a place on, so many levels down, and answers where they
 /// begin.
 #[inline(always)]
+#[tactic(auto, using(lag_ring::proofs::Lists::all_back, lag_ring::proofs::Lists::all_front, crate::proofs::Spread::same_behind))]
 pub(crate) fn lower_ring(ring: &LagRing, list: &mut [Entry], from: usize, levels: u32) -> usize
     requires room { (length ring.now.entries ≤ from) × (from ≤ length list.old) × (levels < 64) }
     requires fits { AllByRecursion (λ e. e.index * 2 ^ levels < 2 ^ 64) ring.now.entries }
@@ -261,6 +267,7 @@ pub(crate) fn lower_ring(ring: &LagRing, list: &mut [Entry], from: usize, levels
 
 /// The last of some bins, so many levels up, together with those before it that have its index, and how many are before
 /// them.
+#[tactic(auto, using(crate::proofs::Spread::cut_within, crate::proofs::Spread::cut_more, crate::proofs::Spread::cut_sum))]
 pub(crate) fn cut_last(bins: &[Entry], levels: u32) -> Last
     requires some { (0 < length bins.now) × (levels < 64) }
     requires sorted { IsSpaced 0 (map (raised levels) bins.now) }
@@ -327,6 +334,7 @@ pub(crate) fn first_kept(bins: &[Entry], levels: u32, before: u64) -> usize
 
 /// How many of these bins are nearer than a distance to the one before them.
 #[inline(always)]
+#[tactic(auto, using(crate::proofs::Few::near_at, crate::proofs::Few::near_next, std::proofs::lemmas::List::take_all))]
 fn count_near(bins: &[Entry], distance: u64) -> usize
     ensures { result ≡ near distance bins.now }
 {

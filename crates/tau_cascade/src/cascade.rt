@@ -78,6 +78,7 @@ impl Cascade {
     /// photons, and once it is closed at least a quarter as many, where four places of a grid count as a bin. Those of
     /// which it began a window had at most twice as many; if a bin is too heavy for the window, the list is paired bin by
     /// bin.
+    #[tactic(auto, using(crate::proofs::Work::all_lent, crate::proofs::Work::spent_within))]
     pub fn level(&self, level: u32) -> &PairCells
         requires { level < (set_of self.now).levels }
         ensures cells { cells_at self.now level ≡ Some result.now }

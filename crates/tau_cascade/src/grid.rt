@@ -154,6 +154,7 @@ fn lane_sums(a: &[u16], b: &[u16], rows: usize) -> [u16; LANES]
 
 /// The sum of the products of two parts by place, where that of each lane has 16 bits.
 #[inline(always)]
+#[tactic(auto, using(crate::proofs::Dots::range_more))]
 fn dot_light(a: &[u16], b: &[u16], rows: usize) -> u64
     requires sized { (length a.now ≡ LANES * rows) × (length b.now ≡ LANES * rows) × (rows ≤ SPAN) }
     requires light { ∥ ((most : ℕ) × (most * rows < 2 ^ 16)
@@ -170,6 +171,7 @@ fn dot_light(a: &[u16], b: &[u16], rows: usize) -> u64
 
 /// The same in 64 bits.
 #[inline(always)]
+#[tactic(auto, using(crate::proofs::Dots::range_more))]
 fn dot_heavy(a: &[u16], b: &[u16]) -> u64
     requires sized { (length b.now ≡ length a.now) × (length a.now ≤ SPAN) }
     ensures { result ≡ sum_by (product a.now b.now) (range_with_len 0 (length a.now)) }
@@ -183,6 +185,7 @@ fn dot_heavy(a: &[u16], b: &[u16]) -> u64
 
 /// How many of these places have photons.
 #[inline(always)]
+#[tactic(auto, using(crate::proofs::Dots::range_more))]
 fn count_filled(firsts: &[u16], seconds: &[u16]) -> u16
     requires sized { (length seconds.now ≡ length firsts.now) × (length firsts.now < 2 ^ 16) }
     ensures { result ≡ sum_by (filled firsts.now seconds.now) (range_with_len 0 (length firsts.now)) }
@@ -241,6 +244,7 @@ impl Grid {
     }
 
     /// Takes all bins out.
+    #[tactic(auto, using(crate::proofs::Places::sound, crate::proofs::Places::front_zero))]
     pub(crate) fn clear(&mut self)
         requires { ∥ ((es : List Entry) × Stands self.old es) ∥₁ }
         ensures { IsEmpty self.new }
@@ -252,6 +256,7 @@ impl Grid {
 
     /// Takes the bins of a list, so many levels up, where all have a place, there are at most four places for each, and
     /// each has few photons.
+    #[tactic(auto, using(crate::proofs::Places::from_to, crate::proofs::Close::over, crate::proofs::Close::from_first))]
     fn lay(&mut self, bins: &[Entry], levels: u32)
         requires bins { (0 < length bins.now) × (length bins.now ≤ LIST) × (levels < 64)
             × IsSpaced 0 (map (raised levels) bins.now) }
@@ -275,6 +280,7 @@ impl Grid {
     }
 
     /// Makes one place of two, of which the first is that of the index `low`.
+    #[tactic(auto, using(crate::proofs::Places::sound, crate::proofs::Places::stands_halved))]
     fn halve(&mut self, low: u64, window: &mut [u16; PLACES])
         requires stands { ∥ ((es : List Entry) × Stands self.old es) ∥₁ }
         requires low { (low ≤ self.old.base / 2) × (low % 2 ≡ 0)
@@ -294,6 +300,7 @@ impl Grid {
 
     /// Adds the open bin of a level, where there is one. Where it has no place, or photons may be too many, all bins are
     /// taken out.
+    #[tactic(auto, using(crate::proofs::Places::sound))]
     fn put_open(&mut self, was: &Option<Entry>)
         requires stands { ∥ ((es : List Entry) × Stands self.old es) ∥₁ × (0 < self.old.len) }
         ensures { (es : List Entry) → Stands self.old es → IsGrid self.new (onto was.now es) }
@@ -312,6 +319,7 @@ impl Grid {
     }
 
     /// Takes out the bins of one index, which are after all others.
+    #[tactic(auto, using(crate::proofs::Places::sound))]
     fn cut(&mut self, index: u64)
         requires stands { ∥ ((es : List Entry) × Stands self.old es) ∥₁ }
         requires inside { (self.old.base ≤ index) × (index < self.old.base + self.old.len) }
@@ -344,6 +352,7 @@ impl Grid {
     }
 
     /// Takes all bins out where fewer than one place in eight has photons.
+    #[tactic(auto, using(crate::proofs::Places::sound))]
     fn clear_sparse(&mut self)
         requires { ∥ ((es : List Entry) × Stands self.old es) ∥₁ }
         ensures grid { (es : List Entry) → IsGrid self.old es → IsGrid self.new es }
@@ -393,6 +402,7 @@ impl Grid {
 
     /// Makes one place of two, and adds the open bin, as far back as it is. Where there is no room for it, all bins are
     /// taken out.
+    #[tactic(auto, using(crate::proofs::Places::sound))]
     fn raise(&mut self, was: &Option<Entry>, window: &mut [u16; PLACES])
         requires stands { ∥ ((es : List Entry) × Stands self.old es) ∥₁ × (0 < self.old.len) }
         requires zeros { IsZero window.old }

@@ -37,6 +37,7 @@ pub(crate) struct Laying {
 /// Lays a bin, so many levels up, after another one: as far after it as it is, and no further than just out of reach.
 /// Adds the lowest 16 bits of its weight in the first group to what the window has at its place.
 #[inline(always)]
+#[tactic(auto, using(std::proofs::lemmas::Nat::le_or_l, std::proofs::lemmas::Nat::le_or_r))]
 fn lay_one(window: &mut [u16; PLACES], was: Laying, bin: &Entry, levels: u32, reach: u64) -> Laying
     requires place { (was.place + reach + TOP < PLACES) × (levels < 64)
         × (was.index ≤ bin.now.index / 2 ^ levels) }
@@ -160,6 +161,7 @@ fn add_lanes<const N: usize>(sums: Simd<u16, N>, part: &[u16], times: u16) -> Si
 /// Sums the products of the weights in the second group of bins with those in the window, for some lags.
 /// Sum `q` takes for a bin the place `from + q` after that where it is laid.
 #[inline(always)]
+#[tactic(auto, using(crate::proofs::Close::row_next))]
 fn sum_light<const N: usize>(
     window: &[u16; PLACES],
     places: &[u16],
@@ -185,6 +187,7 @@ fn sum_light<const N: usize>(
 
 /// Adds the same to sums of 32 bits.
 #[inline(always)]
+#[tactic(auto, using(crate::proofs::Close::row_next))]
 fn sum_heavy<const N: usize>(
     sums: &mut [u32; N],
     window: &[u16; PLACES],
@@ -236,6 +239,7 @@ fn sum_laid<const N: usize>(
 
 /// Whether no two bins, so many levels up, are in reach of one another.
 #[inline(always)]
+#[tactic(auto, using(crate::proofs::Passes::spaced_one))]
 fn is_apart(list: &[Entry], levels: u32, lags: u32) -> bool
     requires { levels < 64 }
     ensures { result ≡ true → IsSpaced (lags + 1) (map (raised levels) list.now) }
@@ -252,6 +256,7 @@ fn is_apart(list: &[Entry], levels: u32, lags: u32) -> bool
 /// Adds the pairs of bins with those before them, at the lags of a range, to sums, and answers true. The last sum is that
 /// of the first lag. Where the first bin is further before those than the lags, or bins are too heavy, the answer is
 /// false.
+#[tactic(auto, using(crate::proofs::Passes::paired_apart, crate::proofs::Close::over, crate::proofs::Close::from_first, crate::proofs::Close::under))]
 pub(crate) fn sum_part<const N: usize>(
     sums: &mut [u32; N],
     window: &mut [u16; PLACES],

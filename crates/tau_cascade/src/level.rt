@@ -65,6 +65,7 @@ pub(crate) fn skipped_lags(set: &CorrelationSet, level: u32) -> u32
 /// Puts those bins of a list, so many levels up and merged, that are not before an index into a ring, in place of what it
 /// has. Answers a number of photons that none of them has more of. What is in `spare` is lost.
 #[inline(always)]
+#[tactic(auto, using(crate::proofs::Near::laid_kept, crate::proofs::Near::kept_bins))]
 fn keep(ring: &mut LagRing, list: &[Entry], levels: u32, before: u64, spare: &mut [Entry]) -> u64
     requires list { (levels < 64) × IsSpaced 0 (map (raised levels) list.now) }
     requires some { 0 < length (filter (λ e. nat_le before e.index)
@@ -85,6 +86,7 @@ fn keep(ring: &mut LagRing, list: &[Entry], levels: u32, before: u64, spare: &mu
 /// Puts the bins of a grid from a place on after those of a ring that are not before an index, and takes out the others.
 /// Answers a number of photons that none of them has more of. What is in `spare` is lost.
 #[inline(always)]
+#[tactic(auto, using(crate::proofs::Near::fewer))]
 fn keep_dense(
     ring: &mut LagRing,
     grid: &Grid,
@@ -108,6 +110,7 @@ fn keep_dense(
 /// Merges neighbours of one index among the bins that a level closes, in their list, and answers where they are then. They
 /// stay as they are if they are in a grid, if they are too far apart to share an index, or if at most half of them do and
 /// a window takes them: neither all of them nor a bin of the ring, by `heaviest`, have too many photons for one place.
+#[tactic(auto, using(crate::proofs::Few::alike_merged, crate::proofs::Few::few_apart, crate::proofs::Few::few_share))]
 fn merge_many(list: &mut [Entry], closing: Coming, grid: &Grid, heaviest: u64) -> Coming
     requires comes { IsClosing closing list.old }
     requires bins { CanClose grid.now (coming_bins closing list.old) }

@@ -202,6 +202,7 @@ fn add_each<L: Ledger>(cells: &mut PairCells, count: u32, sums: &[u128], steps: 
 /// Puts the pairs of bins with those before them, at the lags of a range, into sums: over a grid, if they are in one, over
 /// a window in which they are laid close together, or else bin by bin, as only merged ones are. What sums them notes how
 /// many they are, or a quarter as many as the grid has places.
+#[tactic(auto, using(std::proofs::lemmas::Bool::Decides::nat_tests))]
 fn sum_all(
     sums: &mut [u128; MOST_LAGS],
     paired: &mut Pairings,

@@ -1,15 +1,6 @@
 use Rattle.std.{proofs.Common.{refl, rules, arith}, proofs.lemmas.List.{take-set-le, take_more_set, drop-set-add, length-drop}}
-use Rattle.tau_cascade.proofs.{Close.no_bin, Follows.{stretch_more, next_fits, merge_more, byte_small}}
+use Rattle.tau_cascade.proofs.{Close.no_bin, Follows.{merge_more, byte_small}}
 use Rattle.tau_cascade.proofs.bins.merge.Goals as goal
-
-pub loop-at-init : goal.loop-at-init
-loop-at-init c = search (rules, arith, stretch_more, no_bin)
-
-pub joined-a-requires : goal.joined-a-requires
-joined-a-requires c = search (rules, arith, next_fits, no_bin)
-
-pub joined-b-requires : goal.joined-b-requires
-joined-b-requires c = search (rules, arith, next_fits, no_bin)
 
 pub loop-at-preserved : goal.loop-at-preserved
 loop-at-preserved c =

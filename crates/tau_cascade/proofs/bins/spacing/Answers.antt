@@ -1,9 +1,6 @@
 use Rattle.std.proofs.Common.{rules, arith}
-use Rattle.tau_cascade.proofs.Passes.{spaced_one, spaced_more}
+use Rattle.tau_cascade.proofs.Passes.{spaced_more}
 use Rattle.tau_cascade.proofs.bins.spacing.Goals as goal
-
-pub loop-at-init : goal.loop-at-init
-loop-at-init c = λ some. spaced_one _ c.args.bins.now
 
 pub loop-at-preserved : goal.loop-at-preserved
 loop-at-preserved c = λ some.

@@ -1,9 +1,6 @@
-use Rattle.std.proofs.Common.{◌≡◌, ◌∙◌, arith, rules}
-use Rattle.tau_cascade.{specs.Grid.{product}, proofs.Dots.{range_more, range_agree, by_lanes}}
+use Rattle.std.proofs.Common.{◌≡◌, ◌∙◌, arith}
+use Rattle.tau_cascade.{specs.Grid.{product}, proofs.Dots.{range_agree, by_lanes}}
 use Rattle.tau_cascade.proofs.grid.dot_light.Goals as goal
-
-pub loop-q-preserved : goal.loop-q-preserved
-loop-q-preserved c = search (rules, arith, range_more)
 
 pub returns : goal.returns
 returns c =

@@ -1,9 +1,6 @@
 use Rattle.std.{proofs.Common.{rules, arith, map, ◌+◌}, proofs.lemmas.List.{get_or-map, length-map}}
-use Rattle.tau_cascade.{specs.Bins.raised, proofs.Close.no_bin, proofs.Passes.{spaced_one, spaced_more}}
+use Rattle.tau_cascade.{specs.Bins.raised, proofs.Close.no_bin, proofs.Passes.{spaced_more}}
 use Rattle.tau_cascade.proofs.laid.is_apart.Goals as goal
-
-pub loop-at-init : goal.loop-at-init
-loop-at-init c = spaced_one _ (map (raised c.args.levels) c.args.list.now)
 
 pub loop-at-preserved : goal.loop-at-preserved
 loop-at-preserved c =

@@ -1,5 +1,5 @@
 use Rattle.std.proofs.Common.{ℕ, ◌+◌, ◌-◌, get_or, arith, rules}
-use Rattle.tau_cascade.proofs.Close.{no_bin, row_next, row_few, low_all}
+use Rattle.tau_cascade.proofs.Close.{row_few, low_all}
 use Rattle.tau_cascade.proofs.laid.sum_light.Goals as goal
 
 pub add_lanes-sums-requires : goal.add_lanes-sums-requires
@@ -15,6 +15,3 @@ add_lanes-sums-requires g c = (
         omega (arith, few, c.loop-i.invariant.sums q inside, c.requires.few.0, c.loop-i-test.true),
   ),
 )
-
-pub loop-i-preserved : goal.loop-i-preserved
-loop-i-preserved g c = search (rules, arith, row_next, no_bin)

@@ -1,13 +1,7 @@
 use Rattle.std.{proofs.Common.{◌≡◌, ◌∙◌, ℕ, ◌+◌, ◌-◌, ◌≤◌, get_or, map, take, drop, ap, arith, rules}, proofs.lemmas.List.{take_rest, take-append-drop}, proofs.lemmas.Bool.Decides.nat_tests}
 use Rattle.lag_ring.{proofs.Lists.all_back, proofs.Rising.all_weaker}
-use Rattle.tau_cascade.{proofs.Passes.paired_apart, specs.Dense.{placed}, specs.Bins.raised, proofs.Close.{no_bin, laid-paired, light-raised, placed_upto, from_first, under, over, zeros_at}, proofs.laid.sum_part.Goals.{then-light, else-light}}
+use Rattle.tau_cascade.{specs.Dense.{placed}, specs.Bins.raised, proofs.Close.{no_bin, laid-paired, light-raised, placed_upto, from_first, under, over, zeros_at}, proofs.laid.sum_part.Goals.{then-light, else-light}}
 use Rattle.tau_cascade.proofs.laid.sum_part.Goals as goal
-
-pub returns-then-is_apart-clause-sums : goal.returns-then-is_apart-clause-sums
-returns-then-is_apart-clause-sums g c = search (rules, arith, paired_apart)
-
-pub overflow_sub-span : goal.overflow_sub-span
-overflow_sub-span g c = search (rules, arith, over, from_first)
 
 pub lay_all-laying-requires-clause-near : goal.lay_all-laying-requires-clause-near
 lay_all-laying-requires-clause-near g c = search (rules, arith, from_first, no_bin, over, all_weaker, under)

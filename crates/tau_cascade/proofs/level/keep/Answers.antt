@@ -5,9 +5,3 @@ use Rattle.tau_cascade.proofs.level.keep.Goals as goal
 pub merge-count-requires : goal.merge-count-requires
 merge-count-requires c =
     search (rules, arith, laid_kept, kept_bins _ _ _ _ c.requires.list.1 c.first_kept-first.ensures.left c.first_kept-first.ensures.kept, length-map, take_rest)
-
-pub refill-requires : goal.refill-requires
-refill-requires c = search (rules, arith, laid_kept)
-
-pub returns : goal.returns
-returns c = search (rules, arith, laid_kept)

@@ -1,4 +1,3 @@
-use Rattle.std.{proofs.Common.{arith}, proofs.lemmas.Bool.Decides.nat_tests}
 use Rattle.tau_cascade.proofs.pairing.sum_all.Goals as goal
 
 pub sum_each-requires : goal.sum_each-requires
@@ -6,6 +5,3 @@ sum_each-requires c = record { bins = (c.requires.bins.0, rw (c.sum_lanes.ensure
 
 pub returns-clause-sums : goal.returns-clause-sums
 returns-clause-sums c = rw (← c.sum_lanes.ensures.sums.none c.if-sum_lanes.false) c.sum_each.ensures.sums
-
-pub returns-clause-noted : goal.returns-clause-noted
-returns-clause-noted c = grind (arith, nat_tests)

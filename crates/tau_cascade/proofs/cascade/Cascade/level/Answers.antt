@@ -1,6 +1,6 @@
-use Rattle.std.{proofs.Common.{rules, arith}, proofs.Props.props, proofs.Math.Logic.∥∥₁_elim, proofs.lemmas.Option.slice_get_read}
+use Rattle.std.{proofs.Common.{rules}, proofs.Props.props, proofs.Math.Logic.∥∥₁_elim, proofs.lemmas.Option.slice_get_read}
 use Rattle.tally_base.specs.Settings.{correlation_view}
-use Rattle.tau_cascade.{proofs.Shown.{level_count, shown_ring}, proofs.Work.{spent_within, all_lent, level_within}, specs.Correlation.photons_of}
+use Rattle.tau_cascade.{proofs.Shown.{level_count, shown_ring}, proofs.Work.{level_within}, specs.Correlation.photons_of}
 use Rattle.tau_cascade.proofs.cascade.Cascade.level.Goals as goal
 
 pub returns-clause-lags : goal.returns-clause-lags
@@ -13,12 +13,6 @@ pub returns-clause-ring : goal.returns-clause-ring
 returns-clause-ring c = λ r read.
     let t = c.args.self.now in
     ∥∥₁_elim t.stands (hlevel props) (λ w. shown_ring t.closed t.set t.levels.items t.taken t.floor w.0 w.1 c.args.level r read)
-
-pub returns-clause-spent : goal.returns-clause-spent
-returns-clause-spent c = search (rules, arith, all_lent)
-
-pub returns-clause-work : goal.returns-clause-work
-returns-clause-work c = search (rules, arith, spent_within)
 
 pub returns-clause-own : goal.returns-clause-own
 returns-clause-own c = λ h is.
