@@ -3,7 +3,7 @@ use Rattle.std.{proofs.Common.{◌≡◌, ℕ, zero, suc, ◌+◌, ◌<◌, ◌�
 use mir.Val.{bool_byte}
 use Rattle.tally_base.{specs.declared.settings.CorrelationSet.CorrelationSet, specs.Events.{is_photon, is_in}, specs.Settings.{CorrelationView, correlation_view}, specs.Tally.{History, greatest_time, floor_after, InOrder, moves_floor}, specs.Limits.record_limit, specs.declared.block.Block.Block, specs.Columns.{rows, event_at, code_at, groups_at, gathered, events_in}, proofs.Floors.{moves_row, order-front, order-last, greatest-rows}, proofs.BlockRows.length-rows}
 use Rattle.lag_ring.{specs.declared.ring.Entry.Entry, proofs.Lists.{all_both, all_filter, all_passed}, proofs.Rising.all_weaker}
-use Rattle.tau_cascade.{specs.declared.level.Level.Level, specs.Correlation.{Given, bin, in_first, in_second, photons_of}, specs.StandsFor.StandsFor, specs.Levels.{Chain, CanEnd, Complete}, specs.Bins.{raised, bin_of, photon_bins, Come, CanCome, CanGiveBlock}, proofs.Follows.{come_push, raised-none}}
+use Rattle.tau_cascade.{specs.declared.level.Level.Level, specs.Correlation.{Given, bin, in_first, in_second, photons_of}, specs.StandsFor.StandsFor, specs.Levels.{Chain, CanEnd}, specs.Bins.{raised, bin_of, photon_bins, Come, CanCome, CanGiveBlock}, proofs.Follows.{come_push, raised-none}}
 
 -- What an event does to the photons of the two groups.
 
@@ -45,7 +45,7 @@ none_before set h time after = search (rules, arith, all_weaker, bin-zero, none_
 pub may_end : (closed : Bool) → closed ≡ false → (set : CorrelationSet) (ls : List Level) (count time : ℕ) (h : History) → StandsFor closed set ls count time h → count ≤ record_limit → CanEnd (correlation_view set) 0 ls (photons_of (correlation_view set) h)
 may_end closed still set ls count time h is few = search (rules, arith, false≢true, few_photons)
 
-pub end_counts : (closed : Bool) → closed ≡ false → (set : CorrelationSet) (ls ls' : List Level) (count time : ℕ) (h : History) → StandsFor closed set ls count time h → Complete (correlation_view set) 0 ls' (photons_of (correlation_view set) h) → StandsFor true set ls' count time h
+pub end_counts : (closed : Bool) → closed ≡ false → (set : CorrelationSet) (ls ls' : List Level) (count time : ℕ) (h : History) → StandsFor closed set ls count time h → Chain true (correlation_view set) 0 ls' (photons_of (correlation_view set) h) → StandsFor true set ls' count time h
 end_counts closed still set ls ls' count time h is through = record { taken = is.taken; floor = is.floor; through = through }
 
 -- the weight of an event of a block
@@ -106,7 +106,7 @@ may_give_block closed still set ls count time h b is few order = search (rules, 
 -- what it stands for then
 pub block_counts : (closed : Bool) → closed ≡ false → (set : CorrelationSet) (ls ls' : List Level) (count time : ℕ) (h : History) (b : Block 1024)
     → StandsFor closed set ls count time h → InOrder false time (gathered b)
-    → Chain (correlation_view set) 0 ls' (photons_of (correlation_view set) (h ++ events_in b))
+    → Chain false (correlation_view set) 0 ls' (photons_of (correlation_view set) (h ++ events_in b))
     → StandsFor closed set ls' (count + b.len) (floor_after false time (gathered b)) (h ++ events_in b)
 block_counts closed still set ls ls' count time h b is order through = search (rules, arith, false≢true, length-append, length-rows, greatest-rows)
 

@@ -137,7 +137,7 @@ module _ (set : CorrelationView) (level : ℕ) (l : Level) (ls : List Level) (es
     come_on = (let all = ap length all_that_came in search (rules, arith, all, length-append, goes_up))
 
     pub chain_took : (ls' : List Level) → ((came' xs' : History) → CanCome set (level + 1) ls (map (raised 1) shut) came' xs'
-        → Chain set (level + 1) ls' (came' ++ xs')) → Chain set level (l' ∷ ls') (came ++ xs)
+        → Chain false set (level + 1) ls' (came' ++ xs')) → Chain false set level (l' ∷ ls') (came ++ xs)
     chain_took ls' above = grind (arith, common_steps, add-one, come_on, all_that_came)
 
 -- A whole `Vec` that was lent as a slice.

@@ -1,8 +1,8 @@
 -- A level's additions are at most its lags times its occupied bins, and those at a lag at most its occupied bins.
 use Rattle.tally_base.{specs.declared.settings.CorrelationSet.CorrelationSet, specs.Settings.{CorrelationView, correlation_view}, specs.Tally.History}
-use Rattle.tau_cascade.{specs.declared.level.Level.Level, specs.declared.cascade.Cascade.Cascade, specs.Cascade.{Holds, set_of, spent_by, added_below}, specs.StandsFor.{StandsFor, WentThrough}, specs.Correlation.{bin, lag_count, correlation}, specs.Work.{occupied, IsWithinLevelWork, IsPaired, lags_at, work_from, work, appears, distinct}, specs.Levels.{Chain, Complete, CellsAre, PairsMore, spent}}
-use Rattle.std.{proofs.Common.{rules, ◌≡◌, ℕ, zero, suc, ◌+◌, ◌*◌, ◌%◌, ◌<◌, ◌≤◌, take, slice_get, Bool, true, false, List, [], ◌∷◌, ◌++◌, length, map, sym, ap, ◌∙◌, refl, append_assoc, append-nil, zero-add, add-zero, Some, arith, cond, ◌||◌, eqb}, proofs.Math.Nat.mul-le-mul_left, specs.Option.{option_map, option_map_or}, proofs.lemmas.Grind.common_steps, proofs.lemmas.List.{map-append, take_all, length-map}, proofs.lemmas.List.Sums.{sum_by-cons, sum_by-le, count_by-le-length}, specs.List.{AllByRecursion}, specs.Bool.{⊤}}
-use Rattle.lag_ring.{specs.Pairings.{Paired, paired_by}, proofs.Lists.{all_map}}
+use Rattle.tau_cascade.{specs.declared.level.Level.Level, specs.declared.cascade.Cascade.Cascade, specs.Cascade.{Holds, set_of, spent_by, added_below}, specs.StandsFor.StandsFor, specs.Correlation.{bin, lag_count, correlation, photons_of}, specs.Work.{occupied, IsWithinLevelWork, IsPaired, lags_at, work_from, work, appears, distinct}, specs.Levels.{Chain, RestIs, ClosedAre, spent}}
+use Rattle.std.{proofs.Common.{rules, ◌≡◌, ℕ, zero, suc, ◌+◌, ◌*◌, ◌%◌, ◌<◌, ◌≤◌, take, slice_get, Bool, true, false, List, [], ◌∷◌, ◌++◌, length, map, sym, ap, ◌∙◌, refl, append_assoc, append-nil, zero-add, add-zero, Some, None, Option, arith, cond, ◌||◌, eqb}, proofs.Math.Nat.mul-le-mul_left, specs.Option.{option_map, option_map_or}, proofs.lemmas.Grind.common_steps, proofs.lemmas.Bool.false≢true, proofs.lemmas.List.{map-append, take_all, length-map}, proofs.lemmas.List.Sums.{sum_by-cons, sum_by-le, count_by-le-length}, specs.List.{AllByRecursion}}
+use Rattle.lag_ring.{specs.declared.ring.Entry.Entry, proofs.Lists.{all_map}}
 
 -- How many different numbers a list has.
 
@@ -46,53 +46,61 @@ occupied-le level all front back same = rw (same, map-append (bin level) front b
 even_lags : (set : CorrelationView) (level : ℕ) → set.lags % 2 ≡ 0 → lag_count set level ≡ lags_at set level
 even_lags set level even = grind (arith, common_steps)
 
-one_level : (set : CorrelationView) (level : ℕ) (l : Level) (all front back : History)
-    → all ≡ front ++ back → CellsAre set level l.cells front → IsWithinLevelWork set level l.cells all
-one_level set level l all front back same cells =
-    let fewer = occupied-le level all front back same in
-    record { all = omega (arith, cells.counts.work, mul-le-mul_left (lag_count set level) fewer); each = λ p. omega (arith, cells.each p, fewer) }
+-- at the end nothing is open, and nothing came after what is in closed bins
+ends : (ended : Bool) (set : CorrelationView) (level : ℕ) (o : Option Entry) (closed open' : History) → RestIs set level ended o closed open' → ended ≡ true → (open' ≡ []) × (o ≡ None)
+ends false set level o closed open' is shut = absurd (false≢true shut)
+ends true set level o closed open' is shut = (is.1, is.0)
 
-open_level : (level : ℕ) (paired : Paired) (all front back : History) → all ≡ front ++ back → PairsMore (paired_by 0 0) paired (occupied level front) → IsPaired false paired (occupied level all)
-open_level level paired all front back same are = (let more = occupied-le level all front back same in record { few = omega (arith, are, more); windows = omega (arith, are, more); all = λ closed. cc })
+-- what a level has of the photons that came to one below it
+pub record Reached (ended : Bool) (set : CorrelationView) (level : ℕ) (l : Level) (came : History) : Type 0 where
+  pub closed : History
+  pub rest : History
+  pub split : came ≡ closed ++ rest
+  pub has : ClosedAre set level l.ring l.cells l.paired closed
+  pub end : ended ≡ true → (rest ≡ []) × (l.open ≡ None)
 
--- each level's additions are within its own work, and the bins that it paired
-abbrev AreWithin : Bool → CorrelationView → ℕ → List Level → History → Type 0
-AreWithin closed set level [] all = ⊤
-AreWithin closed set level (l ∷ ls) all = IsWithinLevelWork set level l.cells all × IsPaired closed l.paired (occupied level all) × AreWithin closed set (suc level) ls all
+reach : (ended : Bool) (set : CorrelationView) (level : ℕ) (ls : List Level) (came : History) → Chain ended set level ls came → (i : ℕ) (l : Level) → slice_get ls i ≡ Some l → Reached ended set (level + i) l came
+reach ended set level [] came chain i l read = cc
+reach ended set level (x ∷ ls) came chain zero l read =
+    let same : x ≡ l = cc in
+    rw (add-zero, ← same) (record { closed = chain.0; rest = chain.1; split = chain.2; has = chain.3.has; end = ends ended set level x.open chain.0 chain.1 chain.3.opened })
+reach ended set level (x ∷ ls) came chain (suc i) l read =
+    let one : level + suc i ≡ suc level + i = omega arith in
+    let above = reach ended set (suc level) ls chain.0 chain.4 i l read in
+    rw one (record {
+      closed = above.closed;
+      rest = above.rest ++ chain.1;
+      split = chain.2 ∙ ap (λ xs. xs ++ chain.1) above.split ∙ append_assoc above.closed above.rest chain.1;
+      has = above.has;
+      end = λ shut. (rw ((above.end shut).0, (ends ended set level x.open chain.0 chain.1 chain.3.opened shut).0) refl, (above.end shut).1);
+    })
 
-open_within : (set : CorrelationView) (level : ℕ) (ls : List Level) (all came later : History) → all ≡ came ++ later → Chain set level ls came → AreWithin false set level ls all
-open_within set level [] all came later same chain = tt
-open_within set level (l ∷ ls) all came later same chain =
-    let split : all ≡ chain.0 ++ (chain.1 ++ later) = same ∙ ap (λ xs. xs ++ later) chain.2 ∙ append_assoc chain.0 chain.1 later in
-    (one_level set level l all chain.0 (chain.1 ++ later) split chain.3.has.cells, open_level level l.paired all chain.0 (chain.1 ++ later) split chain.3.has.paired, open_within set (suc level) ls all chain.0 (chain.1 ++ later) split chain.4)
+pub level_at : (ended : Bool) (set : CorrelationView) (ls : List Level) (came : History) → Chain ended set 0 ls came → (i : ℕ) (l : Level) → slice_get ls i ≡ Some l → Reached ended set i l came
+level_at ended set ls came chain i l read = (rw zero-add at (reach ended set 0 ls came chain i l read))
 
-shut_within : (set : CorrelationView) (level : ℕ) (ls : List Level) (all : History) → Complete set level ls all → AreWithin true set level ls all
-shut_within set level [] all is = tt
-shut_within set level (l ∷ ls) all is = search (rules, arith, one_level, append-nil, shut_within set (suc level) ls all is.1)
+pub level_within : (ended : Bool) (set : CorrelationView) (ls : List Level) (xs : History) → Chain ended set 0 ls xs → (i : ℕ) (l : Level) → slice_get ls i ≡ Some l → IsWithinLevelWork set i l.cells xs × IsPaired ended l.paired (occupied i xs)
+level_within ended set ls xs chain i l read =
+    let at = level_at ended set ls xs chain i l read in
+    let more = occupied-le i xs at.closed at.rest at.split in
+    let all : ended ≡ true → occupied i xs ≡ occupied i at.closed = λ shut. ap (occupied i) (at.split ∙ ap (λ ys. at.closed ++ ys) (at.end shut).0 ∙ append-nil at.closed) in (
+      record { all = omega (arith, at.has.cells.counts.work, mul-le-mul_left (lag_count set i) more); each = λ p. omega (arith, at.has.cells.each p, more) },
+      record { few = omega (arith, at.has.paired, more); windows = omega (arith, at.has.paired, more); all = λ shut. omega (arith, at.has.paired, all shut) },
+    )
 
-all_within : (closed : Bool) (set : CorrelationView) (ls : List Level) (xs : History) → WentThrough closed set ls xs → AreWithin closed set 0 ls xs
-all_within false set ls xs is = open_within set 0 ls xs xs [] (sym (append-nil xs)) is
-all_within true set ls xs is = shut_within set 0 ls xs is
-
-within_at : (closed : Bool) (set : CorrelationView) (level : ℕ) (ls : List Level) (all : History) → AreWithin closed set level ls all → (i : ℕ) (l : Level) → slice_get ls i ≡ Some l → IsWithinLevelWork set (level + i) l.cells all × IsPaired closed l.paired (occupied (level + i) all)
-within_at closed set level [] all are i l read = cc
-within_at closed set level (x ∷ ls) all are zero l read = let same : x ≡ l = cc in rw (add-zero, ← same) (are.0, are.1)
-within_at closed set level (x ∷ ls) all are (suc i) l read = (let one : level + suc i ≡ suc level + i = omega arith in rw one (within_at closed set (suc level) ls all are.2 i l read))
-
-pub level_within : (closed : Bool) (set : CorrelationView) (ls : List Level) (xs : History)
-    → WentThrough closed set ls xs → (i : ℕ) (l : Level) → slice_get ls i ≡ Some l → IsWithinLevelWork set i l.cells xs × IsPaired closed l.paired (occupied i xs)
-level_within closed set ls xs is i l read = (rw zero-add at (within_at closed set 0 ls xs (all_within closed set ls xs is) i l read))
-
-spent_all : (closed : Bool) (set : CorrelationView) → set.lags % 2 ≡ 0 → (level : ℕ) (ls : List Level) (all : History) → AreWithin closed set level ls all → spent ls ≤ work_from set level (length ls) all
-spent_all closed set even level [] all are = omega arith
-spent_all closed set even level (l ∷ ls) all are =
-    let own : l.cells.added ≤ lags_at set level * occupied level all = rw (← even_lags set level even) are.0.all in
-    rw (sum_by-cons (λ (l : Level). l.cells.added) l ls) (omega (arith, own, spent_all closed set even (suc level) ls all are.2))
+spent_all : (ended : Bool) (set : CorrelationView) → set.lags % 2 ≡ 0 → (level : ℕ) (ls : List Level) (all came later : History) → all ≡ came ++ later → Chain ended set level ls came → spent ls ≤ work_from set level (length ls) all
+spent_all ended set even level [] all came later split chain = omega arith
+spent_all ended set even level (l ∷ ls) all came later split chain =
+    let parts : all ≡ chain.0 ++ (chain.1 ++ later) = split ∙ ap (λ xs. xs ++ later) chain.2 ∙ append_assoc chain.0 chain.1 later in
+    let own : l.cells.added ≤ lags_at set level * occupied level all =
+    rw (← even_lags set level even) (omega (arith, chain.3.has.cells.counts.work, mul-le-mul_left (lag_count set level) (occupied-le level all chain.0 (chain.1 ++ later) parts))) in
+    rw (sum_by-cons (λ (l : Level). l.cells.added) l ls) (omega (arith, own, spent_all ended set even (suc level) ls all chain.0 (chain.1 ++ later) parts chain.4))
 
 -- whatever events a correlation stands for, its additions are within their work
 pub spent_within : (closed : Bool) (set : CorrelationSet) (ls : List Level) (count time : ℕ) (h : History)
     → length ls ≡ set.levels → StandsFor closed set ls count time h → spent ls ≤ work (correlation_view set) h
-spent_within closed set ls count time h sized is = search (rules, arith, spent_all, all_within)
+spent_within closed set ls count time h sized is =
+    let xs = photons_of (correlation_view set) h in
+    rw (← sized) (spent_all closed (correlation_view set) set.even_lags 0 ls xs xs [] (sym (append-nil xs)) is.through)
 
 -- one level more
 level_more : (ls : List Level) (n : ℕ) → n < length ls

@@ -1,8 +1,8 @@
 -- Bins that come to a level one after the other, and those that it closes.
-use Rattle.std.{specs.Prelude.{◌≡◌, ℕ, ◌+◌, ◌-◌, ◌/◌, ◌^◌, ◌<◌, ◌≤◌, ◌==◌, ⊤, false, Option, None, Some, List, [], ◌∷◌, ◌++◌, map, take, drop, length, filter, nat_le, nat_lt, sum_by, if◌then◌else◌}, specs.List.{AllByRecursion}}
+use Rattle.std.{specs.Prelude.{◌≡◌, true, ℕ, ◌+◌, ◌-◌, ◌/◌, ◌^◌, ◌<◌, ◌≤◌, ◌==◌, ⊤, false, Option, None, Some, List, [], ◌∷◌, ◌++◌, map, take, drop, length, filter, nat_le, nat_lt, sum_by, if◌then◌else◌}, specs.List.{AllByRecursion}}
 use Rattle.tally_base.{specs.Settings.CorrelationView, specs.Tally.{History, greatest_time, InOrder}, specs.Limits.record_limit, specs.declared.block.Block.Block, specs.Columns.{gathered, events_in}}
 use Rattle.lag_ring.{specs.declared.ring.Entry.Entry, specs.Ring.{Ring, IsRising}, specs.Cells.Cells}
-use Rattle.tau_cascade.{specs.declared.level.Level.Level, specs.Correlation.{Given, bin, in_first, in_second, photons_of}, specs.Levels.{IsBin, LevelIs, LevelDone, RingIs, CellsAre, Chain, PairsMore}}
+use Rattle.tau_cascade.{specs.declared.level.Level.Level, specs.Correlation.{Given, bin, in_first, in_second, photons_of}, specs.Levels.{IsBin, LevelIs, RingIs, CellsAre, Chain, PairsMore}}
 
 -- the bin so many levels up in which a bin lies
 abbrev pub raised : ℕ → Entry → Entry
@@ -83,13 +83,13 @@ module _ (set : CorrelationView) (level : ℕ) where
   -- photons xs may come in these bins
   pub record CanTake (l : Level) (es : List Entry) (closed open' xs : History) : Type 0 where
     pub few : length closed + length open' + length xs ≤ record_limit
-    pub was : LevelIs set level l closed open'
+    pub was : LevelIs set level false l closed open'
     pub come : Come (closed ++ open') es xs
 
   -- they came: those of `done` are in bins that were closed, and those of `now` in the open one
   pub record Took (l : Level) (shut : List Entry) (closed open' xs done now : History) : Type 0 where
     pub all : open' ++ xs ≡ done ++ now
-    pub is : LevelIs set level l (closed ++ done) now
+    pub is : LevelIs set level false l (closed ++ done) now
     pub bins : Come closed shut done
 
   -- Photons came in these bins after any that they may come after, and the bins `shut` were closed.
@@ -99,7 +99,7 @@ module _ (set : CorrelationView) (level : ℕ) where
 
   -- all that came is in closed bins, and what was in the open one comes in these
   abbrev pub Finished : Level → List Entry → History → History → Type 0
-  Finished l es closed open' = LevelDone set level l (closed ++ open') × Come closed es open'
+  Finished l es closed open' = LevelIs set level true l (closed ++ open') [] × Come closed es open'
 
   -- This holds of the photons of closed bins together with those of bins that may be closed after them.
   abbrev pub HoldsOfAll : Ring → Cells → List Entry → (History → Type 0) → Type 0
@@ -125,17 +125,17 @@ pub record AreAlike (es fs : List Entry) : Type 0 where
 -- photons xs may come in these bins to a level and those above it
 pub record CanCome (set : CorrelationView) (level : ℕ) (ls : List Level) (es : List Entry) (came xs : History) : Type 0 where
   pub few : length came + length xs ≤ record_limit
-  pub chain : Chain set level ls came
+  pub chain : Chain false set level ls came
   pub come : Come set level came es xs
 
 -- Photons came in these bins to a level and those above it, after any that they may come after.
 abbrev pub Carries : CorrelationView → ℕ → List Level → List Level → List Entry → Type 0
-Carries set level old new es = (came xs : History) → CanCome set level old es came xs → Chain set level new (came ++ xs)
+Carries set level old new es = (came xs : History) → CanCome set level old es came xs → Chain false set level new (came ++ xs)
 
 -- the events of a block may be given, after those that were
 pub record CanGiveBlock (set : CorrelationView) (ls : List Level) (block : Block 1024) (h : History) : Type 0 where
   pub few : length h + length (events_in block) ≤ record_limit
-  pub chain : Chain set 0 ls (photons_of set h)
+  pub chain : Chain false set 0 ls (photons_of set h)
   pub order : InOrder false (greatest_time false h) (gathered block)
 
 -- the weights of all bins together fit in a count

@@ -1,7 +1,7 @@
 -- What holds of every correlation.
 use Rattle.std.{proofs.Common.{◌≡◌, ℕ, suc, ◌+◌, ◌-◌, ◌*◌, ◌/◌, ◌%◌, ◌≤◌, Bool, true, false, cond, List, [], ◌∷◌, ◌++◌, ◌&&◌, ◌||◌, ◌∙◌, ap, subst, length, arith, rules}, specs.Prelude.{is_some}, specs.List.sum_by, proofs.Math.Logic.∥∥₁_elim, proofs.Props.props, proofs.lemmas.List.Sums.sum_by-cons}
 use Rattle.tally_base.{specs.declared.event.Event.Event, specs.Events.{is_photon, is_in}, specs.declared.settings.CorrelationSet.CorrelationSet, specs.Settings.{CorrelationView, correlation_view, entries}, specs.Tally.History, proofs.Sorted.{same_length, same_greatest, same_filter}}
-use Rattle.tau_cascade.{specs.declared.cascade.Cascade.Cascade, specs.declared.level.Level.Level, specs.Cascade.{Holds, settings}, specs.Correlation.{in_first, in_second, lag_count, photons_of}, specs.StandsFor.{WentThrough, entries_of}, specs.Levels.{Chain, Complete, RingIs, CellsAre}}
+use Rattle.tau_cascade.{specs.declared.cascade.Cascade.Cascade, specs.declared.level.Level.Level, specs.Cascade.{Holds, settings}, specs.Correlation.{in_first, in_second, lag_count, photons_of}, specs.StandsFor.entries_of, specs.Levels.{Chain, RingIs, CellsAre}}
 
 level_bound : (set : CorrelationView) (level : ℕ) (l : Level) (came : History) → RingIs set level l.ring came → CellsAre set level l.cells came → entries_of l ≤ set.lags + lag_count set level + 1
 level_bound set level l came ring cells = elim (is_some l.open) as (λ b. length l.ring.entries + length l.cells.cells + cond b 1 0 ≤ set.lags + lag_count set level + 1) [ true ↦ omega (arith, ring.reach, ring.keeps.within, cells.counts.count) | false ↦ omega (arith, ring.reach, ring.keeps.within, cells.counts.count) ]
@@ -15,13 +15,9 @@ above_bound set level l came ring cells = let fits = level_bound set (suc level)
 more_bound : (a b c n : ℕ) → a ≤ c → b ≤ n * c → a + b ≤ suc n * c
 more_bound a b c n first rest = grind arith
 
-upper_open : (set : CorrelationView) (level : ℕ) (ls : List Level) (came : History) → Chain set (suc level) ls came → sum_by entries_of ls ≤ length ls * (set.lags + (set.lags - set.lags / 2) + 1)
-upper_open set level [] came is = omega arith
-upper_open set level (l ∷ ls) came is = rw (sum_by-cons entries_of l ls) (more_bound _ _ _ (length ls) (above_bound set level l is.0 is.3.has.ring is.3.has.cells) (upper_open set (suc level) ls is.0 is.4))
-
-upper_closed : (set : CorrelationView) (level : ℕ) (ls : List Level) (came : History) → Complete set (suc level) ls came → sum_by entries_of ls ≤ length ls * (set.lags + (set.lags - set.lags / 2) + 1)
-upper_closed set level [] came is = omega arith
-upper_closed set level (l ∷ ls) came is = rw (sum_by-cons entries_of l ls) (more_bound _ _ _ (length ls) (above_bound set level l came is.0.has.ring is.0.has.cells) (upper_closed set (suc level) ls came is.1))
+upper_bound : (ended : Bool) (set : CorrelationView) (level : ℕ) (ls : List Level) (came : History) → Chain ended set (suc level) ls came → sum_by entries_of ls ≤ length ls * (set.lags + (set.lags - set.lags / 2) + 1)
+upper_bound ended set level [] came is = omega arith
+upper_bound ended set level (l ∷ ls) came is = rw (sum_by-cons entries_of l ls) (more_bound _ _ _ (length ls) (above_bound set level l is.0 is.3.has.ring is.3.has.cells) (upper_bound ended set (suc level) ls is.0 is.4))
 
 bound_sum : (a b m n levels : ℕ) → m % 2 ≡ 0 → suc n ≡ levels → a ≤ m + m + 1 → b ≤ n * (m + (m - m / 2) + 1) → a + b ≤ levels * (m + 1) + m + (levels - 1) * (m / 2)
 bound_sum a b m n levels even count first rest =
@@ -29,10 +25,9 @@ bound_sum a b m n levels even count first rest =
     let more : b ≤ n * (m + m / 2 + 1) = (rw half at rest) in
     rw (← count) (grind arith)
 
-stands_bound : (closed : Bool) (set : CorrelationSet) (ls : List Level) (came : History) → length ls ≡ set.levels → WentThrough closed (correlation_view set) ls came → sum_by entries_of ls ≤ set.levels * (set.lags + 1) + set.lags + (set.levels - 1) * (set.lags / 2)
+stands_bound : (closed : Bool) (set : CorrelationSet) (ls : List Level) (came : History) → length ls ≡ set.levels → Chain closed (correlation_view set) 0 ls came → sum_by entries_of ls ≤ set.levels * (set.lags + 1) + set.lags + (set.levels - 1) * (set.lags / 2)
 stands_bound closed set [] came sized is = absurd (omega (arith, set.some_levels))
-stands_bound true set (l ∷ ls) came sized is = rw (sum_by-cons entries_of l ls) (bound_sum _ _ set.lags (length ls) set.levels set.even_lags sized (first_bound (correlation_view set) l came is.0.has.ring is.0.has.cells) (upper_closed (correlation_view set) 0 ls came is.1))
-stands_bound false set (l ∷ ls) came sized is = rw (sum_by-cons entries_of l ls) (bound_sum _ _ set.lags (length ls) set.levels set.even_lags sized (first_bound (correlation_view set) l is.0 is.3.has.ring is.3.has.cells) (upper_open (correlation_view set) 0 ls is.0 is.4))
+stands_bound closed set (l ∷ ls) came sized is = rw (sum_by-cons entries_of l ls) (bound_sum _ _ set.lags (length ls) set.levels set.even_lags sized (first_bound (correlation_view set) l is.0 is.3.has.ring is.3.has.cells) (upper_bound closed (correlation_view set) 0 ls is.0 is.4))
 
 pub within_bound : (t : Cascade) → sum_by entries_of t.levels.items ≤ entries (settings t)
 within_bound t =
@@ -46,5 +41,5 @@ marker_groups t h e groups marker is =
     record {
       taken = is.taken ∙ same_length h e groups;
       floor = is.floor ∙ same_greatest false h e groups;
-      through = subst (λ xs. WentThrough t.closed set t.levels.items xs) same is.through;
+      through = subst (λ xs. Chain t.closed set 0 t.levels.items xs) same is.through;
     }

@@ -1,5 +1,5 @@
 // One level: its open bin, the ring of its last closed bins, and its cells.
-ghost use Rattle.std.{specs.Prelude.{true, ◌≡◌, ◌+◌, ◌-◌, ◌*◌, ◌^◌, ◌<◌, ◌≤◌, filter, length, nat_le, take, drop, [], ◌++◌, IfOk, map}, specs.List.AllByRecursion};
+ghost use Rattle.std.{specs.Prelude.{true, false, ◌≡◌, ◌+◌, ◌-◌, ◌*◌, ◌^◌, ◌<◌, ◌≤◌, filter, length, nat_le, take, drop, [], ◌++◌, IfOk, map}, specs.List.AllByRecursion};
 ghost use Rattle.lag_ring.specs.Ring.{IsRising, ring as ring_of};
 ghost use Rattle.tally_base.{specs.Settings.correlation_view, specs.Tally.History};
 ghost use Rattle.tau_cascade.{specs.Correlation.skipped_lags, specs.Bins.{raised, merged_at, merged_all, kept_of, FitCounts, IsSpaced, AreAlike, ComeAlike}, specs.Dense.{bins_of, AreBins, IsZero}, specs.Grid.{IsEmpty, IsGrid, FewFirsts, CanClose, counted, kept_and}, specs.Opens.{IsComing, coming_bins, closed_bins}, specs.Comes.{HasCome, IsClosing}};
@@ -154,7 +154,7 @@ impl Level {
 
     /// A level to which nothing came, or `AllocError` where there is not enough memory for it.
     pub(crate) fn open(alloc: Global, set: &CorrelationSet, level: u32) -> Result<Level, AllocError>
-        ensures empty { IfOk result (λ l. LevelIs (correlation_view set.now) level l [] []) }
+        ensures empty { IfOk result (λ l. LevelIs (correlation_view set.now) level false l [] []) }
         ensures none { IfOk result (λ l. l.cells.added ≡ 0) }
     {
         Ok(Level {

@@ -1,4 +1,4 @@
-use Rattle.std.{proofs.Common.{ℕ, ◌+◌, ◌<◌, List, ◌∷◌, ◌++◌, add-one, rules, arith}, proofs.Math.Logic.∥∥₁_map}
+use Rattle.std.{proofs.Common.{false, ℕ, ◌+◌, ◌<◌, List, ◌∷◌, ◌++◌, add-one, rules, arith}, proofs.Math.Logic.∥∥₁_map}
 use Rattle.tally_base.specs.{Settings.{CorrelationView, correlation_view}, Tally.History}
 use Rattle.lag_ring.specs.declared.ring.Entry.{Entry}
 use Rattle.tau_cascade.{specs.{declared.level.{Level.Level, Coming.Coming}, Levels.Chain, Bins.{CanCome, Takes, Carries}, Opens.{coming_bins, closed_bins}}, proofs.{Follows.{can_take, come_on, chain_took, up_one}}}
@@ -11,7 +11,7 @@ module _ (set : CorrelationView) (level : ℕ) (l l' : Level) (ls : List Level) 
       let took = follows can.chain.0 can.chain.1 xs (can_take set level l ls es came xs can) in
       (can.chain.0, took.0, rw (add-one, ← up_one coming bins some) (come_on set level l ls es came xs can l' _ took.0 took.1 took.2))
 
-  carried : (ls' : List Level) → Carries set (level + 1) ls ls' (coming_bins coming bins) → Chain set level (l' ∷ ls') (came ++ xs)
+  carried : (ls' : List Level) → Carries set (level + 1) ls ls' (coming_bins coming bins) → Chain false set level (l' ∷ ls') (came ++ xs)
   carried ls' carries =
       let took = follows can.chain.0 can.chain.1 xs (can_take set level l ls es came xs can) in
       chain_took set level l ls es came xs can l' _ took.0 took.1 took.2 ls' (λ came' xs' may. carries came' xs' (rw (← up_one coming bins some) may))

@@ -8,5 +8,5 @@ returns-clause-pairs c = λ shut h is.
     let t = c.args.self.now in
     let inside : c.args.level < length t.levels.items = search rules in
     c.get.ensures.count ∙ cell_is (correlation_view t.set) c.args.level c.args.lag c.skipped_lags.result c.level.result.now h
-    (shown_cells t.closed shut t.set t.levels.items t.taken t.floor h is c.args.level c.level.result.now c.level.ensures.cells)
+    (shown_cells t.closed shut (correlation_view t.set) t.levels.items _ is.through c.args.level c.level.result.now c.level.ensures.cells)
     c.skipped_lags.ensures.skipped c.requires.lag.0 c.requires.lag.1

@@ -1,18 +1,18 @@
 use Rattle.std.{proofs.Common.{rules}, proofs.Props.props, proofs.Math.Logic.∥∥₁_elim, proofs.lemmas.Option.slice_get_read}
 use Rattle.tally_base.specs.Settings.{correlation_view}
-use Rattle.tau_cascade.{proofs.Shown.{level_count, shown_ring}, proofs.Work.{level_within}, specs.Correlation.photons_of}
+use Rattle.tau_cascade.{proofs.Shown.shown_ring, proofs.Work.{level_within, level_at}, specs.Correlation.photons_of}
 use Rattle.tau_cascade.proofs.cascade.Cascade.level.Goals as goal
 
 pub returns-clause-lags : goal.returns-clause-lags
 returns-clause-lags c =
     let t = c.args.self.now in
     let read = slice_get_read t.levels.items t.set.levels c.args.level c.index.result.now (search rules) c.requires c.index.ensures in
-    ∥∥₁_elim t.stands (hlevel props) (λ w. level_count t.closed t.set t.levels.items t.taken t.floor w.0 w.1 c.args.level c.index.result.now read)
+    ∥∥₁_elim t.stands (hlevel props) (λ w. (level_at t.closed (correlation_view t.set) t.levels.items _ w.1.through c.args.level c.index.result.now read).has.cells.counts.count)
 
 pub returns-clause-ring : goal.returns-clause-ring
 returns-clause-ring c = λ r read.
     let t = c.args.self.now in
-    ∥∥₁_elim t.stands (hlevel props) (λ w. shown_ring t.closed t.set t.levels.items t.taken t.floor w.0 w.1 c.args.level r read)
+    ∥∥₁_elim t.stands (hlevel props) (λ w. shown_ring t.closed t.set t.levels.items _ w.1.through c.args.level r read)
 
 pub returns-clause-own : goal.returns-clause-own
 returns-clause-own c = λ h is.

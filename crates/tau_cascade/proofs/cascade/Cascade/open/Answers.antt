@@ -1,4 +1,4 @@
-use Rattle.std.{proofs.Common.{arith, zero-add, rules, ◌≡◌, ℕ, suc, ◌+◌, List, [], ◌∷◌, ◌++◌, length, refl, add-zero}, proofs.lemmas.List.Sums.sum_by_push}
+use Rattle.std.{proofs.Common.{false, arith, zero-add, rules, ◌≡◌, ℕ, suc, ◌+◌, List, [], ◌∷◌, ◌++◌, length, refl, add-zero}, proofs.lemmas.List.Sums.sum_by_push}
 use Rattle.tally_base.specs.Settings.{CorrelationView}
 use Rattle.tau_cascade.{specs.declared.level.Level.Level, specs.Levels.{LevelIs, Chain}}
 use Rattle.tau_cascade.proofs.cascade.Cascade.open.Goals as goal
@@ -9,8 +9,8 @@ nil_left [] ys same = refl
 nil_left (x ∷ xs) ys same = cc
 
 -- one level more, to which nothing came either
-chain_more : (set : CorrelationView) (level : ℕ) (ls : List Level) (l : Level) → Chain set level ls []
-    → LevelIs set (level + length ls) l [] [] → Chain set level (ls ++ l ∷ []) []
+chain_more : (set : CorrelationView) (level : ℕ) (ls : List Level) (l : Level) → Chain false set level ls []
+    → LevelIs set (level + length ls) false l [] [] → Chain false set level (ls ++ l ∷ []) []
 chain_more set level [] l chain is = ([], [], refl, (rw add-zero at is), tt)
 chain_more set level (x ∷ ls) l chain is =
     let none : chain.0 ≡ [] = nil_left chain.0 chain.1 chain.2 in

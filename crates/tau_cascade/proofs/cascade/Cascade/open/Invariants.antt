@@ -1,4 +1,4 @@
-use Rattle.std.proofs.Common.{◌≡◌, [], length}
+use Rattle.std.proofs.Common.{false, ◌≡◌, [], length}
 use Rattle.tally_base.specs.Settings.{correlation_view}
 use Rattle.tau_cascade.specs.Levels.{Chain, spent}
 use Rattle.tau_cascade.proofs.cascade.Cascade.open.Given as goal
@@ -6,6 +6,6 @@ use Rattle.tau_cascade.proofs.cascade.Cascade.open.Given as goal
 abbrev pub invariant-loop-level : goal.invariant-loop-level
 invariant-loop-level l = record {
   count : length l.levels.items ≡ l.level;
-  chain : Chain (correlation_view l.set) 0 l.levels.items [];
+  chain : Chain false (correlation_view l.set) 0 l.levels.items [];
   none : spent l.levels.items ≡ 0;
 }

@@ -39,6 +39,6 @@ returns-in-Some-clause-follows g c = λ closed open' can.
     let view = correlation_view c.args.set.now in
     let may = finish_shut _ _ _ _ c.in-Some.is closed open' can in
     let shuts = (rw one at c.close.ensures.shuts) in (
-      record { none = shuts.opened; has = record { ring = shuts.ring closed open' may; cells = shuts.cells closed open' may; paired = omega (arith, shuts.paired, can.was.has.paired, occupied_all view c.args.level (c.in-Some.last ∷ []) closed open' may.bins) } },
+      record { opened = (shuts.opened, refl); has = record { ring = shuts.ring closed open' may; cells = shuts.cells closed open' may; paired = omega (arith, shuts.paired, can.was.has.paired, occupied_all view c.args.level (c.in-Some.last ∷ []) closed open' may.bins) } },
       (rw one at c.close.ensures.comes.3) view c.args.level closed open' (follow_comes view c.args.level (c.in-Some.last ∷ []) closed open' may.bins),
     )
