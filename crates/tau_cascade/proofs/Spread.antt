@@ -3,7 +3,7 @@ use Rattle.std.{proofs.Common.{rules}, proofs.Common.{◌≡◌, ◌≢◌, ℕ,
 use native.Mathlib.Numerals.{unary_clauses}
 use Rattle.tally_base.{specs.Settings.CorrelationView, specs.Tally.History, specs.Limits.record_limit}
 use Rattle.lag_ring.{specs.declared.ring.Entry.Entry, specs.Pairings.{Paired, paired_by}, specs.Ring.{Ring, IsRising}, proofs.Lists.{all_back, all_join, of_some}, proofs.Rising.all_weaker}
-use Rattle.tau_cascade.{specs.declared.level.Level.Level, specs.Correlation.{bin, in_first, in_second}, specs.Work.occupied, specs.Levels.{IsBin, OpenIs, RingIs, ClosedAre, PairsMore}, specs.Bins.{raised, onto, merged_all, FitCounts, stretch, IsSpaced, Come, Follow, CanShutAll, CanTake, Took, ComeAlike, near}, proofs.Paired.occupied_all, proofs.Few.near_put, proofs.Follows.{rest_at, merged_follow, come_weigh, come_merged, stretch_more}, proofs.Passes.{spaced_upto, far_place, spaced-rising, spaced_behind, spaced_take, spaced_nearer}}
+use Rattle.tau_cascade.{specs.declared.level.Level.Level, specs.Correlation.{bin, in_first, in_second}, specs.Work.occupied, specs.Levels.{IsBin, OpenIs, RingIs, ClosedAre, PairsMore}, specs.Bins.{raised, onto, merged_all, FitCounts, stretch, IsSpaced, Come, Follow, CanShutAll, Shuts, CanTake, Took, ComeAlike, near}, proofs.Paired.occupied_all, proofs.Few.near_put, proofs.Follows.{rest_at, merged_follow, come_weigh, come_merged, stretch_more}, proofs.Passes.{spaced_upto, far_place, spaced-rising, spaced_behind, spaced_take, spaced_nearer}}
 
 -- The entries of a list before others, so many levels down.
 
@@ -163,6 +163,15 @@ pub spaced_join : (rs : List Entry) (e : Entry) (es : List Entry) → IsRising r
 spaced_join [] e es rising below spaced = spaced
 spaced_join (r ∷ rs) e es rising below spaced = search (rules, arith, all_join, all_weaker, spaced_behind, spaced_join rs e es rising.1 below.1 spaced)
 
+-- where no bin is closed, a level stays as it is
+pub shuts_none : (set : CorrelationView) (level : ℕ) (l : Level) → Shuts set level l l []
+shuts_none set level l = record {
+  paired = omega arith;
+  ring = λ closed xs can. rw (can.bins, append-nil) can.ring;
+  cells = λ closed xs can. rw (can.bins, append-nil) can.cells;
+  opened = refl;
+}
+
 module _ (set : CorrelationView) (level : ℕ) where
   -- these photons are before the first of some bins
   abbrev IsBefore : History → List Entry → Type 0
@@ -223,9 +232,6 @@ module _ (set : CorrelationView) (level : ℕ) where
   merged_comes : (es : List Entry) (closed xs : History) → IsBefore closed es → Come set level closed es xs → Follow set level closed (merged_all es) xs
   merged_comes es closed xs before come = search (rules, arith, merged_follow)
 
-  come_none : (n : ℕ) (es : List Entry) (came xs : History) → n ≤ 0 → Come set level came (take n es) xs → xs ≡ []
-  come_none n es came xs none come = search (rules, arith)
-
   -- and before the last of them
   before_last : (es : List Entry) (n : ℕ) (last : Entry) (closed : History) → IsCut es n last → IsBefore closed es → AllByRecursion (λ x. bin level x < last.index) closed
   before_last [] n last closed cut before = absurd (omega (arith, cut.few))
@@ -270,10 +276,6 @@ module _ {set : CorrelationView} {level : ℕ} {l : Level} {es : List Entry} {cl
 
     pub front_fit : FitCounts (merged_all front)
     front_fit = come_fit set level (merged_all front) closed parts.0 (omega (arith, can.few, ap length parts.2, length-append open' xs, length-append parts.0 parts.1)) (come_merged set level front closed parts.0 parts.3)
-
-    -- where there are none, all stays
-    pub none_closed : n ≤ 0 → ClosedAre set level l.ring l.cells l.paired (closed ++ parts.0)
-    none_closed none = rw (come_none set level n (onto l.open es) closed parts.0 none parts.3, append-nil) can.was.has
 
     -- lists that were paired for all bins
     pub paired_closed : (paired : Paired) → PairsMore l.paired paired (length (merged_all front)) → PairsMore (paired_by 0 0) paired (occupied level (closed ++ parts.0))

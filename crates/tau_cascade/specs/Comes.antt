@@ -14,6 +14,5 @@ pub record HasCome (list : List Entry) (coming : Coming) (scratch : Scratch) : T
 pub record IsClosing (closing : Coming) (list : List Entry) : Type 0 where
   pub bins : IsComing closing (closing.level + 1) list
   pub up : closing.levels ≤ closing.level + 1
-  pub some : 0 < closing.count
   pub level : closing.level < 40
   pub long : length list ≡ 1192

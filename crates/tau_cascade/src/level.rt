@@ -112,7 +112,7 @@ fn keep_dense(
 /// a window takes them: neither all of them nor a bin of the ring, by `heaviest`, have too many photons for one place.
 #[tactic(auto, using(crate::proofs::Few::alike_merged, crate::proofs::Few::few_apart, crate::proofs::Few::few_share))]
 fn merge_many(list: &mut [Entry], closing: Coming, grid: &Grid, heaviest: u64) -> Coming
-    requires comes { IsClosing closing list.old }
+    requires comes { IsClosing closing list.old × (0 < closing.count) }
     requires bins { CanClose grid.now (coming_bins closing list.old) }
     ensures comes { IsComing result (closing.level + 1) list.new × (0 < result.count) }
     ensures same { (result.from ≡ closing.from) × (result.level ≡ closing.level)
@@ -277,14 +277,7 @@ impl Level {
             ..came
         };
         closing.gaps.nearer = came.gaps.nearer.saturating_add(1);
-        if count > 0 {
-            return self.close(set, list, closing, scratch, steps);
-        }
-        Coming {
-            level: came.level + 1,
-            levels: levels + 1,
-            ..closing
-        }
+        self.close(set, list, closing, scratch, steps)
     }
 
     /// Closes bins of a list, merged first where many share one, and answers where they are then. What stood before them in
@@ -313,6 +306,13 @@ impl Level {
             × ComeAlike (coming_bins closing list.old) (closed_bins result list.new) }
         ensures steps { steps.new + self.old.cells.added ≡ steps.old + self.new.cells.added }
     {
+        if closing.count == 0 {
+            return Coming {
+                level: closing.level + 1,
+                levels: closing.levels + 1,
+                ..closing
+            };
+        }
         let shut = merge_many(list, closing, &scratch.grid, self.heaviest);
         let Coming { from, count, .. } = shut;
         let start = lower_ring(&self.ring, list, from, shut.levels);

@@ -1,6 +1,6 @@
 use Rattle.std.{proofs.Common.{rules, ◌≡◌, ◌∙◌, ◌+◌, ◌-◌, ◌*◌, ◌^◌, ◌<◌, length, map, take, drop, ap, refl, arith}, proofs.Math.Logic.{∥∥₁_elim}, proofs.Math.Nat.mul-le-mul_left, proofs.Math.Pow.pow_mono, proofs.lemmas.List.{length-drop, length-map}}
 use Rattle.lag_ring.proofs.Rising.{all_weaker}
-use Rattle.tau_cascade.{specs.Bins.{raised, merged_all}, specs.Opens.coming_bins, proofs.{Paired.all_rising, Spread.{ring_here, ring_parts, seam, spaced-prop}}, proofs.level.Level.close.Goals.{After-lower_ring-start}, proofs.level.Level.close.Given.{Over}}
+use Rattle.tau_cascade.{specs.Bins.{raised, merged_all}, specs.Opens.coming_bins, proofs.{Paired.all_rising, Spread.{shuts_none, ring_here, ring_parts, seam, spaced-prop}}, proofs.level.Level.close.Goals.{After-lower_ring-start}, proofs.level.Level.close.Given.{Over}}
 use Rattle.tau_cascade.proofs.level.Level.close.Goals as goal
 
 pub lower_ring-start-requires-clause-fits : goal.lower_ring-start-requires-clause-fits
@@ -75,4 +75,22 @@ returns-clause-comes g c =
       omega arith,
       omega (arith, shut.same.1),
       rw (up, behind) shut.bins.come,
+    )
+
+pub returns-then-closing-eq0-clause-shuts : goal.returns-then-closing-eq0-clause-shuts
+returns-then-closing-eq0-clause-shuts g c = rw c.if-closing-eq0.true (shuts_none _ _ _)
+
+pub returns-then-closing-eq0-clause-comes : goal.returns-then-closing-eq0-clause-comes
+returns-then-closing-eq0-clause-comes g c =
+    let closing = c.requires.comes.0 in
+    let up : c.args.closing.levels + 1 - 1 ≡ c.args.closing.levels = omega arith in (
+      record {
+        bins = record { places = closing.bins.places; up = omega (arith, closing.up); spaced = closing.bins.spaced; nearer = closing.bins.nearer };
+        grid = record { up = λ some. omega arith; grid = rw up c.requires.comes.1.grid };
+        long = closing.long;
+        zeros = c.requires.room.0;
+      },
+      omega arith,
+      refl,
+      rw up (λ set level came xs come. come),
     )

@@ -21,7 +21,7 @@ close-requires g c =
     let one = alone c.in-Some.last c.args.list.now (omega arith) in
     record {
       comes = (
-        record { bins = record { places = omega arith; up = omega arith; spaced = λ far. absurd (omega arith); nearer = c.unknown.ensures _ }; up = omega arith; some = omega arith; level = c.requires.room.1; long = search (rules, arith) },
+        record { bins = record { places = omega arith; up = omega arith; spaced = λ far. absurd (omega arith); nearer = c.unknown.ensures _ }; up = omega arith; level = c.requires.room.1; long = search (rules, arith) },
         rw one (record { grid = off_grid _ [] _ (omega arith) (is_grid _ [] c.requires.room.3.0); dense = omega (arith, c.requires.room.3.1); sorted = (tt, tt); fit = omega arith }),
       );
       room = (

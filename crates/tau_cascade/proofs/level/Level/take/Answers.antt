@@ -1,6 +1,6 @@
 use Rattle.std.{proofs.Common.{rules}, proofs.Common.{List, ◌≡◌, ◌+◌, ◌-◌, ◌*◌, ◌^◌, ◌<◌, ◌≤◌, [], length, map, take, drop, refl, sym, ap, ◌∙◌, arith}, proofs.Props.props, proofs.Math.Logic.{∥∥₁_map, ∥∥₁_elim}, proofs.lemmas.List.length-take}
 use Rattle.lag_ring.{specs.declared.ring.Entry.Entry, proofs.Lists.{all_front, all_back}}
-use Rattle.tau_cascade.{proofs.Close.no_bin, specs.Bins.{raised, onto, merged_all}, specs.Grid.{IsGrid, FewFirsts}, specs.Dense.IsZero, proofs.Onward.{grid_some, off_grid, is_grid}, proofs.Few.near_few, proofs.Passes.spaced_back, proofs.Spread.{IsPut, long, same_behind, onto_few, spaced-prop, stretch_fit, all_here, came_here, is_cut, front_all, front_here, apart_closed, near_closed, upto, here_sorted, front_sorted, front_fit, weights_fit, paired_closed, parts, may_close, none_closed, take_took}, proofs.level.Level.take.Goals.{After-lower_open-from, Joined-dense, then-dense+then-has_light_ring, else-dense}, proofs.level.Level.take.Given.{Over}}
+use Rattle.tau_cascade.{proofs.Close.no_bin, specs.Bins.{raised, onto, stretch, merged_all}, specs.Opens.coming_bins, specs.Grid.{IsGrid, FewFirsts}, specs.Dense.IsZero, proofs.Onward.{grid_some, off_grid, is_grid}, proofs.Few.near_few, proofs.Passes.spaced_back, proofs.Spread.{IsPut, long, same_behind, onto_few, spaced-prop, stretch_fit, all_here, came_here, is_cut, front_all, front_here, apart_closed, near_closed, upto, here_sorted, front_sorted, front_fit, weights_fit, paired_closed, parts, may_close, take_took, IsCut}, proofs.level.Level.take.Goals.{After-lower_open-from, After-cut_last-last, Joined-dense, then-dense+then-has_light_ring, else-dense}, proofs.level.Level.take.Given.{Over}}
 use Rattle.tau_cascade.proofs.level.Level.take.Goals as goal
 
 pub lower_open-from-requires-clause-fits : goal.lower_open-from-requires-clause-fits
@@ -50,29 +50,42 @@ grid_here g c = elim c.if-dense.branch [
   | else-dense w ↦ rw w.scratch-is (off_grid _ [] _ (omega arith) (is_grid _ [] w.clear.ensures.0), λ some. absurd (omega (arith, w.clear.ensures.1)), omega (arith, w.clear.ensures.1), c.requires.comes.0.zeros)
 ]
 
+module _ (g : Over) (c : After-cut_last-last g) where
+  abbrev all : List Entry
+  all = onto c.args.self.now.open (coming_bins c.args.came c.args.list.now)
+
+  put : IsPut c.args.came.levels c.args.came.from c.args.came.count c.args.self.now c.args.list.now c.lower_open-from.new.list c.lower_open-from.result
+  put = search (rules, arith, same_behind)
+
+  -- the last of them is cut off
+  cut : IsCut all c.cut_last-last.result.closed c.cut_last-last.result.bin
+  cut = is_cut put _ c.cut_last-last.ensures.few _ c.cut_last-last.ensures.before c.cut_last-last.ensures.here c.cut_last-last.ensures.weights.0 c.cut_last-last.ensures.weights.1
+
+  front : stretch c.lower_open-from.result c.cut_last-last.result.closed c.args.came.levels c.lower_open-from.new.list ≡ take c.cut_last-last.result.closed all
+  front = front_here put _ c.cut_last-last.ensures.few
+
 pub close-requires-clause-comes : goal.close-requires-clause-comes
 close-requires-clause-comes g c =
     let at' = goal.at.close-requires-clause-comes g c in
-    let put = is_put g at'.After-lower_open-from in
+    let put' = put g at'.After-cut_last-last in
+    let is = cut g at'.After-cut_last-last in
     let few = c.cut_last-last.ensures.few in
-    let is = is_cut put _ few _ c.cut_last-last.ensures.before c.cut_last-last.ensures.here c.cut_last-last.ensures.weights.0 c.cut_last-last.ensures.weights.1 in
     let are = grid_here g at'.Joined-dense in
     let closed = take c.cut_last-last.result.closed (drop c.lower_open-from.result c.lower_open-from.new.list) in (
       record {
         bins = record {
-          places = omega (arith, c.requires.comes.0.bins.places, put.place, onto_few c.args.self.now.open, upto put _ few);
+          places = omega (arith, c.requires.comes.0.bins.places, put'.place, onto_few c.args.self.now.open, upto put' _ few);
           up = omega (arith, c.requires.comes.0.bins.up);
-          spaced = λ far. let apart = c.apart_all-apart.ensures far in apart_closed put _ few _ _ apart.0 (c.requires.comes.0.bins.spaced (omega arith)) apart.1;
-          nearer = omega (arith, near_closed put _ few c.args.came.gaps.usual c.args.came.gaps.nearer c.requires.comes.0.bins.nearer, near_few c.args.came.gaps.usual closed, length-take c.cut_last-last.result.closed (drop c.lower_open-from.result c.lower_open-from.new.list), c.saturating_add-closing.ensures);
+          spaced = λ far. let apart = c.apart_all-apart.ensures far in apart_closed put' _ few _ _ apart.0 (c.requires.comes.0.bins.spaced (omega arith)) apart.1;
+          nearer = omega (arith, near_closed put' _ few c.args.came.gaps.usual c.args.came.gaps.nearer c.requires.comes.0.bins.nearer, near_few c.args.came.gaps.usual closed, length-take c.cut_last-last.result.closed (drop c.lower_open-from.result c.lower_open-from.new.list), c.saturating_add-closing.ensures);
         };
         up = omega (arith, c.requires.comes.0.bins.up);
-        some = omega arith;
         level = c.requires.comes.2;
         long = search (rules, arith);
       },
-      rw (front_here put _ few) (record {
-        grid = rw (← front_all put _ few) are.0;
-        dense = rw (← front_all put _ few) are.2;
+      rw (front g at'.After-cut_last-last) (record {
+        grid = rw (← front_all put' _ few) are.0;
+        dense = rw (← front_all put' _ few) are.2;
         sorted = spaced_back 0 c.args.self.now.ring.entries _ (∥∥₁_elim c.requires.stands (spaced-prop _) (λ w. front_sorted w.3 is));
         fit = ∥∥₁_elim c.requires.stands (hlevel props) (λ w. front_fit w.3 is);
       }),
@@ -90,62 +103,22 @@ close-requires-clause-room g c =
 pub close-requires-clause-bins : goal.close-requires-clause-bins
 close-requires-clause-bins g c =
     let at' = goal.at.close-requires-clause-bins g c in
-    let put = is_put g at'.After-lower_open-from in
-    let few = c.cut_last-last.ensures.few in
-    let is = is_cut put _ few _ c.cut_last-last.ensures.before c.cut_last-last.ensures.here c.cut_last-last.ensures.weights.0 c.cut_last-last.ensures.weights.1 in
-    rw (front_here put _ few) (∥∥₁_elim c.requires.stands (spaced-prop _) (λ w. front_sorted w.3 is), (grid_here g at'.Joined-dense).1)
+    rw (front g at'.After-cut_last-last) (∥∥₁_elim c.requires.stands (spaced-prop _) (λ w. front_sorted w.3 (cut g at'.After-cut_last-last)), (grid_here g at'.Joined-dense).1)
 
 pub close-requires-clause-stands : goal.close-requires-clause-stands
 close-requires-clause-stands g c =
-    let put = is_put g (goal.at.close-requires-clause-stands g c).After-lower_open-from in
-    let few = c.cut_last-last.ensures.few in
-    let is = is_cut put _ few _ c.cut_last-last.ensures.before c.cut_last-last.ensures.here c.cut_last-last.ensures.weights.0 c.cut_last-last.ensures.weights.1 in
-    rw (front_here put _ few) (∥∥₁_map c.requires.stands (λ w. (w.0, (parts w.3 is).0, may_close w.3 is)))
-
-pub returns-then-count-gt0-clause-follows : goal.returns-then-count-gt0-clause-follows
-returns-then-count-gt0-clause-follows g c = λ closed open' xs can.
-    let put = is_put g (goal.at.returns-then-count-gt0-clause-follows g c).After-lower_open-from in
-    let few = c.cut_last-last.ensures.few in
-    let is = is_cut put _ few _ c.cut_last-last.ensures.before c.cut_last-last.ensures.here c.cut_last-last.ensures.weights.0 c.cut_last-last.ensures.weights.1 in
-    let whole = parts can is in
-    let may = may_close can is in
-    let shuts = (rw (front_here put _ few) at c.close.ensures.shuts) in (
-      whole.0,
-      whole.1,
-      take_took can is _ shuts.opened (record { ring = shuts.ring closed whole.0 may; cells = shuts.cells closed whole.0 may; paired = paired_closed can is _ shuts.paired })
-          _ (rw (front_here put _ few) at c.close.ensures.comes.3),
-    )
+    let at' = (goal.at.close-requires-clause-stands g c).After-cut_last-last in
+    rw (front g at') (∥∥₁_map c.requires.stands (λ w. (w.0, (parts w.3 (cut g at')).0, may_close w.3 (cut g at'))))
 
 pub returns-clause-follows : goal.returns-clause-follows
 returns-clause-follows g c = λ closed open' xs can.
-    let put = is_put g (goal.at.returns-clause-follows g c).After-lower_open-from in
-    let few = c.cut_last-last.ensures.few in
-    let is = is_cut put _ few _ c.cut_last-last.ensures.before c.cut_last-last.ensures.here c.cut_last-last.ensures.weights.0 c.cut_last-last.ensures.weights.1 in
+    let at' = (goal.at.returns-clause-follows g c).After-cut_last-last in
+    let is = cut g at' in
     let whole = parts can is in
-    let up : c.args.came.levels + 1 - 1 ≡ c.args.came.levels = omega arith in (
+    let may = may_close can is in
+    let shuts = (rw (front g at') at c.close.ensures.shuts) in (
       whole.0,
       whole.1,
-      rw (up, front_here put _ few) (take_took can is _ refl (none_closed can is c.if-count-gt0.false) _ (λ set level came xs come. come)),
-    )
-
-pub returns-clause-comes : goal.returns-clause-comes
-returns-clause-comes g c =
-    let put = is_put g (goal.at.returns-clause-comes g c).After-lower_open-from in
-    let few = c.cut_last-last.ensures.few in
-    let closed = take c.cut_last-last.result.closed (drop c.lower_open-from.result c.lower_open-from.new.list) in
-    let up : c.args.came.levels + 1 - 1 ≡ c.args.came.levels = omega arith in
-    let are = grid_here g (goal.at.returns-clause-comes g c).Joined-dense in (
-      record {
-        bins = record {
-          places = omega (arith, c.requires.comes.0.bins.places, put.place, onto_few c.args.self.now.open, upto put _ few);
-          up = omega (arith, c.requires.comes.0.bins.up);
-          spaced = λ far. let apart = c.apart_all-apart.ensures far in apart_closed put _ few _ _ apart.0 (c.requires.comes.0.bins.spaced (omega arith)) apart.1;
-          nearer = omega (arith, near_closed put _ few c.args.came.gaps.usual c.args.came.gaps.nearer c.requires.comes.0.bins.nearer, near_few c.args.came.gaps.usual closed, length-take c.cut_last-last.result.closed (drop c.lower_open-from.result c.lower_open-from.new.list), c.saturating_add-closing.ensures);
-        };
-        grid = record { up = λ some. omega arith; grid = rw (up, front_here put _ few, ← front_all put _ few) are.0 };
-        long = search (rules, arith);
-        zeros = are.3;
-      },
-      omega arith,
-      omega arith,
+      take_took can is _ shuts.opened (record { ring = shuts.ring closed whole.0 may; cells = shuts.cells closed whole.0 may; paired = paired_closed can is _ shuts.paired })
+          _ (rw (front g at') at c.close.ensures.comes.3),
     )
