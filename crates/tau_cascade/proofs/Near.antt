@@ -1,8 +1,8 @@
 -- Bins of one index that are neighbours, as they are and merged.
-use Rattle.std.{proofs.Common.{◌≡◌, ◌^◌, ◌&&◌, length-append, append-nil, append_assoc, ◌/◌, ℕ, ◌+◌, ◌-◌, ◌<◌, ◌≤◌, Bool, true, false, cond, eqb, leb, List, [], ◌∷◌, ◌++◌, length, map, take, drop, get_or, refl, sym, ap, ◌∙◌, arith, rules}, specs.List.{sum_by, count_by, filter, AllByRecursion}, proofs.lemmas.Bool.Decides.nat_tests, proofs.Props.props, proofs.Math.Logic.∥∥₁_elim, proofs.Math.Nat.{mul-le-mul_left}, proofs.lemmas.List.{take_rest, take-append-drop, drop-map, length-drop, length-map, get_or-drop, get_or-map}, proofs.lemmas.List.Sums.{sum_by_push, count_by-le-length, length-filter}}
-use Rattle.lag_ring.{specs.declared.ring.Entry.Entry, specs.Ring.{Ring, ring, IsRising, IsInReach, weight_where}, specs.Cells.{Cells, added_at}, proofs.Lists.all_join, proofs.Rising.{all_weaker, rising_back}, proofs.Sums.sum_by-filter}
+use Rattle.std.{proofs.Common.{◌≡◌, ◌^◌, ◌&&◌, length-append, ◌/◌, ℕ, ◌+◌, ◌-◌, ◌<◌, ◌≤◌, Bool, true, false, cond, eqb, leb, List, [], ◌∷◌, ◌++◌, length, map, take, drop, get_or, refl, sym, ap, ◌∙◌, arith, rules}, specs.List.{sum_by, count_by, filter, AllByRecursion}, proofs.lemmas.Bool.Decides.nat_tests, proofs.Props.props, proofs.Math.Logic.∥∥₁_elim, proofs.Math.Nat.{mul-le-mul_left}, proofs.lemmas.List.{take_rest, take-append-drop, drop-map, length-drop, length-map, get_or-drop, get_or-map}, proofs.lemmas.List.Sums.{sum_by_push, count_by-le-length, length-filter}}
+use Rattle.lag_ring.{specs.declared.ring.Entry.Entry, specs.Ring.{Ring, ring, IsRising, IsInReach, weight_where}, specs.Cells.{Cells, added_at}, proofs.Rising.{all_weaker, rising-prop}, proofs.Sums.sum_by-filter}
 use Rattle.tally_base.{specs.Settings.CorrelationView, specs.Tally.History}
-use Rattle.tau_cascade.{proofs.Close.no_bin, specs.Correlation.{Given, bin, skipped_lags, in_first, in_second}, specs.Levels.{weight_before, RingIs, CellsAre}, specs.Dense.{paired, paired_from}, specs.Bins.{raised, both_of, merged, merged_all, kept_of, stretch, FitCounts, IsSpaced, Follow, CanShutAll}, specs.declared.grid.Grid.Grid, specs.Grid.{Stands, kept_and}, proofs.Gridded.keeps_dense, proofs.Paired.{all_rising, cells_all}, proofs.Keeping.{rising-prop, last_of, ring_all, filter_again, kept_is}}
+use Rattle.tau_cascade.{proofs.Close.no_bin, specs.Correlation.{Given, bin, skipped_lags, in_first, in_second}, specs.Levels.{weight_before, RingIs, CellsAre}, specs.Dense.{paired, paired_from}, specs.Bins.{raised, both_of, merged, merged_all, kept_of, stretch, FitCounts, IsSpaced, Follow, CanShutAll}, specs.declared.grid.Grid.Grid, specs.Grid.{Stands, kept_and}, proofs.Gridded.keeps_dense, proofs.Paired.{all_rising, cells_all}, proofs.Keeping.{last_of, follow_upto, ring_all, filter_again, kept_is}}
 
 -- Pairs with what is before count by its weights alone.
 paired_same : (k : ℕ) (before other es : List Entry) → ((n : ℕ) → weight_before k n before ≡ weight_before k n other) → paired k before es ≡ paired k other es
@@ -61,11 +61,6 @@ module _ (before levels n : ℕ) (bins : List Entry) (spaced : IsSpaced 0 (map (
   -- they are laid in a list, to be merged there: those of all merged ones that are not before it
   pub laid_kept : (was : List Entry) (end' : ℕ) → take end' was ≡ take (length bins - n) (drop n bins) → merged_all (stretch 0 end' levels was) ≡ filter from (merged_all up)
   laid_kept was end' laid = search (rules, arith, laid, take_rest, up, kept_one, kept_bins)
-
--- no photon of bins is after the last
-follow_upto : (set : CorrelationView) (level : ℕ) (e : Entry) (es : List Entry) (closed xs : History) → Follow set level closed (e ∷ es) xs → AllByRecursion (λ x. bin level x ≤ last_of e.index es) (closed ++ xs)
-follow_upto set level e [] closed xs follow = search (rules, arith, all_join, all_weaker, append-nil)
-follow_upto set level e (f ∷ fs) closed xs follow = rw (follow.2, ← append_assoc closed follow.0 follow.1) (follow_upto set level f fs (closed ++ follow.0) follow.1 follow.5)
 
 last_read : (e : Entry) (es : List Entry) → (get_or (e ∷ es) (length es) no_bin).index ≡ last_of e.index es
 last_read e [] = refl
@@ -126,7 +121,7 @@ module _ {set : CorrelationView} {level skipped : ℕ} {r : Ring} {levels start 
         same (omega (arith, added, more)) (λ p. omega (arith, each p, long))
 
     ring_near : RingIs set level (ring (filter (λ e. leb before e.index) (r.entries ++ whole)) r.reach) (closed ++ xs)
-    ring_near = rw (at'.last, ← end'.3, end'.2) (ring_all set level at'.lags end'.0 end'.1 r closed xs can.ring follow (rw end'.2 at (rising_back r.entries whole (all_rising set level skipped at'.skips r cells whole closed xs can))))
+    ring_near = rw (at'.last, ← end'.3, end'.2) (ring_all set level at'.lags end'.0 end'.1 r closed xs can.ring follow (rw end'.2 at (all_rising set level skipped at'.skips r cells whole closed xs can)))
 
     -- all photons are in reach of what is kept
     in_reach : IsInReach (bin level) r.reach (λ i. leb before i) (closed ++ xs)
