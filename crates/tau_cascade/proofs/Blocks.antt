@@ -3,7 +3,7 @@ use Rattle.std.{proofs.Common.{◌≡◌, ℕ, zero, suc, ◌+◌, ◌<◌, ◌�
 use mir.Val.{bool_byte}
 use Rattle.tally_base.{specs.declared.settings.CorrelationSet.CorrelationSet, specs.Events.{is_photon, is_in}, specs.Settings.{CorrelationView, correlation_view}, specs.Tally.{History, greatest_time, floor_after, InOrder, moves_floor}, specs.Limits.record_limit, specs.declared.block.Block.Block, specs.Columns.{rows, event_at, code_at, groups_at, gathered, events_in}, proofs.Floors.{moves_row, order-front, order-last, greatest-rows}, proofs.BlockRows.length-rows}
 use Rattle.lag_ring.{specs.declared.ring.Entry.Entry, proofs.Lists.{all_both, all_filter, all_passed}, proofs.Rising.all_weaker}
-use Rattle.tau_cascade.{specs.declared.level.Level.Level, specs.Correlation.{Given, bin, in_first, in_second, photons_of}, specs.StandsFor.StandsFor, specs.Levels.{Chain, CanEnd}, specs.Bins.{raised, bin_of, photon_bins, Come, CanCome, CanGiveBlock}, proofs.Follows.{come_push, raised-none}}
+use Rattle.tau_cascade.{specs.declared.level.Level.Level, specs.Correlation.{Given, bin, in_first, in_second, photons_of}, specs.StandsFor.StandsFor, specs.Levels.Chain, specs.Bins.{raised, bin_of, photon_bins, Come, CanCome, CanGiveBlock}, proofs.Follows.{come_push, raised-none}}
 
 -- What an event does to the photons of the two groups.
 
@@ -42,7 +42,7 @@ pub none_before : (set : CorrelationView) (h : History) (time : ℕ) → greates
 none_before set h time after = search (rules, arith, all_weaker, bin-zero, none_after)
 
 -- it may be closed
-pub may_end : (closed : Bool) → closed ≡ false → (set : CorrelationSet) (ls : List Level) (count time : ℕ) (h : History) → StandsFor closed set ls count time h → count ≤ record_limit → CanEnd (correlation_view set) 0 ls (photons_of (correlation_view set) h)
+pub may_end : (closed : Bool) → closed ≡ false → (set : CorrelationSet) (ls : List Level) (count time : ℕ) (h : History) → StandsFor closed set ls count time h → count ≤ record_limit → CanCome (correlation_view set) 0 ls [] (photons_of (correlation_view set) h) []
 may_end closed still set ls count time h is few = search (rules, arith, false≢true, few_photons)
 
 pub end_counts : (closed : Bool) → closed ≡ false → (set : CorrelationSet) (ls ls' : List Level) (count time : ℕ) (h : History) → StandsFor closed set ls count time h → Chain true (correlation_view set) 0 ls' (photons_of (correlation_view set) h) → StandsFor true set ls' count time h

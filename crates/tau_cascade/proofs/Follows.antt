@@ -3,9 +3,9 @@ use Rattle.std.{proofs.Common.{◌≡◌, ◌≢◌, ℕ, suc, ◌+◌, ◌-◌,
 use mir.Val.{bool_byte}
 use Rattle.tally_base.{specs.Settings.CorrelationView, specs.Tally.History}
 use Rattle.lag_ring.{specs.declared.ring.Entry.Entry, proofs.Lists.{all_back, all_join, of_some}, proofs.Rising.all_weaker}
-use Rattle.tau_cascade.{specs.Correlation.{Given, bin}, specs.Levels.{IsBin, Chain, CanFinish}, specs.Bins.{raised, both_of, merged, merged_all, stretch, Come, Follow, CanTake, Took, CanCome, CanShutAll}, specs.Opens.{coming_bins, closed_bins}, specs.declared.level.{Level.Level, Coming.Coming}, proofs.Passes.raised-again}
+use Rattle.tau_cascade.{specs.Correlation.{Given, bin}, specs.Levels.{IsBin, Chain}, specs.Bins.{raised, both_of, merged, merged_all, stretch, Come, Follow, CanTake, Took, CanCome, CanShutAll}, specs.Opens.{coming_bins, closed_bins}, specs.declared.level.{Level.Level, Coming.Coming}, proofs.Passes.raised-again}
 
-module _ (set : CorrelationView) (level : ℕ) (l : Level) (e : Entry) (is : l.open ≡ Some e) (closed open' : History) (can : CanFinish set level l closed open') where
+module _ (set : CorrelationView) (level : ℕ) (l : Level) (e : Entry) (is : l.open ≡ Some e) (closed open' : History) (can : CanTake set level l [] closed open' []) where
   -- the open bin has the photons that are not in closed ones
   pub finish_open : IsBin set level e open' × AllByRecursion (λ x. bin level x < e.index) closed
   finish_open = (rw is at can.was.opened)

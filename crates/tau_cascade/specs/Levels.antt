@@ -1,6 +1,6 @@
 -- What levels stand for: photons that came to them, in order, and how far they are paired.
-use Rattle.std.{specs.Prelude.{◌≡◌, ℕ, ◌+◌, ◌*◌, ◌≤◌, suc, ⊤, Bool, true, false, ◌==◌, sum_by, Option, None, List, [], ◌∷◌, ◌++◌, length}}
-use Rattle.tally_base.{specs.Settings.CorrelationView, specs.Tally.History, specs.Limits.record_limit}
+use Rattle.std.{specs.Prelude.{◌≡◌, ℕ, ◌+◌, ◌*◌, ◌≤◌, suc, ⊤, Bool, true, false, ◌==◌, sum_by, Option, None, List, [], ◌∷◌, ◌++◌}}
+use Rattle.tally_base.{specs.Settings.CorrelationView, specs.Tally.History}
 use Rattle.lag_ring.{specs.declared.ring.Entry.Entry, specs.Ring.{Ring, weight_where, Weighs}, specs.Cells.{Cells, added_at}, specs.Pairings.{Paired, paired_by}, specs.Binned.{IsOpen, KeepsReach, CellsCount}}
 use Rattle.tau_cascade.{specs.declared.level.Level.Level, specs.Correlation.{bin, in_first, in_second, correlation, skipped_lags, lag_count}, specs.Work.occupied}
 
@@ -46,20 +46,10 @@ module _ (set : CorrelationView) (level : ℕ) where
     pub opened : RestIs ended l.open closed open'
     pub has : ClosedAre l.ring l.cells l.paired closed
 
-  -- its open bin may be closed
-  pub record CanFinish (l : Level) (closed open' : History) : Type 0 where
-    pub few : length closed + length open' ≤ record_limit
-    pub was : LevelIs false l closed open'
-
 -- from a level upwards: what came to one, and is in its closed bins, came to the next
 abbrev pub Chain : Bool → CorrelationView → ℕ → List Level → History → Type 0
 Chain ended set level [] came = ⊤
 Chain ended set level (l ∷ ls) came = (closed : History) × (open' : History) × (came ≡ closed ++ open') × LevelIs set level ended l closed open' × Chain ended set (suc level) ls closed
-
--- the open bins may be closed, from the first level upwards
-pub record CanEnd (set : CorrelationView) (level : ℕ) (ls : List Level) (came : History) : Type 0 where
-  pub few : length came ≤ record_limit
-  pub chain : Chain false set level ls came
 
 -- the additions that made the cells of these levels
 abbrev pub spent : List Level → ℕ

@@ -1,7 +1,7 @@
 // What goes from level to level.
 ghost use Rattle.std.specs.Prelude.{◌≡◌, ◌+◌, ◌<◌, ◌≤◌, true, [], ◌∷◌, length};
 ghost use Rattle.tally_base.{specs.Settings.correlation_view, specs.Tally.History};
-ghost use Rattle.tau_cascade.{specs.Levels.{CanEnd, Chain, LevelIs, spent}, specs.Bins.{CanCome, Carries}, specs.Opens.coming_bins, specs.Comes.HasCome};
+ghost use Rattle.tau_cascade.{specs.Levels.{Chain, LevelIs, spent}, specs.Bins.{CanCome, Carries}, specs.Opens.coming_bins, specs.Comes.HasCome};
 
 use crate::bins::{LEVELS, LIST, NO_BIN};
 use crate::level::{Coming, Level};
@@ -44,10 +44,10 @@ fn end_first<L: Ledger>(
     level: u32,
     steps: &mut Steps<L>,
 )
-    requires stands { ∥ ((came : History) × CanEnd (correlation_view set.now) level (first.old ∷ rest.old) came) ∥₁ }
+    requires stands { ∥ ((came : History) × CanCome (correlation_view set.now) level (first.old ∷ rest.old) [] came []) ∥₁ }
     requires depth { level + 1 + length rest.old ≤ LEVELS }
-    ensures follows { (came : History) → CanEnd (correlation_view set.now) level (first.old ∷ rest.old) came
-        → LevelIs (correlation_view set.now) level true first.new came [] × CanEnd (correlation_view set.now) (level + 1) rest.new came }
+    ensures follows { (came : History) → CanCome (correlation_view set.now) level (first.old ∷ rest.old) [] came []
+        → LevelIs (correlation_view set.now) level true first.new came [] × CanCome (correlation_view set.now) (level + 1) rest.new [] came [] }
     ensures steps { steps.new + (first.old.cells.added + spent rest.old) ≡ steps.old + (first.new.cells.added + spent rest.new) }
 {
     let mut list = [NO_BIN; LIST];
@@ -63,9 +63,9 @@ pub(crate) fn end_all<L: Ledger>(
     level: u32,
     steps: &mut Steps<L>,
 )
-    requires stands { ∥ ((came : History) × CanEnd (correlation_view set.now) level levels.old came) ∥₁ }
+    requires stands { ∥ ((came : History) × CanCome (correlation_view set.now) level levels.old [] came []) ∥₁ }
     requires depth { level + length levels.old ≤ LEVELS }
-    ensures follows { (came : History) → CanEnd (correlation_view set.now) level levels.old came → Chain true (correlation_view set.now) level levels.new came }
+    ensures follows { (came : History) → CanCome (correlation_view set.now) level levels.old [] came [] → Chain true (correlation_view set.now) level levels.new came }
     ensures steps { steps.new + spent levels.old ≡ steps.old + spent levels.new }
 {
     if let Some((first, rest)) = levels.split_first_mut() {

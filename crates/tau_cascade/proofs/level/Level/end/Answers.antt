@@ -1,7 +1,7 @@
 use Rattle.std.{proofs.Common.{rules, refl, Some, ◌≡◌, ℕ, List, ◌*◌, ◌^◌, ◌<◌, [], ◌∷◌, ◌++◌, length, arith, slice_set}, proofs.Props.props, proofs.Math.Logic.{∥∥₁_map, ∥∥₁_elim}, proofs.lemmas.List.drop-set, specs.List.{AllByRecursion, AllByRecursion-prop}}
 use Rattle.tally_base.specs.{Settings.{CorrelationView, correlation_view}, Tally.History}
 use Rattle.lag_ring.{specs.declared.ring.Entry.Entry, proofs.Rising.all_weaker}
-use Rattle.tau_cascade.{specs.declared.level.Level.Level, specs.Levels.CanFinish, specs.Bins.{stretch, IsSpaced}, proofs.{Paired.occupied_all, Follows.{raised-none, finish_open, finish_shut, follow_comes}, Spread.{spaced-prop, spaced_join}, Onward.{off_grid, is_grid}}}
+use Rattle.tau_cascade.{specs.declared.level.Level.Level, specs.Bins.{CanTake, stretch, IsSpaced}, proofs.{Paired.occupied_all, Follows.{raised-none, finish_open, finish_shut, follow_comes}, Spread.{spaced-prop, spaced_join}, Onward.{off_grid, is_grid}}}
 use Rattle.tau_cascade.proofs.level.Level.end.Goals as goal
 
 -- the open bin alone in the list
@@ -9,7 +9,7 @@ alone : (e : Entry) (list : List Entry) → 168 < length list → stretch 168 1 
 alone e list inside = rw (raised-none, drop-set list 168 e inside) refl
 
 -- it is after the ring's entries
-module _ (set : CorrelationView) (level : ℕ) (l : Level) (e : Entry) (is : l.open ≡ Some e) (closed open' : History) (can : CanFinish set level l closed open') where
+module _ (set : CorrelationView) (level : ℕ) (l : Level) (e : Entry) (is : l.open ≡ Some e) (closed open' : History) (can : CanTake set level l [] closed open' []) where
   sorted : IsSpaced 0 (l.ring.entries ++ e ∷ [])
   sorted = spaced_join _ e [] can.was.has.ring.rising (can.was.has.ring.keeps.bounded _ (finish_open _ _ _ _ is _ _ can).1) (tt, tt)
 
