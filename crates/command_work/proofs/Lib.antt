@@ -3,3 +3,5 @@ pub mod Once
 pub mod Pieces
 pub mod PlanTold
 pub mod RestEnds
+pub mod Reading
+pub mod Flushed

@@ -4,4 +4,3 @@ pub mod Endings
 pub mod Works
 pub mod Pieces
 pub mod RecordsWork
-pub mod Rests

@@ -1,8 +1,8 @@
-// What a command makes of the bytes after a header, and the loop that reads them.
+// What a command makes of the bytes after a header, and the loop that reads a file.
 ghost use Rattle.std.specs.Prelude.{◌≡◌, ◌+◌, ◌≤◌, [], List, ℕ, ◌++◌, length, IfOk, OnOk, None, true};
 ghost use Rattle.tally_base.{specs.declared.slot.Slot.TheVariants.Data, specs.declared.header.Header.Header};
 ghost use Rattle.bench_io.specs.Inputs.{OnlyReads};
-ghost use Rattle.command_work.{specs.Behaviours.{Work, Writing}, specs.Endings.span, specs.Pieces.IsReady, specs.Rests.ReadsRest, specs.RecordsWork.{RecordsWork, IsText, Opens, Suits, WritesPiece, WritesEnd}, specs.Works.LeavesWork};
+ghost use Rattle.command_work.{specs.Behaviours.{Work, Writing}, specs.Endings.span, specs.RecordsWork.{RecordsWork, IsText, Opens, Suits, WritesPiece, WritesEnd}, specs.Works.LeavesWork};
 
 use crate::data::{PIECE, READ_FAULT, read_header};
 use bench_io::{Inputs, Sink};
@@ -69,32 +69,7 @@ pub trait Job {
         → Suits (work job) (writing job) (wanting job) (tells job) (wants job) };
 }
 
-/// Gives a reader all data after those that it was given, and ends it.
-fn read_rest<R: Reader, I: Inputs, O: Sink>(
-    inputs: &mut I,
-    buffer: &mut [u8],
-    mut reader: R,
-    out: &mut O,
-) -> Result<(), Fault>
-    requires ready { IsReady (I.state inputs.old) buffer.old }
-    requires stands { (bytes : List ℕ) × R.stands reader bytes }
-    ensures reads { OnlyReads Data (I.state inputs.old) (I.state inputs.new) }
-    ensures rest { (bytes : List ℕ) → R.stands reader bytes
-        → ReadsRest (R.tells reader) ((R.tells reader).text bytes) bytes ⊥
-        (span I.Inputs O.Sink inputs.old inputs.new out.old out.new) result }
-{
-    'pieces: loop {
-        let Ok(len) = inputs.read(Slot::Data, buffer) else {
-            return Err(READ_FAULT);
-        };
-        if len == 0 {
-            return reader.end(out);
-        }
-        reader.piece(&buffer[..len], out)?;
-    }
-}
-
-/// Does a job with all bytes of FILE, its header and those after it.
+/// Does a job with all bytes of FILE: its header, and those after it in the pieces that reads give.
 pub fn read_file<J: Job, I: Inputs, O: Sink>(
     job: &J,
     inputs: &mut I,
@@ -108,6 +83,17 @@ pub fn read_file<J: Job, I: Inputs, O: Sink>(
     let mut buffer = [0u8; PIECE];
     let found = read_header(inputs, &mut buffer)?;
     let mut reader = job.open(&found.header, out)?;
-    reader.piece(&buffer[found.used..found.len], out)?;
-    read_rest(inputs, &mut buffer, reader, out)
+    let mut used = found.used;
+    let mut len = found.len;
+    'pieces: loop {
+        reader.piece(&buffer[used..len], out)?;
+        let Ok(more) = inputs.read(Slot::Data, &mut buffer) else {
+            return Err(READ_FAULT);
+        };
+        if more == 0 {
+            return reader.end(out);
+        }
+        used = 0;
+        len = more;
+    }
 }

@@ -36,7 +36,7 @@ outcome-at file text fault t f = rw (t, f) refl
 -- the text so far and that of a piece
 pub text-appended : (bytes piece : List ℕ) (a b c : SinkState) → Wrote a b (header_text bytes)
     → AppendsHeader bytes piece b c → Wrote a c (header_text (bytes ++ piece))
-text-appended bytes piece a b c p q = Wrote-same a c _ _ (sym q.text) (Wrote-trans a b c (header_text bytes) q.added p q.written)
+text-appended bytes piece a b c p q = Wrote-same a c _ _ (sym q.adds) (Wrote-trans a b c (header_text bytes) q.more p q.wrote)
 
 pub text-cut : (bytes piece more : List ℕ) (a b c : SinkState) → Wrote a b (header_text bytes)
     → CutsHeader bytes piece b c [] → WroteShort a c (header_text ((bytes ++ piece) ++ more))

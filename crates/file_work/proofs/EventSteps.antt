@@ -1,11 +1,12 @@
 -- One line more, and the lines of a piece.
-use Rattle.std.{proofs.Common.{◌≡◌, ◌+◌, ◌≤◌, ℕ, List, [], ◌∷◌, ◌++◌, Bool, Ok, Err, Some, refl, sym, ap, subst, ◌∙◌, inl, inr, ⊎_elim, append_assoc, arith, length, max, length-append, ◌&&◌, not, IsTrue, if◌then◌else◌}, specs.declared.result.Result.Result}
-use Rattle.tally_base.{specs.declared.event.Event.Event, specs.declared.header.Mode.Mode, specs.declared.fault.Fault.Fault, specs.declared.fault.Fault.TheVariants.WriteFault, specs.Events.is_ordered, specs.Tally.{floor_after, InOrder}}
-use Rattle.bench_io.{specs.Sinks.{SinkState, Wrote, WroteShort, PassesOn}, specs.Texts.{WroteText, WritesText}, proofs.Bytes.{Wrote-flushed, WroteShort-none, WroteShort-more, WroteShort-kept, WroteShort-flushed, WroteShort-passed, PassesOn-trans}}
+use Rattle.std.{proofs.Common.{◌≡◌, ◌+◌, ◌≤◌, ℕ, List, [], ◌∷◌, ◌++◌, Bool, Ok, Err, refl, sym, ap, subst, ◌∙◌, inl, inr, append_assoc, arith, length, max, length-append, ◌&&◌, not, IsTrue, if◌then◌else◌}, specs.declared.result.Result.Result}
+use Rattle.tally_base.{specs.declared.event.Event.Event, specs.declared.header.Mode.Mode, specs.declared.fault.Fault.Fault, specs.Events.is_ordered, specs.Tally.{floor_after, InOrder}}
+use Rattle.bench_io.{specs.Sinks.{SinkState, WroteShort, PassesOn}, proofs.Bytes.{WroteShort-more, WroteShort-passed, PassesOn-trans}}
 use Rattle.ptu_definitions.{specs.Kept.{Marked, floor_of}, specs.Streams.{StreamSettings, record_refusal, given}}
 use Rattle.list_out.specs.Lines.{events_text, lines_of}
-use Rattle.record_stream.{specs.declared.taker.EventTaker.Ghosts, specs.Feeding.{GaveOn, BrokeOn, Fed}, specs.Blocks.on_time, proofs.Gathering.floor_of-block}
+use Rattle.record_stream.{specs.declared.taker.EventTaker.Ghosts, specs.Feeding.{GaveOn, Fed}, specs.Blocks.on_time, proofs.Gathering.floor_of-block}
 use Rattle.abs_time.{specs.Floors.orders_markers, proofs.Floors.moved_floor-push}
+use Rattle.command_work.proofs.Flushed.{PutText, PutsText}
 use Rattle.file_work.{specs.EventLines.{Listed, ListedShort}, specs.EventLaws.events_text-append}
 
 -- the lines of more events
@@ -43,45 +44,24 @@ lines-add : (how : StreamSettings) (words now : List ℕ) (more : Marked)
     → given how now ≡ given how words ++ more → lines_of how now ≡ lines_of how words ++ events_text more
 lines-add how words now more adds = ap events_text adds ∙ events_text-append (given how words) more
 
-module _ {T : Type 0} (g : Ghosts T) (told : T → SinkState) (held : T
-    → List ℕ) (how : StreamSettings) (a b : T) (c : SinkState) (words now : List ℕ) where
-  module _ (none : g.got a a []) (gets : (l : Marked) → g.got a b l → PassesOn (told a) (told b) (events_text l) (held b)) (breaks : (l : Marked)
-      → g.broke a b l → WroteShort (told a) (told b) (events_text l) × (held b ≡ [])) where
-    gave : Wrote (told b) c (held b) → GaveOn g how a b words now
-        → WroteText (lines_of how words) (lines_of how now) (told a) c
-    gave flushed r =
-        let got = r.follows a [] none in
-        record { more = events_text r.more; adds = lines-add how words now r.more r.adds; wrote = Wrote-flushed (told a) (told b) c _ (held b) (gets r.more got) flushed }
+-- What a piece put, by what its events were.
+module _ {T : Type 0} (g : Ghosts T) (told : T → SinkState) (held : T → List ℕ) (how : StreamSettings) (a b : T) (words now : List ℕ)
+    (none : g.got a a []) (gets : (l : Marked) → g.got a b l → PassesOn (told a) (told b) (events_text l) (held b))
+    (breaks : (l : Marked) → g.broke a b l → WroteShort (told a) (told b) (events_text l) × (held b ≡ [])) where
+  gave : GaveOn g how a b words now → PutText (lines_of how words) (lines_of how now) (told a) (told b) (held b)
+  gave r = record { more = events_text r.more; adds = lines-add how words now r.more r.adds; put = gets r.more (r.follows a [] none) }
 
-    -- What a piece wrote, by what its events were, where the block was flushed.
-    pub writes_on : {X : Type 0} (r : Result X Fault) → Wrote (told b) c (held b) → Fed g how a b words now r → WritesText (lines_of how words) (lines_of how now) (record_refusal how now) (told a) c r
-    writes_on (Ok x) flushed fed = (fed.0, gave flushed fed.1)
-    writes_on (Err fault) flushed fed =
-        ⊎_elim
-        (λ (r : (record_refusal how now ≡ Some fault) × GaveOn g how a b words now). inl (r.0, gave flushed r.1))
-        (λ (r : (fault ≡ WriteFault) × BrokeOn g how a b words now).
-        let broken = breaks r.1.front (r.1.broken a [] none) in
-        inr (
-          r.0,
-          record {
-            more = events_text (r.1.front ++ r.1.back);
-            adds = lines-add how words now (r.1.front ++ r.1.back) r.1.adds;
-            cut = rw (events_text-append r.1.front r.1.back) (WroteShort-more (told a) c (events_text r.1.front) (events_text r.1.back) (WroteShort-kept (told a) (told b) c _ broken.0 (rw broken.1 at flushed)));
-          },
-        ))
-        fed
-
-    -- What it wrote where the flush failed.
-    cut_on : (r : GaveOn g how a b words now) → WroteShort (told b) c (held b) → WritesText {X = Unit {0}} (lines_of how words) (lines_of how now) (record_refusal how now) (told a) c (Err WriteFault)
-    cut_on r short =
-        inr (refl, record { more = events_text r.more; adds = lines-add how words now r.more r.adds; cut = WroteShort-flushed (told a) (told b) c _ (held b) (gets r.more (r.follows a [] none)) short })
-
-    pub writes_cut : {X : Type 0} (r : Result X Fault) → WroteShort (told b) c (held b) → Fed g how a b words now r → WritesText {X = X} (lines_of how words) (lines_of how now) (record_refusal how now) (told a) c (Err WriteFault)
-    writes_cut (Ok x) short fed = cut_on fed.1 short
-    writes_cut (Err fault) short fed =
-        ⊎_elim
-        (λ (r : (record_refusal how now ≡ Some fault) × GaveOn g how a b words now). cut_on r.1 short)
-        (λ (r : (fault ≡ WriteFault) × BrokeOn g how a b words now).
-        let broken = breaks r.1.front (r.1.broken a [] none) in
-        absurd (WroteShort-none (told b) c (rw broken.1 at short)))
-        fed
+  pub puts-lines : {X : Type 0} (r : Result X Fault) → Fed g how a b words now r → PutsText (lines_of how words) (lines_of how now) (record_refusal how now) (told a) (told b) (held b) r
+  puts-lines (Ok x) fed = (fed.0, gave fed.1)
+  puts-lines (Err fault) (inl fed) = inl (fed.0, gave fed.1)
+  puts-lines (Err fault) (inr fed) =
+      let broken = breaks fed.1.front (fed.1.broken a [] none) in
+      inr (
+        fed.0,
+        record {
+          more = events_text (fed.1.front ++ fed.1.back);
+          adds = lines-add how words now (fed.1.front ++ fed.1.back) fed.1.adds;
+          cut = rw (events_text-append fed.1.front fed.1.back) (WroteShort-more (told a) (told b) (events_text fed.1.front) (events_text fed.1.back) broken.0);
+        },
+        broken.1,
+      )

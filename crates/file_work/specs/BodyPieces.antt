@@ -1,6 +1,6 @@
 -- What printing the body of a tag in pieces leaves.
 use Rattle.std.specs.Prelude.{ℕ, ◌≡◌, List, [], ◌++◌, codes, Bool, if◌then◌else◌, ◌+◌, ◌∷◌, length, true, false, Ok, Err}
-use Rattle.bench_io.specs.Sinks.{SinkState, Wrote, WroteShort, PassesOn}
+use Rattle.bench_io.{specs.Sinks.{SinkState, WroteShort, PassesOn}, specs.Texts.WroteText}
 use Rattle.ptu_tag.specs.declared.kind.TagKind.{TagKind}
 use Rattle.list_out.{specs.HeaderText.{body_text, kind_with, header_text}, specs.Lines.HasPut}
 use Rattle.tally_base.{specs.declared.header.Header.Header, specs.Faults.is_outside}
@@ -16,12 +16,6 @@ pub record PutsMore (shown grown : List ℕ) (old new : SinkState) (held now : L
   pub added : List ℕ
   pub text : grown ≡ shown ++ added
   pub put : PassesOn old new (held ++ added) now
-
--- It was written.
-pub record AppendsMore (shown grown : List ℕ) (old new : SinkState) : Type 0 where
-  pub added : List ℕ
-  pub text : grown ≡ shown ++ added
-  pub written : Wrote old new added
 
 -- It was cut short, after what a block held.
 pub record CutsMore (shown grown : List ℕ) (old new : SinkState) (held : List ℕ) : Type 0 where
@@ -61,7 +55,7 @@ abbrev pub PutsHeader : List ℕ → List ℕ → SinkState → SinkState → Li
 PutsHeader bytes piece = PutsMore (header_text bytes) (header_text (bytes ++ piece))
 
 abbrev pub AppendsHeader : List ℕ → List ℕ → SinkState → SinkState → Type 0
-AppendsHeader bytes piece = AppendsMore (header_text bytes) (header_text (bytes ++ piece))
+AppendsHeader bytes piece = WroteText (header_text bytes) (header_text (bytes ++ piece))
 
 abbrev pub CutsHeader : List ℕ → List ℕ → SinkState → SinkState → List ℕ → Type 0
 CutsHeader bytes piece = CutsMore (header_text bytes) (header_text (bytes ++ piece))

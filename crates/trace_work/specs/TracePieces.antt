@@ -1,8 +1,8 @@
 -- What the trace of words writes that come after others.
-use Rattle.std.specs.Prelude.{ℕ, ◌≡◌, ◌⊎◌, ◌≤◌, List, ◌++◌, OnOk, true, false, None, Some, Result, Ok, Err}
-use Rattle.tally_base.{specs.declared.fault.Fault.Fault, specs.declared.fault.Fault.TheVariants.WriteFault, specs.Faults.{is_outside, fault_in}, specs.Settings.trace_view}
-use Rattle.bench_io.{specs.declared.sink.Sink.Ghosts, specs.Sinks.WroteNone, specs.Texts.{WroteText, CutText}}
-use Rattle.ptu_definitions.{specs.Words.words_of, specs.Streams.{StreamSettings, streamed}}
+use Rattle.std.specs.Prelude.{ℕ, ◌≡◌, ◌≤◌, List, ◌++◌, OnOk, true, None, Some, Result, Ok, Err}
+use Rattle.tally_base.{specs.declared.fault.Fault.Fault, specs.declared.fault.Fault.TheVariants.WriteFault, specs.Faults.fault_in, specs.Settings.trace_view}
+use Rattle.bench_io.{specs.declared.sink.Sink.Ghosts, specs.Texts.WritesText}
+use Rattle.ptu_definitions.{specs.declared.records.Summary.Summary, specs.Words.words_of, specs.Streams.{StreamSettings, streamed}}
 use Rattle.gate_plan.{specs.Shifting.Sorting, specs.Histories.history}
 use Rattle.record_stream.{specs.declared.stream.RecordStream.RecordStream, specs.Standing.{how_of, given_by, greatest_of, refused_with, HasStreamed}}
 use Rattle.long_trace.{specs.declared.trace.LongTrace.LongTrace, specs.LongTrace.{Holds, set_of, taken_of, floor_of, is_going}, specs.Texts.open_text}
@@ -36,29 +36,15 @@ abbrev pub TracesPiece : {O : Type 0} → Ghosts O → Sorting → RecordStream 
 TracesPiece o by stream trace now piece old new result =
     refused_with stream ≡ None → (bytes : List ℕ) → HasStreamed stream bytes → TracesBytes by (how_of stream) trace bytes → TracedPiece o by stream trace now bytes piece old new result
 
--- the text of these bytes, and that of the whole kept list before its end
-abbrev pub text_so_far : LongTrace → Sorting → StreamSettings → List ℕ → List ℕ
-text_so_far trace by how bytes = words_traced (Some (trace_view (set_of trace))) by how (words_of bytes)
+-- the text of these bytes before its end, by the answer of their records: the lines of all bins that the whole kept list closes, or of those that what is settled does
+abbrev pub text_by : LongTrace → Sorting → StreamSettings → List ℕ → Result Summary Fault → List ℕ
+text_by trace by how bytes (Ok summary) = open_text (trace_view (set_of trace)) (history by how (words_of bytes))
+text_by trace by how bytes (Err fault) = words_traced (Some (trace_view (set_of trace))) by how (words_of bytes)
 
-abbrev pub text_of_all : LongTrace → Sorting → StreamSettings → List ℕ → List ℕ
-text_of_all trace by how bytes = open_text (trace_view (set_of trace)) (history by how (words_of bytes))
-
--- The trace was given what the stream kept back, and the lines of the bins that this closed were written. Then it stands for the whole kept list.
-pub record WroteLast {O : Type 0} (o : Ghosts O) (by : Sorting) (how : StreamSettings) (trace now : LongTrace) (old new : O) (bytes : List ℕ) : Type 0 where
-  pub clear : fault_in (streamed how bytes) ≡ None
-  pub stands : Holds now (history by how (words_of bytes))
-  pub wrote : WroteText (text_so_far trace by how bytes) (text_of_all trace by how bytes) (o.state old) (o.state new)
-
--- The lines were cut short.
-pub record CutLast {O : Type 0} (o : Ghosts O) (by : Sorting) (how : StreamSettings) (trace : LongTrace) (old new : O) (bytes : List ℕ) : Type 0 where
-  pub clear : fault_in (streamed how bytes) ≡ None
-  pub cut : CutText (text_so_far trace by how bytes) (text_of_all trace by how bytes) (o.state old) (o.state new)
-
--- what giving it what a stream keeps back wrote, by the answer
-abbrev pub WritesLast : {O : Type 0} → Ghosts O → Sorting → StreamSettings → LongTrace → LongTrace → O → O → List ℕ → Result (Unit {0}) Fault → Type 0
-WritesLast o by how trace now old new bytes (Ok done) = WroteLast o by how trace now old new bytes
-WritesLast o by how trace now old new bytes (Err fault) =
-    ((is_outside fault ≡ false) × (fault_in (streamed how bytes) ≡ Some fault) × WroteNone (o.state old) (o.state new)) ⊎ ((fault ≡ WriteFault) × CutLast o by how trace old new bytes)
+-- What giving the trace what a stream keeps back wrote, by the answer. Then it stands for the whole kept list.
+pub record WritesLast {O : Type 0} (o : Ghosts O) (by : Sorting) (how : StreamSettings) (trace now : LongTrace) (old new : O) (bytes : List ℕ) (result : Result (Unit {0}) Fault) : Type 0 where
+  pub writes : WritesText (words_traced (Some (trace_view (set_of trace))) by how (words_of bytes)) (text_by trace by how bytes (streamed how bytes)) (fault_in (streamed how bytes)) (o.state old) (o.state new) result
+  pub stands : OnOk result (Holds now (history by how (words_of bytes)))
 
 -- the same of a stream and a trace that stand for the same bytes
 abbrev pub EndsLines : {O : Type 0} → Ghosts O → Sorting → RecordStream → LongTrace → LongTrace → O → O → Result (Unit {0}) Fault → Type 0

@@ -1,4 +1,3 @@
-use Rattle.std.proofs.Common.{refl}
 use Rattle.record_stream.proofs.Lasts.{streamed-clear}
 use Rattle.gate_plan.specs.Groups.{sorting_of}
 use Rattle.trace_work.{specs.TraceOutcomes.traced_none, proofs.TraceFeeds.ends-both}
@@ -8,10 +7,9 @@ use Rattle.trace_work.proofs.trace.end_lines.Goals as goal
 pub returns-clause-writes : goal.returns-clause-writes
 returns-clause-writes g c = λ bytes h holds.
     let fin = c.finish-finished.ensures in
-    let clear = streamed-clear _ _ _ _ _ _ _ bytes h c.requires.going in
-    rw c.both.ensures
-    (ends-both _ (λ t. t.trace.now) (λ t. g.O.Sink.state t.out.now) (λ t. t.block) (sorting_of c.args.lines.now.gates.now) _ _ _ _ (traced_none _ _ _ _ _ _ _)
+    let it = ends-both _ (λ t. t.trace.now) (λ t. g.O.Sink.state t.out.now) (λ t. t.block) (sorting_of c.args.lines.now.gates.now) _ _ _ (traced_none _ _ _ _ _ _ _)
     (λ l is. record { lines = is.lines; given = is.given; text = rw c.requires.begins.empty at is.text })
     (λ l is. record { lines = is.lines; closed = is.closed; text = rw c.requires.begins.empty at is.text; empty = is.empty })
-    c.args.lines.now.trace.now.set.some_width.0 bytes holds g.O.Sink _ _ refl refl c.finish-finished.result c.flush-flushed.result (fin.inside c.requires.going) clear c.requires.begins.empty c.flush-flushed.ensures.all c.flush-flushed.ensures.short
-    (fin.answer (not_written _ c.requires.going) bytes h))
+    c.args.lines.now.trace.now.counting.set.some_width.0 bytes holds _ c.finish-finished.result c.flush-flushed.result (streamed-clear _ _ _ _ _ _ _ bytes h c.requires.going) c.requires.begins.empty c.flush-flushed.ensures.all c.flush-flushed.ensures.short
+    (fin.answer (not_written _ c.requires.going) bytes h) in
+    rw c.both.ensures (record { writes = it.0; stands = it.1 })

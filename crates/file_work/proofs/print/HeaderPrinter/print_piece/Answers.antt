@@ -12,4 +12,4 @@ returns-in_err-flush-clause-short g c =
 pub returns-clause-text : goal.returns-clause-text
 returns-clause-text g c = λ bytes h.
     let put = rw c.new-block.ensures at (c.in_ok-printed.ensures.text bytes h) in
-    record { added = put.added; text = put.text; written = Wrote-flushed _ _ _ put.added c.put_piece.new.block put.put c.in_ok-flush.ensures.all }
+    record { more = put.added; adds = put.text; wrote = Wrote-flushed _ _ _ put.added c.put_piece.new.block put.put c.in_ok-flush.ensures.all }
