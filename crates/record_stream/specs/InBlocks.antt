@@ -38,6 +38,11 @@ module _ {T : Type 0} (g : Ghosts T) where
     pub moved : floor_with new now ≡ max (floor_with old es) (floor_of (g.mode old) l)
     pub same_mode : g.mode new ≡ g.mode old
 
+  -- A late event may come next: no event waits, or it may pass those that do, which are no more than before.
+  pub record MakesWay {N : ℕ} (old new : Block N) : Type 0 where
+    pub free : (gathered new ≡ []) ⊎ LetsLatePass g.got g.broke
+    pub few : length (gathered new) ≤ length (gathered old)
+
   -- It broke at one of them.
   pub record Breaks (old new : T) (es : List Event) (l : Marked) : Type 0 where
     pub front : Marked

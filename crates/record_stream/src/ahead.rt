@@ -2,7 +2,7 @@
 ghost use Rattle.std.specs.Prelude.{◌≡◌, ◌+◌, ◌*◌, ◌^◌, ◌<◌, ◌≤◌, ◌∷◌, ℕ, List, length, IfSome, if◌then◌else◌};
 ghost use Rattle.tally_base.specs.declared.header.Mode.{Mode};
 ghost use Rattle.lane_decode.specs.{InColumns.{HasRows, row_at, wraps_at, sum_to, time_in}, Staying.staying};
-ghost use Rattle.record_stream.specs.{Rows.{ordered_below, gathered_below}, Whole.{last_time, LeadsTo}, Walking.how_of};
+ghost use Rattle.record_stream.specs.{Rows.{ordered_below, gathered_below}, Runs.IsBlock, Whole.{last_time, LeadsTo}, Walking.how_of};
 
 use crate::count::{Sums, stops_reserved};
 use crate::walk::Walk;
@@ -28,19 +28,21 @@ pub struct Ahead {
 }
 
 impl Ahead {
-    /// Where these words lead. None: one may be refused, or late. It may also say so of an event that is not late, after
-    /// a time that is longer than a wrap, at or after a marker of T2 out of order, or at a reserved record.
+    /// Puts the records of words into columns, and says where they lead. None: one may be refused, or late. It may also
+    /// say so of an event that is not late, after a time that is longer than a wrap, at or after a marker of T2 out of
+    /// order, or at a reserved record.
     #[inline(always)]
     pub(crate) fn of<R: RecordLayout>(
         walk: &Walk,
         words: &[[u8; 4]],
-        columns: &Columns,
+        columns: &mut Columns,
     ) -> Option<Ahead>
         requires meaning { R.meaning ≡ (how_of walk.now).meaning }
         requires whole { length words.now ≡ BLOCK_SIZE }
-        requires rows { HasRows R.meaning R.UNIT columns.now words.now }
-        ensures { IfSome result (LeadsTo walk.now words.now R.UNIT columns.now) }
+        ensures block { IsBlock R.meaning R.UNIT columns.new words.now }
+        ensures leads { IfSome result (LeadsTo walk.now words.now R.UNIT columns.new) }
     {
+        columns.fill::<R>(words);
         let counts = columns.kinds::<R>(words);
         let stops = stops_reserved(walk.policy.reserved) && counts.reserved > 0;
         let fits = counts.records <= walk.policy.records - walk.sums.records;

@@ -35,6 +35,7 @@ pub(crate) fn put_events<R: RecordLayout>(
 
 /// Counts the records of words, of which these are the kinds, and notes the times of the first and the last of their
 /// events, if they have any. None is late.
+#[inline(always)]
 pub(crate) fn add_block(sums: &mut Sums, counts: &KindCounts, first: u64, last: Option<u64>)
     requires few { sums.old.records + counts.now.records ≤ record_limit }
     requires split { IsSplit counts.now }
@@ -135,9 +136,8 @@ impl GivingOrder for FileOrder {
         words: &[[u8; 4]],
         taker: &mut W,
     ) -> Result<(), Fault> {
-        self.columns.fill::<R>(words);
-        let Some(ahead) = Ahead::of::<R>(walk, words, &self.columns) else {
-            return walk.words::<R, FileOrder, W>(settle, words, taker);
+        let Some(ahead) = Ahead::of::<R>(walk, words, &mut self.columns) else {
+            return walk.runs::<R, FileOrder, W>(settle, words, &self.columns, taker);
         };
         let clock = walk.clock;
         if taker

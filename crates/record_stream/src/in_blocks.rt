@@ -1,8 +1,8 @@
 // Events in blocks.
-ghost use Rattle.std.{specs.Prelude.{◌≡◌, ◌+◌, ◌<◌, ◌≤◌, [], true, length, OnOk, OnErr, ◌⊎◌}, proofs.Props.props};
+ghost use Rattle.std.{specs.Prelude.{◌≡◌, ◌+◌, ◌<◌, ◌≤◌, [], true, length, OnOk, OnErr}, proofs.Props.props};
 ghost use Rattle.abs_time.proofs.Floors.{kind_fits-prop};
 ghost use Rattle.tally_base.{specs.FaultCounts.FailsOnce, specs.Columns.{sorted, gathered}, proofs.Floors.in_order-prop};
-ghost use Rattle.record_stream.specs.{InBlocks.{GoesOn, Breaks, Waits}, Blocks.LetsLatePass};
+ghost use Rattle.record_stream.specs.InBlocks.{GoesOn, Breaks, MakesWay, Waits};
 
 use crate::ahead::Ahead;
 use crate::blocks::put_events;
@@ -68,8 +68,7 @@ pub(crate) fn give_before_late<S: EventTaker>(
         (gathered block.new) []) }
     ensures broken { OnErr result (Breaks S.EventTaker taker.old taker.new (gathered block.old) []) }
     ensures waits { Waits S.EventTaker taker.new block.new }
-    ensures passed { (gathered block.new ≡ []) ⊎ LetsLatePass S.got S.broke }
-    ensures few { length (gathered block.new) ≤ length (gathered block.old) }
+    ensures passed { MakesWay S.EventTaker block.old block.new }
     ensures cause { FailsOnce (S.faults taker.old) (S.faults taker.new) result }
     ensures same { S.same taker.old taker.new }
 {

@@ -1,5 +1,6 @@
-//! From bytes to events: each photon and marker of a stream of records, once and in order, given to a taker. Begin
-//! with `stream.rt` and `taker.rt`; `blocks.rt` takes 64 words at a time, and `walk.rt` one.
+//! From bytes to events: the photons and markers of a stream of records, each given to a taker at most once, and in
+//! order but for late ones, which may come sooner to a taker that lets them. Begin with `stream.rt` and `taker.rt`;
+//! `blocks.rt` takes 64 words at a time, `runs.rt` those with late events, and `walk.rt` one word.
 #![tactic(auto)]
 
 mod ahead;
@@ -9,6 +10,7 @@ mod count;
 mod in_blocks;
 pub mod laws;
 mod letting_go;
+mod runs;
 mod settled;
 mod settled_blocks;
 mod stream;

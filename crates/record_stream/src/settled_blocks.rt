@@ -84,9 +84,8 @@ impl GivingOrder for InPlace {
         words: &[[u8; 4]],
         taker: &mut W,
     ) -> Result<(), Fault> {
-        self.columns.fill::<R>(words);
-        let Some(ahead) = Ahead::of::<R>(walk, words, &self.columns) else {
-            return walk.words::<R, InPlace, W>(settle, words, taker);
+        let Some(ahead) = Ahead::of::<R>(walk, words, &mut self.columns) else {
+            return walk.runs::<R, InPlace, W>(settle, words, &self.columns, taker);
         };
         let clock = walk.clock;
         let below = ordered_below(clock.mode());

@@ -31,7 +31,7 @@ pub struct Walk {
 }
 
 impl Walk {
-    ghost use Rattle.record_stream.{specs.OneMore.with_event, specs.Feeding.{Follows, Delivers}, specs.Walking.{how_of, given_by, KeepsPlace, IsBehind, CanGive, Gave, WalksOn}, specs.Keeping.IsKeeping, specs.Settling.{floor_in, ComesUp, HasTaken, IsFollowedBy, IsReady, StaysKept, TellsAfterAny}, specs.Rows.{IsPlaced, CountsOne, KeepsGiven}};
+    ghost use Rattle.record_stream.{specs.OneMore.with_event, specs.Feeding.{Follows, Delivers}, specs.Walking.{how_of, given_by, KeepsPlace, IsBehind, CanGive, Gave, WalksOn}, specs.Keeping.IsKeeping, specs.Settling.{floor_in, ComesUp, HasTaken, IsReady, StaysKept, TellsAfterAny}, specs.Rows.{IsPlaced, CountsOne, KeepsGiven}};
 
     /// What a word means.
     #[inline(always)]
@@ -72,7 +72,7 @@ impl Walk {
 
     /// Takes the next word.
     #[inline(always)]
-    fn step<R: RecordLayout, O: SettlesEvents, S: EventTaker>(
+    pub(crate) fn step<R: RecordLayout, O: SettlesEvents, S: EventTaker>(
         &mut self,
         settle: &mut Settle,
         word: u32,
@@ -110,9 +110,8 @@ impl Walk {
         taker: &mut S,
     ) -> Result<(), Fault>
         requires is_for { O.is_for (how_of self.old).policy.settle }
-        requires keeps { IsKeeping self.old settle.old }
+        requires ready { IsReady S.EventTaker self.old settle.old taker.old }
         requires comes { ComesUp self.old settle.old event late }
-        requires follows { IsFollowedBy S.EventTaker self.old settle.old taker.old }
         ensures tells { TellsAfterAny S.EventTaker self.old self.new settle.old settle.new taker.old
             taker.new event before late result }
         ensures goes_on { OnOk result (Follows S.EventTaker (how_of self.old).mode

@@ -5,13 +5,13 @@ use Rattle.record_stream.{specs.Whole.{last_time, InReach}, specs.Rows.ordered_b
 use Rattle.record_stream.proofs.ahead.Ahead.of.Goals as goal
 
 pub wraps_in-wraps-requires : goal.wraps_in-wraps-requires
-wraps_in-wraps-requires g c = λ i lt. let is = c.requires.rows i (omega (arith, c.requires.whole, lt)) in g.met.R.RecordLayout.wraps_few _ _ is.amounts
+wraps_in-wraps-requires g c = λ i lt. let is = c.fill.ensures i (omega (arith, c.requires.whole, lt)) in g.met.R.RecordLayout.wraps_few _ _ is.amounts
 
-pub returns : goal.returns
-returns g c =
+pub returns-clause-leads : goal.returns-clause-leads
+returns-clause-leads g c =
     let walk = c.args.walk.now in
     let words = c.args.words.now in
-    let columns = c.args.columns.now in
+    let columns = c.fill.new.self in
     let unit = g.R.RecordLayout.UNIT in
     let meaning = g.R.RecordLayout.meaning in
     let whole = c.requires.whole in
@@ -21,7 +21,7 @@ returns g c =
     let rises : Rises (greatest_of walk) (time_in start unit columns) 64 =
     rw (c.base-start.ensures.value, c.greatest-low.ensures) at (c.rises-in_order.ensures.rises sure) in
     let few : (i : ℕ) → i < 64 → wraps_at columns i ≤ 2 ^ 25 = λ i lt.
-    g.met.R.RecordLayout.wraps_few (from_le_bytes w32 (get_or words i [])) (wraps_at columns i) (c.requires.rows i (omega (arith, whole, lt))).amounts in
+    g.met.R.RecordLayout.wraps_few (from_le_bytes w32 (get_or words i [])) (wraps_at columns i) (c.fill.ensures i (omega (arith, whole, lt))).amounts in
     let times : (i : ℕ) → i < 64 → time_in start unit columns i < 2 ^ 64 = λ i lt.
     let sum = sum_to (wraps_at columns) (i + 1) in
     let unit_few : unit ≤ 2 ^ 28 = omega (arith, g.met.R.RecordLayout.unit_small) in
@@ -42,9 +42,9 @@ returns g c =
       room = omega (arith, passes.room, whole);
       reach = reach;
       in_short = record {
-        events = many-events meaning unit columns words c.requires.rows c.kinds-counts.result whole c.kinds-counts.ensures.value ∙ sym (length-map (staying 512 columns 64) (event_in (placed_by (clock_in walk)) start unit columns));
+        events = many-events meaning unit columns words c.fill.ensures c.kinds-counts.result whole c.kinds-counts.ensures.value ∙ sym (length-map (staying 512 columns 64) (event_in (placed_by (clock_in walk)) start unit columns));
         last = last_is;
         greatest = top_is ∙ ap (λ m. last_time (ordered_below m) start unit columns) (sym walk.same_mode);
       };
-      gathers = λ only. gathers-whole walk words meaning c.requires.meaning passes unit columns c.requires.rows whole rises only _ _ sum_is top_is;
+      gathers = λ only. gathers-whole walk words meaning c.requires.meaning passes unit columns c.fill.ensures whole rises only _ _ sum_is top_is;
     }

@@ -9,9 +9,9 @@ use Rattle.record_stream.proofs.blocks.FileOrderGivingOrder.take_block.Goals as 
 pub take_columns-requires-clause-can : goal.take_columns-requires-clause-can
 take_columns-requires-clause-can g c =
     let walk = c.args.walk.now in
-    let lead = c.in-Some.ensures in
+    let lead = c.in-Some.ensures.leads in
     let unit = g.R.RecordLayout.UNIT in
-    let columns = c.fill.new.self in
+    let columns = c.of.new.columns in
     let es = events_below 512 (clock_in walk) unit columns in
     let line = (gathers-all walk c.args.words.now _ _ es (lead.gathers false)).0 in
     let follows = c.requires.ready.follows in
@@ -25,35 +25,35 @@ take_columns-requires-clause-can g c =
 
 pub go_on-requires-clause-stands : goal.go_on-requires-clause-stands
 go_on-requires-clause-stands g c =
-    let lead = c.in-Some.ensures in
+    let lead = c.in-Some.ensures.leads in
     rw (c.unwrap_or-greatest.ensures, c.greatest-low.ensures)
     (gathers-lead _ (lead.gathers false) (omega (arith, c.placed.ensures.value, lead.records)))
 
 pub go_on-requires-clause-limit : goal.go_on-requires-clause-limit
-go_on-requires-clause-limit g c = (c.in-Some.ensures.gathers false).limit
+go_on-requires-clause-limit g c = (c.in-Some.ensures.leads.gathers false).limit
 
 pub overflow_add-walk : goal.overflow_add-walk
 overflow_add-walk g c =
-    let lead = c.in-Some.ensures in
+    let lead = c.in-Some.ensures.leads in
     let walk = c.args.walk.now in
-    omega (arith, walk.few_given, walk.limit, lead.room, lead.in_short.events, few-events (clock_in walk) g.R.RecordLayout.UNIT c.fill.new.self 512)
+    omega (arith, walk.few_given, walk.limit, lead.room, lead.in_short.events, few-events (clock_in walk) g.R.RecordLayout.UNIT c.of.new.columns 512)
 
 pub overflow_add-walk-2 : goal.overflow_add-walk-2
 overflow_add-walk-2 g c =
-    let lead = c.in-Some.ensures in
+    let lead = c.in-Some.ensures.leads in
     let walk = c.args.walk.now in
-    omega (arith, walk.few_given, walk.limit, lead.room, lead.in_short.events, few-events (clock_in walk) g.R.RecordLayout.UNIT c.fill.new.self 512)
+    omega (arith, walk.few_given, walk.limit, lead.room, lead.in_short.events, few-events (clock_in walk) g.R.RecordLayout.UNIT c.of.new.columns 512)
 
 pub invariant_of-walk-clause-few_given : goal.invariant_of-walk-clause-few_given
 invariant_of-walk-clause-few_given g c =
-    let lead = c.in-Some.ensures in
+    let lead = c.in-Some.ensures.leads in
     omega (arith, c.args.walk.now.few_given, c.add_block.ensures.records, lead.split, lead.records)
 
 pub returns-then-is_err-clause-delivers : goal.returns-then-is_err-clause-delivers
 returns-then-is_err-clause-delivers g c = delivers-both g.W.EventTaker (λ before h.
     let walk = c.args.walk.now in
-    let lead = c.in-Some.ensures in
-    let es = events_below 512 (clock_in walk) g.R.RecordLayout.UNIT c.fill.new.self in
+    let lead = c.in-Some.ensures.leads in
+    let es = events_below 512 (clock_in walk) g.R.RecordLayout.UNIT c.of.new.columns in
     let adds = (gathers-all walk c.args.words.now _ _ es (lead.gathers false)).1 before h.at in
     let failed = sym c.is_err.ensures.value ∙ c.if-is_err.true in
     let r = c.take_columns.result in
@@ -62,9 +62,9 @@ returns-then-is_err-clause-delivers g c = delivers-both g.W.EventTaker (λ befor
 pub returns-clause-delivers : goal.returns-clause-delivers
 returns-clause-delivers g c = delivers-both g.W.EventTaker (λ before h.
     let walk = c.args.walk.now in
-    let lead = c.in-Some.ensures in
+    let lead = c.in-Some.ensures.leads in
     let unit = g.R.RecordLayout.UNIT in
-    let columns = c.fill.new.self in
+    let columns = c.of.new.columns in
     let words = c.args.words.now in
     let es = events_below 512 (clock_in walk) unit columns in
     let adds = (gathers-all walk words _ _ es (lead.gathers false)).1 before h.at in
@@ -86,8 +86,8 @@ pub returns-clause-goes_on : goal.returns-clause-goes_on
 returns-clause-goes_on g c =
     let walk = c.args.walk.now in
     let w = g.W.EventTaker in
-    let lead = c.in-Some.ensures in
-    let es = events_below 512 (clock_in walk) g.R.RecordLayout.UNIT c.fill.new.self in
+    let lead = c.in-Some.ensures.leads in
+    let es = events_below 512 (clock_in walk) g.R.RecordLayout.UNIT c.of.new.columns in
     let line = (gathers-all walk c.args.words.now _ _ es (lead.gathers false)).0 in
     let follows = c.requires.ready.follows in
     let fine = sym c.is_err.ensures.value ∙ c.if-is_err.false in
@@ -110,7 +110,7 @@ returns-clause-goes_on g c =
 pub returns-clause-stays : goal.returns-clause-stays
 returns-clause-stays g c =
     let keeps = c.requires.ready.keeps in
-    let lead = c.in-Some.ensures in
+    let lead = c.in-Some.ensures.leads in
     let none : length (kept_back c.args.settle.now) ≡ 0 = omega (arith, c.args.settle.now.few, keeps.reach, c.requires.is_for) in
     let counted = lead.records in
     let split = lead.split in

@@ -12,12 +12,12 @@ pub returns-then-late-clause-follows : goal.returns-then-late-clause-follows
 returns-then-late-clause-follows g c =
     let take = c.take.ensures in
     rw c.if-late.true (on_ok_weaker c.take.result (λ given start l on. goes_on-trans g.S.EventTaker on given)
-    (late-given g.S.EventTaker c.take.result _ c.args.event.now c.in_ok-give_before_late.ensures.passed c.in_ok-give_before_late.ensures.gave take.follows take.one_more take.same_mode take.moved))
+    (late-given g.S.EventTaker c.take.result _ c.args.event.now c.in_ok-give_before_late.ensures.passed.free c.in_ok-give_before_late.ensures.gave take.follows take.one_more take.same_mode take.moved))
 
 pub returns-then-late-clause-broken : goal.returns-then-late-clause-broken
 returns-then-late-clause-broken g c =
     rw c.if-late.true (on_err_weaker c.take.result (λ broken start l on. breaks-behind g.S.EventTaker on broken)
-    (late-broken g.S.EventTaker c.take.result _ c.args.event.now (g.met.S.EventTaker.got_none _) c.in_ok-give_before_late.ensures.passed c.in_ok-give_before_late.ensures.gave c.take.ensures.broken))
+    (late-broken g.S.EventTaker c.take.result _ c.args.event.now (g.met.S.EventTaker.got_none _) c.in_ok-give_before_late.ensures.passed.free c.in_ok-give_before_late.ensures.gave c.take.ensures.broken))
 
 pub make_room-requires : goal.make_room-requires
 make_room-requires g c =
@@ -54,4 +54,4 @@ pub invariant_of-self-then-late-clause-waits : goal.invariant_of-self-then-late-
 invariant_of-self-then-late-clause-waits g c =
     let take = c.take.ensures in
     let before = c.in_ok-give_before_late.ensures in
-    late-waits g.S.EventTaker c.take.result _ _ c.args.event.now (g.met.S.EventTaker.got_none _) before.passed before.waits take.broken (omega (arith, c.requires.room, before.gave.counted)) take.one_more take.same_mode take.moved
+    late-waits g.S.EventTaker c.take.result _ _ c.args.event.now (g.met.S.EventTaker.got_none _) before.passed.free before.waits take.broken (omega (arith, c.requires.room, before.gave.counted)) take.one_more take.same_mode take.moved

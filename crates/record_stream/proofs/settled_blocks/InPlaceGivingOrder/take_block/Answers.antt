@@ -67,7 +67,7 @@ pub let_go-requires-clause-comes : goal.let_go-requires-clause-comes
 let_go-requires-clause-comes g c =
     let walk = c.args.walk.now in
     let mode = (how_of walk).mode in
-    let those = those_in c.in-Some.ensures c.ordered_below-below.ensures c.mode.ensures c.clear.ensures.empty c.put_events.ensures.more in
+    let those = those_in c.in-Some.ensures.leads c.ordered_below-below.ensures c.mode.ensures c.clear.ensures.empty c.put_events.ensures.more in
     let all = those.0 in
     rw all.chosen (record {
       places = places-ordered mode _ all.came all.places.rises;
@@ -81,9 +81,9 @@ put_events-requires-clause-room g c = omega (arith, length-rows (event_at c.clea
 
 pub take_block-requires-clause-room : goal.take_block-requires-clause-room
 take_block-requires-clause-room g c =
-    let those = those_in c.in-Some.ensures c.ordered_below-below.ensures c.mode.ensures c.clear.ensures.empty c.put_events.ensures.more in
+    let those = those_in c.in-Some.ensures.leads c.ordered_below-below.ensures c.mode.ensures c.clear.ensures.empty c.put_events.ensures.more in
     let ready = c.requires.ready in
-    omega (arith, ready.follows.few, ready.keeps.room, c.let_go.ensures.lets_go.count, those.1, c.in-Some.ensures.room, c.args.walk.now.limit)
+    omega (arith, ready.follows.few, ready.keeps.room, c.let_go.ensures.lets_go.count, those.1, c.in-Some.ensures.leads.room, c.args.walk.now.limit)
 
 pub take_block-requires-clause-fit : goal.take_block-requires-clause-fit
 take_block-requires-clause-fit g c = rw c.requires.ready.follows.mode_is c.let_go.ensures.lets_go.line.fit
@@ -95,17 +95,17 @@ take_block-requires-clause-in_order g c =
     rw follows.mode_is (order-lower _ _ (last_time c.args.settle.now) _ (omega (arith, follows.before, low)) c.let_go.ensures.lets_go.line.in_order)
 
 pub go_on-requires-clause-limit : goal.go_on-requires-clause-limit
-go_on-requires-clause-limit g c = (c.in-Some.ensures.gathers true).limit
+go_on-requires-clause-limit g c = (c.in-Some.ensures.leads.gathers true).limit
 
 pub go_on-requires-clause-stands : goal.go_on-requires-clause-stands
 go_on-requires-clause-stands g c =
-    let lead = c.in-Some.ensures in
+    let lead = c.in-Some.ensures.leads in
     rw (c.unwrap_or-greatest.ensures, c.greatest-low.ensures)
     (gathers-lead _ (lead.gathers true) (omega (arith, c.placed.ensures.value, lead.records)))
 
 pub returns-then-is_err-clause-delivers : goal.returns-then-is_err-clause-delivers
 returns-then-is_err-clause-delivers g c = delivers-both g.W.EventTaker (λ before h.
-    let those = those_in c.in-Some.ensures c.ordered_below-below.ensures c.mode.ensures c.clear.ensures.empty c.put_events.ensures.more in
+    let those = those_in c.in-Some.ensures.leads c.ordered_below-below.ensures c.mode.ensures c.clear.ensures.empty c.put_events.ensures.more in
     let all = those.0 in
     let how = how_of c.args.walk.now in
     let went = gathered c.let_go.new.out in
@@ -123,8 +123,8 @@ returns g c =
     let words = c.args.words.now in
     let walk = c.args.walk.now in
     let how = how_of walk in
-    let lead = c.in-Some.ensures in
-    let those = those_in c.in-Some.ensures c.ordered_below-below.ensures c.mode.ensures c.clear.ensures.empty c.put_events.ensures.more in
+    let lead = c.in-Some.ensures.leads in
+    let those = those_in c.in-Some.ensures.leads c.ordered_below-below.ensures c.mode.ensures c.clear.ensures.empty c.put_events.ensures.more in
     let all = those.0 in
     let went = gathered c.let_go.new.out in
     let l = c.let_go.ensures.lets_go in
@@ -163,13 +163,13 @@ returns g c =
 
 pub returns-then-is_err-clause-stays : goal.returns-then-is_err-clause-stays
 returns-then-is_err-clause-stays g c =
-    let those = those_in c.in-Some.ensures c.ordered_below-below.ensures c.mode.ensures c.clear.ensures.empty c.put_events.ensures.more in
+    let those = those_in c.in-Some.ensures.leads c.ordered_below-below.ensures c.mode.ensures c.clear.ensures.empty c.put_events.ensures.more in
     let behind = chosen-behind (how_of c.args.walk.now).mode those.0.chosen those.0.places in
     let few = those.1 in
-    let counted = c.in-Some.ensures.records in
+    let counted = c.in-Some.ensures.leads.records in
     search (rules, arith, kept_on, behind, few, counted)
 
 pub invariant_of-walk-clause-few_given : goal.invariant_of-walk-clause-few_given
 invariant_of-walk-clause-few_given g c =
-    let those = those_in c.in-Some.ensures c.ordered_below-below.ensures c.mode.ensures c.clear.ensures.empty c.put_events.ensures.more in
-    omega (arith, c.requires.ready.keeps.room, c.let_go.ensures.lets_go.count, those.1, c.add_given.ensures.records, c.in-Some.ensures.records, c.len.ensures.value)
+    let those = those_in c.in-Some.ensures.leads c.ordered_below-below.ensures c.mode.ensures c.clear.ensures.empty c.put_events.ensures.more in
+    omega (arith, c.requires.ready.keeps.room, c.let_go.ensures.lets_go.count, those.1, c.add_given.ensures.records, c.in-Some.ensures.leads.records, c.len.ensures.value)

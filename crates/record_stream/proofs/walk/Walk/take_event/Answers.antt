@@ -28,4 +28,4 @@ returns-in-None-clause-tells g c = λ earlier l so come.
 
 pub returns-then-settled-clause-goes_on : goal.returns-then-settled-clause-goes_on
 returns-then-settled-clause-goes_on g c =
-    late_follows g.S.EventTaker c.give_event.result c.args.self.now c.give_event.new.self c.args.settle.now c.settle_event-settled.new.settle _ _ c.args.event c.give_event.ensures.gave c.give_event.ensures.keeps c.requires.follows c.settle_event-settled.ensures.rises
+    late_follows g.S.EventTaker c.give_event.result c.args.self.now c.give_event.new.self c.args.settle.now c.settle_event-settled.new.settle _ _ c.args.event c.give_event.ensures.gave c.give_event.ensures.keeps c.requires.ready.follows c.settle_event-settled.ensures.rises
