@@ -78,6 +78,7 @@ impl Walk {
 
     /// Takes the words of a block, of which these are the records, one after the other, but reserved ones in runs: they
     /// come and go without a branch that the processor has to guess.
+    #[inline(never)]
     pub(crate) fn runs<R: RecordLayout, O: SettlesEvents, S: EventTaker>(
         &mut self,
         settle: &mut Settle,
