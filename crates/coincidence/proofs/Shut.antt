@@ -1,7 +1,7 @@
 -- What a bin brings when it is closed.
-use Rattle.std.{proofs.Common.{◌≡◌, sym, ap, append_assoc, ℕ, ◌+◌, ◌-◌, ◌*◌, ◌/◌, ◌<◌, ◌≤◌, Bool, true, false, ◌&&◌, leb, eqb, cond, List, [], ◌∷◌, ◌++◌, length, refl, ◌∙◌, arith, length-append, append-nil, rules}, specs.List.{sum_by, filter, AllByRecursion}, proofs.Math.Logic.{∥∥₁_map}, proofs.Math.Nat.{mul-le-mul, mul-le-mul_right}, proofs.lemmas.Grind.common_steps}
+use Rattle.std.{proofs.Common.{◌≡◌, sym, ap, append_assoc, ℕ, ◌+◌, ◌-◌, ◌*◌, ◌/◌, ◌<◌, ◌≤◌, Bool, true, false, ◌&&◌, leb, eqb, cond, List, [], ◌∷◌, ◌++◌, length, refl, ◌∙◌, arith, length-append, append-nil, rules}, specs.List.{sum_by, filter, AllByRecursion}, proofs.Math.Logic.{∥∥₁_map}, proofs.Math.Nat.{mul-le-mul, mul-le-mul_right}, proofs.lemmas.Grind.common_steps, proofs.lemmas.List.Elements.filter-append}
 use Rattle.tally_base.{specs.Settings.{CoincidenceView}, specs.Tally.History, specs.Limits.record_limit}
-use Rattle.lag_ring.{specs.declared.window.Side.{Side, TheVariants.{First, Second}}, specs.declared.ring.Entry.Entry, specs.Cells.Cells, specs.Ring.{Ring, ring, IsRising, weight_where, IsInReach}, proofs.Kept.{HasWeights, weights_of, room_after, kept_after}, proofs.Lists.{all_filter}, proofs.Rising.{all_weaker, rising_push, rising_filter}, proofs.Sums.{sum_by-same, sum_by-times, sum_by-zero}}
+use Rattle.lag_ring.{specs.declared.window.Side.{Side, TheVariants.{First, Second}}, specs.declared.ring.Entry.Entry, specs.Cells.Cells, specs.Ring.{Ring, ring, IsRising, weight_where, IsInReach, Keeps}, proofs.Kept.{HasWeights, weights_of, weights_on, kept_late}, proofs.Lists.{all_back, all_filter, of_some}, proofs.Rising.{all_push, all_weaker, rising_push, rising_filter}, proofs.Sums.{sum_by-same, sum_by-times, sum_by-zero}}
 use Rattle.coincidence.{specs.declared.pairing.Bin.Bin, specs.Pairs.{in_first, in_second, is_in_cell, is_coincidence, coincidences}, specs.Pairing.{pairs_of_all, pairs_with, bin_pairs, BinIs, BinsAre, RingIs, CellsAre, Pending, MayClose, Closes, Pays, HasRoom, Counts}, specs.declared.pairing.Pairing.Pairing, proofs.Hits.{pairs_in, hits-append, pairs_in-one, pairs_in-le}, proofs.Mirror.pairs_apart-in, proofs.Visits.{pairs_far, room_as, counts_as}}
 
 scaled : (test : Entry → Bool) (f : Entry → ℕ) (w : ℕ) (es : List Entry) → sum_by (λ e. cond (test e) (f e * w) 0) es ≡ sum_by (λ e. cond (test e) (f e) 0) es * w
@@ -76,21 +76,26 @@ module _ (set : CoincidenceView) (r : Ring) (bin : Bin) (closed xs : History) (c
     pub before_left : AllByRecursion (λ e. e.index < bin.weights.index) left
     before_left = all_filter (λ e. e.index < bin.weights.index) (λ f. leb (bin.weights.index - (set.reach - 1)) f.index) r.entries before
 
-    kept_by_ring : left ≡ filter (λ f. leb (bin.weights.index - (r.reach - 1)) f.index) r.entries
-    kept_by_ring = rw can.were.reach refl
-
     left_rises : IsRising left
     left_rises = rising_filter (λ f. leb (bin.weights.index - (set.reach - 1)) f.index) r.entries can.were.rising
 
+    kept : Keeps (in_first set) (in_second set) (λ x. x.0.time) (ring (left ++ bin.weights ∷ []) set.reach) (closed ++ xs)
+    kept =
+        let n : ℕ = bin.weights.index in
+        let stays : Entry → Bool = λ f. leb (n - (set.reach - 1)) f.index in
+        let all = weights_on (in_first set) (in_second set) (λ x. x.0.time) set.reach r.entries closed xs bin.weights (ring_weights set r closed can.were) can.is.weighs in
+        let late = kept_late (in_first set) (in_second set) (λ x. x.0.time) set.reach (r.entries ++ bin.weights ∷ []) (closed ++ xs) n some
+        (λ m any under. of_some (λ x. x.0.time) n (λ k. k < m) xs can.is.weighs.some can.is.weighs.here (all_back (λ x. x.0.time < m) closed xs under)) all
+        (rising_push r.entries bin.weights can.were.rising before) (all_push (λ e. e.index ≤ n) r.entries bin.weights (all_weaker (λ e. e.index < n) (λ e. e.index ≤ n) (λ e under. omega arith) r.entries before) (omega arith)) in
+        let stay : stays bin.weights ≡ true = search (rules, arith) in
+        let split : filter stays (r.entries ++ bin.weights ∷ []) ≡ left ++ bin.weights ∷ [] = filter-append stays r.entries (bin.weights ∷ []) ∙ rw stay refl in
+        (rw split at late)
+
     pub room_left : length left + 1 ≤ r.reach
-    room_left = room_after (in_first set) (in_second set) (λ x. x.0.time) r bin.weights closed (omega (arith, some, can.were.reach)) can.were.keeps can.after left kept_by_ring left_rises
+    room_left = omega (arith, kept.within, can.were.reach, length-append left (bin.weights ∷ []))
 
     pub ring_shut : RingIs set (ring (left ++ bin.weights ∷ []) r.reach) (closed ++ xs)
-    ring_shut = record {
-      reach = can.were.reach;
-      rising = rising_push left bin.weights left_rises before_left;
-      keeps = kept_after (in_first set) (in_second set) (λ x. x.0.time) r bin.weights closed (omega (arith, some, can.were.reach)) can.were.keeps can.after xs can.is.weighs left kept_by_ring room_left;
-    }
+    ring_shut = record { reach = can.were.reach; rising = rising_push left bin.weights left_rises before_left; keeps = rw can.were.reach kept }
 
   module _ (far : AllByRecursion (λ e. e.index + set.reach < bin.weights.index) r.entries) where
     none_far : (d : Side) (later c : ℕ) → pairs_of_all d set c bin.weights.index later r.entries ≡ 0

@@ -73,25 +73,3 @@ module _ {X : Type 0} (first second : X → Bool) (at : X → ℕ) where
           seconds = weights_late.seconds;
           bounded = weights_late.bounded;
         }
-
-module _ {X : Type 0} (first second : X → Bool) (at : X
-    → ℕ) (r : Ring) (e : Entry) (old : List X) (some : 0 < r.reach) (was : Keeps first second at r old) (after : AllByRecursion (λ x. at x < e.index) old) where
-  -- The ring has room for the bin e once what is further back than the reach is gone.
-  pub room_after : (es : List Entry) → es ≡ filter (λ f. leb (e.index - (r.reach - 1)) f.index) r.entries → IsRising es → length es + 1 ≤ r.reach
-  room_after es kept rising =
-      let below : AllByRecursion (λ f. f.index < e.index) es =
-      rw kept (all_filter (λ f. f.index < e.index) (λ f. leb (e.index - (r.reach - 1)) f.index) r.entries (was.bounded e.index after)) in
-      let from : AllByRecursion (λ f. leb (e.index - (r.reach - 1)) f.index ≡ true) es =
-      rw kept (all_passed (λ f. leb (e.index - (r.reach - 1)) f.index) r.entries) in
-      omega (arith, some, few_kept es (e.index - (r.reach - 1)) e.index rising from below)
-
-  -- What the ring keeps once the bin e is in.
-  pub kept_after : (xs : List X) → Weighs first second at e xs → (es : List Entry) → es ≡ filter (λ f. leb (e.index - (r.reach - 1)) f.index) r.entries → length es + 1 ≤ r.reach → Keeps first second at (ring (es ++ e ∷ []) r.reach) (old ++ xs)
-  kept_after xs weighs es kept room =
-      let stays : Entry → Bool = λ f. leb (e.index - (r.reach - 1)) f.index in
-      let more = weights_on first second at r.reach r.entries old xs e (weights_of first second at r old was) weighs in
-      let late = weights_late first second at r.reach (r.entries ++ e ∷ []) (old ++ xs) e.index some (λ m any all. of_some at e.index (λ k. k < m) xs weighs.some weighs.here (all_back (λ x. at x < m) old xs all)) more in
-      let stay : leb (e.index - (r.reach - 1)) e.index ≡ true = search (rules, arith) in
-      let split : filter stays (r.entries ++ e ∷ []) ≡ es ++ e ∷ [] = filter-append stays r.entries (e ∷ []) ∙ rw (stay, kept) refl in
-      let now : HasWeights first second at r.reach (es ++ e ∷ []) (old ++ xs) = (rw split at late) in
-      record { within = grind (arith, common_steps); firsts = now.firsts; seconds = now.seconds; bounded = now.bounded }

@@ -97,9 +97,9 @@ module _ (set : CorrelationView) (level : ℕ) where
   Takes old new es shut =
       (closed open' xs : History) → CanTake old es closed open' xs → (done : History) × (now : History) × Took new shut closed open' xs done now
 
-  -- all that came is in closed bins, and what was in the open one comes in these
-  abbrev pub Finished : Level → List Entry → History → History → Type 0
-  Finished l es closed open' = LevelIs set level true l (closed ++ open') [] × Come closed es open'
+  -- The open bin was closed: all that came is in closed ones, and what was in that one comes in these.
+  abbrev pub Ends : Level → Level → List Entry → Type 0
+  Ends old new es = (closed open' : History) → CanTake old [] closed open' [] → LevelIs set level true new (closed ++ open') [] × Come closed es open'
 
   -- This holds of the photons of closed bins together with those of bins that may be closed after them.
   abbrev pub HoldsOfAll : Ring → Cells → List Entry → (History → Type 0) → Type 0

@@ -46,8 +46,10 @@ fn end_first<L: Ledger>(
 )
     requires stands { ∥ ((came : History) × CanCome (correlation_view set.now) level (first.old ∷ rest.old) [] came []) ∥₁ }
     requires depth { level + 1 + length rest.old ≤ LEVELS }
-    ensures follows { (came : History) → CanCome (correlation_view set.now) level (first.old ∷ rest.old) [] came []
-        → LevelIs (correlation_view set.now) level true first.new came [] × CanCome (correlation_view set.now) (level + 1) rest.new [] came [] }
+    ensures first { (came : History) → CanCome (correlation_view set.now) level (first.old ∷ rest.old) [] came []
+        → LevelIs (correlation_view set.now) level true first.new came [] }
+    ensures rest { (came : History) → CanCome (correlation_view set.now) level (first.old ∷ rest.old) [] came []
+        → CanCome (correlation_view set.now) (level + 1) rest.new [] came [] }
     ensures steps { steps.new + (first.old.cells.added + spent rest.old) ≡ steps.old + (first.new.cells.added + spent rest.new) }
 {
     let mut list = [NO_BIN; LIST];

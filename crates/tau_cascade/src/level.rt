@@ -150,7 +150,7 @@ fn merge_many(list: &mut [Entry], closing: Coming, grid: &Grid, heaviest: u64) -
 }
 
 impl Level {
-    ghost use Rattle.tau_cascade.{specs.Levels.LevelIs, specs.Bins.{CanShutAll, CanTake, Takes, Shuts, Finished}};
+    ghost use Rattle.tau_cascade.{specs.Levels.LevelIs, specs.Bins.{CanShutAll, CanTake, Takes, Shuts, Ends}};
 
     /// A level to which nothing came, or `AllocError` where there is not enough memory for it.
     pub(crate) fn open(alloc: Global, set: &CorrelationSet, level: u32) -> Result<Level, AllocError>
@@ -343,9 +343,7 @@ impl Level {
         requires room { (length list.old ≡ LIST) × (level < LEVELS) × IsZero scratch.old.window × IsEmpty scratch.old.grid }
         requires stands { ∥ ((closed : History) × (open' : History)
             × CanTake (correlation_view set.now) level self.old [] closed open' []) ∥₁ }
-        ensures follows { (closed open' : History)
-            → CanTake (correlation_view set.now) level self.old [] closed open' []
-            → Finished (correlation_view set.now) level self.new (closed_bins result list.new) closed open' }
+        ensures follows { Ends (correlation_view set.now) level self.old self.new (closed_bins result list.new) }
         ensures comes { HasCome list.new result scratch.new × (0 < result.levels) × (result.level ≡ level + 1) }
         ensures steps { steps.new + self.old.cells.added ≡ steps.old + self.new.cells.added }
     {
