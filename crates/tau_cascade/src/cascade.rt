@@ -82,9 +82,8 @@ impl Cascade {
     pub fn level(&self, level: u32) -> &PairCells
         requires { level < (set_of self.now).levels }
         ensures cells { cells_at self.now level ≡ Some result.now }
-        ensures lags { length result.now.cells ≡ lag_count (correlation_view (set_of self.now)) level }
-        ensures ring { ForSome (ring_at self.now level)
-            (λ r. length r.entries ≤ (set_of self.now).lags) }
+        ensures lags { (length result.now.cells ≡ lag_count (correlation_view (set_of self.now)) level)
+            × ForSome (ring_at self.now level) (λ r. length r.entries ≤ (set_of self.now).lags) }
         ensures spent { spent_by self.now
             ≡ added_below self.now (set_of self.now).levels }
         ensures work { (h : History) → Holds self.now h

@@ -6,13 +6,10 @@ use Rattle.tau_cascade.proofs.cascade.Cascade.level.Goals as goal
 pub returns-clause-lags : goal.returns-clause-lags
 returns-clause-lags c =
     let t = c.args.self.now in
-    let read = slice_get_read t.levels.items t.set.levels c.args.level c.index.result.now (search rules) c.requires c.index.ensures in
-    ∥∥₁_elim t.stands (hlevel props) (λ w. (level_at t.closed (correlation_view t.set) t.levels.items _ w.1.through c.args.level c.index.result.now read).has.cells.counts.count)
-
-pub returns-clause-ring : goal.returns-clause-ring
-returns-clause-ring c = λ r read.
-    let t = c.args.self.now in
-    ∥∥₁_elim t.stands (hlevel props) (λ w. shown_ring t.closed t.set t.levels.items _ w.1.through c.args.level r read)
+    let at = slice_get_read t.levels.items t.set.levels c.args.level c.index.result.now (search rules) c.requires c.index.ensures in (
+      ∥∥₁_elim t.stands (hlevel props) (λ w. (level_at t.closed (correlation_view t.set) t.levels.items _ w.1.through c.args.level c.index.result.now at).has.cells.counts.count),
+      λ r read. ∥∥₁_elim t.stands (hlevel props) (λ w. shown_ring t.closed t.set t.levels.items _ w.1.through c.args.level r read),
+    )
 
 pub returns-clause-own : goal.returns-clause-own
 returns-clause-own c = λ h is.
