@@ -1,8 +1,8 @@
 -- Pairs summed lag by lag.
 use Rattle.tally_base.{specs.Settings.{CoincidenceView}, proofs.Sums.{sum_none}}
-use Rattle.lag_ring.{specs.declared.ring.Entry.Entry, specs.declared.window.Side.Side, specs.Bytes.{weight_of, weight_before, Have, behind}, specs.Ring.IsRising, proofs.Lists.{all_both, all_join}, proofs.Rising.{all_weaker, all_push}, proofs.Sums.{sum_by-same, sum_by-agree, sum_by-plus, sum_by-times, sum_by-zero, window-before}}
-use Rattle.coincidence.{specs.Pairing.{shifted_by, other_side, pairs_of, pairs_of_all}, specs.Closing.{lag_pairs, strip_pairs, window_pairs}, proofs.Visits.{pairs_near, pairs_far}}
-use Rattle.std.{proofs.Common.{◌≡◌, ◌≢◌, ◌∙◌, ℕ, zero, suc, ◌+◌, ◌-◌, ◌*◌, ◌/◌, ◌<◌, ◌≤◌, Bool, true, false, ◌&&◌, leb, ltb, eqb, cond, List, [], ◌∷◌, ◌++◌, refl, sym, ap, arith, append_assoc, rules, length, get_or, replicate}, specs.List.{sum_by, range_with_len, AllByRecursion}, proofs.lemmas.Grind.common_steps, proofs.lemmas.Bool.Decides.nat_tests, proofs.lemmas.List.get_or-replicate, proofs.lemmas.List.Sums.{sum_by-cons, sum_by-append}}
+use Rattle.lag_ring.{specs.declared.ring.Entry.Entry, specs.declared.window.Side.Side, specs.Bytes.{weight_of, weight_before, Have, behind}, specs.Ring.IsRising, proofs.Lists.{all_both, all_filter, all_join, each_at}, proofs.Rising.{all_weaker, all_push, filter_passed, rising_filter}, proofs.Sums.{sum_by-same, sum_by-agree, sum_by-plus, sum_by-times, sum_by-zero, window-before}}
+use Rattle.coincidence.{specs.Pairing.{shifted_by, other_side, pairs_of, pairs_of_all}, specs.Closing.{lag_pairs, lag_pair, each_lag_pair, lag_sum, lags_of, placed, strip_pairs, window_pairs, window_sum}, proofs.Shut.filter_none, proofs.Visits.{pairs_near, pairs_far}}
+use Rattle.std.{proofs.Common.{◌≡◌, ◌≢◌, ◌∙◌, ℕ, zero, suc, ◌+◌, ◌-◌, ◌*◌, ◌/◌, ◌^◌, ◌<◌, ◌≤◌, Bool, true, false, ◌&&◌, leb, ltb, eqb, cond, List, [], ◌∷◌, ◌++◌, refl, sym, ap, arith, take, drop, nat_le, nat_lt, append_assoc, rules, length, get_or, replicate}, specs.List.{sum_by, filter, range_with_len, AllByRecursion}, specs.List.Sorted.IsNonDecreasingBy, proofs.Math.Nat.mul-le-mul_right, proofs.lemmas.Grind.common_steps, proofs.lemmas.Bool.Decides.nat_tests, proofs.lemmas.List.get_or-replicate, proofs.lemmas.List.Elements.filter-append, proofs.lemmas.List.Sums.{sum_by-cons, sum_by-append}}
 
 -- sums over two lists in either order
 swapped : {X Y : Type 0} (f : X → Y → ℕ) (xs : List X) (ys : List Y) → sum_by (λ x. sum_by (f x) ys) xs ≡ sum_by (λ y. sum_by (λ x. f x y) xs) ys
@@ -21,18 +21,17 @@ at_lag d set c index later e lag =
     cond (eqb (shifted_by d set.reach lag / set.width) c) (cond (eqb (e.index + lag) index) (weight_of d e) 0 * later) 0
 
 -- the pairs with one earlier entry, lag by lag
-module _ (d : Side) (set : CoincidenceView) (c index later : ℕ) (e : Entry) (before : e.index < index) where
-  elsewhere : (lag : ℕ) → lag ≢ index - e.index → at_lag d set c index later e lag ≡ 0
-  elsewhere lag other = search (rules, arith)
+module _ (d : Side) (set : CoincidenceView) (c base count : ℕ) (l : Entry) where
+  abbrev later : ℕ
+  later = weight_of (other_side d) l
 
-  here : at_lag d set c index later e (index - e.index) ≡ cond
-      (eqb (shifted_by d set.reach (index - e.index) / set.width) c) (weight_of d e * later) 0
-  here = search (rules, arith)
+  elsewhere : (e : Entry) (lag : ℕ) → lag ≢ l.index - e.index → at_lag d set c l.index later e lag ≡ 0
+  elsewhere e lag other = search (rules, arith)
 
-  by_lags : sum_by (at_lag d set c index later e) (range_with_len 1 set.reach) ≡ pairs_of d set c index later e
-  by_lags =
-      let one = at_one (at_lag d set c index later e) (index - e.index) 1 set.reach (λ lag from below. elsewhere lag) in
-      grind (arith, common_steps, here, pairs_near, pairs_far)
+  by_lags : (e : Entry) → sum_by (at_lag d set c l.index later e) (range_with_len (base + 1) count) ≡ lag_pair d set c base count l e
+  by_lags e =
+      let one = at_one (at_lag d set c l.index later e) (l.index - e.index) (base + 1) count (λ lag from below. elsewhere e lag) in
+      grind (arith, common_steps, nat_tests)
 
 cell-sum : {X : Type 0} (b : Bool) (f : X → ℕ) (later : ℕ) (xs : List X) → cond b (sum_by f xs * later) 0 ≡ sum_by (λ x. cond b (f x * later) 0) xs
 cell-sum true f later xs = sym (sum_by-times f later xs)
@@ -41,18 +40,24 @@ cell-sum false f later xs = sym (sum_none xs)
 cell-sum' : {X : Type 0} (b : Bool) (f : X → ℕ) (x : X) (xs : List X) → cond b (sum_by f (x ∷ xs)) 0 ≡ cond b (f x) 0 + cond b (sum_by f xs) 0
 cell-sum' b f x xs = search (rules, arith, sum_by-cons)
 
--- the pairs of all earlier entries, lag by lag
-all_lags : (d : Side) (set : CoincidenceView) (c index later : ℕ) (es : List Entry) → AllByRecursion (λ e. e.index < index) es
-    → sum_by (λ lag. cond (eqb (shifted_by d set.reach lag / set.width) c) (weight_before d lag index es * later) 0)
-    (range_with_len 1 set.reach) ≡ pairs_of_all d set c index later es
-all_lags d set c index later es before =
-    sum_by-same (λ lag. cond (eqb (shifted_by d set.reach lag / set.width) c) (weight_before d lag index es * later) 0)
-    (λ lag. sum_by (λ e. at_lag d set c index later e lag) es) (range_with_len 1 set.reach)
+-- the pairs of all entries, lag by lag
+all_lags : (d : Side) (set : CoincidenceView) (c base count : ℕ) (l : Entry) (es : List Entry)
+    → sum_by (λ lag. cond (eqb (shifted_by d set.reach lag / set.width) c) (weight_before d lag l.index es * weight_of (other_side d) l) 0)
+    (range_with_len (base + 1) count) ≡ sum_by (lag_pair d set c base count l) es
+all_lags d set c base count l es =
+    let later : ℕ = weight_of (other_side d) l in
+    sum_by-same (λ lag. cond (eqb (shifted_by d set.reach lag / set.width) c) (weight_before d lag l.index es * later) 0)
+    (λ lag. sum_by (λ e. at_lag d set c l.index later e lag) es) (range_with_len (base + 1) count)
     (λ lag. cell-sum (eqb (shifted_by d set.reach lag / set.width) c)
-    (λ (e : Entry). cond (eqb (e.index + lag) index) (weight_of d e) 0) later es)
-    ∙ swapped (λ lag (e : Entry). at_lag d set c index later e lag) (range_with_len 1 set.reach) es
-    ∙ sum_by-agree (λ e. e.index < index) (λ e. sum_by (at_lag d set c index later e) (range_with_len 1 set.reach))
-    (pairs_of d set c index later) es before (λ e below. by_lags d set c index later e below)
+    (λ (e : Entry). cond (eqb (e.index + lag) l.index) (weight_of d e) 0) later es)
+    ∙ swapped (λ lag (e : Entry). at_lag d set c l.index later e lag) (range_with_len (base + 1) count) es
+    ∙ sum_by-same (λ e. sum_by (at_lag d set c l.index later e) (range_with_len (base + 1) count)) (lag_pair d set c base count l) es (by_lags d set c base count l)
+
+-- those that are before, at all lags in reach
+lags_before : (d : Side) (set : CoincidenceView) (c : ℕ) (l : Entry) (es : List Entry) → AllByRecursion (λ e. e.index < l.index) es
+    → sum_by (lag_pair d set c 0 set.reach l) es ≡ pairs_of_all d set c l.index (weight_of (other_side d) l) es
+lags_before d set c l es before = sum_by-agree (λ e. e.index < l.index) (lag_pair d set c 0 set.reach l)
+    (pairs_of d set c l.index (weight_of (other_side d) l)) es before (λ e below. grind (arith, common_steps, nat_tests, pairs_near, pairs_far))
 
 -- entries that aren't before count nowhere
 before_only : (side : Side) (lag index : ℕ) (es fs : List Entry) → 0 < lag → AllByRecursion (λ e. index ≤ e.index) fs
@@ -80,7 +85,18 @@ lags_in_turn d set c es (l ∷ ls) rising below =
     (λ lag in_range. rw (before_only d lag l.index es (l ∷ ls) in_range.0 after) refl) in
     sum_by-same _ (λ lag. mine lag + lag_pairs d set c (es ++ l ∷ ls) ls lag) (range_with_len 1 set.reach) (λ lag. cell-sum' (cell lag) (λ (e : Entry). weight_before d lag e.index (es ++ l ∷ ls) * weight_of (other_side d) e) l ls)
     ∙ sum_by-plus mine (lag_pairs d set c (es ++ l ∷ ls) ls) (range_with_len 1 set.reach)
-    ∙ rw (own, all_lags d set c l.index w es below.0, ← append_assoc es (l ∷ []) ls) (ap (λ n. pairs_of_all d set c l.index w es + n) (lags_in_turn d set c (es ++ l ∷ []) ls rising.1 (search (rules, arith, all_both, all_push))))
+    ∙ rw (own, all_lags d set c 0 set.reach l es, lags_before d set c l es below.0, ← append_assoc es (l ∷ []) ls) (ap (λ n. pairs_of_all d set c l.index w es + n) (lags_in_turn d set c (es ++ l ∷ []) ls rising.1 (search (rules, arith, all_both, all_push))))
+
+-- the pairs of each of some entries with others, at so many lags after others
+pub lags_of_each : (d : Side) (set : CoincidenceView) (c base count : ℕ) (es ls : List Entry)
+    → sum_by (lag_pairs d set c es ls) (range_with_len (base + 1) count) ≡ sum_by (λ l. sum_by (lag_pair d set c base count l) es) ls
+lags_of_each d set c base count es [] = grind (arith, common_steps, sum_none (range_with_len (base + 1) count))
+lags_of_each d set c base count es (l ∷ ls) =
+    let cell : ℕ → Bool = λ lag. eqb (shifted_by d set.reach lag / set.width) c in
+    let mine : ℕ → ℕ = λ lag. cond (cell lag) (weight_before d lag l.index es * weight_of (other_side d) l) 0 in
+    sum_by-same _ (λ lag. mine lag + lag_pairs d set c es ls lag) (range_with_len (base + 1) count) (λ lag. cell-sum' (cell lag) (λ (e : Entry). weight_before d lag e.index es * weight_of (other_side d) e) l ls)
+    ∙ sum_by-plus mine (lag_pairs d set c es ls) (range_with_len (base + 1) count)
+    ∙ rw (all_lags d set c base count l es, lags_of_each d set c base count es ls, sum_by-cons (λ k. sum_by (lag_pair d set c base count k) es) l ls) refl
 
 -- Pairs in windows.
 
@@ -112,39 +128,39 @@ range-turned f g a b (suc n) same =
     search (rules, arith, sum_by-cons, rest, same 0, range-parts g b n 1)
 
 -- a strip more
-pub range-strip : (f : ℕ → ℕ) (least count : ℕ)
-    → sum_by f (range_with_len 1 (least + count)) ≡ sum_by f (range_with_len 1 least) + sum_by f (range_with_len (least + 1) count)
-range-strip f least count = search (rules, arith, range-parts)
+pub range-strip : (f : ℕ → ℕ) (base least count : ℕ)
+    → sum_by f (range_with_len (base + 1) (least + count)) ≡ sum_by f (range_with_len (base + 1) least) + sum_by f (range_with_len (base + least + 1) count)
+range-strip f base least count = search (rules, arith, range-parts)
 
 -- the sums of a strip are those of the window
-pub strip-window : (d : Side) (set : CoincidenceView) (c least count : ℕ) (sums window spots : List ℕ) → count ≤ 256 → least + 256 ≤ 4096
+pub strip-window : (d : Side) (set : CoincidenceView) (c base least count : ℕ) (sums window spots : List ℕ) → count ≤ 256 → least + 256 ≤ 4096
     → ((q : ℕ) → q < 256 → get_or sums q 0 ≡ sum_by (behind window (4096 - least - 256 + q)) spots)
-    → sum_by (strip_pairs d set c least sums) (range_with_len (least + 1) count) ≡ sum_by
-    (window_pairs d set c window spots) (range_with_len (least + 1) count)
-strip-window d set c least count sums window spots few below is =
-    sum_by-agree (λ lag. (least + 1 ≤ lag) × (lag < least + 1 + count)) (strip_pairs d set c least sums)
-    (window_pairs d set c window spots) (range_with_len (least + 1) count) (range-within (least + 1) count)
+    → sum_by (strip_pairs d set c (base + least) sums) (range_with_len (base + least + 1) count) ≡ sum_by
+    (window_pairs d set c base window spots) (range_with_len (base + least + 1) count)
+strip-window d set c base least count sums window spots few below is =
+    sum_by-agree (λ lag. (base + least + 1 ≤ lag) × (lag < base + least + 1 + count)) (strip_pairs d set c (base + least) sums)
+    (window_pairs d set c base window spots) (range_with_len (base + least + 1) count) (range-within (base + least + 1) count)
     (λ lag within.
-    let q : ℕ = least + 256 - lag in
-    let place : 4096 - least - 256 + q ≡ 4096 - lag = omega arith in
-    let same : get_or sums q 0 ≡ sum_by (behind window (4096 - lag)) spots = (rw place at (is q (omega arith))) in
+    let q : ℕ = base + least + 256 - lag in
+    let place : 4096 - least - 256 + q ≡ base + 4096 - lag = omega arith in
+    let same : get_or sums q 0 ≡ sum_by (behind window (base + 4096 - lag)) spots = (rw place at (is q (omega arith))) in
     ap (λ n. cond (eqb (shifted_by d set.reach lag / set.width) c) n 0) same)
 
 -- the pairs of a window are those with the entries in it
-pub window-lags : (d : Side) (set : CoincidenceView) (c low : ℕ) (window spots : List ℕ) (es later : List Entry) → set.reach ≤ 4096
-    → length window ≡ 8192 → Have d 4096 low (replicate 8192 0) window es
+window-lags : (d : Side) (set : CoincidenceView) (c base low : ℕ) (window spots : List ℕ) (es later : List Entry)
+    → length window ≡ 8192 → Have d (base + 4096) low (replicate 8192 0) window es
     → AllByRecursion (λ e. (low ≤ e.index) × (e.index - low < 4096)) later
     → ((f : ℕ → ℕ) → sum_by f spots ≡ sum_by (λ e. f (e.index - low) * weight_of (other_side d) e) later)
-    → sum_by (window_pairs d set c window spots) (range_with_len 1 set.reach) ≡ sum_by (lag_pairs d set c es later) (range_with_len 1 set.reach)
-window-lags d set c low window spots es later small full have near photons =
-    sum_by-agree (λ lag. (1 ≤ lag) × (lag < 1 + set.reach)) (window_pairs d set c window spots)
-    (lag_pairs d set c es later) (range_with_len 1 set.reach) (range-within 1 set.reach)
+    → window_sum d set c base window spots ≡ lag_sum d set c base (lags_of set base) es later
+window-lags d set c base low window spots es later full have near photons =
+    sum_by-agree (λ lag. (base + 1 ≤ lag) × (lag < base + 1 + lags_of set base)) (window_pairs d set c base window spots)
+    (lag_pairs d set c es later) (range_with_len (base + 1) (lags_of set base)) (range-within (base + 1) (lags_of set base))
     (λ lag within.
-    let same : sum_by (λ (e : Entry). get_or window (e.index - low + (4096 - lag)) 0 * weight_of (other_side d) e) later ≡ sum_by
+    let same : sum_by (λ (e : Entry). get_or window (e.index - low + (base + 4096 - lag)) 0 * weight_of (other_side d) e) later ≡ sum_by
     (λ e. weight_before d lag e.index es * weight_of (other_side d) e) later =
-    sum_by-agree (λ e. (low ≤ e.index) × (e.index - low < 4096)) (λ e. get_or window (e.index - low + (4096 - lag)) 0 * weight_of (other_side d) e) (λ e. weight_before d lag e.index es * weight_of (other_side d) e) later near
-    (λ e at. ap (λ n. n * weight_of (other_side d) e) (window-before d window low 4096 es (λ p inside. omega (arith, get_or-replicate {A = ℕ} 8192 p 0 0 (omega (arith, inside, full)), have p (omega (arith, inside, full)))) lag e.index (omega arith) at.0 (omega arith))) in
-    ap (λ n. cond (eqb (shifted_by d set.reach lag / set.width) c) n 0) (photons (behind window (4096 - lag)) ∙ same))
+    sum_by-agree (λ e. (low ≤ e.index) × (e.index - low < 4096)) (λ e. get_or window (e.index - low + (base + 4096 - lag)) 0 * weight_of (other_side d) e) (λ e. weight_before d lag e.index es * weight_of (other_side d) e) later near
+    (λ e at. ap (λ n. n * weight_of (other_side d) e) (window-before d window low (base + 4096) es (λ p inside. omega (arith, get_or-replicate {A = ℕ} 8192 p 0 0 (omega (arith, inside, full)), have p (omega (arith, inside, full)))) lag e.index (omega arith) at.0 (omega arith))) in
+    ap (λ n. cond (eqb (shifted_by d set.reach lag / set.width) c) n 0) (photons (behind window (base + 4096 - lag)) ∙ same))
 
 -- a sum over three lists
 pub three_sums : (f : Entry → ℕ) (front back ring later : List Entry) → front ++ back ≡ ring
@@ -156,3 +172,103 @@ pub rising_join : (es later : List Entry) → IsRising es → IsRising later
     → AllByRecursion (λ l. AllByRecursion (λ e. e.index < l.index) es) later → IsRising (es ++ later)
 rising_join [] later rising rising' above = rising'
 rising_join (e ∷ es) later rising rising' above = search (rules, arith, all_join, all_weaker, rising_join es later rising.1 rising')
+
+-- Entries that later ones reach at the lags of a window.
+
+-- what counts no others counts these alone
+placed-sum : (f : Entry → ℕ) (base low high : ℕ) (es : List Entry) → ((e : Entry) → e.index < low - (base + 4096) → f e ≡ 0)
+    → ((e : Entry) → high - base ≤ e.index → f e ≡ 0) → sum_by f (placed base low high es) ≡ sum_by f es
+placed-sum f base low high [] before behind' = search rules
+placed-sum f base low high (e ∷ es) before behind' = grind (arith, common_steps, nat_tests, sum_by-cons, placed-sum f base low high es before behind', before e, behind' e)
+
+pub placed_append : (base low high : ℕ) (es fs : List Entry) → placed base low high (es ++ fs) ≡ placed base low high es ++ placed base low high fs
+placed_append base low high es fs = search (rules, filter-append)
+
+pub placed-all : (P : Entry → Type 0) (base low high : ℕ) (es : List Entry) → AllByRecursion P es → AllByRecursion P (placed base low high es)
+placed-all P base low high es all = all_filter P _ _ (all_filter P _ es all)
+
+-- the steps of three lists
+pub few-steps : (n front back last most : ℕ) → front + back + last ≤ most → front * n + back * n + last * n ≤ n * most
+few-steps n front back last most few = omega (arith, mul-le-mul_right n few)
+
+pub placed-rising : (base low high : ℕ) (es : List Entry) → IsRising es → IsRising (placed base low high es)
+placed-rising base low high es rising = rising_filter _ _ (rising_filter _ es rising)
+
+pub placed-early : (base low high : ℕ) (es : List Entry) → base ≤ 2 ^ 20 → AllByRecursion (λ e. e.index < 2 ^ 63) es → AllByRecursion (λ e. e.index + (base + 4096) < 2 ^ 64) (placed base low high es)
+placed-early base low high es few early = all_weaker (λ (e : Entry). e.index < 2 ^ 63) (λ (e : Entry). e.index + (base + 4096) < 2 ^ 64) (λ e below. omega (arith, below, few)) _ (placed-all _ base low high es early)
+
+pub placed-three : (f : Entry → ℕ) (base low high : ℕ) (front back ring later : List Entry) → front ++ back ≡ ring
+    → sum_by f (placed base low high (ring ++ later)) ≡ sum_by f (placed base low high front) + sum_by f (placed base low high back) + sum_by f (placed base low high later)
+placed-three f base low high front back ring later is = rw (placed_append base low high ring later)
+    (three_sums f (placed base low high front) (placed base low high back) (placed base low high ring) (placed base low high later) (sym (placed_append base low high front back) ∙ ap (placed base low high) is))
+
+placed-pairs : (d : Side) (set : CoincidenceView) (c base low high : ℕ) (l : Entry) (es : List Entry) → (low ≤ l.index) × (l.index < high)
+    → sum_by (lag_pair d set c base (lags_of set base) l) (placed base low high es) ≡ sum_by (lag_pair d set c base (lags_of set base) l) es
+placed-pairs d set c base low high l es at = placed-sum (lag_pair d set c base (lags_of set base) l) base low high es (λ e early. grind (arith, nat_tests)) (λ e late. grind (arith, nat_tests))
+
+module _ (d : Side) (set : CoincidenceView) (c base low high : ℕ) (later : List Entry) (near : AllByRecursion (λ e. (low ≤ e.index) × (e.index < high)) later) where
+  abbrev pairs-with : Entry → List Entry → ℕ
+  pairs-with l es = sum_by (lag_pair d set c base (lags_of set base) l) es
+
+  -- the pairs at the lags are those with these
+  pub lags-placed : (es : List Entry) → lag_sum d set c base (lags_of set base) (placed base low high es) later ≡ lag_sum d set c base (lags_of set base) es later
+  lags-placed es = rw (lags_of_each d set c base (lags_of set base) (placed base low high es) later, lags_of_each d set c base (lags_of set base) es later)
+      (sum_by-agree (λ e. (low ≤ e.index) × (e.index < high)) (λ l. pairs-with l (placed base low high es)) (λ l. pairs-with l es) later near (λ l at. placed-pairs d set c base low high l es at))
+
+  -- also one by one
+  pub pairs-placed : (front back ring : List Entry) → front ++ back ≡ ring → lag_sum d set c base (lags_of set base) (ring ++ later) later
+      ≡ each_lag_pair d set c base (placed base low high front) later + each_lag_pair d set c base (placed base low high back) later + each_lag_pair d set c base (placed base low high later) later
+  pairs-placed front back ring is =
+      let g : List Entry → Entry → ℕ = λ es l. pairs-with l (placed base low high es) in
+      let turned = λ (es : List Entry). swapped (lag_pair d set c base (lags_of set base)) later (placed base low high es) in
+      rw (← turned front, ← turned back, ← turned later)
+      (lags_of_each d set c base (lags_of set base) (ring ++ later) later
+      ∙ sum_by-agree (λ e. (low ≤ e.index) × (e.index < high)) (λ l. pairs-with l (ring ++ later)) (λ l. g front l + g back l + g later l) later near
+      (λ l at. omega (arith, three_sums (lag_pair d set c base (lags_of set base) l) front back ring later is, placed-pairs d set c base low high l front at, placed-pairs d set c base low high l back at, placed-pairs d set c base low high l later at))
+      ∙ sum_by-plus (λ l. g front l + g back l) (g later) later ∙ ap (λ n. n + sum_by (g later) later) (sum_by-plus (g front) (g back) later))
+
+pub near-low : (low high : ℕ) (later : List Entry) → high ≤ low + 4096 → AllByRecursion (λ e. (low ≤ e.index) × (e.index < high)) later → AllByRecursion (λ e. (low ≤ e.index) × (e.index - low < 4096)) later
+near-low low high later short near = all_weaker (λ (e : Entry). (low ≤ e.index) × (e.index < high)) (λ (e : Entry). (low ≤ e.index) × (e.index - low < 4096)) (λ e is. (is.0, omega (arith, is.0, is.1, short))) later near
+
+-- the pairs of a window with these are those with all
+pub window-pairs-all : (d : Side) (set : CoincidenceView) (c base low high : ℕ) (window spots : List ℕ) (es later : List Entry)
+    → length window ≡ 8192 → Have d (base + 4096) low (replicate 8192 0) window (placed base low high es)
+    → high ≤ low + 4096 → AllByRecursion (λ e. (low ≤ e.index) × (e.index < high)) later
+    → ((f : ℕ → ℕ) → sum_by f spots ≡ sum_by (λ e. f (e.index - low) * weight_of (other_side d) e) later)
+    → window_sum d set c base window spots ≡ lag_sum d set c base (lags_of set base) es later
+window-pairs-all d set c base low high window spots es later full have short near photons =
+    window-lags d set c base low window spots (placed base low high es) later full have (near-low low high later short near) photons ∙ lags-placed d set c base low high later near es
+
+-- no photons of the earlier entry, no pairs
+pub no_lag_pairs : (d : Side) (set : CoincidenceView) (c base count : ℕ) (e : Entry) → weight_of d e ≡ 0 → (ls : List Entry) → sum_by (λ l. lag_pair d set c base count l e) ls ≡ 0
+no_lag_pairs d set c base count e none [] = refl
+no_lag_pairs d set c base count e none (l ∷ ls) = search (rules, arith, sum_by-cons, no_lag_pairs d set c base count e none ls)
+
+-- lags after others
+pub lags-on : (d : Side) (set : CoincidenceView) (c base count : ℕ) (es later : List Entry) → lag_sum d set c 0 (base + count) es later ≡ lag_sum d set c 0 base es later + lag_sum d set c base count es later
+lags-on d set c base count es later = let start : 0 + base ≡ base = omega arith in rw start at (range-strip (lag_pairs d set c es later) 0 base count)
+
+pub lags-le : (d : Side) (set : CoincidenceView) (c i n : ℕ) (es later : List Entry) → i ≤ n → lag_sum d set c 0 i es later ≤ lag_sum d set c 0 n es later
+lags-le d set c i n es later upto = range-le (lag_pairs d set c es later) 1 i n upto
+
+-- the indices of rising entries never fall
+pub never-falls : (es : List Entry) → IsRising es → IsNonDecreasingBy (λ (e : Entry). e.index) es
+never-falls [] rising i j d upto inside = absurd (omega (arith, inside))
+never-falls (e ∷ es) rising zero zero d upto inside = omega arith
+never-falls (e ∷ es) rising zero (suc j) d upto inside = let above = each_at (λ f. e.index < f.index) es j d (omega (arith, inside)) rising.0 in omega (arith, above)
+never-falls (e ∷ es) rising (suc i) zero d upto inside = absurd (omega (arith, upto))
+never-falls (e ∷ es) rising (suc i) (suc j) d upto inside = never-falls es rising.1 i j d (omega (arith, upto)) (omega (arith, inside))
+
+-- the first of rising entries are below an index, and the others aren't
+pub split-rising : (es : List Entry) (n t : ℕ) → IsRising es → ((i : ℕ) → i < n → (e : Entry) → nat_lt (get_or es i e).index t ≡ true)
+    → ((i : ℕ) → n ≤ i → i < length es → (e : Entry) → nat_lt (get_or es i e).index t ≡ false)
+    → (take n es ≡ filter (λ e. nat_lt e.index t) es) × (drop n es ≡ filter (λ e. nat_le t e.index) es)
+split-rising [] zero t rising below above = (refl, refl)
+split-rising [] (suc n) t rising below above = (refl, refl)
+split-rising (e ∷ es) zero t rising below above =
+    let from : t ≤ e.index = grind (arith, nat_tests, above 0 (omega arith) (omega arith) e) in
+    (sym (filter_none (λ f. nat_lt f.index t) (e ∷ es) (grind (arith, nat_tests, all_weaker))), sym (filter_passed (λ f. nat_le t f.index) (e ∷ es) (grind (arith, nat_tests, all_weaker))))
+split-rising (e ∷ es) (suc n) t rising below above =
+    let here : nat_lt e.index t ≡ true = below 0 (omega arith) e in
+    let rest = split-rising es n t rising.1 (λ i inside f. below (suc i) (omega (arith, inside)) f) (λ i from inside f. above (suc i) (omega (arith, from)) (omega (arith, inside)) f) in
+    search (rules, arith, nat_tests, rest.0, rest.1, here)

@@ -1,13 +1,13 @@
 -- Bins that are closed one after another, or together.
-use Rattle.std.{proofs.Common.{◌≡◌, ℕ, ◌+◌, ◌<◌, List, [], ◌∷◌, ◌++◌, length, arith, append_assoc, length-append, append-nil, rules, ◌-◌, ◌*◌, ◌≤◌, leb, refl, Some, slice_get}, specs.List.{sum_by, filter, AllByRecursion}, proofs.Math.Logic.{∥∥₁_map}, proofs.Math.Nat.{mul-le-mul_right}, proofs.lemmas.List.Sums.{sum_by-cons}}
+use Rattle.std.{proofs.Common.{◌≡◌, ℕ, ◌+◌, ◌<◌, List, [], ◌∷◌, ◌++◌, length, arith, append_assoc, length-append, append-nil, rules, ◌-◌, ◌*◌, ◌≤◌, leb, refl, Some, slice_get}, specs.List.{sum_by, filter, AllByRecursion}, proofs.Math.Logic.{∥∥₁_map}, proofs.Math.Nat.{mul-le-mul_right}, proofs.lemmas.List.{length-map, Sums.sum_by-cons}}
 use Rattle.tally_base.{specs.Settings.{CoincidenceView}, specs.Tally.History}
 use Rattle.lag_ring.{specs.declared.window.Side.TheVariants.{First, Second}, specs.declared.ring.Entry.Entry, specs.Cells.Cells, specs.Ring.{Ring, ring, IsRising}, proofs.Lists.{all_front, all_back, of_some}, proofs.Kept.{weights_on, kept_late}, proofs.Rising.{all_weaker, all_at, upto_join, rising_filter}}
 use Rattle.coincidence.{specs.declared.pairing.Bin.Bin, specs.Pairing.{bin_pairs, RingIs, CellsAre, MayClose, Closes, BinsAre, HasRoom, Counts}, specs.Closing.{weights_in, both_lag_sums}, proofs.LagPairs.{lags_in_turn, in_turn, rising_join}, specs.declared.pairing.Pairing.Pairing, specs.Pairs.{in_first, in_second, coincidences}, proofs.Shut.{CanClose, Weights, ring_weights, grown_by, bin_both, sums_fit}}
 
 -- Bins that are closed together bring what they bring one by one.
 
-more_for_all : (r few more n was now : ℕ) → 0 < n → n ≤ more → was ≤ (2 * r + 1) * few → now ≤ was + (2 * r + n) → now ≤ (2 * r + 1) * (few + more)
-more_for_all r few more n was now any upto were is = search (rules, arith, mul-le-mul_right)
+more_for_all : (r few more n was now : ℕ) → n ≤ more → was ≤ (2 * r + 1) * few → now ≤ was + (2 * (n * r) + n) → now ≤ (2 * r + 1) * (few + more)
+more_for_all r few more n was now upto were is = search (rules, arith, mul-le-mul_right)
 
 module _ (set : CoincidenceView) where
   -- entries with those of bins have the weights of the bins' photons too
@@ -84,18 +84,21 @@ module _ (set : CoincidenceView) where
           }
 
     -- what they bring is summed lag by lag
-    all_grown : (c : ℕ) → coincidences set c (closed ++ xs) ≡ coincidences set c closed + (both_lag_sums set c (p.ring.entries ++ later) later + sum_by (λ bin. bin_pairs set c bin []) bins)
+    all_grown : (c : ℕ) → coincidences set c (closed ++ xs) ≡ coincidences set c closed + (both_lag_sums set c 0 set.reach (p.ring.entries ++ later) later + sum_by (λ bin. bin_pairs set c bin []) bins)
     all_grown c =
         let rising = bins_rising bins closed xs can.are in
         let above = bins_above p.ring bins closed xs can.ring can.are in
         rw is (omega (arith, chain_grown bins p.ring.entries closed xs (ring_weights set p.ring closed can.ring) can.are c, lags_in_turn First set c p.ring.entries (weights_in bins) rising above, lags_in_turn Second set c p.ring.entries (weights_in bins) rising above))
 
-    pub all_fit : HasRoom set p.cells (λ c. both_lag_sums set c (p.ring.entries ++ later) later + sum_by (λ bin. bin_pairs set c bin []) bins)
+    pub all_fit : HasRoom set p.cells (λ c. both_lag_sums set c 0 set.reach (p.ring.entries ++ later) later + sum_by (λ bin. bin_pairs set c bin []) bins)
     all_fit = sums_fit set p bins closed xs can _ all_grown
 
-    pub all_cells : (new : Cells) (before now : ℕ) → 0 < length bins
-        → Counts set p.cells new before now (λ c. both_lag_sums set c (p.ring.entries ++ later) later + sum_by (λ bin. bin_pairs set c bin []) bins) (2 * set.reach + length bins) → CellsAre set new (closed ++ xs)
-    all_cells new before now any is = search (rules, arith, all_grown, length-append, more_for_all, few_bins)
+    pub all_cells : (new : Cells) (before now : ℕ)
+        → Counts set p.cells new before now (λ c. both_lag_sums set c 0 set.reach (p.ring.entries ++ later) later + sum_by (λ bin. bin_pairs set c bin []) bins) (2 * (length later * set.reach) + length bins) → CellsAre set new (closed ++ xs)
+    all_cells new before now counts =
+        let work : new.added ≤ (2 * set.reach + 1) * length (closed ++ xs) = rw (length-append closed xs)
+        (more_for_all set.reach (length closed) (length xs) (length bins) p.cells.added new.added (few_bins bins closed xs can.are) can.cells.work (rw (is, length-map) at counts.spends.added)) in
+        search (rules, arith, all_grown, work)
 
 -- Bins that are closed part by part.
 

@@ -1,8 +1,8 @@
 -- Bins that are closed together.
-use Rattle.std.{specs.Prelude.{ℕ, ◌+◌, ◌-◌, ◌^◌, ◌<◌, ◌≤◌, ◌==◌, ◌/◌, ◌*◌, min, slice_index, List, ◌++◌, length, map, sum_by, if◌then◌else◌}, specs.List.{AllByRecursion, range_with_len}}
+use Rattle.std.{specs.Prelude.{ℕ, ◌+◌, ◌-◌, ◌^◌, ◌<◌, ◌≤◌, ◌==◌, ◌/◌, ◌*◌, ◌&&◌, nat_lt, nat_le, min, slice_index, List, filter, ◌++◌, length, map, sum_by, if◌then◌else◌}, specs.List.{AllByRecursion, range_with_len}}
 use Rattle.tally_base.{specs.Settings.CoincidenceView}
-use Rattle.lag_ring.{specs.declared.ring.Entry.Entry, specs.declared.window.Side.{Side, TheVariants.{First, Second}}, specs.Bytes.{weight_of, weight_at, weight_before, IsLight, behind}}
-use Rattle.coincidence.{specs.declared.pairing.Bin.Bin, specs.Pairing.{other_side, shifted_by}}
+use Rattle.lag_ring.{specs.declared.ring.Entry.Entry, specs.declared.window.Side.{Side, TheVariants.{First, Second}}, specs.Bytes.{weight_of, weight_before, IsLight, behind}, specs.Ring.IsRising}
+use Rattle.coincidence.{specs.declared.pairing.Bin.Bin, specs.declared.lags.Places.Places, specs.Pairing.{other_side, shifted_by}}
 
 -- the entries of bins
 abbrev pub weights_in : List Bin → List Entry
@@ -18,11 +18,15 @@ lag_pairs direction set c es later lag =
 abbrev pub strip_pairs : Side → CoincidenceView → ℕ → ℕ → List ℕ → ℕ → ℕ
 strip_pairs direction set c least sums lag = if shifted_by direction set.reach lag / set.width == c then slice_index sums (least + 256 - lag) else 0
 
+-- how many lags a window serves, after so many
+abbrev pub lags_of : CoincidenceView → ℕ → ℕ
+lags_of set base = min (set.reach - base) 4096
+
 -- the pairs of photons at some spots with what stands so many ticks before in a window, where the cell is that of the difference
-abbrev pub window_pairs : Side → CoincidenceView → ℕ → List ℕ → List ℕ → ℕ → ℕ
-window_pairs direction set c window spots lag =
+abbrev pub window_pairs : Side → CoincidenceView → ℕ → ℕ → List ℕ → List ℕ → ℕ → ℕ
+window_pairs direction set c base window spots lag =
     if shifted_by direction set.reach lag / set.width == c
-    then sum_by (behind window (4096 - lag)) spots else 0
+    then sum_by (behind window (base + 4096 - lag)) spots else 0
 
 -- a number of a row, where the first is for the difference so many, and the cell is that of its difference
 abbrev pub row_pairs : CoincidenceView → ℕ → ℕ → List ℕ → ℕ → ℕ
@@ -35,28 +39,42 @@ row_sum set c from row = sum_by (row_pairs set c from row) (range_with_len 0 (le
 abbrev pub strip_sum : Side → CoincidenceView → ℕ → ℕ → List ℕ → ℕ
 strip_sum direction set c least sums = sum_by (strip_pairs direction set c least sums) (range_with_len (least + 1) (min (set.reach - least) 256))
 
-abbrev pub window_sum : Side → CoincidenceView → ℕ → List ℕ → List ℕ → ℕ
-window_sum direction set c window spots = sum_by (window_pairs direction set c window spots) (range_with_len 1 set.reach)
+abbrev pub window_sum : Side → CoincidenceView → ℕ → ℕ → List ℕ → List ℕ → ℕ
+window_sum direction set c base window spots = sum_by (window_pairs direction set c base window spots) (range_with_len (base + 1) (lags_of set base))
 
--- the pairs of the photons of later entries with all that are in reach before them
-abbrev pub lag_sum : Side → CoincidenceView → ℕ → List Entry → List Entry → ℕ
-lag_sum direction set c es later = sum_by (lag_pairs direction set c es later) (range_with_len 1 set.reach)
+-- the pairs of the photons of later entries with those before them, at so many lags after others
+abbrev pub lag_sum : Side → CoincidenceView → ℕ → ℕ → ℕ → List Entry → List Entry → ℕ
+lag_sum direction set c base count es later = sum_by (lag_pairs direction set c es later) (range_with_len (base + 1) count)
 
 -- the same in both directions
-abbrev pub both_lag_sums : CoincidenceView → ℕ → List Entry → List Entry → ℕ
-both_lag_sums set c es later = lag_sum First set c es later + lag_sum Second set c es later
+abbrev pub both_lag_sums : CoincidenceView → ℕ → ℕ → ℕ → List Entry → List Entry → ℕ
+both_lag_sums set c base count es later = lag_sum First set c base count es later + lag_sum Second set c base count es later
 
--- the later entries, and all that they reach, have a place in a window, few photons, and no more in one entry than so many
-pub record FitsWindow (set : CoincidenceView) (most low : ℕ) (es later : List Entry) : Type 0 where
-  pub reach : set.reach ≤ 4096
-  pub early : AllByRecursion (λ e. e.index + 4096 < 2 ^ 64) es
-  pub early' : AllByRecursion (λ e. e.index + 4096 < 2 ^ 64) later
-  pub near : AllByRecursion (λ e. (low ≤ e.index) × (e.index - low < 4096)) later
-  pub weighed : (0 < most) × (most ≤ 255)
-  pub light : IsLight most (es ++ later)
+-- the pairs of two entries at those lags
+abbrev pub lag_pair : Side → CoincidenceView → ℕ → ℕ → ℕ → Entry → Entry → ℕ
+lag_pair direction set c base count later earlier =
+    if (nat_lt base (later.index - earlier.index) && nat_le (later.index - earlier.index) (base + count)) && shifted_by direction set.reach (later.index - earlier.index) / set.width == c
+    then weight_of direction earlier * weight_of (other_side direction) later else 0
+
+abbrev pub each_lag_pair : Side → CoincidenceView → ℕ → ℕ → List Entry → List Entry → ℕ
+each_lag_pair direction set c base es later = sum_by (λ e. sum_by (λ l. lag_pair direction set c base (lags_of set base) l e) later) es
+
+-- the entries that later ones below an index, and not below another, reach at the lags of a window
+abbrev pub placed : ℕ → ℕ → ℕ → List Entry → List Entry
+placed base low high es = filter (λ e. nat_lt e.index (high - base)) (filter (λ e. nat_le (low - (base + 4096)) e.index) es)
+
+-- the later entries have a place in a window, few photons, and no more in one entry than so many
+pub record FitsWindow (places : Places) (es later : List Entry) : Type 0 where
+  pub base : places.base ≤ places.set.reach
+  pub early : places.low < 2 ^ 63
+  pub early' : AllByRecursion (λ e. e.index < 2 ^ 63) (es ++ later)
+  pub short : places.high ≤ places.low + 4096
+  pub near : AllByRecursion (λ e. (places.low ≤ e.index) × (e.index < places.high)) later
+  pub weighed : (0 < places.most) × (places.most ≤ 255)
+  pub light : IsLight places.most (es ++ later)
   pub firsts : sum_by (weight_of First) later ≤ 1024
   pub seconds : sum_by (weight_of Second) later ≤ 1024
 
--- no place of a window has more of these weights than so many
-abbrev pub IsLow : ℕ → ℕ → List Entry → Type 0
-IsLow most low es = (side : Side) (top p : ℕ) → weight_at side top low p es ≤ most
+-- all rise too
+abbrev pub HasWindow : Places → List Entry → List Entry → Type 0
+HasWindow places es later = FitsWindow places es later × IsRising (es ++ later)

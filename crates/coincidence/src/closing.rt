@@ -50,16 +50,24 @@ fn are_few(side: Side, entries: &[Entry]) -> bool
     total_weight(side, entries) <= MOST_SPOTS as u64
 }
 
-/// Whether later entries and a ring have their places in one window, and few photons: no entry more than so many.
-fn fits_window(set: &CoincidenceSet, ring: &LagRing, low: u64, later: &[Entry], most: u64) -> bool
-    requires most { (0 < most) × IsLight most (ring.now.entries ++ later.now) }
-    ensures { IsTrue result → FitsWindow (coincidence_view set.now) most low ring.now.entries later.now }
+/// Whether later entries have their places in windows, and few photons: no entry more than so many.
+fn fits_window(places: Places, ring: &LagRing, later: &[Entry]) -> bool
+    requires most { (0 < places.most) × IsLight places.most (ring.now.entries ++ later.now) }
+    requires base { places.base ≤ places.set.reach }
+    ensures { IsTrue result → FitsWindow places ring.now.entries later.now }
 {
+    let Places {
+        low,
+        high,
+        most,
+        ..
+    } = places;
     most < 256
-        && set.reach <= MOST_LAGS
-        && low < END
+        && high < END
         && ring.newest() < END
-        && are_near(low, MOST_LAGS, later)
+        && low < high
+        && high - low <= u64::from(MOST_LAGS)
+        && are_near(low, high, later)
         && are_few(Side::First, later)
         && are_few(Side::Second, later)
 }
@@ -91,7 +99,7 @@ fn close_together<L: Ledger>(
 )
     requires stands { MayClose (coincidence_view places.set) pairing.old bins.now }
     requires entries { later.now ≡ weights_in bins.now }
-    requires window { FitsWindow (coincidence_view places.set) places.most places.low pairing.old.ring.entries later.now }
+    requires window { FitsWindow places pairing.old.ring.entries later.now }
     requires some { (0 < length bins.now) × (length bins.now ≤ TABLE_BLOCK) }
     ensures { Closes (coincidence_view places.set) pairing.old pairing.new bins.now steps.old steps.new }
 {
@@ -117,6 +125,13 @@ fn close_each<L: Ledger>(
     }
 }
 
+/// Whether bins and those of a ring make so many pairs that it pays to go through all lags in reach.
+fn are_dense(set: &CoincidenceSet, ring: &LagRing, bins: &[Bin]) -> bool
+    requires few { length bins.now ≤ TABLE_BLOCK }
+{
+    ring.len() as usize * bins.len() >= set.reach as usize / 8
+}
+
 /// Pairs bins, over windows where they fit these and many are in reach, and puts them among the closed ones.
 fn close_part<L: Ledger>(
     pairing: &mut Pairing,
@@ -128,14 +143,18 @@ fn close_part<L: Ledger>(
     requires stands { MayClose (coincidence_view set.now) pairing.old bins.now }
     ensures { Closes (coincidence_view set.now) pairing.old pairing.new bins.now steps.old steps.new }
 {
-    if pairing.ring.len() >= MANY && bins.len() >= SOME {
+    if pairing.ring.len() >= MANY && bins.len() >= SOME && are_dense(set, &pairing.ring, bins) {
         let mut later = ArrayVec::new();
         put_weights(&mut later, bins);
-        let low = bins[0].weights.index;
-        let most = weight_bound_of(&pairing.ring, &later);
-        if fits_window(set, &pairing.ring, low, &later, most) {
-            let (set, most) = (*set, most as usize);
-            close_together(pairing, Places { set, low, most }, bins, &later, steps);
+        let places = Places {
+            set: *set,
+            low: bins[0].weights.index,
+            high: bins[bins.len() - 1].weights.index.saturating_add(1),
+            most: weight_bound_of(&pairing.ring, &later) as usize,
+            base: 0,
+        };
+        if fits_window(places, &pairing.ring, &later) {
+            close_together(pairing, places, bins, &later, steps);
             return;
         }
     }

@@ -54,7 +54,7 @@ pub(crate) fn later_side(earlier: Side) -> Side
 
 /// The difference of two ticks that are so far apart, with the reach added.
 #[inline(always)]
-fn shifted_by(earlier: Side, set: CoincidenceSet, apart: u64) -> u32
+pub(crate) fn shifted_by(earlier: Side, set: CoincidenceSet, apart: u64) -> u32
     requires { apart ≤ set.reach }
     ensures { result ≡ shifted_by earlier set.reach apart }
 {

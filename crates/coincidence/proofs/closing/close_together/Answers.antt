@@ -1,5 +1,5 @@
 use Rattle.std.{proofs.Common.{◌≡◌, ◌*◌, ◌+◌, refl, ◌-◌, ◌<◌, ◌≤◌, List, length, get_or, slice_get, Some, arith, rules}, specs.List.{AllByRecursion-prop}, proofs.Props.props, proofs.Math.Logic.{∥∥₁_elim}, proofs.lemmas.Option.slice_get-get_or, proofs.lemmas.List.length-map}
-use Rattle.lag_ring.{specs.declared.ring.Entry.Entry, proofs.{Rising.rising-prop, Sums.{light-at}}}
+use Rattle.lag_ring.{specs.declared.ring.Entry.Entry, proofs.Rising.rising-prop}
 use Rattle.coincidence.{specs.declared.pairing.Bin.Bin, specs.Closing.weights_in, proofs.Visits.{counts_on, room_left}, proofs.Shut.{can_close, closes}, proofs.Together.{all_fit, all_cells, all_kept, all_near, bins_both, joined_rising}}
 use Rattle.coincidence.proofs.closing.close_together.Goals as goal
 
@@ -10,11 +10,10 @@ at_end : (bins : List Bin) (later : List Entry) → later ≡ weights_in bins �
 at_end bins later is some = slice_get-get_or later (length later - 1) _ (rw is (search (rules, arith, length-map)))
 
 pub pair_lags-requires-clause-photons : goal.pair_lags-requires-clause-photons
-pair_lags-requires-clause-photons g c = (
-  c.requires.window,
-  λ side top p. ∥∥₁_elim (can_close _ c.args.pairing.now _ c.requires.stands) (hlevel props) (λ w.
-      light-at side top c.args.places.low p c.args.places.most _ (joined_rising _ _ _ _ _ w.2 _ c.requires.entries) c.requires.window.light),
-)
+pair_lags-requires-clause-photons g c = (c.requires.window, ∥∥₁_elim (can_close _ c.args.pairing.now _ c.requires.stands) (rising-prop _) (λ w. joined_rising _ _ _ _ _ w.2 _ c.requires.entries))
+
+pub pair_lags-requires-clause-some : goal.pair_lags-requires-clause-some
+pair_lags-requires-clause-some g c = rw c.requires.entries (search (rules, arith, length-map))
 
 pub pair_lags-requires-clause-room : goal.pair_lags-requires-clause-room
 pair_lags-requires-clause-room g c = ∥∥₁_elim (can_close _ c.args.pairing.now _ c.requires.stands) (hlevel props)
@@ -39,5 +38,5 @@ renew-requires-clause-near g c = rw c.least_kept.ensures
 pub returns : goal.returns
 returns g c = closes _ _ _ _ _ _ (λ closed xs can. (
   rw (c.renew.ensures.kept, c.least_kept.ensures) (all_kept _ _ _ closed xs can c.args.later.now c.requires.entries c.args.places.set.some_reach.0 _ (at_end _ _ c.requires.entries c.requires.some.0)),
-  all_cells _ _ _ _ _ can c.args.later.now c.requires.entries _ _ _ c.requires.some.0 (counts_on _ _ _ _ _ _ _ _ _ c.pair_lags.ensures _ _ _ _ c.pair_insides.ensures (λ at inside. refl) (omega arith)),
+  all_cells _ _ _ _ _ can c.args.later.now c.requires.entries _ _ _ (counts_on _ _ _ _ _ _ _ _ _ c.pair_lags.ensures _ _ _ _ c.pair_insides.ensures (λ at inside. refl) (omega arith)),
 )) (omega (arith, c.pair_lags.ensures.spends.steps, c.pair_insides.ensures.spends.steps))

@@ -1,0 +1,16 @@
+use Rattle.std.{proofs.Common.{rules, ℕ, ◌≡◌, ◌-◌, ◌*◌, ◌/◌, ◌<◌, ◌≤◌, arith}, proofs.lemmas.Bool.Decides.nat_tests}
+use Rattle.tally_base.specs.Settings.{coincidence_view, coincidence_cells}
+use Rattle.lag_ring.specs.Bytes.{weight_of}
+use Rattle.coincidence.{specs.Pairing.{shifted_by, other_side}, specs.Closing.{lag_pair, lags_of}, proofs.Visits.shifted_inside}
+use Rattle.coincidence.proofs.lags.pair_one.Goals as goal
+
+pub add_pairs-requires-clause-sum : goal.add_pairs-requires-clause-sum
+add_pairs-requires-clause-sum g c =
+    let set = coincidence_view c.args.places.set in
+    let d = c.args.direction in
+    let apart : ℕ = c.args.later.now.index - c.args.earlier.now.index in
+    let at : ℕ = shifted_by d set.reach apart / set.width in
+    let near : apart ≤ set.reach = search (rules, arith) in
+    let inside : at < coincidence_cells set = shifted_inside d set.reach apart set.width c.args.places.set.some_width.0 near in
+    let here : lag_pair d set at c.args.places.base (lags_of set c.args.places.base) c.args.later.now c.args.earlier.now ≡ weight_of d c.args.earlier.now * weight_of (other_side d) c.args.later.now = search (rules, arith, nat_tests) in
+    search (rules, arith, c.requires.room.fits at inside, here)
