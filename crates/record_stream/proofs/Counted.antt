@@ -1,4 +1,5 @@
 -- Events that are only counted.
+use Rattle.std.proofs.Common.{rules}
 use Rattle.std.{proofs.Common.{◌≡◌, ◌+◌, ◌≤◌, ℕ, [], ◌∷◌, ◌++◌, List, Bool, IsTrue, ◌&&◌, not, length, length-append, arith, ◌∙◌, refl}}
 use Rattle.tally_base.{specs.declared.event.Event.Event, specs.declared.header.Mode.Mode, specs.Events.is_ordered, specs.Tally.{floor_after, InOrder}}
 use Rattle.ptu_definitions.specs.Kept.{Marked}
@@ -8,16 +9,8 @@ use Rattle.record_stream.{specs.Blocks.on_time, specs.Counted.HasCounted, proofs
 module _ (mode mode' : Mode) (taken taken' floor floor' : ℕ) (l : Marked) (so_far : HasCounted mode mode' taken taken' floor floor' l) where
   pub counted-one : (e : Event) (late : Bool) (now : ℕ) → now ≡ moved_floor mode' floor' e late → (IsTrue (is_ordered mode' e && not late) → floor' ≤ e.time)
       → HasCounted mode mode' taken (taken' + 1) floor now (l ++ (e, late) ∷ [])
-  counted-one e late now is order = record {
-    same_mode = so_far.same_mode;
-    counted = omega (arith, so_far.counted, length-append l ((e, late) ∷ []));
-    moved = is ∙ moved_floor-push mode' floor floor' l e late (rw so_far.same_mode so_far.moved) order ∙ rw so_far.same_mode refl;
-  }
+  counted-one e late now is order = search (rules, arith, length-append, moved_floor-push)
 
   pub counted-block : (es : List Event) (next now : ℕ) → next ≡ taken' + length es → now ≡ floor_after (orders_markers mode') floor' es
       → InOrder (orders_markers mode') floor' es → HasCounted mode mode' taken next floor now (l ++ on_time es)
-  counted-block es next now more is order = record {
-    same_mode = so_far.same_mode;
-    counted = omega (arith, more, so_far.counted, length-append l (on_time es), length-on_time es);
-    moved = is ∙ floor_of-block mode' l es floor floor' (rw so_far.same_mode so_far.moved) order ∙ rw so_far.same_mode refl;
-  }
+  counted-block es next now more is order = search (rules, arith, length-append, length-on_time, floor_of-block)

@@ -20,43 +20,21 @@ late_floor mode floor e = search (rules, arith)
 -- one event in order
 pub one-order : (mode : Mode) (floor : ℕ) (e : Event) → e.time ≤ time_limit → (IsTrue (is_ordered mode e && not false) → floor ≤ e.time)
     → InOrder (orders_markers mode) floor (e ∷ [])
-one-order mode floor e time order = (time, λ moves. order (later mode e moves), tt)
-  where
-    later : (mode : Mode) (e : Event) → IsTrue (moves_floor (orders_markers mode) e) → IsTrue (is_ordered mode e && not false)
-    later mode e moves = search (rules, arith, moves_by)
+one-order mode floor e time order = search (rules, arith)
 
 alike-trans : {k l m : Marked} → AreAlike k l → AreAlike l m → AreAlike k m
 alike-trans p q = record { count = p.count ∙ q.count; on_time = p.on_time ∙ q.on_time; floor = λ mode. p.floor mode ∙ q.floor mode }
 
 alike-append : {k l m n : Marked} → AreAlike k l → AreAlike m n → AreAlike (k ++ m) (l ++ n)
-alike-append {k = k} {l = l} {m = m} {n = n} p q = record {
-  count = omega (arith, length-append k m, length-append l n, p.count, q.count);
-  on_time = not_marked-append k m ∙ ap (λ xs. xs ++ not_marked m) p.on_time ∙ ap (λ xs. not_marked l ++ xs) q.on_time ∙ sym (not_marked-append l n);
-  floor = λ mode. omega (arith, floor_of-append mode k m, floor_of-append mode l n, p.floor mode, q.floor mode);
-}
+alike-append {k = k} {l = l} {m = m} {n = n} p q = search (rules, arith, length-append, not_marked-append, floor_of-append)
 
 -- a late event before those on time
 alike-late : (es : List Event) (e : Event) → AreAlike ((e, true) ∷ on_time es) (on_time es ++ (e, true) ∷ [])
-alike-late es e = record {
-  count = omega (arith, length-append (on_time es) ((e, true) ∷ []));
-  on_time = rw (not_marked-append, append-nil) refl;
-  floor = λ mode. rw floor_of-append (no_more mode);
-}
-  where
-    none : (b : Bool) → (if b && not true then e.time else 0) ≡ 0
-    none b = search (rules, arith)
-
-    no_more : (mode : Mode) → max (if is_ordered mode e && not true then e.time else 0) (floor_of mode (on_time es)) ≡ max (floor_of mode (on_time es)) (max (if is_ordered mode e && not true then e.time else 0) 0)
-    no_more mode = rw none (omega arith)
+alike-late es e = search (rules, arith, length-append, not_marked-append, append-nil, floor_of-append)
 
 module _ {T : Type 0} (g : Ghosts T) where
   stands-trans : {k l m : Marked} → MayStandFor g k l → MayStandFor g l m → MayStandFor g k m
-  stands-trans {k = k} {l = l} {m = m} p q = record { alike = alike-trans p.alike q.alike; but = both p.but q.but }
-    where
-      both : (k ≡ l) ⊎ LetsLatePass g.got g.broke → (l ≡ m) ⊎ LetsLatePass g.got g.broke → (k ≡ m) ⊎ LetsLatePass g.got g.broke
-      both (inl one) (inl two) = inl (one ∙ two)
-      both (inl one) (inr pass) = inr pass
-      both (inr pass) two = inr pass
+  stands-trans {k = k} {l = l} {m = m} p q = search (rules, arith, alike-trans)
 
   stands-append : {k l m n : Marked} → MayStandFor g k l → MayStandFor g m n → MayStandFor g (k ++ m) (l ++ n)
   stands-append {k = k} {l = l} {m = m} {n = n} p q = record { alike = alike-append p.alike q.alike; but = both p.but q.but }
@@ -76,8 +54,7 @@ module _ {T : Type 0} (g : Ghosts T) where
 
   -- where a taker can break, the lists are one
   strictly : {l m : Marked} → (LetsLatePass g.got g.broke → ⊥) → (l ≡ m) ⊎ LetsLatePass g.got g.broke → l ≡ m
-  strictly strict (inl is) = is
-  strictly strict (inr pass) = absurd (strict pass)
+  strictly strict h2 = search (rules, arith)
 
   pub goes_on-trans : {old mid new : T} {es between now : List Event} {l m : Marked}
       → GoesOn g old mid es between l → GoesOn g mid new between now m → GoesOn g old new es now (l ++ m)
@@ -205,12 +182,7 @@ module _ {T : Type 0} (g : Ghosts T) where
   })
 
   pub waits-none : {N : ℕ} (taker : T) (block : Block N) → gathered block ≡ [] → sorted block ≡ 0 → Waits g taker block
-  waits-none taker block none unsorted = record {
-    in_order = rw none tt;
-    fit = rw none (λ k d lt. absurd (omega (arith, lt)));
-    few = λ some. absurd (omega (arith, some, ap length none));
-    unsorted = unsorted;
-  }
+  waits-none taker block none unsorted = search (rules, arith)
 
   -- those that wait still do
   pub late-waits : {N : ℕ} {X E : Type 0} (r : Result X E) (new : T) {mid : T} (block : Block N) (e : Event) → g.got mid mid [] → (gathered block ≡ []) ⊎ LetsLatePass g.got g.broke
@@ -218,19 +190,14 @@ module _ {T : Type 0} (g : Ghosts T) where
       → g.taken mid + length (gathered block) < record_limit
       → OnOk r (g.taken new ≡ g.taken mid + 1) → OnOk r (g.mode new ≡ g.mode mid) → OnOk r (g.floor new ≡ moved_floor (g.mode mid) (g.floor mid) e true)
       → Waits g new block
-  late-waits (Ok x) new {mid = mid} block e none passed w broken room more mode moved = record {
-    in_order = rw (moved, mode, late_floor (g.mode mid) (g.floor mid) e) w.in_order;
-    fit = rw mode w.fit;
-    few = λ some. omega (arith, more, room);
-    unsorted = w.unsorted;
-  }
+  late-waits (Ok x) new {mid = mid} block e none passed w broken room more mode moved = search (rules, arith, late_floor)
   late-waits (Err x) new block e none passed w broken room more mode moved = waits-none new block (late-broke e none passed broken) w.unsorted
 
   -- where they lead
   pub moved-one : {old new : T} {es now : List Event} (e : Event) (late : Bool) → GoesOn g old new es now ((e, late) ∷ [])
       → (IsTrue (is_ordered (g.mode old) e && not late) → floor_with g old es ≤ e.time)
       → floor_with g new now ≡ moved_floor (g.mode old) (floor_with g old es) e late
-  moved-one {old = old} {es = es} e late on order = on.moved ∙ sym (moved_floor-push (g.mode old) (floor_with g old es) (floor_with g old es) [] e late (omega arith) order)
+  moved-one {old = old} {es = es} e late on order = search (rules, arith, moved_floor-push)
 
   -- as far as before
   pub floor-still : {old new : T} {es now : List Event} → GoesOn g old new es now [] → floor_with g new now ≡ floor_with g old es
@@ -238,9 +205,7 @@ module _ {T : Type 0} (g : Ghosts T) where
 
   pub still-order : {old new : T} {es now : List Event} (more : List Event) → GoesOn g old new es now []
       → InOrder (orders_markers (g.mode old)) (floor_with g old es) more → InOrder (orders_markers (g.mode new)) (floor_with g new now) more
-  still-order {old = old} {new = new} {es = es} more on order =
-      subst (λ (f : ℕ). InOrder (orders_markers (g.mode new)) f more) (sym (floor-still on))
-      (subst (λ (m : Mode). InOrder (orders_markers m) (floor_with g old es) more) (sym on.same_mode) order)
+  still-order {old = old} {new = new} {es = es} more on order = search (rules, arith, floor-still)
 
   -- Events that come next wait too.
   pub record Fits (taker : T) (es more : List Event) : Type 0 where
@@ -249,11 +214,7 @@ module _ {T : Type 0} (g : Ghosts T) where
     pub few : taken_with g taker es + length more ≤ record_limit
 
   pub fits-still : {old new : T} {es now : List Event} (more : List Event) → GoesOn g old new es now [] → Fits old es more → Fits new now more
-  fits-still more on f = record {
-    order = still-order more on f.order;
-    fit = rw on.same_mode f.fit;
-    few = omega (arith, on.counted, f.few);
-  }
+  fits-still more on f = search (rules, arith, still-order)
 
   pub waits-push : {N : ℕ} (taker : T) (block now : Block N) (more : List Event) → Waits g taker block → gathered now ≡ gathered block ++ more → sorted now ≡ sorted block
       → Fits taker (gathered block) more → Waits g taker now
@@ -266,11 +227,7 @@ module _ {T : Type 0} (g : Ghosts T) where
 
   pub fits-one : (taker : T) (es : List Event) (e : Event) → e.time ≤ time_limit → (IsTrue (is_ordered (g.mode taker) e && not false) → floor_with g taker es ≤ e.time)
       → KindFits (g.mode taker) e.kind → taken_with g taker es < record_limit → Fits taker es (e ∷ [])
-  fits-one taker es e time order kind few = record {
-    order = one-order (g.mode taker) (floor_with g taker es) e time order;
-    fit = All-push (λ (e : Event). KindFits (g.mode taker) e.kind) [] e (λ k d lt. absurd (omega (arith, lt))) kind;
-    few = omega (arith, few);
-  }
+  fits-one taker es e time order kind few = search (rules, arith, one-order)
 
   -- What was given of words whose events went through a block.
 
@@ -282,16 +239,7 @@ module _ {T : Type 0} (g : Ghosts T) where
 
   pub broke-whole : {how : StreamSettings} {old new : T} {es : List Event} {more : Marked} (back : Marked) {ws us : List ℕ} → es ≡ []
       → given how us ≡ given how ws ++ (more ++ back) → Breaks g old new es more → Rose (g.faults old) (g.faults new) → BrokeOn g how old new ws us
-  broke-whole {how = how} {more = more} back {ws = ws} none adds b rose =
-      let are : more ≡ b.front ++ b.back = ap (λ x. on_time x ++ more) (sym none) ∙ b.parts in
-      record {
-        front = b.front;
-        back = b.back ++ back;
-        some = b.some;
-        adds = adds ∙ ap (λ m. given how ws ++ (m ++ back)) are ∙ ap (λ m. given how ws ++ m) (append_assoc b.front b.back back);
-        broken = b.broken;
-        rose = rose;
-      }
+  broke-whole {how = how} {more = more} back {ws = ws} none adds b rose = search (rules, arith, append_assoc)
 
   -- at the end
   pub broke-end : {how : StreamSettings} {old new : T} {es : List Event} {more : Marked} {ws us : List ℕ} → es ≡ []
@@ -301,20 +249,16 @@ module _ {T : Type 0} (g : Ghosts T) where
   -- what it was given, whatever is answered
   pub fed-given : {X : Type 0} {how : StreamSettings} {old new : T} {ws us : List ℕ} (r : Result X Fault) → IfErr r (λ fault. fault ≢ WriteFault)
       → Fed g how old new ws us r → GaveOn g how old new ws us
-  fed-given (Ok x) whole p = p.1
-  fed-given (Err fault) whole (inl p) = p.1
-  fed-given (Err fault) whole (inr p) = absurd (whole p.0)
+  fed-given r whole p = search (rules, arith)
 
   module _ {T' : Type 0} (g' : Ghosts T') {how : StreamSettings} {old new : T} {old' new' : T'} {ws us : List ℕ} where
     -- where the taker broke
     pub fed-broke : (X : Type 0) {es : List Event} → es ≡ [] → ((l : Marked) → ((start : T') (m : Marked) → g'.got start old' m → g'.broke start new' (m ++ l)) → Breaks g old new es l)
         → g'.faults old' ≡ g.faults old → g'.faults new' ≡ g.faults new → Fed g' {X = X} how old' new' ws us (Err WriteFault) → Fed g {X = X} how old new ws us (Err WriteFault)
     fed-broke X none through before after (inl r) = let e : true ≡ false = record_refusal-inside how us WriteFault r.0 in cc
-    fed-broke X none through before after (inr r) = inr (refl, broke-whole r.1.back none r.1.adds (through r.1.front r.1.broken) (rw (before, after) at r.1.rose))
+    fed-broke X none through before after (inr r) = search (rules, arith, broke-whole)
 
     -- and where it didn't
     pub fed-gave : {X : Type 0} (r : Result X Fault) → IfErr r (λ fault. fault ≢ WriteFault) → (GaveOn g' how old' new' ws us → GaveOn g how old new ws us)
         → Fed g' how old' new' ws us r → Fed g how old new ws us r
-    fed-gave (Ok x) whole through p = (p.0, through p.1)
-    fed-gave (Err fault) whole through (inl p) = inl (p.0, through p.1)
-    fed-gave (Err fault) whole through (inr p) = absurd (whole p.0)
+    fed-gave r whole through p = search (rules, arith)

@@ -169,10 +169,4 @@ module _ (walk : Walk) (from : Settle) (came went stay : List Event) (settles : 
 pub delivers_passed : (how : StreamSettings) (from new : Settle) (words : List ℕ) (came went : List Event)
     → how.policy.settle ≢ 0 → reach_of from ≡ how.policy.settle → AreOrdered how.mode came
     → HasPassed from new (ordered how.mode (events (map how.meaning words))) (not_marked (events_in how words)) came went → IsDelivered how new words came went
-delivers_passed how from new words came went some reach all p =
-    let before = events (map how.meaning words) in
-    let k = how.policy.settle in
-    record {
-      settled = rw (filter-append (λ (x : Event). is_ordered how.mode x) before came, ordered-same how.mode came all) p.settled;
-      delivers = search (rules, arith, ordered-same, delivered-append, ne_eqb);
-    }
+delivers_passed how from new words came went some reach all p = search (rules, arith, filter-append, ordered-same, delivered-append, ne_eqb)

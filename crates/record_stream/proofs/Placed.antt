@@ -67,8 +67,7 @@ comes mode before (Wrap ticks) p h = search (rules, arith, comes-ok)
 comes mode before Reserved p h = comes-ok mode (events before) [] ReservedPlaced p (refl, tt) h
 
 pub nothing : {X : Type 0} {x : X} (s : Bool) → (if s then x else x) ≡ x
-nothing true = refl
-nothing false = refl
+nothing s = search (rules, arith)
 
 abbrev pub late_if : StreamSettings → Bool → Event → ℕ → Option Fault
 late_if how b e top = if stops_late how.policy.order then (if b then Some (BackwardTime e.place e.time top) else None) else None

@@ -58,10 +58,7 @@ rest_pick : (how : StreamSettings) (settle : Settle) (words : List ℕ) (b : Boo
     → reach_of settle ≡ how.policy.settle → was_popped settle ≡ false → Settles how settle words
     → marked_as false (kept_back settle) ≡ cond b []
     (marked_as false (last_of how.policy.settle (in_time how.policy.settle (ordered how.mode (events (map how.meaning words))))))
-rest_pick how settle words true is reach still come =
-    let none : length (kept_back settle) ≡ 0 = omega (arith, settle.few, reach, eqb-true how.policy.settle 0 is) in
-    ap (marked_as false) (nil_from_length (kept_back settle) none)
-rest_pick how settle words false is reach still come = search (rules, arith, some-settle, waits-is)
+rest_pick how settle words b is reach still come = search (rules, arith, eqb-true, nil_from_length, some-settle, waits-is)
 
 pub rest-is : (how : StreamSettings) (settle : Settle) (words : List ℕ) → reach_of settle ≡ how.policy.settle
     → was_popped settle ≡ false → Settles how settle words → marked_as false (kept_back settle) ≡ last_in how words

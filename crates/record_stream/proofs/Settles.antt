@@ -19,9 +19,7 @@ pub floor-most : (mode : Mode) (floor last : ℕ) (e : Event) → floor ≤ last
 floor-most mode floor last e low time = search (rules, arith)
 
 not_marked-told : (e : Event) (late : Bool) (o : Option Event) → (late ≡ true → o ≡ None) → not_marked (told e late o) ≡ option_to_list o
-not_marked-told e true o none = rw (none refl) refl
-not_marked-told e false None none = refl
-not_marked-told e false (Some x) none = refl
+not_marked-told e late o none = search (rules, arith)
 
 greatest-push : (mode : Mode) (l : Marked) (e : Event) (late : Bool) (last now : ℕ) → now ≡ moved_floor mode last e late → (IsTrue (is_ordered mode e && not late) → last ≤ e.time) → last ≡ floor_of mode l → now ≡ floor_of mode (l ++ (e, late) ∷ [])
 greatest-push mode l e late last now moved in_order is = moved ∙ moved_floor-push mode 0 last l e late (omega (arith, is)) in_order ∙ omega arith
@@ -63,8 +61,7 @@ some-is k a b some = rw (ne_eqb k 0 some) refl
 -- In file order.
 pub judges_plain : (how : StreamSettings) (settle : Settle) (before : List Event) (l : Marked) (e : Event) (late : Bool) (o : Option Event) → how.policy.settle ≡ 0
     → is_late how.mode before e ≡ late → o ≡ (if late then None else Some e) → Judges how settle before l e (record { emitted = o; late = late })
-judges_plain how settle before l e true o zero is emits = search (rules, arith, is_late_by-0)
-judges_plain how settle before l e false o zero is emits = search (rules, arith, is_late_by-0)
+judges_plain how settle before l e late o h1 is emits = search (rules, arith, is_late_by-0)
 
 pub becomes_plain : (walk : Walk) (settle : Settle) (e : Event) (late : Bool) (o : Option Event) → (how_of walk).policy.settle ≡ 0 → IsKeeping walk settle
     → ComesUp walk settle e late → o ≡ (if late then None else Some e) → Becomes walk settle settle e late (record { emitted = o; late = late })
@@ -140,8 +137,7 @@ module _ (walk : Walk) (from now : Settle) (e : Event) (late : Bool) (answer : S
   becomes_pushed None true emits is = becomes
       (λ l low. rw (emits, is) (greatest-push (how_of walk).mode l e true (last_time from) (last_time now) (moves.same_time emits ∙ search (rules, arith)) (λ h. search (rules, arith)) low))
       (rw emits tt) (omega (arith, moves.same_time emits)) (rw (or_emits.left_out is) keeps.fit) (rw is (omega (arith, ap length (or_emits.left_out is))))
-  becomes_pushed None false emits is = becomes (λ l low. rw (emits, is, append-nil) (moves.same_time emits ∙ low))
-      (rw emits tt) (omega (arith, moves.same_time emits)) (waiting is).0 (rw (is, emits) (omega (arith, rw emits at (waiting is).1)))
+  becomes_pushed None false emits is = search (rules, arith, becomes, append-nil, waiting)
   becomes_pushed (Some x) true emits is = let h : true ≡ false = rw (emits, is) at or_emits.emits in cc
   becomes_pushed (Some x) false emits is =
       let goes = that_goes (CanWait (how_of walk).mode) answer.emitted x (kept_back from) (kept_back now) e emits (or_emits.kept is) waits keeps.fit in
@@ -153,8 +149,7 @@ module _ (walk : Walk) (from now : Settle) (e : Event) (late : Bool) (answer : S
 
 -- The greatest time given is the same where nothing was placed.
 pub floor-same : (old new : Walk) (s : Settle) → how_of new ≡ how_of old → clock_in new ≡ clock_in old → floor_in new s ≡ floor_in old s
-floor-same old new s how clock = ap (λ (h : StreamSettings). if h.policy.settle == 0 then greatest_of new else last_time s) how
-    ∙ ap (λ (k : Clock). if (how_of old).policy.settle == 0 then greatest_by k else last_time s) clock
+floor-same old new s how clock = search (rules, arith)
 
 module _ {T : Type 0} (g : Ghosts T) where
   -- an event that adds nothing
@@ -170,10 +165,7 @@ module _ {T : Type 0} (g : Ghosts T) where
       → OnOk r (Gave g old new t now x late) → OnErr r ((start : T) (l : Marked) → g.got start t l → g.broke start now (l ++ (x, late) ∷ []))
       → IfErr r (λ fault. fault ≡ WriteFault) → FailsOnce (g.faults t) (g.faults now) r
       → Tells g old new settle t now before l e top r
-  tells_one (Ok y) old new settle t now before l e x late top none is come gave broken fault cause =
-      record { unrefused = none; come = rw is come; got = rw is gave.got; summary = rw is gave.noted.summary; counted = rw is gave.noted.given; kept = cause.kept }
-  tells_one (Err y) old new settle t now before l e x late top none is come gave broken fault cause =
-      inr (fault, record { unrefused = none; some = rw is (omega arith); broken = rw is broken; rose = cause.once })
+  tells_one r old new settle t now before l e x late top none is come gave broken fault cause = search (rules, arith)
 
   -- a late one leaves the greatest time
   pub late_follows : {X : Type 0} (r : Result X Fault) (old new : Walk) (from now : Settle) (t u : T) (e : Event)
@@ -189,9 +181,7 @@ module _ {T : Type 0} (g : Ghosts T) where
 pub come_word : (how : StreamSettings) (settle : Settle) (ws : List ℕ) (w : ℕ) (es : List Event) (l : Marked)
     → event_after (map how.meaning ws) (how.meaning w) ≡ es → fresh how ws (how.meaning w) ≡ l
     → Comes how settle (events (map how.meaning ws) ++ es) (events_in how ws ++ l) → Settles how settle (ws ++ w ∷ [])
-come_word how settle ws w es l is adds come =
-    let delivers = events_in-push how ws w ∙ ap (λ m. events_in how ws ++ m) adds in
-    λ some. rw (delivers, map-append how.meaning ws (w ∷ []), events-push (map how.meaning ws) (how.meaning w), is) (come some)
+come_word how settle ws w es l is adds come = search (rules, arith, events_in-push, map-append, events-push)
 
 pub none-is : (b : Bool) (x y : ℕ) → x ≡ 0 → y ≡ 0 → (if b then x else y) ≡ 0
 none-is b x y one other = search (rules, arith)

@@ -43,7 +43,7 @@ module _ (how : StreamSettings) where
 
   module _ (words : List (List ℕ)) (each : (i : ℕ) → i < length words → how.meaning (word words i) ≡ Reserved) where
     kinds-reserved : reserved_kinds (length words) ≡ counts_of (map how.meaning (numbers words))
-    kinds-reserved = rw (count-same is_photon words each, count-same is_marker words each, count-same is_wrap words each, count-same is_reserved words each, length-map (numbers words) how.meaning, length-map words (from_le_bytes w32)) refl
+    kinds-reserved = search (rules, arith, count-same, length-map)
 
     -- they add no event
     adds-upto : (n base top d : ℕ) (before : List ℕ) → d ≤ length words → n + length words ≤ how.policy.records → base ≤ wrap_limit → stops_reserved how.policy.reserved ≡ false
@@ -66,10 +66,7 @@ module _ (how : StreamSettings) where
 
 -- what can be skipped after some records more
 pub lets-on : {old new : Walk} {n m : ℕ} (more : ℕ) → how_of new ≡ how_of old → records_of new ≡ records_of old + more → more + m ≤ n → LetsSkip old n → LetsSkip new m
-lets-on {old} {new} {m = m} more same counted few lets = record {
-  room = subst (λ (x : StreamSettings). records_of new + m ≤ x.policy.records) (sym same) (omega (arith, lets.room, counted, few));
-  skips = subst (λ (x : StreamSettings). stops_reserved x.policy.reserved ≡ false) (sym same) lets.skips;
-}
+lets-on {old} {new} {m = m} more same counted few lets = search (rules, arith)
 
 module _ {T : Type 0} (g : Ghosts T) {old new : Walk} (settle : Settle) (t : T) where
   -- The words that are skipped deliver nothing.
@@ -97,15 +94,13 @@ module _ {T : Type 0} (g : Ghosts T) {old new : Walk} (settle : Settle) (t : T) 
       ))
 
   floor-kept : {many : ℕ} → Skips old new many → floor_in new settle ≡ floor_in old settle
-  floor-kept skips = ap (λ (h : StreamSettings). if h.policy.settle == 0 then greatest_of new else last_time settle) skips.same_how
-      ∙ ap (λ k. if (how_of old).policy.settle == 0 then k else last_time settle) skips.same_greatest
+  floor-kept skips = search (rules, arith)
 
   pub records-skip : {many : ℕ} → Skips old new many → records_of new ≡ records_of old + many
   records-skip skips = ap (λ s. s.records) skips.summary
 
   pub keeping-skip : {many : ℕ} → Skips old new many → IsKeeping old settle → IsKeeping new settle
-  keeping-skip skips keeps = kept_on old new settle settle keeps skips.same_how refl keeps.unpopped keeps.fit
-      (omega (arith, keeps.behind, skips.placed)) (omega (arith, keeps.room, skips.same_given, records-skip skips))
+  keeping-skip skips keeps = search (rules, arith, kept_on)
 
   -- Words up to a place, and those that are skipped after them.
   pub took-skip : {stood : List ℕ → Type 0} {first : Walk} {start : T} {meaning : ℕ → Raw} {unit : ℕ} {columns : Columns} {words : List (List ℕ)} (from to many : ℕ) → from + many ≡ to

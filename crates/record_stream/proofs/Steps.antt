@@ -199,8 +199,7 @@ in_line-push mode low top place base es Reserved line fits few on = rw append-ni
 places-event : (low last : ℕ) (es : List Event) (e : Event)
     → PlacesRise low es → place_after low es ≤ last → last < e.place → RisesWithin low e.place (es ++ e ∷ [])
 places-event low last [] e rise most next = record { rises = (omega (arith, most, next), tt); last = omega arith }
-places-event low last (x ∷ es) e rise most next =
-    let rest = places-event x.place last es e rise.1 most next in record { rises = (rise.0, rest.rises); last = rest.last }
+places-event low last (x ∷ es) e rise most next = search (rules, arith, places-event x.place last es e rise.1 most next)
 
 pub places-push : (low n base : ℕ) (es : List Event) (raw : Raw) → RisesWithin low n es → RisesWithin low (n + 1) (es ++ event_of (n + 1) base raw)
 places-push low n base es (Photon input time dtime) within = places-event low n es _ within.rises within.last (omega arith)

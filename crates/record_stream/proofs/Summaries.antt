@@ -1,4 +1,5 @@
 -- The summary grows: by a record and its events, by a block, and by what is delivered at the end.
+use Rattle.std.proofs.Common.{rules}
 use Rattle.std.{proofs.Common.{◌≡◌, ◌+◌, ◌-◌, ◌<◌, ℕ, suc, List, [], ◌∷◌, ◌++◌, Bool, true, false, Some, None, cond, length, map, refl, sym, ap, ◌∙◌, arith, length-append, add-zero, zero-add, count_by, if◌then◌else◌}, specs.declared.option.Option.Option, proofs.lemmas.List.map-append, proofs.lemmas.List.Sums.{sum_by-append, sum_by_push}}
 use Rattle.tally_base.{specs.declared.event.Event.Event, specs.Columns.rows, proofs.BlockRows.{rows-first, rows-last}}
 use Rattle.ptu_definitions.{specs.declared.records.KindCounts.KindCounts, specs.declared.records.Raw.Raw, specs.declared.records.Raw.TheVariants.{Photon, Marker, Wrap, Reserved}, specs.declared.records.Summary.Summary, specs.Kinds.{counts_of, is_photon, is_marker, is_wrap, is_reserved}, specs.Kept.Marked, specs.Prefixes.{first, last_after}, specs.Settled.{delivered, delivered_last, kept_by, late_by, not_marked, those_marked}, specs.Streams.{StreamSettings, events_in, last_in, summary, time_of}, specs.Times.events, proofs.DeliveredLaws.{delivered-kept, delivered-late, delivered_last-late}, proofs.StreamLemmas.{events_in-push, fresh}}
@@ -10,8 +11,7 @@ with_marks-append s (x ∷ a) b = with_marks-append (with_event s x.0 x.1) a b
 
 -- as many records whatever the events
 event-records : (s : Summary) (e : Event) (late : Bool) → (with_event s e late).records ≡ s.records
-event-records s e true = refl
-event-records s e false = refl
+event-records s e late = search (rules, arith)
 
 pub marks-records : (s : Summary) (l : Marked) → (with_marks s l).records ≡ s.records
 marks-records s [] = refl
@@ -23,14 +23,7 @@ so_far-records how words = marks-records (eventless (map how.meaning words)) (ev
 
 -- A record and an event are counted in any order.
 event_raw : (s : Summary) (raw : Raw) (e : Event) (late : Bool) → with_raw (with_event s e late) raw ≡ with_event (with_raw s raw) e late
-event_raw s (Photon input time dtime) e true = refl
-event_raw s (Photon input time dtime) e false = refl
-event_raw s (Marker bits time) e true = refl
-event_raw s (Marker bits time) e false = refl
-event_raw s (Wrap amount) e true = refl
-event_raw s (Wrap amount) e false = refl
-event_raw s Reserved e true = refl
-event_raw s Reserved e false = refl
+event_raw s raw e late = search (rules, arith)
 
 raw-marks : (s : Summary) (raw : Raw) (l : Marked) → with_raw (with_marks s l) raw ≡ with_marks (with_raw s raw) l
 raw-marks s raw [] = refl
@@ -40,27 +33,20 @@ count_by-push : (p : Raw → Bool) (records : List Raw) (raw : Raw) → count_by
 count_by-push p records raw = sum_by_push (λ (r : Raw). cond (p r) 1 0) records raw
 
 eventless-push : (records : List Raw) (raw : Raw) → eventless (records ++ raw ∷ []) ≡ with_raw (eventless records) raw
-eventless-push records (Photon input time dtime) = simp (length-append, count_by-push, add-zero)
-eventless-push records (Marker bits time) = simp (length-append, count_by-push, add-zero)
-eventless-push records (Wrap amount) = simp (length-append, count_by-push, add-zero)
-eventless-push records Reserved = simp (length-append, count_by-push, add-zero)
+eventless-push records raw = search (rules, arith, length-append, count_by-push, add-zero)
 
 -- One word more.
 pub so_far-push : (how : StreamSettings) (ws : List ℕ) (w : ℕ)
     → so_far how (ws ++ w ∷ []) ≡ with_marks (with_raw (so_far how ws) (how.meaning w)) (fresh how ws (how.meaning w))
 unfolding so_far
-so_far-push how ws w =
-    let s = eventless (map how.meaning ws) in
-    rw (events_in-push how ws w, map-append how.meaning ws (w ∷ []), eventless-push (map how.meaning ws) (how.meaning w))
-    (with_marks-append (with_raw s (how.meaning w)) (events_in how ws) (fresh how ws (how.meaning w)) ∙ rw (raw-marks s (how.meaning w)) refl)
+so_far-push how ws w = search (rules, arith, events_in-push, map-append, eventless-push, with_marks-append, fresh, raw-marks)
 
 -- A block more.
 abbrev with_kinds : Summary → KindCounts → Summary
 with_kinds s k = record s { records = s.records + k.records; photons = s.photons + k.photons; markers = s.markers + k.markers; wraps = s.wraps + k.wraps; reserved = s.reserved + k.reserved }
 
 kinds_event : (s : Summary) (k : KindCounts) (e : Event) (late : Bool) → with_event (with_kinds s k) e late ≡ with_kinds (with_event s e late) k
-kinds_event s k e true = refl
-kinds_event s k e false = refl
+kinds_event s k e late = search (rules, arith)
 
 kinds-marks : (s : Summary) (k : KindCounts) (l : Marked) → with_marks (with_kinds s k) l ≡ with_kinds (with_marks s l) k
 kinds-marks s k [] = refl
@@ -70,13 +56,10 @@ count_by-append : {X : Type 0} (p : X → Bool) (xs ys : List X) → count_by p 
 count_by-append p xs ys = sum_by-append (λ x. cond (p x) 1 0) xs ys
 
 eventless-more : (rs qs : List Raw) → eventless (rs ++ qs) ≡ with_kinds (eventless rs) (counts_of qs)
-eventless-more rs qs = rw (length-append rs qs, count_by-append is_photon rs qs, count_by-append is_marker rs qs, count_by-append is_wrap rs qs, count_by-append is_reserved rs qs) refl
+eventless-more rs qs = search (rules, arith, length-append, count_by-append)
 
 first-after : (o : Option ℕ) (time : ℕ) (es : List Event) → first_with (or_time o time) es ≡ or_time o time
-first-after None time [] = refl
-first-after None time (e ∷ es) = refl
-first-after (Some t) time [] = refl
-first-after (Some t) time (e ∷ es) = refl
+first-after o time es = search (rules, arith)
 
 on_time-marks : (s : Summary) (es : List Event) → with_marks s (on_time es) ≡ record s { first = first_with s.first es; last = last_with s.last es }
 on_time-marks s [] = refl
@@ -122,19 +105,16 @@ with_lists s late kept = record s { late = s.late + length late; first = first_t
 
 none_more : (f : Option ℕ) → first_time f [] ≡ f
 unfolding first_time
-none_more None = refl
-none_more (Some t) = refl
+none_more f = search (rules, arith)
 
 one_more : (f : Option ℕ) (e : Event) (l : List Event) → first_time (or_time f e.time) l ≡ first_time f (e ∷ l)
 unfolding first_time
-one_more None e l = refl
-one_more (Some t) e l = refl
+one_more f e l = search (rules, arith)
 
 with_marks-is : (s : Summary) (l : Marked) → with_marks s l ≡ with_lists s (those_marked l) (not_marked l)
 unfolding last_time
 with_marks-is s [] = rw (add-zero s.late, none_more s.first) refl
-with_marks-is s ((e, true) ∷ l) =
-    with_marks-is (with_event s e true) l ∙ (let n : (s.late + 1) + length (those_marked l) ≡ s.late + suc (length (those_marked l)) = omega arith in rw n refl)
+with_marks-is s ((e, true) ∷ l) = search (rules, arith, with_marks-is (with_event s e true) l)
 with_marks-is s ((e, false) ∷ l) = with_marks-is (with_event s e false) l ∙ rw (one_more s.first e (not_marked l)) refl
 
 pub summary-end : (how : StreamSettings) (words : List ℕ) → with_marks (so_far how words) (last_in how words) ≡ summary how words

@@ -145,12 +145,10 @@ module _ (columns : Columns) (placed base unit : ℕ) where
   event = event_in placed base unit columns
 
   ordered-code : (mode : Mode) (n : ℕ) → nat_lt (row_at columns n).code 512 ≡ true → moves_floor (orders_markers mode) (event_in placed base unit columns n) ≡ nat_lt (row_at columns n).code (ordered_below mode)
-  ordered-code T2 n event = grind (arith, common_steps, nat_tests, event)
-  ordered-code T3 n event = grind (arith, common_steps, nat_tests, event)
+  ordered-code mode n event = search (rules, arith, event)
 
   low-code : (mode : Mode) (n : ℕ) → nat_lt (row_at columns n).code 512 ≡ false → nat_lt (row_at columns n).code (ordered_below mode) ≡ false
-  low-code T2 n none = grind (arith, common_steps, nat_tests, none)
-  low-code T3 n none = none
+  low-code mode n none = search (rules, arith)
 
   pub floor-is : (mode : Mode) (floor n : ℕ) → floor_after (orders_markers mode) floor (evs columns (event_in placed base unit columns) 512 n) ≡ unwrap_or (last_below (ordered_below mode) (λ i. (row_at columns i).code) (time_in base unit columns) n) floor
   unfolding last_below staying
@@ -211,9 +209,7 @@ product-more unit f n = rw (sum-more f n) (omega arith)
 pub last-step : (below : ℕ) (codes times : ℕ → ℕ) (n : ℕ) (b : Bool) → 0 < n → nat_lt (codes (n - 1)) below ≡ b
     → last_below below codes times n ≡ (if b then Some (times (n - 1)) else last_below below codes times (n - 1))
 unfolding last_below
-last-step below codes times n b some is =
-    let next : n ≡ suc (n - 1) = omega (arith, some) in
-    ap (last_below below codes times) next ∙ rw is refl
+last-step below codes times n b some is = search (rules, arith)
 
 pub none-more : (below : ℕ) (columns : Columns) (n : ℕ) → staying below columns n ≡ [] → nat_lt (row_at columns n).code below ≡ false → staying below columns (n + 1) ≡ []
 unfolding staying
@@ -238,16 +234,14 @@ first-is below columns n k ks lt none is are =
     ap (λ l. get_or l 0 0) (sym are ∙ ap (staying below columns) (sym whole) ∙ all.1)
 
 or_none : (o : Option ℕ) → option_or o None ≡ o
-or_none None = refl
-or_none (Some t) = refl
+or_none o = search (rules, arith)
 
 if_some : {P : Type 0} (o : Option ℕ) → P → IfSome o (λ t. P)
-if_some None p = tt
-if_some (Some t) p = p
+if_some o p = search (rules, arith)
 
 module _ (clock : Clock) (unit : ℕ) (columns : Columns) where
   pub few-events : (below : ℕ) → length (events_below below clock unit columns) ≤ 64
-  few-events below = omega (arith, length-map (staying below columns 64) (event_in (placed_by clock) (base_of clock) unit columns), few-staying below columns 64)
+  few-events below = search (rules, arith, length-map, few-staying)
 
   pub last-event : last_with None (events_below 512 clock unit columns) ≡ last_time 512 (base_of clock) unit columns
   last-event = last-is columns (event_in (placed_by clock) (base_of clock) unit columns) 512 (time_in (base_of clock) unit columns) (λ i. refl) None 64 ∙ or_none (last_time 512 (base_of clock) unit columns)

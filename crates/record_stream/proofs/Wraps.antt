@@ -13,13 +13,11 @@ pico_t3-small word = grind (arith, common_steps, nat_tests)
 
 hydra_t2-small : (old : Bool) (word : ℕ) → amount (hydra_t2 old word) < 2 ^ 50
 unfolding hydra_t2
-hydra_t2-small true word = grind (arith, common_steps, nat_tests)
-hydra_t2-small false word = grind (arith, common_steps, nat_tests)
+hydra_t2-small old word = search (rules, arith)
 
 hydra_t3-small : (old : Bool) (word : ℕ) → amount (hydra_t3 old word) < 2 ^ 50
 unfolding hydra_t3
-hydra_t3-small true word = grind (arith, common_steps, nat_tests)
-hydra_t3-small false word = grind (arith, common_steps, nat_tests)
+hydra_t3-small old word = search (rules, arith)
 
 pub amount-small : (t : RecordType) (word : ℕ) → amount (meaning_of t word) < 2 ^ 50
 amount-small t word = search (rules, arith, pico_t2-small, pico_t3-small, hydra_t2-small, hydra_t3-small)

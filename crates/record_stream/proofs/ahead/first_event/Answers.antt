@@ -44,13 +44,4 @@ returns-then-row-lt512 g c = λ k ks are.
     rw (is, wraps, c.UNIT.ensures) (omega (arith, time, product-more unit (wraps_at columns) at, c.loop-at.invariant.before))
 
 pub loop-at-preserved : goal.loop-at-preserved
-loop-at-preserved g c =
-    let unit = g.R.RecordLayout.UNIT in
-    let columns = c.args.columns.now in
-    let at = c.loop-at.at in
-    let less = rw c.get-row.ensures at (le-ltb c.get-row.result.code 512 c.if-row-lt512.false) in
-    let wraps : c.get-row.result.wraps ≡ wraps_at columns at = ap (λ (r : Row). r.wraps) c.get-row.ensures in
-    record {
-      before = rw (wraps, c.UNIT.ensures) (omega (arith, product-more unit (wraps_at columns) at, c.loop-at.invariant.before));
-      none = none-more 512 columns at c.loop-at.invariant.none less;
-    }
+loop-at-preserved g c = search (rules, arith, le-ltb, product-more, none-more)

@@ -15,6 +15,4 @@ overflow_add-wraps c =
     omega (arith, here, c.loop-at.invariant, c.loop-at-test.true, c.requires at c.loop-at-test.true, sum-few (wraps_at columns) (2 ^ 25) at (λ k lt. c.requires k (omega (arith, lt, c.loop-at-test.true))))
 
 pub loop-at-preserved : goal.loop-at-preserved
-loop-at-preserved c =
-    let here : c.get-wraps.result.wraps ≡ wraps_at c.args.columns.now c.loop-at.at = ap (λ (r : Row). r.wraps) c.get-wraps.ensures in
-    omega (arith, here, c.loop-at.invariant, sum-more (wraps_at c.args.columns.now) c.loop-at.at)
+loop-at-preserved c = search (rules, arith, sum-more)

@@ -8,7 +8,7 @@ many-init g c =
     record { keeps = c.requires.ready.keeps; took = ([], refl, took-none g.W.EventTaker _ _ _ _ c.requires.ready.follows (g.met.W.EventTaker.same_none _)) }
 
 pub take_block-requires-clause-is_for : goal.take_block-requires-clause-is_for
-take_block-requires-clause-is_for g c = subst (λ (h : StreamSettings). g.O.SettlesEvents.is_for h.policy.settle) (sym c.many.invariant.took.2.stays.same_how) c.requires.is_for
+take_block-requires-clause-is_for g c = search (rules, arith)
 
 pub many-preserved : goal.many-preserved
 many-preserved g c =

@@ -33,21 +33,13 @@ pub go_on-requires-clause-limit : goal.go_on-requires-clause-limit
 go_on-requires-clause-limit g c = (c.in-Some.ensures.leads.gathers false).limit
 
 pub overflow_add-walk : goal.overflow_add-walk
-overflow_add-walk g c =
-    let lead = c.in-Some.ensures.leads in
-    let walk = c.args.walk.now in
-    omega (arith, walk.few_given, walk.limit, lead.room, lead.in_short.events, few-events (clock_in walk) g.R.RecordLayout.UNIT c.of.new.columns 512)
+overflow_add-walk g c = search (rules, arith, few-events)
 
 pub overflow_add-walk-2 : goal.overflow_add-walk-2
-overflow_add-walk-2 g c =
-    let lead = c.in-Some.ensures.leads in
-    let walk = c.args.walk.now in
-    omega (arith, walk.few_given, walk.limit, lead.room, lead.in_short.events, few-events (clock_in walk) g.R.RecordLayout.UNIT c.of.new.columns 512)
+overflow_add-walk-2 g c = search (rules, arith, few-events)
 
 pub invariant_of-walk-clause-few_given : goal.invariant_of-walk-clause-few_given
-invariant_of-walk-clause-few_given g c =
-    let lead = c.in-Some.ensures.leads in
-    omega (arith, c.args.walk.now.few_given, c.add_block.ensures.records, lead.split, lead.records)
+invariant_of-walk-clause-few_given g c = search (rules, arith)
 
 pub returns-then-is_err-clause-delivers : goal.returns-then-is_err-clause-delivers
 returns-then-is_err-clause-delivers g c = delivers-both g.W.EventTaker (λ before h.
@@ -108,10 +100,4 @@ returns-clause-goes_on g c =
     }
 
 pub returns-clause-stays : goal.returns-clause-stays
-returns-clause-stays g c =
-    let keeps = c.requires.ready.keeps in
-    let lead = c.in-Some.ensures.leads in
-    let none : length (kept_back c.args.settle.now) ≡ 0 = omega (arith, c.args.settle.now.few, keeps.reach, c.requires.is_for) in
-    let counted = lead.records in
-    let split = lead.split in
-    search (rules, arith, kept_on, none, counted, split)
+returns-clause-stays g c = search (rules, arith, kept_on)

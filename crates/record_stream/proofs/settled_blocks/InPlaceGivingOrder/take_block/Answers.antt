@@ -80,10 +80,7 @@ pub put_events-requires-clause-room : goal.put_events-requires-clause-room
 put_events-requires-clause-room g c = omega (arith, length-rows (event_at c.clear.new.self) c.clear.new.self.len, ap length c.clear.ensures.empty)
 
 pub take_block-requires-clause-room : goal.take_block-requires-clause-room
-take_block-requires-clause-room g c =
-    let those = those_in c.in-Some.ensures.leads c.ordered_below-below.ensures c.mode.ensures c.clear.ensures.empty c.put_events.ensures.more in
-    let ready = c.requires.ready in
-    omega (arith, ready.follows.few, ready.keeps.room, c.let_go.ensures.lets_go.count, those.1, c.in-Some.ensures.leads.room, c.args.walk.now.limit)
+take_block-requires-clause-room g c = search (rules, arith, those_in)
 
 pub take_block-requires-clause-fit : goal.take_block-requires-clause-fit
 take_block-requires-clause-fit g c = rw c.requires.ready.follows.mode_is c.let_go.ensures.lets_go.line.fit

@@ -1,3 +1,4 @@
+use Rattle.std.proofs.Common.{arith, rules}
 use Rattle.std.{proofs.Common.{refl, ◌≡◌, ℕ, List, [], ◌∷◌, ◌++◌, Bool, true, false, Ok, Err, OnOk, map, subst, sym, ◌∙◌, inl, inr, append-nil}, proofs.lemmas.Result.err_from_is_err_and, specs.declared.result.Result.Result}
 use Rattle.abs_time.{specs.declared.clock.Placed.Placed}
 use Rattle.tally_base.{specs.declared.event.Event.Event, specs.declared.fault.Fault.Fault}
@@ -89,7 +90,7 @@ returns-in-Wrap-clause-delivers g c = delivers-both g.S.EventTaker (λ words h.
     c.place_next.ensures.keeps.same_how c.place_next.ensures.keeps.same_given h (skipped-event _ c.in-Wrap.is))
 
 pub take_event-requires-clause-is_for : goal.take_event-requires-clause-is_for
-take_event-requires-clause-is_for g c = subst (λ (h : StreamSettings). g.O.SettlesEvents.is_for h.policy.settle) (sym c.place_next.ensures.keeps.same_how) c.requires.is_for
+take_event-requires-clause-is_for g c = search (rules, arith)
 
 pub take_event-requires-in-Late-clause-is_for : goal.take_event-requires-in-Late-clause-is_for
-take_event-requires-in-Late-clause-is_for g c = subst (λ (h : StreamSettings). g.O.SettlesEvents.is_for h.policy.settle) (sym c.place_next.ensures.keeps.same_how) c.requires.is_for
+take_event-requires-in-Late-clause-is_for g c = search (rules, arith)

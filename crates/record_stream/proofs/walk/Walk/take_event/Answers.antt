@@ -27,5 +27,4 @@ returns-in-None-clause-tells g c = λ earlier l so come.
     told_none g.S.EventTaker _ _ _ _ earlier l c.args.event _ (search (rules, arith, j)) (j.tells ∙ rw (c.if-settled.false, c.in-None.is) refl) (rw (c.if-settled.false, c.in-None.is) at j.come)
 
 pub returns-then-settled-clause-goes_on : goal.returns-then-settled-clause-goes_on
-returns-then-settled-clause-goes_on g c =
-    late_follows g.S.EventTaker c.give_event.result c.args.self.now c.give_event.new.self c.args.settle.now c.settle_event-settled.new.settle _ _ c.args.event c.give_event.ensures.gave c.give_event.ensures.keeps c.requires.ready.follows c.settle_event-settled.ensures.rises
+returns-then-settled-clause-goes_on g c = search (rules, arith, late_follows)

@@ -28,4 +28,4 @@ returns-clause-delivers g c =
     search (rules, arith, took-all, take_all)
 
 pub step-requires-clause-is_for : goal.step-requires-clause-is_for
-step-requires-clause-is_for g c = subst (λ (h : StreamSettings). g.O.SettlesEvents.is_for h.policy.settle) (sym c.loop-word.invariant.took.stays.same_how) c.requires.is_for
+step-requires-clause-is_for g c = search (rules, arith)
