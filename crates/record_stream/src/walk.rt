@@ -2,13 +2,12 @@
 ghost use Rattle.std.specs.Prelude.{◌≡◌, ◌+◌, ◌*◌, ◌<◌, ◌≤◌, ◌++◌, ◌∷◌, [], List, ℕ, length, Some, OnOk, OnErr, IfOk, IfErr, ◌&&◌, not, IsTrue};
 ghost use Rattle.abs_time.{specs.Placing.{mode_of as clock_mode, placed_by, IsSmall}, specs.Floors.moved_floor};
 ghost use Rattle.tally_base.{specs.RecordTypes.mode_of, specs.Limits.record_limit, specs.declared.fault.Fault.TheVariants.WriteFault, specs.FaultCounts.FailsOnce, specs.Events.is_ordered};
-ghost use Rattle.ptu_definitions.{specs.Kept.Marked, specs.Layouts.Fits, specs.Words.numbers, specs.Streams.refusal};
+ghost use Rattle.ptu_definitions.{specs.Kept.Marked, specs.Words.numbers, specs.Streams.refusal};
 
 use crate::blocks::SettlesEvents;
 use crate::count::{Sums, add_event, add_raw, stops_at, stops_late};
 use crate::taker::EventTaker;
 use abs_time::{Clock, Placed};
-use ptu_definitions::Raw;
 use record_layout::RecordLayout;
 use settle::Settle;
 use tally_base::{Event, Fault, Policy, RecordType};
@@ -33,16 +32,6 @@ pub struct Walk {
 impl Walk {
     ghost use Rattle.record_stream.{specs.OneMore.with_event, specs.Feeding.{Follows, Delivers}, specs.Walking.{how_of, given_by, KeepsPlace, IsBehind, CanGive, Gave, WalksOn}, specs.Keeping.IsKeeping, specs.Settling.{floor_in, ComesUp, HasTaken, IsReady, StaysKept, TellsAfterAny}, specs.Rows.{IsPlaced, CountsOne, KeepsGiven}};
 
-    /// What a word means.
-    #[inline(always)]
-    fn decode<R: RecordLayout>(&self, word: u32) -> Raw
-        requires meaning { R.meaning ≡ (how_of self.now).meaning }
-        ensures meaning { result ≡ (how_of self.now).meaning word }
-        ensures fits { Fits (how_of self.now).mode result }
-    {
-        R::decode(word)
-    }
-
     /// Counts and places the record of the next word. Refuses it for all but a late event.
     #[inline(always)]
     pub(crate) fn place_next<R: RecordLayout>(&mut self, word: u32) -> Result<Placed, Fault>
@@ -59,7 +48,7 @@ impl Walk {
                 limit: self.policy.records,
             });
         }
-        let raw = self.decode::<R>(word);
+        let raw = R::decode(word);
         if stops_at(self.policy.reserved, &raw) {
             return Err(Fault::ReservedRecord {
                 place: self.sums.records + 1,
