@@ -1,6 +1,6 @@
 -- Events that are only counted.
 use Rattle.std.proofs.Common.{rules}
-use Rattle.std.{proofs.Common.{◌≡◌, ◌+◌, ◌≤◌, ℕ, [], ◌∷◌, ◌++◌, List, Bool, IsTrue, ◌&&◌, not, length, length-append, arith, ◌∙◌, refl}}
+use Rattle.std.{proofs.Common.{◌≡◌, ◌+◌, ◌≤◌, ℕ, [], ◌∷◌, ◌++◌, List, Bool, IsTrue, ◌&&◌, not, length, length-append, arith}}
 use Rattle.tally_base.{specs.declared.event.Event.Event, specs.declared.header.Mode.Mode, specs.Events.is_ordered, specs.Tally.{floor_after, InOrder}}
 use Rattle.ptu_definitions.specs.Kept.{Marked}
 use Rattle.abs_time.{specs.Floors.{moved_floor, orders_markers}, proofs.Floors.moved_floor-push}

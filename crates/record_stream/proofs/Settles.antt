@@ -1,8 +1,8 @@
 -- One event more where events are put in their places.
-use Rattle.std.{proofs.Common.{rules, IfSome, ◌≡◌, ◌+◌, ◌≤◌, ℕ, List, [], ◌∷◌, ◌++◌, Bool, true, false, cond, None, Some, Ok, Err, OnOk, OnErr, IfErr, length, length-append, map, sym, ap, ◌∙◌, inr, append-nil, add-zero, arith, ◌&&◌, not, is_some, IsTrue, if◌then◌else◌, ◌≢◌, refl, ◌==◌}, specs.List.All, specs.Option.option_to_list, specs.declared.option.Option.Option, specs.declared.result.Result.Result, proofs.lemmas.List.map-append, proofs.lemmas.List.Elements.{filter-append, All-tail, All-from_recursion, recursion_from_All}, proofs.lemmas.Bool.{ne_eqb}}
+use Rattle.std.{proofs.Common.{rules, IfSome, ◌≡◌, ◌+◌, ◌≤◌, ℕ, List, [], ◌∷◌, ◌++◌, Bool, true, false, cond, None, Some, Ok, Err, OnOk, OnErr, IfErr, length, length-append, map, sym, ap, ◌∙◌, append-nil, add-zero, arith, ◌&&◌, not, is_some, IsTrue, if◌then◌else◌, ◌≢◌, refl, ◌==◌}, specs.List.All, specs.Option.option_to_list, specs.declared.option.Option.Option, specs.declared.result.Result.Result, proofs.lemmas.List.map-append, proofs.lemmas.List.Elements.{filter-append, All-tail, All-from_recursion, recursion_from_All}, proofs.lemmas.Bool.{ne_eqb}}
 use Rattle.tally_base.{specs.declared.event.Event.Event, specs.declared.fault.Fault.Fault, specs.declared.fault.Fault.TheVariants.{WriteFault}, specs.declared.header.Mode.Mode, specs.Events.{is_ordered}, specs.FaultCounts.FailsOnce}
 use Rattle.ptu_definitions.{specs.Kept.{Marked, floor_of, is_late}, specs.Settled.{ordered, put_in, not_marked}, specs.Streams.{StreamSettings, events_in}, specs.Times.{event_after, events}, proofs.DeliveredLaws.{is_late_by-0, not_marked-append}, proofs.SettledLemmas.length-put_in, proofs.SettlingLemmas.each-put_in, proofs.StreamLemmas.{events-push, events_in-push, fresh}}
-use Rattle.abs_time.{specs.declared.clock.Clock.Clock, specs.Placing.{mode_of as clock_mode, placed_by, greatest_by}, specs.Floors.moved_floor, proofs.Floors.moved_floor-push}
+use Rattle.abs_time.{specs.Placing.{mode_of as clock_mode, placed_by}, specs.Floors.moved_floor, proofs.Floors.moved_floor-push}
 use Rattle.record_stream.{specs.Keeping.{CanWait, Comes, IsKeeping, Settles, tells, refused_for}, specs.Settling.{Becomes, ComesUp, Judges, GoesBetween, floor_in, Tells, Told}, specs.Walking.{how_of, given_by, greatest_of, records_of, clock_in, Gave, KeepsPlace}, specs.declared.taker.EventTaker.Ghosts, specs.declared.walk.Walk.Walk, specs.Feeding.Follows}
 use Rattle.settle.{specs.Passing.{HasPushed, KeepsOrEmits, MovesTo, StandsBehind}, specs.Settling.told, specs.declared.settle.Settled.Settled, specs.Standing.{HasSettled, kept_back, next_place, last_time, reach_of, was_popped}, specs.declared.settle.Settle.Settle}
 

@@ -1,11 +1,11 @@
 -- Runs of reserved words.
-use Rattle.std.{proofs.Common.{rules, arith, ◌≡◌, ◌+◌, ◌<◌, ◌≤◌, ◌==◌, ◌&&◌, if◌then◌else◌, ℕ, zero, suc, Bool, true, false, List, [], ◌∷◌, ◌++◌, Ok, cond, length, map, get_or, take, drop, replicate, take-append-drop, count_by, refl, sym, ap, subst, ◌∙◌, add-zero, append-nil, append_assoc}, specs.Int.{from_le_bytes, w32}, proofs.lemmas.Grind.common_steps, proofs.lemmas.Bool.Decides.nat_tests, proofs.lemmas.List.Sums.sum_by-cons, proofs.lemmas.List.{take_all, take-take, length-take-le, length-drop, length-map, get_or-take, get_or-drop}}
+use Rattle.std.{proofs.Common.{rules, arith, ◌≡◌, ◌+◌, ◌<◌, ◌≤◌, ◌&&◌, ℕ, zero, suc, Bool, true, false, List, [], ◌∷◌, ◌++◌, Ok, cond, length, map, get_or, take, drop, replicate, take-append-drop, count_by, refl, sym, ap, subst, ◌∙◌, add-zero, append-nil, append_assoc}, specs.Int.{from_le_bytes, w32}, proofs.lemmas.Grind.common_steps, proofs.lemmas.Bool.Decides.nat_tests, proofs.lemmas.List.Sums.sum_by-cons, proofs.lemmas.List.{take_all, take-take, length-take-le, length-drop, length-map, get_or-take, get_or-drop}}
 use Rattle.tally_base.specs.{Events.stops_reserved, Limits.wrap_limit, declared.header.Mode.Mode}
-use Rattle.ptu_definitions.{specs.declared.records.Raw.Raw, specs.declared.records.Raw.TheVariants.Reserved, specs.Kinds.{is_photon, is_marker, is_wrap, is_reserved, counts_of}, specs.Settled.delivered, specs.Streams.{StreamSettings, events_in}, specs.Times.events, specs.Words.numbers}
+use Rattle.ptu_definitions.{specs.declared.records.Raw.Raw, specs.declared.records.Raw.TheVariants.Reserved, specs.Kinds.{is_reserved, counts_of}, specs.Settled.delivered, specs.Streams.{StreamSettings, events_in}, specs.Times.events, specs.Words.numbers}
 use Rattle.record_layout.{specs.declared.row.Row.Row, specs.Rowed.raw_of}
 use Rattle.abs_time.{specs.declared.clock.Clock.Clock, specs.Placing.{IsClock, LeadsOn, placed_by, base_of, greatest_by}, proofs.ClockLemmas.IsClock-reserved}
 use Rattle.lane_decode.specs.{declared.columns.Columns.Columns, InColumns.row_at}
-use Rattle.settle.specs.{declared.settle.Settle.Settle, Standing.last_time}
+use Rattle.settle.specs.{declared.settle.Settle.Settle}
 use Rattle.record_stream.{specs.declared.taker.EventTaker.Ghosts, specs.declared.walk.Walk.Walk, specs.Blocks.{Adds, on_time}, specs.Feeding.Delivers, specs.Keeping.{Came, IsKeeping, StandsAt}, specs.Runs.{EndsReserved, IsBlock, LetsSkip, Skips, reserved_kinds}, specs.Settling.{HasTaken, floor_in}, specs.Walking.{how_of, given_by, greatest_of, records_of, clock_in, summary_in, Took, WalksOn}, proofs.Feeds.{delivers-both, took-more}, proofs.Settles.kept_on, proofs.Steps.{adds-push, block_at, block_fed}, proofs.Wraps.{numbers-more, both-numbers}}
 
 raw-reserved : (unit : ℕ) (row : Row) → 512 < row.code → raw_of unit row ≡ Reserved

@@ -1,5 +1,5 @@
 -- How much one wrap adds at most.
-use Rattle.std.{proofs.Common.{rules, ◌<◌, ◌^◌, ℕ, Bool, true, false, arith, ◌≡◌, ◌+◌, List, [], ◌∷◌, ◌++◌, Some, length, take, drop, get_or, take-append-drop, refl, sym, ap, ◌∙◌, append_assoc}, proofs.lemmas.Grind.common_steps, proofs.lemmas.Bool.Decides.nat_tests, specs.Int.{from_le_bytes, w32}, proofs.lemmas.List.{take_more, map-append}}
+use Rattle.std.{proofs.Common.{rules, ◌<◌, ◌^◌, ℕ, Bool, arith, ◌≡◌, ◌+◌, List, [], ◌∷◌, ◌++◌, Some, length, take, drop, get_or, take-append-drop, refl, sym, ap, ◌∙◌, append_assoc}, proofs.lemmas.Grind.common_steps, proofs.lemmas.Bool.Decides.nat_tests, specs.Int.{from_le_bytes, w32}, proofs.lemmas.List.{take_more, map-append}}
 use Rattle.tally_base.{specs.declared.header.RecordType.RecordType, specs.declared.fault.Fault.Fault}
 use Rattle.ptu_definitions.{specs.Layouts.{pico_t2, pico_t3, hydra_t2, hydra_t3, meaning_of}, specs.Times.amount, specs.Words.{words_of, rest_of, numbers}, proofs.WordsLemmas.{words_of-append, rest_of-append}, specs.Streams.{StreamSettings, record_refusal}, proofs.StreamLemmas.refused-more}
 

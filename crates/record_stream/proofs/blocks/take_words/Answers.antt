@@ -1,5 +1,4 @@
-use Rattle.std.{proofs.Common.{arith, rules, ◌++◌, [], refl, sym, subst, length-append}, specs.Int.{from_le_bytes, w32}, proofs.lemmas.List.map-append, proofs.lemmas.Result.err_from_is_err_and}
-use Rattle.ptu_definitions.specs.Streams.{StreamSettings}
+use Rattle.std.{proofs.Common.{arith, rules, ◌++◌, [], refl, length-append}, specs.Int.{from_le_bytes, w32}, proofs.lemmas.List.map-append, proofs.lemmas.Result.err_from_is_err_and}
 use Rattle.record_stream.{proofs.Feeds.{took-none, took-more, took-last, took-stop}, proofs.Wraps.{parted, parted-numbers, both-numbers}}
 use Rattle.record_stream.proofs.blocks.take_words.Goals as goal
 

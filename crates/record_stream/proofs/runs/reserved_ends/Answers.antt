@@ -1,5 +1,5 @@
 use Rattle.std.proofs.Common.{rules}
-use Rattle.std.{proofs.Common.{arith, ◌≡◌, ◌∙◌, ◌-◌, ◌<◌, ◌≤◌, ◌⊎◌, ⊎_elim, ℕ}, proofs.lemmas.List.{length-set, get_or-set_same, get_or-set_other}}
+use Rattle.std.{proofs.Common.{arith, ◌≡◌, ◌-◌, ◌<◌, ◌≤◌, ◌⊎◌, ℕ}, proofs.lemmas.List.{length-set, get_or-set_same, get_or-set_other}}
 use Rattle.lane_decode.specs.{declared.columns.Columns.Columns, InColumns.row_at}
 use Rattle.record_stream.{specs.Runs.EndsReserved, proofs.runs.reserved_ends.Goals.{then-get-le512, else-get-le512}}
 use Rattle.record_stream.proofs.runs.reserved_ends.Goals as goal

@@ -1,5 +1,5 @@
-use Rattle.std.proofs.Common.{◌<◌, arith, rules}
-use Rattle.tally_base.{specs.Columns.{gathered}, proofs.BlockRows.length-rows}
+use Rattle.std.proofs.Common.{arith, rules}
+use Rattle.tally_base.{proofs.BlockRows.length-rows}
 use Rattle.record_stream.{proofs.Summaries.{first-rows, last-rows}}
 use Rattle.record_stream.proofs.settled_blocks.add_given.Goals as goal
 

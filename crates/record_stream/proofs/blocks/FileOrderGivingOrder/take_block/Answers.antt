@@ -1,9 +1,9 @@
-use Rattle.std.proofs.Common.{◌≡◌, length, rules, [], false, max, refl, ap, sym, subst, inr, ◌∙◌, unwrap_or, arith}
+use Rattle.std.proofs.Common.{◌≡◌, rules, [], false, max, refl, ap, sym, subst, inr, ◌∙◌, unwrap_or, arith}
 use Rattle.tally_base.{specs.declared.header.Mode.Mode, proofs.Floors.order-lower}
 use Rattle.ptu_definitions.{specs.Words.numbers, specs.Kept.floor_of}
 use Rattle.abs_time.specs.{Floors.orders_markers, Placing.greatest_by}
 use Rattle.record_stream.{specs.Blocks.on_time, specs.Feeding.CanTake, specs.Whole.events_below, specs.Walking.{how_of, greatest_of, clock_in}, proofs.Gathering.{gathers-all, gathers-lead}, proofs.Feeds.delivers-both, proofs.Steps.{ok_of, err_of, block_at, block_fed, block_broke, length-on_time}, proofs.InBlocks.floor_of-line, proofs.WholeBlocks.{few-events, last-event, first-event}, proofs.Settles.{kept_on, plain-is}}
-use Rattle.settle.specs.Standing.{kept_back, last_time}
+use Rattle.settle.specs.Standing.{last_time}
 use Rattle.record_stream.proofs.blocks.FileOrderGivingOrder.take_block.Goals as goal
 
 pub take_columns-requires-clause-can : goal.take_columns-requires-clause-can

@@ -1,5 +1,4 @@
-use Rattle.std.{proofs.Common.{refl, arith, rules, sym, subst}, proofs.lemmas.List.take_all}
-use Rattle.ptu_definitions.specs.Streams.{StreamSettings}
+use Rattle.std.{proofs.Common.{refl, arith, rules}, proofs.lemmas.List.take_all}
 use Rattle.record_stream.{proofs.Feeds.{took-none, took-more, took-stop, took-all}, proofs.Wraps.{step-numbers, whole-numbers}}
 use Rattle.record_stream.proofs.walk.Walk.words.Goals as goal
 
