@@ -139,8 +139,3 @@ module _ (set : CorrelationView) (level : ℕ) (l : Level) (ls : List Level) (es
     pub chain_took : (ls' : List Level) → ((came' xs' : History) → CanCome set (level + 1) ls (map (raised 1) shut) came' xs'
         → Chain false set (level + 1) ls' (came' ++ xs')) → Chain false set level (l' ∷ ls') (came ++ xs)
     chain_took ls' above = grind (arith, common_steps, add-one, come_on, all_that_came)
-
--- A whole `Vec` that was lent as a slice.
-
-pub whole_slice : {X : Type 0} (xs : List X) (ys : List X) (n : ℕ) → length xs ≡ length ys → n ≡ length ys → take n (xs ++ drop (length xs) ys) ≡ xs
-whole_slice xs ys n same all = grind (arith, common_steps)

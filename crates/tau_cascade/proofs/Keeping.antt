@@ -1,13 +1,8 @@
 -- What the ring of a level keeps once some bins are closed.
-use Rattle.std.{proofs.Common.{◌≡◌, ℕ, zero, suc, ◌+◌, ◌-◌, ◌<◌, ◌≤◌, Bool, true, leb, List, [], ◌∷◌, ◌++◌, length, take, drop, get_or, refl, append_assoc, append-nil, arith, rules}, specs.List.{filter, AllByRecursion}, proofs.lemmas.Bool.false≢true, proofs.lemmas.List.{drop_more}}
+use Rattle.std.{proofs.Common.{◌≡◌, ℕ, zero, suc, ◌+◌, ◌-◌, ◌<◌, ◌≤◌, leb, List, [], ◌∷◌, ◌++◌, length, take, drop, get_or, refl, append_assoc, append-nil, arith, rules}, specs.List.{filter, AllByRecursion}, proofs.lemmas.List.{drop_more}}
 use Rattle.tally_base.{specs.Settings.CorrelationView, specs.Tally.History}
 use Rattle.lag_ring.{specs.declared.ring.Entry.Entry, specs.Ring.{Ring, ring, IsRising}, proofs.Kept.kept_late, proofs.Lists.{all_front, all_back, all_join, of_some}, proofs.Rising.{rising_filter, all_weaker, filter_passed}}
 use Rattle.tau_cascade.{specs.Correlation.{bin, in_first, in_second}, specs.Levels.RingIs, specs.Bins.Follow, proofs.Paired.{ring_weights, weights_all}}
-
--- a weaker test first leaves out nothing that the stronger one keeps
-pub filter_again : (p q : Entry → Bool) → ((x : Entry) → p x ≡ true → q x ≡ true) → (xs : List Entry) → filter p (filter q xs) ≡ filter p xs
-filter_again p q stronger [] = refl
-filter_again p q stronger (x ∷ xs) = search (rules, arith, false≢true, filter_again p q stronger xs)
 
 -- the index of the last of some entries, or a number where there are none
 abbrev pub last_of : ℕ → List Entry → ℕ

@@ -1,8 +1,8 @@
 -- Bins of one index that are neighbours, as they are and merged.
 use Rattle.std.{proofs.Common.{◌≡◌, ◌^◌, ◌&&◌, length-append, ◌/◌, ℕ, ◌+◌, ◌-◌, ◌<◌, ◌≤◌, Bool, true, false, cond, eqb, leb, List, [], ◌∷◌, ◌++◌, length, map, take, drop, get_or, refl, sym, ap, ◌∙◌, arith, rules}, specs.List.{sum_by, count_by, filter, AllByRecursion}, proofs.lemmas.Bool.Decides.nat_tests, proofs.Props.props, proofs.Math.Logic.∥∥₁_elim, proofs.Math.Nat.{mul-le-mul_left}, proofs.lemmas.List.{take_rest, take-append-drop, drop-map, length-drop, length-map, get_or-drop, get_or-map}, proofs.lemmas.List.Sums.{sum_by_push, count_by-le-length, length-filter}}
-use Rattle.lag_ring.{specs.declared.ring.Entry.Entry, specs.Ring.{Ring, ring, IsRising, IsInReach, weight_where}, specs.Cells.{Cells, added_at}, proofs.Rising.{all_weaker, rising-prop}, proofs.Sums.sum_by-filter}
+use Rattle.lag_ring.{specs.declared.ring.Entry.Entry, specs.Ring.{Ring, ring, IsRising, IsInReach, weight_where}, specs.Cells.{Cells, added_at}, proofs.Lists.all_passed, proofs.Rising.{all_weaker, filter_passed, rising-prop}, proofs.Sums.sum_by-filter}
 use Rattle.tally_base.{specs.Settings.CorrelationView, specs.Tally.History}
-use Rattle.tau_cascade.{proofs.Close.no_bin, specs.Correlation.{Given, bin, skipped_lags, in_first, in_second}, specs.Levels.{weight_before, RingIs, CellsAre}, specs.Dense.{paired, paired_from}, specs.Bins.{raised, both_of, merged, merged_all, kept_of, stretch, FitCounts, IsSpaced, Follow, CanShutAll}, specs.declared.grid.Grid.Grid, specs.Grid.{Stands, kept_and}, proofs.Gridded.keeps_dense, proofs.Paired.{all_rising, cells_all}, proofs.Keeping.{last_of, follow_upto, ring_all, filter_again, kept_is}}
+use Rattle.tau_cascade.{proofs.Close.no_bin, specs.Correlation.{Given, bin, skipped_lags, in_first, in_second}, specs.Levels.{weight_before, RingIs, CellsAre}, specs.Dense.{paired, paired_from}, specs.Bins.{raised, both_of, merged, merged_all, kept_of, stretch, FitCounts, IsSpaced, Follow, CanShutAll}, specs.declared.grid.Grid.Grid, specs.Grid.{Stands, kept_and}, proofs.Gridded.keeps_dense, proofs.Paired.{all_rising, cells_all}, proofs.Keeping.{last_of, follow_upto, ring_all, kept_is}}
 
 -- Pairs with what is before count by its weights alone.
 paired_same : (k : ℕ) (before other es : List Entry) → ((n : ℕ) → weight_before k n before ≡ weight_before k n other) → paired k before es ≡ paired k other es
@@ -133,7 +133,7 @@ module _ {set : CorrelationView} {level skipped : ℕ} {r : Ring} {levels start 
     fits : (weight : Entry → ℕ) (mine : Given → Bool) → weight_where weight (λ i. leb before i) (filter from' (r.entries ++ whole)) ≡ count_by (λ x. mine x && leb before (bin level x)) (closed ++ xs) → sum_by weight (filter from' (r.entries ++ whole)) < 2 ^ 64
     fits weight mine is =
         let few = count_by-le-length (λ x. mine x && leb before (bin level x)) (closed ++ xs) in
-        omega (arith, ap (sum_by weight) (filter_again from' from' (λ x passes. passes) (r.entries ++ whole)), sum_by-filter from' weight (filter from' (r.entries ++ whole)), is, few, length-append closed xs, can.few)
+        omega (arith, ap (sum_by weight) (filter_passed from' (filter from' (r.entries ++ whole)) (all_passed from' (r.entries ++ whole))), sum_by-filter from' weight (filter from' (r.entries ++ whole)), is, few, length-append closed xs, can.few)
 
     -- what is kept of the whole list
     pub keeps_near : FitCounts (kept_of before levels list) × RingIs set level (ring (kept_of before levels list) r.reach) (closed ++ xs)
