@@ -34,19 +34,13 @@ none_after set h time after =
 pub few_photons : (set : CorrelationView) (h : History) → length (photons_of set h) ≤ length h
 few_photons set h = omega (arith, length-filter (λ x. in_first set x || in_second set x) h, count_by-le-length (λ x. in_first set x || in_second set x) h)
 
-pub bin-zero : (x : Given) → bin 0 x ≡ x.0.time
-bin-zero x = div-one x.0.time
-
 -- the same of the bins of the first level
 pub none_before : (set : CorrelationView) (h : History) (time : ℕ) → greatest_time false h ≤ time → AllByRecursion (λ x. bin 0 x ≤ time) (photons_of set h)
-none_before set h time after = search (rules, arith, all_weaker, bin-zero, none_after)
+none_before set h time after = search (rules, arith, all_weaker, div-one, none_after)
 
 -- it may be closed
 pub may_end : (closed : Bool) → closed ≡ false → (set : CorrelationSet) (ls : List Level) (count time : ℕ) (h : History) → StandsFor closed set ls count time h → count ≤ record_limit → CanCome (correlation_view set) 0 ls [] (photons_of (correlation_view set) h) []
 may_end closed still set ls count time h is few = search (rules, arith, false≢true, few_photons)
-
-pub end_counts : (closed : Bool) → closed ≡ false → (set : CorrelationSet) (ls ls' : List Level) (count time : ℕ) (h : History) → StandsFor closed set ls count time h → Chain true (correlation_view set) 0 ls' (photons_of (correlation_view set) h) → StandsFor true set ls' count time h
-end_counts closed still set ls ls' count time h is through = record { taken = is.taken; floor = is.floor; through = through }
 
 -- the weight of an event of a block
 pub weight_row : {N : ℕ} (b : Block N) (i group : ℕ)
@@ -87,7 +81,7 @@ module _ (set : CorrelationView) where
             let late : greatest_time false (h ++ es) ≤ x.0.time = (let upto = next.1 photon in rw last upto) in
             let all : AllByRecursion (λ y. bin 0 y ≤ x.0.time) (photons_of set h ++ photons_of set es) =
             rw (← filter-append mine h es) (none_before set (h ++ es) x.0.time late) in
-            come_push set 0 (photon_bins set es) (bin_of set x) (photons_of set h) (photons_of set es) (x ∷ []) before (search (rules, arith, bin-zero, zero-add)) all
+            come_push set 0 (photon_bins set es) (bin_of set x) (photons_of set h) (photons_of set es) (x ∷ []) before (search (rules, arith, div-one, zero-add)) all
         | false ↦ λ other. rw (append-nil (photon_bins set es), append-nil (photons_of set es)) before
       ]) refl)
 
@@ -95,9 +89,6 @@ module _ (set : CorrelationView) where
 pub block_comes : (set : CorrelationView) (ls : List Level) (b : Block 1024) (h : History) → CanGiveBlock set ls b h
     → CanCome set 0 ls (map (raised 0) (photon_bins set (events_in b))) (photons_of set h) (photons_of set (events_in b))
 block_comes set ls b h can = search (rules, arith, few_photons, raised-none, come_rows)
-
-pub photons-append : (set : CorrelationView) (h es : History) → photons_of set (h ++ es) ≡ photons_of set h ++ photons_of set es
-photons-append set h es = filter-append (λ y. in_first set y || in_second set y) h es
 
 -- what a correlation that isn't closed may be given
 pub may_give_block : (closed : Bool) → closed ≡ false → (set : CorrelationSet) (ls : List Level) (count time : ℕ) (h : History) (b : Block 1024) → StandsFor closed set ls count time h → count + length (gathered b) ≤ record_limit → InOrder false time (gathered b) → CanGiveBlock (correlation_view set) ls b h

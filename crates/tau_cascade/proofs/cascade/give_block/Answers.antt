@@ -1,6 +1,6 @@
-use Rattle.std.{proofs.Common.{arith, rules}, proofs.Math.Logic.{∥∥₁_map}}
+use Rattle.std.{proofs.Common.{arith, rules}, proofs.lemmas.List.Elements.filter-append, proofs.Math.Logic.{∥∥₁_map}}
 use Rattle.tally_base.{specs.Settings.correlation_view, specs.Columns.events_in}
-use Rattle.tau_cascade.{specs.Correlation.photons_of, proofs.Blocks.{block_comes, photons-append}}
+use Rattle.tau_cascade.{specs.Correlation.photons_of, proofs.Blocks.block_comes}
 use Rattle.tau_cascade.proofs.cascade.give_block.Goals as goal
 
 pub carry_all-requires-clause-stands : goal.carry_all-requires-clause-stands
@@ -10,4 +10,4 @@ carry_all-requires-clause-stands g c =
     (λ w. (photons_of view w.0, photons_of view (events_in c.args.block.now), block_comes view c.args.levels.now c.args.block.now w.0 w.1)))
 
 pub returns-clause-follows : goal.returns-clause-follows
-returns-clause-follows g c = search (rules, arith, photons-append, block_comes)
+returns-clause-follows g c = search (rules, arith, filter-append, block_comes)
