@@ -17,7 +17,7 @@ from_start t (x ∷ h) = search (rules, arith, from_start (later t x) h)
 -- no photon is after the greatest time
 in_time : (t : ℕ) (h : History) → AllByRecursion (λ x. is_photon x.0 ≡ true → x.0.time ≤ fold later t h) h
 in_time t [] = tt
-in_time t (x ∷ h) = (λ is. let rest = from_start (later t x) h in let now : later t x ≡ max t x.0.time = rw is refl in omega (arith, now, rest), in_time (later t x) h)
+in_time t (x ∷ h) = search (rules, arith, from_start, in_time (later t x) h)
 
 pub mine-photon : (p a b : Bool) → ((p && a) || (p && b)) ≡ true → p ≡ true
 mine-photon p a b is = search (rules, arith)

@@ -59,9 +59,7 @@ module _ (set : CorrelationView) (level : ℕ) where
       (es : List Entry) (closed xs : History) (can : CanShutAll set level r cells es closed xs) where
     all_more : (p : ℕ) → p < set.lags - skipped
         → correlation set level (p + skipped + 1) (closed ++ xs) ≡ get_or cells.cells p 0 + paired (p + skipped + 1) r.entries es
-    all_more p inside =
-        let was : get_or cells.cells p 0 ≡ correlation set level (p + skipped + 1) closed = rw is_skipped (can.cells.counts.pairs p (rw (← is_skipped) inside)) in
-        rw was (correlation_paired (p + skipped + 1) (omega arith) (omega arith) es r.entries closed xs (ring_weights r closed can.ring) can.bins)
+    all_more p inside = search (rules, arith, correlation_paired, ring_weights)
 
     pub all_rising : IsRising (r.entries ++ es)
     all_rising = rising_all r.entries es closed xs can.ring.rising (ring_weights r closed can.ring) can.bins

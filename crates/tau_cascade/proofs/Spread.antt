@@ -165,12 +165,7 @@ spaced_join (r ∷ rs) e es rising below spaced = search (rules, arith, all_join
 
 -- where no bin is closed, a level stays as it is
 pub shuts_none : (set : CorrelationView) (level : ℕ) (l : Level) → Shuts set level l l []
-shuts_none set level l = record {
-  paired = omega arith;
-  ring = λ closed xs can. rw (can.bins, append-nil) can.ring;
-  cells = λ closed xs can. rw (can.bins, append-nil) can.cells;
-  opened = refl;
-}
+shuts_none set level l = search (rules, arith, append-nil)
 
 module _ (set : CorrelationView) (level : ℕ) where
   -- these photons are before the first of some bins

@@ -61,19 +61,8 @@ pub record Reached (ended : Bool) (set : CorrelationView) (level : ℕ) (l : Lev
 
 reach : (ended : Bool) (set : CorrelationView) (level : ℕ) (ls : List Level) (came : History) → Chain ended set level ls came → (i : ℕ) (l : Level) → slice_get ls i ≡ Some l → Reached ended set (level + i) l came
 reach ended set level [] came chain i l read = cc
-reach ended set level (x ∷ ls) came chain zero l read =
-    let same : x ≡ l = cc in
-    rw (add-zero, ← same) (record { closed = chain.0; rest = chain.1; split = chain.2; has = chain.3.has; end = ends ended set level x.open chain.0 chain.1 chain.3.opened })
-reach ended set level (x ∷ ls) came chain (suc i) l read =
-    let one : level + suc i ≡ suc level + i = omega arith in
-    let above = reach ended set (suc level) ls chain.0 chain.4 i l read in
-    rw one (record {
-      closed = above.closed;
-      rest = above.rest ++ chain.1;
-      split = chain.2 ∙ ap (λ xs. xs ++ chain.1) above.split ∙ append_assoc above.closed above.rest chain.1;
-      has = above.has;
-      end = λ shut. (rw ((above.end shut).0, (ends ended set level x.open chain.0 chain.1 chain.3.opened shut).0) refl, (above.end shut).1);
-    })
+reach ended set level (x ∷ ls) came chain zero l read = search (rules, arith, add-zero)
+reach ended set level (x ∷ ls) came chain (suc i) l read = search (rules, arith, append_assoc, reach ended set (suc level) ls chain.0 chain.4 i l read)
 
 pub level_at : (ended : Bool) (set : CorrelationView) (ls : List Level) (came : History) → Chain ended set 0 ls came → (i : ℕ) (l : Level) → slice_get ls i ≡ Some l → Reached ended set i l came
 level_at ended set ls came chain i l read = (rw zero-add at (reach ended set 0 ls came chain i l read))

@@ -81,16 +81,4 @@ pub returns-then-closing-eq0-clause-shuts : goal.returns-then-closing-eq0-clause
 returns-then-closing-eq0-clause-shuts g c = rw c.if-closing-eq0.true (shuts_none _ _ _)
 
 pub returns-then-closing-eq0-clause-comes : goal.returns-then-closing-eq0-clause-comes
-returns-then-closing-eq0-clause-comes g c =
-    let closing = c.requires.comes.0 in
-    let up : c.args.closing.levels + 1 - 1 ≡ c.args.closing.levels = omega arith in (
-      record {
-        bins = record { places = closing.bins.places; up = omega (arith, closing.up); spaced = closing.bins.spaced; nearer = closing.bins.nearer };
-        grid = record { up = λ some. omega arith; grid = rw up c.requires.comes.1.grid };
-        long = closing.long;
-        zeros = c.requires.room.0;
-      },
-      omega arith,
-      refl,
-      rw up (λ set level came xs come. come),
-    )
+returns-then-closing-eq0-clause-comes g c = search (rules, arith, bins)

@@ -59,7 +59,7 @@ module _ (g : Over) (c : After-cut_last-last g) where
 
   -- the last of them is cut off
   cut : IsCut all c.cut_last-last.result.closed c.cut_last-last.result.bin
-  cut = is_cut put _ c.cut_last-last.ensures.few _ c.cut_last-last.ensures.before c.cut_last-last.ensures.here c.cut_last-last.ensures.weights.0 c.cut_last-last.ensures.weights.1
+  cut = search (rules, arith, is_cut, put)
 
   front : stretch c.lower_open-from.result c.cut_last-last.result.closed c.args.came.levels c.lower_open-from.new.list ≡ take c.cut_last-last.result.closed all
   front = front_here put _ c.cut_last-last.ensures.few
