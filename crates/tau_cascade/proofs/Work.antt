@@ -1,8 +1,8 @@
 -- A level's additions are at most its lags times its occupied bins, and those at a lag at most its occupied bins.
 use Rattle.tally_base.{specs.declared.settings.CorrelationSet.CorrelationSet, specs.Settings.{CorrelationView, correlation_view}, specs.Tally.History}
-use Rattle.tau_cascade.{specs.declared.level.Level.Level, specs.declared.cascade.Cascade.Cascade, specs.Cascade.{Holds, set_of, spent_by, added_below}, specs.StandsFor.StandsFor, specs.Correlation.{bin, lag_count, correlation, photons_of}, specs.Work.{occupied, IsWithinLevelWork, IsPaired, lags_at, work_from, work, appears, distinct}, specs.Levels.{Chain, RestIs, ClosedAre, spent}}
-use Rattle.std.{proofs.Common.{rules, ◌≡◌, ℕ, zero, suc, ◌+◌, ◌*◌, ◌%◌, ◌<◌, ◌≤◌, take, slice_get, Bool, true, false, List, [], ◌∷◌, ◌++◌, length, map, sym, ap, ◌∙◌, refl, append_assoc, append-nil, zero-add, add-zero, Some, None, Option, arith, cond, ◌||◌, eqb}, proofs.Math.Nat.mul-le-mul_left, specs.Option.{option_map, option_map_or}, proofs.lemmas.Grind.common_steps, proofs.lemmas.Bool.false≢true, proofs.lemmas.List.{map-append, take_all, length-map}, proofs.lemmas.List.Sums.{sum_by-cons, sum_by-le, count_by-le-length}, specs.List.{AllByRecursion}}
-use Rattle.lag_ring.{specs.declared.ring.Entry.Entry, proofs.Lists.{all_map}}
+use Rattle.tau_cascade.{specs.declared.level.Level.Level, specs.declared.cascade.Cascade.Cascade, specs.Cascade.{Holds, set_of, spent_by, added_below}, specs.StandsFor.StandsFor, specs.Correlation.{bin, lag_count, correlation, photons_of}, specs.Work.{occupied, IsWithinLevelWork, IsPaired, lags_at, work_from, work, appears, distinct}, specs.Levels.{Chain, ClosedAre, spent}}
+use Rattle.std.{proofs.Common.{rules, ◌≡◌, ℕ, zero, suc, ◌+◌, ◌*◌, ◌%◌, ◌<◌, ◌≤◌, take, slice_get, Bool, true, false, List, [], ◌∷◌, ◌++◌, length, map, sym, ap, ◌∙◌, refl, append_assoc, append-nil, zero-add, add-zero, Some, None, arith, cond, ◌||◌, eqb}, proofs.Math.Nat.mul-le-mul_left, specs.Option.{option_map, option_map_or}, proofs.lemmas.Grind.common_steps, proofs.lemmas.List.{map-append, take_all, length-map}, proofs.lemmas.List.Sums.{sum_by-cons, sum_by-le, count_by-le-length}, specs.List.{AllByRecursion}}
+use Rattle.lag_ring.{proofs.Lists.{all_map}}
 
 -- How many different numbers a list has.
 
@@ -45,11 +45,6 @@ occupied-le level all front back same = rw (same, map-append (bin level) front b
 
 even_lags : (set : CorrelationView) (level : ℕ) → set.lags % 2 ≡ 0 → lag_count set level ≡ lags_at set level
 even_lags set level even = grind (arith, common_steps)
-
--- at the end nothing is open, and nothing came after what is in closed bins
-ends : (ended : Bool) (set : CorrelationView) (level : ℕ) (o : Option Entry) (closed open' : History) → RestIs set level ended o closed open' → ended ≡ true → (open' ≡ []) × (o ≡ None)
-ends false set level o closed open' is shut = absurd (false≢true shut)
-ends true set level o closed open' is shut = (is.1, is.0)
 
 -- what a level has of the photons that came to one below it
 pub record Reached (ended : Bool) (set : CorrelationView) (level : ℕ) (l : Level) (came : History) : Type 0 where

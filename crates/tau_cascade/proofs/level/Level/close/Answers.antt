@@ -81,4 +81,4 @@ pub returns-then-closing-eq0-clause-shuts : goal.returns-then-closing-eq0-clause
 returns-then-closing-eq0-clause-shuts g c = rw c.if-closing-eq0.true (shuts_none _ _ _)
 
 pub returns-then-closing-eq0-clause-comes : goal.returns-then-closing-eq0-clause-comes
-returns-then-closing-eq0-clause-comes g c = search (rules, arith, bins)
+returns-then-closing-eq0-clause-comes g c = search (rules, arith)
