@@ -9,7 +9,7 @@ abbrev between : InputState → InputState → SinkState → SinkState → Span
 between before after old new = record { before = before; after = after; old = old; new = new }
 
 -- Bytes were taken and no call failed. There are no more of them, after some that call for no end by themselves, than one read gives.
-pub record Took (work : Work) (before after : InputState) (taken : List ℕ) : Type 0 where
+pub record ReadWell (work : Work) (before after : InputState) (taken : List ℕ) : Type 0 where
   pub once : InputsOnce before after None
   pub consumes : Consumes (before.given Data) (after.given Data) taken
   pub few : TakesFew work.goes_on (before.given Data) (after.given Data)
@@ -42,14 +42,14 @@ module _ {writing : Writing (List ℕ → List ℕ)} {work : Work} {at : Span} {
 
   -- it gave a piece
   pub took-read : (len : ℕ) (into : List ℕ) → after.read_faults Data ≡ at.after.read_faults Data → GivesCount (at.after.given Data) (after.given Data) len into
-      → length into ≤ piece_limit → Took work at.before after (taken ++ take len into)
+      → length into ≤ piece_limit → ReadWell work at.before after (taken ++ take len into)
   took-read len into kept gives small = record {
     once = once-read Data _ _ _ None quiet-none so.once other none kept;
     consumes = Consumes-trans _ _ _ taken (take len into) so.consumes gives.0;
     few = few-piece work.goes_on taken len into _ _ _ so.consumes gives so.goes small;
   }
 
-module _ {work : Work} {before after : InputState} {taken : List ℕ} (took : Took work before after taken) (writing : Writing (List ℕ → List ℕ)) (wanting : List ℕ → Type 0) (old new : SinkState) where
+module _ {work : Work} {before after : InputState} {taken : List ℕ} (took : ReadWell work before after taken) (writing : Writing (List ℕ → List ℕ)) (wanting : List ℕ → Type 0) (old new : SinkState) where
   -- the bytes taken call for an end
   pub leaves-ended : (text : List ℕ) (r : Result (Unit {0}) Fault) → IfErr r (λ fault. is_outside fault ≡ false) → Wrote old new text
       → Decides work.outcome taken (after.given Data) (record { text = text; fault = fault_in r }) → LeavesWork writing wanting work (between before after old new) r
@@ -93,7 +93,7 @@ pub record InPieces (work : Work) (tells : Header → RecordsWork) (told : Recor
   pub behind : List ℕ
   pub shows : ShowsHeader taken header (behind ++ piece)
   pub stood : stands behind
-  pub took : Took work at.before at.after taken
+  pub took : ReadWell work at.before at.after taken
   pub unended : SaysNoEnd (at.before.given Data) (at.after.given Data)
   pub written : Wrote at.old at.new ((tells header).text behind)
 
@@ -114,7 +114,7 @@ module _ (work : Work) (writing : Writing (List ℕ → List ℕ)) (wanting : Li
     whole = simp append-nil at (shows.is [])
 
     -- the bytes after it are not refused
-    pub so-headed : (at : Span) → Took work at.before at.after taken → SaysNoEnd (at.before.given Data) (at.after.given Data)
+    pub so-headed : (at : Span) → ReadWell work at.before at.after taken → SaysNoEnd (at.before.given Data) (at.after.given Data)
         → Wrote at.old at.new (t.text behind) → t.refuses behind ≡ None → SoFar writing work at taken
     so-headed at took unended wrote none = record {
       once = took.once;
@@ -124,7 +124,7 @@ module _ (work : Work) (writing : Writing (List ℕ → List ℕ)) (wanting : Li
       unended = unended;
     }
 
-    module _ {before after : InputState} (took : Took work before after taken) (old new : SinkState) where
+    module _ {before after : InputState} (took : ReadWell work before after taken) (old new : SinkState) where
       -- some of them are refused, or their text was cut short
       pub leaves-refused : (shown front rest : List ℕ) (mid : SinkState) (fault : Fault) → behind ≡ front ++ rest → Wrote old mid shown
           → WritesText {X = Unit {0}} shown (t.text front) (t.refuses front) mid new (Err fault) → LeavesWork writing wanting work (between before after old new) (Err fault)

@@ -1,6 +1,6 @@
 use Rattle.std.{proofs.Common.{arith, rules, ◌≡◌, [], ◌++◌, sym, inr, length, slice_range}, proofs.lemmas.Result.err_from_is_err_and, proofs.lemmas.Slice.between_is}
 use Rattle.bench_io.{proofs.States.OnlyReads-trans, proofs.Bytes.Wrote-same}
-use Rattle.command_work.{proofs.Pieces.{few_behind, few-map, piece-length}, specs.Outcomes.IsCut, proofs.Reading.{Took, cut-goes, leaves-unheaded, leaves-unopened, leaves-piece, so-given, leaves-unread, next-piece, ends-pieces}}
+use Rattle.command_work.{proofs.Pieces.{few_behind, few-map, piece-length}, specs.Outcomes.IsCut, proofs.Reading.{ReadWell, cut-goes, leaves-unheaded, leaves-unopened, leaves-piece, so-given, leaves-unread, next-piece, ends-pieces}}
 use Rattle.command_work.proofs.job.read_file.Goals as goal
 
 pub returns-in_err-found-clause-leaves : goal.returns-in_err-found-clause-leaves
@@ -14,7 +14,7 @@ returns-in_err-reader-clause-leaves g c =
     let found = c.in_ok-found.found in
     let read = c.in_ok-found.ensures in
     let law = g.met.J.Job.law c.args.job.now in
-    let took : Took (g.J.Job.work c.args.job.now) (g.I.Inputs.state c.args.inputs.now) (g.I.Inputs.state c.read_header.new.inputs) read.answer.0 =
+    let took : ReadWell (g.J.Job.work c.args.job.now) (g.I.Inputs.state c.args.inputs.now) (g.I.Inputs.state c.read_header.new.inputs) read.answer.0 =
     record { once = read.once; consumes = read.answer.1; few = few-map IsCut _ _ _ (cut-goes _ _ _ _ _ law) read.stops.few } in
     let p = err_from_is_err_and c.from_residual-in_err-reader.result c.from_residual-in_err-reader.ensures.1 in
     rw (p.1, p.2) (leaves-unopened _ _ _ _ _ law (record { is = read.answer.2 }) took _ _ c.in_err-reader.field-0.0
