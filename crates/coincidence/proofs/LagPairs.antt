@@ -1,7 +1,7 @@
 -- Pairs summed lag by lag.
 use Rattle.tally_base.{specs.Settings.{CoincidenceView}, proofs.Sums.{sum_none}}
 use Rattle.lag_ring.{specs.declared.ring.Entry.Entry, specs.declared.window.Side.Side, specs.Bytes.{weight_of, weight_before, Have, behind}, specs.Ring.IsRising, proofs.Lists.{all_both, all_filter, all_join, each_at}, proofs.Rising.{all_weaker, all_push, filter_passed, rising_filter}, proofs.Sums.{sum_by-same, sum_by-agree, sum_by-plus, sum_by-times, sum_by-zero, window-before}}
-use Rattle.coincidence.{specs.Pairing.{shifted_by, other_side, pairs_of, pairs_of_all}, specs.Closing.{lag_pairs, lag_pair, each_lag_pair, lag_sum, lags_of, placed, strip_pairs, window_pairs, window_sum}, proofs.Shut.filter_none, proofs.Visits.{pairs_near, pairs_far}}
+use Rattle.coincidence.{specs.Pairing.{shifted_by, other_side, lag_pair, pairs_at, pairs_of, pairs_of_all}, specs.Closing.{lag_pairs, each_lag_pair, lag_sum, lags_of, placed, strip_pairs, window_pairs, window_sum}, proofs.Shut.filter_none, proofs.Visits.{pairs_near, pairs_far}}
 use Rattle.std.{proofs.Common.{◌≡◌, ◌≢◌, ◌∙◌, ℕ, zero, suc, ◌+◌, ◌-◌, ◌*◌, ◌/◌, ◌^◌, ◌<◌, ◌≤◌, Bool, true, false, ◌&&◌, leb, ltb, eqb, cond, List, [], ◌∷◌, ◌++◌, refl, sym, ap, arith, take, drop, nat_le, nat_lt, append_assoc, rules, length, get_or, replicate}, specs.List.{sum_by, filter, range_with_len, AllByRecursion}, specs.List.Sorted.IsNonDecreasingBy, proofs.Math.Nat.mul-le-mul_right, proofs.lemmas.Grind.common_steps, proofs.lemmas.Bool.Decides.nat_tests, proofs.lemmas.List.get_or-replicate, proofs.lemmas.List.Elements.filter-append, proofs.lemmas.List.Sums.{sum_by-cons, sum_by-append}}
 
 -- sums over two lists in either order
@@ -54,38 +54,14 @@ all_lags d set c base count l es =
     ∙ sum_by-same (λ e. sum_by (at_lag d set c l.index later e) (range_with_len (base + 1) count)) (lag_pair d set c base count l) es (by_lags d set c base count l)
 
 -- those that are before, at all lags in reach
-lags_before : (d : Side) (set : CoincidenceView) (c : ℕ) (l : Entry) (es : List Entry) → AllByRecursion (λ e. e.index < l.index) es
+pub lags_before : (d : Side) (set : CoincidenceView) (c : ℕ) (l : Entry) (es : List Entry) → AllByRecursion (λ e. e.index < l.index) es
     → sum_by (lag_pair d set c 0 set.reach l) es ≡ pairs_of_all d set c l.index (weight_of (other_side d) l) es
 lags_before d set c l es before = sum_by-agree (λ e. e.index < l.index) (lag_pair d set c 0 set.reach l)
     (pairs_of d set c l.index (weight_of (other_side d) l)) es before (λ e below. grind (arith, common_steps, nat_tests, pairs_near, pairs_far))
 
--- entries that aren't before count nowhere
-before_only : (side : Side) (lag index : ℕ) (es fs : List Entry) → 0 < lag → AllByRecursion (λ e. index ≤ e.index) fs
-    → weight_before side lag index (es ++ fs) ≡ weight_before side lag index es
-before_only side lag index es fs some after = search (rules, arith, sum_by-zero, sum_by-append)
-
 pub range-within : (a n : ℕ) → AllByRecursion (λ i. (a ≤ i) × (i < a + n)) (range_with_len a n)
 range-within a zero = tt
 range-within a (suc n) = search (rules, arith, all_weaker, range-within (a + 1) n)
-
--- the pairs of each of some entries with those before it, in one direction
-abbrev pub in_turn : Side → CoincidenceView → ℕ → List Entry → List Entry → ℕ
-in_turn d set c es [] = 0
-in_turn d set c es (l ∷ ls) = pairs_of_all d set c l.index (weight_of (other_side d) l) es + in_turn d set c (es ++ l ∷ []) ls
-
-pub lags_in_turn : (d : Side) (set : CoincidenceView) (c : ℕ) (es ls : List Entry) → IsRising ls → AllByRecursion (λ l. AllByRecursion (λ e. e.index < l.index) es) ls → sum_by (lag_pairs d set c (es ++ ls) ls) (range_with_len 1 set.reach) ≡ in_turn d set c es ls
-lags_in_turn d set c es [] rising below = grind (arith, common_steps, sum_none (range_with_len 1 set.reach))
-lags_in_turn d set c es (l ∷ ls) rising below =
-    let w = weight_of (other_side d) l in
-    let cell : ℕ → Bool = λ lag. eqb (shifted_by d set.reach lag / set.width) c in
-    let mine : ℕ → ℕ = λ lag. cond (cell lag) (weight_before d lag l.index (es ++ l ∷ ls) * w) 0 in
-    let after : AllByRecursion (λ e. l.index ≤ e.index) (l ∷ ls) = search (rules, arith, all_weaker) in
-    let own = sum_by-agree (λ lag. (1 ≤ lag) × (lag < 1 + set.reach)) mine
-    (λ lag. cond (cell lag) (weight_before d lag l.index es * w) 0) (range_with_len 1 set.reach) (range-within 1 set.reach)
-    (λ lag in_range. rw (before_only d lag l.index es (l ∷ ls) in_range.0 after) refl) in
-    sum_by-same _ (λ lag. mine lag + lag_pairs d set c (es ++ l ∷ ls) ls lag) (range_with_len 1 set.reach) (λ lag. cell-sum' (cell lag) (λ (e : Entry). weight_before d lag e.index (es ++ l ∷ ls) * weight_of (other_side d) e) l ls)
-    ∙ sum_by-plus mine (lag_pairs d set c (es ++ l ∷ ls) ls) (range_with_len 1 set.reach)
-    ∙ rw (own, all_lags d set c 0 set.reach l es, lags_before d set c l es below.0, ← append_assoc es (l ∷ []) ls) (ap (λ n. pairs_of_all d set c l.index w es + n) (lags_in_turn d set c (es ++ l ∷ []) ls rising.1 (search (rules, arith, all_both, all_push))))
 
 -- the pairs of each of some entries with others, at so many lags after others
 pub lags_of_each : (d : Side) (set : CoincidenceView) (c base count : ℕ) (es ls : List Entry)
@@ -97,6 +73,31 @@ lags_of_each d set c base count es (l ∷ ls) =
     sum_by-same _ (λ lag. mine lag + lag_pairs d set c es ls lag) (range_with_len (base + 1) count) (λ lag. cell-sum' (cell lag) (λ (e : Entry). weight_before d lag e.index es * weight_of (other_side d) e) l ls)
     ∙ sum_by-plus mine (lag_pairs d set c es ls) (range_with_len (base + 1) count)
     ∙ rw (all_lags d set c base count l es, lags_of_each d set c base count es ls, sum_by-cons (λ k. sum_by (lag_pair d set c base count k) es) l ls) refl
+
+-- the pairs of each of some entries with those before it, in one direction
+abbrev pub in_turn : Side → CoincidenceView → ℕ → List Entry → List Entry → ℕ
+in_turn d set c es [] = 0
+in_turn d set c es (l ∷ ls) = pairs_of_all d set c l.index (weight_of (other_side d) l) es + in_turn d set c (es ++ l ∷ []) ls
+
+-- entries that aren't before make no pair
+only_before : (d : Side) (set : CoincidenceView) (c : ℕ) (l : Entry) (es fs : List Entry) → AllByRecursion (λ e. e.index < l.index) es → AllByRecursion (λ e. l.index ≤ e.index) fs
+    → pairs_at d set c 0 set.reach l (es ++ fs) ≡ pairs_of_all d set c l.index (weight_of (other_side d) l) es
+only_before d set c l es fs before after = omega (
+  arith,
+  sum_by-append (lag_pair d set c 0 set.reach l) es fs,
+  lags_before d set c l es before,
+  sum_by-zero (λ e. l.index ≤ e.index) (lag_pair d set c 0 set.reach l) fs after (λ e from. grind (arith, nat_tests)),
+)
+
+each_in_turn : (d : Side) (set : CoincidenceView) (c : ℕ) (es ls : List Entry) → IsRising ls → AllByRecursion (λ l. AllByRecursion (λ e. e.index < l.index) es) ls
+    → sum_by (λ l. pairs_at d set c 0 set.reach l (es ++ ls)) ls ≡ in_turn d set c es ls
+each_in_turn d set c es [] rising below = refl
+each_in_turn d set c es (l ∷ ls) rising below =
+    rw (sum_by-cons (λ k. pairs_at d set c 0 set.reach k (es ++ l ∷ ls)) l ls, only_before d set c l es (l ∷ ls) below.0 (search (rules, arith, all_weaker)), ← append_assoc es (l ∷ []) ls)
+    (ap (λ n. pairs_of_all d set c l.index (weight_of (other_side d) l) es + n) (each_in_turn d set c (es ++ l ∷ []) ls rising.1 (search (rules, arith, all_both, all_push))))
+
+pub lags_in_turn : (d : Side) (set : CoincidenceView) (c : ℕ) (es ls : List Entry) → IsRising ls → AllByRecursion (λ l. AllByRecursion (λ e. e.index < l.index) es) ls → sum_by (lag_pairs d set c (es ++ ls) ls) (range_with_len 1 set.reach) ≡ in_turn d set c es ls
+lags_in_turn d set c es ls rising below = lags_of_each d set c 0 set.reach (es ++ ls) ls ∙ each_in_turn d set c es ls rising below
 
 -- Pairs in windows.
 

@@ -1,8 +1,8 @@
 -- Bins that are closed together.
-use Rattle.std.{specs.Prelude.{ℕ, ◌+◌, ◌-◌, ◌^◌, ◌<◌, ◌≤◌, ◌==◌, ◌/◌, ◌*◌, ◌&&◌, nat_lt, nat_le, min, slice_index, List, filter, ◌++◌, length, map, sum_by, if◌then◌else◌}, specs.List.{AllByRecursion, range_with_len}}
-use Rattle.tally_base.{specs.Settings.CoincidenceView}
-use Rattle.lag_ring.{specs.declared.ring.Entry.Entry, specs.declared.window.Side.{Side, TheVariants.{First, Second}}, specs.Bytes.{weight_of, weight_before, IsLight, behind}, specs.Ring.IsRising}
-use Rattle.coincidence.{specs.declared.pairing.Bin.Bin, specs.declared.lags.Places.Places, specs.Pairing.{other_side, shifted_by}}
+use Rattle.std.{specs.Prelude.{ℕ, ◌+◌, ◌-◌, ◌^◌, ◌<◌, ◌≤◌, ◌==◌, ◌/◌, ◌*◌, nat_lt, nat_le, min, slice_index, List, filter, ◌++◌, length, map, sum_by, if◌then◌else◌}, specs.List.{AllByRecursion, range_with_len}}
+use Rattle.tally_base.specs.Settings.{CoincidenceView, coincidence_view}
+use Rattle.lag_ring.{specs.Cells.Cells, specs.declared.ring.Entry.Entry, specs.declared.window.Side.{Side, TheVariants.{First, Second}}, specs.Bytes.{weight_of, weight_before, IsLight, behind}, specs.Ring.IsRising}
+use Rattle.coincidence.{specs.declared.pairing.Bin.Bin, specs.declared.lags.Places.Places, specs.Pairing.{HasRoom, Counts, lag_pair, other_side, shifted_by}}
 
 -- the entries of bins
 abbrev pub weights_in : List Bin → List Entry
@@ -50,12 +50,7 @@ lag_sum direction set c base count es later = sum_by (lag_pairs direction set c 
 abbrev pub both_lag_sums : CoincidenceView → ℕ → ℕ → ℕ → List Entry → List Entry → ℕ
 both_lag_sums set c base count es later = lag_sum First set c base count es later + lag_sum Second set c base count es later
 
--- the pairs of two entries at those lags
-abbrev pub lag_pair : Side → CoincidenceView → ℕ → ℕ → ℕ → Entry → Entry → ℕ
-lag_pair direction set c base count later earlier =
-    if (nat_lt base (later.index - earlier.index) && nat_le (later.index - earlier.index) (base + count)) && shifted_by direction set.reach (later.index - earlier.index) / set.width == c
-    then weight_of direction earlier * weight_of (other_side direction) later else 0
-
+-- the same one by one
 abbrev pub each_lag_pair : Side → CoincidenceView → ℕ → ℕ → List Entry → List Entry → ℕ
 each_lag_pair direction set c base es later = sum_by (λ e. sum_by (λ l. lag_pair direction set c base (lags_of set base) l e) later) es
 
@@ -78,3 +73,20 @@ pub record FitsWindow (places : Places) (es later : List Entry) : Type 0 where
 -- all rise too
 abbrev pub HasWindow : Places → List Entry → List Entry → Type 0
 HasWindow places es later = FitsWindow places es later × IsRising (es ++ later)
+
+-- the cells have room for the pairs at the lags of windows, in one direction
+abbrev pub HasLagRoom : Places → Side → Cells → List Entry → List Entry → Type 0
+HasLagRoom places direction cells es later = let set = coincidence_view places.set in HasRoom set cells (λ c. lag_sum direction set c places.base (lags_of set places.base) (es ++ later) later)
+
+-- they count these, by so many additions for each lag at most
+abbrev pub CountsLags : Places → Side → Cells → Cells → ℕ → ℕ → List Entry → List Entry → ℕ → Type 0
+CountsLags places direction old new before now es later each =
+    let set = coincidence_view places.set in Counts set old new before now (λ c. lag_sum direction set c places.base (lags_of set places.base) (es ++ later) later) (each * lags_of set places.base)
+
+-- the pairs at all lags in reach
+abbrev pub reach_sums : CoincidenceView → List Entry → List Entry → ℕ → ℕ
+reach_sums set es later c = both_lag_sums set c 0 set.reach (es ++ later) later
+
+-- those at the lags of windows
+abbrev pub at_lags : Places → List Entry → List Entry → ℕ → ℕ
+at_lags places es later c = both_lag_sums (coincidence_view places.set) c places.base (lags_of (coincidence_view places.set) places.base) (es ++ later) later

@@ -1,7 +1,7 @@
 -- What the bins and cells of a table of coincidences stand for: photons that came in order, and how far they are paired.
-use Rattle.std.{specs.Prelude.{◌≡◌, ℕ, ◌+◌, ◌-◌, ◌*◌, ◌/◌, ◌^◌, ◌<◌, ◌≤◌, ◌&&◌, ◌==◌, Option, None, Some, List, [], ◌∷◌, ◌++◌, length, slice_index, sum_by, count_by, if◌then◌else◌}, specs.List.{AllByRecursion}}
+use Rattle.std.{specs.Prelude.{◌≡◌, ℕ, ◌+◌, ◌-◌, ◌*◌, ◌/◌, ◌^◌, ◌<◌, ◌≤◌, ◌&&◌, ◌==◌, nat_lt, nat_le, Option, None, Some, List, [], ◌∷◌, ◌++◌, length, slice_index, sum_by, count_by, if◌then◌else◌}, specs.List.{AllByRecursion}}
 use Rattle.tally_base.{specs.Settings.{CoincidenceView, coincidence_cells}, specs.Tally.History, specs.Limits.record_limit}
-use Rattle.lag_ring.{specs.declared.ring.Entry.Entry, specs.declared.window.Side.{Side, TheVariants.{First, Second}}, specs.Cells.{Cells, Spends}, specs.Ring.{Ring, Weighs}, specs.Binned.{IsOpen, KeepsReach, CellsCount}}
+use Rattle.lag_ring.{specs.declared.ring.Entry.Entry, specs.declared.window.Side.{Side, TheVariants.{First, Second}}, specs.Cells.{Cells, Spends}, specs.Ring.{Ring, Weighs}, specs.Bytes.{weight_of}, specs.Binned.{IsOpen, KeepsReach, CellsCount}}
 use Rattle.coincidence.{specs.declared.pairing.Bin.Bin, specs.declared.pairing.Pairing.Pairing, specs.Pairs.{in_first, in_second, is_in_cell, coincidences}}
 
 -- A direction is told by the side of the earlier photon of a pair: the difference is positive where it is of the first group.
@@ -15,6 +15,16 @@ other_side Second = First
 abbrev pub shifted_by : Side → ℕ → ℕ → ℕ
 shifted_by First reach apart = reach + apart
 shifted_by Second reach apart = reach - apart
+
+-- the pairs of an earlier entry's photons with a later one's that the cell counts, where they are so many ticks apart as one of some lags
+abbrev pub lag_pair : Side → CoincidenceView → ℕ → ℕ → ℕ → Entry → Entry → ℕ
+lag_pair direction set c base count later earlier =
+    if (nat_lt base (later.index - earlier.index) && nat_le (later.index - earlier.index) (base + count)) && shifted_by direction set.reach (later.index - earlier.index) / set.width == c
+    then weight_of direction earlier * weight_of (other_side direction) later else 0
+
+-- the same for all entries of a list
+abbrev pub pairs_at : Side → CoincidenceView → ℕ → ℕ → ℕ → Entry → List Entry → ℕ
+pairs_at direction set c base count later es = sum_by (lag_pair direction set c base count later) es
 
 -- the pairs of an earlier entry's photons with so many at a later tick, that the cell counts
 abbrev pub pairs_of : Side → CoincidenceView → ℕ → ℕ → ℕ → Entry → ℕ
@@ -132,3 +142,16 @@ module _ (set : CoincidenceView) where
   pub record Closes (old new : Pairing) (bins : List Bin) (before now : ℕ) : Type 0 where
     pub follows : (rest : List Bin) (came : History) → Pending old.ring old.cells (bins ++ rest) came → Pending new.ring new.cells rest came
     pub steps : Pays old new before now
+
+-- photons of one tick may come after some that came
+abbrev pub MayJoin : Option Bin → Bin → Type 0
+MayJoin waiting bin = ∥ ((set : CoincidenceView) × (ring : Ring) × (cells : Cells) × (bins : List Bin) × (came : History) × (xs : History) × CanPut set (Gathered set waiting ring cells bins) bin came xs) ∥₁
+
+-- Where photons of one tick may come, they came then: one bin is open, and another may be closed.
+abbrev pub Joins : Option Bin → Bin → Option Bin → Bin → Type 0
+Joins waiting bin closed now = (set : CoincidenceView) (ring : Ring) (cells : Cells) (bins : List Bin) (came xs : History) → CanPut set (Gathered set waiting ring cells bins) bin came xs
+    → Gathered set (Some now) ring cells (bins ++ closed_bin closed) (came ++ xs)
+
+-- The same, where no bin is to be closed then.
+abbrev pub Puts : CoincidenceView → Option Bin → Option Bin → Pairing → Pairing → Bin → Type 0
+Puts set waiting now old new bin = (came xs : History) → CanPut set (Gathered set waiting old.ring old.cells []) bin came xs → Gathered set now new.ring new.cells [] (came ++ xs)

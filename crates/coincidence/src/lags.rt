@@ -2,7 +2,7 @@
 ghost use Rattle.std.{specs.Prelude.{◌≡◌, ℕ, ◌+◌, ◌-◌, ◌*◌, ◌^◌, ◌<◌, ◌≤◌, ◌++◌, IsTrue, length, min, take, drop, filter, nat_lt, nat_le, sum_by}, specs.List.{AllByRecursion}};
 ghost use Rattle.tally_base.specs.Settings.{coincidence_view};
 ghost use Rattle.lag_ring.specs.{Bytes.{Fit, Have, ServesSpots}, Ring.IsRising};
-ghost use Rattle.coincidence.specs.{Pairing.{HasRoom, Counts}, Closing.{row_sum, strip_sum, window_sum, lag_sum, both_lag_sums, lag_pair, each_lag_pair, lags_of, placed, HasWindow}};
+ghost use Rattle.coincidence.specs.{Pairing.{HasRoom, Counts, lag_pair}, Closing.{row_sum, strip_sum, window_sum, reach_sums, at_lags, each_lag_pair, lags_of, placed, HasWindow, HasLagRoom, CountsLags}};
 
 use crate::pairing::{add_pairs, later_side, shifted_by};
 use lag_ring::{
@@ -18,12 +18,13 @@ pub(crate) const MOST_LAGS: u32 = 4096;
 /// How many places a window has.
 const WIDE: usize = 8192;
 
-/// Fewer entries than this are paired one by one.
+/// Fewer entries than this are paired one by one, where the reach has more lags than a window.
 const FEW: usize = 64;
 
-/// So many pairs of entries, and so many for each photon of the later ones, take as long as windows.
+/// So many pairs of entries, and so many more for each photon of the later ones, take as long as windows.
 const MANY_PAIRS: usize = 1 << 14;
 
+/// How many pairs take as long as one photon of the later ones does.
 const PAIRS_OF_SPOT: usize = 64;
 
 /// Windows in which later entries, and all that stand before them by some of the lags in reach, have their places.
@@ -52,15 +53,6 @@ impl Places {
     {
         (self.set.reach - self.base).min(MOST_LAGS)
     }
-
-    /// How many ticks the first place stands before the least index.
-    #[inline(always)]
-    fn top(self) -> u64
-        requires { self.base ≤ self.set.reach }
-        ensures { result ≡ self.base + MOST_LAGS }
-    {
-        u64::from(self.base + MOST_LAGS)
-    }
 }
 
 /// How many of rising entries are below an index.
@@ -84,7 +76,9 @@ fn placed(places: Places, entries: &[Entry]) -> &[Entry]
     requires rising { IsRising entries.now }
     ensures { result.now ≡ placed places.base places.low places.high entries.now }
 {
-    let from = places.low.saturating_sub(places.top());
+    let from = places
+        .low
+        .saturating_sub(u64::from(places.base + MOST_LAGS));
     let upto = places.high.saturating_sub(u64::from(places.base));
     let rest = &entries[count_below(entries, from)..];
     &rest[..count_below(rest, upto)]
@@ -181,7 +175,7 @@ fn fill(window: &mut [u8], side: Side, ring: &LagRing, places: Places, later: &[
     ensures same { length window.new ≡ length window.old }
 {
     let (front, back) = ring.slices();
-    let (top, low) = (places.top(), places.low);
+    let (top, low) = (u64::from(places.base + MOST_LAGS), places.low);
     put_side(window, side, top, low, placed(places, front));
     put_side(window, side, top, low, placed(places, back));
     put_side(window, side, top, low, placed(places, later));
@@ -209,10 +203,8 @@ fn pair_side<L: Ledger>(
     steps: &mut Steps<L>,
 )
     requires photons { HasWindow places ring.now.entries later.now }
-    requires room { let set = coincidence_view places.set in HasRoom set cells.old
-        (λ c. lag_sum direction set c places.base (lags_of set places.base) (ring.now.entries ++ later.now) later.now) }
-    ensures { let set = coincidence_view places.set in Counts set cells.old cells.new steps.old steps.new
-        (λ c. lag_sum direction set c places.base (lags_of set places.base) (ring.now.entries ++ later.now) later.now) (lags_of set places.base) }
+    requires room { HasLagRoom places direction cells.old ring.now.entries later.now }
+    ensures { CountsLags places direction cells.old cells.new steps.old steps.new ring.now.entries later.now 1 }
 {
     let mut window = [0; WIDE];
     fill(&mut window, direction, ring, places, later);
@@ -308,10 +300,8 @@ fn pair_few<L: Ledger>(
 )
     requires photons { HasWindow places ring.now.entries later.now }
     requires few { length (placed places.base places.low places.high (ring.now.entries ++ later.now)) ≤ lags_of (coincidence_view places.set) places.base }
-    requires room { let set = coincidence_view places.set in HasRoom set cells.old
-        (λ c. lag_sum direction set c places.base (lags_of set places.base) (ring.now.entries ++ later.now) later.now) }
-    ensures { let set = coincidence_view places.set in Counts set cells.old cells.new steps.old steps.new
-        (λ c. lag_sum direction set c places.base (lags_of set places.base) (ring.now.entries ++ later.now) later.now) (length later.now * lags_of set places.base) }
+    requires room { HasLagRoom places direction cells.old ring.now.entries later.now }
+    ensures { CountsLags places direction cells.old cells.new steps.old steps.new ring.now.entries later.now (length later.now) }
 {
     let (front, back) = ring.slices();
     pair_each(
@@ -347,6 +337,9 @@ fn are_few_placed(ring: &LagRing, places: Places, later: &[Entry]) -> bool
     requires short { length later.now ≤ TABLE_BLOCK }
     ensures { IsTrue result → length (placed places.base places.low places.high (ring.now.entries ++ later.now)) ≤ lags_of (coincidence_view places.set) places.base }
 {
+    if places.set.reach <= MOST_LAGS {
+        return false;
+    }
     let (front, back) = ring.slices();
     let kept = placed(places, front).len() + placed(places, back).len();
     let count = kept + placed(places, later).len();
@@ -364,10 +357,9 @@ fn pair_stretch<L: Ledger>(
 )
     requires photons { HasWindow places ring.now.entries later.now }
     requires some { (0 < length later.now) × (length later.now ≤ TABLE_BLOCK) }
-    requires room { let set = coincidence_view places.set in HasRoom set cells.old
-        (λ c. both_lag_sums set c places.base (lags_of set places.base) (ring.now.entries ++ later.now) later.now) }
+    requires room { HasRoom (coincidence_view places.set) cells.old (at_lags places ring.now.entries later.now) }
     ensures { let set = coincidence_view places.set in Counts set cells.old cells.new steps.old steps.new
-        (λ c. both_lag_sums set c places.base (lags_of set places.base) (ring.now.entries ++ later.now) later.now) (2 * (length later.now * lags_of set places.base)) }
+        (at_lags places ring.now.entries later.now) (2 * (length later.now * lags_of set places.base)) }
 {
     if are_few_placed(ring, places, later) {
         pair_few(cells, ring, places, Side::First, later, steps);
@@ -388,10 +380,9 @@ pub(crate) fn pair_lags<L: Ledger>(
 )
     requires photons { HasWindow places ring.now.entries later.now }
     requires some { (0 < length later.now) × (length later.now ≤ TABLE_BLOCK) }
-    requires room { let set = coincidence_view places.set in HasRoom set cells.old
-        (λ c. both_lag_sums set c 0 set.reach (ring.now.entries ++ later.now) later.now) }
+    requires room { HasRoom (coincidence_view places.set) cells.old (reach_sums (coincidence_view places.set) ring.now.entries later.now) }
     ensures { let set = coincidence_view places.set in Counts set cells.old cells.new steps.old steps.new
-        (λ c. both_lag_sums set c 0 set.reach (ring.now.entries ++ later.now) later.now) (2 * (length later.now * set.reach)) }
+        (reach_sums set ring.now.entries later.now) (2 * (length later.now * set.reach)) }
 {
     for stretch in 0..places.set.reach.div_ceil(MOST_LAGS) {
         let base = stretch * MOST_LAGS;

@@ -2,7 +2,7 @@
 ghost use Rattle.std.{specs.Prelude.{◌≡◌, ℕ, ◌+◌, ◌-◌, ◌*◌, ◌/◌, ◌^◌, ◌<◌, ◌≤◌, [], ◌∷◌, ◌++◌, length, slice_index, if◌then◌else◌, ◌==◌, IfOk, None, Some, List}, specs.List.AllByRecursion};
 ghost use Rattle.tally_base.{specs.Settings.{CoincidenceView, coincidence_view, coincidence_cells}, specs.Tally.History};
 ghost use Rattle.lag_ring.specs.{Cells.{Cells, Spends}, Ring.Ring};
-ghost use Rattle.coincidence.specs.Pairing.{other_side, shifted_by, pairs_of, pairs_of_all, pairs_with, bin_pairs, closed_bin, MayClose, Closes, Pays, Gathered, CanPut, HasRoom, Counts};
+ghost use Rattle.coincidence.specs.Pairing.{other_side, shifted_by, pairs_of, pairs_of_all, pairs_with, bin_pairs, closed_bin, MayClose, Closes, Pays, Gathered, CanPut, MayJoin, Joins, Puts, HasRoom, Counts};
 
 use lag_ring::{Entry, LagRing, PairCells, Side};
 use std::alloc::{AllocError, Global};
@@ -274,11 +274,8 @@ pub(crate) fn close<L: Ledger>(
 /// to be closed then, if there is one, and the open one.
 #[inline(always)]
 pub(crate) fn join(waiting: Option<Bin>, bin: Bin) -> (Option<Bin>, Bin)
-    requires stands { ∥ ((set : CoincidenceView) × (ring : Ring) × (cells : Cells) × (bins : List Bin) × (came : History)
-        × (xs : History) × CanPut set (Gathered set waiting ring cells bins) bin came xs) ∥₁ }
-    ensures follows { (set : CoincidenceView) (ring : Ring) (cells : Cells) (bins : List Bin) (came xs : History)
-        → CanPut set (Gathered set waiting ring cells bins) bin came xs
-        → Gathered set (Some result.1) ring cells (bins ++ closed_bin result.0) (came ++ xs) }
+    requires stands { MayJoin waiting bin }
+    ensures follows { Joins waiting bin result.0 result.1 }
 {
     match waiting {
         Some(open) => {
@@ -304,9 +301,7 @@ pub(crate) fn put<L: Ledger>(
 ) -> Option<Bin>
     requires stands { ∥ ((came : History) × (xs : History) × CanPut (coincidence_view set.now)
         (Gathered (coincidence_view set.now) waiting pairing.old.ring pairing.old.cells []) bin came xs) ∥₁ }
-    ensures follows { (came xs : History) → CanPut (coincidence_view set.now)
-        (Gathered (coincidence_view set.now) waiting pairing.old.ring pairing.old.cells []) bin came xs
-        → Gathered (coincidence_view set.now) result pairing.new.ring pairing.new.cells [] (came ++ xs) }
+    ensures follows { Puts (coincidence_view set.now) waiting result pairing.old pairing.new bin }
     ensures steps { Pays pairing.old pairing.new steps.old steps.new }
 {
     let (closed, open) = join(waiting, bin);

@@ -1,7 +1,7 @@
 use Rattle.std.{proofs.Common.{rules, ℕ, ◌≡◌, ◌-◌, ◌*◌, ◌/◌, ◌<◌, ◌≤◌, arith}, proofs.lemmas.Bool.Decides.nat_tests}
 use Rattle.tally_base.specs.Settings.{coincidence_view, coincidence_cells}
 use Rattle.lag_ring.specs.Bytes.{weight_of}
-use Rattle.coincidence.{specs.Pairing.{shifted_by, other_side}, specs.Closing.{lag_pair, lags_of}, proofs.Visits.shifted_inside}
+use Rattle.coincidence.{specs.Pairing.{shifted_by, other_side, lag_pair}, specs.Closing.lags_of, proofs.Visits.shifted_inside}
 use Rattle.coincidence.proofs.lags.pair_one.Goals as goal
 
 pub add_pairs-requires-clause-sum : goal.add_pairs-requires-clause-sum

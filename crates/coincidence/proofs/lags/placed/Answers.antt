@@ -10,6 +10,6 @@ count_below-requires-2 c = record { rising = rw (whole c.count_below.result c.ar
 
 pub returns : goal.returns
 returns c =
-    let from = rw (c.saturating_sub-from.ensures, c.top.ensures) at c.count_below.ensures.above in
-    let upto = rw (c.saturating_sub-upto.ensures, c.from.ensures) at c.count_below-2.ensures.below in
+    let from = rw (c.saturating_sub-from.ensures, c.from.ensures) at c.count_below.ensures.above in
+    let upto = rw (c.saturating_sub-upto.ensures, c.from-2.ensures) at c.count_below-2.ensures.below in
     upto ∙ ap (filter (λ (e : Entry). nat_lt e.index (c.args.places.high - c.args.places.base))) (whole c.count_below.result c.args.entries.now ∙ from)
