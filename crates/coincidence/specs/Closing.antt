@@ -90,3 +90,13 @@ reach_sums set es later c = both_lag_sums set c 0 set.reach (es ++ later) later
 -- those at the lags of windows
 abbrev pub at_lags : Places → List Entry → List Entry → ℕ → ℕ
 at_lags places es later c = both_lag_sums (coincidence_view places.set) c places.base (lags_of (coincidence_view places.set) places.base) (es ++ later) later
+
+-- they count the pairs with one earlier entry at the lags of windows, one by one
+abbrev pub CountsEarlier : Places → Side → Cells → Cells → ℕ → ℕ → Entry → List Entry → Type 0
+CountsEarlier places direction old new before now earlier later =
+    let set = coincidence_view places.set in Counts set old new before now (λ c. sum_by (λ l. lag_pair direction set c places.base (lags_of set places.base) l earlier) later) (length later)
+
+-- and with each of some entries
+abbrev pub CountsEach : Places → Side → Cells → Cells → ℕ → ℕ → List Entry → List Entry → Type 0
+CountsEach places direction old new before now es later =
+    let set = coincidence_view places.set in Counts set old new before now (λ c. each_lag_pair direction set c places.base es later) (length es * length later)

@@ -2,7 +2,7 @@
 ghost use Rattle.std.{specs.Prelude.{◌≡◌, ℕ, ◌+◌, ◌-◌, ◌*◌, ◌^◌, ◌<◌, ◌≤◌, ◌++◌, IsTrue, length, min, take, drop, filter, nat_lt, nat_le, sum_by}, specs.List.{AllByRecursion}};
 ghost use Rattle.tally_base.specs.Settings.{coincidence_view};
 ghost use Rattle.lag_ring.specs.{Bytes.{Fit, Have, ServesSpots}, Ring.IsRising};
-ghost use Rattle.coincidence.specs.{Pairing.{HasRoom, Counts, lag_pair}, Closing.{row_sum, strip_sum, window_sum, reach_sums, at_lags, each_lag_pair, lags_of, placed, HasWindow, HasLagRoom, CountsLags}};
+ghost use Rattle.coincidence.specs.{Pairing.{HasRoom, Counts, lag_pair}, Closing.{row_sum, strip_sum, window_sum, reach_sums, at_lags, each_lag_pair, lags_of, placed, HasWindow, HasLagRoom, CountsLags, CountsEarlier, CountsEach}};
 
 use crate::pairing::{add_pairs, later_side, shifted_by};
 use lag_ring::{
@@ -257,8 +257,7 @@ fn pair_near<L: Ledger>(
     requires base { places.base ≤ places.set.reach }
     requires room { let set = coincidence_view places.set in HasRoom set cells.old
         (λ c. sum_by (λ l. lag_pair direction set c places.base (lags_of set places.base) l earlier.now) later.now) }
-    ensures { let set = coincidence_view places.set in Counts set cells.old cells.new steps.old steps.new
-        (λ c. sum_by (λ l. lag_pair direction set c places.base (lags_of set places.base) l earlier.now) later.now) (length later.now) }
+    ensures { CountsEarlier places direction cells.old cells.new steps.old steps.new earlier.now later.now }
 {
     if direction.weight(earlier) > 0 {
         for entry in later {
@@ -280,8 +279,7 @@ fn pair_each<L: Ledger>(
     requires base { places.base ≤ places.set.reach }
     requires room { let set = coincidence_view places.set in HasRoom set cells.old
         (λ c. each_lag_pair direction set c places.base entries.now later.now) }
-    ensures { let set = coincidence_view places.set in Counts set cells.old cells.new steps.old steps.new
-        (λ c. each_lag_pair direction set c places.base entries.now later.now) (length entries.now * length later.now) }
+    ensures { CountsEach places direction cells.old cells.new steps.old steps.new entries.now later.now }
 {
     for earlier in entries {
         pair_near(cells, places, direction, later, earlier, steps);
