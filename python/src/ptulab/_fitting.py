@@ -13,6 +13,7 @@ from numpy.typing import NDArray
 from .errors import FitError
 from ._optional import want
 from ._values import Compared
+from ._xarrays import Axis, labelled
 
 Numbers = NDArray[np.float64]
 Model = Callable[[Numbers, Mapping[str, float]], Numbers]  # of an axis and of parameters by their names
@@ -127,6 +128,18 @@ class Fit(Compared):
     lmfit: Any = field(repr=False, compare=False)
     problem: Problem = field(repr=False, compare=False)
     whole: "Fit | None" = field(default=None, repr=False, compare=False)  # of fits made together, that of all points
+
+    def to_xarray(self) -> Any:
+        """An ``xarray.Dataset`` of ``data``, ``curve`` and ``residuals`` over ``axis``, in the unit that was given. Raises
+        ``MissingLibraryError`` without xarray."""
+        arrays = {"data": self.data, "curve": self.curve, "residuals": self.residuals}
+        return labelled(arrays, [Axis("axis", self.axis, None, counted="")], {}, {"reduced": self.reduced})
+
+    def to_pandas(self) -> Any:
+        """The parameters as a ``pandas.DataFrame``: ``name``, ``value``, ``error``, whether it is ``free``, and its bounds, ``least`` and
+        ``most``. Raises ``MissingLibraryError`` without pandas."""
+        lines = [(name, one.value, one.stderr, one.vary, one.min, one.max) for name, one in self.parameters.items()]
+        return want("pandas", "parameters as a list").DataFrame(lines, columns=["name", "value", "error", "free", "least", "most"])
 
     @property
     def parameters(self) -> Any:

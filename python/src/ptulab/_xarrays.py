@@ -12,7 +12,8 @@ from ._optional import want
 
 
 class Axis(NamedTuple):
-    """An axis with numbers along it: in seconds or micrometres where these are known, else in ``unit``, as ticks."""
+    """An axis with numbers along it: in seconds or micrometres where these are known, else in what they are ``counted`` in, as
+    ticks; nothing where that isn't told."""
 
     name: str
     numbers: NDArray[Any]
@@ -31,7 +32,7 @@ def labelled(values: Mapping[str, NDArray[Any]], axes: Sequence[Axis], more: Map
     places: dict[str, Any] = {}
     for axis in axes:
         if axis.known is None:
-            places[axis.name] = (axis.name, axis.numbers, {"units": axis.counted})
+            places[axis.name] = (axis.name, axis.numbers, {"units": axis.counted} if axis.counted else {})
             continue
         places[axis.name] = (axis.name, axis.known, {"units": axis.unit})
         places[f"{axis.name}_{axis.counted}"] = (axis.name, axis.numbers)
@@ -40,10 +41,20 @@ def labelled(values: Mapping[str, NDArray[Any]], axes: Sequence[Axis], more: Map
     return xarray.Dataset(whole, coords=places | dict(more), attrs=dict(attributes))
 
 
-def pixels(rows: int, columns: int, micrometres: float | None) -> list[Axis]:
-    """The axes of a picture, whose coordinates are the middles of its pixels."""
-    axes = []
-    for name, size in (("row", rows), ("column", columns)):
+def listed(found: Any, feature: str) -> Any:
+    """An ``xarray.Dataset`` as a ``pandas.DataFrame``, a line for each place, with its axes as columns before its values. Raises
+    ``MissingLibraryError`` without pandas."""
+    want("pandas", feature)
+    return found.to_dataframe().reset_index()
+
+
+def pixels(shape: Sequence[int], micrometres: float | None) -> list[Axis]:
+    """The axes of a picture, (rows, columns) or (frames, rows, columns), whose coordinates are the middles of its pixels. Raises
+    ``ValueError`` for another shape."""
+    if not 2 <= len(shape) <= 3:
+        raise ValueError(f"no picture: an array of {len(shape)} axes")
+    axes = [Axis("frame", np.arange(shape[0]), None, counted="number")] if len(shape) == 3 else []
+    for name, size in zip(("row", "column"), shape[-2:]):
         numbers = np.arange(size)
         axes.append(Axis(name, numbers, None if micrometres is None else (numbers + 0.5) * micrometres, "um", "number"))
     return axes

@@ -20,6 +20,7 @@ from .groups import EventsLike, GroupLike, group_of, header_of, pieces_of, ticks
 from ._optional import want
 from .tables import Given, Table, measured
 from ._values import Compared
+from ._xarrays import Axis, labelled, listed
 
 __all__ = ["Coincidences", "StartStops", "coincidences", "fit_g2", "g2", "g2_model", "start_stops", "without_background"]
 
@@ -155,6 +156,16 @@ class Coincidences(Compared):
         mean = beside / (2 * peaks)
         ratio = centre / mean
         return ratio, math.sqrt(doubled * (max(centre, 1.0) / mean**2 + ratio**2 / beside))
+
+    def to_xarray(self) -> Any:
+        """An ``xarray.Dataset`` over ``delay``, in seconds where the file tells a tick: ``pairs``, and ``values`` and ``errors``, those
+        of ``g2``. Raises ``MissingLibraryError`` without xarray."""
+        values, errors = g2(self)
+        return labelled({"pairs": self.counts, "values": values, "errors": errors}, [Axis("delay", self.ticks, self.seconds)], {}, {})
+
+    def to_pandas(self) -> Any:
+        """The same as a ``pandas.DataFrame``, a line for each cell. Raises ``MissingLibraryError`` without pandas or xarray."""
+        return listed(self.to_xarray(), "pairs as a list")
 
     def _peaks(self, period: float | None, delay: float, neighbours: int | None) -> NDArray[np.float64]:
         """Where the peaks of so many neighbours begin and end, from the one of the least difference to the greatest."""
@@ -407,6 +418,15 @@ class StartStops(Compared):
     def seconds(self) -> NDArray[np.float64] | None:
         """The same in seconds, None where the file doesn't tell."""
         return None if self.unit_seconds is None else self.ticks * self.unit_seconds
+
+    def to_xarray(self) -> Any:
+        """The counts as an ``xarray.DataArray`` over ``delay``, in seconds where the file tells a tick, with ``over`` as an
+        attribute. Raises ``MissingLibraryError`` without xarray."""
+        return labelled({"pairs": self.counts}, [Axis("delay", self.ticks, self.seconds)], {}, {})["pairs"].assign_attrs(over=self.over)
+
+    def to_pandas(self) -> Any:
+        """The same as a ``pandas.DataFrame``, a line for each bin. Raises ``MissingLibraryError`` without pandas or xarray."""
+        return listed(self.to_xarray().to_dataset(), "times as a list")
 
 
 def start_stops(

@@ -15,9 +15,10 @@ from numpy.typing import NDArray
 from .errors import NotKnownError
 from .events import events_of
 from .groups import GroupLike, Part, group_of
+from ._optional import want
 from ._values import Compared
 
-__all__ = ["BURST", "Background", "Fret", "Timed", "and_gate", "background", "counted", "find_bursts", "fret", "fused", "photons_in"]
+__all__ = ["BURST", "Background", "Fret", "Timed", "and_gate", "background", "counted", "find_bursts", "fret", "fused", "photons_in", "to_pandas"]
 
 BURST = np.dtype([("first", "<i8"), ("last", "<i8"), ("start", "<i8"), ("stop", "<i8")])
 FACTORS = {"gamma": 1.0, "beta": 1.0, "leakage": 0.0, "direct_excitation": 0.0}  # corrections, and what corrects nothing
@@ -68,6 +69,13 @@ class Background(Compared):
     def of(self, bursts: NDArray[np.void]) -> NDArray[np.float64]:
         """How many photons of the background each burst has in the mean: shape (bursts,), by the window that it begins in."""
         return np.asarray(self.at(bursts["start"]) * (bursts["stop"] - bursts["start"]) * self.unit_seconds)
+
+    def to_pandas(self) -> Any:
+        """The windows as a ``pandas.DataFrame``: ``start`` and ``stop`` in seconds, ``rate`` and ``error`` in photons a second, and the
+        ``tail`` in seconds. Raises ``MissingLibraryError`` without pandas."""
+        times = self.edges * self.unit_seconds
+        columns = {"start": times[:-1], "stop": times[1:], "rate": self.rates, "error": self.errors, "tail": self.tails}
+        return want("pandas", "windows as a list").DataFrame(columns)
 
 
 def background(
@@ -193,6 +201,20 @@ def and_gate(bursts: NDArray[np.void], others: NDArray[np.void], photons: Timed,
     return _bursts(times, first[kept], last[kept])
 
 
+def to_pandas(bursts: NDArray[np.void], photons: Timed, *, unit_seconds: float | None = None) -> Any:
+    """Bursts as a ``pandas.DataFrame``, a line for each: ``first`` and ``last`` as they are, ``start``, ``stop`` and the ``duration``
+    in seconds, and ``photons``, how many it has of all.
+
+    ``photons``: those among which they were found, as of ``find_bursts``, which raises the same; beside it ``pandas.concat`` has what
+    ``Fret.to_pandas`` gives. Raises ``MissingLibraryError`` without pandas.
+    """
+    _, _, unit = _times_of(photons, None, unit_seconds)
+    start, stop = bursts["start"] * unit, bursts["stop"] * unit
+    columns = {"first": bursts["first"], "last": bursts["last"], "start": start, "stop": stop}
+    columns |= {"duration": stop - start, "photons": bursts["last"] - bursts["first"] + 1}
+    return want("pandas", "bursts as a list").DataFrame(columns)
+
+
 def photons_in(bursts: NDArray[np.void], photons: Part, group: GroupLike) -> NDArray[np.int64]:
     """How many photons of a group each burst has: shape (bursts,).
 
@@ -291,6 +313,12 @@ class Fret(Compared):
         known = ~(np.isnan(self.E) | np.isnan(S))
         counts, edges, _ = np.histogram2d(S[known], self.E[known], bins=bins, range=(span, span))
         return counts.astype(np.int64), edges
+
+    def to_pandas(self) -> Any:
+        """The bursts as a ``pandas.DataFrame``: ``E`` and ``S``, and the photons that they are of, ``donor``, ``acceptor`` and ``direct``;
+        without S neither it nor the last. Raises ``MissingLibraryError`` without pandas."""
+        ratios = {"E": self.E} | ({} if self.S is None else {"S": self.S})
+        return want("pandas", "bursts as a list").DataFrame(ratios | dict(zip(("donor", "acceptor", "direct"), self.photons.T)))
 
     def _stoichiometry(self) -> NDArray[np.float64]:
         if self.S is None:

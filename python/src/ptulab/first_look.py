@@ -26,6 +26,7 @@ from ._looks import Look, look
 from ._optional import want
 from ._values import Compared
 from ._words import PIECE, Told, words_of, workers
+from ._xarrays import Axis, labelled
 from .errors import UnlikeError
 from .headers import Header, other_records, read_header
 from .program import report_of
@@ -187,6 +188,17 @@ class Info(Compared):
         names = ["number", "photons", "rate_hertz"]
         return want("pandas", "inputs as a list").DataFrame([[getattr(one, name) for name in names] for one in self.inputs], columns=names)
 
+    def to_xarray(self) -> Any:
+        """An ``xarray.Dataset`` of the inputs' ``traces`` over ``input`` and ``time``, and of T3 of their ``decays`` over ``input`` and
+        ``delay``, both in seconds where the header tells a tick. Raises ``MissingLibraryError`` without xarray."""
+        inputs = Axis("input", np.array([one.number for one in self.inputs], np.int64), None, counted="number")
+        traces = _stacked(self.bin_ticks, self.tick_seconds, "time", [one.trace for one in self.inputs])
+        found = labelled({"traces": traces[0]}, [inputs, traces[1]], {}, {})
+        if self.header.mode == "T2":
+            return found
+        decays = _stacked(1, self.dtime_seconds, "delay", [one.decay for one in self.inputs if one.decay is not None])
+        return found.merge(labelled({"decays": decays[0]}, [inputs, decays[1]], {}, {}))
+
     def json(self) -> str:
         """The same as a text; numbers that JSON doesn't have, as infinity, are null."""
         return json.dumps(self.as_json(), allow_nan=False, ensure_ascii=False)
@@ -230,6 +242,13 @@ class Info(Compared):
             rate = "-" if one.rate_hertz is None else f"{one.rate_hertz:,.0f}"
             decay = "" if one.decay is None else sparkline(_shown_of_decay(one.decay), logarithmic=True)
             yield f"{one.number:>5} {one.photons:>15,} {rate:>12}  {sparkline(one.trace)}  {decay}".rstrip()
+
+
+def _stacked(width: int, unit: float | None, name: str, rows: list[NDArray[np.int64]]) -> tuple[NDArray[np.int64], Axis]:
+    """Rows of as many bins below one another, and where the bins begin."""
+    counts = np.stack(rows) if rows else np.zeros((0, 0), np.int64)
+    ticks = width * np.arange(counts.shape[1], dtype=np.int64)
+    return counts, Axis(name, ticks, None if unit is None else ticks * unit)
 
 
 def info(path: PathLike, *, program: PathLike | None = None, progress: Progress | None = None) -> Info:

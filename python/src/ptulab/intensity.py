@@ -176,6 +176,15 @@ class Levels(Compared):
         return np.asarray(self.rates / np.sqrt(self.photons))
 
 
+    def to_pandas(self, unit_seconds: float | None = None) -> Any:
+        """The levels as a ``pandas.DataFrame``: ``start``, ``stop``, ``duration``, ``photons``, ``rate`` and its ``error``; where it is given how
+        long a unit of the times is, in seconds and photons a second. Raises ``MissingLibraryError`` without pandas."""
+        unit = 1 if unit_seconds is None else unit_seconds
+        columns: dict[str, NDArray[Any]] = {"start": self.edges[:-1] * unit, "stop": self.edges[1:] * unit, "duration": self.durations * unit}
+        columns |= {"photons": self.photons, "rate": self.rates / unit, "error": self.errors / unit}
+        return want("pandas", "levels as a list").DataFrame(columns)
+
+
 def change_points(times: NDArray[np.int64], *, level: float = 0.05) -> Levels:
     """The levels of brightness of photons by their times of arrival, shape (photons,), rising, in ticks.
 

@@ -3,7 +3,7 @@
 Arrays of counts are those of a cube: (.., bins), in most functions (rows, columns, bins).
 """
 
-from collections.abc import Sequence
+from collections.abc import Mapping, Sequence
 from dataclasses import dataclass
 from typing import Any, Literal
 
@@ -12,8 +12,10 @@ from numpy.typing import NDArray
 
 from .fits import Convolved
 from ._values import Compared
+from ._xarrays import Axis, labelled
+from ._xarrays import pixels as axes_of
 
-__all__ = ["Lifetimes", "binned", "fit_pixels", "inside", "with_neighbours"]
+__all__ = ["Lifetimes", "binned", "fit_pixels", "inside", "to_xarray", "with_neighbours"]
 
 Numbers = NDArray[np.float64]
 TOGETHER = 1 << 16  # counts that are fitted together, so that their arrays stay in the processor's cache
@@ -44,6 +46,26 @@ class Lifetimes(Compared):
         """The mean of the lifetimes of each pixel, by their photons: (..)."""
         with np.errstate(invalid="ignore"):
             return np.asarray((self.amplitudes * self.lifetimes).sum(axis=-1) / self.amplitudes.sum(axis=-1))
+
+    def to_xarray(self, pixel_micrometres: float | None = None) -> Any:
+        """An ``xarray.Dataset`` of ``amplitudes``, ``lifetimes`` and ``errors`` over the axes of ``pixels.to_xarray`` and ``term``, from 1,
+        and of the ``mean`` without it. Raises as that does."""
+        terms = Axis("term", np.arange(1, self.lifetimes.shape[-1] + 1), None, counted="number")
+        arrays, axes = {"amplitudes": self.amplitudes, "lifetimes": self.lifetimes, "errors": self.errors}, axes_of(self.mean.shape, pixel_micrometres)
+        return labelled(arrays, [*axes, terms], {}, {}).merge(labelled({"mean": self.mean}, axes, {}, {}))
+
+
+def to_xarray(pictures: Mapping[str, NDArray[Any]], pixel_micrometres: float | None = None) -> Any:
+    """Pictures of one place by their names, as phasors and mean delays, as an ``xarray.Dataset`` over ``row`` and ``column``.
+
+    Their shape is (rows, columns), or (frames, rows, columns), also with the axis ``frame``. ``pixel_micrometres``: how long and
+    wide a pixel is, as ``Cube`` and ``Image`` tell it; the coordinates are the middles of pixels in micrometres then, else numbers.
+    Raises ``MissingLibraryError`` without xarray, and ``ValueError`` for other and unlike shapes, and no picture.
+    """
+    arrays = {name: np.asarray(picture) for name, picture in pictures.items()}
+    if len({array.shape for array in arrays.values()}) != 1:
+        raise ValueError(f"pictures of shapes {', '.join(str(array.shape) for array in arrays.values()) or 'that none has'}")
+    return labelled(arrays, axes_of(next(iter(arrays.values())).shape, pixel_micrometres), {}, {})
 
 
 def fit_pixels(

@@ -111,7 +111,7 @@ class Image(Compared):
     def to_xarray(self) -> Any:
         """The counts as an ``xarray.DataArray`` over ``row`` and ``column``, in micrometres where the file tells the size of a
         pixel, and ``frame``. Raises ``MissingLibraryError`` without xarray."""
-        found = labelled({"photons": self.counts}, _axes(self), {}, {})["photons"]
+        found = labelled({"photons": self.counts}, pixels(self.counts.shape, self.pixel_micrometres), {}, {})["photons"]
         found.attrs["outside"] = self.outside
         return found
 
@@ -151,16 +151,11 @@ class Cube(Compared):
     def to_xarray(self) -> Any:
         """The counts as an ``xarray.DataArray`` over the axes of an image and ``delay``, in seconds where the file tells a tick.
         Raises ``MissingLibraryError`` without xarray."""
-        found = labelled({"photons": self.counts}, [*_axes(self), Axis("delay", self.ticks, self.seconds)], {}, {})["photons"]
+        axes = [*pixels(self.counts.shape[:-1], self.pixel_micrometres), Axis("delay", self.ticks, self.seconds)]
+        found = labelled({"photons": self.counts}, axes, {}, {})["photons"]
         found.attrs |= {"outside": self.outside, "over": self.over}
         return found
 
-
-def _axes(picture: Image | Cube) -> list[Axis]:
-    """The axes of a picture, with that of its frames where it has one."""
-    shape = picture.counts.shape if isinstance(picture, Image) else picture.counts.shape[:-1]
-    frames = [Axis("frame", np.arange(shape[0]), None, counted="number")] if len(shape) > 2 else []
-    return [*frames, *pixels(shape[-2], shape[-1], picture.pixel_micrometres)]
 
 def lines_of(source: EventsLike, scan: Scan) -> NDArray[np.void]:
     """The lines of a scan, one element each, with the fields

@@ -17,7 +17,7 @@ from .groups import EventsLike, GroupLike, Part, group_of, header_of, pieces_of,
 from .antibunching import occupied, pair_counts
 from .tables import lags_of
 from ._values import Compared
-from ._xarrays import Axis, labelled
+from ._xarrays import Axis, labelled, listed
 
 __all__ = ["Curve", "correlation", "correlation_by_segments", "delays", "edges", "split", "together", "window"]
 
@@ -56,6 +56,10 @@ class Curve(Compared):
         """An ``xarray.Dataset`` of ``values`` and ``errors`` over ``delay``, in seconds where the file tells a tick. Raises
         ``MissingLibraryError`` without xarray."""
         return labelled({"values": self.values, "errors": self.errors}, [Axis("delay", self.ticks, self.seconds)], {"level": ("delay", self.levels)}, {})
+
+    def to_pandas(self) -> Any:
+        """The same as a ``pandas.DataFrame``, a line for each delay. Raises ``MissingLibraryError`` without pandas or xarray."""
+        return listed(self.to_xarray(), "a correlation as a list")
 
 
 def window(source: EventsLike, start: int, stop: int) -> Events:

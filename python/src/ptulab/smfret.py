@@ -15,6 +15,7 @@ from .bursts import FACTORS, Fret, corrected, less_background, slopes_of
 from .errors import NotKnownError
 from .events import Events, events_of
 from .groups import GroupLike, Part, group_of
+from ._optional import want
 from ._values import Compared
 
 __all__ = ["BurstVariance", "alex_2cde", "asymmetry", "burst_variance", "calibrate"]
@@ -209,6 +210,10 @@ class BurstVariance(Compared):
     def expected(self, E: NDArray[np.float64]) -> NDArray[np.float64]:
         """The deviation that counting alone gives: sqrt(E * (1 - E) / n)."""
         return np.asarray(np.sqrt(E * (1 - E) / self.n))
+
+    def to_pandas(self) -> Any:
+        """The bursts as a ``pandas.DataFrame``: ``E``, ``deviation`` and ``pieces``. Raises ``MissingLibraryError`` without pandas."""
+        return want("pandas", "bursts as a list").DataFrame({"E": self.E, "deviation": self.deviations, "pieces": self.pieces})
 
     def binned(self, bins: int = 20, span: tuple[float, float] = (0.0, 1.0)) -> tuple[NDArray[np.float64], NDArray[np.float64], NDArray[np.float64]]:
         """By bins of E the mean E, the deviation over all pieces of its bursts, and that one's standard deviation by the scatter

@@ -8,9 +8,8 @@ import numpy as np
 from numpy.typing import NDArray
 
 from .errors import BadReportError, NotKnownError
-from ._optional import want
 from ._values import Compared
-from ._xarrays import Axis, labelled, pixels
+from ._xarrays import Axis, labelled, listed, pixels
 from .headers import Header
 
 __all__ = ["Measurement", "Table"]
@@ -121,9 +120,8 @@ class Table(Compared):
         along = Axis(name, self.ticks, self.seconds, counted="number" if self.kind == "fold" else "ticks")
         axes = [along]
         if self.kind in ("image", "cube"):
-            rows, columns = self.counts.shape[:2]
-            size = header.pixel_micrometres(columns) if header is not None else None
-            axes = [*pixels(rows, columns, size), *([along] if self.kind == "cube" else [])]
+            size = header.pixel_micrometres(self.counts.shape[1]) if header is not None else None
+            axes = [*pixels(self.counts.shape[:2], size), *([along] if self.kind == "cube" else [])]
         more = {"level": (name, self.levels)} if self.levels is not None else {}
         title = f"{self.kind} {self.number}"
         found = labelled({title: self.counts}, axes, more, {})[title]
@@ -133,8 +131,7 @@ class Table(Compared):
     def to_pandas(self) -> Any:
         """The cells as a ``pandas.DataFrame``, a line for each, with the axes of ``to_xarray`` and the column ``count``. Raises
         ``MissingLibraryError`` without pandas or xarray."""
-        want("pandas", "a table as a list")
-        frame = self.to_xarray().to_dataframe(name="count").reset_index()
+        frame = listed(self.to_xarray().to_dataset(name="count"), "a table as a list")
         if self.kind == "fold":
             frame.insert(1, "groups", self.patterns())
         return frame

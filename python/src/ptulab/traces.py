@@ -13,7 +13,7 @@ from numpy.typing import NDArray
 from ._digits import MOST_DIGITS, whole_numbers
 from .errors import BadReportError
 from ._values import Compared
-from ._xarrays import Axis, labelled
+from ._xarrays import Axis, labelled, listed
 
 __all__ = ["LongTrace", "read_trace"]
 
@@ -48,6 +48,10 @@ class LongTrace(Compared):
         long a tick or a sync period is. Raises ``MissingLibraryError`` without xarray."""
         known = None if global_seconds is None else self.ticks * global_seconds
         return labelled({"photons": self.counts}, [Axis("time", self.ticks, known)], {}, {})["photons"]
+
+    def to_pandas(self, global_seconds: float | None = None) -> Any:
+        """The same as a ``pandas.DataFrame``, a line for each bin. Raises ``MissingLibraryError`` without pandas or xarray."""
+        return listed(self.to_xarray(global_seconds).to_dataset(), "a trace as a list")
 
 
 def read_trace(source: str | os.PathLike[str] | bytes) -> LongTrace:
