@@ -122,6 +122,13 @@ def test_all_of_a_report_as_json(tmp_path: Path, pairs: Callable[..., str]) -> N
     assert command("export", tmp_path / "report.txt", "--json", tmp_path / "report.json", "--plan", tmp_path / "plan.toml") == 0
     told = json.loads((tmp_path / "report.json").read_text())["tables"]
     assert told[-1]["normalised"][4] == pytest.approx(4 * 64 / 40) and told[3]["g2"][2] == pytest.approx(4 * 81 / 180)
+    assert "correlation_1_normalised" not in np.load(tmp_path / "report.npz")  # without the plan
+    assert command("export", tmp_path / "report.txt", "--npz", tmp_path / "report.npz", "--plan", tmp_path / "plan.toml") == 0
+    arrays = np.load(tmp_path / "report.npz")
+    for table, names in ((told[-1], ("normalised", "error")), (told[3], ("g2", "error"))):
+        for name in names:
+            assert np.array_equal(arrays[f"{table['kind']}_1_{name}"], np.array(table[name], dtype=np.float64), equal_nan=True)
+    assert not [name for name in arrays if name.startswith("trace_1_") and name.endswith("error")]
 
 
 def test_what_is_no_report_or_no_table(tmp_path: Path, pairs: Callable[..., str], capsys: pytest.CaptureFixture[str]) -> None:
@@ -149,6 +156,22 @@ def test_a_run_prints_what_the_program_prints(program: str, tmp_path: Path, capf
 
 
 T2 = "HydraHarp2T2"
+
+
+@pytest.mark.parametrize(
+    ("plan", "file", "said"),
+    [
+        ("scan.ptu", "scan.toml", "scan.ptu: this is a PTU file: plan and file seem to be exchanged; the plan comes first"),
+        ("small.ptu", "scan.toml", "small.ptu: this is a PTU file: plan and file seem to be exchanged"),
+        ("scan.toml", "g2.toml", "g2.toml: not a PTU file\nptulab: {folder}/g2.toml is a plan: plan and file were exchanged; the plan comes first"),
+    ],
+)
+def test_a_check_tells_that_plan_and_file_were_exchanged(tmp_path: Path, capsys: pytest.CaptureFixture[str], plan: str, file: str, said: str) -> None:
+    for name in ("scan.ptu", "scan.toml", "g2.toml"):
+        (tmp_path / name).symlink_to(EXAMPLES / name)
+    made.write(tmp_path / "small.ptu", T2, [(1, 1)])
+    assert command("check", tmp_path / plan, tmp_path / file) == 1
+    assert said.format(folder=tmp_path) in capsys.readouterr().err
 
 
 @pytest.mark.parametrize(

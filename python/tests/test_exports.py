@@ -122,7 +122,9 @@ def test_npz_has_every_array_of_a_report(program: str, curves: Any, tmp_path: Pa
 def test_counts_beyond_64_bits_are_texts_in_npz(curves: Any, tmp_path: Path) -> None:
     report, _ = curves
     for most, kind in ((2**63 - 1, "i"), (2**63, "U")):
-        report.tables[2].counts = np.array([most, 0], dtype=object)
+        counts = np.array(report.tables[2].counts, dtype=object)
+        counts[0] = most
+        report.tables[2].counts = counts
         exports.write_npz(report, tmp_path / "large.npz")
         with np.load(tmp_path / "large.npz", allow_pickle=False) as arrays:
             assert arrays["correlation_1"].dtype.kind == kind and int(arrays["correlation_1"][0]) == most

@@ -1,6 +1,7 @@
 """Plans that are put together in Python: times become ticks, text becomes what the program reads, and rules are told."""
 
 import logging
+import math
 import subprocess
 from collections.abc import Callable
 from fractions import Fraction
@@ -112,6 +113,15 @@ def test_plans_are_values() -> None:
         (lambda: TWO.trace(1, width=1.0), "say either where it ends"),
         (lambda: TWO.histogram(1, until=1e-9, bins=3), "say either where it ends"),
         (lambda: TWO.correlation(1), "say either where it ends"),
+        (lambda: TWO.trace(1, width=math.inf, bins=1), "inf is no time: write seconds"),
+        (lambda: TWO.group("x", 3, gates=[(0, -1)]), "a time of -1 s: only the shift of an input may be negative"),
+        (lambda: TWO.group("x", 3, gates=[(-1e-9, 1e-9)]), "a time of -1e-09 s: only"),
+        (lambda: TWO.group("x", 3, gates=[("-2 ticks", "5 ticks")]), "a time of -2 ticks: only"),
+        (lambda: TWO.group("x", 3, gates=[("0 ticks", 0)]), "a gate from 0 ticks to 0 s: it must end after its beginning"),
+        (lambda: TWO.group("x", 3, gates=[("3 ns", 3e-9)]), "a gate from 3 ns to 3e-09 s: it must end"),
+        (lambda: TWO.group("x", 3, gates=[(0, "5 ticks"), ("5 ticks", "4 ticks")]), "a gate from 5 ticks to 4 ticks: it must end"),
+        (lambda: TWO.coincidence(1, 2, reach=-1e-9), "a time of -1e-09 s: only"),
+        (lambda: TWO.shift(1, "-3 ns", period="-50 ns"), "a time of -50 ns: only"),
         (lambda: Plan().group("x", 70).text(T3), r"x: group 1: inputs = \[70\] isn't a list .* \(rule 9\): A group's `inputs` are a list of 1 to 65"),
         (lambda: TWO.histogram(3).text(T3), r"histogram 1: group = 3 is no group.*\(rule 12\): A histogram's `group` is the number"),
         (lambda: TWO.trace(1, width=1e300, bins=1).text(T3), r"trace 1: width = .*\(rule 14\): A trace's"),

@@ -173,6 +173,25 @@ def test_a_model_of_ones_own() -> None:
 # Decays with scattered light and a measured background.
 
 
+def test_scattered_light_of_a_span_without_the_pulse_is_refused() -> None:
+    """Of 40,000 photons a tenth comes with the pulse, at 2.0 +- 0.12; a span that begins later than it knows nothing of them."""
+    draws, edges = np.random.default_rng(9), np.linspace(0, 25, 501)
+    pulse = np.histogram(draws.normal(2.0, 0.12, 500_000), edges)[0]
+    late = draws.exponential(2.6, 40_000) * (draws.random(40_000) >= 0.1)
+    counts = np.histogram((draws.normal(2.0, 0.12, 40_000) + late) % 25, edges)[0]
+
+    def fit(begin: float, **more: Any) -> fits.Fit:
+        return fits.fit_reconvolution(counts, pulse, 0.05, period=25.0, scatter=True, span=(begin, 20.0), **more)
+
+    for begin in (2.5, 3.0):
+        with pytest.raises(ptulab.FitError, match=r"the span has \S+ of the pulse, .* begin before the pulse is over, or leave scatter out"):
+            fit(begin)
+    held = fit(3.0, fixed={"scatter": 4e3, "shift": 0.0})
+    assert held.values["scatter"] == 4e3 and held.values["lifetime_1"] == pytest.approx(2.6, rel=0.03)
+    part = fit(2.15)  # with a tenth of it
+    assert abs(part.values["scatter"] - 4e3) < 4 * part.errors["scatter"] < 4e3
+
+
 @pytest.mark.parametrize("part", [0.0, 0.1])
 def test_scattered_light_and_a_measured_background(part: float) -> None:
     """100,000 photons in bins of 50 ps, of which a tenth comes with the pulse, over a background that rises like a ramp."""

@@ -13,13 +13,13 @@ from collections.abc import Callable, Iterable, Iterator, Sequence
 from contextlib import ExitStack, contextmanager
 from typing import Any
 
-from ._advice import explained
+from ._advice import explained, of_other_file
 from ._optional import want
 from ._refusals import rule_of
 from ._whole import written_whole
 from ._command_line import command_line
 from .app import serve
-from .errors import PtulabError, RefusalError
+from .errors import BadFileError, PtulabError, RefusalError
 from .exports import write_csv, write_json, write_npz
 from .first_look import info as look_at
 from .many import SummedFiles, count_files, sum_files
@@ -53,7 +53,11 @@ def plan(given: Given) -> int:
 
 
 def check(given: Given) -> int:
-    found = check_plan(given.plan, given.file, program=given.program)
+    try:
+        found = check_plan(given.plan, given.file, program=given.program)
+    except BadFileError as error:
+        print(*(f"ptulab: {line}" for line in [error, *(of_other_file(given.file) if error.status == 10 else ())]), sep="\n", file=sys.stderr)
+        return 1
     for one in found:
         print(f"{'refused' if one.refused else 'warning'}: {one}")
     for rule in sorted({one.rule for one in found if one.rule}):

@@ -5,12 +5,11 @@ from __future__ import annotations
 import os
 from collections.abc import Iterator
 
-from ._documents import LONGEST, PlanLike, is_path, name_of, plan_bytes, read_plan
+from ._documents import LONGEST, PTU, PlanLike, is_path, name_of, plan_bytes, read_plan
 from ._plan_rules import TOP, broken_rules
 from .errors import BadFileError, BadPlanError, PtulabError, RefusalError
 
 OF_PLAN = (6, 7, 8)  # statuses by which the plan is refused
-START = b"PQTTTR"  # of a PTU file
 OTHERS = {
     b"PicoHarp 300": "a file of PicoHarp 300 from before PTU (.pt2, .pt3 or a histogram)",
     b"HydraHarp 400": "a file of HydraHarp 400 from before PTU (.ht2, .ht3 or a histogram)",
@@ -39,7 +38,7 @@ def advice(refusal: RefusalError, plan: PlanLike, file: str) -> Iterator[str]:
     elif status == 9:
         yield from _of_mode(refusal.line.split()[1], plan, file)
     elif status == 10:
-        yield from _of_other_file(file)
+        yield from of_other_file(file)
     elif status == 17:
         yield str(BadFileError(17, refusal.line.removeprefix("ptu: "), file)).partition(" (")[2].rstrip(")")
     elif status == 19:
@@ -60,7 +59,7 @@ def _begins(path: str, size: int = 16) -> bytes:
 
 def _of_plan(status: int, plan: PlanLike, file: str) -> Iterator[str]:
     name = name_of(plan)
-    if plan_bytes(plan, file).startswith(START):
+    if plan_bytes(plan, file).startswith(PTU):
         yield f"{name} is a PTU file: plan and file were exchanged; the plan comes first"
     elif status != 6:
         try:
@@ -79,7 +78,7 @@ def _of_mode(part: str, plan: PlanLike, file: str) -> Iterator[str]:
         yield "pairs of photons of a T3 file are counted by ptulab.antibunching.coincidences in Python"
 
 
-def _of_other_file(file: str) -> Iterator[str]:
+def of_other_file(file: str) -> Iterator[str]:
     """A file that is none of PTU."""
     start = _begins(file)
     for mark, what in OTHERS.items():

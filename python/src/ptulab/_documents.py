@@ -21,6 +21,7 @@ from .errors import BadPlanError
 
 PlanLike = Plan | str | os.PathLike[str] | bytes  # a plan, a path, or the text of one: bytes, or more than one line
 LONGEST = 65_536  # bytes of a plan
+PTU = b"PQTTTR"  # with which a PTU file begins
 DEEPEST = 80  # arrays, inline tables and the parts of dotted keys in one another
 
 _TOKEN = re.compile(
@@ -86,6 +87,8 @@ def plan_path(plan: PlanLike, file: PathLike | Ticked | None = None) -> Iterator
 
 
 def _document(source: bytes) -> dict[str, Any]:
+    if source.startswith(PTU):
+        raise BadPlanError("this is a PTU file: plan and file seem to be exchanged; the plan comes first")
     if len(source) > LONGEST:
         raise BadPlanError(f"the plan is longer than {LONGEST} bytes")
     try:

@@ -88,22 +88,25 @@ class Plan:
         if name in self.groups or not name.isprintable() or not name.strip():
             raise BadPlanError(f"a second group {name!r}" if name in self.groups else f"{name!r} can't be the name of a group")
         numbers = [inputs] if isinstance(inputs, int) else sorted(set(inputs))
-        pairs = tuple((_time(start), _time(stop)) for start, stop in gates)
+        pairs = tuple((_length(start), _length(stop)) for start, stop in gates)
+        for start, stop in pairs:
+            if _is_not_before(start, stop):
+                raise BadPlanError(f"a gate from {start.said} to {stop.said}: it must end after its beginning")
         return self._with("group", name, inputs=tuple(numbers), **({"gates": pairs} if pairs else {}))
 
     def histogram(
         self, group: str | int, *, width: Duration = "1 tick", until: Duration | None = None, bins: int | None = None
     ) -> Plan:
         """The delays of a group's photons after the sync (T3), in bins of a width up to a delay, by default the sync period."""
-        return self._with("histogram", group=self.number_of(group), width=_time(width), **_end(until, bins))
+        return self._with("histogram", group=self.number_of(group), width=_length(width), **_end(until, bins))
 
     def trace(
         self, group: str | int, *, width: Duration, until: Duration | None = None, bins: int | None = None, origin: Duration | None = None
     ) -> Plan:
         """The photons of a group by time, in bins of a width, up to a time or for a number of bins, from ``origin`` on."""
         _one_of(until, bins)
-        first = _kept(origin=None if origin is None else _time(origin))
-        return self._with("trace", group=self.number_of(group), width=_time(width), **_end(until, bins), **first)
+        first = _kept(origin=None if origin is None else _length(origin))
+        return self._with("trace", group=self.number_of(group), width=_length(width), **_end(until, bins), **first)
 
     def total(self, group: str | int) -> Plan:
         """How many photons a group has: a trace of one bin over everything."""
@@ -114,13 +117,13 @@ class Plan:
     ) -> Plan:
         """The times from a photon of a group to the next one of another group (T2), in bins of a width."""
         _one_of(until, bins)
-        return self._with("startstop", start=self.number_of(start), stop=self.number_of(stop), width=_time(width), **_end(until, bins))
+        return self._with("startstop", start=self.number_of(start), stop=self.number_of(stop), width=_length(width), **_end(until, bins))
 
     def coincidence(self, first: str | int, second: str | int, *, reach: Duration, width: Duration = "1 tick") -> Plan:
         """All pairs of photons of two groups by their delay (T2), up to ``reach`` to either side, and the totals of both groups
         where they are needed for g2. Of a width in seconds a cell has an odd number of ticks, so that one is centred on 0."""
         pair = {"first": self.number_of(first), "second": self.number_of(second)}
-        return self._with("coincidence", **pair, reach=_time(reach), width=_time(width))._with_totals(pair)
+        return self._with("coincidence", **pair, reach=_length(reach), width=_length(width))._with_totals(pair)
 
     def correlation(
         self, first: str | int, second: str | int | None = None, *, until: Duration | None = None, lags: int = 16, levels: int | None = None
@@ -129,7 +132,7 @@ class Plan:
         needed to normalise it. In T3 files delays are whole sync periods."""
         _one_of(until, levels)
         pair = {"first": self.number_of(first), "second": self.number_of(first if second is None else second)}
-        end = _kept(until=None if until is None else _time(until), levels=levels)
+        end = _kept(until=None if until is None else _length(until), levels=levels)
         return self._with("correlation", **pair, lags=lags, **end)._with_totals(pair)
 
     def image(
@@ -147,7 +150,7 @@ class Plan:
         """The photons of a group by pixel (T3): ``width`` columns and ``height`` rows, ``dwell`` the time of a pixel, and the
         marker bits (1 to 4) that begin a line, begin a frame and end a line; ``serpentine`` of lines that go both ways."""
         bits = _kept(line=line, frame=frame, stop=stop, serpentine=serpentine or None)
-        return self._with("image", group=self.number_of(group), width=width, height=height, dwell=_time(dwell), **bits)
+        return self._with("image", group=self.number_of(group), width=width, height=height, dwell=_length(dwell), **bits)
 
     def cube(
         self,
@@ -165,16 +168,16 @@ class Plan:
     ) -> Plan:
         """An image with the delays of each pixel, in bins of ``dwidth``, by default up to the sync period."""
         bits = _kept(line=line, frame=frame, stop=stop, serpentine=serpentine or None)
-        pixels = {"group": self.number_of(group), "width": width, "height": height, "dwell": _time(dwell), **bits}
-        return self._with("cube", **pixels, dwidth=_time(dwidth), **_kept(dbins=dbins))
+        pixels = {"group": self.number_of(group), "width": width, "height": height, "dwell": _length(dwell), **bits}
+        return self._with("cube", **pixels, dwidth=_length(dwidth), **_kept(dbins=dbins))
 
     def fold(self, *groups: str | int, window: Duration) -> Plan:
         """n-fold coincidences of up to six groups within a window (T2)."""
-        return self._with("fold", groups=tuple(sorted(map(self.number_of, groups))), window=_time(window))
+        return self._with("fold", groups=tuple(sorted(map(self.number_of, groups))), window=_length(window))
 
     def shift(self, number: int, by: Duration, *, period: Duration | None = None) -> Plan:
         """Adds a time, which may be negative, to the delays of an input (T3), modulo the period, by default the sync period."""
-        end = _kept(period=None if period is None else _time(period))
+        end = _kept(period=None if period is None else _length(period))
         return self._with("shift", input=number, shift=_time(by), **end)
 
     def remark(self, text: str) -> Plan:
@@ -270,7 +273,7 @@ class Plan:
 
 def _time(said: Duration) -> _Time:
     """A time of seconds, or of a text with a unit."""
-    if isinstance(said, int | float) and not isinstance(said, bool):
+    if isinstance(said, int | float) and not isinstance(said, bool) and math.isfinite(said):
         return _Time(f"{said:g} s", float(said), None)
     found = DURATION.fullmatch(said) if isinstance(said, str) else None
     if found is None or found[2] not in (*SECONDS, *COUNTED):
@@ -284,6 +287,22 @@ def _time(said: Duration) -> _Time:
     return _Time(said, None, int(number))
 
 
+def _length(said: Duration) -> _Time:
+    """A time that isn't negative."""
+    time = _time(said)
+    if (time.seconds or time.ticks or 0) < 0:
+        raise BadPlanError(f"a time of {time.said}: only the shift of an input may be negative")
+    return time
+
+
+def _is_not_before(start: _Time, stop: _Time) -> bool:
+    """Whether a time isn't before another one, as far as that is known without a tick; 0 is known."""
+    if not stop.seconds and not stop.ticks:
+        return True
+    same = [(start.seconds, stop.seconds), (start.ticks, stop.ticks)]
+    return any(one is not None and other is not None and one >= other for one, other in same)
+
+
 def _one_of(until: Duration | None, count: int | None) -> None:
     if (until is None) == (count is None):
         raise BadPlanError("say either where it ends, by until=, or how many there are")
@@ -293,7 +312,7 @@ def _end(until: Duration | None, bins: int | None) -> dict[str, Any]:
     """Where the bins end, or how many there are."""
     if until is not None and bins is not None:
         raise BadPlanError("say either where it ends, by until=, or how many there are")
-    return _kept(until=None if until is None else _time(until), bins=bins)
+    return _kept(until=None if until is None else _length(until), bins=bins)
 
 
 def _kept(**settings: Any) -> dict[str, Any]:

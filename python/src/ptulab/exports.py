@@ -96,7 +96,8 @@ def write_npz(report: Report, path: PathLike) -> None:
     """All arrays of a report as one ``.npz`` file, which ``numpy.load`` reads without pickles.
 
     A table has the arrays ``KIND_NUMBER`` (its counts), ``KIND_NUMBER_ticks``, where they are known
-    ``KIND_NUMBER_seconds`` and ``KIND_NUMBER_levels``, and ``head`` is a text in JSON: the lines of the head, and the
+    ``KIND_NUMBER_seconds`` and ``KIND_NUMBER_levels``, of pairs whose groups have known photons ``KIND_NUMBER_g2`` or
+    ``KIND_NUMBER_normalised``, and ``KIND_NUMBER_error``, as in CSV, and ``head`` is a text in JSON: the lines of the head, and the
     settings and rest of each table. Counts that pass 2^63 are decimal texts. Raises ``OSError``.
     """
     arrays: dict[str, NDArray[Any]] = {}
@@ -104,6 +105,7 @@ def write_npz(report: Report, path: PathLike) -> None:
     for table in report.tables:
         name = f"{table.kind}_{table.number}"
         axes = {"": _plain(table.counts), "_ticks": _plain(table.ticks), "_seconds": table.seconds, "_levels": table.levels}
+        axes |= {f"_{what}": array for what, array in normalised(table).items()}
         arrays |= {name + end: array for end, array in axes.items() if array is not None}
         told[name] = {**table.settings, **table.rest}
     arrays["head"] = np.array(json.dumps(told))

@@ -41,6 +41,7 @@ __all__ = [
 ]
 
 FEWEST = 2  # counts a bin of a measured background, unless it was measured five times as long; of less errors are too small
+LEAST_PULSE = 0.01  # part of a pulse that must be in the span where scattered light is fitted
 TRIED = 24  # lifetimes with which a fit of a decay may begin
 
 
@@ -220,8 +221,9 @@ def fit_reconvolution(
 
     ``amplitude_n`` are photons, ``lifetime_n`` and ``shift`` are in the unit of ``width`` (any part of a bin), ``background`` is
     counts a bin, and with ``scatter`` there are photons of that name, of scattered light, which come with the shifted pulse.
-    ``background``: shape (bins,), as of ``fit_tail``. Raises ``FitError`` and ``ValueError`` where the shapes don't go
-    together, there are no counts, or one is less than 0, or the last bin begins behind the period.
+    ``background``: shape (bins,), as of ``fit_tail``. Raises ``FitError`` as that does and where ``scatter`` is to be fitted in a
+    ``span`` with less than a hundredth of the pulse, and ``ValueError`` where the shapes don't go together, there are no counts,
+    or one is less than 0, or the last bin begins behind the period.
     """
     counts, pulse = np.asarray(counts, dtype=np.float64), np.asarray(pulse, dtype=np.float64)
     bins = len(counts) if counts.ndim == 1 and pulse.size and pulse.size % max(counts.size, 1) == 0 else 0
@@ -237,7 +239,7 @@ def fit_reconvolution(
     level = shape.parts if background is None else _level(background, inside)
     others = {"background": (level[inside], max(float(counts.min()), 0.1))}
     if scatter:
-        others["scatter"] = shape.decay(1e-3 * shape.width, 0.0)[inside], 0.01 * float(counts.sum())
+        others["scatter"] = _scattered(shape, inside, "scatter" in (fixed or {})), 0.01 * float(counts.sum())
     begin = _begin_decay(counts[inside], lambda lifetime: shape.decay(lifetime, 0.0)[inside], others, terms, bins * width)
     begin.add("shift", value=0.0, min=-bins * width / 4, max=bins * width / 4, brute_step=width)
 
@@ -253,6 +255,17 @@ def fit_reconvolution(
     begin = steered(begin, fixed, start, bounds)
     problem = Problem(axis[inside], counts[inside], over(level[inside]), poisson(counts[inside]), begin)
     return _solved(problem, over, background, inside)
+
+
+def _scattered(shape: "Convolved", inside: NDArray[np.bool_], held: bool) -> Numbers:
+    """What part of scattered light each bin that is fitted has. Raises ``FitError`` where it is so little that it isn't told."""
+    found = shape.decay(1e-3 * shape.width, 0.0)[inside]
+    if not held and not float(found.sum()) > LEAST_PULSE:
+        raise FitError(
+            f"the span has {max(float(found.sum()), 0.0):.2g} of the pulse, which tells too little of scattered light: "
+            "let it begin before the pulse is over, or leave scatter out"
+        )
+    return found
 
 
 class Convolved:
