@@ -35,11 +35,11 @@ import pytest
 ROOT = Path(__file__).resolve().parents[2]
 MODULES = {  # with the tests of each
     "fits": ["test_fits.py", "test_steered.py"],
-    "_fitting": ["test_steered.py", "test_fits.py"],
+    "_fitting": ["test_fitting.py", "test_steered.py", "test_fits.py"],
     "segments": ["test_segments.py", "test_edges.py"],
     "fcs": ["test_fcs.py"],
     "pixels": ["test_pixels.py"],
-    "antibunching": ["test_antibunching.py", "test_edges.py", "test_fits.py", "test_segments.py", "test_steered.py"],
+    "antibunching": ["test_fitting.py", "test_antibunching.py", "test_edges.py", "test_fits.py", "test_segments.py", "test_steered.py"],
     "intensity": ["test_intensity.py"],
     "phasors": ["test_fits.py", "test_edges.py", "test_pixels.py"],
     "scans": ["test_scans.py", "test_edges.py"],

@@ -40,13 +40,23 @@ def dye(path: Path, seed: int = 5) -> Path:
 
 
 def _t2(path: Path, seconds: NDArray[np.float64], inputs: NDArray[np.int64], tick: float) -> Path:
+    """What ``made.write`` does of inputs from 1 on, for many photons."""
     order = np.argsort(seconds, kind="stable")
-    return made.write(path, "HydraHarp2T2", list(zip((seconds[order] / tick).astype(int).tolist(), inputs[order].tolist())), tick=tick)
+    times, size, kind = (seconds[order] / tick).astype(np.int64), made.unit("HydraHarp2T2"), "HydraHarp2T2"
+    wraps = np.repeat(np.arange(len(times)), np.diff(times // size, prepend=0))
+    words = np.insert((inputs[order] - 1) << 25 | times % size, wraps, made.wrap_word(kind))
+    path.write_bytes(made.header(kind, announced=len(words), tick=tick) + words.astype("<u4").tobytes())
+    return path
 
 
-def diffusion(path: Path, seed: int = 2) -> Path:
-    """20 molecules that diffuse in two dimensions through a Gaussian focus, for 4 s; each shines on two detectors."""
-    draws, step, side, molecules = np.random.default_rng(seed), 25e-6, 8.0, 20
+def diffusion(path: Path, seed: int = 2, step: float = 25e-6) -> Path:
+    """20 molecules that diffuse in two dimensions through a Gaussian focus, in 160,000 steps of so many seconds (4 s); each shines
+    on two detectors.
+
+    They are in a square of 8 radii, at whose sides they come in again on the other one. So up to some ten diffusion times G is 1 -
+    1 / 20 + 1 / NUMBER / (1 + t / DIFFUSION), but for what a step rounds off: 0.2 % of the amplitude, of one of a tenth of that time.
+    """
+    draws, side, molecules = np.random.default_rng(seed), 8.0, 20
     coefficient = 1 / (4 * DIFFUSION)  # of a focus whose radius is 1
     places, seconds = draws.uniform(0, side, (molecules, 2)), []
     for first in range(0, 160_000, 8000):

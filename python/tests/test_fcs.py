@@ -1,10 +1,12 @@
 """Correlations beyond a curve, against known light: a source that switches on and off, background, afterpulses, species."""
 
+from pathlib import Path
 from types import SimpleNamespace
 from typing import Any
 
 import numpy as np
 import pytest
+import simulated
 
 import ptulab
 from ptulab import fcs, fits
@@ -52,6 +54,17 @@ def height(curve: Curve) -> tuple[float, float]:
         segments=curve.segments[:, kept],
     )
     return fit.values["height"], fit.errors["height"]
+
+
+def test_diffusion_is_found_by_the_photons_of_molecules(tmp_path: Path, program: str) -> None:
+    """20 molecules go through a focus step by step, in ten files of 16,000 diffusion times, which the program correlates."""
+    plan, curves = ptulab.Plan().group("one", 1).group("two", 2).correlation("one", "two", until=8 * simulated.DIFFUSION), []
+    for seed in range(10):
+        table = ptulab.run(plan, simulated.diffusion(tmp_path / "plane.ptu", seed, step=simulated.DIFFUSION / 10), program=program).table("correlation")
+        curves.append(table.normalised())
+    fit = fits.fit_fcs(table.seconds, np.mean(curves, axis=0), segments=np.array(curves), dimensions=2, span=(1e-4, 8 * simulated.DIFFUSION))
+    for name, known in {"number": simulated.NUMBER, "diffusion": simulated.DIFFUSION, "baseline": 1 - 1 / 20}.items():
+        assert fit.values[name] == pytest.approx(known, rel=0.03) and abs(fit.values[name] - known) < 4 * fit.errors[name]
 
 
 def test_background_makes_amplitudes_too_small_and_is_taken_off() -> None:

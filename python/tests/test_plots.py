@@ -153,6 +153,8 @@ def test_correlations_with_a_fit(make_file: Callable[..., Path]) -> None:
     fit = fits.fit_fcs(np.asarray(curve.seconds), curve.values, curve.errors, dimensions=2)
     axes = plots.plot_correlation(curve, fit=fit)
     assert {one.get_text() for one in axes.get_legend().get_texts()} == {"fit", "mean of segments, standard error"}
+    plots.plot_correlation(curve, axes, label="once more")
+    assert {"mean of segments, standard error", "once more"} < {one.get_text() for one in axes.get_legend().get_texts()}
 
 
 def test_phasors_and_bursts() -> None:

@@ -190,13 +190,16 @@ class Info(Compared):
 
     def to_xarray(self) -> Any:
         """An ``xarray.Dataset`` of the inputs' ``traces`` over ``input`` and ``time``, and of T3 of their ``decays`` over ``input`` and
-        ``delay``, both in seconds where the header tells a tick. Raises ``MissingLibraryError`` without xarray."""
-        inputs = Axis("input", np.array([one.number for one in self.inputs], np.int64), None, counted="number")
+        ``delay``, up to the last with a photon, both in seconds where the header tells a tick. Raises ``MissingLibraryError``
+        without xarray."""
+        inputs = Axis("input", np.array([one.number for one in self.inputs], np.int64), None, counted="")
         traces = _stacked(self.bin_ticks, self.tick_seconds, "time", [one.trace for one in self.inputs])
         found = labelled({"traces": traces[0]}, [inputs, traces[1]], {}, {})
         if self.header.mode == "T2":
             return found
-        decays = _stacked(1, self.dtime_seconds, "delay", [one.decay for one in self.inputs if one.decay is not None])
+        each = [one.decay for one in self.inputs if one.decay is not None]
+        last = max((len(_shown_of_decay(decay)) for decay in each), default=0)
+        decays = _stacked(1, self.dtime_seconds, "delay", [decay[:last] for decay in each])
         return found.merge(labelled({"decays": decays[0]}, [inputs, decays[1]], {}, {}))
 
     def json(self) -> str:

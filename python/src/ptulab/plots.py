@@ -165,16 +165,18 @@ def plot_lifetimes(cube: Cube | Table, axes: Any = None, *, offset: float = 0.0,
     return plot_picture(means * factor, f"mean delay ({unit})", axes=axes, cmap="viridis", least=least, most=most)
 
 
-def plot_correlation(curve: Curve | Table, axes: Any = None, *, fit: Fit | None = None) -> Any:
-    """A normalised correlation over logarithmic delays, with its errors where they are known, and a fit over seconds."""
+def plot_correlation(curve: Curve | Table, axes: Any = None, *, fit: Fit | None = None, label: str | None = None) -> Any:
+    """A normalised correlation over logarithmic delays, with its errors where they are known, and a fit over seconds.
+
+    ``label``: what the legend calls it, where several are drawn on the same ``axes``.
+    """
     axes = _axes(axes)
     delays, unit = (curve.ticks.astype(np.float64), "ticks") if curve.seconds is None else (curve.seconds, "s")
     values = curve.normalised() if isinstance(curve, Table) else curve.values
     if isinstance(curve, Curve) and not np.isnan(curve.errors).all():
-        label = "mean of segments, standard error"
-        axes.errorbar(delays, values, curve.errors, fmt=".", markersize=3, linewidth=0.7, label=label)
+        axes.errorbar(delays, values, curve.errors, fmt=".", markersize=3, linewidth=0.7, label=label or "mean of segments, standard error")
     else:
-        axes.plot(delays, values, ".-", markersize=3, linewidth=0.7, label="correlation")
+        axes.plot(delays, values, ".-", markersize=3, linewidth=0.7, label=label or "correlation")
     if fit is not None:
         axes.plot(fit.axis, fit.curve, color="tab:red", label="fit")
     axes.axhline(1, color="grey", linewidth=0.6)

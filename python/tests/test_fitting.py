@@ -1,0 +1,150 @@
+"""What every fit does, exactly: straight models, whose best fit and errors are known in closed form, and the laws of counts."""
+
+from typing import Any
+
+import numpy as np
+import pytest
+
+import ptulab
+from ptulab import _fitting, fits
+from ptulab.antibunching import without_background
+
+AXIS = np.arange(1.0, 13.0)
+DRAWS = np.random.default_rng(3)
+
+
+def line(axis: Any, level: float, slope: float) -> Any:
+    return level + slope * axis
+
+
+def errors_of(spread: Any) -> Any:
+    """Of the level and the slope of a line through points with these standard deviations."""
+    columns = np.stack([np.ones(len(AXIS)), AXIS]) / spread
+    return np.sqrt(np.diagonal(np.linalg.inv(columns @ columns.T)))
+
+
+def told(fit: fits.Fit) -> list[float]:
+    return [fit.errors["level"], fit.errors["slope"]]
+
+
+def test_errors_of_counts_are_by_fishers_information() -> None:
+    counts = DRAWS.poisson(line(AXIS, 30.0, 5.0))
+    fit = fits.fit_model(line, AXIS, counts, {"level": 20.0, "slope": 4.0}, counts=True)
+    assert told(fit) == pytest.approx(errors_of(np.sqrt(fit.curve)), rel=1e-6)
+    assert fit.residuals == pytest.approx(_fitting.deviance(counts.astype(float), fit.curve))
+    assert fit.reduced == pytest.approx((fit.residuals**2).sum() / (_fitting.mean_deviance(fit.curve).sum() - 2))
+
+
+def test_errors_of_points_with_known_and_with_unknown_errors() -> None:
+    spread = np.linspace(0.5, 2.0, len(AXIS))
+    data = line(AXIS, 3.0, -0.5) + DRAWS.normal(0, spread)
+    known = fits.fit_model(line, AXIS, data, {"level": 1.0, "slope": 1.0}, errors=spread)
+    weights = np.stack([np.ones(len(AXIS)), AXIS], axis=1) / spread[:, None]
+    assert list(known.values.values()) == pytest.approx(np.linalg.lstsq(weights, data / spread, rcond=None)[0], rel=1e-6)
+    assert told(known) == pytest.approx(errors_of(spread), rel=1e-6)
+    assert known.reduced == pytest.approx((((data - known.curve) / spread) ** 2).sum() / 10)
+    alike = fits.fit_model(line, AXIS, data, {"level": 1.0, "slope": 1.0})
+    scatter = np.sqrt(((data - alike.curve) ** 2).sum() / 10)
+    assert told(alike) == pytest.approx(scatter * errors_of(np.ones(len(AXIS))), rel=1e-6) and alike.reduced == 1
+    assert alike.residuals == pytest.approx((data - alike.curve) / scatter)
+
+
+def test_errors_by_segments_are_what_each_of_them_moves() -> None:
+    """Of a level the mean of points, which count by the scatter of segments with that of their neighbours."""
+    parts = 5 + DRAWS.normal(0, np.linspace(1, 3, len(AXIS)), (6, len(AXIS)))
+    fit = fits.fit_model(lambda axis, level: level + 0 * axis, AXIS, parts.mean(axis=0), {"level": 4.0}, segments=parts)
+    squares = parts.var(axis=0, ddof=1) / 6
+    scale = np.array([squares[max(at - 4, 0) : at + 5].mean() for at in range(len(AXIS))])
+    levels = parts @ (1 / scale) / (1 / scale).sum()
+    assert fit.values["level"] == pytest.approx(levels.mean(), rel=1e-6)
+    assert fit.errors["level"] == pytest.approx(levels.std(ddof=1) / np.sqrt(6), rel=1e-6)
+    parts[0, 2] = np.nan  # a point that a segment lacks isn't fitted, and doesn't count for its neighbours
+    found = _fitting.errors_of_cells(parts.mean(axis=0), None, parts)
+    for at in (1, 3):
+        assert found[at] == pytest.approx(np.sqrt(np.delete(squares[: at + 5], 2).mean()))
+    assert np.isnan(found[2])
+
+
+def test_parameters_that_nothing_tells_apart_have_no_errors() -> None:
+    fit = fits.fit_model(lambda axis, one, other: one + other + 0 * axis, AXIS, np.arange(12.0), {"one": 1.0, "other": 2.0}, errors=np.ones(12))
+    assert all(np.isnan(error) for error in fit.errors.values()) and fit.values["one"] + fit.values["other"] == pytest.approx(5.5)
+
+
+def test_a_parameter_near_its_bound_has_no_error() -> None:
+    """Within a tenth of the error that it would have, here 0.5; the other's is as if it were held."""
+    for least, free in ((2.0, True), (2.94, True), (2.96, False)):
+        fit = fits.fit_model(lambda axis, level: level + 0 * axis, AXIS[:4], np.full(4, 3.0), {"level": 4.0}, errors=np.ones(4), bounds={"level": (least, 9.0)})
+        assert (fit.errors["level"] == pytest.approx(0.5)) if free else np.isnan(fit.errors["level"])
+    held = fits.fit_model(line, AXIS, -AXIS, {"level": 1.0, "slope": -1.0}, errors=np.ones(12), bounds={"level": (0.0, 9.0)})
+    assert np.isnan(held.errors["level"]) and held.errors["slope"] == pytest.approx(1 / np.linalg.norm(AXIS), rel=1e-6)
+
+
+def test_fits_together_have_the_error_of_all_points() -> None:
+    spreads, models = (np.full(12, 0.5), np.full(12, 2.0)), []
+    for spread in spreads:
+        models.append(fits.fit_model(line, AXIS, line(AXIS, 2.0, 1.0) + DRAWS.normal(0, spread), {"level": 1.0, "slope": 1.0}, errors=spread))
+    both = fits.fit_together(models, ["slope"])
+    columns = np.zeros((3, 24))
+    columns[0, :12], columns[1, 12:], columns[2] = 1, 1, np.tile(AXIS, 2)
+    columns /= np.concatenate(spreads)
+    errors = np.sqrt(np.diagonal(np.linalg.inv(columns @ columns.T)))
+    assert [both[0].errors["level"], both[1].errors["level"], both[1].errors["slope"]] == pytest.approx(errors, rel=1e-6)
+    data = np.concatenate([fit.data for fit in models]) / np.concatenate(spreads)
+    assert [both[0].values["level"], both[1].values["level"], both[0].values["slope"]] == pytest.approx(np.linalg.lstsq(columns.T, data, rcond=None)[0], rel=1e-5)
+
+
+def test_autocorrelations_are_means_of_products() -> None:
+    fit = fits.fit_model(line, AXIS, DRAWS.normal(0, 1, 12), {"level": 0.1, "slope": 0.1})
+    left = fit.residuals
+    each = [np.mean(left[: 12 - k] * left[k:]) / np.mean(left**2) for k in range(6)]
+    assert fit.autocorrelation == pytest.approx(each) and fit.autocorrelation[0] == 1
+
+
+# Laws of counts.
+
+
+def test_counts_over_what_is_expected_of_them() -> None:
+    """Where three times the curve is expected, with twice the variance: 5 counts where 6 are."""
+    law, curve = _fitting.poisson(np.array([5.0]), 3.0, 2.0), np.array([2.0])
+    assert law.residuals(curve) == pytest.approx([-np.sqrt(2 * (6 - 5 + 5 * np.log(5 / 6)) / 2)])
+    assert law.variances(curve) == pytest.approx([6 * 2 / 9]) and law.squares(curve) == pytest.approx(_fitting.mean_deviance(np.array([6.0])))
+
+
+def test_counts_over_a_counted_background() -> None:
+    """With the variance of what is taken for the background, and a deviance of both in the mean."""
+    law, curve, level = _fitting.poisson_over(np.array([9.0]), np.array([4.0]), 0.5), np.array([8.0]), np.array([4.0])
+    own, other = (float(_fitting.mean_deviance(one)[0]) for one in (curve, level))
+    assert law.variances(curve) == pytest.approx([8 + 0.25 * 4]) and law.squares(curve) == pytest.approx([(8 * own + 1 * other) / 9])
+    assert law.residuals(curve) == pytest.approx([np.sqrt(2 * (8 - 9 + 9 * np.log(9 / 8)))])
+
+
+@pytest.mark.parametrize("height", [0.01, 0.5, 3.0])
+def test_the_most_likely_background_has_no_slope(height: float) -> None:
+    """Of counts n over s + height * b and of m over b the likelihood rises by n / (s / height + b) - height + m / b - 1, which is 0."""
+    counts, background, signal = DRAWS.poisson(6, 50) + 0.0, DRAWS.poisson(4, 50) + 1.0, DRAWS.uniform(0, 20, 50)
+    best = _fitting.best_level(counts, signal, height, background)
+    assert height * counts / (signal + height * best) - height + background / best - 1 == pytest.approx(np.zeros(50), abs=1e-9)
+    none = _fitting.best_level(np.array([0.0, 0.0, 8.0]), np.array([0.0, 5.0, 1.0]), height, np.zeros(3))
+    assert none == pytest.approx([0, 0, max(8 / (1 + height) - 1 / height, 0)])
+
+
+@pytest.mark.parametrize(("mean", "wide"), [(40.0, 1), (12.0, 3), (3.0, 9), (0.5, 9)])
+def test_backgrounds_of_few_counts_are_those_of_their_neighbours(mean: float, wide: int) -> None:
+    """With so many bins as have some 25 counts, at most four on either side; at the ends with those that are there."""
+    level, side = np.arange(20.0), wide // 2
+    level *= mean / level.mean()
+    assert _fitting.smoothed(level) == pytest.approx([level[max(at - side, 0) : at + side + 1].mean() for at in range(20)])
+
+
+def test_g2_without_its_background() -> None:
+    """(0.5 - 1) / 0.64 from 1, with the errors of g2 and of the signal, which is counted twice in its square."""
+    value, error = without_background(0.5, 0.03, 0.8, 0.02)
+    assert value == pytest.approx(1 - 0.5 / 0.64) and error == pytest.approx(np.hypot(0.03 / 0.64, 2 * (0.5 / 0.64) * 0.02 / 0.8))
+    assert without_background(np.array([2.0]), np.array([0.0]), 1.0, 0.1)[1] == pytest.approx([0.2])
+
+
+def test_what_no_fit_begins_with_is_refused() -> None:
+    with pytest.raises(ptulab.FitError, match="2 points for 2 parameters"):
+        fits.fit_model(line, AXIS[:2], AXIS[:2], {"level": 1.0, "slope": 1.0})
+    with pytest.raises(ptulab.FitError, match="12 points for 0 parameters"):
+        fits.fit_model(line, AXIS, AXIS, {}, fixed={"level": 1.0, "slope": 1.0})
