@@ -70,11 +70,13 @@ def diffusion(path: Path, seed: int = 2, step: float = 25e-6) -> Path:
     return _t2(path, all_seconds, draws.integers(1, 3, len(all_seconds)), 1e-8)
 
 
-def emitter(path: Path, seed: int = 3) -> Path:
-    """One emitter, excited after 20 ns and shining after 5 ns in the mean, before two detectors."""
+def emitter(path: Path, seed: int = 3, dark: int = 0) -> Path:
+    """One emitter, excited after 20 ns and shining after 5 ns in the mean, before two detectors, which count so many in the dark:
+    g2 is 1 - (40,000 / (40,000 + dark))^2 * exp(-|t| / 4 ns)."""
     draws, many = np.random.default_rng(seed), 40_000
     seconds = np.cumsum(draws.exponential(20e-9, many) + draws.exponential(5e-9, many))
-    return _t2(path, seconds, draws.integers(1, 3, many), 1e-10)
+    inputs = draws.integers(1, 3, many + dark)
+    return _t2(path, np.append(seconds, draws.uniform(0, seconds[-1], dark)), inputs, 1e-10)
 
 
 def bursts(path: Path, seed: int = 4) -> Path:

@@ -10,6 +10,7 @@ import made
 import numpy as np
 import pytest
 import random_events
+import simulated
 from hypothesis import given, settings
 from hypothesis import strategies as st
 from scipy import stats
@@ -18,7 +19,7 @@ import ptulab
 from ptulab import antibunching
 from ptulab.events import events_of
 from ptulab.groups import Group
-from ptulab.antibunching import Coincidences, coincidences, start_stops
+from ptulab.antibunching import Coincidences, coincidences, fit_g2, start_stops
 
 GROUPS = st.sampled_from([(0,), (1,), (0, 1), (1, 2), (0, 1, 2)])
 
@@ -231,6 +232,21 @@ def test_the_error_of_a_ratio_is_its_scatter() -> None:
         ratios, errors = np.array([coincidences(one, 0, 1, **words).central_ratio() for one in events]).T
         assert np.sqrt((errors**2).mean()) == pytest.approx(ratios.std(), rel=0.1)
         assert ratios.mean() == pytest.approx(ratio_of_source(0.3, 0.1), abs=4 * ratios.std() / np.sqrt(300))
+
+
+def test_g2_of_an_emitter_and_the_dark_within_its_error(tmp_path: Path, program: str) -> None:
+    """The program pairs the photons of 20 emitters with a quarter as many counts in the dark: g2(0) is 1 - 0.8^2, or of the light alone 0."""
+    plan = ptulab.Plan().group("one", 1).group("two", 2).coincidence("one", "two", reach="60 ns", width="0.5 ns")
+    away, spreads = [], []
+    for seed in range(20):
+        table = ptulab.run(plan, simulated.emitter(tmp_path / "dark.ptu", seed, dark=10_000), program=program).table("coincidence")
+        fit = fit_g2(table)
+        away.append([fit.values["depth"] - 0.64, fit.values["lifetime"] - 4e-9, fit.values["centre"]])
+        spreads.append([fit.errors["depth"], fit.errors["lifetime"], fit.errors["centre"]])
+    parts = np.array(away) / np.array(spreads)
+    assert np.abs(parts).max() < 4 and np.abs(parts.mean(axis=0)).max() < 4 / np.sqrt(20)
+    light = fit_g2(table, fixed={"signal": 0.8}, bounds={"depth": (0.0, 2.0)})
+    assert abs(light.values["depth"] - 1) < 4 * light.errors["depth"] < 0.2
 
 
 @pytest.mark.parametrize("period", [1000, 1562.5])

@@ -1,12 +1,16 @@
 """Single molecules with FRET beside made truths: corrections and their errors, bleaching, and E that changes within bursts."""
 
 import re
+import subprocess
+import sys
 from collections.abc import Callable
 from dataclasses import replace
+from pathlib import Path
 from typing import Any
 
 import numpy as np
 import pytest
+from conftest import EXAMPLES
 from hypothesis import given, settings
 from hypothesis import strategies as st
 
@@ -14,7 +18,7 @@ import ptulab
 from ptulab import smfret
 from ptulab.bursts import BURST, and_gate, background, counted, find_bursts, fret, fused
 from ptulab.events import EVENT, Events, events_of
-from ptulab.groups import Group
+from ptulab.groups import Group, photons_of
 from ptulab.headers import Header
 
 SYNC = 100e-9
@@ -65,6 +69,21 @@ def test_e_and_s_of_four_populations_and_their_errors() -> None:
     assert np.abs(np.array(values)[0, 4:] - truth[4:]).max() < 0.02
     assert (np.abs(np.mean(values, axis=0) - truth) < 0.25 * told).all()
     assert np.sqrt(np.mean(parts**2)) == pytest.approx(1, abs=0.05) and (np.abs(parts - 1) < 0.1).all()
+
+
+def test_e_and_s_of_four_populations_by_their_photons(tmp_path: Path) -> None:
+    """Of a file of photons: bursts are found over a background that grows, bleached molecules left out, and all is corrected."""
+    subprocess.run([sys.executable, EXAMPLES / "make_fret.py", tmp_path / "fret.ptu"], check=True)
+    photons = photons_of(tmp_path / "fret.ptu")
+    found = fused(find_bursts(photons, background(photons, seconds=10), F=6, minimum=30))
+    each = counted(found, photons, (DONOR, ACCEPTOR, DIRECT), seconds=10)
+    raw, steady = fret(**each), smfret.alex_2cde(found, photons, EITHER, DIRECT) < 15
+    kinds = [steady & raw.select(E, S=(0.25, 0.85)) for E in ((0, 0.29), (0.29, 0.49), (0.49, 0.73), (0.73, 1))]
+    result = smfret.calibrate(**each, donor_only=raw.select(S=(0.9, 2)), acceptor_only=raw.select(S=(-1, 0.15)), populations=kinds)
+    for kind, known in zip(kinds, EFFICIENCIES):
+        means = result.mean(kind)
+        assert kind.sum() > 100 and means["E"][0] == pytest.approx(known, abs=0.02) and means["S"][0] == pytest.approx(0.5, abs=0.02)
+    assert result.corrections == pytest.approx(TRUTH, rel=0.05, abs=0.02)
 
 
 def test_a_background_is_taken_off_and_told() -> None:
