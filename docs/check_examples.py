@@ -22,7 +22,7 @@ big.ptu.gz and plan.toml, and the folder data with three such files. A block wit
 left out, and that is said. PROGRAM is the one that ./ptu of this tree runs by default. What differs is shown, and so is each link to a
 file or a title that isn't there, each name of a crate's file, as `ptu_cli/specs/Runs.antt`, that none has, each path of
 this tree, as `bench/run`, that isn't there, and each command in the prose, as `rt check --only`, that there isn't with these
-words (inline_commands.py says which are known), and each name of a package, of ptulab or of an option (inline_names.py); it ends with 1 if there is any. The scripts of examples/ want what ptulab
+words (inline_commands.py says which are known), and each name in the code of the prose (inline_names.py); it ends with 1 if there is any. The scripts of examples/ want what ptulab
 wants (python/debian-packages): call it by a Python that has it.
 """
 
@@ -40,7 +40,7 @@ from collections.abc import Iterator
 from typing import Any
 
 from inline_commands import wrong_commands
-from inline_names import wrong_words
+from inline_names import wrong_code
 
 ROOT = os.path.dirname(os.path.dirname(os.path.abspath(__file__)))
 SHOWN = 40  # lines of a difference
@@ -256,7 +256,7 @@ def main() -> None:
     results = [(page, *try_page(page, program)) for page in given or pages()]
     dead = [f"{page}: {target} leads nowhere" for page, _, _ in results for target in dead_links(page)]
     dead += [f"{page}: {fault}" for page, _, _ in results for fault in wrong_commands(page, read_or_nothing(os.path.join(ROOT, page)))]
-    dead += [f"{page}: {fault}" for page, _, _ in results for fault in wrong_words(page, read_or_nothing(os.path.join(ROOT, page)))]
+    dead += [f"{page}: {fault}" for page, _, _ in results for fault in wrong_code(page, read_or_nothing(os.path.join(ROOT, page)))]
     for page, tried, wrong in results:
         if tried:
             print(f"{page}: {tried} blocks tried, {wrong} differ")

@@ -2,9 +2,9 @@
 """Checks the figures that documents state against measures.toml: check_measures.py [--write]
 
 A figure is a number with a decimal point, with a per cent sign, or with one of the `units` of measures.toml after it, or a number
-in a word, as twelve, with one of its `things` after it. Words as twice, a third or a hundred aren't looked at. On the
-`pages` of measures.toml (patterns of names, but for those that are `apart`) each figure outside of blocks of code and made
-parts must be in one of these:
+in a word, as twelve, with one of its `things` after it; the others are looked at by check_numbers.py. On the `pages` of
+measures.toml (patterns of names, but for those that are `apart`) each figure outside of blocks of code and made parts must be in
+one of these:
 
 - measure.NAME: one number, or the version, that one or more pages state. It has a `value` and the day on which it was measured (`on`), or is
   `counted` here in the tree; with both, what is counted may differ by a tenth. `said` lists its places as PAGE: WORDS, where {}
@@ -168,7 +168,7 @@ def places(told: dict[str, Any]) -> Iterator[tuple[str, str, list[str] | None]]:
     """The places of figures: the page, the words, and the numbers, None where they aren't known on this machine."""
     for measure in told.get("measure", {}).values():
         for page, words in (place.split(": ", 1) for place in measure["said"]):
-            yield page, words, None if measure["value"] is None else [shown(measure["value"])]
+            yield page, words, None if measure.get("value") is None else [shown(measure["value"])]
     for one in told.get("told", {}).values():
         yield from ((one["page"], words, figures(words)) for words in one["words"])
 
@@ -189,19 +189,30 @@ def with_words_before(found: re.Match[str]) -> str:
     return found.string[: found.start()].rpartition("\n")[2][-30:] + found[0]
 
 
-def unmeasured(page: str, told: dict[str, Any]) -> Iterator[str]:
-    """Figures of a page that nothing in measures.toml has, and facts that the page hasn't."""
-    text = re.sub(r"^```.*?^```|^[^\n]*made by docs/.*?(?:<!--|#) end\b", "", read(page), flags=re.M | re.S)
+def blanks_may_break(words: str) -> re.Pattern[str]:
+    return re.compile(re.escape(words).replace(r"\ ", r"\s+"))
+
+
+def without_known(text: str, page: str, told: dict[str, Any]) -> str:
+    """A text of a page without made parts, and without what measures.toml has: measures, facts of the page, and constants."""
+    text = re.sub(r"^[^\n]*made by docs/.*?(?:<!--|#) end\b", "", text, flags=re.M | re.S)
     for whose, words, _ in places(told):
         text = pattern(words).sub(" ", text) if whose == page else text
     for fact in told.get("facts", {}).get(page, []):
-        without = re.sub(re.escape(fact).replace(r"\ ", r"\s+"), " ", text)
-        if without == text:
-            yield f"{page}: '{fact}', a fact of docs/measures.toml, isn't there"
-        text = without
+        text = blanks_may_break(fact).sub(" ", text)
     for one in told.get("constant", {}).values():
         for words in one["words"]:
-            text = re.sub(rf"(?<![\w.,^]){re.escape(words)}\b".replace(r"\ ", r"\s+"), " ", text)
+            text = re.sub(rf"(?<![\w.,^]){blanks_may_break(words).pattern}\b", " ", text)
+    return text
+
+
+def unmeasured(page: str, told: dict[str, Any]) -> Iterator[str]:
+    """Figures of a page that nothing in measures.toml has, and facts that the page hasn't."""
+    text = re.sub(r"^```.*?^```", "", read(page), flags=re.M | re.S)
+    for fact in told.get("facts", {}).get(page, []):
+        if not blanks_may_break(fact).search(text):
+            yield f"{page}: '{fact}', a fact of docs/measures.toml, isn't there"
+    text = without_known(text, page, told)
     text = re.sub(r"`[^`\n]*`|\]\([^)\n]*\)", " ", text)
     unit = rf"[- ](?:(?:million|thousand) )?(?:{'|'.join(told['units'])})\b| ?%"
     figure = rf"{NUMBER}(?:{unit})|\d[\d,]*\.\d+(?!\w|\.\d)|(?:{WORD}) (?:{'|'.join(told['things'])})\b"

@@ -9,7 +9,7 @@ A command is what begins with one of these, perhaps behind settings of variables
 - rt, where the kit is on this machine: a command that 'rt help' tells, with options that this or the kit's guide tells, crates
   of this tree, and functions of these, as bin::Bin::of. Elsewhere it isn't looked at.
 
-- dask COMMAND and snakemake, where they are on this machine: options that their own --help tells.
+- dask COMMAND and snakemake, where they are on this machine: a command that answers --help, with options that this tells.
 
 Words in capitals, '..', and what begins with a bracket stand for others. Of anything else nothing is known here.
 """
@@ -86,7 +86,10 @@ def help_of_other(*words: str) -> str | None:
 
 def fault_of_other(words: list[str]) -> str | None:
     """What is wrong with the words of a call of dask or snakemake, or None."""
-    told = help_of_other(*words[:1], *names(words[1:2] if words[0] == "dask" else []))
+    command = names(words[1:2] if words[0] == "dask" else [])
+    told = help_of_other(*words[:1], *command)
+    if told is None and command and help_of_other(words[0]) is not None:
+        return f"no command {command[0]}"
     return next((f"no option {option}" for option in options(words) if told is not None and lacks(told, option)), None)
 
 
@@ -157,7 +160,7 @@ def fault_of(words: list[str]) -> str | None:
 def inline(page: str, text: str) -> Iterator[str]:
     """The code in the prose of a page, and in its blocks that give a reason why they aren't tried."""
     if page.endswith(".1"):
-        yield from (" ".join(line.replace('"', "").replace("\\-", "-").split()) for line in re.findall(r"^\.B[IR]? (.*)$", text, flags=re.M))
+        yield from (" ".join(re.sub(r'"|\\\(dq', "", line).replace("\\-", "-").split()) for line in re.findall(r"^\.B[IR]? (.*)$", text, flags=re.M))
     for block in re.findall(r"^```sh \([^`\n]*\n(.*?)^```$", text, flags=re.M | re.S):
         yield from block.splitlines()
     yield from re.findall(r"`([^`\n]+)`", re.sub(r"^```.*?^```", "", text, flags=re.M | re.S))

@@ -83,5 +83,9 @@ def test_options_of_dask_and_snakemake(monkeypatch: pytest.MonkeyPatch) -> None:
     assert fault_of(["dask", "worker", "--nthreads", "8"]) is None and fault_of(["snakemake", "--unlock"]) is None
     assert fault_of(["dask", "worker", "--threads", "8"]) == "no option --threads"
     assert fault_of(["snakemake", "--unlok"]) == "no option --unlok"
+    told = {("dask",): "Usage: dask", ("dask", "worker"): "  --nthreads INTEGER"}
+    monkeypatch.setattr(inline_commands, "help_of_other", lambda *words: told.get(words))
+    assert fault_of(["dask", "worker", "HOST"]) is None and fault_of(["dask", "workr", "HOST"]) == "no command workr"
     monkeypatch.setattr(inline_commands, "help_of_other", lambda *words: None)
+    assert fault_of(["dask", "workr"]) is None
     assert fault_of(["snakemake", "--unlok"]) is None
