@@ -104,7 +104,7 @@ COUNTERS: dict[str, Callable[[], float | str | None]] = {
 
 
 def shown(value: float | str) -> str:
-    return f"{value:,}" if not isinstance(value, str) and abs(value) >= 10_000 else str(value)
+    return f"{value:,}" if not isinstance(value, str) and abs(value) >= 1000 else str(value)
 
 
 def pattern(words: str) -> re.Pattern[str]:

@@ -101,7 +101,7 @@ def test_tables_of_two_detectors(program: str, tmp_path: Path, make_file: Callab
         "correlation = [{ first = 1, second = 2, lags = 8, levels = 3 }]\n"
     )
     report = ptulab.run(plan, make_file("HydraHarp2T2", events, tick=1e-9), program=program)
-    assert labels(plots.plot(report.table("startstop"))) == ("delay from start to stop (ns)", "counts")
+    assert labels(plots.plot(report.table("startstop"))) == ("time from start to stop (ns)", "counts")
     assert labels(plots.plot(report.table("coincidence"))) == ("difference of times, second less first (ns)", "pairs a cell")
     fold = plots.plot(report.table("fold"))
     assert [one.get_text() for one in fold.get_xticklabels()] == ["1", "2", "1 2"]
@@ -127,7 +127,7 @@ def test_what_was_counted_here(make_file: Callable[..., Path]) -> None:
     assert "correlation" in plots.plot(correlation_by_segments(events, 0, 1, segments=1, levels=2)).get_legend().get_texts()[0].get_text()
     assert labels(plots.plot(coincidences(events, 0, 1, 20)))[0].endswith("(µs)")
     assert labels(plots.plot(coincidences(events.array, 0, 1, 20)))[0].endswith("(sync periods or ticks)")
-    assert labels(plots.plot(start_stops(events, 0, 1, 2, 20))) == ("delay from start to stop (µs)", "counts")
+    assert labels(plots.plot(start_stops(events, 0, 1, 2, 20))) == ("time from start to stop (µs)", "counts")
 
 
 def test_fits_are_drawn_over_their_data() -> None:

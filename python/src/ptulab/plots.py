@@ -204,7 +204,7 @@ def plot_g2(pairs: Coincidences | Table, axes: Any = None) -> Any:
 
 def plot_start_stops(stops: StartStops, axes: Any = None) -> Any:
     """Delays from a start to the stop that follows it, neighbours only."""
-    return _plot_steps(stops.ticks, stops.seconds, stops.counts, "delay from start to stop", "counts", _axes(axes))
+    return _plot_steps(stops.ticks, stops.seconds, stops.counts, "time from start to stop", "counts", _axes(axes))
 
 
 def _plot_steps(
@@ -229,7 +229,7 @@ def _trace(table: Table, axes: Any) -> Any:
 
 
 def _startstop(table: Table, axes: Any) -> Any:
-    return _plot_steps(table.ticks, table.seconds, table.counts, "delay from start to stop", "counts", axes)
+    return _plot_steps(table.ticks, table.seconds, table.counts, "time from start to stop", "counts", axes)
 
 
 def _correlation(table: Table, axes: Any) -> Any:
@@ -292,7 +292,7 @@ def plot_coloured(values: NDArray[Any], brightness: NDArray[Any], label: str, *,
 def plot_phasors(
     phasors: NDArray[np.complex128], axes: Any = None, *, bins: int = 200, corners: Sequence[complex] | None = None
 ) -> Any:
-    """How many pixels have which phasor, with the half circle of single exponentials, a colour bar, and the outline of a
+    """How many pixels have which phasor, with the semicircle of single exponentials, a colour bar, and the outline of a
     region with these ``corners``, as of ``pixels.inside``."""
     axes = _axes(axes)
     known = phasors[np.isfinite(phasors)]

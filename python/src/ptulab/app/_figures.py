@@ -22,7 +22,7 @@ Drawn = dict[str, Any]
 CELLS = 100  # of the plane of phasors, in a unit of g or s
 PER_SECOND = {"s": 1.0, "ms": 1e3, "µs": 1e6, "ns": 1e9, "ps": 1e12}
 FEW = 1000  # markers of a bit that are drawn each by itself
-MARKED = (0.25, 0.5, 1, 2, 4, 8, 16)  # nanoseconds on the half circle
+MARKED = (0.25, 0.5, 1, 2, 4, 8, 16)  # nanoseconds on the semicircle
 
 
 def curve(label: str, xs: NDArray[Any], ys: NDArray[Any], errors: NDArray[Any] | None = None, shape: str = "hv") -> Drawn:
@@ -96,7 +96,7 @@ def phasor_plane(points: NDArray[np.complex128], period: float, axis: NDArray[An
     counts = np.zeros((high - low, right - left), np.int64)
     np.add.at(counts, (np.floor(known.imag * CELLS).astype(int) - low, np.floor(known.real * CELLS).astype(int) - left), 1)
     marks = [(time, phasor_of_lifetime(time * 1e-9, 1 / period, float(axis[1] - axis[0]))) for time in MARKED if 0.005 * period < time * 1e-9 < period / 2]
-    told = f"How many of {len(known):,} pixels have which phasor. Decays of one lifetime lie on the half circle, where it is marked, and mixtures inside of it."
+    told = f"How many of {len(known):,} pixels have which phasor. Decays of one lifetime lie on the semicircle, on which lifetimes are marked, and mixtures inside it."
     return {"kind": "plane", "name": "phasors", "title": "Phasors of the pixels", "summary": told, "rows": high - low, "columns": right - left, "left": left, "low": low,
             "cells": CELLS, "counts": packed(counts), "marks": [{"label": f"{time:g} ns", "g": float(at.real), "s": float(at.imag)} for time, at in marks]}  # fmt: skip
 

@@ -54,7 +54,7 @@ export function found(name) {
 export async function lookAround() {
   if (looking || paused || stopped || files.every((file) => file.wrong || looks.has(file.name))) return;
   looking = true;
-  const progress = bar(byId("files-progress"), "How far the look in the background is"), halt = make("button", { type: "button", id: "files-stop", text: "Stop", "aria-label": "Stop looking at files", on: { click: () => {
+  const progress = bar(byId("files-progress"), "Progress of the look in the background"), halt = make("button", { type: "button", id: "files-stop", text: "Stop", "aria-label": "Stop looking at files", on: { click: () => {
     stopped = true;
     background?.abort();
     const on = make("button", { type: "button", id: "files-on", text: "Look at the others", on: { click: () => { stopped = false; byId("files-progress").replaceChildren(); lookAround(); } } });

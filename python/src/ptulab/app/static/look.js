@@ -12,7 +12,7 @@ export async function look(name, mine) {
   byId("look-title").textContent = name;
   byId("look-told").replaceChildren();
   byId("look-window").replaceChildren();
-  const progress = bar(byId("look-progress"), "How far the look is"), tell = teller(byId("look-said"));
+  const progress = bar(byId("look-progress"), "Progress of the look"), tell = teller(byId("look-said"));
   const heard = (/** @type {any} */ line) => { progress.heard(line); tell("Looks at the file", line.progress); };
   tell("Looks at the file");
   const halt = make("button", { type: "button", id: "look-stop", text: "Stop", "aria-label": "Stop the look", on: { click: () => {

@@ -315,7 +315,7 @@ function picture(figure, controls, id) {
   };
 }
 
-/** The plane of phasors with the half circle of single lifetimes.
+/** The plane of phasors with the semicircle of single lifetimes.
  * @param {Plane} figure */
 function plane(figure) {
   const counts = unpacked(figure.counts), { rows, columns, cells } = figure, circle = Array.from({ length: 181 }, (_, at) => at * Math.PI / 180);

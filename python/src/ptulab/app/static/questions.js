@@ -139,7 +139,7 @@ async function run(kind) {
   button("stop").disabled = false;
   if (begun.matches(":disabled")) button("stop").focus();
   tell("Runs");
-  const progress = bar(byId("run-progress"), "How far the run is");
+  const progress = bar(byId("run-progress"), "Progress of the run");
   try {
     const told = await alone(() => work(kind, asked, (line) => { progress.heard(line); if (line.words) tell(line.words, line.progress); }, mine.signal));
     say(byId("run-said"), "Done.");

@@ -136,7 +136,7 @@ function regions(told, list, before) {
     results.replaceChildren();
     say(said, many ? "Adds up the pixels .." : "No regions.");
     if (!many) return paint(null);
-    const progress = bar(place, "How far the sum of the pixels is");
+    const progress = bar(place, "Progress of the sum of the pixels");
     try {
       const found = await alone(() => work("region", { result: told.begun, regions: those.picture, phasors: those.plane, threshold }, progress.heard, mine.signal));
       if (mine.signal.aborted) return;
