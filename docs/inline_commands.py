@@ -11,6 +11,8 @@ A command is what begins with one of these, perhaps behind settings of variables
 
 - dask COMMAND and snakemake, where they are on this machine: a command that answers --help, with options that this tells.
 
+- ./NAME is a file of the tree, and any other program that is given options is on this machine.
+
 Words in capitals, '..', and what begins with a bracket stand for others. Of anything else nothing is known here.
 """
 
@@ -24,6 +26,7 @@ from collections.abc import Iterator
 
 from made_parts import ROOT, read
 
+ELSEWHERE = ("g++", "set", "sudo", "ulimit", "valgrind", "wsl")  # the shell's own, and programs that this machine may lack
 FOLDERS = ("bench/", "build/", "docs/", "examples/", "python/", ".ci/")
 
 
@@ -154,7 +157,10 @@ def fault_of(words: list[str]) -> str | None:
         return fault_of_script(first, rest, is_called)
     if first in ("dask", "snakemake"):
         return fault_of_other(words)
-    return fault_of_rt(rest) if first == "rt" else None
+    if first == "rt":
+        return fault_of_rt(rest)
+    is_there = (ROOT / first).exists() if first.startswith("./") else not options(rest) or first in ELSEWHERE or shutil.which(first)
+    return None if is_there or not re.fullmatch(r"[a-z./][\w./+-]*", first) else f"no program {first}"
 
 
 def inline(page: str, text: str) -> Iterator[str]:

@@ -31,6 +31,10 @@ from inline_commands import fault_of, simple_commands, wrong_commands
         ("ptulab plan FILE --csv FOLDER", "no option --csv"),
         ("ptulab picture FILE", "no command picture"),
         ("something else", None),
+        ("./put --help", "no program ./put"),
+        ("./install.sh", None),
+        ("rb try --test", "no program rb"),
+        ("valgrind --tool=callgrind", None),
     ],
 )
 def test_a_command_is_one_that_there_is(monkeypatch: pytest.MonkeyPatch, line: str, fault: str | None) -> None:
