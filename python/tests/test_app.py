@@ -238,20 +238,24 @@ def test_a_look_and_a_check_here(folder: Path, tmp_path: Path) -> None:
 
 
 def test_markers_are_ticks_or_a_curve_of_the_trace(tmp_path: Path) -> None:
-    """Up to 1,000 of a bit are ticks, more are counted in the bins of the trace; times have the unit that makes the file's length short."""
+    """Up to 1,000 of a bit are ticks, more are counted in bins, with an axis of their own; times have the unit that makes the file's length short."""
     marks = [(10 + at, made.Bits(2)) for at in range(1001)]
     path = made.write(tmp_path / "marks.ptu", "HydraHarp2T3", [(0, made.Bits(1)), (0, 0, 5), *marks, (1500, made.Bits(5)), (2047, 0, 7)], tick=1e-6)
     trace = done_here("look", path, tmp_path)["figures"][0]
     curves = {one["label"]: one for one in trace["curves"]}
-    assert (trace["xlabel"], trace["xunit"], trace["tick"], trace["ylabel"]) == ("time (ms)", "ms", 1e3, "photons or markers a second")
+    assert (trace["xlabel"], trace["xunit"], trace["tick"], trace["ylabel"], trace["right"]) == ("time (ms)", "ms", 1e3, "photons a second", "markers a second")
     assert (curves["marker bit 1"]["shape"], curves["marker bit 1"]["x"], curves["marker bit 3"]["x"]) == ("marks", [0, 1.5], [1.5])
-    width = curves["input 0"]["x"][1] / 1e3  # seconds of a bin
     many = curves["marker bit 2"]
-    assert many["shape"] == "hv" and many["x"] == curves["input 0"]["x"] and sum(many["y"]) * width == pytest.approx(1001) and max(many["y"]) * width == pytest.approx(2)
+    width = many["x"][1] / 1e3  # seconds of a bin
+    assert many["shape"] == "hv" and many["right"] and not curves["input 0"]["right"] and "axis is on the right" in trace["summary"]
+    assert width == pytest.approx(2e-6) and many["x"][-1] == pytest.approx(2.046) and sum(many["y"]) * width == pytest.approx(1001) and max(many["y"]) * width == pytest.approx(2)
     less = made.write(tmp_path / "less.ptu", "HydraHarp2T3", [(0, 0, 5), *marks[1:], (2047, 0, 7)])
     told = done_here("look", less, tmp_path)["figures"][0]
     assert [(one["label"], one["shape"]) for one in told["curves"]] == [("input 0", "hv"), ("marker bit 2", "marks")] and "tick below" in told["summary"]
-    assert (told["xunit"], told["ylabel"], told["tick"], told["drag"]) == ("sync periods", "photons in a bin", None, None)
+    assert (told["xunit"], told["ylabel"], told["tick"], told["drag"], told["right"]) == ("sync periods", "photons in a bin", None, None, None)
+    more = made.write(tmp_path / "more.ptu", "HydraHarp2T3", [(0, 0, 5), *marks, (2047, 0, 7)])
+    told = done_here("look", more, tmp_path)["figures"][0]
+    assert told["right"] == "markers in a bin" and "in bins of 1 sync period, whose axis" in told["summary"] and "bins of 2 sync periods." in told["summary"]
 
 
 def test_broken_files_get_a_line_and_end_nothing(served: Served, folder: Path) -> None:
@@ -655,6 +659,20 @@ def test_the_notebook_of_many_files_prints_the_same(folder: Path, tmp_path: Path
     assert [cell["id"] for cell in json.loads((tmp_path / "many.ipynb").read_text())["cells"]] == ["title", "analysis-1"]
 
 
+def test_the_plot_of_a_notebook_leaves_columns_of_text_out(monkeypatch: pytest.MonkeyPatch) -> None:
+    """As the file of each burst: what comes next is the axis."""
+    plt = pytest.importorskip("matplotlib.pyplot", reason="python3-matplotlib isn't on this machine")
+    from ptulab.app._more import PLOT
+
+    monkeypatch.setattr(plt, "show", lambda: None)
+    plt.figure()
+    exec(PLOT, {"curves": {"bursts": {"file": ["a.ptu", "b.ptu"], "start": [1.0, 2.0], "E": np.array([0.3, 0.7]), "S": np.array([0.5, 0.6])}}})  # pylint: disable=exec-used
+    axes = plt.gca()
+    lines = [(str(line.get_label()), line.get_xdata().tolist(), line.get_ydata().tolist()) for line in axes.lines]
+    assert (axes.get_xlabel(), lines) == ("start", [("E", [1, 2], [0.3, 0.7]), ("S", [1, 2], [0.5, 0.6])])
+    plt.close()
+
+
 def test_a_session_keeps_regions_thresholds_and_what_was_held(served: Served, folder: Path) -> None:
     """And refuses what is none, from a page as from a session that someone else wrote."""
     held = {"terms": 1, "fit": {"background": [2.0, True]}}
@@ -728,9 +746,23 @@ def test_what_is_wrong_with_a_full_plan_is_told_in_no_time(plan: str, line: int,
     from ptulab.app._groups import looked_over
 
     begun_at = time.process_time()
-    findings = looked_over(plan)["findings"]
+    told = looked_over(plan)
     assert time.process_time() - begun_at < 1
+    findings = told["findings"]
     assert len(findings) <= 100 and findings[0]["line"] == line and re.search(words, findings[0]["text"])
+    assert told["more"] == (len(findings) == 100)
+
+
+def test_what_is_refused_is_told_before_a_hundred_warnings() -> None:
+    """The first hundred of what is wrong, and that there is more."""
+    from ptulab._plan_rules import Finding
+    from ptulab.app._groups import told
+
+    warnings = [Finding(0, number, f"trace {number}", "bins", "has no photons", refused=False) for number in range(1, 100)]
+    refused = Finding(0, 0, "file", "", "is refused")
+    for many in (99, 100):
+        found = told([*warnings, *warnings[: many - 99], refused], "")
+        assert [one["refused"] for one in found["findings"]] == [True, *[False] * 99] and found["more"] == (many == 100)
 
 
 # ## Two windows, many requests, and the end

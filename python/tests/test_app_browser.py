@@ -131,6 +131,12 @@ def test_a_window_of_microseconds_over_ticks_of_markers(window: Window) -> None:
     window.dragging("look-trace")
     title, marks = window.js("const plot = document.getElementById('figure-look-trace-plot'); return [plot.layout.xaxis.title.text, plot.data.filter((one) => one.yaxis === 'y2').map((one) => [one.name, one.x.length, one.text[0]])]")
     assert title == "time (µs)" and marks == [["marker bit 1", 16, "marker bit 1: 5 µs"], ["marker bit 2", 16, "marker bit 2: 21 µs"], ["marker bit 3", 1, "marker bit 3: 0 µs"]]
+    captions = window.js("return [...document.querySelectorAll('#figure-look-trace caption')].map((one) => one.textContent)")
+    assert captions[-3:] == [f"marker bit {bit}: every value" for bit in (1, 2, 3)]
+    for keys, said in ((["Home", "PageUp"], "marker bit 3: 0 µs"), (["PageUp", "End", "PageUp"], "marker bit 1: 380 µs"), (["Home"], "marker bit 1: 5 µs")):
+        for key in keys:
+            window.js("document.getElementById('figure-look-trace-plot').dispatchEvent(new KeyboardEvent('keydown', {key: arguments[0]}))", key)
+        assert window.text("#figure-look-trace .said") == said
     lasts = window.js("return document.getElementById('figure-look-trace-plot')._fullLayout.xaxis.range")
     window.plot("look-trace", (0.25, 0.5), (0.4, 0.5), (0.5, 0.5))
     window.until(lambda: float(window.js("return document.getElementById('setting-to_seconds').value")) > 0, "a window")
@@ -139,6 +145,9 @@ def test_a_window_of_microseconds_over_ticks_of_markers(window: Window) -> None:
     assert [1e6 * begin, 1e6 * end] == pytest.approx([lasts[0] + part * width for part in (0.25, 0.5)], abs=0.01 * width)
     band = window.js("const [band] = document.getElementById('figure-look-trace-plot').layout.shapes; return [band.x0, band.x1]")
     assert band == pytest.approx([1e6 * begin, 1e6 * end]) and re.search(r"only \S+ µs to \S+ µs", window.text("#look-window"))
+    drawn = "return [...document.querySelectorAll('#figure-look-trace-plot .scatterlayer .trace')].filter((one) => one.querySelectorAll('.point').length).map((one) => [...one.querySelectorAll('.point')].map((point) => getComputedStyle(point).opacity))"
+    assert [set(ticks) for ticks in window.js(drawn)] == [{"1"}] * 3  # those outside of the window too
+    assert not window.js("return document.querySelectorAll('#figure-look-trace-plot .modebar-btn[data-val=select], #figure-look-trace-plot .modebar-btn[data-val=lasso]').length")
     window.run()
     assert f"part_of(file, {begin!r}, {end!r})" in window.text("#script")
 

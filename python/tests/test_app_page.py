@@ -9,7 +9,7 @@ import made
 import numpy as np
 import pytest
 import simulated
-from test_app import Served, begun, gone
+from test_app import Served, begun, gone, jobs_of
 from test_app_browser import FAULTS
 from window import BROWSER, DRIVER, Window, browser
 
@@ -26,9 +26,9 @@ pytestmark = pytest.mark.skipif(not (BROWSER and DRIVER), reason="chromium and i
 
 @pytest.fixture(scope="module")
 def page(program: str, tmp_path_factory: pytest.TempPathFactory) -> Iterator[Window]:
-    """A browser, and the server of a folder with a scan, a dye, and an emitter."""
+    """A browser, and the server of a folder with a scan, a dye, a pulse, and an emitter."""
     folder, saved = tmp_path_factory.mktemp("page"), tmp_path_factory.mktemp("saved")
-    for name in ("scan", "dye", "emitter"):
+    for name in ("scan", "dye", "pulse", "emitter"):
         getattr(simulated, name)(folder / f"{name}.ptu")
     driver = browser(saved)
     served = Served(folder, tmp_path_factory.mktemp("work") / "results", program)
@@ -113,22 +113,6 @@ def test_a_plan_is_shown_and_typed_in_times_and_lengths(window: Window) -> None:
     window.until(lambda: f"\ndwidth = {width}\n" in window.js(PLAN) and value(window, "length-cube-1-dwidth").startswith(f"{width * 50 / (1000 if width >= 20 else 1):g}"), "the width again")
     window.click("#redo")
     window.until(lambda: "\ndwidth = 4\n" in window.js(PLAN) and value(window, "length-cube-1-dwidth") == "200 ps")
-
-
-def test_a_short_trace_is_in_microseconds(window: Window) -> None:
-    """A window that is dragged over it stands in the settings in seconds, and lies where it was dragged."""
-    window.choose("scan.ptu", "decay")
-    window.until(lambda: window.js("return document.getElementById('figure-look-trace-plot')?.dataset.drawn") == "yes")
-    label, most = window.js("const plot = document.getElementById('figure-look-trace-plot'); return [plot.layout.xaxis.title.text, plot.data[0].x.at(-1)]")
-    assert label in ("time (ms)", "time (\u00b5s)")
-    many = {"m": 1e3, "\u00b5": 1e6}[label[6]]
-    window.dragging("look-trace")
-    window.plot("look-trace", (0.25, 0.5), (0.4, 0.5), (0.5, 0.5))
-    window.until(lambda: float(value(window, "setting-to_seconds")) > 0, "a window")
-    ends = [many * float(value(window, f"setting-{key}")) for key in ("from_seconds", "to_seconds")]
-    assert 0.15 * most < ends[0] < 0.35 * most < ends[1] < 0.6 * most
-    band = window.js("return document.getElementById('figure-look-trace-plot').layout.shapes[0]")
-    assert [band["x0"], band["x1"]] == pytest.approx(ends)
 
 
 def test_the_times_of_a_plan_by_their_lines() -> None:
@@ -257,15 +241,32 @@ def test_what_was_held_and_ticked_comes_back(window: Window) -> None:
     assert window.js(ticked) == every and window.text("#undo-said") == "Taken back: All ticks were taken away."
 
 
+def test_a_model_without_a_second_file_forgets_what_was_held_of_it(window: Window) -> None:
+    """The shift of a pulse that is none any more: the next run is one of the tail, as if nothing had been held."""
+    window.choose("scan.ptu", "decay")
+    free = window.run()
+    typed(window, "second", "pulse.ptu")
+    window.run()
+    window.js("document.getElementById('hold-shift').checked = true")
+    window.run("#fit-again")
+    assert window.js("return document.getElementById('hold-shift').checked")
+    typed(window, "second", "")
+    assert window.run() == free
+    window.click("#undo")
+    window.until(lambda: window.text("#numbers") != free, "the fit with the pulse")
+    assert window.run() == free
+
+
 def test_checks_and_regions_are_stopped(window: Window) -> None:
-    """A check by its button, a region with the result that it is of."""
+    """A check by its button, which gives the focus to Stop and gets it back; a region with the result that it is of."""
     window.choose("scan.ptu", "image")
-    window.click("#check")
+    window.js("document.getElementById('plan').open = true; const one = document.getElementById('check'); one.focus(); one.click()")
     process = begun(window.served)
     window.until(lambda: window.js("return document.querySelector('.halt') && document.getElementById('check').disabled"))
+    assert window.js("return document.activeElement.className") == "halt"
     window.click(".halt")
     window.until(lambda: "Stopped." in window.text("#findings") and not window.js("return document.querySelector('.halt') || document.getElementById('check').disabled"), "no check")
-    assert gone(process)
+    assert gone(process) and window.js(FOCUS) == "check"
     window.run()
     window.click("#add-region")
     process = begun(window.served)
@@ -292,6 +293,48 @@ def test_the_folder_is_read_again(window: Window) -> None:
             window.js("document.getElementById('files-again-said').textContent = ''")
     finally:
         new.unlink()
+    window.click("#files-again")
+    window.until(lambda: not window.text("#files button[data-name='new.ptu']"), "no such file")
+
+
+HELD = """window.usual = window.fetch; window.fetch = async (name, asked) => {
+  const answer = await window.usual(name, asked);
+  if (name !== "/api/look") return answer;
+  asked.signal.throwIfAborted();
+  await new Promise((done, fail) => { window.letOn = done; asked.signal.addEventListener("abort", fail); });
+  return answer;
+}"""  # answers to looks wait, till the page lets one on
+
+
+def test_a_look_under_way_at_a_file_that_changes_is_done_again(window: Window) -> None:
+    """In the background, where it is ended, and by a click: what is found of the file as it was isn't kept."""
+    new = window.served.folder / "new.ptu"
+
+    def written(many: int) -> None:
+        made.write(new, "HydraHarp2T2", [(number, 1) for number in range(1, many + 1)], tick=1e-9)
+        window.click("#files-again")
+        says(window, "files-again-said", "1 file is new or changed.")
+        window.js("document.getElementById('files-again-said').textContent = ''")
+
+    try:
+        window.until(lambda: all(window.text(f"#files button[data-name='{name}.ptu']").endswith("whole") for name in ("scan", "dye", "emitter", "pulse")), "all looks")
+        written(3)
+        process = begun(window.served)
+        written(5)
+        assert gone(process)
+        seen_of(window, "new.ptu", "5 photons")
+        new.unlink()
+        window.click("#files-again")
+        window.until(lambda: not window.text("#files button[data-name='new.ptu']"), "no such file")
+        window.js(HELD)
+        written(4)
+        window.js("window.letOn = null; document.querySelector(\"#files button[data-name='new.ptu']\").click()")
+        window.until(lambda: window.js("return window.letOn !== null") and jobs_of(window.served).process is None, "an answer")
+        written(6)
+        window.js("window.fetch = window.usual; window.letOn()")
+        seen_of(window, "new.ptu", "6 photons")
+    finally:
+        new.unlink(missing_ok=True)
     window.click("#files-again")
     window.until(lambda: not window.text("#files button[data-name='new.ptu']"), "no such file")
 
@@ -323,6 +366,13 @@ def test_regions_are_typed_in_micrometres_and_come_back(window: Window) -> None:
 
 
 # ## For people
+
+
+def test_more_than_a_hundred_findings_are_said_to_be_more(window: Window) -> None:
+    window.choose("scan.ptu", "decay")
+    for many, last in ((100, "line 300: "), (101, "There is more: these are the first 100.")):
+        typed(window, "text", "[[trace]]\nwidth = 1\nbins = 0\n" * many)
+        window.until(lambda: window.js("return document.querySelector('#findings li:nth-child(100)') && document.querySelector('#findings li:last-child').textContent.startsWith(arguments[0])", last), last)
 
 
 def test_progress_is_said_now_and_then(window: Window) -> None:
@@ -379,7 +429,7 @@ def test_rules_that_axe_checks_over_each_view(dark: bool, width: int, window: Wi
 
 
 def test_phasors_are_calibrated_by_a_dye(window: Window, tmp_path: Path) -> None:
-    """Both halves of the scan lie where their lifetimes are on the half circle, which the rise of the decay tells only nearly; so do its regions."""
+    """Both halves of the scan lie where their lifetimes are on the semicircle, which the rise of the decay tells only nearly; so do its regions."""
     wanted = [complex(phasor_of_lifetime(lifetime, 1 / 50e-9, 8 * 50e-12)) for lifetime in (simulated.SHORT, simulated.LONG)]
 
     def clouds() -> list[complex]:

@@ -2,6 +2,7 @@
 
 import json
 import math
+import tracemalloc
 from collections.abc import Callable
 from pathlib import Path
 from typing import Any
@@ -15,7 +16,7 @@ from conftest import EXAMPLES
 from ptulab import first_look
 from ptulab.__main__ import main
 from ptulab._layouts import MARKER, WRAP, layout_of
-from ptulab._looks import look
+from ptulab._looks import BITS, look
 from ptulab._words import words_of
 from ptulab.first_look import sparkline
 
@@ -159,7 +160,37 @@ def test_a_plan_is_made_of_what_the_look_counted(is_late: bool, record_type: str
     assert (seen.head.late > 0) == is_late and known.late == wanted.late == seen.head.late
     for name in ("inputs", "bits", "deepest", "first", "last"):
         assert getattr(known, name) == getattr(wanted, name), name
-    assert all(np.array_equal(np.asarray(one), np.asarray(other)) for one, other in zip(known.marks, wanted.marks)) and len(known.marks[0]) > 50
+    assert known.marks.counts == wanted.marks.counts and min(known.marks.counts.values()) > 30
+    assert known.marks.width == wanted.marks.width and np.array_equal(known.marks.trace, wanted.marks.trace)
+    assert all(np.array_equal(known.marks.times(bit), wanted.marks.times(bit)) for bit in BITS)
+
+
+def test_late_events_of_a_file_that_ends_within_a_record(make_file: MakeFile) -> None:
+    """What a plan has to know is that of the whole records; a fault before the end is told all the same."""
+    path = make_file("HydraHarp2T3", [(5, 1, 7), (9, made.Bits(2)), (8, 1, 3), (20, 1, 9), (30, made.Bits(2))], tick=1e-7)
+    whole = look(path)
+    path.write_bytes(path.read_bytes() + b"ab")
+    seen, known = first_look.look_at(path)
+    assert seen.is_cut and seen.head.late == known.late == 1 and known.marks.times(2).tolist() == [9, 30] == whole.marks.times(2).tolist()
+    assert (known.inputs, known.bits, known.first, known.last, known.deepest) == (whole.inputs, whole.bits, whole.first, whole.last, whole.deepest)
+    with pytest.raises(ptulab.errors.BadFileError, match="2 bytes of a record"):
+        look(path)
+    made.write_words(path, "HydraHarp2T2", [0xFFFFFFFF] * 5000)
+    with pytest.raises(ptulab.errors.BadFileError):
+        look(path, partial=True)
+
+
+def test_a_look_at_markers_alone_takes_little_memory(tmp_path: Path) -> None:
+    """Eight million of them; their times alone would take 64 MiB, and a look held them twice."""
+    piece = np.append(made.event_word("HydraHarp2T3", 0, made.Bits(15)) + np.arange(1023), made.wrap_word("HydraHarp2T3")).astype("<u4")
+    path = tmp_path / "markers.ptu"
+    path.write_bytes(made.header("HydraHarp2T3", announced=1 << 23, tick=1e-7) + np.tile(piece, 1 << 13).tobytes())
+    tracemalloc.start()
+    _, known = first_look.look_at(path)
+    peak = tracemalloc.get_traced_memory()[1]
+    tracemalloc.stop()
+    assert known.bits == dict.fromkeys(BITS, 1023 << 13) and known.marks.trace.sum(axis=1).tolist() == [1023 << 13] * 4
+    assert peak < 100e6
 
 
 def test_inputs_that_no_sample_meets_are_counted(make_file: MakeFile, monkeypatch: pytest.MonkeyPatch) -> None:

@@ -11,7 +11,7 @@ from conftest import EXAMPLES
 from made import Bits
 from ptulab._documents import read_plan
 from ptulab.errors import BadFileError
-from ptulab._looks import look
+from ptulab._looks import BINS, BITS, KEPT, Marks, look
 from ptulab.plans import check_plan, plan_for
 from ptulab.program import run
 
@@ -81,7 +81,7 @@ def test_headers_of_odd_seconds(make_file: Callable[..., Path], proposed: Any, n
 def test_a_deep_file_of_great_pictures_has_few_bins_a_pixel(make_file: Callable[..., Path], proposed: Any) -> None:
     _, report = proposed(make_file(T3, scan(1), tick=SYNC, resolution=2e-12, **(SCAN | {"ImgHdr_PixX": 2048, "ImgHdr_PixY": 2048})))
     cube = report.table("cube").settings
-    assert cube["dbins"] == 16 and cube["dbins"] * cube["dwidth"] >= 25000
+    assert cube["dbins"] == 16 and 25000 - cube["dwidth"] < cube["dbins"] * cube["dwidth"] <= 25000
 
 
 def test_the_plan_of_a_file_of_lifetimes_correlates_it(make_file: Callable[..., Path], proposed: Any) -> None:
@@ -125,15 +125,38 @@ def test_a_look_at_a_file(make_file: Callable[..., Path], monkeypatch: pytest.Mo
     seen = look(make_file(T3, [*scan(10), (5, 3, 99), (900, 3, 98)]))
     assert seen.inputs == {0: 5, 3: 2} and seen.bits == {1: 2, 2: 2, 3: 1}
     assert (seen.first, seen.last, seen.length, seen.late, seen.deepest) == (200, 900, 700, 1, 98)
-    assert seen.marks[0].tolist() == [200, 240, 290, 330] and seen.marks[1].tolist() == [5, 2, 1, 2]
+    assert [seen.marks.times(bit).tolist() for bit in BITS] == [[200, 290], [240, 330], [200], []]
     assert seen.periods_of_line(1, 2) == 40 and seen.periods_of_line(1, 1) == 90 and seen.periods_of_line(1, 4) is None
 
 
 def test_lines_without_an_end_are_left_out() -> None:
     seen = look(EXAMPLES / "scan.ptu")
     assert seen.periods_of_line(1, 3) == 300 * 64
-    seen.marks = (np.array([0, 100, 140]), np.array([1, 1, 2], dtype=np.uint8))
+    seen.marks = Marks()
+    seen.marks.take(np.array([0, 100, 140]), np.array([1, 1, 2], dtype=np.uint8))
     assert seen.periods_of_line(1, 2) == 40
+
+
+def test_markers_are_kept_in_little_memory() -> None:
+    """Of each bit the first times, and how many come when in all; some of the pieces have no marker."""
+    draws, marks = np.random.default_rng(2), Marks()
+    times, bits = np.cumsum(draws.integers(0, 90, 600_000)), draws.choice(np.array([1, 2, 3, 8], np.uint8), 600_000)
+    for begin in range(0, 600_000, 50_000):
+        marks.take(times[begin : begin + 50_000], bits[begin : begin + 50_000])
+        marks.take(times[:0], bits[:0])
+    assert marks.width * BINS // 2 <= times[-1] < marks.width * BINS
+    for bit in BITS:
+        some = times[bits & (1 << (bit - 1)) != 0]
+        assert marks.counts[bit] == len(some) and marks.trace[bit - 1].tolist() == np.bincount(some // marks.width, minlength=BINS).tolist()
+        assert marks.times(bit).tolist() == some[:KEPT].tolist()
+    assert marks.counts[1] > 2 * KEPT and marks.counts[3] == 0
+
+
+def test_bins_of_pixels_lie_within_the_sync_period(make_file: Callable[..., Path], proposed: Any) -> None:
+    """The period has 1,562.5, 255, 100 or 62.5 ticks; less than a bin of it is left over."""
+    for resolution, bins in ((32e-12, (13, 120)), (SYNC / 255, (2, 127)), (SYNC / 100, (1, 100)), (8e-10, (1, 62))):
+        _, report = proposed(make_file(T3, scan(1), tick=SYNC, resolution=resolution, **SCAN))
+        assert tuple(report.table("cube").settings[key] for key in ("dwidth", "dbins")) == bins
 
 
 GROUP = "group = [{ inputs = [0] }]\n"

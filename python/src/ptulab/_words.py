@@ -11,22 +11,22 @@ import numpy as np
 from numpy.typing import NDArray
 
 from ._layouts import MARKER, RESERVED, WRAP, Layout, Words, layout_of
-from ._looks import BITS
+from ._looks import Marks
 from .headers import Header
 
-PIECE = 1 << 20  # words that are looked at together
-SAMPLE = 1 << 14  # words of each piece in which inputs are looked for, where not all are
+PIECE = 1 << 18  # words that are looked at together
+SAMPLE = 1 << 12  # words of each piece in which inputs are looked for, where not all are
 GREATEST = 1 << 62  # that wraps may add up to: beyond that the program refuses the file
 WORKERS = 4  # threads, at most
 BATCH = 4 * WORKERS  # pieces
 
-Marks = tuple[NDArray[np.int64], NDArray[np.uint8]]
+Found = tuple[NDArray[np.int64], NDArray[np.uint8]]  # times and bits of markers
 
 
 @dataclass
 class Told:
     """What words tell: the inputs that were met, how often each marker bit occurs, a time that all events come before, and
-    the time and bits of each marker."""
+    the markers."""
 
     inputs: list[int]
     markers: dict[int, int]
@@ -40,12 +40,11 @@ def workers() -> int:
 
 
 def words_of(path: str, header: Header, progress: Callable[[int], None], sample: int = SAMPLE) -> Told:
-    """Looks at all words for markers and wraps, in the memory of a piece and of the markers; at ``sample`` words of each piece
-    for inputs. ``progress`` is called with the bytes that were looked at."""
-    layout, met, base = layout_of(header.record_type), np.zeros(256, np.int64), 0
-    parts: list[Marks] = []
+    """Looks at all words for markers and wraps, in the memory of some pieces; at ``sample`` words of each piece for inputs.
+    ``progress`` is called with the bytes that were looked at."""
+    layout, met, base, marks = layout_of(header.record_type), np.zeros(256, np.int64), 0, Marks()
 
-    def piece(at: int) -> tuple[int, NDArray[np.int64], Marks, int]:
+    def piece(at: int) -> tuple[int, NDArray[np.int64], Found, int]:
         words = np.fromfile(path, "<u4", min(PIECE, header.records - at), offset=header.length_bytes + 4 * at)
         inputs = np.bincount(layout.read(words[:sample]), minlength=256)
         return at + len(words), inputs, *_specials(words[np.flatnonzero(words >= layout.special)], layout)
@@ -54,14 +53,11 @@ def words_of(path: str, header: Header, progress: Callable[[int], None], sample:
         for some in _batches(range(0, header.records, PIECE)):
             for end, inputs, (times, bits), wraps in pool.map(piece, some):
                 met += inputs
-                parts.append((times + base, bits))
+                marks.take(times + base, bits)
                 base = min(base + wraps, GREATEST)
                 progress(header.length_bytes + 4 * end)
-    marks = tuple(np.concatenate(some) for some in zip(*parts)) if parts else (np.zeros(0, np.int64), np.zeros(0, np.uint8))
-    values = np.bincount(marks[1], minlength=16)
-    markers = {bit: int(sum(values[value] for value in range(16) if value >> (bit - 1) & 1)) for bit in BITS}
     inputs_met = [number for number in range(RESERVED) if met[number]]
-    return Told(inputs_met, {bit: count for bit, count in markers.items() if count}, base + layout.field + 1, (marks[0], marks[1]))
+    return Told(inputs_met, {bit: count for bit, count in marks.counts.items() if count}, base + layout.field + 1, marks)
 
 
 def _batches(places: range) -> Iterator[range]:
@@ -69,7 +65,7 @@ def _batches(places: range) -> Iterator[range]:
     yield from (places[at : at + BATCH] for at in range(0, len(places), BATCH))
 
 
-def _specials(words: Words, layout: Layout) -> tuple[Marks, int]:
+def _specials(words: Words, layout: Layout) -> tuple[Found, int]:
     """Of words among which all markers and wraps are: the markers' times after the first of them, their bits, and the sum of
     the wraps."""
     meanings = layout.read(words)

@@ -278,7 +278,7 @@ def look_at(path: PathLike, *, program: PathLike | None = None, progress: Progre
 def _look_of(seen: Info, told: Told) -> Look:
     """What a plan has to know, of the same counts where no event is late."""
     if seen.head.late:
-        return look(seen.path) if not seen.header.left_over_bytes else Look(seen.header)
+        return look(seen.path, partial=True)
     decays = [_shown_of_decay(one.decay) for one in seen.inputs if one.decay is not None]
     deepest = max((len(decay) - 1 for decay in decays), default=0)
     photons = {one.number: one.photons for one in seen.inputs}

@@ -98,11 +98,15 @@ def _histograms(plan: Plan, seen: Look) -> Plan:
     return plan
 
 
-def _depth(seen: Look) -> int:
-    """Ticks of a sync period, or up to the greatest dtime where that is later."""
+def _depth(seen: Look, whole: bool = False) -> int:
+    """Ticks of a sync period, or up to the greatest dtime where that is later; of a period with ``whole`` those that lie wholly in it."""
     sync, tick = seen.header.global_seconds, seen.header.resolution_seconds
     told = sync / tick if sync and tick and sync > 0 and tick > 0 else 0.0
-    return max(seen.deepest + 1, min(32768, math.ceil(told)) if math.isfinite(told) else 1)
+    told = min(told, 32768.0) if math.isfinite(told) else 0.0
+    told = round(told) if abs(told - round(told)) < 1e-6 else told
+    if seen.deepest >= math.ceil(told):
+        return seen.deepest + 1
+    return max(1, math.floor(told)) if whole else math.ceil(told)
 
 
 # ## Scans
@@ -156,10 +160,12 @@ def _said_of_pixels(seen: Look, dwell: float, source: str, width: int) -> str:
 
 
 def bins_of_pixel(seen: Look, pixels: int) -> dict[str, int]:
-    """Bins of the dtime, as fine as a cube has room for."""
-    depth = _depth(seen)
-    width = math.ceil(depth / min(DEPTH, BINS_OF_CUBE // pixels))
-    return {"dwidth": width, "dbins": math.ceil(depth / width)}
+    """Bins of the dtime, as fine as a cube has room for. All of them are whole, since one that is only partly within the sync
+    period has too few photons for a fit; less than a bin is left over."""
+    depth, most = _depth(seen, whole=True), min(DEPTH, BINS_OF_CUBE // pixels)
+    widths = max(1, depth // most), math.ceil(depth / most)
+    width = max(widths, key=lambda width: width * min(most, depth // width))
+    return {"dwidth": width, "dbins": min(most, depth // width)}
 
 
 # ## Pairs of photons

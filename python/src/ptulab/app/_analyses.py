@@ -510,7 +510,7 @@ def _scan_of_marks(seen: Look, kind: str) -> str:
     """An image or a cube by the markers alone, where the header tells of no scan: as many columns as there are lines in a frame."""
     counts = seen.bits
     lines = [bit for bit, count in counts.items() if 2 * count > max(counts.values())]
-    begins = {bit: int(seen.marks[0][seen.marks[1] & 1 << (bit - 1) != 0][0]) for bit in lines}
+    begins = {bit: int(times[0]) for bit in lines if len(times := seen.marks.times(bit))}
     line = min(begins, key=lambda bit: begins[bit], default=0)
     frame = min(set(counts) - set(lines), key=lambda bit: counts[bit], default=0)
     stop = next((bit for bit in lines if bit != line), 0)

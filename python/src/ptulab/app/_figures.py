@@ -11,7 +11,7 @@ from typing import Any
 import numpy as np
 from numpy.typing import NDArray
 
-from .._looks import BITS, Look
+from .._looks import Look, Marks
 from ..first_look import Info
 from ..page._document import packed
 from ..page._figures import POINTS, Curve, Figure, Line, Picture, figures_of, limits_of
@@ -25,17 +25,18 @@ FEW = 1000  # markers of a bit that are drawn each by itself
 MARKED = (0.25, 0.5, 1, 2, 4, 8, 16)  # nanoseconds on the semicircle
 
 
-def curve(label: str, xs: NDArray[Any], ys: NDArray[Any], errors: NDArray[Any] | None = None, shape: str = "hv") -> Drawn:
-    """A curve of a figure; of many points the least and the greatest of each piece are drawn."""
+def curve(label: str, xs: NDArray[Any], ys: NDArray[Any], errors: NDArray[Any] | None = None, shape: str = "hv", right: bool = False) -> Drawn:
+    """A curve of a figure, by its axis on the ``right`` or the left; of many points the least and the greatest of each piece are drawn."""
     places = _thinned(np.asarray(ys, np.float64))
     told = None if errors is None else _listed(errors[places])
-    return {"label": label, "x": _listed(xs[places]), "y": _listed(ys[places]), "errors": told, "shape": shape}
+    return {"label": label, "x": _listed(xs[places]), "y": _listed(ys[places]), "errors": told, "shape": shape, "right": right}
 
 
 def figure(name: str, title: str, summary: str, xaxis: tuple[str, str], yaxis: tuple[str, str], curves: Sequence[Drawn], **more: Any) -> Drawn:
-    """A figure of curves: the axes are their labels and units; ``more`` has ``xlog``, ``log``, ``level`` and ``start``."""
+    """A figure of curves: the axes are their labels and units; ``more`` has ``xlog``, ``log``, ``level`` and ``start``, and
+    ``right``, the label of the axis on the right."""
     axes = {"xlabel": xaxis[0], "xunit": xaxis[1], "ylabel": yaxis[0], "yunit": yaxis[1]}
-    usual = {"xlog": False, "log": None, "level": None, "start": None, "names": None, "drag": None, "tick": None}
+    usual = {"xlog": False, "log": None, "level": None, "start": None, "names": None, "drag": None, "tick": None, "right": None}
     return {"kind": "curves", "name": name, "title": title, "summary": summary, **axes, **usual, **more, "curves": list(curves)}
 
 
@@ -116,31 +117,26 @@ def figures_of_look(seen: Info, known: Look) -> list[Drawn]:
     starts = np.arange(0, (seen.head.last or 0) + 1, seen.bin_ticks, dtype=np.float64)
     rate = 1 / (seen.bin_ticks * tick) if tick else 1.0
     traces = [curve(f"input {one.number}", starts * factor, one.trace[: len(starts)] * rate) for one in seen.inputs]
-    markers = [_markers(bit, times, starts, (factor, rate)) for bit, times in _times_of_bits(known)]
-    told = f"The light of each input over the file, in {len(starts)} bins of {lasting(seen.bin_ticks * tick) if tick else f'{seen.bin_ticks:,} {unit}'}."
+    markers = [_markers(known.marks, bit, seen.head.last or 0, (factor, tick)) for bit, many in known.marks.counts.items() if many]
+    wide, of_markers = ((lasting(ticks * tick) if tick else f"{ticks:,} {unit if ticks > 1 else unit[:-1]}") for ticks in (seen.bin_ticks, known.marks.width))
+    told = f"The light of each input over the file, in {len(starts)} bins of {wide}."
     told += " Of each marker there is a tick below it." if any(one["shape"] == "marks" for one in markers) else ""
-    what = "photons or markers" if any(one["shape"] != "marks" for one in markers) else "photons"
-    ylabel = (f"{what} a second", "a second") if tick else (f"{what} in a bin", what)
+    right = ("markers a second" if tick else "markers in a bin") if any(one["right"] for one in markers) else None
+    told += f" Of markers with more than {FEW:,} of a bit there is a curve in bins of {of_markers}, whose axis is on the right." if right else ""
+    ylabel = ("photons a second", "a second") if tick else ("photons in a bin", "photons")
     more = {"drag": "time", "tick": PER_SECOND[unit]} if tick else {}
-    figures = [figure("look-trace", "Over the time", told, (f"time ({unit})", unit), ylabel, traces + markers, **more)]
+    figures = [figure("look-trace", "Over the time", told, (f"time ({unit})", unit), ylabel, traces + markers, right=right, **more)]
     return figures + ([_decays(seen)] if mode == "T3" else [])
 
 
-def _times_of_bits(known: Look) -> Iterator[tuple[int, NDArray[np.int64]]]:
-    """The times of the markers that have each bit, of those that occur."""
-    times, bits = known.marks
-    for bit in BITS:
-        if len(some := times[bits & (1 << (bit - 1)) != 0]):
-            yield bit, some
-
-
-def _markers(bit: int, times: NDArray[np.int64], starts: Floats, scales: tuple[float, float]) -> Drawn:
-    """Few markers of a bit as ticks, of many how often they come; ``scales`` are those of both axes."""
-    factor, rate = scales
-    if len(times) <= FEW:
-        return curve(f"marker bit {bit}", times * factor, np.full(len(times), bit), shape="marks")
-    counts = np.diff(np.searchsorted(np.sort(times), np.append(starts, np.inf)))
-    return curve(f"marker bit {bit}", starts * factor, counts * rate)
+def _markers(marks: Marks, bit: int, last: int, scales: tuple[float, float | None]) -> Drawn:
+    """Few markers of a bit as ticks, of many how often they come; ``scales`` are units and seconds of a tick."""
+    (factor, tick), label = scales, f"marker bit {bit}"
+    if marks.counts[bit] <= FEW:
+        times = marks.times(bit)
+        return curve(label, times * factor, np.full(len(times), bit), shape="marks")
+    counts = marks.trace[bit - 1][: last // marks.width + 1]
+    return curve(label, np.arange(len(counts)) * marks.width * factor, counts / (marks.width * tick if tick else 1), right=True)
 
 
 def unit_of(seconds: float) -> str:

@@ -26,12 +26,12 @@ def looked_over(text: str) -> dict[str, Any]:
     except BadPlanError as error:
         place = AT_LINE.search(str(error))
         line = int(place[1]) if place else len(text.splitlines()) or 1
-        return {"groups": None, "lengths": [], "findings": [{"line": line, "text": str(error), "refused": True}]}
-    found = told(broken_rules(document, MOST), text)
+        return {"groups": None, "lengths": [], "findings": [{"line": line, "text": str(error), "refused": True}], "more": False}
+    found = told(broken_rules(document, MOST + 1), text)
     groups = Document(document).tables("group")
     names = [(match[2] or "").strip() for match in map(HEADER.match, text.splitlines()) if match and match[1] == "group"]
     inline = len(names) != len(groups)
-    return {"groups": None if inline else [_group(table, name) for table, name in zip(groups, names)], "lengths": lengths_of(text), "findings": found}
+    return {"groups": None if inline else [_group(table, name) for table, name in zip(groups, names)], "lengths": lengths_of(text), **found}
 
 
 def _group(table: dict[str, Any], name: str) -> dict[str, Any]:
@@ -43,10 +43,11 @@ def _group(table: dict[str, Any], name: str) -> dict[str, Any]:
     }
 
 
-def told(findings: Sequence[Finding], text: str) -> list[dict[str, Any]]:
-    """Findings as JSON has them, each with the line of the plan that it is about; at most 100."""
-    lines = Lines(text)
-    return [{"line": lines.of(one), "text": str(one), "refused": one.refused} for one in findings[:MOST]]
+def told(findings: Sequence[Finding], text: str) -> dict[str, Any]:
+    """Findings as JSON has them, each with the line of the plan that it is about: at most 100, first those for which it is
+    refused, and whether there are more."""
+    lines, found = Lines(text), sorted(findings, key=lambda one: not one.refused)
+    return {"findings": [{"line": lines.of(one), "text": str(one), "refused": one.refused} for one in found[:MOST]], "more": len(found) > MOST}
 
 
 class Lines:

@@ -113,7 +113,7 @@ def check(work: Work) -> Any:
     plan.write_text(text, "utf-8")
     findings = told(check_plan(plan, work.path), text)
     plan.unlink()
-    return {"findings": findings}
+    return findings
 
 
 def run(work: Work) -> Any:

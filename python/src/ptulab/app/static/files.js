@@ -5,19 +5,21 @@ import { ask, bar, work } from "./server.js";
 
 /** @type {{name: string, bytes: number, changed: string, type: string, wrong: string, odd?: string, records?: number}[]} */
 export let files = [];
-/** @type {Map<string, any>} what the first looks told */
+/** @type {Map<string, any>} what the first looks told, at files as they are listed */
 export const looks = new Map();
 /** @type {AbortController | null} */
 let background = null;
+let underWay = ""; // the file that is looked at in the background
 let paused = 0, looking = false, stopped = false;
 
-/** Lists the files, and forgets the looks at those that have changed; gives how many are new or have changed.
+/** Lists the files, and forgets the looks at those that have changed, also those that are under way; gives how many are new or have changed.
  * @param {(name: string) => void} chosen */
 export async function list(chosen) {
   const told = await ask("files"), was = new Map(files.map((file) => [file.name, file.changed]));
   files = told.files;
   const others = files.filter((file) => was.get(file.name) !== file.changed), current = document.querySelector("#files [aria-current=true]")?.getAttribute("data-name");
   for (const file of others) looks.delete(file.name);
+  if (others.some((file) => file.name === underWay)) background?.abort();
   byId("files-said").textContent = files.length ? `${files.length} files` : "There is no PTU file in this folder.";
   byId("files").replaceChildren(...files.map((file) => {
     const button = make("button", { type: "button", disabled: Boolean(file.wrong), "data-name": file.name, on: { click: () => chosen(file.name) } },
@@ -71,14 +73,23 @@ export async function lookAround() {
   }
 }
 
+/** Looks at a file; what is found is kept if the file was not listed with another time meanwhile.
+ * @param {string} name @param {(line: any) => void} heard @param {AbortSignal} signal */
+export async function lookInto(name, heard, signal) {
+  const listed = () => files.find((file) => file.name === name)?.changed, before = listed(), told = await work("look", { file: name }, heard, signal);
+  if (listed() === before) looks.set(name, told);
+  return told;
+}
+
 /** @param {typeof files[0]} file @param {(line: any) => void} heard */
 async function lookAt(file, heard) {
   const mine = background = new AbortController();
+  underWay = file.name;
   try {
-    looks.set(file.name, await work("look", { file: file.name }, (line) => {
+    await lookInto(file.name, (line) => {
       heard(line);
       byId("files-said").textContent = `${files.length} files; looks at ${file.name}: ${Math.round(100 * (line.progress || 0))} %`;
-    }, mine.signal));
+    }, mine.signal);
   } catch (error) {
     if (mine.signal.aborted) return;
     file.wrong = error instanceof Error ? error.message : String(error);

@@ -1,9 +1,9 @@
 // @ts-check
 // The first look at a file.
 import { byId, make, short, table, teller } from "./dom.js";
-import { alone, found, looks } from "./files.js";
+import { alone, found, looks, lookInto } from "./files.js";
 import { draw } from "./plots.js";
-import { bar, work } from "./server.js";
+import { bar } from "./server.js";
 
 /** Shows the first look of a file, and gives what it tells. A click stops it.
  * @param {string} name @param {AbortController} mine */
@@ -22,8 +22,7 @@ export async function look(name, mine) {
   } } });
   byId("look-progress").append(halt);
   try {
-    const told = looks.get(name) || await alone(() => work("look", { file: name }, heard, mine.signal));
-    looks.set(name, told);
+    const told = looks.get(name) || await alone(() => lookInto(name, heard, mine.signal));
     found(name);
     if (!mine.signal.aborted) show(told);
     return told;

@@ -57,10 +57,10 @@ async function follow() {
   if (mine === asked) shown(told);
 }
 
-/** @param {{groups: Group[] | null, lengths: Length[], findings: any[]}} told @param {boolean} [keep] whether the table of groups stays as it is */
+/** @param {{groups: Group[] | null, lengths: Length[], findings: any[], more: boolean}} told @param {boolean} [keep] whether the table of groups stays as it is */
 function shown(told, keep = false) {
   lengths = told.lengths;
-  say(told.findings, "");
+  say(told, "");
   /** @type {HTMLButtonElement} */ (byId("add-group")).disabled = !told.groups;
   tell(byId("groups-said"), told.groups ? "" : "These groups can only be changed in the text.");
   if (!keep) {
@@ -83,14 +83,15 @@ function numbered(findings) {
 }
 
 /** Lists what is wrong with the plan; a click goes to the line.
- * @param {any[]} findings @param {string} none */
-export function say(findings, none) {
+ * @param {{findings: any[], more: boolean}} told what was found, and whether there is more @param {string} none */
+export function say({ findings, more }, none) {
   numbered(findings);
   text.setAttribute("aria-invalid", String(findings.some((one) => one.refused)));
   const lines = findings.map((one) => ({ text: `line ${one.line}: ${one.text}`, line: one.line, refused: one.refused })), told = lines.map((one) => one.text).join("\n") || none;
   if (byId("findings").dataset.told === told) return; // a screen reader has read it
   byId("findings").dataset.told = told;
   const items = lines.map((one) => make("li", {}, make("button", { type: "button", class: one.refused ? "wrong" : "", text: one.text, on: { click: () => go(one.line) } })));
+  if (more) items.push(make("li", { text: `There is more: these are the first ${items.length}.` }));
   byId("findings").replaceChildren(...(items.length || !none ? items : [make("li", { text: none })]));
 }
 

@@ -4,9 +4,10 @@
 import { make, short, table } from "./dom.js";
 
 /**
- * @typedef {{label: string, x: number[], y: (number | null)[], errors: (number | null)[] | null, shape: string}} Curve
+ * @typedef {{label: string, x: number[], y: (number | null)[], errors: (number | null)[] | null, shape: string, right?: boolean}} Curve `right`: by the axis on the right
  * @typedef {{kind: "curves", name: string, title: string, summary: string, xlabel: string, xunit: string, ylabel: string, yunit: string,
- *   xlog: boolean, log: boolean | null, level: number | null, start: number | null, names: string[] | null, curves: Curve[], tick?: number, drag?: string}} Curves
+ *   xlog: boolean, log: boolean | null, level: number | null, start: number | null, names: string[] | null, curves: Curve[], tick?: number, drag?: string,
+ *   right?: string | null}} Curves
  * @typedef {{kind: "picture", name: string, title: string, summary: string, rows: number, columns: number, block: number, label: string,
  *   unit: string, micrometres: number | null, photons: any, values: any, threshold: number, most: number, zmin: number, zmax: number, colours: string}} Picture
  * @typedef {{kind: "plane", name: string, title: string, summary: string, rows: number, columns: number, left: number, low: number, cells: number, counts: any,
@@ -16,10 +17,10 @@ import { make, short, table } from "./dom.js";
 const Plotly = /** @type {any} */ (window).Plotly;
 const dark = window.matchMedia("(prefers-color-scheme: dark)"), narrow = window.matchMedia("(max-width: 45rem)");
 const times = /** @type {[number, string][]} */ ([[1, "s"], [1e-3, "ms"], [1e-6, "\u00b5s"], [1e-9, "ns"], [1e-12, "ps"]]);
-const KEYS = "With the keys: arrows go from point to point, Home and End to the first and the last.";
+const KEYS = "With the keys: arrows go from point to point, Home and End to the first and the last.", OTHERS = " Page Up and Page Down go to another curve.";
 const ROWS = 100, REGION = "#ff4d3d"; // which stands out of all colours of pictures
 const PAINTS = [REGION, "#2f9bff", "#ffb300", "#c26bff"]; // of regions of phasors, and of their pixels
-/** @type {Map<HTMLElement, () => void>} plots on the page, and how each is drawn anew */
+/** @type {Map<HTMLElement, {figure: any, again: () => void}>} plots on the page, and how each is drawn anew */
 const drawn = new Map();
 /** @param {string} name */
 const colour = (name) => getComputedStyle(document.documentElement).getPropertyValue("--" + name).trim();
@@ -30,16 +31,17 @@ const plain = (text) => String(text).replace(/&/g, "&amp;").replace(/</g, "&lt;"
  * and of each pixel the number of the phasor region that has it. */
 const over = { gates: /** @type {number[][]} */ ([]), time: /** @type {number[] | null} */ (null), regions: /** @type {Regions} */ ({ picture: [], plane: [] }), paint: /** @type {any} */ (null) };
 /** @typedef {{picture: number[][][], plane: number[][][]}} Regions */
-const again_all = () => { for (const [place, again] of drawn) if (place.isConnected) again(); else drawn.delete(place); };
-document.addEventListener("gates", (heard) => { over.gates = /** @type {CustomEvent} */ (heard).detail; again_all(); });
+/** Draws anew the plots of the figures of which this is so.
+ * @param {(figure: any) => boolean} of */
+const anew = (of) => { for (const [place, { figure, again }] of drawn) if (!place.isConnected) drawn.delete(place); else if (of(figure)) again(); };
+const hasRegions = (/** @type {any} */ figure) => figure.kind !== "curves";
+document.addEventListener("gates", (heard) => { over.gates = /** @type {CustomEvent} */ (heard).detail; anew((figure) => figure.drag === "gate"); });
 document.addEventListener("looked", () => Object.assign(over, { gates: [], time: null, regions: { picture: [], plane: [] }, paint: null }));
-document.addEventListener("window", (heard) => { over.time = /** @type {CustomEvent} */ (heard).detail; again_all(); });
-document.addEventListener("regions", (heard) => { over.regions = /** @type {CustomEvent} */ (heard).detail; again_all(); });
-document.addEventListener("painted", (heard) => { const { detail } = /** @type {CustomEvent} */ (heard); over.paint = detail && unpacked(detail); again_all(); });
+document.addEventListener("window", (heard) => { over.time = /** @type {CustomEvent} */ (heard).detail; anew((figure) => figure.drag === "time"); });
+document.addEventListener("regions", (heard) => { over.regions = /** @type {CustomEvent} */ (heard).detail; anew(hasRegions); });
+document.addEventListener("painted", (heard) => { const { detail } = /** @type {CustomEvent} */ (heard); over.paint = detail && unpacked(detail); anew((figure) => figure.kind === "picture"); });
 
-for (const media of [dark, narrow]) media.addEventListener("change", () => {
-  again_all();
-});
+for (const media of [dark, narrow]) media.addEventListener("change", () => anew(() => true));
 
 /** A number with its unit; seconds with the one that makes it short.
  * @param {number | null} value @param {string} unit */
@@ -84,7 +86,7 @@ export function draw(figure, of = "") {
   const tools = make("p", { class: "controls tools" }, ...(drag ? [make("label", {}, "Dragging ", drag)] : []), ...["png", "svg"].map((format) => make("button", { type: "button", text: `Save as ${format.toUpperCase()}`,
     "aria-label": `Save ${figure.title} as ${format.toUpperCase()}`, on: { click: () => Plotly.downloadImage(plot, { format, filename: figure.name, width: 1000, height: flat ? 800 : 600 }) } })));
   const section = make("figure", { id, "aria-labelledby": `${id}-title` }, make("h3", { id: `${id}-title`, text: figure.title }), make("p", { id: `${id}-summary`, text: figure.summary }),
-    controls, tools, plot, said, make("p", { id: `${id}-keys`, class: "faint", text: KEYS }));
+    controls, tools, plot, said, make("p", { id: `${id}-keys`, class: "faint", text: KEYS + (shape.counts.length > 1 ? OTHERS : "") }));
   section.style.margin = "0";
   section.append(make("details", {}, make("summary", { text: "Values as a table" }), shape.table()));
   const again = () => {
@@ -96,7 +98,7 @@ export function draw(figure, of = "") {
   drag?.addEventListener("change", again);
   requestAnimationFrame(async () => {
     if (!plot.isConnected) return;
-    drawn.set(plot, again);
+    drawn.set(plot, { figure, again });
     await again();
     const heard = /** @type {any} */ (plot);
     heard.on("plotly_hover", (/** @type {any} */ event) => { said.ariaLive = event.event instanceof MouseEvent ? "off" : "polite"; said.textContent = shape.told(event.points[0].curveNumber, event.points[0].pointNumber); });
@@ -113,7 +115,7 @@ export function draw(figure, of = "") {
 function chosen(figure, range) {
   const tick = figure.tick, unit = figure.drag === "time" ? tick : 1, ends = [Math.min(...range) / unit, Math.max(...range) / unit];
   document.dispatchEvent(new CustomEvent("chosen", { detail: { what: figure.drag, range: ends, tick } }));
-  again_all();
+  anew((other) => other === figure);
 }
 
 /** Regions that were drawn on a picture, in pixels of the file, or on the plane of phasors.
@@ -123,7 +125,7 @@ function outlined(figure, shapes) {
   const drawn = shapes.filter((shape) => shape.type === "path").map((shape) => [...shape.path.matchAll(/(-?[\d.]+(?:e-?\d+)?),(-?[\d.]+(?:e-?\d+)?)/g)].map(([, x, y]) => [to(x), to(y)]));
   over.regions[figure.kind] = drawn.map((corners) => { const step = Math.ceil(corners.length / 400); return corners.filter((_, at) => at % step === 0); }).filter((corners) => corners.length > 2);
   document.dispatchEvent(new CustomEvent("drawn", { detail: over.regions }));
-  again_all();
+  anew(hasRegions);
 }
 
 /** The outlines of the regions of a figure, as shapes.
@@ -159,18 +161,20 @@ function shared(one, other) {
 /** @param {KeyboardEvent} event @param {HTMLElement} plot @param {any} shape @param {HTMLElement} said */
 function walk(event, plot, shape, said) {
   const steps = /** @type {Record<string, number>} */ ({ ArrowRight: 1, ArrowLeft: -1, ArrowDown: shape.step, ArrowUp: -shape.step, PageDown: shape.step, PageUp: -shape.step });
-  const before = Number(plot.dataset.at ?? -1);
+  const before = Number(plot.dataset.at ?? -1), was = Number(plot.dataset.curve ?? 0), many = shape.counts.length, turn = many > 1 ? { PageDown: 1, PageUp: many - 1 }[event.key] : undefined;
+  const curve = turn ? (was + turn) % many : was, last = shape.counts[curve] - 1;
   let at = before;
-  if (event.key === "Home") at = 0;
-  else if (event.key === "End") at = shape.count - 1;
-  else if (event.key in steps) at = before < 0 ? 0 : Math.min(shape.count - 1, Math.max(0, before + steps[event.key]));
+  if (turn) at = shape.near(was, Math.max(0, before), curve);
+  else if (event.key === "Home") at = 0;
+  else if (event.key === "End") at = last;
+  else if (event.key in steps) at = before < 0 ? 0 : Math.min(last, Math.max(0, before + steps[event.key]));
   else return;
   event.preventDefault();
-  plot.dataset.at = String(at);
+  Object.assign(plot.dataset, { at: String(at), curve: String(curve) });
   const point = shape.columns ? [Math.floor(at / shape.columns), at % shape.columns] : at;
   said.ariaLive = "polite"; // but "off" for what the pointer hovers over, which changes all the time
-  said.textContent = shape.told(0, point);
-  try { Plotly.Fx.hover(plot, [{ curveNumber: 0, pointNumber: point }]); } catch { /* a point that isn't drawn is said all the same */ }
+  said.textContent = shape.told(curve, point);
+  try { Plotly.Fx.hover(plot, [{ curveNumber: curve, pointNumber: point }]); } catch { /* a point that isn't drawn is said all the same */ }
 }
 
 /** @param {HTMLElement} controls @param {string} words @param {boolean} checked */
@@ -186,26 +190,32 @@ function curves(figure, controls) {
   const log = figure.names ? null : box(controls, figure.log === null ? "logarithmic values" : "logarithmic counts", Boolean(figure.log));
   const xlog = figure.names ? null : box(controls, `logarithmic ${figure.xlabel.replace(/ \(.*/, "")}`, figure.xlog);
   const all = figure.start === null ? null : box(controls, "all delays", false);
-  const first = figure.curves[0] || { x: [], y: [], errors: null }, lines = figure.curves.filter((one) => one.shape !== "marks");
+  const first = figure.curves[0] || { x: [], y: [], errors: null }, lines = figure.curves.filter((one) => one.shape !== "marks" && !one.right), markers = figure.curves.filter((one) => !lines.includes(one));
   /** @param {Curve} one @param {number} at */
-  const words = (one, at) => one.shape === "marks" ? `${one.label}: ${measured(one.x[at], figure.xunit)}` : `${figure.curves.length > 1 ? one.label + ", " : ""}${figure.names ? figure.names[at] : measured(one.x[at], figure.xunit)}: ${measured(one.y[at], figure.yunit)}` +
+  const words = (one, at) => one.shape === "marks" ? `${one.label}: ${measured(one.x[at], figure.xunit)}` : `${figure.curves.length > 1 ? one.label + ", " : ""}${figure.names ? figure.names[at] : measured(one.x[at], figure.xunit)}: ${one.right ? short(one.y[at]) : measured(one.y[at], figure.yunit)}` +
     (one.errors && one.errors[at] !== null ? ` \u00b1 ${Number(Number(one.errors[at]).toPrecision(2))}` : "");
   return {
-    count: first.x.length, step: Math.max(1, Math.round(first.x.length / 20)), columns: 0,
+    counts: figure.curves.length ? figure.curves.map((one) => one.x.length) : [0], step: Math.max(1, Math.round(first.x.length / 20)), columns: 0,
+    /** The point of a curve that comes next at the place of another one's.
+     * @param {number} from @param {number} at @param {number} to */
+    near(from, at, to) {
+      const place = figure.curves[from].x[at], found = figure.curves[to].x.findIndex((x) => x >= place);
+      return found < 0 ? figure.curves[to].x.length - 1 : found;
+    },
     /** @param {number} curve @param {any} at */
     told: (curve, at) => words(figure.curves[curve], at),
     table() {
       const step = Math.ceil(first.x.length / ROWS) || 1;
       const columns = lines.map((one) => ({ label: one.label, cells: first.x.flatMap((x, at) => at % step ? [] : [valueAt(one, x)]) })).filter((one) => one.cells.some((cell) => cell));
       const rows = first.x.flatMap((x, at) => at % step ? [] : [[figure.names ? figure.names[at] : short(x), ...columns.map((one) => one.cells[at / step])]]);
-      return table(`${figure.title}: every ${step === 1 ? "value" : `${step}th value`}`, [figure.xlabel, ...columns.map((one) => one.label)], rows);
+      return make("div", {}, table(`${figure.title}: ${every(step)}`, [figure.xlabel, ...columns.map((one) => one.label)], rows), ...markers.map((one) => ofMarkers(figure, one)));
     },
     draw() {
       const logarithmic = Boolean(log?.checked), across = Boolean(xlog?.checked), look = /** @type {any} */ (layout());
       const traces = figure.curves.map((one, at) => ({
         type: figure.names ? "bar" : "scatter", name: plain(one.label), x: figure.names ? figure.names.map(plain) : one.x, text: one.y.map((_, place) => plain(words(one, place))),
         y: logarithmic ? one.y.map((y) => (y !== null && y > 0 ? y : null)) : one.y, hovertemplate: "%{text}<extra></extra>", textposition: figure.names ? "none" : undefined,
-        mode: dots(one) ? "markers" : one.errors ? "lines+markers" : "lines", yaxis: one.shape === "marks" ? "y2" : "y",
+        mode: dots(one) ? "markers" : one.errors ? "lines+markers" : "lines", yaxis: one.shape === "marks" ? "y2" : one.right ? "y3" : "y",
         marker: one.shape === "marks" ? { color: colour(`curve-${at % 6}`), size: 10, symbol: "line-ns", line: { color: colour(`curve-${at % 6}`), width: 1 } } : { color: colour(`curve-${at % 6}`), size: 5 },
         unselected: one.shape === "marks" ? { marker: { opacity: 1 } } : undefined,
         line: { color: colour(`curve-${at % 6}`), width: 1.6, shape: dots(one) ? "linear" : one.shape },
@@ -218,6 +228,7 @@ function curves(figure, controls) {
       labelled(look.xaxis, figure.curves.flatMap((one) => one.x));
       labelled(look.yaxis, lines.flatMap((one) => one.y));
       below(look, figure.curves.filter((one) => one.shape === "marks"));
+      if (figure.right) look.yaxis3 = { ...axis(figure.right, logarithmic), overlaying: "y", side: "right", showgrid: false, rangemode: "tozero", uirevision: look.yaxis.type };
       for (const each of [look.xaxis, look.yaxis]) each.uirevision = `${each.type} ${Boolean(all?.checked)}`;
       if (figure.start !== null && !all?.checked && first.x.length) {
         const ends = [figure.start, first.x[first.x.length - 1]], start = figure.start;
@@ -231,6 +242,15 @@ function curves(figure, controls) {
       return [traces, look];
     },
   };
+}
+
+const every = (/** @type {number} */ step) => `every ${step === 1 ? "value" : `${step}th value`}`;
+
+/** The table of a marker bit: its times, or how often it comes when.
+ * @param {Curves} figure @param {Curve} one */
+function ofMarkers(figure, one) {
+  const step = Math.ceil(one.x.length / ROWS) || 1, heads = [figure.xlabel, ...(one.right ? [String(figure.right)] : [])];
+  return table(`${one.label}: ${every(step)}`, heads, one.x.flatMap((x, at) => at % step ? [] : [[short(x), ...(one.right ? [short(one.y[at])] : [])]]));
 }
 
 /** Whether a curve is drawn as points or ticks, without lines between them.
@@ -290,7 +310,7 @@ function picture(figure, controls, id) {
   const lines = () => Array.from({ length: rows }, (_, y) => y), places = () => Array.from({ length: columns }, (_, x) => x);
   const words = lines().map((y) => places().map((x) => plain(told([y, x]))));
   return {
-    count: rows * columns, step: columns, columns,
+    counts: [rows * columns], step: columns, columns,
     /** @param {number} _ @param {any} point */
     told: (_, point) => told(point),
     table() {
@@ -324,7 +344,7 @@ function plane(figure) {
   const told = ([y, x]) => `g ${middle(figure.left, x)}, s ${middle(figure.low, y)}: ${short(counts[y * columns + x])} pixels`;
   const z = Array.from({ length: rows }, (_, y) => Array.from({ length: columns }, (_, x) => counts[y * columns + x] || null));
   return {
-    count: rows * columns, step: columns, columns,
+    counts: [rows * columns], step: columns, columns,
     /** @param {number} _ @param {any} point */
     told: (_, point) => told(point),
     table: () => table(`${figure.title}: pixels in steps of 0.01 of g`, ["g", "pixels"],

@@ -203,12 +203,13 @@ byId("stop").addEventListener("click", () => now.run?.abort());
 byId("settings").addEventListener("submit", (event) => { event.preventDefault(); run("run"); });
 byId("check").addEventListener("click", () => {
   const left = leaving.signal;
-  plans.say([], "Checks it ..");
+  const only = (/** @type {string} */ words) => plans.say({ findings: [], more: false }, words);
+  only("Checks it ..");
   beside(byId("check"), "Check it for this file", left, async (heard, signal) => {
     try {
-      plans.say((await alone(() => work("check", { file: now.file, plan: plans.plan() }, heard, signal))).findings, "It is good for this file.");
+      plans.say(await alone(() => work("check", { file: now.file, plan: plans.plan() }, heard, signal)), "It is good for this file.");
     } catch (error) {
-      if (!left.aborted) plans.say([], signal.aborted ? "Stopped." : error instanceof Error ? error.message : String(error));
+      if (!left.aborted) only(signal.aborted ? "Stopped." : error instanceof Error ? error.message : String(error));
     }
   });
 });
