@@ -2,6 +2,7 @@
 
 import itertools
 import os
+import re
 import subprocess
 from collections.abc import Callable, Iterable, Iterator
 from pathlib import Path
@@ -26,12 +27,22 @@ LONG = (
     "test_many_hosts test_many_hosts_sums test_many test_app_browser test_app_page test_app test_app_results test_browser test_fits "
     "test_notebook test_smfret"
 ).split()
-PARTS = {"test_many": 3, "test_fits": 2}  # files whose tests share nothing, in so many parts
+PARTS = {"test_many": 3, "test_fits": 2, "test_app_browser": 2, "test_app_page": 2}  # files whose tests share nothing, in so many parts
+# Whose coverage isn't measured, which would take a third of their time: what they reach in the package others reach too.
+UNCOVERED = "test_many_hosts test_many_hosts_sums test_app_browser test_app_page test_browser".split()
+STATISTICS = re.compile("their_scatter")  # in the names of tests that fit again and again
+
+
+def pytest_configure(config: pytest.Config) -> None:
+    config.addinivalue_line("markers", "no_cover: a test whose coverage isn't measured; pytest-cov knows it too")
 
 
 @pytest.hookimpl(tryfirst=True)  # type: ignore[misc]
 def pytest_collection_modifyitems(config: pytest.Config, items: list[pytest.Item]) -> None:
     """The longest files first, each or each part of it in one process: the last one to begin would be waited for."""
+    for item in items:
+        if item.path.stem in UNCOVERED or STATISTICS.search(item.name):
+            item.add_marker(pytest.mark.no_cover)
     items.sort(key=lambda item: LONG.index(item.path.stem) if item.path.stem in LONG else len(LONG))
     if config.pluginmanager.hasplugin("xdist"):
         for name, found in itertools.groupby(items, key=lambda item: item.path.stem):
@@ -46,6 +57,15 @@ def pytest_sessionfinish(session: pytest.Session) -> None:
     if skipped and os.environ.get("PTULAB_NONE_SKIPPED"):
         reporter.write_line(f"skipped, and PTULAB_NONE_SKIPPED is set: {', '.join(one.nodeid for one in skipped)}")
         session.exitstatus = pytest.ExitCode.TESTS_FAILED
+
+
+@pytest.fixture(scope="module", autouse=True)
+def uncovered(request: pytest.FixtureRequest) -> Iterator[None]:
+    """What is started for a file of tests without coverage has none either."""
+    with pytest.MonkeyPatch.context() as patched:
+        for name in [name for name in os.environ if name.startswith("COV_CORE_") and request.path.stem in UNCOVERED]:
+            patched.delenv(name)
+        yield
 
 
 @pytest.fixture(scope="session")

@@ -65,13 +65,14 @@ def seconds(number: float) -> float:
 
 def until(true: Callable[[], object], what: str, patience: float = 60) -> None:
     """Waits until something is so, on an idle machine for ``patience`` seconds at most; how idle it is is asked at the end too."""
-    began = time.monotonic()
+    began, pause = time.monotonic(), 0.02
     end = began + seconds(patience)
     while not true():
         if time.monotonic() > end:
             end = began + seconds(patience)
             assert time.monotonic() < end or true(), f"waited too long for {what}"
-        time.sleep(0.05)
+        time.sleep(pause)
+        pause = min(0.2, 1.3 * pause)
 
 
 def end_of(running: subprocess.Popen[AnyStr], patience: float = 60) -> tuple[AnyStr, AnyStr]:

@@ -20,6 +20,7 @@ trace = [{ group = 1, width = 1000, bins = 8 }]
 correlation = [{ first = 1, second = 2, lags = 8, levels = 4 }]
 """
 OTHER_PLAN = PLAN.replace("bins = 8", "bins = 9")
+REPORTS: dict[tuple[str, bytes], str] = {}  # by a plan and a file, both as they were; the files of all trials are the same
 NOBODY = ("nobody could count it", "the scheduler of dask is gone")  # where no host tried
 SLOW = """#!/bin/sh
 # the program, which takes its time, and on a slow host more; a run waits for those that must have come first
@@ -51,7 +52,6 @@ class Trial:
         self.program.chmod(0o755)
         self.data.mkdir()
         self.files = [made.write(self.data / f"{number:02}.ptu", "HydraHarp2T2", events(number)) for number in range(FILES)]
-        self.reports: dict[tuple[str, Path], str] = {}  # of the plan as it was
 
     def slow(self, takes: float = 0.05, awaited: str = "") -> None:
         """Makes the program, which takes so many seconds for a file, and before the first awaits that some hosts were checked."""
@@ -94,11 +94,11 @@ class Trial:
 
     def plain(self, files: list[Path]) -> str:
         """The sum of some files without ptulab."""
-        plan = self.plan.read_text()
-        for path in files:
-            if (plan, path) not in self.reports:
-                self.reports[plan, path] = report_of(self.real, self.plan, path)
-        return plain_sum(self.reports[plan, path] for path in files)
+        keys = [(self.plan.read_text(), path.read_bytes()) for path in files]
+        for key, path in zip(keys, files):
+            if key not in REPORTS:
+                REPORTS[key] = report_of(self.real, self.plan, path)
+        return plain_sum(REPORTS[key] for key in keys)
 
     def check_standing(self) -> bool:
         """Whatever ended a run: a sum that its manifest names, and that is there, is that of the files above its line."""

@@ -56,10 +56,11 @@ class Window:
         return self.driver.execute_script(words, *more)
 
     def until(self, true: Callable[[], Any], what: str = "") -> Any:
-        end = time.monotonic() + SECONDS
+        end, pause = time.monotonic() + SECONDS, 0.01
         while not (found := true()):
             assert time.monotonic() < end, f"nothing came: {what} {self.js('return document.body.innerText')[-1500:]}"
-            time.sleep(0.05)
+            time.sleep(pause)
+            pause = min(0.2, 1.3 * pause)  # each question takes the browser's time too
         return found
 
     def click(self, selector: str) -> None:
