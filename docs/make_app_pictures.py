@@ -2,7 +2,7 @@
 """Makes the pictures of the window, python_files/app_*.png: make_app_pictures.py [NAME ..]
 
 Each is what headless Chromium shows of `ptulab app` over examples/scan.ptu and simulated measurements, after the clicks that
-docs/app.md tells. A NAME is that of a picture, as `result`; without one all are made. It needs Debian's chromium,
+docs/app.md tells. A NAME is that of a picture, as `look`; without one all are made. It needs Debian's chromium,
 chromium-driver, python3-selenium and python3-pil, and takes the package and the program of this tree.
 """
 
@@ -53,15 +53,6 @@ def look(window: Window) -> list[str]:
     window.choose("scan.ptu", "image")
     looked(window)
     return ["header", "nav", "#look"]
-
-
-@picture
-def result(window: Window) -> list[str]:
-    """A lifetime image."""
-    window.open()
-    window.choose("scan.ptu", "image")
-    window.run()
-    return ["#result-title", "#figure-cube-1-delays"]
 
 
 @picture
