@@ -297,6 +297,24 @@ def test_the_folder_is_read_again(window: Window) -> None:
     window.until(lambda: not window.text("#files button[data-name='new.ptu']"), "no such file")
 
 
+def test_many_markers_have_an_axis_of_their_own(window: Window) -> None:
+    """A thousand and one of bit 2, over two inputs; the one of bit 1 is a tick, and both have a table."""
+    new = window.served.folder / "new.ptu"
+    made.write(new, "HydraHarp2T3", [(0, made.Bits(1)), (0, 0, 5), *((10 + at, made.Bits(2)) for at in range(1001)), (2047, 1, 7)], tick=1e-6)
+    try:
+        window.open()
+        window.choose("new.ptu", "trace")
+        window.until(lambda: window.js("return document.getElementById('figure-look-trace-plot')?.dataset.drawn") == "yes")
+        axes, right, left = window.js("const { data, _fullLayout: { yaxis3: right, yaxis: left } } = document.getElementById('figure-look-trace-plot'); return [data.map((one) => [one.name, one.yaxis]), [right.side, right.title.text, right.domain, right.range], [left.title.text, left.domain, left.range]]")
+        assert axes == [["input 0", "y"], ["input 1", "y"], ["marker bit 1", "y2"], ["marker bit 2", "y3"]]
+        assert right[:2] == ["right", "markers a second"] and left[0] == "photons a second" and right[2] == left[1] != [0, 1]
+        assert right[3][1] >= 1e6 > left[2][1]  # one in each tick, and one in two ticks
+        captions = window.js("return [...document.querySelectorAll('#figure-look-trace caption')].map((one) => one.textContent)")
+        assert captions[1:] == ["marker bit 1: every value", "marker bit 2: every 11th value"]
+    finally:
+        new.unlink()
+
+
 HELD = """window.usual = window.fetch; window.fetch = async (name, asked) => {
   const answer = await window.usual(name, asked);
   if (name !== "/api/look") return answer;
