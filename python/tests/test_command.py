@@ -172,6 +172,9 @@ def test_a_check_tells_that_plan_and_file_were_exchanged(tmp_path: Path, capsys:
     made.write(tmp_path / "small.ptu", T2, [(1, 1)])
     assert command("check", tmp_path / plan, tmp_path / file) == 1
     assert said.format(folder=tmp_path) in capsys.readouterr().err
+    if plan.endswith(".ptu"):
+        assert command("count", tmp_path / plan, tmp_path / file) == 1
+        assert f"{plan} is a PTU file: plan and file were exchanged; the plan comes first" in capsys.readouterr().err
 
 
 @pytest.mark.parametrize(

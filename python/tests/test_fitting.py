@@ -128,7 +128,7 @@ def test_the_most_likely_background_has_no_slope(height: float) -> None:
     assert none == pytest.approx([0, 0, max(8 / (1 + height) - 1 / height, 0)])
 
 
-@pytest.mark.parametrize(("mean", "wide"), [(40.0, 1), (12.0, 3), (3.0, 9), (0.5, 9)])
+@pytest.mark.parametrize(("mean", "wide"), [(40.0, 1), (12.5, 1), (12.0, 3), (6.2, 3), (3.0, 9), (0.5, 9)])
 def test_backgrounds_of_few_counts_are_those_of_their_neighbours(mean: float, wide: int) -> None:
     """With so many bins as have some 25 counts, at most four on either side; at the ends with those that are there."""
     level, side = np.arange(20.0), wide // 2

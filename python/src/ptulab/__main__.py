@@ -56,7 +56,7 @@ def check(given: Given) -> int:
     try:
         found = check_plan(given.plan, given.file, program=given.program)
     except BadFileError as error:
-        print(*(f"ptulab: {line}" for line in [error, *(of_other_file(given.file) if error.status == 10 else ())]), sep="\n", file=sys.stderr)
+        _say([str(error), *(of_other_file(given.file) if error.status == 10 else ())])
         return 1
     for one in found:
         print(f"{'refused' if one.refused else 'warning'}: {one}")
@@ -71,7 +71,7 @@ def run(given: Given) -> int:
     try:
         report = count_file(given.plan, given.file, program=given.program, progress=_is_shown(given))
     except RefusalError as refusal:
-        print(*(f"ptulab: {line}" for line in explained(refusal, given.plan, given.file)), sep="\n", file=sys.stderr)
+        _say(explained(refusal, given.plan, given.file))
         return refusal.status if 0 < refusal.status < 128 else 1
     _write(report_lines(report), given.out)
     return 0
@@ -82,7 +82,11 @@ def add(given: Given) -> int:
 
 
 def count(given: Given) -> int:
-    return _summed(given, given.files, lambda paths, more: count_files(given.plan, paths, program=given.program, **more))
+    try:
+        return _summed(given, given.files, lambda paths, more: count_files(given.plan, paths, program=given.program, **more))
+    except RefusalError as refusal:
+        _say(explained(refusal, given.plan, ""))
+        return 1
 
 
 def page(given: Given) -> int:
@@ -113,6 +117,10 @@ def app(given: Given) -> int:
 
 
 # ## What they share
+
+
+def _say(lines: Iterable[str]) -> None:
+    print(*(f"ptulab: {line}" for line in lines), sep="\n", file=sys.stderr)
 
 
 def _report(given: Given) -> Report:
