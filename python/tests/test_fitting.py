@@ -43,6 +43,9 @@ def test_errors_of_points_with_known_and_with_unknown_errors() -> None:
     assert list(known.values.values()) == pytest.approx(np.linalg.lstsq(weights, data / spread, rcond=None)[0], rel=1e-6)
     assert told(known) == pytest.approx(errors_of(spread), rel=1e-6)
     assert known.reduced == pytest.approx((((data - known.curve) / spread) ** 2).sum() / 10)
+    assert [known.lmfit.params[name].stderr for name in ("level", "slope")] == pytest.approx(told(known), rel=1e-3)  # of a line lmfit has the same
+    least = fits.fit_model(line, AXIS[:3], data[:3], {"level": 1.0, "slope": 1.0}, errors=spread[:3])
+    assert least.reduced == pytest.approx((((data[:3] - least.curve) / spread[:3]) ** 2).sum())
     alike = fits.fit_model(line, AXIS, data, {"level": 1.0, "slope": 1.0})
     scatter = np.sqrt(((data - alike.curve) ** 2).sum() / 10)
     assert told(alike) == pytest.approx(scatter * errors_of(np.ones(len(AXIS))), rel=1e-6) and alike.reduced == 1
@@ -80,17 +83,42 @@ def test_a_parameter_near_its_bound_has_no_error() -> None:
 
 
 def test_fits_together_have_the_error_of_all_points() -> None:
-    spreads, models = (np.full(12, 0.5), np.full(12, 2.0)), []
-    for spread in spreads:
-        models.append(fits.fit_model(line, AXIS, line(AXIS, 2.0, 1.0) + DRAWS.normal(0, spread), {"level": 1.0, "slope": 1.0}, errors=spread))
-    both = fits.fit_together(models, ["slope"])
-    columns = np.zeros((3, 24))
-    columns[0, :12], columns[1, 12:], columns[2] = 1, 1, np.tile(AXIS, 2)
+    spreads = [np.full(12, one) for one in (0.5, 2.0, 1.0)]
+    models = [fits.fit_model(line, AXIS, line(AXIS, 2.0, 1.0) + DRAWS.normal(0, one), {"level": 1.0, "slope": 1.0}, errors=one) for one in spreads]
+    found = fits.fit_together(models, ["slope"])
+    columns = np.zeros((4, 36))
+    for at in range(3):
+        columns[at, 12 * at : 12 * at + 12] = 1
+    columns[3] = np.tile(AXIS, 3)
     columns /= np.concatenate(spreads)
-    errors = np.sqrt(np.diagonal(np.linalg.inv(columns @ columns.T)))
-    assert [both[0].errors["level"], both[1].errors["level"], both[1].errors["slope"]] == pytest.approx(errors, rel=1e-6)
     data = np.concatenate([fit.data for fit in models]) / np.concatenate(spreads)
-    assert [both[0].values["level"], both[1].values["level"], both[0].values["slope"]] == pytest.approx(np.linalg.lstsq(columns.T, data, rcond=None)[0], rel=1e-5)
+    best = np.linalg.lstsq(columns.T, data, rcond=None)[0]
+    assert [*(fit.values["level"] for fit in found), found[0].values["slope"]] == pytest.approx(best, rel=1e-5)
+    errors = np.sqrt(np.diagonal(np.linalg.inv(columns @ columns.T)))
+    assert [*(fit.errors["level"] for fit in found), found[2].errors["slope"]] == pytest.approx(errors, rel=1e-6)
+    assert np.concatenate([fit.residuals for fit in found]) == pytest.approx(data - best @ columns, abs=1e-5)
+
+
+def test_fits_together_count_what_their_segments_do_together() -> None:
+    """A level of two curves whose segments go up and down together; curves with other segments, or without, don't go with them."""
+    shape, together = (6, len(AXIS)), DRAWS.normal(0, 1, (6, 1))
+    parts = [5 + DRAWS.normal(0, spread, shape) + together for spread in (0.5, 2.0)]
+
+    def fitted(parts: Any) -> fits.Fit:
+        return fits.fit_model(lambda axis, level: level + 0 * axis, AXIS, parts.mean(axis=0), {"level": 4.0}, segments=parts)
+
+    found = fits.fit_together(map(fitted, parts), ["level"])
+    weights = np.concatenate([1 / _fitting.errors_of_cells(one[0], None, one) ** 2 for one in parts])
+    levels = np.concatenate(parts, axis=1) @ weights / weights.sum()
+    assert found[0].values["level"] == pytest.approx(levels.mean(), rel=1e-6)
+    assert found[1].errors["level"] == pytest.approx(levels.std(ddof=1) / np.sqrt(6), rel=1e-6)
+    alone = fits.fit_model(lambda axis, level: level + 0 * axis, AXIS, parts[0][0], {"level": 4.0}, errors=np.ones(len(AXIS)))
+    alike = fits.fit_model(lambda axis, level: level + 0 * axis, AXIS, parts[0][0], {"level": 4.0})
+    for other, said in ((fitted(parts[0][:5]), "as many segments"), (alone, "as many segments"), (alike, "as many segments|errors of all")):
+        with pytest.raises(ValueError, match=said):
+            fits.fit_together([fitted(parts[0]), other], ["level"])
+    with pytest.raises(ValueError, match="errors of all curves, or of none"):
+        fits.fit_together([alone, alike], ["level"])
 
 
 def test_autocorrelations_are_means_of_products() -> None:
