@@ -73,10 +73,20 @@ def test_parameters_that_nothing_tells_apart_have_no_errors() -> None:
     assert all(np.isnan(error) for error in fit.errors.values()) and fit.values["one"] + fit.values["other"] == pytest.approx(5.5)
 
 
+def test_slopes_are_the_derivatives_of_the_model() -> None:
+    """By steps that go with a parameter, and by those of the size that matters where it is 0."""
+    axis = np.array([1.0, 500.0, 1000.0])
+    problem = _fitting.Problem(axis, axis, lambda at, now: now["height"] * np.exp(now["rate"] * at), _fitting.normal(axis, axis), None)
+    for rate, least in ((-2e-3, None), (2e-3, 0.0), (0.0, 0.01)):
+        values = {"height": 3.0, "rate": rate}
+        assert _fitting._slope(problem, values, "rate", least) == pytest.approx(3 * axis * np.exp(rate * axis), rel=1e-6)
+        assert _fitting._slope(problem, values, "height", least) == pytest.approx(np.exp(rate * axis), rel=1e-9)
+
+
 def test_a_parameter_near_its_bound_has_no_error() -> None:
     """Within a tenth of the error that it would have, here 0.5; the other's is as if it were held."""
-    for least, free in ((2.0, True), (2.94, True), (2.96, False)):
-        fit = fits.fit_model(lambda axis, level: level + 0 * axis, AXIS[:4], np.full(4, 3.0), {"level": 4.0}, errors=np.ones(4), bounds={"level": (least, 9.0)})
+    for bounds, free in (((2.0, 9.0), True), ((2.94, 9.0), True), ((2.96, 9.0), False), ((0.0, 3.06), True), ((0.0, 3.04), False)):
+        fit = fits.fit_model(lambda axis, level: level + 0 * axis, AXIS[:4], np.full(4, 3.0), {"level": 2.5}, errors=np.ones(4), bounds={"level": bounds})
         assert (fit.errors["level"] == pytest.approx(0.5)) if free else np.isnan(fit.errors["level"])
     held = fits.fit_model(line, AXIS, -AXIS, {"level": 1.0, "slope": -1.0}, errors=np.ones(12), bounds={"level": (0.0, 9.0)})
     assert np.isnan(held.errors["level"]) and held.errors["slope"] == pytest.approx(1 / np.linalg.norm(AXIS), rel=1e-6)
@@ -172,6 +182,10 @@ def test_g2_without_its_background() -> None:
 
 
 def test_what_no_fit_begins_with_is_refused() -> None:
+    three = np.array([[1.0, 2.0], [2.0, 2.5], [1.5, 2.0], [np.nan, np.nan]])
+    assert _fitting.parts_of(three).tolist() == three[:3].tolist()
+    with pytest.raises(ValueError, match="errors by 2 segments"):
+        _fitting.parts_of(three[1:])
     with pytest.raises(ptulab.FitError, match="2 points for 2 parameters"):
         fits.fit_model(line, AXIS[:2], AXIS[:2], {"level": 1.0, "slope": 1.0})
     with pytest.raises(ptulab.FitError, match="12 points for 0 parameters"):
