@@ -18,7 +18,8 @@ from check_measures import WORD, pages_of, without_known
 from made_parts import finish, read
 
 COMPARED = r"^```(?:console|edit|row|synopsis|toml\n# examples/).*?^```"  # blocks that check_examples.py compares
-WORDS = WORD + "|thirty|forty|fifty|sixty|seventy|eighty|ninety|hundred|thousand|million|dozen|twice|half|halves|thirds?|quarters?|fifths?|sixths?|eighths?|tenths?|hundredths?"
+OTHERS = "thirty forty fifty sixty seventy eighty ninety hundred thousand million billion dozen twice half halves doubled? tripled? thirds? quarters? fourths? fifths? sixths? sevenths? eighths? ninths? tenths? hundredths? thousandths?"
+WORDS = "|".join([WORD, *OTHERS.split()])
 
 
 def numbers(page: str, told: dict[str, Any]) -> Iterator[str]:
