@@ -2,8 +2,8 @@
 
 - Each word, as `--threads`, python3-numpy, dpkg-dev or phasor_reference, stands in some file of this tree that is no page, or in a
   block of its page that is tried; or it is one of OTHERS, with what it belongs to. Words in capitals stand for others.
-- ptulab's names, on all pages but that of Rattle's contracts: `ptulab.name`; `module.name` of a module of ptulab, which may also be
-  a variable that is called so; and `name(`, after a point too: all are names that some module or class of ptulab has.
+- ptulab's names, on all pages but that of Rattle's contracts: `name(`, and `name` after a point, as in `table.photons`, are names that
+  some module or class of ptulab has, and `module.name` those of this module, or of a class, as a variable may be called so.
 - `keyword=`, on the same pages: a parameter of the functions and classes that are called so where it stands in `name(..)`, otherwise
   of any that ptulab has.
 
@@ -24,7 +24,8 @@ from inline_commands import inline
 from made_parts import ROOT
 
 RATTLE = "docs/contracts.md"  # names functions of the crates
-ENDINGS = ("py", "js", "md", "json", "npz", "ptu", "toml", "csv")  # of files that are called as a module is
+ENDINGS = "bash csv h5 html js json jsonl lock md npz ome part png ptu py rt sh tar tif toml txt".split()  # of files
+LIBRARIES = {"np", "numpy", "lmfit", "concurrent", "sys", "distributed", "kept"}  # before a point; the last is a crate's variable
 WORD = re.compile(r"[A-Za-z_][\w-]*[A-Za-z\d]")
 TREE = "* .ci/* bench/**/* build/* crates/*/*/**/*.rt crates/*/*/**/*.antt crates/*/must-fail/* crates/*/data/**/* docs/* examples/* python/* python/src/**/* python/tests/*"
 TEXTS = ("", ".antt", ".css", ".edit", ".html", ".js", ".json", ".py", ".rows", ".rt", ".sh", ".toml", ".txt")
@@ -122,7 +123,9 @@ def wrong_names(line: str) -> Iterator[str]:
     for module, name in re.findall(r"(?<![\w.])(?:ptulab\.)?([a-z]\w*)\.([a-zA-Z]\w*)(?![\w-])", line):
         if module in modules_of_ptulab() and name not in names_of(module):
             yield f"{module}.{name}"
-    yield from (f"ptulab.{name}" for name in re.findall(r"(?<![\w.])ptulab\.([a-zA-Z]\w*)(?![\w-])", line) if name not in known)
+    for owner, name in re.findall(r"(?<![\w.])([a-z]\w*)\.([a-z]\w*)(?![\w-])", line):
+        if owner not in {*modules_of_ptulab(), *LIBRARIES} and name not in known:
+            yield f"{owner}.{name}"
     yield from (f"{name}(" for name in re.findall(r"(?<!\w)(?<!np\.)([a-z]\w+)\(", line) if name not in known)
 
 

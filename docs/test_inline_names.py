@@ -42,8 +42,10 @@ def test_a_word_stands_in_a_file_of_the_tree(line: str, wrong: list[str]) -> Non
         ("events.array", []),
         ("ptulab.burst", ["ptulab.burst"]),
         ("ptulab.app", []),
-        ("focus.constants(fit)", ["constants("]),
+        ("focus.constants(fit)", ["focus.constants", "constants("]),
         ("np.cumsum(", []),
+        ("table.photons, scan.html", []),
+        ("table.photon", ["table.photon"]),
         ("docs/fits.nothing", []),
     ],
 )
