@@ -19,11 +19,11 @@ A page is README.md, CONTRIBUTING.md, CHANGELOG.md, a page of docs/ or examples/
 The blocks of a page are tried in their order, in a folder of their own that has what the pages speak of: the folders
 examples, docs, bench and python, ./ptu, ./ptulab, FILE and PLAN, which are the sample of a scan and its plan, the same as big.ptu,
 big.ptu.gz and plan.toml, and the folder data with three such files. A block with a program that isn't on this machine is
-left out, and that is said. PROGRAM is the one that ./ptu of this tree runs by default. What differs is shown, and so is each link to a
-file or a title that isn't there, each name of a crate's file, as `ptu_cli/specs/Runs.antt`, that none has, each path of
-this tree, as `bench/run`, that isn't there, and each command in the prose, as `rt check --only`, that there isn't with these
-words (inline_commands.py says which are known), and each name in the code of the prose (inline_names.py); it ends with 1 if there is any. The scripts of examples/ want what ptulab
-wants (python/debian-packages): call it by a Python that has it.
+left out, and that is said. PROGRAM is the one that ./ptu of this tree runs by default. What differs is shown, and so is each link
+to a file or a title that isn't there, each name of a crate's file, as `ptu_cli/specs/Runs.antt`, that none has, each path of this
+tree, as `bench/run`, that isn't there, and of the code in the prose each command, as `rt check --only`, that there isn't with these
+words (inline_commands.py says which are known), and each name (inline_names.py); it ends with 1 if there is any. The scripts of
+examples/ want what ptulab wants (python/debian-packages): call it by a Python that has it.
 """
 
 import difflib

@@ -27,7 +27,7 @@ RATTLE = "docs/contracts.md"  # names functions of the crates
 ENDINGS = "bash csv h5 html js json jsonl lock md npz ome part png ptu py rt sh tar tif toml txt".split()  # of files
 LIBRARIES = {"np", "numpy", "lmfit", "concurrent", "sys", "distributed", "kept"}  # before a point; the last is a crate's variable
 WORD = re.compile(r"[A-Za-z_][\w-]*[A-Za-z\d]")
-TREE = "* .ci/* bench/**/* build/* crates/*/*/**/*.rt crates/*/*/**/*.antt crates/*/must-fail/* crates/*/data/**/* docs/* examples/* python/* python/src/**/* python/tests/*"
+TREE = "* .ci/* bench/* bench/edits/**/* build/* crates/*/src/**/* crates/*/specs/**/* crates/*/proofs/**/* crates/*/must-fail/* crates/*/data/**/* docs/* examples/* python/* python/src/**/* python/tests/*"
 TEXTS = ("", ".antt", ".css", ".edit", ".html", ".js", ".json", ".py", ".rows", ".rt", ".sh", ".toml", ".txt")
 OTHERS = {
     "what a user names": "my me mnt",
