@@ -194,15 +194,12 @@ def blanks_may_break(words: str) -> re.Pattern[str]:
 
 
 def without_known(text: str, page: str, told: dict[str, Any]) -> str:
-    """A text of a page without made parts, and without what measures.toml has: measures, facts of the page, and constants."""
+    """A text of a page without made parts, and without its measures and facts of measures.toml."""
     text = re.sub(r"^[^\n]*made by docs/.*?(?:<!--|#) end\b", "", text, flags=re.M | re.S)
     for whose, words, _ in places(told):
         text = pattern(words).sub(" ", text) if whose == page else text
     for fact in told.get("facts", {}).get(page, []):
         text = blanks_may_break(fact).sub(" ", text)
-    for one in told.get("constant", {}).values():
-        for words in one["words"]:
-            text = re.sub(rf"(?<![\w.,^]){blanks_may_break(words).pattern}\b", " ", text)
     return text
 
 
@@ -213,6 +210,8 @@ def unmeasured(page: str, told: dict[str, Any]) -> Iterator[str]:
         if not blanks_may_break(fact).search(text):
             yield f"{page}: '{fact}', a fact of docs/measures.toml, isn't there"
     text = without_known(text, page, told)
+    for words in (words for one in told.get("constant", {}).values() for words in one["words"]):
+        text = re.sub(rf"(?<![\w.,^]){blanks_may_break(words).pattern}\b", " ", text)
     text = re.sub(r"`[^`\n]*`|\]\([^)\n]*\)", " ", text)
     unit = rf"[- ](?:(?:million|thousand) )?(?:{'|'.join(told['units'])})\b| ?%"
     figure = rf"{NUMBER}(?:{unit})|\d[\d,]*\.\d+(?!\w|\.\d)|(?:{WORD}) (?:{'|'.join(told['things'])})\b"

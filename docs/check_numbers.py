@@ -1,12 +1,12 @@
 #!/usr/bin/env python3
 """Compares the numbers of the pages that nothing else checks with numbers.txt: check_numbers.py [--check]
 
-These are the numbers in the prose of a page, and in its blocks that show no output, which measures.toml hasn't as measures, facts or
-constants: how many of a thing there are, an example's settings, the numbers of a list. numbers.txt has them by page and title, in
-their order, in digits or in one of WORDS, each with its unit. So a number that was changed by mistake is noticed. Whether one is right
-isn't known here: who calls this without --check says so, having read what it tells of.
+These are the numbers in the prose of a page, and in its blocks that show no output, which measures.toml hasn't as measures or facts:
+how many of a thing there are, an example's settings, the numbers of a list. numbers.txt has them by page and title, in their order,
+in digits or in one of WORDS, each with its unit. So a number that was changed by mistake is noticed. Whether one is right isn't known
+here: who calls this without --check says so, having read what it tells of.
 
-A number that the code has is better off as a constant of measures.toml, which is noticed where the code changes.
+A number that the code has is also a constant of measures.toml, so that a change of the code is noticed.
 """
 
 import re

@@ -38,7 +38,7 @@ def lines_of(monkeypatch: pytest.MonkeyPatch, page: str) -> list[str]:
 
 
 def test_numbers_of_prose_and_of_blocks_that_show_no_output(monkeypatch: pytest.MonkeyPatch) -> None:
-    first = "p.md, In two parts: 1.5 s; third; 1,024 events; 430e-12; -1\n"
+    first = "p.md, In two parts: 1.5 s; third; 1,024 events; 430e-12; -1; 8 KiB\n"
     assert lines_of(monkeypatch, PAGE) == [first, "p.md, The other [part 9: Twelve; 64; 5 %; 2; 40; 20\n"]
 
 
