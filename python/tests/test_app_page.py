@@ -388,8 +388,8 @@ def test_regions_are_typed_in_micrometres_and_come_back(window: Window) -> None:
 
 def test_more_than_a_hundred_findings_are_said_to_be_more(window: Window) -> None:
     window.choose("scan.ptu", "decay")
-    for many, last in ((100, "line 300: "), (101, "There is more: these are the first 100.")):
-        typed(window, "text", "[[trace]]\nwidth = 1\nbins = 0\n" * many)
+    for many, last in ((100, "line 100: the plan: k99 is no key"), (101, "There is more: these are the first 100.")):
+        typed(window, "text", "".join(f"k{number} = 1\n" for number in range(many)) + "[[group]]\ninputs = [0]\n")
         window.until(lambda: window.js("return document.querySelector('#findings li:nth-child(100)') && document.querySelector('#findings li:last-child').textContent.startsWith(arguments[0])", last), last)
 
 
