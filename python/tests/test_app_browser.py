@@ -138,7 +138,7 @@ def test_a_window_of_microseconds_over_ticks_of_markers(window: Window) -> None:
             window.js("document.getElementById('figure-look-trace-plot').dispatchEvent(new KeyboardEvent('keydown', {key: arguments[0]}))", key)
         assert window.text("#figure-look-trace .said") == said
     lasts = window.js("return document.getElementById('figure-look-trace-plot')._fullLayout.xaxis.range")
-    window.plot("look-trace", (0.25, 0.5), (0.4, 0.5), (0.5, 0.5))
+    window.plot("look-trace", (0.25, 1.1), (0.4, 1.1), (0.5, 1.1))  # over the ticks, which a window may not fade
     window.until(lambda: float(window.js("return document.getElementById('setting-to_seconds').value")) > 0, "a window")
     begin, end = (float(window.js(f"return document.getElementById('setting-{key}').value")) for key in ("from_seconds", "to_seconds"))
     width = lasts[1] - lasts[0]

@@ -390,7 +390,7 @@ def test_more_than_a_hundred_findings_are_said_to_be_more(window: Window) -> Non
     window.choose("scan.ptu", "decay")
     for many, last in ((100, "line 100: the plan: k99 is no key"), (101, "There is more: these are the first 100.")):
         typed(window, "text", "".join(f"k{number} = 1\n" for number in range(many)) + "[[group]]\ninputs = [0]\n")
-        window.until(lambda: window.js("return document.querySelector('#findings li:nth-child(100)') && document.querySelector('#findings li:last-child').textContent.startsWith(arguments[0])", last), last)
+        window.until(lambda last=last: window.js("return document.querySelector('#findings li:nth-child(100)') && document.querySelector('#findings li:last-child').textContent.startsWith(arguments[0])", last), last)
 
 
 def test_progress_is_said_now_and_then(window: Window) -> None:

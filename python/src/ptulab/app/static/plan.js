@@ -87,12 +87,12 @@ function numbered(findings) {
 export function say({ findings, more }, none) {
   numbered(findings);
   text.setAttribute("aria-invalid", String(findings.some((one) => one.refused)));
-  const lines = findings.map((one) => ({ text: `line ${one.line}: ${one.text}`, line: one.line, refused: one.refused })), told = lines.map((one) => one.text).join("\n") || none;
+  const lines = findings.map((one) => ({ text: `line ${one.line}: ${one.text}`, line: one.line, refused: one.refused }));
+  const rest = more ? [`There is more: these are the first ${lines.length}.`] : [], told = [...lines.map((one) => one.text), ...rest].join("\n") || none;
   if (byId("findings").dataset.told === told) return; // a screen reader has read it
   byId("findings").dataset.told = told;
   const items = lines.map((one) => make("li", {}, make("button", { type: "button", class: one.refused ? "wrong" : "", text: one.text, on: { click: () => go(one.line) } })));
-  if (more) items.push(make("li", { text: `There is more: these are the first ${items.length}.` }));
-  byId("findings").replaceChildren(...(items.length || !none ? items : [make("li", { text: none })]));
+  byId("findings").replaceChildren(...(items.length || !none ? items : [make("li", { text: none })]), ...rest.map((words) => make("li", { text: words })));
 }
 
 /** @param {number} line */
