@@ -8,6 +8,7 @@ that are free in each pixel, and for two that all pixels share, it prints the pr
 
 import argparse
 import time
+from typing import Literal
 
 import numpy as np
 
@@ -16,6 +17,7 @@ from ptulab.fits import Convolved
 
 BINS, PERIOD, DARK = 64, 25.0, 0.2
 LIFETIMES = (0.8, 3.2)
+KINDS: tuple[Literal["free", "shared"], ...] = ("free", "shared")
 
 
 def main() -> None:
@@ -30,7 +32,7 @@ def main() -> None:
     parts = draws.uniform(0, 1, (words.n, words.n, 1))
     curve = parts * shape.decay(LIFETIMES[0], 0.0) + (1 - parts) * shape.decay(LIFETIMES[1], 0.0)
     counts = draws.poisson((words.photons - BINS * DARK) * curve + DARK).astype(np.int32)
-    for kind in ("free", "shared"):
+    for kind in KINDS:
         begun_at = time.process_time()
         found = pixels.fit_pixels(counts, pulse, width, [1.0, 3.0], kind=kind, period=PERIOD, background=DARK)
         seconds = time.process_time() - begun_at

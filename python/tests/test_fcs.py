@@ -62,7 +62,7 @@ def test_diffusion_is_found_by_the_photons_of_molecules(tmp_path: Path, program:
     for seed in range(10):
         table = ptulab.run(plan, simulated.diffusion(tmp_path / "plane.ptu", seed, step=simulated.DIFFUSION / 10), program=program).table("correlation")
         curves.append(table.normalised())
-    fit = fits.fit_fcs(table.seconds, np.mean(curves, axis=0), segments=np.array(curves), dimensions=2, span=(1e-4, 8 * simulated.DIFFUSION))
+    fit = fits.fit_fcs(np.asarray(table.seconds), np.mean(curves, axis=0), segments=np.array(curves), dimensions=2, span=(1e-4, 8 * simulated.DIFFUSION))
     for name, known in {"number": simulated.NUMBER, "diffusion": simulated.DIFFUSION, "baseline": 1 - 1 / 20}.items():
         assert fit.values[name] == pytest.approx(known, rel=0.03) and abs(fit.values[name] - known) < 4 * fit.errors[name]
 

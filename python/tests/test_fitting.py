@@ -17,6 +17,14 @@ def line(axis: Any, level: float, slope: float) -> Any:
     return level + slope * axis
 
 
+def constant(axis: Any, level: float) -> Any:
+    return level + 0 * axis
+
+
+def twice_constant(axis: Any, one: float, other: float) -> Any:
+    return one + other + 0 * axis
+
+
 def errors_of(spread: Any) -> Any:
     """Of the level and the slope of a line through points with these standard deviations."""
     columns = np.stack([np.ones(len(AXIS)), AXIS]) / spread
@@ -55,7 +63,7 @@ def test_errors_of_points_with_known_and_with_unknown_errors() -> None:
 def test_errors_by_segments_are_what_each_of_them_moves() -> None:
     """Of a level the mean of points, which count by the scatter of segments with that of their neighbours."""
     parts = 5 + DRAWS.normal(0, np.linspace(1, 3, len(AXIS)), (6, len(AXIS)))
-    fit = fits.fit_model(lambda axis, level: level + 0 * axis, AXIS, parts.mean(axis=0), {"level": 4.0}, segments=parts)
+    fit = fits.fit_model(constant, AXIS, parts.mean(axis=0), {"level": 4.0}, segments=parts)
     squares = parts.var(axis=0, ddof=1) / 6
     scale = np.array([squares[max(at - 4, 0) : at + 5].mean() for at in range(len(AXIS))])
     levels = parts @ (1 / scale) / (1 / scale).sum()
@@ -69,14 +77,14 @@ def test_errors_by_segments_are_what_each_of_them_moves() -> None:
 
 
 def test_parameters_that_nothing_tells_apart_have_no_errors() -> None:
-    fit = fits.fit_model(lambda axis, one, other: one + other + 0 * axis, AXIS, np.arange(12.0), {"one": 1.0, "other": 2.0}, errors=np.ones(12))
+    fit = fits.fit_model(twice_constant, AXIS, np.arange(12.0), {"one": 1.0, "other": 2.0}, errors=np.ones(12))
     assert all(np.isnan(error) for error in fit.errors.values()) and fit.values["one"] + fit.values["other"] == pytest.approx(5.5)
 
 
 def test_slopes_are_the_derivatives_of_the_model() -> None:
     """By steps that go with a parameter, and by those of the size that matters where it is 0."""
     axis = np.array([1.0, 500.0, 1000.0])
-    problem = _fitting.Problem(axis, axis, lambda at, now: now["height"] * np.exp(now["rate"] * at), _fitting.normal(axis, axis), None)
+    problem = _fitting.Problem(axis, axis, lambda at, now: np.asarray(now["height"] * np.exp(now["rate"] * at)), _fitting.normal(axis, axis), None)
     for rate, least in ((-2e-3, None), (2e-3, 0.0), (0.0, 0.01)):
         values = {"height": 3.0, "rate": rate}
         assert _fitting._slope(problem, values, "rate", least) == pytest.approx(3 * axis * np.exp(rate * axis), rel=1e-6)
@@ -86,7 +94,7 @@ def test_slopes_are_the_derivatives_of_the_model() -> None:
 def test_a_parameter_near_its_bound_has_no_error() -> None:
     """Within a tenth of the error that it would have, here 0.5; the other's is as if it were held."""
     for bounds, free in (((2.0, 9.0), True), ((2.94, 9.0), True), ((2.96, 9.0), False), ((0.0, 3.06), True), ((0.0, 3.04), False)):
-        fit = fits.fit_model(lambda axis, level: level + 0 * axis, AXIS[:4], np.full(4, 3.0), {"level": 2.5}, errors=np.ones(4), bounds={"level": bounds})
+        fit = fits.fit_model(constant, AXIS[:4], np.full(4, 3.0), {"level": 2.5}, errors=np.ones(4), bounds={"level": bounds})
         assert (fit.errors["level"] == pytest.approx(0.5)) if free else np.isnan(fit.errors["level"])
     held = fits.fit_model(line, AXIS, -AXIS, {"level": 1.0, "slope": -1.0}, errors=np.ones(12), bounds={"level": (0.0, 9.0)})
     assert np.isnan(held.errors["level"]) and held.errors["slope"] == pytest.approx(1 / np.linalg.norm(AXIS), rel=1e-6)
@@ -115,15 +123,15 @@ def test_fits_together_count_what_their_segments_do_together() -> None:
     parts = [5 + DRAWS.normal(0, spread, shape) + together for spread in (0.5, 2.0)]
 
     def fitted(parts: Any) -> fits.Fit:
-        return fits.fit_model(lambda axis, level: level + 0 * axis, AXIS, parts.mean(axis=0), {"level": 4.0}, segments=parts)
+        return fits.fit_model(constant, AXIS, parts.mean(axis=0), {"level": 4.0}, segments=parts)
 
     found = fits.fit_together(map(fitted, parts), ["level"])
     weights = np.concatenate([1 / _fitting.errors_of_cells(one[0], None, one) ** 2 for one in parts])
     levels = np.concatenate(parts, axis=1) @ weights / weights.sum()
     assert found[0].values["level"] == pytest.approx(levels.mean(), rel=1e-6)
     assert found[1].errors["level"] == pytest.approx(levels.std(ddof=1) / np.sqrt(6), rel=1e-6)
-    alone = fits.fit_model(lambda axis, level: level + 0 * axis, AXIS, parts[0][0], {"level": 4.0}, errors=np.ones(len(AXIS)))
-    alike = fits.fit_model(lambda axis, level: level + 0 * axis, AXIS, parts[0][0], {"level": 4.0})
+    alone = fits.fit_model(constant, AXIS, parts[0][0], {"level": 4.0}, errors=np.ones(len(AXIS)))
+    alike = fits.fit_model(constant, AXIS, parts[0][0], {"level": 4.0})
     for other, said in ((fitted(parts[0][:5]), "as many segments"), (alone, "as many segments"), (alike, "as many segments|errors of all")):
         with pytest.raises(ValueError, match=said):
             fits.fit_together([fitted(parts[0]), other], ["level"])
@@ -179,6 +187,9 @@ def test_g2_without_its_background() -> None:
     value, error = without_background(0.5, 0.03, 0.8, 0.02)
     assert value == pytest.approx(1 - 0.5 / 0.64) and error == pytest.approx(np.hypot(0.03 / 0.64, 2 * (0.5 / 0.64) * 0.02 / 0.8))
     assert without_background(np.array([2.0]), np.array([0.0]), 1.0, 0.1)[1] == pytest.approx([0.2])
+    assert without_background(0.5, 0.03, 0.8) == pytest.approx((value, 0.03 / 0.64))  # of a signal that is exact
+    with pytest.raises(ValueError, match="a signal of 1.01"):
+        without_background(0.5, 0.03, 1.01)
 
 
 def test_what_no_fit_begins_with_is_refused() -> None:

@@ -281,10 +281,10 @@ def _time(said: Duration) -> _Time:
         raise BadPlanError(f"{said!r} is no time: write seconds, or a number with a unit ({units}), as '12.5 ns' or '300 ticks'")
     number = found[1].replace("_", "")
     if found[2] in SECONDS:
-        return _Time(said, float(number) * SECONDS[found[2]], None)
+        return _Time(found[0], float(number) * SECONDS[found[2]], None)
     if not number.lstrip("+-").isdigit():
         raise BadPlanError(f"{said!r}: a number of ticks is whole")
-    return _Time(said, None, int(number))
+    return _Time(found[0], None, int(number))
 
 
 def _length(said: Duration) -> _Time:
