@@ -11,7 +11,7 @@ A command is what begins with one of these, perhaps behind settings of variables
 
 - dask COMMAND and snakemake, where they are on this machine: a command that answers --help, with options that this tells.
 
-- ./NAME is a file of the tree, and any other program that is given options is on this machine.
+- ./NAME is a file of the tree, and any other program that is given options, or a command of these, is on this machine.
 
 Words in capitals, '..', and what begins with a bracket stand for others. Of anything else nothing is known here.
 """
@@ -26,7 +26,7 @@ from collections.abc import Iterator
 
 from made_parts import ROOT, read
 
-ELSEWHERE = ("g++", "set", "sudo", "ulimit", "valgrind", "wsl")  # the shell's own, and programs that this machine may lack
+ELSEWHERE = ("g++", "set", "sudo", "ulimit", "valgrind", "words", "wsl")  # of the shell, of rows, and programs that this machine may lack
 FOLDERS = ("bench/", "build/", "docs/", "examples/", "python/", ".ci/")
 
 
@@ -142,6 +142,13 @@ def fault_of_rt(words: list[str]) -> str | None:
     return next((f"no crate {name}" for name in crates if not (ROOT / "crates" / name).is_dir()), None)
 
 
+@functools.cache
+def commands_here() -> set[str]:
+    """The commands of ptu, ptulab and the kit."""
+    kit = words_of_kit()
+    return {*re.findall(r"^  ptu (\w+)", read("docs/help.txt"), flags=re.M), *re.findall(r"^    ([a-z]+)  ", help_of_ptulab(), flags=re.M), *(kit[0] if kit else ())}
+
+
 def fault_of(words: list[str]) -> str | None:
     """What is wrong with the words of a command, or None."""
     is_called = words[:1] == ["python3"]
@@ -159,8 +166,10 @@ def fault_of(words: list[str]) -> str | None:
         return fault_of_other(words)
     if first == "rt":
         return fault_of_rt(rest)
-    is_there = (ROOT / first).exists() if first.startswith("./") else not options(rest) or first in ELSEWHERE or shutil.which(first)
-    return None if is_there or not re.fullmatch(r"[a-z./][\w./+-]*", first) else f"no program {first}"
+    if not re.fullmatch(r"[a-z./][\w./+-]*", first) or not options(rest) and rest[:1] not in [[name] for name in commands_here()]:
+        return None
+    is_there = (ROOT / first).exists() if first.startswith("./") else first in ELSEWHERE or shutil.which(first)
+    return None if is_there else f"no program {first}"
 
 
 def inline(page: str, text: str) -> Iterator[str]:

@@ -34,6 +34,7 @@ from inline_commands import fault_of, simple_commands, wrong_commands
         ("./put --help", "no program ./put"),
         ("./install.sh", None),
         ("rb try --test", "no program rb"),
+        ("put count FILE", "no program put"),
         ("valgrind --tool=callgrind", None),
     ],
 )
