@@ -97,7 +97,7 @@ def phasor_plane(points: NDArray[np.complex128], period: float, axis: NDArray[An
     counts = np.zeros((high - low, right - left), np.int64)
     np.add.at(counts, (np.floor(known.imag * CELLS).astype(int) - low, np.floor(known.real * CELLS).astype(int) - left), 1)
     marks = [(time, phasor_of_lifetime(time * 1e-9, 1 / period, float(axis[1] - axis[0]))) for time in MARKED if 0.005 * period < time * 1e-9 < period / 2]
-    told = f"How many of {len(known):,} pixels have which phasor. Decays of one lifetime lie on the semicircle, on which lifetimes are marked, and mixtures inside it."
+    told = f"How many of {len(known):,} pixels have which phasor. Decays of one lifetime lie on the semicircle, where it is marked, and mixtures inside of it."
     return {"kind": "plane", "name": "phasors", "title": "Phasors of the pixels", "summary": told, "rows": high - low, "columns": right - left, "left": left, "low": low,
             "cells": CELLS, "counts": packed(counts), "marks": [{"label": f"{time:g} ns", "g": float(at.real), "s": float(at.imag)} for time, at in marks]}  # fmt: skip
 
