@@ -25,12 +25,12 @@ EXAMPLES = ROOT / "examples"
 
 LONG = (
     "test_many_hosts test_many_hosts_sums test_many test_app_browser test_app_page test_app test_app_results test_browser test_fits "
-    "test_notebook test_smfret"
+    "test_notebook test_smfret test_steered test_intensity test_rows test_plots test_page"
 ).split()
 PARTS = {"test_many": 3, "test_fits": 2, "test_app_browser": 2, "test_app_page": 2}  # files whose tests share nothing, in so many parts
 # Whose coverage isn't measured, which would take a third of their time: what they reach in the package others reach too.
 UNCOVERED = "test_many_hosts test_many_hosts_sums test_app_browser test_app_page test_browser".split()
-STATISTICS = re.compile("their_scatter")  # in the names of tests that fit again and again
+STATISTICS = re.compile("(their|its)_scatter")  # in the names of tests that fit again and again
 
 
 def pytest_configure(config: pytest.Config) -> None:
