@@ -1,7 +1,7 @@
 -- Pairs summed lag by lag.
 use Rattle.tally_base.{specs.Settings.{CoincidenceView}, proofs.Sums.{sum_none}}
 use Rattle.lag_ring.{specs.declared.ring.Entry.Entry, specs.declared.window.Side.Side, specs.Bytes.{weight_of, weight_before, Have, behind}, specs.Ring.IsRising, proofs.Lists.{all_both, all_filter, all_join, each_at}, proofs.Rising.{all_weaker, all_push, filter_passed, rising_filter}, proofs.Sums.{sum_by-same, sum_by-agree, sum_by-plus, sum_by-times, sum_by-zero, window-before}}
-use Rattle.coincidence.{specs.Pairing.{shifted_by, other_side, lag_pair, pairs_at, pairs_of, pairs_of_all}, specs.Closing.{lag_pairs, each_lag_pair, lag_sum, lags_of, placed, strip_pairs, window_pairs, window_sum}, proofs.Shut.filter_none, proofs.Visits.{pairs_near, pairs_far}}
+use Rattle.coincidence.{specs.Pairing.{shifted_by, other_side, lag_pair, pairs_at, pairs_of_all}, specs.Closing.{lag_pairs, each_lag_pair, lag_sum, lags_of, placed, strip_pairs, window_pairs, window_sum}, proofs.Shut.filter_none, proofs.Visits.{pairs_near, pairs_far}}
 use Rattle.std.{proofs.Common.{◌≡◌, ◌≢◌, ◌∙◌, ℕ, zero, suc, ◌+◌, ◌-◌, ◌*◌, ◌/◌, ◌^◌, ◌<◌, ◌≤◌, Bool, true, false, ◌&&◌, leb, ltb, eqb, cond, List, [], ◌∷◌, ◌++◌, refl, sym, ap, arith, take, drop, nat_le, nat_lt, append_assoc, rules, length, get_or, replicate}, specs.List.{sum_by, filter, range_with_len, AllByRecursion}, specs.List.Sorted.IsNonDecreasingBy, proofs.Math.Nat.mul-le-mul_right, proofs.lemmas.Grind.common_steps, proofs.lemmas.Bool.Decides.nat_tests, proofs.lemmas.List.get_or-replicate, proofs.lemmas.List.Elements.filter-append, proofs.lemmas.List.Sums.{sum_by-cons, sum_by-append}}
 
 -- sums over two lists in either order
@@ -56,8 +56,7 @@ all_lags d set c base count l es =
 -- those that are before, at all lags in reach
 pub lags_before : (d : Side) (set : CoincidenceView) (c : ℕ) (l : Entry) (es : List Entry) → AllByRecursion (λ e. e.index < l.index) es
     → sum_by (lag_pair d set c 0 set.reach l) es ≡ pairs_of_all d set c l.index (weight_of (other_side d) l) es
-lags_before d set c l es before = sum_by-agree (λ e. e.index < l.index) (lag_pair d set c 0 set.reach l)
-    (pairs_of d set c l.index (weight_of (other_side d) l)) es before (λ e below. grind (arith, common_steps, nat_tests, pairs_near, pairs_far))
+lags_before d set c l es before = search (rules, arith, sum_by-agree, pairs_near, pairs_far)
 
 pub range-within : (a n : ℕ) → AllByRecursion (λ i. (a ≤ i) × (i < a + n)) (range_with_len a n)
 range-within a zero = tt
@@ -180,7 +179,7 @@ rising_join (e ∷ es) later rising rising' above = search (rules, arith, all_jo
 placed-sum : (f : Entry → ℕ) (base low high : ℕ) (es : List Entry) → ((e : Entry) → e.index < low - (base + 4096) → f e ≡ 0)
     → ((e : Entry) → high - base ≤ e.index → f e ≡ 0) → sum_by f (placed base low high es) ≡ sum_by f es
 placed-sum f base low high [] before behind' = search rules
-placed-sum f base low high (e ∷ es) before behind' = grind (arith, common_steps, nat_tests, sum_by-cons, placed-sum f base low high es before behind', before e, behind' e)
+placed-sum f base low high (e ∷ es) before behind' = search (rules, arith, sum_by-cons, placed-sum f base low high es before behind')
 
 pub placed_append : (base low high : ℕ) (es fs : List Entry) → placed base low high (es ++ fs) ≡ placed base low high es ++ placed base low high fs
 placed_append base low high es fs = search (rules, filter-append)
@@ -196,16 +195,15 @@ pub placed-rising : (base low high : ℕ) (es : List Entry) → IsRising es → 
 placed-rising base low high es rising = rising_filter _ _ (rising_filter _ es rising)
 
 pub placed-early : (base low high : ℕ) (es : List Entry) → base ≤ 2 ^ 20 → AllByRecursion (λ e. e.index < 2 ^ 63) es → AllByRecursion (λ e. e.index + (base + 4096) < 2 ^ 64) (placed base low high es)
-placed-early base low high es few early = all_weaker (λ (e : Entry). e.index < 2 ^ 63) (λ (e : Entry). e.index + (base + 4096) < 2 ^ 64) (λ e below. omega (arith, below, few)) _ (placed-all _ base low high es early)
+placed-early base low high es few early = search (rules, arith, all_weaker, placed-all)
 
 pub placed-three : (f : Entry → ℕ) (base low high : ℕ) (front back ring later : List Entry) → front ++ back ≡ ring
     → sum_by f (placed base low high (ring ++ later)) ≡ sum_by f (placed base low high front) + sum_by f (placed base low high back) + sum_by f (placed base low high later)
-placed-three f base low high front back ring later is = rw (placed_append base low high ring later)
-    (three_sums f (placed base low high front) (placed base low high back) (placed base low high ring) (placed base low high later) (sym (placed_append base low high front back) ∙ ap (placed base low high) is))
+placed-three f base low high front back ring later is = search (rules, arith, placed_append, three_sums)
 
 placed-pairs : (d : Side) (set : CoincidenceView) (c base low high : ℕ) (l : Entry) (es : List Entry) → (low ≤ l.index) × (l.index < high)
     → sum_by (lag_pair d set c base (lags_of set base) l) (placed base low high es) ≡ sum_by (lag_pair d set c base (lags_of set base) l) es
-placed-pairs d set c base low high l es at = placed-sum (lag_pair d set c base (lags_of set base) l) base low high es (λ e early. grind (arith, nat_tests)) (λ e late. grind (arith, nat_tests))
+placed-pairs d set c base low high l es at = search (rules, arith, placed-sum)
 
 module _ (d : Side) (set : CoincidenceView) (c base low high : ℕ) (later : List Entry) (near : AllByRecursion (λ e. (low ≤ e.index) × (e.index < high)) later) where
   abbrev pairs-with : Entry → List Entry → ℕ
@@ -213,8 +211,7 @@ module _ (d : Side) (set : CoincidenceView) (c base low high : ℕ) (later : Lis
 
   -- the pairs at the lags are those with these
   pub lags-placed : (es : List Entry) → lag_sum d set c base (lags_of set base) (placed base low high es) later ≡ lag_sum d set c base (lags_of set base) es later
-  lags-placed es = rw (lags_of_each d set c base (lags_of set base) (placed base low high es) later, lags_of_each d set c base (lags_of set base) es later)
-      (sum_by-agree (λ e. (low ≤ e.index) × (e.index < high)) (λ l. pairs-with l (placed base low high es)) (λ l. pairs-with l es) later near (λ l at. placed-pairs d set c base low high l es at))
+  lags-placed es = search (rules, arith, lags_of_each, sum_by-agree, placed-pairs)
 
   -- also one by one
   pub pairs-placed : (front back ring : List Entry) → front ++ back ≡ ring → lag_sum d set c base (lags_of set base) (ring ++ later) later
@@ -229,7 +226,7 @@ module _ (d : Side) (set : CoincidenceView) (c base low high : ℕ) (later : Lis
       ∙ sum_by-plus (λ l. g front l + g back l) (g later) later ∙ ap (λ n. n + sum_by (g later) later) (sum_by-plus (g front) (g back) later))
 
 pub near-low : (low high : ℕ) (later : List Entry) → high ≤ low + 4096 → AllByRecursion (λ e. (low ≤ e.index) × (e.index < high)) later → AllByRecursion (λ e. (low ≤ e.index) × (e.index - low < 4096)) later
-near-low low high later short near = all_weaker (λ (e : Entry). (low ≤ e.index) × (e.index < high)) (λ (e : Entry). (low ≤ e.index) × (e.index - low < 4096)) (λ e is. (is.0, omega (arith, is.0, is.1, short))) later near
+near-low low high later short near = search (rules, arith, all_weaker)
 
 -- the pairs of a window with these are those with all
 pub window-pairs-all : (d : Side) (set : CoincidenceView) (c base low high : ℕ) (window spots : List ℕ) (es later : List Entry)
@@ -256,7 +253,7 @@ lags-le d set c i n es later upto = range-le (lag_pairs d set c es later) 1 i n 
 pub never-falls : (es : List Entry) → IsRising es → IsNonDecreasingBy (λ (e : Entry). e.index) es
 never-falls [] rising i j d upto inside = absurd (omega (arith, inside))
 never-falls (e ∷ es) rising zero zero d upto inside = omega arith
-never-falls (e ∷ es) rising zero (suc j) d upto inside = let above = each_at (λ f. e.index < f.index) es j d (omega (arith, inside)) rising.0 in omega (arith, above)
+never-falls (e ∷ es) rising zero (suc j) d upto inside = search (rules, arith, each_at)
 never-falls (e ∷ es) rising (suc i) zero d upto inside = absurd (omega (arith, upto))
 never-falls (e ∷ es) rising (suc i) (suc j) d upto inside = never-falls es rising.1 i j d (omega (arith, upto)) (omega (arith, inside))
 

@@ -54,7 +54,7 @@ both_lag_sums set c base count es later = lag_sum First set c base count es late
 abbrev pub each_lag_pair : Side → CoincidenceView → ℕ → ℕ → List Entry → List Entry → ℕ
 each_lag_pair direction set c base es later = sum_by (λ e. sum_by (λ l. lag_pair direction set c base (lags_of set base) l e) later) es
 
--- the entries that later ones below an index, and not below another, reach at the lags of a window
+-- the entries that later ones below an index, and not below another, may reach at the lags of a window
 abbrev pub placed : ℕ → ℕ → ℕ → List Entry → List Entry
 placed base low high es = filter (λ e. nat_lt e.index (high - base)) (filter (λ e. nat_le (low - (base + 4096)) e.index) es)
 

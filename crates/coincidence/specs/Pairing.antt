@@ -145,13 +145,14 @@ module _ (set : CoincidenceView) where
 
 -- photons of one tick may come after some that came
 abbrev pub MayJoin : Option Bin → Bin → Type 0
-MayJoin waiting bin = ∥ ((set : CoincidenceView) × (ring : Ring) × (cells : Cells) × (bins : List Bin) × (came : History) × (xs : History) × CanPut set (Gathered set waiting ring cells bins) bin came xs) ∥₁
+MayJoin waiting bin = ∥ ((set : CoincidenceView) × (ring : Ring) × (cells : Cells) × (bins : List Bin) × (came : History) × (xs : History)
+    × CanPut set (Gathered set waiting ring cells bins) bin came xs) ∥₁
 
 -- Where photons of one tick may come, they came then: one bin is open, and another may be closed.
 abbrev pub Joins : Option Bin → Bin → Option Bin → Bin → Type 0
 Joins waiting bin closed now = (set : CoincidenceView) (ring : Ring) (cells : Cells) (bins : List Bin) (came xs : History) → CanPut set (Gathered set waiting ring cells bins) bin came xs
     → Gathered set (Some now) ring cells (bins ++ closed_bin closed) (came ++ xs)
 
--- The same, where no bin is to be closed then.
+-- The same, where no closed bin waits to be paired.
 abbrev pub Puts : CoincidenceView → Option Bin → Option Bin → Pairing → Pairing → Bin → Type 0
 Puts set waiting now old new bin = (came xs : History) → CanPut set (Gathered set waiting old.ring old.cells []) bin came xs → Gathered set now new.ring new.cells [] (came ++ xs)

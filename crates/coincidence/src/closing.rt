@@ -161,25 +161,27 @@ fn close_part<L: Ledger>(
     close_each(pairing, set, bins, steps);
 }
 
-/// How many bins there are before the first that a window from the first one on has no place for.
+/// How many bins there are before the first for which a window from the first one on has no place, or too many photons.
 fn near_first(bins: &[Bin]) -> usize
     requires some { 0 < length bins.now }
     ensures { (0 < result) × (result ≤ length bins.now) }
 {
     let low = bins[0].weights.index;
-    let last = bins[bins.len() - 1].weights.index;
-    if last.saturating_sub(low) < u64::from(MOST_LAGS) {
-        return bins.len();
-    }
-    for count in 1..bins.len() {
-        if bins[count].weights.index.saturating_sub(low) >= u64::from(MOST_LAGS) {
+    let mut firsts = 0u64;
+    let mut seconds = 0u64;
+    for count in 0..bins.len() {
+        let Entry { index, a, b } = bins[count].weights;
+        firsts = firsts.saturating_add(a);
+        seconds = seconds.saturating_add(b);
+        let near = index.saturating_sub(low) < u64::from(MOST_LAGS);
+        if count > 0 && !(near && firsts.max(seconds) <= MOST_SPOTS as u64) {
             return count;
         }
     }
     bins.len()
 }
 
-/// Pairs bins, and puts them among the closed ones: as many at once as a window has places for.
+/// Pairs bins, and puts them among the closed ones: as many at once as a window takes.
 pub(crate) fn close_all<L: Ledger>(
     pairing: &mut Pairing,
     set: &CoincidenceSet,

@@ -137,7 +137,7 @@ fn add_sums<L: Ledger>(
     }
 }
 
-/// Pairs photons at some spots with what stands in the window before them, at all lags in reach.
+/// Pairs photons at some spots with what stands in the window before them, at the lags of the windows.
 fn pair_window<L: Ledger>(
     cells: &mut PairCells,
     places: Places,
@@ -246,7 +246,7 @@ fn pair_one<L: Ledger>(
 /// Pairs the photons of later entries with those of an earlier one, at the lags of the windows.
 #[inline(always)]
 #[tactic(auto, using(std::proofs::lemmas::List::Sums::sum_by_more_le))]
-fn pair_near<L: Ledger>(
+fn pair_with_later<L: Ledger>(
     cells: &mut PairCells,
     places: Places,
     direction: Side,
@@ -282,7 +282,7 @@ fn pair_each<L: Ledger>(
     ensures { CountsEach places direction cells.old cells.new steps.old steps.new entries.now later.now }
 {
     for earlier in entries {
-        pair_near(cells, places, direction, later, earlier, steps);
+        pair_with_later(cells, places, direction, later, earlier, steps);
     }
 }
 

@@ -1,4 +1,5 @@
-use Rattle.std.{proofs.Common.{◌≡◌, ◌+◌, ◌<◌, ℕ, List, [], ◌∷◌, ◌++◌, sym, refl, take, drop, get_or, add-one, drop-cons, length}, proofs.lemmas.List.{take_more, take-append-drop}}
+use Rattle.std.proofs.Common.{arith, rules}
+use Rattle.std.{proofs.Common.{◌≡◌, ◌+◌, ◌<◌, ℕ, List, [], ◌∷◌, ◌++◌, take, drop, get_or, add-one, drop-cons, length}, proofs.lemmas.List.{take_more, take-append-drop}}
 use Rattle.coincidence.{specs.declared.pairing.Bin.Bin, proofs.Together.{closes_none, closes_on, rest_may, part_may}}
 use Rattle.coincidence.proofs.closing.close_each.Goals as goal
 
@@ -6,7 +7,7 @@ abbrev no_bin : Bin
 no_bin = record { weights = record { index = 0; a = 0; b = 0 }; both = 0 }
 
 next : (bins : List Bin) (i : ℕ) → i < length bins → bins ≡ take i bins ++ ((get_or bins i no_bin ∷ []) ++ drop (i + 1) bins)
-next bins i inside = let split : drop i bins ≡ (get_or bins i no_bin ∷ []) ++ drop (i + 1) bins = rw (add-one, drop-cons bins i no_bin) refl in rw (← split) (sym (take-append-drop i bins))
+next bins i inside = search (rules, arith, no_bin, add-one, drop-cons, take-append-drop)
 
 pub loop-bin-init : goal.loop-bin-init
 loop-bin-init g c = closes_none _ _ _

@@ -4,17 +4,7 @@ use Rattle.coincidence.{proofs.Picked.{may_gather, gathers_more, gathered_end}}
 use Rattle.coincidence.proofs.gathering.gather_block.Goals as goal
 
 pub loop-row-init : goal.loop-row-init
-loop-row-init c =
-    let set = coincidence_view c.args.set.now in
-    record {
-      came = record {
-        from = 0;
-        within = omega arith;
-        picked = c.pick-picked.ensures.picked;
-        came = λ ring cells h can. rw (append-nil h, c.requires.empty.0) can.was;
-      };
-      few = omega (arith, c.requires.empty.1);
-    }
+loop-row-init c = search (rules, arith, append-nil)
 
 pub put_bin-requires : goal.put_bin-requires
 put_bin-requires c = record { room = search (rules, arith, length-take) }

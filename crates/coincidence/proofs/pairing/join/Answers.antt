@@ -1,4 +1,5 @@
-use Rattle.std.{proofs.Props.props, proofs.Math.Logic.∥∥₁_elim, proofs.Common.{[], refl, ◌≡◌, ◌∙◌, ◌+◌, ◌^◌, ◌<◌, Some, List, length, ap, arith, append-nil, length-append}, proofs.lemmas.List.Sums.count_by-le-length}
+use Rattle.std.proofs.Common.{rules}
+use Rattle.std.{proofs.Props.props, proofs.Math.Logic.∥∥₁_elim, proofs.Common.{◌≡◌, ◌∙◌, ◌+◌, ◌^◌, ◌<◌, Some, List, length, ap, arith, append-nil, length-append}, proofs.lemmas.List.Sums.count_by-le-length}
 use Rattle.tally_base.{specs.Settings.CoincidenceView, specs.Tally.History}
 use Rattle.lag_ring.{specs.Cells.Cells, specs.Ring.Ring}
 use Rattle.coincidence.{specs.declared.pairing.Bin.Bin, specs.Pairing.{Gathered, CanPut}, proofs.Visits.{joins, moves}}
@@ -21,14 +22,10 @@ with-requires c =
     record { a = few.0; b = few.1; both = few.2 }
 
 pub returns-then-open-bin : goal.returns-then-open-bin
-returns-then-open-bin c = record { follows = λ set ring cells bins came xs can. rw (c.with.ensures, append-nil bins) (joins _ _ _ _ _ _ _ _ (rw c.in-Some.is at can) c.if-open-bin.true) }
+returns-then-open-bin c = search (rules, arith, append-nil, joins)
 
 pub returns-else-open-bin : goal.returns-else-open-bin
 returns-else-open-bin c = record { follows = λ set ring cells bins came xs can. moves _ _ _ _ _ _ _ _ (rw c.in-Some.is at can) c.if-open-bin.false }
 
 pub returns-in-None : goal.returns-in-None
-returns-in-None c = record {
-  follows = λ set ring cells bins came xs can.
-      let first = (rw c.in-None.is at can).was in
-      rw (append-nil bins) (record { shut = []; rest = xs; parts = rw (first.parts, first.opened.0, first.opened.1) refl; pending = rw first.opened.0 at first.pending; opened = (can.is, tt) });
-}
+returns-in-None c = search (rules, arith, append-nil)

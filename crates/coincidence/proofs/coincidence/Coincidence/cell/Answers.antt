@@ -25,10 +25,7 @@ cell_is false shut set p count time h is c inside = absurd (false≢true shut)
 cell_is true shut set p count time h is c inside = is.photons.pending.cells.pairs c inside ∙ ap (coincidences set c) (none_left set _ _ _ is.photons.pending) ∙ coincidences-photons set c h
 
 open_is : (closed : Bool) → closed ≡ false → (set : CoincidenceView) (p : Pairing) (count time : ℕ) (h : History) → StandsFor closed set p count time h → (c : ℕ) → c < coincidence_cells set → get_or p.cells.cells c 0 ≡ coincidences set c (before_last (photons_of_groups set h))
-open_is true shut set p count time h is c inside = absurd (false≢true (sym shut))
-open_is false shut set p count time h is c inside =
-    let came = is.photons in
-    came.pending.cells.pairs c inside ∙ ap (coincidences set c) (none_left set _ _ _ came.pending ∙ sym (closed_come set p.open came.shut came.rest came.opened) ∙ ap before_last (sym came.parts))
+open_is closed shut set p count time h is c inside = search (rules, arith, false≢true, none_left, closed_come)
 
 pub returns : goal.returns
 returns c = record {

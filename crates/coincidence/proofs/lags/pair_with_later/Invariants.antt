@@ -1,7 +1,7 @@
 use Rattle.std.{proofs.Common.{take}, specs.List.sum_by}
 use Rattle.tally_base.specs.Settings.{coincidence_view}
 use Rattle.coincidence.specs.{Pairing.{Counts, lag_pair}, Closing.lags_of}
-use Rattle.coincidence.proofs.lags.pair_near.Given as goal
+use Rattle.coincidence.proofs.lags.pair_with_later.Given as goal
 
 abbrev pub invariant-loop-entry : goal.invariant-loop-entry
 invariant-loop-entry g l =

@@ -2,7 +2,7 @@ use Rattle.std.proofs.Common.{◌≡◌, rules, arith}
 use Rattle.tally_base.specs.Settings.{coincidence_view}
 use Rattle.lag_ring.specs.Bytes.{weight_of}
 use Rattle.coincidence.{specs.Closing.{lags_of}, proofs.LagPairs.{no_lag_pairs}}
-use Rattle.coincidence.proofs.lags.pair_near.Goals as goal
+use Rattle.coincidence.proofs.lags.pair_with_later.Goals as goal
 
 pub returns-else-weight-gt0 : goal.returns-else-weight-gt0
 returns-else-weight-gt0 g c =
