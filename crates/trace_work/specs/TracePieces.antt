@@ -36,14 +36,16 @@ abbrev pub TracesPiece : {O : Type 0} → Ghosts O → Sorting → RecordStream 
 TracesPiece o by stream trace now piece old new result =
     refused_with stream ≡ None → (bytes : List ℕ) → HasStreamed stream bytes → TracesBytes by (how_of stream) trace bytes → TracedPiece o by stream trace now bytes piece old new result
 
--- the text of these bytes before its end, by the answer of their records: the lines of all bins that the whole kept list closes, or of those that what is settled does
+-- The text of these bytes before its end, by the answer of their records: the lines of all bins that the whole kept list closes, or, where a
+-- record is refused, of those that the settled events close.
 abbrev pub text_by : LongTrace → Sorting → StreamSettings → List ℕ → Result Summary Fault → List ℕ
 text_by trace by how bytes (Ok summary) = open_text (trace_view (set_of trace)) (history by how (words_of bytes))
 text_by trace by how bytes (Err fault) = words_traced (Some (trace_view (set_of trace))) by how (words_of bytes)
 
 -- What giving the trace what a stream keeps back wrote, by the answer. Then it stands for the whole kept list.
 pub record WritesLast {O : Type 0} (o : Ghosts O) (by : Sorting) (how : StreamSettings) (trace now : LongTrace) (old new : O) (bytes : List ℕ) (result : Result (Unit {0}) Fault) : Type 0 where
-  pub writes : WritesText (words_traced (Some (trace_view (set_of trace))) by how (words_of bytes)) (text_by trace by how bytes (streamed how bytes)) (fault_in (streamed how bytes)) (o.state old) (o.state new) result
+  pub writes : WritesText (words_traced (Some (trace_view (set_of trace))) by how (words_of bytes)) (text_by trace by how bytes (streamed how bytes))
+      (fault_in (streamed how bytes)) (o.state old) (o.state new) result
   pub stands : OnOk result (Holds now (history by how (words_of bytes)))
 
 -- the same of a stream and a trace that stand for the same bytes
