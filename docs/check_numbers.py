@@ -3,8 +3,8 @@
 
 These are the numbers in the prose of a page, and in its blocks that show no output, which measures.toml hasn't as measures or facts:
 how many of a thing there are, an example's settings, the numbers of a list. numbers.txt has them by page and title, in their order,
-in digits or in one of WORDS, each with its unit. So a number that was changed by mistake is noticed. Whether one is right isn't known
-here: who calls this without --check says so, having read what it tells of.
+in digits, hexadecimal ones too, or in one of WORDS, each with its unit. So a number that was changed by mistake is noticed. Whether one
+is right isn't known here: who calls this without --check says so, having read what it tells of.
 
 A number that the code has is also a constant of measures.toml, so that a change of the code is noticed.
 """
@@ -25,7 +25,7 @@ WORDS = "|".join([WORD, *OTHERS.split()])
 def numbers(page: str, told: dict[str, Any]) -> Iterator[str]:
     """A line for each title of a page that has numbers below it."""
     text = without_known(re.sub(COMPARED, "", read(page), flags=re.M | re.S), page, told)
-    number = rf"(?<![A-Za-z_\d])(?:-?\d(?:[\d,._]*\d)?(?:e-?\d+)?|(?:{WORDS})\b)(?:[-\s](?:{'|'.join(told['units'])})\b| ?%)?"
+    number = rf"(?<![A-Za-z_\d])(?:0x[0-9A-Fa-f]+|-?\d(?:[\d,._]*\d)?(?:e-?\d+)?|(?:{WORDS})\b)(?:[-\s](?:{'|'.join(told['units'])})\b| ?%)?"
     for part in re.split(r"^(?=#+ )", re.sub(r"\]\([^)\n]*\)", " ", text), flags=re.M):
         title, _, below = part.partition("\n")
         if found := re.findall(number, below, flags=re.I):
