@@ -238,10 +238,10 @@ def fit_reconvolution(
     axis = np.arange(bins) * width
     shape, inside = Convolved(pulse, finer, width, period), (axis >= span[0]) & (axis < span[1])
     level = shape.parts if background is None else _level(background, inside)
-    others = {"background": (level[inside], max(float(counts.min()), 0.1))}
+    others, late = {"background": (level[inside], max(float(counts.min()), 0.1))}, {**(start or {}), **(fixed or {})}.get("shift", 0.0)
     if scatter:
-        others["scatter"] = _scattered(shape, inside, "scatter" in (fixed or {})), 0.01 * float(counts.sum())
-    begin = _begin_decay(counts[inside], lambda lifetime: shape.decay(lifetime, 0.0)[inside], others, terms, bins * width)
+        others["scatter"] = _scattered(shape, late, inside, "scatter" in (fixed or {})), 0.01 * float(counts.sum())
+    begin = _begin_decay(counts[inside], lambda lifetime: shape.decay(lifetime, late)[inside], others, terms, bins * width)
     begin.add("shift", value=0.0, min=-bins * width / 4, max=bins * width / 4, brute_step=width)
 
     def photons(now: Mapping[str, float]) -> Numbers:
@@ -258,9 +258,9 @@ def fit_reconvolution(
     return _solved(problem, over, background, inside)
 
 
-def _scattered(shape: "Convolved", inside: NDArray[np.bool_], held: bool) -> Numbers:
+def _scattered(shape: "Convolved", shift: float, inside: NDArray[np.bool_], held: bool) -> Numbers:
     """What part of scattered light each bin that is fitted has. Raises ``FitError`` where it is so little that it isn't told."""
-    found = shape.decay(1e-3 * shape.width, 0.0)[inside]
+    found = shape.decay(1e-3 * shape.width, shift)[inside]
     if not held and not float(found.sum()) > LEAST_PULSE:
         raise FitError(
             f"the span has {max(float(found.sum()), 0.0):.2g} of the pulse, which tells too little of scattered light: "
