@@ -46,6 +46,15 @@ def test_a_plan_in_seconds() -> None:
     assert table(cube, "cube", T3) == {"group": 1, "width": 8, "height": 4, "dwell": 3, "line": 1, "frame": 4, "dwidth": 50, "dbins": 63}
 
 
+def test_numbers_of_numpy_are_numbers() -> None:
+    """Inputs, groups and seconds as arrays have them."""
+    by_numpy: Any = np.unique(np.array([2, 1], np.uint8))
+    plan = Plan().group("both", by_numpy).group("one", by_numpy[0], gates=[(np.int64(0), np.float32(2e-9))])
+    assert plan.trace(by_numpy[1], width=np.float32(0.5), until=np.int64(2)).text(T3) == (
+        Plan().group("both", [1, 2]).group("one", 1, gates=[(0, 2e-9)]).trace(2, width=0.5, until=2).text(T3)
+    )
+
+
 def test_pairs_in_seconds() -> None:
     plan = TWO.startstop("donor", "acceptor", width="40 ps", until="1 ns").fold("acceptor", "donor", window="1 us")
     assert table(plan, "startstop", T2) == {"start": 1, "stop": 2, "width": 10, "bins": 25}
@@ -114,6 +123,9 @@ def test_plans_are_values() -> None:
         (lambda: TWO.histogram(1, until=1e-9, bins=3), "say either where it ends"),
         (lambda: TWO.correlation(1), "say either where it ends"),
         (lambda: TWO.trace(1, width=math.inf, bins=1), "inf is no time: write seconds"),
+        (lambda: TWO.trace(1, width="1e999 s", bins=1), "'1e999 s' is no time: write seconds"),
+        (lambda: TWO.trace(1, width=1, until="1e305 s").text(T3), r"1e305 s are more ticks of 5e-08 s than numbers tell"),
+        (lambda: Plan().group("x", [1.5]).text(T3), r"inputs = \[1\.5\] isn't a list"),  # type: ignore[list-item]
         (lambda: TWO.group("x", 3, gates=[(0, -1)]), "a time of -1 s: only the shift of an input may be negative"),
         (lambda: TWO.group("x", 3, gates=[(-1e-9, 1e-9)]), "a time of -1e-09 s: only"),
         (lambda: TWO.group("x", 3, gates=[("-2 ticks", "5 ticks")]), "a time of -2 ticks: only"),

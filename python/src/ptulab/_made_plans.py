@@ -10,6 +10,7 @@ import re
 import tomllib
 from collections.abc import Callable, Iterable, Mapping, Sequence
 from dataclasses import dataclass, replace
+from numbers import Integral, Real
 from typing import Any, Literal, NamedTuple, Protocol
 
 from ._plan_rules import LONG, broken_rules
@@ -87,7 +88,7 @@ class Plan:
         """A group of photons: those of these inputs, and with a delay after the sync in one of the gates (T3 alone)."""
         if name in self.groups or not name.isprintable() or not name.strip():
             raise BadPlanError(f"a second group {name!r}" if name in self.groups else f"{name!r} can't be the name of a group")
-        numbers = [inputs] if isinstance(inputs, int) else sorted(set(inputs))
+        numbers = [_whole_number(inputs)] if isinstance(inputs, int | Integral) else sorted(set(map(_whole_number, inputs)))
         pairs = tuple((_length(start), _length(stop)) for start, stop in gates)
         for start, stop in pairs:
             if _is_not_before(start, stop):
@@ -224,8 +225,8 @@ class Plan:
     def number_of(self, group: str | int) -> int:
         """The number of a group by its name, or the number that it is. Raises ``BadPlanError`` for a name that no group has."""
         groups = self.groups
-        if isinstance(group, int):
-            return group
+        if isinstance(group, int | Integral):
+            return int(_whole_number(group))
         if group not in groups:
             near = difflib.get_close_matches(group, groups, 1)
             there = ", ".join(groups) or "none yet"
@@ -268,15 +269,20 @@ class Plan:
         return "".join(lines) + (f"limits = {{ records = {self.records} }}\n" if self.records is not None else "")
 
 
+def _whole_number(number: Any) -> Any:
+    """A whole number of NumPy as Python's own; anything else as it is."""
+    return int(number) if isinstance(number, Integral) and not isinstance(number, bool) else number
+
+
 # ## Times
 
 
 def _time(said: Duration) -> _Time:
     """A time of seconds, or of a text with a unit."""
-    if isinstance(said, int | float) and not isinstance(said, bool) and math.isfinite(said):
-        return _Time(f"{said:g} s", float(said), None)
+    if isinstance(said, Real) and not isinstance(said, bool) and math.isfinite(said):
+        return _Time(f"{float(said):g} s", float(said), None)
     found = DURATION.fullmatch(said) if isinstance(said, str) else None
-    if found is None or found[2] not in (*SECONDS, *COUNTED):
+    if found is None or found[2] not in (*SECONDS, *COUNTED) or not math.isfinite(float(found[1].replace("_", ""))):
         units = ", ".join([*(unit for unit in SECONDS if unit.isascii()), "ticks", "periods"])
         raise BadPlanError(f"{said!r} is no time: write seconds, or a number with a unit ({units}), as '12.5 ns' or '300 ticks'")
     number = found[1].replace("_", "")
@@ -326,6 +332,8 @@ def _exact(time: _Time, tick: float | None) -> float | int:
         return time.ticks or 0
     if tick is None or not 0 < tick < math.inf:
         raise NotKnownError(f"{time.said}: nothing tells how long a tick is; name a file whose header does, or write ticks")
+    if not math.isfinite(time.seconds / tick):
+        raise BadPlanError(f"{time.said} are more ticks of {tick:.6g} s than numbers tell")
     return time.seconds / tick
 
 
