@@ -45,7 +45,7 @@ def listed(found: Any, feature: str) -> Any:
     """An ``xarray.Dataset`` as a ``pandas.DataFrame``, a line for each place, with its axes as columns before its values. Raises
     ``MissingLibraryError`` without pandas."""
     want("pandas", feature)
-    return found.to_dataframe().reset_index()
+    return found.to_dataframe().reset_index()[[*found.coords, *found.data_vars]]
 
 
 def pixels(shape: Sequence[int], micrometres: float | None) -> list[Axis]:

@@ -175,7 +175,6 @@ class Levels(Compared):
         """The standard deviations of the rates, for levels that are cut right: shape (levels,)."""
         return np.asarray(self.rates / np.sqrt(self.photons))
 
-
     def to_pandas(self, unit_seconds: float | None = None) -> Any:
         """The levels as a ``pandas.DataFrame``: ``start``, ``stop``, ``duration``, ``photons``, ``rate`` and its ``error``; where it is given how
         long a unit of the times is, in seconds and photons a second. Raises ``MissingLibraryError`` without pandas."""
