@@ -56,6 +56,9 @@ def test_two_terms_of_a_tail() -> None:
     times = sorted(fit.values[f"lifetime_{n}"] for n in (1, 2))
     assert times == pytest.approx([0.6, 4.0], rel=0.1)
     assert fits.mean_lifetime(fit) < fits.mean_lifetime(fit, by="intensity")
+    other: Any = "Intensity"
+    with pytest.raises(ValueError, match="by Intensity of lifetimes, by amplitude or by intensity"):
+        fits.mean_lifetime(fit, by=other)
 
 
 def test_reconvolution_tells_lifetimes_as_short_as_the_pulse() -> None:

@@ -123,6 +123,29 @@ def test_pixels_with_few_photons_and_shapes_that_do_not_fit() -> None:
     for pulse, lifetimes in ((PULSE[1:], [1.0]), (PULSE * 0, [1.0]), (PULSE, [1.0, 2.0, 3.0])):
         with pytest.raises(ValueError):
             pixels.fit_pixels(counts, pulse, WIDTH, lifetimes)
+    with pytest.raises(ValueError, match="for 0"):
+        pixels.fit_pixels(counts[..., :0], PULSE, WIDTH, [1.0])
+
+
+@pytest.mark.parametrize(
+    ("more", "said"),
+    [
+        ({"kind": "Free"}, "lifetimes are free, shared, fixed, not 'Free'"),
+        ({"lifetimes": [0.0]}, "lifetimes of 0.0 in bins"),
+        ({"lifetimes": [1.0, np.nan]}, "lifetimes of 1.0, nan in bins"),
+        ({"width": 0.0}, "in bins of 0.0, which must be more than 0"),
+        ({"counts": np.full((2, BINS), -1)}, "counts or a background less than 0"),
+        ({"background": np.full(BINS, -0.1)}, "counts or a background less than 0"),
+        ({"background": np.nan}, "counts or a background less than 0"),
+        ({"period": 63 * WIDTH}, "64 bins of 0.390625 are longer than a period"),
+    ],
+)
+def test_pixels_that_no_fit_is_of(more: Any, said: str) -> None:
+    """A word that was misspelt, counts without their background, and bins behind the period would give lifetimes that are wrong."""
+    given: dict[str, Any] = {"counts": np.ones((2, BINS)), "pulse": PULSE, "width": WIDTH, "lifetimes": [1.0], **SETTINGS}
+    assert np.isfinite(pixels.fit_pixels(**given).lifetimes).all()
+    with pytest.raises(ValueError, match=said):
+        pixels.fit_pixels(**(given | more))
 
 
 def test_mean_delays_without_background() -> None:

@@ -296,8 +296,11 @@ def mean_lifetime(fit: Fit, *, by: Literal["amplitude", "intensity"] = "amplitud
     """The mean of the lifetimes of a fit: by the amplitudes of its exponentials, or by the photons that each has.
 
     With heights a of the exponentials and lifetimes t it is sum(a t) / sum(a), or sum(a t^2) / sum(a t), in the unit of the
-    lifetimes (Lakowicz, Principles of Fluorescence Spectroscopy, Springer 2006, chapter 4). In ``fit_tail`` an amplitude is the height at the start, in ``fit_reconvolution`` already the photons.
+    lifetimes (Lakowicz, Principles of Fluorescence Spectroscopy, Springer 2006, chapter 4). In ``fit_tail`` an amplitude is the height at the
+    start, in ``fit_reconvolution`` already the photons. Raises ``ValueError`` for another mean, and for a fit without lifetimes.
     """
+    if by not in ("amplitude", "intensity") or "lifetime_1" not in fit.values:
+        raise ValueError(f"a mean by {by} of lifetimes, by amplitude or by intensity, of a fit of {', '.join(fit.values)}")
     names = [name.removeprefix("amplitude_") for name in fit.values if name.startswith("amplitude_")]
     sizes = np.array([fit.values[f"amplitude_{name}"] for name in names])
     times = np.array([fit.values[f"lifetime_{name}"] for name in names])

@@ -3,6 +3,7 @@
 Arrays of counts are those of a cube: (.., bins), in most functions (rows, columns, bins).
 """
 
+import math
 from collections.abc import Mapping, Sequence
 from dataclasses import dataclass
 from typing import Any, Literal
@@ -19,6 +20,7 @@ __all__ = ["Lifetimes", "binned", "fit_pixels", "inside", "to_xarray", "with_nei
 
 Numbers = NDArray[np.float64]
 TOGETHER = 1 << 16  # counts that are fitted together, so that their arrays stay in the processor's cache
+KINDS = ("free", "shared", "fixed")  # lifetimes
 LIFETIMES = 500  # between the shortest and the longest one, of which curves are kept
 STEPS = 60  # of a fit, at most
 LEAST = 1e-9  # of an amplitude, in photons of its pixel
@@ -87,12 +89,16 @@ def fit_pixels(
     shared, all pixels have the same, which are fitted with all amplitudes; fixed, they are held. ``background``: counts
     that are expected of it, a number, or an array that goes with ``counts``. Pixels with fewer photons than ``threshold`` are
     left out. By steps of Fisher's scoring in all pixels at once (Maus and others, Analytical Chemistry 73, 2078, 2001, compare
-    this likelihood with least squares of few photons). Raises ``ValueError`` for shapes that don't go together.
+    this likelihood with least squares of few photons). Raises ``ValueError`` for shapes that don't go together, counts or a
+    background less than 0, lifetimes and a width that aren't positive, another ``kind``, and where the last bin begins behind the period.
     """
     counts, pulse = np.asarray(counts), np.asarray(pulse, dtype=np.float64)
-    bins = counts.shape[-1]
-    if not 1 <= len(lifetimes) <= 2 or not pulse.sum() > 0 or pulse.ndim != 1 or len(pulse) % bins:
-        raise ValueError(f"{len(lifetimes)} lifetimes, and a pulse of {pulse.sum():g} counts in {len(pulse)} bins for {bins}")
+    bins = counts.shape[-1] if counts.ndim else 0
+    if not 1 <= len(lifetimes) <= 2 or not pulse.sum() > 0 or pulse.ndim != 1 or not bins or len(pulse) % bins:
+        raise ValueError(f"{len(lifetimes)} lifetimes, and a pulse of {pulse.sum():g} counts in {pulse.size} bins for {bins}")
+    if kind not in KINDS:
+        raise ValueError(f"lifetimes are {', '.join(KINDS)}, not {kind!r}")
+    _refuse(counts, background, width, lifetimes, period)
     pixels, terms = counts.reshape(-1, bins), len(lifetimes)
     level = np.broadcast_to(np.asarray(background, dtype=np.float64), counts.shape).reshape(-1, bins)
     photons = pixels.sum(axis=1)
@@ -112,6 +118,17 @@ def fit_pixels(
             found[0][:, block] = _held(some, dark, curves, curves.of(begin)[:terms], amplitudes[:, block])
         found[1][:, kept] = np.exp(begin)[:, None]
     return Lifetimes(*(one.T.reshape(*counts.shape[:-1], terms) for one in found))
+
+
+def _refuse(counts: NDArray[Any], background: NDArray[Any] | float, width: float, lifetimes: Sequence[float], period: float | None) -> None:
+    """Raises ``ValueError`` for numbers of which there is no fit of pixels."""
+    bins = counts.shape[-1]
+    if not all(0 < one < math.inf for one in (width, *lifetimes)):
+        raise ValueError(f"lifetimes of {', '.join(map(str, lifetimes))} in bins of {width}, which must be more than 0")
+    if counts.min(initial=0) < 0 or not np.min(background, initial=0) >= 0:
+        raise ValueError("counts or a background less than 0: give the background, rather than counts without it")
+    if period is not None and not (bins - 1) * width < period:
+        raise ValueError(f"{bins} bins of {width} are longer than a period of {period}: leave out those behind it")
 
 
 def _begun(photons: NDArray[Any], level: Numbers, terms: int) -> Numbers:
