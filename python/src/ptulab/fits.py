@@ -223,8 +223,8 @@ def fit_reconvolution(
     ``amplitude_n`` are photons, ``lifetime_n`` and ``shift`` are in the unit of ``width`` (any part of a bin), ``background`` is
     counts a bin, and with ``scatter`` there are photons of that name, of scattered light, which come with the shifted pulse.
     ``background``: shape (bins,), as of ``fit_tail``. Raises ``FitError`` as that does and where ``scatter`` is to be fitted in a
-    ``span`` with less than a hundredth of the pulse, and ``ValueError`` where the shapes don't go together, there are no counts,
-    or one is less than 0, or the last bin begins behind the period.
+    ``span`` with less than a hundredth of the pulse, by the shift with which it begins, and ``ValueError`` where the shapes don't go
+    together, there are no counts, or one is less than 0, or the last bin begins behind the period.
     """
     counts, pulse = np.asarray(counts, dtype=np.float64), np.asarray(pulse, dtype=np.float64)
     bins = len(counts) if counts.ndim == 1 and pulse.size and pulse.size % max(counts.size, 1) == 0 else 0
