@@ -17,7 +17,7 @@ from ptulab import first_look
 from ptulab.__main__ import main
 from ptulab._layouts import MARKER, WRAP, layout_of
 from ptulab._looks import BITS, look
-from ptulab._words import words_of
+from ptulab._words import PIECE, words_of
 from ptulab.first_look import sparkline
 
 MakeFile = Callable[..., Path]
@@ -178,6 +178,14 @@ def test_late_events_of_a_file_that_ends_within_a_record(make_file: MakeFile) ->
     made.write_words(path, "HydraHarp2T2", [0xFFFFFFFF] * 5000)
     with pytest.raises(ptulab.errors.BadFileError):
         look(path, partial=True)
+
+
+@pytest.mark.parametrize("wraps", [4097, 8193, PIECE + 8193])
+def test_markers_after_more_wraps_than_times_have_room_for(wraps: int, tmp_path: Path) -> None:
+    """The program refuses the file, by which the look ends; 8,193 of these wraps pass 64 bits."""
+    path = made.write_words(tmp_path / "wraps.ptu", "HydraHarp2T2", [0xFFFFFFFF] * wraps + [made.event_word("HydraHarp2T2", 5, made.Bits(1))] * 2)
+    with pytest.raises(ptulab.errors.RefusalError, match="record 4097 passes the greatest time"):
+        ptulab.info(path)
 
 
 def test_a_look_at_markers_alone_takes_little_memory(tmp_path: Path) -> None:

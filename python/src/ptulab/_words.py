@@ -53,7 +53,8 @@ def words_of(path: str, header: Header, progress: Callable[[int], None], sample:
         for some in _batches(range(0, header.records, PIECE)):
             for end, inputs, (times, bits), wraps in pool.map(piece, some):
                 met += inputs
-                marks.take(times + base, bits)
+                if base + wraps <= GREATEST:  # beyond that, times may have no room in 64 bits
+                    marks.take(times + base, bits)
                 base = min(base + wraps, GREATEST)
                 progress(header.length_bytes + 4 * end)
     inputs_met = [number for number in range(RESERVED) if met[number]]
@@ -73,5 +74,5 @@ def _specials(words: Words, layout: Layout) -> tuple[Found, int]:
     wraps[meanings == WRAP] = layout.amounts(words[meanings == WRAP])
     markers = meanings & 0xF0 == MARKER
     times = (np.cumsum(wraps) + (words & layout.field))[markers]
-    whole = GREATEST if wraps.sum(dtype=np.float64) > GREATEST else int(wraps.sum())
+    whole = 2 * GREATEST if wraps.sum(dtype=np.float64) > GREATEST else int(wraps.sum())
     return (times, meanings[markers] & 15), whole
