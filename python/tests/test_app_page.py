@@ -309,6 +309,7 @@ def test_many_markers_have_an_axis_of_their_own(window: Window) -> None:
         assert axes == [["input 0", "y"], ["input 1", "y"], ["marker bit 1", "y2"], ["marker bit 2", "y3"]]
         assert right[:2] == ["right", "markers a second"] and left[0] == "photons a second" and right[2] == left[1] != [0, 1]
         assert right[3][1] >= 1e6 > left[2][1]  # one in each tick, and one in two ticks
+        assert window.js("return document.getElementById('figure-look-trace-plot').data[3].text[100]") == "marker bit 2, 0.1 ms: 1,000,000 markers a second"
         captions = window.js("return [...document.querySelectorAll('#figure-look-trace caption')].map((one) => one.textContent)")
         assert captions[1:] == ["marker bit 1: every value", "marker bit 2: every 11th value"]
     finally:

@@ -192,7 +192,7 @@ function curves(figure, controls) {
   const all = figure.start === null ? null : box(controls, "all delays", false);
   const first = figure.curves[0] || { x: [], y: [], errors: null }, lines = figure.curves.filter((one) => one.shape !== "marks" && !one.right), markers = figure.curves.filter((one) => !lines.includes(one));
   /** @param {Curve} one @param {number} at */
-  const words = (one, at) => one.shape === "marks" ? `${one.label}: ${measured(one.x[at], figure.xunit)}` : `${figure.curves.length > 1 ? one.label + ", " : ""}${figure.names ? figure.names[at] : measured(one.x[at], figure.xunit)}: ${one.right ? short(one.y[at]) : measured(one.y[at], figure.yunit)}` +
+  const words = (one, at) => one.shape === "marks" ? `${one.label}: ${measured(one.x[at], figure.xunit)}` : `${figure.curves.length > 1 ? one.label + ", " : ""}${figure.names ? figure.names[at] : measured(one.x[at], figure.xunit)}: ${one.right ? `${short(one.y[at])} ${figure.right}` : measured(one.y[at], figure.yunit)}` +
     (one.errors && one.errors[at] !== null ? ` \u00b1 ${Number(Number(one.errors[at]).toPrecision(2))}` : "");
   return {
     counts: figure.curves.length ? figure.curves.map((one) => one.x.length) : [0], step: Math.max(1, Math.round(first.x.length / 20)), columns: 0,
