@@ -62,7 +62,7 @@ class BadFileError(PtulabError, ValueError):
     def __init__(self, status: int, line: str, path: str = "") -> None:
         said = f"{path}: {line}" if path else line
         if status == 17:
-            said += f" (partial=True reads what is before them, and head -c -{line.split()[0]} {shlex.quote(path)} > COPY saves it)"
+            said += f" (in Python partial=True reads what is before them, and head -c -{line.split()[0]} {shlex.quote(path)} > COPY saves it)"
         super().__init__(said)
         self.status, self.line, self.path = status, line, path
 
