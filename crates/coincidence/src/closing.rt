@@ -166,7 +166,12 @@ fn near_first(bins: &[Bin]) -> usize
     requires some { 0 < length bins.now }
     ensures { (0 < result) × (result ≤ length bins.now) }
 {
-    let low = bins[0].weights.index;
+    let Entry { index: low, a, b } = bins[0].weights;
+    let last = bins[bins.len() - 1].weights.index;
+    // The other bins have only photons of one block.
+    if last.saturating_sub(low) < u64::from(MOST_LAGS) && a.max(b) <= 1 {
+        return bins.len();
+    }
     let mut firsts = 0u64;
     let mut seconds = 0u64;
     for count in 0..bins.len() {
