@@ -2,6 +2,7 @@
 
 import re
 from collections.abc import Iterator
+from functools import partial
 from pathlib import Path
 from typing import Any
 
@@ -387,11 +388,15 @@ def test_regions_are_typed_in_micrometres_and_come_back(window: Window) -> None:
 # ## For people
 
 
+# Whether there are a hundred findings, and the last of them begins with these words.
+SAYS_LAST = "return document.querySelector('#findings li:nth-child(100)') && document.querySelector('#findings li:last-child').textContent.startsWith(arguments[0])"
+
+
 def test_more_than_a_hundred_findings_are_said_to_be_more(window: Window) -> None:
     window.choose("scan.ptu", "decay")
     for many, last in ((100, "line 100: the plan: k99 is no key"), (101, "There is more: these are the first 100.")):
         typed(window, "text", "".join(f"k{number} = 1\n" for number in range(many)) + "[[group]]\ninputs = [0]\n")
-        window.until(lambda last=last: window.js("return document.querySelector('#findings li:nth-child(100)') && document.querySelector('#findings li:last-child').textContent.startsWith(arguments[0])", last), last)
+        window.until(partial(window.js, SAYS_LAST, last), last)
 
 
 def test_progress_is_said_now_and_then(window: Window) -> None:

@@ -49,8 +49,9 @@ def test_a_plan_in_seconds() -> None:
 def test_numbers_of_numpy_are_numbers() -> None:
     """Inputs, groups and seconds as arrays have them."""
     by_numpy: Any = np.unique(np.array([2, 1], np.uint8))
-    plan = Plan().group("both", by_numpy).group("one", by_numpy[0], gates=[(np.int64(0), np.float32(2e-9))])
-    assert plan.trace(by_numpy[1], width=np.float32(0.5), until=np.int64(2)).text(T3) == (
+    some: list[Any] = [np.int64(0), np.float32(2e-9), np.float32(0.5), np.int64(2)]
+    plan = Plan().group("both", by_numpy).group("one", by_numpy[0], gates=[(some[0], some[1])])
+    assert plan.trace(by_numpy[1], width=some[2], until=some[3]).text(T3) == (
         Plan().group("both", [1, 2]).group("one", 1, gates=[(0, 2e-9)]).trace(2, width=0.5, until=2).text(T3)
     )
 

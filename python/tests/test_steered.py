@@ -192,8 +192,8 @@ def test_scattered_light_of_a_span_without_the_pulse_is_refused() -> None:
     assert abs(part.values["scatter"] - 4e3) < 4 * part.errors["scatter"] < 4e3
     counts = np.roll(counts, 60)  # by a cable of 3
     for told in ({"fixed": {"shift": 3.0}}, {"start": {"shift": 2.9}}):
-        late = fit(4.5, **told)
-        assert late.values["shift"] == pytest.approx(3.0, abs=0.02) and abs(late.values["scatter"] - 4e3) < 4 * late.errors["scatter"] < 4e3
+        part = fit(4.5, **told)
+        assert part.values["shift"] == pytest.approx(3.0, abs=0.02) and abs(part.values["scatter"] - 4e3) < 4 * part.errors["scatter"] < 4e3
     with pytest.raises(ptulab.FitError, match="the span has"):
         fit(4.5)
 
