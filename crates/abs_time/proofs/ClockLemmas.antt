@@ -1,8 +1,11 @@
 -- One record more.
-use Rattle.std.{proofs.Common.{◌≡◌, ◌+◌, ◌-◌, ◌<◌, ◌≤◌, ℕ, List, [], ◌∷◌, ◌++◌, true, false, Ok, Err, max, refl, sym, ap, append-nil, arith, length-append, nat_lt}, proofs.lemmas.List.Sums.sum_by-append, proofs.lemmas.Bool.Decides.nat_tests}
-use Rattle.tally_base.{specs.declared.event.Event.Event, specs.declared.event.EventKind.TheVariants.Photon as PhotonEvent, specs.declared.event.EventKind.TheVariants.Marker as MarkerEvent, specs.declared.fault.Fault.TheVariants.TimeLimit, specs.declared.header.Mode.Mode, specs.Limits.wrap_limit}
-use Rattle.ptu_definitions.{specs.declared.records.Raw.Raw, specs.declared.records.Raw.TheVariants.{Photon, Marker, Wrap, Reserved}, specs.Times.{amount, base, events}, specs.Kept.{greatest, ordered_time}, proofs.StreamLemmas.{events-push, later, greatest-push}}
-use Rattle.abs_time.{specs.declared.clock.Placed.TheVariants.Wrap as WrapPlaced, specs.declared.clock.Placed.TheVariants.Reserved as ReservedPlaced, specs.Placing.{IsClock, against, placed_event, place_answer}}
+use Rattle.std.proofs.Common.{◌≡◌, ◌+◌, ◌-◌, ◌<◌, ◌≤◌, ℕ, List, [], ◌∷◌, ◌++◌, true, false, Ok, Err, max, refl, sym, ap, append-nil, arith, length-append}
+use Rattle.{std.proofs.{Common.nat_lt, lemmas.{List.Sums.sum_by-append, Bool.Decides.nat_tests}}, tally_base.specs.declared.event.Event.Event}
+use Rattle.tally_base.specs.declared.{event.EventKind.TheVariants.{Photon as PhotonEvent, Marker as MarkerEvent}, fault.Fault.TheVariants.TimeLimit}
+use Rattle.{tally_base.specs.{declared.header.Mode.Mode, Limits.wrap_limit}, ptu_definitions.specs.declared.records.Raw.{Raw, TheVariants.{Photon, Marker}}}
+use Rattle.ptu_definitions.specs.{declared.records.Raw.TheVariants.{Wrap, Reserved}, Times.{amount, base, events}, Kept.{greatest, ordered_time}}
+use Rattle.{ptu_definitions.proofs.StreamLemmas.{events-push, later, greatest-push}, abs_time.specs.declared.clock.Placed.TheVariants.Wrap as WrapPlaced}
+use Rattle.abs_time.specs.{declared.clock.Placed.TheVariants.Reserved as ReservedPlaced, Placing.{IsClock, against, placed_event, place_answer}}
 
 base-push : (records : List Raw) (raw : Raw) → base (records ++ raw ∷ []) ≡ base records + amount raw
 base-push records raw = let e = sum_by-append amount records (raw ∷ []) in omega (arith, e)

@@ -1,7 +1,7 @@
 -- The greatest time with one event more.
-use Rattle.std.{proofs.Common.{◌≡◌, ◌≤◌, ℕ, [], ◌∷◌, ◌++◌, Bool, true, false, max, refl, arith, ◌∙◌, ◌&&◌, not, IsTrue, if◌then◌else◌}, proofs.Props.props}
-use Rattle.tally_base.{specs.declared.header.Mode.TheVariants.{T2, T3}, specs.Tally.moves_floor, specs.declared.event.Event.Event, specs.declared.header.Mode.Mode, specs.Events.is_ordered, specs.declared.event.EventKind.EventKind, specs.declared.event.EventKind.TheVariants.{Photon, Marker}}
-use Rattle.ptu_definitions.{specs.Kept.{Marked, floor_of}, specs.Layouts.KindFits}
+use Rattle.std.proofs.{Common.{◌≡◌, ◌≤◌, ℕ, [], ◌∷◌, ◌++◌, Bool, true, false, max, refl, arith, ◌∙◌, ◌&&◌, not, IsTrue, if◌then◌else◌}, Props.props}
+use Rattle.tally_base.specs.declared.{header.Mode.{TheVariants.{T2, T3}, Mode}, event.{Event.Event, EventKind.{EventKind, TheVariants.{Photon, Marker}}}}
+use Rattle.{tally_base.specs.{Tally.moves_floor, Events.is_ordered}, ptu_definitions.specs.{Kept.{Marked, floor_of}, Layouts.KindFits}}
 use Rattle.abs_time.specs.Floors.{moved_floor, orders_markers}
 
 floor_of-push : (mode : Mode) (l : Marked) (e : Event) (late : Bool)

@@ -1,6 +1,6 @@
 -- The greatest time of the events that a taker is given.
 use Rattle.std.specs.Prelude.{ℕ, Bool, true, false, ◌&&◌, not, if◌then◌else◌}
-use Rattle.tally_base.{specs.declared.event.Event.Event, specs.declared.header.Mode.Mode, specs.declared.header.Mode.TheVariants.{T2, T3}, specs.Events.is_ordered}
+use Rattle.tally_base.specs.{declared.{event.Event.Event, header.Mode.{Mode, TheVariants.{T2, T3}}}, Events.is_ordered}
 
 -- the greatest time of the ordered events that weren't marked late, with one more event after them
 abbrev pub moved_floor : Mode → ℕ → Event → Bool → ℕ

@@ -1,8 +1,8 @@
 -- What a clock stands for.
 use Rattle.std.specs.Prelude.{ℕ, ◌≡◌, ◌+◌, ◌≤◌, ◌&&◌, IsTrue, nat_lt, List, [], ◌∷◌, ◌++◌, length, if◌then◌else◌, Result, Ok, Err}
-use Rattle.tally_base.{specs.declared.event.Event.Event, specs.declared.fault.Fault.Fault, specs.declared.fault.Fault.TheVariants.TimeLimit, specs.declared.header.Mode.Mode, specs.Events.is_ordered, specs.Limits.time_limit}
-use Rattle.ptu_definitions.{specs.declared.records.Raw.Raw, specs.Kinds.is_wrap, specs.Times.{base, event_after, events, passes}, specs.Kept.{is_late, greatest}, specs.Layouts.KindFits}
-use Rattle.abs_time.{specs.declared.clock.Clock.Clock, specs.declared.clock.Placed.Placed, specs.declared.clock.Placed.TheVariants.Event as InOrder, specs.declared.clock.Placed.TheVariants.{Late, Wrap, Reserved}}
+use Rattle.tally_base.specs.{declared.{event.Event.Event, fault.Fault.{Fault, TheVariants.TimeLimit}, header.Mode.Mode}, Events.is_ordered, Limits.time_limit}
+use Rattle.ptu_definitions.specs.{declared.records.Raw.Raw, Kinds.is_wrap, Times.{base, event_after, events, passes}, Kept.{is_late, greatest}, Layouts.KindFits}
+use Rattle.abs_time.specs.declared.clock.{Clock.Clock, Placed.{Placed, TheVariants.{Event as InOrder, Late, Wrap, Reserved}}}
 
 -- the numbers that a clock keeps, by the records placed
 pub record IsClock (mode : Mode) (count sum top : ℕ) (records : List Raw) : Type 0 where
@@ -70,3 +70,8 @@ IsAtPlace count Reserved = Unit {0}
 pub record IsNext (before now : ℕ) (placed : Placed) : Type 0 where
   pub count : now ≡ before + 1
   pub place : IsAtPlace before placed
+
+-- Whatever the answer, the mode stays, and at most one more record is placed.
+pub record GoesOn (old new : Clock) : Type 0 where
+  pub same_mode : mode_of new ≡ mode_of old
+  pub count : placed_by new ≤ placed_by old + 1

@@ -1,7 +1,6 @@
 // The clock of a file: the absolute times of its records.
 ghost use Rattle.std.specs.Prelude.{◌≡◌, ◌+◌, ◌<◌, ◌≤◌, ◌++◌, ◌∷◌, [], List, ℕ, Bool, ◌&&◌, not, nat_lt, max, if◌then◌else◌, OnOk, OnErr, IfOk, IfErr, length};
-ghost use Rattle.tally_base.{specs.Events.is_ordered, specs.Limits.{record_limit, wrap_limit}};
-ghost use Rattle.ptu_definitions.{specs.declared.records.Raw.Raw, specs.Layouts.Fits, specs.Kept.ordered_time};
+ghost use Rattle.{tally_base.specs.{Events.is_ordered, Limits.{record_limit, wrap_limit}}, ptu_definitions.specs.{declared.records.Raw.Raw, Layouts.Fits, Kept.ordered_time}};
 
 use ptu_definitions::Raw;
 use tally_base::{Event, EventKind, Fault, Mode, WRAP_LIMIT};
@@ -31,7 +30,7 @@ pub struct Clock {
 }
 
 impl Clock {
-    ghost use Rattle.abs_time.specs.Placing.{IsClock, LeadsOn, mode_of, placed_by, greatest_by, HasPlaced, base_of, against, place_answer, IsSmall, Moves, IsAtPlace, IsNext};
+    ghost use Rattle.abs_time.specs.Placing.{IsClock, LeadsOn, mode_of, placed_by, greatest_by, HasPlaced, base_of, against, place_answer, IsSmall, Moves, IsAtPlace, IsNext, GoesOn};
 
     /// The clock of a file of this mode, before its first record.
     pub fn new(mode: Mode) -> Clock
@@ -107,11 +106,10 @@ impl Clock {
         requires { placed_by self.old < record_limit }
         ensures answer { (records : List Raw) → HasPlaced self.old records
             → result ≡ place_answer (mode_of self.old) records raw.now }
-        ensures count { placed_by self.new ≤ placed_by self.old + 1 }
         ensures next { IfOk result (IsNext (placed_by self.old) (placed_by self.new)) }
         ensures placed { (records : List Raw) → HasPlaced self.old records
             → OnOk result (HasPlaced self.new (records ++ raw.now ∷ [])) }
-        ensures same_mode { mode_of self.new ≡ mode_of self.old }
+        ensures goes_on { GoesOn self.old self.new }
         ensures moves { Fits (mode_of self.old) raw.now
             → IfOk result (Moves (mode_of self.old) (greatest_by self.old) (greatest_by self.new)) }
         ensures unchanged { OnErr result (self.new ≡ self.old) }

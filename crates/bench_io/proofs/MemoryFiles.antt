@@ -1,6 +1,8 @@
 -- A file is found by its name.
-use Rattle.std.{proofs.Common.{◌≡◌, ◌<◌, ◌+◌, min, ℕ, zero, suc, List, [], ◌∷◌, ◌⊎◌, ◌↔◌, Bool, true, Some, length, take, drop, get_or, refl, sym, arith, slice_get, rules}, proofs.Math.Seq.take-add, specs.declared.option.Option.Option, specs.Str.bytes_eq}
-use Rattle.bench_io.{specs.MemoryParts.{NamedBytes, limited}, specs.Memory.{file_named, rest_of_file}, specs.Given.{gave, is_over, GivesCount}, proofs.States.{over-both, over-from}}
+use Rattle.std.proofs.Common.{◌≡◌, ◌<◌, ◌+◌, min, ℕ, zero, suc, List, [], ◌∷◌, ◌⊎◌, ◌↔◌, Bool, true, Some, length, take, drop, get_or, refl, sym, arith}
+use Rattle.std.{proofs.{Common.{slice_get, rules}, Math.Seq.take-add}, specs.{declared.option.Option.Option, Str.bytes_eq}}
+use Rattle.bench_io.{specs.{MemoryParts.{NamedBytes, limited}, Memory.{file_named, rest_of_file}, Given.{gave, is_over, GivesCount}}, proofs.States.over-both}
+use Rattle.bench_io.proofs.States.{over-from}
 
 pub file_named-found : (files : List NamedBytes) (i : ℕ) (name : List ℕ) (file : NamedBytes)
     → i < length files → file ≡ get_or files i file → bytes_eq file.name name ≡ true

@@ -1,6 +1,6 @@
 -- A text that grows by several calls.
-use Rattle.std.proofs.Common.{◌≡◌, ◌∙◌, ℕ, List, [], ◌++◌, sym, ap, append_assoc, append-nil}
-use Rattle.bench_io.{specs.Sinks.SinkState, specs.Texts.{WroteText, CutText}, proofs.Bytes.{Wrote-nil, Wrote-trans, WroteShort-behind, WroteShort-more}}
+use Rattle.{std.proofs.Common.{◌≡◌, ◌∙◌, ℕ, List, [], ◌++◌, sym, ap, append_assoc, append-nil}, bench_io.specs.{Sinks.SinkState, Texts.{WroteText, CutText}}}
+use Rattle.bench_io.proofs.Bytes.{Wrote-nil, Wrote-trans, WroteShort-behind, WroteShort-more}
 
 -- nothing was called
 pub WroteText-none : (text : List ℕ) (a : SinkState) → WroteText text text a a

@@ -1,5 +1,5 @@
 -- What the reads of a slot have given so far.
-use Rattle.std.{specs.Prelude.{ℕ, ◌≡◌, ◌<◌, ◌⊎◌, ◌↔◌, Bool, true, false, List, [], ◌∷◌, ◌++◌, length, take, MatchResult}, specs.declared.result.Result.Result}
+use Rattle.std.specs.{Prelude.{ℕ, ◌≡◌, ◌<◌, ◌⊎◌, ◌↔◌, Bool, true, false, List, [], ◌∷◌, ◌++◌, length, take, MatchResult}, declared.result.Result.Result}
 
 -- All bytes that reads have handed out, and whether one said that there are no more.
 pub record Given : Type 0 where

@@ -1,7 +1,6 @@
 -- What calls say of two inputs, each in a slot of its own.
-use Rattle.std.{specs.Prelude.{ℕ, List, ◌≡◌, ◌≤◌, Bool, None, Some, IsSome}, specs.declared.option.Option.Option}
-use Rattle.tally_base.{specs.declared.slot.Slot.Slot, specs.declared.slot.Slot.TheVariants.{Plan, Data}}
-use Rattle.bench_io.specs.Given.{Given}
+use Rattle.std.specs.{Prelude.{ℕ, List, ◌≡◌, ◌≤◌, Bool, None, Some, IsSome}, declared.option.Option.Option}
+use Rattle.{tally_base.specs.declared.slot.Slot.{Slot, TheVariants.{Plan, Data}}, bench_io.specs.Given.Given}
 
 -- the bytes of a file, or None where there is no such file
 abbrev pub File : Type 0

@@ -1,7 +1,6 @@
 -- Files and inputs in memory.
-use Rattle.std.{specs.Prelude.{ℕ, ◌≡◌, List, [], ◌∷◌, true, false, None, Some, drop, length, slice_get, unwrap_or, if◌then◌else◌}, specs.Str.bytes_eq, specs.declared.option.Option.Option, specs.declared.result.Result.Result}
-use Rattle.bench_io.{specs.MemoryParts.{NamedBytes, FailsNext, next_turn, limited}, specs.Inputs.{File, InputState}}
-use Rattle.tally_base.{specs.FaultCounts.{FailsOnce, one_more}, specs.declared.slot.Slot.Slot}
+use Rattle.std.specs.{Prelude.{ℕ, ◌≡◌, List, [], ◌∷◌, true, false, None, Some, drop, length, slice_get, unwrap_or, if◌then◌else◌}, Str.bytes_eq, declared.{option.Option.Option, result.Result.Result}}
+use Rattle.{bench_io.specs.{MemoryParts.{NamedBytes, FailsNext, next_turn, limited}, Inputs.{File, InputState}}, tally_base.specs.{FaultCounts.{FailsOnce, one_more}, declared.slot.Slot.Slot}}
 
 -- of two files of one name the first counts
 abbrev pub file_named : List NamedBytes → List ℕ → File

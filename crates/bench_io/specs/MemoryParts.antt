@@ -1,5 +1,5 @@
 -- Calls that are numbered.
-use Rattle.std.{specs.Prelude.{ℕ, List, ◌+◌, Contains, ◌%◌, [], ◌∷◌, None, Some, length, max, min}, specs.declared.option.Option.Option}
+use Rattle.std.specs.{Prelude.{ℕ, List, ◌+◌, Contains, ◌%◌, [], ◌∷◌, None, Some, length, max, min}, declared.option.Option.Option}
 
 -- Calls are numbered from 1. After so many calls the number of the next is in the list.
 abbrev pub FailsNext : List ℕ → ℕ → Type 0

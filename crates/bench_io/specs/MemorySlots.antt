@@ -1,7 +1,9 @@
 -- What inputs in memory hold, as callers see it.
-use Rattle.std.{specs.Prelude.{ℕ, List, [], ◌∷◌, ◌≡◌, Bool, true, false, None, Some, slice_get, take, refl}, specs.declared.option.Option.Option, proofs.Common.{sym, ◌∙◌, ◌++◌, append-nil, take-append-drop}, proofs.Math.Seq.take-nil, proofs.lemmas.Option.{none-some, same_Some}}
-use Rattle.tally_base.{specs.declared.slot.Slot.Slot, specs.declared.slot.Slot.TheVariants.{Plan, Data}}
-use Rattle.bench_io.{specs.declared.memory_slot.FileState.FileState, specs.declared.memory_slot.FileState.TheVariants.{Unasked, Refused, Open}, specs.declared.memory_slot.MemorySlot.MemorySlot, specs.declared.memory_inputs.MemoryInputs.MemoryInputs, specs.Given.{Given, gave, no_bytes, is_over, IsOf}, specs.Inputs.InputState, specs.MemoryParts.NamedBytes, specs.Memory.{file_named, rest_of_file, MemoryState}}
+use Rattle.std.{specs.{Prelude.{ℕ, List, [], ◌∷◌, ◌≡◌, Bool, true, false, None, Some, OnOk, OnErr, Result, slice_get, take, refl}, declared.option.Option.Option}, proofs.Common.{sym, ◌∙◌, ◌++◌}}
+use Rattle.std.proofs.{Common.{append-nil, take-append-drop}, Math.Seq.take-nil, lemmas.Option.{none-some, same_Some}}
+use Rattle.{tally_base.specs.declared.slot.Slot.{Slot, TheVariants.{Plan, Data}}, bench_io.specs.declared.memory_slot.FileState.{FileState, TheVariants.{Unasked, Refused, Open}}}
+use Rattle.bench_io.specs.{declared.{memory_slot.MemorySlot.MemorySlot, memory_inputs.MemoryInputs.MemoryInputs}, Given.{Given, gave, no_bytes, is_over, IsOf}, Inputs.{InputState, IsOpened}}
+use Rattle.bench_io.specs.{MemoryParts.NamedBytes, Memory.{file_named, rest_of_file, MemoryState}}
 
 -- whether the slot was asked for
 abbrev pub was_asked : FileState → Bool
@@ -32,6 +34,21 @@ abbrev pub given_in : List NamedBytes → FileState → Given
 given_in files Unasked = no_bytes
 given_in files Refused = no_bytes
 given_in files (Open file at ended) = gave (take at (rest_of_file (slice_get files file) 0)) (is_over (rest_of_file (slice_get files file) at) ended)
+
+-- What an opening for a name left, by its answer.
+pub record OpensFile {X E : Type 0} (files : List NamedBytes) (name : List ℕ) (now : FileState) (result : Result X E) : Type 0 where
+  pub file : OnOk result (IsOpened (Some (file_named files name)) (told_in files now))
+  pub given : OnOk result (given_in files now ≡ no_bytes)
+  pub opened : OnOk result (was_opened now ≡ true)
+  pub unopened : OnErr result (was_opened now ≡ false)
+  pub asked : was_asked now ≡ true
+
+-- The slot has the same file and is as open, and no more openings have failed.
+pub record StaysOpen (files : List NamedBytes) (old new : MemorySlot) : Type 0 where
+  pub told : told_in files new.reading ≡ told_in files old.reading
+  pub opened : was_opened new.reading ≡ was_opened old.reading
+  pub asked : was_asked new.reading ≡ was_asked old.reading
+  pub open_faults : new.open_faults ≡ old.open_faults
 
 -- one slot of the two
 abbrev pub slot_of : MemoryInputs → Slot → MemorySlot

@@ -1,7 +1,6 @@
 -- What was written of a text that has grown.
-use Rattle.std.{specs.Prelude.{◌≡◌, ◌⊎◌, ℕ, List, ◌++◌, None, Some, Result, Ok, Err}, specs.declared.option.Option.Option}
-use Rattle.tally_base.{specs.declared.fault.Fault.Fault, specs.declared.fault.Fault.TheVariants.WriteFault}
-use Rattle.bench_io.specs.Sinks.{SinkState, Wrote, WroteShort}
+use Rattle.std.specs.{Prelude.{◌≡◌, ◌⊎◌, ℕ, List, ◌++◌, None, Some, Result, Ok, Err}, declared.option.Option.Option}
+use Rattle.{tally_base.specs.declared.fault.Fault.{Fault, TheVariants.WriteFault}, bench_io.specs.Sinks.{SinkState, Wrote, WroteShort}}
 
 -- What the text has grown by was written, and no write failed.
 pub record WroteText (shown grown : List ℕ) (old new : SinkState) : Type 0 where

@@ -1,7 +1,6 @@
 // Two inputs that count their faults.
-ghost use Rattle.std.{specs.Prelude.{◌≡◌, ℕ, List, Some, true, false, OnOk, OnErr}, specs.Io.{ReadsAtMost}};
-ghost use Rattle.tally_base.{specs.declared.slot.Slot.{Slot}, specs.FaultCounts.FailsOnce};
-ghost use Rattle.bench_io.{specs.Given.{no_bytes, ReadGives, IsOf}, specs.Inputs.{InputState, IsOpened, Keeps, KeepsOther, OpensNone}};
+ghost use Rattle.std.specs.{Prelude.{◌≡◌, ℕ, List, Some, true, false, OnOk, OnErr}, Io.ReadsAtMost};
+ghost use Rattle.{tally_base.specs.{declared.slot.Slot.Slot, FaultCounts.FailsOnce}, bench_io.specs.{Given.{no_bytes, ReadGives, IsOf}, Inputs.{InputState, IsOpened, Keeps, KeepsOther, OpensNone}}};
 
 use tally_base::{Failed, Slot};
 

@@ -1,7 +1,7 @@
 // Inputs in memory, which tell everything.
-ghost use Rattle.std.{specs.Prelude.{◌≡◌, ◌↔◌, true, false, length, min, IsSome, IsOk, IfOk, OnErr, OnOk}, specs.Io.ReadsAtMost};
-ghost use Rattle.tally_base.specs.FaultCounts.{FailsOnce};
-ghost use Rattle.bench_io.{specs.Given.{no_bytes, ReadGives}, specs.Inputs.{IsOpened, Keeps, KeepsOther, OpensNone}, specs.Memory.{file_named, IsFresh, IsFailing, given_of, after_open, after_read, left_of, CountsOpening, CountsReading}, specs.MemorySlots.{input_state, memory_state}};
+ghost use Rattle.std.specs.{Prelude.{◌≡◌, ◌↔◌, true, false, length, min, IsSome, IsOk, IfOk, OnErr, OnOk}, Io.ReadsAtMost};
+ghost use Rattle.{tally_base.specs.FaultCounts.FailsOnce, bench_io.specs.{Given.{no_bytes, ReadGives}, Inputs.{IsOpened, Keeps, KeepsOther, OpensNone}, Memory.{file_named, IsFresh, IsFailing}}};
+ghost use Rattle.bench_io.specs.{Memory.{given_of, after_open, after_read, left_of, CountsOpening, CountsReading}, MemorySlots.{input_state, memory_state}};
 
 use crate::failing_calls::FailingCalls;
 use crate::inputs::Inputs;

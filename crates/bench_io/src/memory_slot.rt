@@ -1,6 +1,6 @@
 // One slot of inputs in memory.
-ghost use Rattle.std.{specs.Prelude.{◌≡◌, ◌+◌, ◌^◌, ◌<◌, ◌⊎◌, Some, None, true, false, length, take, min, slice_get, IsSome, IfOk, IsOk, ◌↔◌, MatchOption, OnErr, OnOk}, specs.Io.{ReadsAtMost}};
-ghost use Rattle.bench_io.{specs.Given.{no_bytes, ReadGives}, specs.Inputs.IsOpened, specs.MemoryParts.limited, specs.Memory.{file_named, rest_of_file}, specs.MemorySlots.{was_asked, was_opened, rest_in, told_in, given_in}};
+ghost use Rattle.std.specs.{Prelude.{◌≡◌, ◌+◌, ◌^◌, ◌<◌, ◌⊎◌, Some, None, true, false, length, take, min, slice_get, IsSome, IfOk, IsOk, ◌↔◌, MatchOption, OnErr, OnOk}, Io.ReadsAtMost};
+ghost use Rattle.bench_io.specs.{Given.ReadGives, MemoryParts.limited, Memory.{file_named, rest_of_file}, MemorySlots.{OpensFile, StaysOpen, was_opened, rest_in, given_in}};
 ghost use Rattle.tally_base.specs.FaultCounts.{FailsOnce};
 
 use crate::memory_file::MemoryFile;
@@ -101,11 +101,7 @@ impl MemorySlot {
         name: &str,
         fails: bool,
     ) -> Result<(), Failed>
-        ensures file { OnOk result (IsOpened (Some (file_named files.now name.now)) (told_in files.now self.new.reading)) }
-        ensures given { OnOk result (given_in files.now self.new.reading ≡ no_bytes) }
-        ensures opened { OnOk result (was_opened self.new.reading ≡ true) }
-        ensures unopened { OnErr result (was_opened self.new.reading ≡ false) }
-        ensures asked { was_asked self.new.reading ≡ true }
+        ensures opens { OpensFile files.now name.now self.new.reading result }
         ensures succeeds { IsOk result ↔ ((fails ≡ false) × IsSome (file_named files.now name.now)) }
         ensures cause { FailsOnce self.old.open_faults self.new.open_faults result }
         ensures read_faults { self.new.read_faults ≡ self.old.read_faults }
@@ -134,16 +130,13 @@ impl MemorySlot {
     ) -> Result<usize, Failed>
         requires { was_opened self.old.reading ≡ true }
         ensures bound { ReadsAtMost result into.new }
-        ensures told { told_in files.now self.new.reading ≡ told_in files.now self.old.reading }
         ensures gives { ReadGives (given_in files.now self.old.reading) (given_in files.now self.new.reading) result into.new }
-        ensures opened { was_opened self.new.reading ≡ was_opened self.old.reading }
-        ensures asked { was_asked self.new.reading ≡ was_asked self.old.reading }
+        ensures stays { StaysOpen files.now self.old self.new }
         ensures succeeds { IsOk result ↔ (fails ≡ false) }
         ensures count { IfOk result (λ n. n ≡
             limited entry
             (min (length (rest_in files.now self.old.reading)) (length into.old))) }
         ensures cause { FailsOnce self.old.read_faults self.new.read_faults result }
-        ensures open_faults { self.new.open_faults ≡ self.old.open_faults }
     {
         let FileState::Open { file, at, ended } = self.reading else {
             unreachable!()

@@ -1,8 +1,9 @@
 -- The photons before the tick of the last are those of closed bins.
-use Rattle.std.{proofs.Common.{◌≡◌, ◌∙◌, ℕ, ◌<◌, ◌≤◌, true, false, ltb, cond, [], ◌∷◌, ◌++◌, length, refl, arith, append-nil, rules}, specs.declared.option.Option.{Option}, specs.Prelude.{None, Some}, specs.List.{count_by, filter, AllByRecursion}, proofs.lemmas.Bool.Decides.nat_tests, proofs.lemmas.List.Elements.filter-append, proofs.lemmas.List.Sums.{sum_by-cons, sum_by-append}}
-use Rattle.tally_base.{specs.declared.event.Event.Event, specs.Settings.CoincidenceView, specs.Tally.History}
-use Rattle.lag_ring.{proofs.Rising.{all_weaker, filter_passed}, proofs.Lists.{all_join}, proofs.Sums.{sum_by-zero}}
-use Rattle.coincidence.{specs.declared.pairing.Bin.Bin, specs.Pairs.before_last, specs.Pairing.OpenIs, proofs.Shut.filter_none}
+use Rattle.std.proofs.Common.{◌≡◌, ◌∙◌, ℕ, ◌<◌, ◌≤◌, true, false, ltb, cond, [], ◌∷◌, ◌++◌, length, refl, arith, append-nil, rules}
+use Rattle.std.{proofs.lemmas.{Bool.Decides.nat_tests, List.{Elements.filter-append, Sums.{sum_by-cons, sum_by-append}}}, specs.declared.option.Option.Option}
+use Rattle.{std.specs.{Prelude.{None, Some}, List.{count_by, filter, AllByRecursion}}, tally_base.specs.{declared.event.Event.Event, Settings.CoincidenceView}}
+use Rattle.{tally_base.specs.Tally.History, lag_ring.proofs.{Rising.{all_weaker, filter_passed}, Lists.all_join, Sums.sum_by-zero}}
+use Rattle.coincidence.{specs.{declared.pairing.Bin.Bin, Pairs.before_last, Pairing.OpenIs}, proofs.Shut.filter_none}
 
 abbrev after : ℕ → History → ℕ
 after t xs = count_by (λ y. ltb t y.0.time) xs

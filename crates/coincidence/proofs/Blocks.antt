@@ -1,7 +1,9 @@
 -- One event more for the intervals.
-use Rattle.std.{proofs.Common.{◌≡◌, ℕ, ◌+◌, ◌-◌, ◌/◌, ◌<◌, ◌≤◌, Bool, true, false, ◌&&◌, List, [], ◌∷◌, ◌++◌, sym, refl, arith, None, Some, nat_le, ◌==◌, slice_index, if◌then◌else◌, rules}}
-use Rattle.tally_base.{specs.declared.event.Event.Event, specs.Events.{is_photon, is_in}, specs.Settings.StartStopView, specs.Tally.History}
-use Rattle.coincidence.{specs.declared.start.Start.Start, specs.StartStop.Counted, specs.Starts.{ended, start_in, since_in}, specs.Intervals.count_intervals, proofs.Intervals.{count-photon, start-photon, count-marker, start-marker, ends}}
+use Rattle.std.proofs.Common.{◌≡◌, ℕ, ◌+◌, ◌-◌, ◌/◌, ◌<◌, ◌≤◌, Bool, true, false, ◌&&◌, List, [], ◌∷◌, ◌++◌, sym, refl, arith, None, Some, nat_le, ◌==◌}
+use Rattle.{std.proofs.Common.{slice_index, if◌then◌else◌, rules}, tally_base.specs.{declared.event.Event.Event, Events.{is_photon, is_in}}}
+use Rattle.{tally_base.specs.{Settings.StartStopView, Tally.History}, coincidence.specs.{declared.start.Start.Start, StartStop.Counted, Starts.ended}}
+use Rattle.coincidence.{specs.{Starts.{start_in, since_in}, Intervals.count_intervals}, proofs.Intervals.{count-photon, start-photon, count-marker}}
+use Rattle.coincidence.proofs.Intervals.{start-marker, ends}
 
 -- What a photon ends, by a bin and a number.
 

@@ -1,8 +1,13 @@
 -- The events of a block for a table of coincidences.
-use Rattle.std.{proofs.Common.{◌≡◌, ◌∙◌, ℕ, ◌+◌, ◌<◌, ◌≤◌, Bool, true, false, ◌&&◌, ◌||◌, List, [], ◌∷◌, ◌++◌, length, refl, sym, ap, arith, length-append, append-nil, append_assoc, nat_lt, rules, max, cond, fold, zero-add}, proofs.lemmas.Grind.common_steps, proofs.lemmas.Bool.false≢true, proofs.lemmas.List.Elements.filter-append, specs.List.AllByRecursion, proofs.lemmas.List.Sums.{length-filter, count_by-le-length}}
-use Rattle.tally_base.{specs.declared.event.Event.Event, specs.Events.{is_photon, is_in}, specs.Settings.CoincidenceView, specs.Tally.{History, greatest_time, floor_after, InOrder, moves_floor}, specs.Limits.record_limit, specs.declared.block.Block.Block, specs.Columns.{rows, item, event_at, code_at, groups_at, time_at, gathered, events_in}, proofs.Floors.{moves_row, order-parts, order-at, greatest-rows}, proofs.BlockRows.{length-rows, more_rows, rows-split}}
-use Rattle.coincidence.{specs.Lone.bin_at, specs.Picked.has_either, specs.declared.pairing.Pairing.Pairing, specs.Pairs.{photons_of_groups, in_first, in_second}, specs.Pairing.{CanPut, Came, BinIs, CanEnd, PairingDone}, specs.StandsFor.{StandsFor, CanTake}}
-use Rattle.lag_ring.proofs.Rising.{all_weaker}
+use Rattle.std.proofs.Common.{◌≡◌, ◌∙◌, ℕ, ◌+◌, ◌<◌, ◌≤◌, Bool, true, false, ◌&&◌, ◌||◌, List, [], ◌∷◌, ◌++◌, length, refl, sym, ap, arith, length-append}
+use Rattle.std.proofs.{Common.{append-nil, append_assoc, nat_lt, rules, max, cond, fold, zero-add}, lemmas.{Grind.common_steps, Bool.false≢true}}
+use Rattle.std.{proofs.lemmas.List.{Elements.filter-append, Sums.{length-filter, count_by-le-length}}, specs.List.AllByRecursion}
+use Rattle.tally_base.specs.{declared.{event.Event.Event, block.Block.Block}, Events.{is_photon, is_in}, Settings.CoincidenceView, Tally.History}
+use Rattle.tally_base.specs.{Tally.{greatest_time, floor_after, InOrder, moves_floor}, Limits.record_limit, Columns.{rows, item, event_at, code_at, groups_at}}
+use Rattle.tally_base.{specs.Columns.{time_at, gathered, events_in}, proofs.{Floors.{moves_row, order-parts, order-at, greatest-rows}, BlockRows.length-rows}}
+use Rattle.{tally_base.proofs.BlockRows.{more_rows, rows-split}, coincidence.specs.{Lone.bin_at, Picked.has_either, declared.pairing.Pairing.Pairing}}
+use Rattle.coincidence.specs.{Pairs.{photons_of_groups, in_first, in_second}, Pairing.{CanPut, Came, BinIs, CanEnd, PairingDone}, StandsFor.StandsFor}
+use Rattle.{coincidence.specs.StandsFor.CanTake, lag_ring.proofs.Rising.all_weaker}
 
 -- What an event does to the photons of the two groups.
 
@@ -86,7 +91,8 @@ module _ (set : CoincidenceView) {N : ℕ} (b : Block N) (h : History) (at : ℕ
       put_row Were were = record { few = few_row; was = were; is = one_photon; after = after_row }
 
 -- what a table that isn't closed may take
-pub may_events : (closed : Bool) → closed ≡ false → (set : CoincidenceView) (p : Pairing) (count time : ℕ) (h : History) (es : List Event) → StandsFor closed set p count time h → count + length es ≤ record_limit → InOrder false time es → CanTake set (Came set p) es h
+pub may_events : (closed : Bool) → closed ≡ false → (set : CoincidenceView) (p : Pairing) (count time : ℕ) (h : History) (es : List Event)
+    → StandsFor closed set p count time h → count + length es ≤ record_limit → InOrder false time es → CanTake set (Came set p) es h
 may_events closed open' set p count time h es is few after = search (rules, arith, false≢true)
 
 -- what it stands for then

@@ -1,8 +1,9 @@
 -- The sums of a strip, row by row.
-use Rattle.std.{proofs.Common.{◌≡◌, ◌∙◌, ℕ, ◌+◌, ◌-◌, ◌*◌, ◌/◌, ◌<◌, ◌≤◌, eqb, cond, List, length, get_or, take, drop, reverse, refl, sym, arith, rules, length-drop, min}, specs.List.{sum_by, range_with_len}, proofs.lemmas.Bool.Decides.nat_tests, proofs.lemmas.List.{get_or-drop, get_or-take, get_or-reverse, get_or_past, length-take, length-reverse}}
-use Rattle.tally_base.specs.Settings.{CoincidenceView}
-use Rattle.lag_ring.{specs.declared.window.Side.TheVariants.{First, Second}, specs.Cells.{row_at}}
-use Rattle.coincidence.{specs.Closing.{strip_sum, row_pairs, row_sum}, proofs.LagPairs.{at_one, range-parts, range-both, range-turned}}
+use Rattle.std.proofs.Common.{◌≡◌, ◌∙◌, ℕ, ◌+◌, ◌-◌, ◌*◌, ◌/◌, ◌<◌, ◌≤◌, eqb, cond, List, length, get_or, take, drop, reverse, refl, sym, arith, rules}
+use Rattle.std.proofs.{Common.{length-drop, min}, lemmas.{Bool.Decides.nat_tests, List.{get_or-drop, get_or-take, get_or-reverse, get_or_past, length-take}}}
+use Rattle.{std.{proofs.lemmas.List.length-reverse, specs.List.{sum_by, range_with_len}}, tally_base.specs.Settings.CoincidenceView}
+use Rattle.{lag_ring.specs.{declared.window.Side.TheVariants.{First, Second}, Cells.row_at}, coincidence.specs.Closing.{strip_sum, row_pairs, row_sum}}
+use Rattle.coincidence.proofs.LagPairs.{at_one, range-parts, range-both, range-turned}
 
 -- a difference in reach has a cell
 pub row-inside : (n reach width : ℕ) → 0 < width → n ≤ 2 * reach → n / width < 2 * reach / width + 1

@@ -1,7 +1,7 @@
 -- What a bin brings to the pairs of different places.
-use Rattle.std.{proofs.Common.{◌≡◌, ℕ, ◌+◌, ◌*◌, ◌≤◌, Bool, true, false, ◌&&◌, cond, List, [], ◌∷◌, ◌++◌, length, refl, ◌∙◌, arith, rules}, specs.List.{count_by, AllByRecursion}, proofs.Math.Nat.mul_comm, proofs.lemmas.List.Sums.{sum_by-cons, sum_by-append, count_by-le-length}, proofs.lemmas.Grind.common_steps}
-use Rattle.tally_base.proofs.Sums.{sum_none}
-use Rattle.lag_ring.proofs.Sums.{cross, sum_by-agree, sum_by-same, sum_by-times, sum_by-plus}
+use Rattle.std.proofs.{Common.{◌≡◌, ℕ, ◌+◌, ◌*◌, ◌≤◌, Bool, true, false, ◌&&◌, cond, List, [], ◌∷◌, ◌++◌, length, refl, ◌∙◌, arith, rules}, Math.Nat.mul_comm}
+use Rattle.std.{proofs.lemmas.{List.Sums.{sum_by-cons, sum_by-append, count_by-le-length}, Grind.common_steps}, specs.List.{count_by, AllByRecursion}}
+use Rattle.{tally_base.proofs.Sums.sum_none, lag_ring.proofs.Sums.{cross, sum_by-agree, sum_by-same, sum_by-times, sum_by-plus}}
 
 -- how many ordered pairs of an element and another one pass the test
 abbrev pub pairs_in : {X : Type 0} → (X → X → Bool) → List X → ℕ

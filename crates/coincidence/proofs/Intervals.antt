@@ -1,7 +1,11 @@
 -- One more photon, and the intervals.
-use Rattle.std.{proofs.Common.{◌≡◌, ◌∙◌, ℕ, ◌+◌, ◌-◌, Bool, true, false, ◌&&◌, ◌||◌, cond, List, [], ◌∷◌, ◌++◌, ap, arith, None, Some, count_by, rules, refl, zero, suc, not, length, take, tests, sum_by}, specs.declared.option.Option.Option, specs.List.{filter, last_or, list_any, range_with_len, slice_get}, specs.Option.{option_map_or, option_and_then}, proofs.lemmas.List.append-nil, proofs.lemmas.List.Elements.filter-append, proofs.lemmas.Grind.common_steps, proofs.lemmas.Bool.Decides.nat_tests, proofs.lemmas.List.Sums.{sum_by_push, sum_by-cons}, proofs.Math.Numerals.add-one}
-use Rattle.tally_base.{proofs.Sums.{sum_same, sum_none}, specs.declared.event.Event.Event, specs.Events.{is_photon, is_in}, specs.Settings.StartStopView, specs.Tally.History}
-use Rattle.coincidence.specs.Intervals.{neighbours, is_of_either, photons_of_either, is_interval, count_intervals, start_of, open_start, places, are_ends, is_pair, count_pairs}
+use Rattle.std.proofs.Common.{◌≡◌, ◌∙◌, ℕ, ◌+◌, ◌-◌, Bool, true, false, ◌&&◌, ◌||◌, cond, List, [], ◌∷◌, ◌++◌, ap, arith, None, Some, count_by, rules, refl}
+use Rattle.std.proofs.{Common.{zero, suc, not, length, take, tests, sum_by}, lemmas.List.{append-nil, Elements.filter-append, Sums.{sum_by_push, sum_by-cons}}}
+use Rattle.std.{proofs.{lemmas.{Grind.common_steps, Bool.Decides.nat_tests}, Math.Numerals.add-one}, specs.{declared.option.Option.Option, List.filter}}
+use Rattle.{std.specs.{List.{last_or, list_any, range_with_len, slice_get}, Option.{option_map_or, option_and_then}}, tally_base.proofs.Sums.sum_same}
+use Rattle.tally_base.{proofs.Sums.sum_none, specs.{declared.event.Event.Event, Events.{is_photon, is_in}, Settings.StartStopView, Tally.History}}
+use Rattle.coincidence.specs.Intervals.{neighbours, is_of_either, photons_of_either, is_interval, count_intervals, start_of, open_start, places, are_ends}
+use Rattle.coincidence.specs.Intervals.{is_pair, count_pairs}
 
 -- one more item, and the neighbours
 
@@ -37,10 +41,12 @@ abbrev pub ends : (ℕ → Bool) → ℕ → Bool → Option ℕ → ℕ
 ends test time stops start = option_map_or (λ since. one_if (stops && test (time - since))) start 0
 
 -- the last photon and the one that comes
-last-and-next : (set : StartStopView) (test : ℕ → Bool) (last : Option (Event × ℕ)) (x : Event × ℕ) → option_map_or (λ y. one_if (is_interval set test (y, x))) last 0 ≡ ends test x.0.time (is_in x.1 set.stop) (option_and_then (start_of set) last)
+last-and-next : (set : StartStopView) (test : ℕ → Bool) (last : Option (Event × ℕ)) (x : Event × ℕ)
+    → option_map_or (λ y. one_if (is_interval set test (y, x))) last 0 ≡ ends test x.0.time (is_in x.1 set.stop) (option_and_then (start_of set) last)
 last-and-next set test last x = search (rules, arith)
 
-count-by_groups : (set : StartStopView) (test : ℕ → Bool) (h : History) (x : Event × ℕ) (either : Bool) → is_of_either set x ≡ either → count_intervals set test (h ++ x ∷ []) ≡ count_intervals set test h + cond either (ends test x.0.time (is_in x.1 set.stop) (open_start set h)) 0
+count-by_groups : (set : StartStopView) (test : ℕ → Bool) (h : History) (x : Event × ℕ) (either : Bool) → is_of_either set x ≡ either
+    → count_intervals set test (h ++ x ∷ []) ≡ count_intervals set test h + cond either (ends test x.0.time (is_in x.1 set.stop) (open_start set h)) 0
 count-by_groups set test h x true is =
     let kept = photons_of_either set h in
     cc (filter-push (is_of_either set) h x true is, count-neighbours-push (is_interval set test) kept x, last-and-next set test (last_or None kept) x)

@@ -1,8 +1,14 @@
 -- Pairs summed lag by lag.
-use Rattle.tally_base.{specs.Settings.{CoincidenceView}, proofs.Sums.{sum_none}}
-use Rattle.lag_ring.{specs.declared.ring.Entry.Entry, specs.declared.window.Side.Side, specs.Bytes.{weight_of, weight_before, Have, behind}, specs.Ring.IsRising, proofs.Lists.{all_both, all_filter, all_join, each_at}, proofs.Rising.{all_weaker, all_push, filter_passed, rising_filter}, proofs.Sums.{sum_by-same, sum_by-agree, sum_by-plus, sum_by-times, sum_by-zero, window-before}}
-use Rattle.coincidence.{specs.Pairing.{shifted_by, other_side, lag_pair, pairs_at, pairs_of_all}, specs.Closing.{lag_pairs, each_lag_pair, lag_sum, lags_of, placed, strip_pairs, window_pairs, window_sum}, proofs.Shut.filter_none, proofs.Visits.{pairs_near, pairs_far}}
-use Rattle.std.{proofs.Common.{◌≡◌, ◌≢◌, ◌∙◌, ℕ, zero, suc, ◌+◌, ◌-◌, ◌*◌, ◌/◌, ◌^◌, ◌<◌, ◌≤◌, Bool, true, false, ◌&&◌, leb, ltb, eqb, cond, List, [], ◌∷◌, ◌++◌, refl, sym, ap, arith, take, drop, nat_le, nat_lt, append_assoc, rules, length, get_or, replicate}, specs.List.{sum_by, filter, range_with_len, AllByRecursion}, specs.List.Sorted.IsNonDecreasingBy, proofs.Math.Nat.mul-le-mul_right, proofs.lemmas.Grind.common_steps, proofs.lemmas.Bool.Decides.nat_tests, proofs.lemmas.List.get_or-replicate, proofs.lemmas.List.Elements.filter-append, proofs.lemmas.List.Sums.{sum_by-cons, sum_by-append}}
+use Rattle.{tally_base.{specs.Settings.CoincidenceView, proofs.Sums.sum_none}, lag_ring.specs.{declared.{ring.Entry.Entry, window.Side.Side}, Bytes.weight_of}}
+use Rattle.lag_ring.{specs.{Bytes.{weight_before, Have, behind}, Ring.IsRising}, proofs.{Lists.{all_both, all_filter, all_join, each_at}, Rising.all_weaker}}
+use Rattle.lag_ring.proofs.{Rising.{all_push, filter_passed, rising_filter}, Sums.{sum_by-same, sum_by-agree, sum_by-plus, sum_by-times, sum_by-zero}}
+use Rattle.{lag_ring.proofs.Sums.window-before, coincidence.specs.{Pairing.{shifted_by, other_side, lag_pair, pairs_at, pairs_of_all}, Closing.lag_pairs}}
+use Rattle.coincidence.{specs.Closing.{each_lag_pair, lag_sum, lags_of, placed, strip_pairs, window_pairs, window_sum}, proofs.Shut.filter_none}
+use Rattle.{coincidence.proofs.Visits.{pairs_near, pairs_far}, std.proofs.Common.{◌≡◌, ◌≢◌, ◌∙◌, ℕ, zero, suc, ◌+◌, ◌-◌, ◌*◌, ◌/◌, ◌^◌, ◌<◌, ◌≤◌, Bool, true}}
+use Rattle.std.proofs.Common.{false, ◌&&◌, leb, ltb, eqb, cond, List, [], ◌∷◌, ◌++◌, refl, sym, ap, arith, take, drop, nat_le, nat_lt, append_assoc, rules}
+use Rattle.std.proofs.{Common.{length, get_or, replicate}, Math.Nat.mul-le-mul_right, lemmas.{Grind.common_steps, Bool.Decides.nat_tests}}
+use Rattle.std.{proofs.lemmas.List.{get_or-replicate, Elements.filter-append, Sums.{sum_by-cons, sum_by-append}}, specs.List.{sum_by, filter, range_with_len}}
+use Rattle.std.specs.List.{AllByRecursion, Sorted.IsNonDecreasingBy}
 
 -- sums over two lists in either order
 swapped : {X Y : Type 0} (f : X → Y → ℕ) (xs : List X) (ys : List Y) → sum_by (λ x. sum_by (f x) ys) xs ≡ sum_by (λ y. sum_by (λ x. f x y) xs) ys
@@ -147,7 +153,7 @@ strip-window d set c base least count sums window spots few below is =
     ap (λ n. cond (eqb (shifted_by d set.reach lag / set.width) c) n 0) same)
 
 -- the pairs of a window are those with the entries in it
-window-lags : (d : Side) (set : CoincidenceView) (c base low : ℕ) (window spots : List ℕ) (es later : List Entry)
+pub window-lags : (d : Side) (set : CoincidenceView) (c base low : ℕ) (window spots : List ℕ) (es later : List Entry)
     → length window ≡ 8192 → Have d (base + 4096) low (replicate 8192 0) window es
     → AllByRecursion (λ e. (low ≤ e.index) × (e.index - low < 4096)) later
     → ((f : ℕ → ℕ) → sum_by f spots ≡ sum_by (λ e. f (e.index - low) * weight_of (other_side d) e) later)
@@ -163,9 +169,16 @@ window-lags d set c base low window spots es later full have near photons =
     ap (λ n. cond (eqb (shifted_by d set.reach lag / set.width) c) n 0) (photons (behind window (base + 4096 - lag)) ∙ same))
 
 -- a sum over three lists
-pub three_sums : (f : Entry → ℕ) (front back ring later : List Entry) → front ++ back ≡ ring
-    → sum_by f (ring ++ later) ≡ sum_by f front + sum_by f back + sum_by f later
-three_sums f front back ring later is = search (rules, arith, sum_by-append)
+pub three_sums : (f : Entry → ℕ) (front back own : List Entry) → sum_by f (front ++ back ++ own) ≡ sum_by f front + sum_by f back + sum_by f own
+three_sums f front back own = search (rules, arith, sum_by-append)
+
+-- the pairs with each of three lists, one by one
+pub lags_parts : (d : Side) (set : CoincidenceView) (c base count : ℕ) (front back own later : List Entry)
+    → lag_sum d set c base count (front ++ back ++ own) later ≡ each_lag_pair d set c base count front later + each_lag_pair d set c base count back later + each_lag_pair d set c base count own later
+lags_parts d set c base count front back own later =
+    lags_of_each d set c base count (front ++ back ++ own) later
+    ∙ swapped (lag_pair d set c base count) later (front ++ back ++ own)
+    ∙ three_sums (λ e. sum_by (λ l. lag_pair d set c base count l e) later) front back own
 
 -- entries after others rise with them
 pub rising_join : (es later : List Entry) → IsRising es → IsRising later
@@ -194,48 +207,24 @@ few-steps n front back last most few = omega (arith, mul-le-mul_right n few)
 pub placed-rising : (base low high : ℕ) (es : List Entry) → IsRising es → IsRising (placed base low high es)
 placed-rising base low high es rising = rising_filter _ _ (rising_filter _ es rising)
 
-pub placed-early : (base low high : ℕ) (es : List Entry) → base ≤ 2 ^ 20 → AllByRecursion (λ e. e.index < 2 ^ 63) es → AllByRecursion (λ e. e.index + (base + 4096) < 2 ^ 64) (placed base low high es)
-placed-early base low high es few early = search (rules, arith, all_weaker, placed-all)
+pub placed_parts : (base low high : ℕ) (front back own : List Entry) → placed base low high front ++ placed base low high back ++ placed base low high own ≡ placed base low high (front ++ back ++ own)
+placed_parts base low high front back own = search (rules, arith, placed_append)
 
-pub placed-three : (f : Entry → ℕ) (base low high : ℕ) (front back ring later : List Entry) → front ++ back ≡ ring
-    → sum_by f (placed base low high (ring ++ later)) ≡ sum_by f (placed base low high front) + sum_by f (placed base low high back) + sum_by f (placed base low high later)
-placed-three f base low high front back ring later is = search (rules, arith, placed_append, three_sums)
+-- entries that are early have places at the greatest lag
+pub early-enough : (base : ℕ) (es : List Entry) → base ≤ 2 ^ 20 → AllByRecursion (λ e. e.index < 2 ^ 63) es → AllByRecursion (λ e. e.index + (base + 4096) < 2 ^ 64) es
+early-enough base es few early = search (rules, arith, all_weaker)
 
 placed-pairs : (d : Side) (set : CoincidenceView) (c base low high : ℕ) (l : Entry) (es : List Entry) → (low ≤ l.index) × (l.index < high)
     → sum_by (lag_pair d set c base (lags_of set base) l) (placed base low high es) ≡ sum_by (lag_pair d set c base (lags_of set base) l) es
 placed-pairs d set c base low high l es at = search (rules, arith, placed-sum)
 
-module _ (d : Side) (set : CoincidenceView) (c base low high : ℕ) (later : List Entry) (near : AllByRecursion (λ e. (low ≤ e.index) × (e.index < high)) later) where
-  abbrev pairs-with : Entry → List Entry → ℕ
-  pairs-with l es = sum_by (lag_pair d set c base (lags_of set base) l) es
-
-  -- the pairs at the lags are those with these
-  pub lags-placed : (es : List Entry) → lag_sum d set c base (lags_of set base) (placed base low high es) later ≡ lag_sum d set c base (lags_of set base) es later
-  lags-placed es = search (rules, arith, lags_of_each, sum_by-agree, placed-pairs)
-
-  -- also one by one
-  pub pairs-placed : (front back ring : List Entry) → front ++ back ≡ ring → lag_sum d set c base (lags_of set base) (ring ++ later) later
-      ≡ each_lag_pair d set c base (placed base low high front) later + each_lag_pair d set c base (placed base low high back) later + each_lag_pair d set c base (placed base low high later) later
-  pairs-placed front back ring is =
-      let g : List Entry → Entry → ℕ = λ es l. pairs-with l (placed base low high es) in
-      let turned = λ (es : List Entry). swapped (lag_pair d set c base (lags_of set base)) later (placed base low high es) in
-      rw (← turned front, ← turned back, ← turned later)
-      (lags_of_each d set c base (lags_of set base) (ring ++ later) later
-      ∙ sum_by-agree (λ e. (low ≤ e.index) × (e.index < high)) (λ l. pairs-with l (ring ++ later)) (λ l. g front l + g back l + g later l) later near
-      (λ l at. omega (arith, three_sums (lag_pair d set c base (lags_of set base) l) front back ring later is, placed-pairs d set c base low high l front at, placed-pairs d set c base low high l back at, placed-pairs d set c base low high l later at))
-      ∙ sum_by-plus (λ l. g front l + g back l) (g later) later ∙ ap (λ n. n + sum_by (g later) later) (sum_by-plus (g front) (g back) later))
+-- the pairs at the lags are those with these
+pub lags-placed : (d : Side) (set : CoincidenceView) (c base low high : ℕ) (later : List Entry) → AllByRecursion (λ e. (low ≤ e.index) × (e.index < high)) later
+    → (es : List Entry) → lag_sum d set c base (lags_of set base) (placed base low high es) later ≡ lag_sum d set c base (lags_of set base) es later
+lags-placed d set c base low high later near es = search (rules, arith, lags_of_each, sum_by-agree, placed-pairs)
 
 pub near-low : (low high : ℕ) (later : List Entry) → high ≤ low + 4096 → AllByRecursion (λ e. (low ≤ e.index) × (e.index < high)) later → AllByRecursion (λ e. (low ≤ e.index) × (e.index - low < 4096)) later
 near-low low high later short near = search (rules, arith, all_weaker)
-
--- the pairs of a window with these are those with all
-pub window-pairs-all : (d : Side) (set : CoincidenceView) (c base low high : ℕ) (window spots : List ℕ) (es later : List Entry)
-    → length window ≡ 8192 → Have d (base + 4096) low (replicate 8192 0) window (placed base low high es)
-    → high ≤ low + 4096 → AllByRecursion (λ e. (low ≤ e.index) × (e.index < high)) later
-    → ((f : ℕ → ℕ) → sum_by f spots ≡ sum_by (λ e. f (e.index - low) * weight_of (other_side d) e) later)
-    → window_sum d set c base window spots ≡ lag_sum d set c base (lags_of set base) es later
-window-pairs-all d set c base low high window spots es later full have short near photons =
-    window-lags d set c base low window spots (placed base low high es) later full have (near-low low high later short near) photons ∙ lags-placed d set c base low high later near es
 
 -- no photons of the earlier entry, no pairs
 pub no_lag_pairs : (d : Side) (set : CoincidenceView) (c base count : ℕ) (e : Entry) → weight_of d e ≡ 0 → (ls : List Entry) → sum_by (λ l. lag_pair d set c base count l e) ls ≡ 0

@@ -1,8 +1,9 @@
 -- Exchanged groups turn the differences.
-use Rattle.lag_ring.proofs.Sums.{sum_by-same, sum_by-plus}
-use Rattle.tally_base.{proofs.Sums.{sum_same}, specs.Settings.CoincidenceView, specs.Tally.History}
-use Rattle.coincidence.{specs.Pairs.{in_first, in_second, is_in_cell, is_coincidence, coincidences, exchanged, both_pass, places_of, are_apart, pairs_apart}, proofs.Hits.pairs_in, proofs.Intervals.{one_if, sum-places}}
-use Rattle.std.{proofs.Common.{◌≡◌, ℕ, suc, ◌+◌, Bool, false, List, [], ◌∷◌, length, refl, arith, rules, tests, None, Some, count_by, sum_by, ◌∙◌, ◌-◌, ◌*◌, ◌≤◌, ◌&&◌, sym}, specs.declared.option.Option.Option, specs.List.slice_get, proofs.lemmas.List.Sums.sum_by-cons, proofs.Math.Nat.div-one, proofs.lemmas.Grind.common_steps, proofs.lemmas.Bool.Decides.nat_tests}
+use Rattle.{lag_ring.proofs.Sums.{sum_by-same, sum_by-plus}, tally_base.{proofs.Sums.sum_same, specs.{Settings.CoincidenceView, Tally.History}}}
+use Rattle.coincidence.specs.Pairs.{in_first, in_second, is_in_cell, is_coincidence, coincidences, exchanged, both_pass, places_of, are_apart, pairs_apart}
+use Rattle.{coincidence.proofs.{Hits.pairs_in, Intervals.{one_if, sum-places}}, std.proofs.Common.{◌≡◌, ℕ, suc, ◌+◌, Bool, false, List, [], ◌∷◌, length, refl}}
+use Rattle.std.proofs.{Common.{arith, rules, tests, None, Some, count_by, sum_by, ◌∙◌, ◌-◌, ◌*◌, ◌≤◌, ◌&&◌, sym}, lemmas.List.Sums.sum_by-cons}
+use Rattle.std.{proofs.{lemmas.{Grind.common_steps, Bool.Decides.nat_tests}, Math.Nat.div-one}, specs.{declared.option.Option.Option, List.slice_get}}
 
 -- The pairs of different places, element by element.
 

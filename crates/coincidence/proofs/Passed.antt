@@ -1,8 +1,9 @@
 -- Photons that are alone in their reach make no pair.
-use Rattle.std.{proofs.Common.{◌≡◌, ℕ, zero, suc, ◌+◌, ◌-◌, ◌*◌, ◌<◌, ◌≤◌, Bool, true, ◌&&◌, ◌||◌, cond, [], ◌∷◌, ◌++◌, refl, arith, rules, Some, None}}
-use Rattle.tally_base.{specs.Settings.CoincidenceView, specs.Tally.History, specs.declared.block.Block.Block, specs.Columns.{rows, item, time_at, gathered}}
-use Rattle.lag_ring.{specs.Cells.Cells, specs.Ring.{Ring, ring}}
-use Rattle.coincidence.{specs.declared.pairing.Bin.Bin, specs.declared.pairing.Pairing.Pairing, specs.Pairs.photons_of_groups, specs.Pairing.{bin_pairs, Gathered}, specs.StandsFor.CanTake, specs.Lone.{has_photon, bin_at, IsAlone, IsLone}, proofs.Blockwise.{put_row, photons-more}, proofs.Shut.{keep, closes, cells_alone, ring_alone}, proofs.Visits.{moves, close_on}}
+use Rattle.std.proofs.Common.{◌≡◌, ℕ, zero, suc, ◌+◌, ◌-◌, ◌*◌, ◌<◌, ◌≤◌, Bool, true, ◌&&◌, ◌||◌, cond, [], ◌∷◌, ◌++◌, refl, arith, rules, Some, None}
+use Rattle.tally_base.specs.{Settings.CoincidenceView, Tally.History, declared.block.Block.Block, Columns.{rows, item, time_at, gathered}}
+use Rattle.{lag_ring.specs.{Cells.Cells, Ring.{Ring, ring}}, coincidence.specs.{declared.pairing.{Bin.Bin, Pairing.Pairing}, Pairs.photons_of_groups}}
+use Rattle.coincidence.{specs.{Pairing.{bin_pairs, Gathered}, StandsFor.CanTake, Lone.{has_photon, bin_at, IsAlone, IsLone}}, proofs.Blockwise.put_row}
+use Rattle.coincidence.proofs.{Blockwise.photons-more, Shut.{keep, closes, cells_alone, ring_alone}, Visits.{moves, close_on}}
 
 no_pairs : (set : CoincidenceView) (c : ℕ) (bin : Bin) → bin.both ≡ bin.weights.a * bin.weights.b → bin_pairs set c bin [] ≡ 0
 no_pairs set c bin is = search (rules, arith)

@@ -1,8 +1,10 @@
 -- The rows of a block that have photons, one after the other.
-use Rattle.std.{proofs.Common.{rules}, proofs.Common.{◌≡◌, ℕ, zero, suc, ◌+◌, ◌-◌, ◌<◌, ◌≤◌, Bool, true, false, List, [], ◌∷◌, ◌++◌, length, get_or, drop, arith, cond, take, slice_set, add-one, drop-cons, inl, inr}, proofs.Math.Nat.{eq-or-lt_of_le}, proofs.lemmas.List.{take-set, take_more_set}, proofs.Math.ListN.drop_of_length-le, specs.Prelude.{Option}}
-use Rattle.tally_base.{specs.Settings.CoincidenceView, specs.Tally.History, specs.declared.block.Block.Block, specs.Columns.{rows, item, gathered}}
-use Rattle.lag_ring.{specs.Cells.Cells, specs.Ring.Ring}
-use Rattle.coincidence.{specs.declared.pairing.Bin.Bin, specs.Pairs.photons_of_groups, specs.Pairing.{Gathered, CanPut}, specs.StandsFor.{CanTake, Gathers}, specs.Lone.bin_at, specs.Picked.{has_either, HaveNone, ArePicked}, proofs.Blockwise.{photons-same, photons-more, put_row}}
+use Rattle.std.proofs.Common.{rules, ◌≡◌, ℕ, zero, suc, ◌+◌, ◌-◌, ◌<◌, ◌≤◌, Bool, true, false, List, [], ◌∷◌, ◌++◌, length, get_or, drop, arith, cond, take}
+use Rattle.std.proofs.{Common.{slice_set, add-one, drop-cons, inl, inr}, Math.{Nat.eq-or-lt_of_le, ListN.drop_of_length-le}, lemmas.List.take-set}
+use Rattle.{std.{proofs.lemmas.List.take_more_set, specs.Prelude.Option}, tally_base.specs.{Settings.CoincidenceView, Tally.History}}
+use Rattle.{tally_base.specs.{declared.block.Block.Block, Columns.{rows, item, gathered}}, lag_ring.specs.{Cells.Cells, Ring.Ring}}
+use Rattle.coincidence.specs.{declared.pairing.Bin.Bin, Pairs.photons_of_groups, Pairing.{Gathered, CanPut}, StandsFor.{CanTake, Gathers}, Lone.bin_at}
+use Rattle.coincidence.{specs.Picked.{has_either, HaveNone, ArePicked}, proofs.Blockwise.{photons-same, photons-more, put_row}}
 
 module _ (set : CoincidenceView) {N : ℕ} (b : Block N) where
   none_more : (from upto : ℕ) → HaveNone set b from upto → has_either set b upto ≡ false → HaveNone set b from (upto + 1)

@@ -1,6 +1,6 @@
 -- Cells of known photons.
-use Rattle.std.{proofs.Common.{◌≡◌, ℕ, List, [], ◌∷◌, map, refl}, specs.List.{range_with_len}}
-use Rattle.tally_base.{specs.declared.event.Event.Event, specs.declared.event.EventKind.TheVariants.{Photon, Marker}, specs.Settings.CoincidenceView, specs.Tally.History}
+use Rattle.{std.{proofs.Common.{◌≡◌, ℕ, List, [], ◌∷◌, map, refl}, specs.List.range_with_len}, tally_base.specs.declared.event.Event.Event}
+use Rattle.tally_base.specs.{declared.event.EventKind.TheVariants.{Photon, Marker}, Settings.CoincidenceView, Tally.History}
 use Rattle.coincidence.specs.Pairs.{coincidences}
 
 abbrev pub photon : ℕ → ℕ → Event × ℕ

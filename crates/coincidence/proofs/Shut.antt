@@ -1,8 +1,14 @@
 -- What a bin brings when it is closed.
-use Rattle.std.{proofs.Common.{◌≡◌, sym, ap, append_assoc, ℕ, ◌+◌, ◌-◌, ◌*◌, ◌/◌, ◌<◌, ◌≤◌, Bool, true, false, ◌&&◌, leb, eqb, cond, List, [], ◌∷◌, ◌++◌, length, refl, ◌∙◌, arith, length-append, append-nil, rules}, specs.List.{sum_by, filter, AllByRecursion}, proofs.Math.Logic.{∥∥₁_map}, proofs.Math.Nat.{mul-le-mul, mul-le-mul_right}, proofs.lemmas.Grind.common_steps, proofs.lemmas.List.Elements.filter-append}
-use Rattle.tally_base.{specs.Settings.{CoincidenceView}, specs.Tally.History, specs.Limits.record_limit}
-use Rattle.lag_ring.{specs.declared.window.Side.{Side, TheVariants.{First, Second}}, specs.declared.ring.Entry.Entry, specs.Cells.Cells, specs.Ring.{Ring, ring, IsRising, weight_where, IsInReach, Keeps}, proofs.Kept.{HasWeights, weights_of, weights_on, kept_late}, proofs.Lists.{all_back, all_filter, of_some}, proofs.Rising.{all_push, all_weaker, rising_push, rising_filter}, proofs.Sums.{sum_by-same, sum_by-times, sum_by-zero}}
-use Rattle.coincidence.{specs.declared.pairing.Bin.Bin, specs.Pairs.{in_first, in_second, is_in_cell, is_coincidence, coincidences}, specs.Pairing.{pairs_of_all, pairs_with, bin_pairs, BinIs, BinsAre, RingIs, CellsAre, Pending, MayClose, Closes, Pays, HasRoom, Counts}, specs.declared.pairing.Pairing.Pairing, proofs.Hits.{pairs_in, hits-append, pairs_in-one, pairs_in-le}, proofs.Mirror.pairs_apart-in, proofs.Visits.{pairs_far, room_as, counts_as}}
+use Rattle.std.proofs.Common.{◌≡◌, sym, ap, append_assoc, ℕ, ◌+◌, ◌-◌, ◌*◌, ◌/◌, ◌<◌, ◌≤◌, Bool, true, false, ◌&&◌, leb, eqb, cond, List, [], ◌∷◌, ◌++◌, length}
+use Rattle.std.proofs.{Common.{refl, ◌∙◌, arith, length-append, append-nil, rules}, Math.{Logic.∥∥₁_map, Nat.{mul-le-mul, mul-le-mul_right}}}
+use Rattle.std.{proofs.lemmas.{Grind.common_steps, List.Elements.filter-append}, specs.List.{sum_by, filter, AllByRecursion}}
+use Rattle.{tally_base.specs.{Settings.CoincidenceView, Tally.History, Limits.record_limit}, lag_ring.specs.declared.window.Side.{Side, TheVariants.First}}
+use Rattle.lag_ring.specs.{declared.{window.Side.TheVariants.Second, ring.Entry.Entry}, Cells.Cells, Ring.{Ring, ring, IsRising, weight_where, IsInReach}}
+use Rattle.lag_ring.{specs.Ring.Keeps, proofs.{Kept.{HasWeights, weights_of, weights_on, kept_late}, Lists.{all_back, all_filter, of_some}, Rising.all_push}}
+use Rattle.lag_ring.proofs.{Rising.{all_weaker, rising_push, rising_filter}, Sums.{sum_by-same, sum_by-times, sum_by-zero}}
+use Rattle.coincidence.specs.{declared.pairing.{Bin.Bin, Pairing.Pairing}, Pairs.{in_first, in_second, is_in_cell, is_coincidence, coincidences}}
+use Rattle.coincidence.specs.Pairing.{pairs_of_all, pairs_with, bin_pairs, BinIs, BinsAre, RingIs, CellsAre, Pending, MayClose, Closes, Pays, HasRoom, Counts}
+use Rattle.coincidence.proofs.{Hits.{pairs_in, hits-append, pairs_in-one, pairs_in-le}, Mirror.pairs_apart-in, Visits.{pairs_far, room_as, counts_as}}
 
 scaled : (test : Entry → Bool) (f : Entry → ℕ) (w : ℕ) (es : List Entry) → sum_by (λ e. cond (test e) (f e * w) 0) es ≡ sum_by (λ e. cond (test e) (f e) 0) es * w
 scaled test f w es = sum_by-same _ (λ e. cond (test e) (f e) 0 * w) es (λ e. search (rules, arith)) ∙ sum_by-times (λ e. cond (test e) (f e) 0) w es
@@ -176,8 +182,5 @@ module _ (set : CoincidenceView) (p : Pairing) (bin : Bin) (closed xs : History)
 
   -- where no entry is in reach, they count those inside the bin
   module _ (far : AllByRecursion (λ e. e.index + set.reach < bin.weights.index) p.ring.entries) where
-    pub alone_fits : HasRoom set p.cells (λ c. bin_pairs set c bin [])
-    alone_fits = search (rules, arith, room_as, may_fit, alone, keep)
-
     pub cells_alone : (new : Cells) (before' now : ℕ) → Counts set p.cells new before' now (λ c. bin_pairs set c bin []) 1 → CellsAre set new (closed ++ xs)
     cells_alone new before' now is = cells_shut new before' now (counts_as set p.cells new before' now _ _ 1 _ is (λ c. sym (alone set p.ring bin closed xs keep far c)) (omega arith))

@@ -1,8 +1,12 @@
 -- Bins that are closed one after another, or together.
-use Rattle.std.{proofs.Common.{◌≡◌, ℕ, ◌+◌, ◌<◌, List, [], ◌∷◌, ◌++◌, length, arith, append_assoc, length-append, append-nil, rules, ◌-◌, ◌*◌, ◌≤◌, leb, refl, Some, slice_get}, specs.List.{sum_by, filter, AllByRecursion}, proofs.Math.Logic.{∥∥₁_map}, proofs.Math.Nat.{mul-le-mul_right}, proofs.lemmas.List.{length-map, Sums.sum_by-cons}}
-use Rattle.tally_base.{specs.Settings.{CoincidenceView}, specs.Tally.History}
-use Rattle.lag_ring.{specs.declared.window.Side.TheVariants.{First, Second}, specs.declared.ring.Entry.Entry, specs.Cells.Cells, specs.Ring.{Ring, ring, IsRising}, proofs.Lists.{all_front, all_back, of_some}, proofs.Kept.{weights_on, kept_late}, proofs.Rising.{all_weaker, all_at, upto_join, rising_filter}}
-use Rattle.coincidence.{specs.declared.pairing.Bin.Bin, specs.Pairing.{bin_pairs, RingIs, CellsAre, MayClose, Closes, BinsAre, HasRoom, Counts}, specs.Closing.{weights_in, both_lag_sums}, proofs.LagPairs.{lags_in_turn, in_turn, rising_join}, specs.declared.pairing.Pairing.Pairing, specs.Pairs.{in_first, in_second, coincidences}, proofs.Shut.{CanClose, Weights, ring_weights, grown_by, bin_both, sums_fit}}
+use Rattle.std.proofs.Common.{◌≡◌, ℕ, ◌+◌, ◌<◌, List, [], ◌∷◌, ◌++◌, length, arith, append_assoc, length-append, append-nil, rules, ◌-◌, ◌*◌, ◌≤◌, leb, refl}
+use Rattle.std.{proofs.{Common.{Some, slice_get}, Math.{Logic.∥∥₁_map, Nat.mul-le-mul_right}, lemmas.List.{length-map, Sums.sum_by-cons}}, specs.List.sum_by}
+use Rattle.{std.specs.List.{filter, AllByRecursion}, tally_base.specs.{Settings.CoincidenceView, Tally.History}}
+use Rattle.lag_ring.specs.{declared.{window.Side.TheVariants.{First, Second}, ring.Entry.Entry}, Cells.Cells, Ring.{Ring, ring, IsRising}}
+use Rattle.lag_ring.proofs.{Lists.{all_front, all_back, of_some}, Kept.{weights_on, kept_late}, Rising.{all_weaker, all_at, upto_join, rising_filter}}
+use Rattle.coincidence.specs.{declared.pairing.{Bin.Bin, Pairing.Pairing}, Pairing.{bin_pairs, RingIs, CellsAre, MayClose, Closes, BinsAre, HasRoom, Counts}}
+use Rattle.coincidence.{specs.{Closing.{weights_in, both_lag_sums}, Pairs.{in_first, in_second, coincidences}}, proofs.LagPairs.{lags_in_turn, in_turn}}
+use Rattle.coincidence.proofs.{LagPairs.rising_join, Shut.{CanClose, Weights, ring_weights, grown_by, bin_both, sums_fit}}
 
 -- Bins that are closed together bring what they bring one by one.
 

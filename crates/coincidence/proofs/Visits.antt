@@ -1,8 +1,11 @@
 -- One entry more in the loops over a ring.
-use Rattle.tally_base.{specs.Settings.{CoincidenceView, coincidence_cells}, specs.Tally.History, specs.Limits.record_limit}
-use Rattle.lag_ring.{specs.declared.window.Side.Side, specs.declared.ring.Entry.Entry, specs.Bytes.weight_of, specs.Cells.Cells, specs.Ring.Ring, proofs.Rising.all_weaker, proofs.Lists.{all_back, all_join, of_some}}
-use Rattle.coincidence.{specs.Pairs.is_in_cell, specs.Pairing.{shifted_by, pairs_of, pairs_of_all, joined, BinIs, BinsAre, Pending, Gathered, CanPut, HasRoom, Counts}, specs.declared.pairing.Pairing.Pairing, specs.StandsFor.HasPhotons, specs.declared.pairing.Bin.Bin}
-use Rattle.std.{proofs.Common.{◌≡◌, ℕ, ◌+◌, ◌-◌, ◌*◌, ◌/◌, ◌<◌, ◌≤◌, eqb, cond, List, [], ◌∷◌, refl, arith, rules, ◌≢◌, ◌∙◌, Some, Option, ◌++◌, length, sym, length-append, append_assoc, append-nil, ap, Bool, true, false}, proofs.lemmas.Grind.common_steps, proofs.lemmas.List.Sums.{sum_by-cons, sum_by-append}, specs.List.AllByRecursion, proofs.Math.Nat.mul-le-mul_left}
+use Rattle.{tally_base.specs.{Settings.{CoincidenceView, coincidence_cells}, Tally.History, Limits.record_limit}, lag_ring.specs.declared.window.Side.Side}
+use Rattle.lag_ring.{specs.{declared.ring.Entry.Entry, Bytes.weight_of, Cells.Cells, Ring.Ring}, proofs.{Rising.all_weaker, Lists.{all_back, all_join}}}
+use Rattle.{lag_ring.proofs.Lists.of_some, coincidence.specs.{Pairs.is_in_cell, Pairing.{shifted_by, pairs_of, pairs_of_all, joined, BinIs, BinsAre, Pending}}}
+use Rattle.coincidence.specs.{Pairing.{Gathered, CanPut, HasRoom, Counts}, declared.pairing.{Pairing.Pairing, Bin.Bin}, StandsFor.HasPhotons}
+use Rattle.std.proofs.Common.{◌≡◌, ℕ, ◌+◌, ◌-◌, ◌*◌, ◌/◌, ◌<◌, ◌≤◌, eqb, cond, List, [], ◌∷◌, refl, arith, rules, ◌≢◌, ◌∙◌, Some, Option, ◌++◌, length, sym}
+use Rattle.std.proofs.{Common.{length-append, append_assoc, append-nil, ap, Bool, true, false}, lemmas.{Grind.common_steps, List.Sums.sum_by-cons}}
+use Rattle.std.{proofs.{lemmas.List.Sums.sum_by-append, Math.Nat.mul-le-mul_left}, specs.List.AllByRecursion}
 
 module _ (set : CoincidenceView) (index : ℕ) (earlier : Entry) (after : earlier.index < index) (near : index - earlier.index ≤ set.reach) where
   in_forward : (c : ℕ) → is_in_cell set c earlier.index index ≡ eqb ((set.reach + (index - earlier.index)) / set.width) c
@@ -76,7 +79,8 @@ module _ (set : CoincidenceView) where
   }
 
   -- photons of another tick come after a bin and those before it
-  behind_bin : (bin new : Bin) (closed open' : History) → BinIs set bin open' → AllByRecursion (λ x. x.0.time < bin.weights.index) closed → AllByRecursion (λ x. x.0.time ≤ new.weights.index) (closed ++ open') → bin.weights.index ≢ new.weights.index
+  behind_bin : (bin new : Bin) (closed open' : History) → BinIs set bin open' → AllByRecursion (λ x. x.0.time < bin.weights.index) closed
+      → AllByRecursion (λ x. x.0.time ≤ new.weights.index) (closed ++ open') → bin.weights.index ≢ new.weights.index
       → AllByRecursion (λ x. x.0.time < new.weights.index) (closed ++ open')
   behind_bin bin new closed open' is before all other =
       let back = all_back (λ x. x.0.time ≤ new.weights.index) closed open' all in

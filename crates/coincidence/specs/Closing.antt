@@ -1,8 +1,9 @@
 -- Bins that are closed together.
-use Rattle.std.{specs.Prelude.{ℕ, ◌+◌, ◌-◌, ◌^◌, ◌<◌, ◌≤◌, ◌==◌, ◌/◌, ◌*◌, nat_lt, nat_le, min, slice_index, List, filter, ◌++◌, length, map, sum_by, if◌then◌else◌}, specs.List.{AllByRecursion, range_with_len}}
-use Rattle.tally_base.specs.Settings.{CoincidenceView, coincidence_view}
-use Rattle.lag_ring.{specs.Cells.Cells, specs.declared.ring.Entry.Entry, specs.declared.window.Side.{Side, TheVariants.{First, Second}}, specs.Bytes.{weight_of, weight_before, IsLight, behind}, specs.Ring.IsRising}
-use Rattle.coincidence.{specs.declared.pairing.Bin.Bin, specs.declared.lags.Places.Places, specs.Pairing.{HasRoom, Counts, lag_pair, other_side, shifted_by}}
+use Rattle.std.specs.{Prelude.{ℕ, ◌+◌, ◌-◌, ◌^◌, ◌<◌, ◌≤◌, ◌==◌, ◌/◌, ◌*◌, nat_lt, nat_le, min, slice_index, List, filter, ◌++◌, length, map, sum_by, if◌then◌else◌}, List.AllByRecursion}
+use Rattle.std.{specs.List.range_with_len, proofs.Props.props}
+use Rattle.{tally_base.specs.Settings.{CoincidenceView, coincidence_view}, lag_ring.specs.{Cells.Cells, declared.{ring.Entry.Entry, window.Side.{Side, TheVariants.{First, Second}}}, Bytes.weight_of}}
+use Rattle.{lag_ring.{specs.{Bytes.{weight_before, IsLight, behind}, Ring.IsRising}, proofs.Rising.rising-prop}, coincidence.specs.declared.{pairing.Bin.Bin, places.{Lags.Lags, Places.Places}}}
+use Rattle.coincidence.specs.Pairing.{HasRoom, Counts, lag_pair, other_side, shifted_by}
 
 -- the entries of bins
 abbrev pub weights_in : List Bin → List Entry
@@ -50,53 +51,40 @@ lag_sum direction set c base count es later = sum_by (lag_pairs direction set c 
 abbrev pub both_lag_sums : CoincidenceView → ℕ → ℕ → ℕ → List Entry → List Entry → ℕ
 both_lag_sums set c base count es later = lag_sum First set c base count es later + lag_sum Second set c base count es later
 
--- the same one by one
-abbrev pub each_lag_pair : Side → CoincidenceView → ℕ → ℕ → List Entry → List Entry → ℕ
-each_lag_pair direction set c base es later = sum_by (λ e. sum_by (λ l. lag_pair direction set c base (lags_of set base) l e) later) es
+-- those in one direction, one by one
+abbrev pub each_lag_pair : Side → CoincidenceView → ℕ → ℕ → ℕ → List Entry → List Entry → ℕ
+each_lag_pair direction set c base count es later = sum_by (λ e. sum_by (λ l. lag_pair direction set c base count l e) later) es
 
 -- the entries that later ones below an index, and not below another, may reach at the lags of a window
 abbrev pub placed : ℕ → ℕ → ℕ → List Entry → List Entry
 placed base low high es = filter (λ e. nat_lt e.index (high - base)) (filter (λ e. nat_le (low - (base + 4096)) e.index) es)
 
--- the later entries have a place in a window, few photons, and no more in one entry than so many
+-- The later entries have a place in a window, and few photons. None of all that they may reach has more photons of a group than so many.
 pub record FitsWindow (places : Places) (es later : List Entry) : Type 0 where
-  pub base : places.base ≤ places.set.reach
+  pub few : (0 < length later) × (length later ≤ 1024)
   pub early : places.low < 2 ^ 63
-  pub early' : AllByRecursion (λ e. e.index < 2 ^ 63) (es ++ later)
+  pub early' : AllByRecursion (λ e. e.index < 2 ^ 63) es
   pub short : places.high ≤ places.low + 4096
   pub near : AllByRecursion (λ e. (places.low ≤ e.index) × (e.index < places.high)) later
   pub weighed : (0 < places.most) × (places.most ≤ 255)
-  pub light : IsLight places.most (es ++ later)
+  pub light : IsLight places.most es
   pub firsts : sum_by (weight_of First) later ≤ 1024
   pub seconds : sum_by (weight_of Second) later ≤ 1024
 
 -- all rise too
 abbrev pub HasWindow : Places → List Entry → List Entry → Type 0
-HasWindow places es later = FitsWindow places es later × IsRising (es ++ later)
+HasWindow places es later = FitsWindow places es later × IsRising es
 
--- the cells have room for the pairs at the lags of windows, in one direction
-abbrev pub HasLagRoom : Places → Side → Cells → List Entry → List Entry → Type 0
-HasLagRoom places direction cells es later = let set = coincidence_view places.set in HasRoom set cells (λ c. lag_sum direction set c places.base (lags_of set places.base) (es ++ later) later)
+-- There is at most one proof of it.
+pub HasWindow-prop : (places : Places) (es later : List Entry) → IsProp (HasWindow places es later)
+HasWindow-prop places es later = hlevel (props, rising-prop)
 
--- they count these, by so many additions for each lag at most
-abbrev pub CountsLags : Places → Side → Cells → Cells → ℕ → ℕ → List Entry → List Entry → ℕ → Type 0
-CountsLags places direction old new before now es later each =
-    let set = coincidence_view places.set in Counts set old new before now (λ c. lag_sum direction set c places.base (lags_of set places.base) (es ++ later) later) (each * lags_of set places.base)
-
--- the pairs at all lags in reach
-abbrev pub reach_sums : CoincidenceView → List Entry → List Entry → ℕ → ℕ
-reach_sums set es later c = both_lag_sums set c 0 set.reach (es ++ later) later
-
--- those at the lags of windows
-abbrev pub at_lags : Places → List Entry → List Entry → ℕ → ℕ
-at_lags places es later c = both_lag_sums (coincidence_view places.set) c places.base (lags_of (coincidence_view places.set) places.base) (es ++ later) later
-
--- they count the pairs with one earlier entry at the lags of windows, one by one
-abbrev pub CountsEarlier : Places → Side → Cells → Cells → ℕ → ℕ → Entry → List Entry → Type 0
-CountsEarlier places direction old new before now earlier later =
-    let set = coincidence_view places.set in Counts set old new before now (λ c. sum_by (λ l. lag_pair direction set c places.base (lags_of set places.base) l earlier) later) (length later)
+-- cells count the pairs with one earlier entry at some lags, one by one
+abbrev pub CountsEarlier : Lags → Side → Cells → Cells → ℕ → ℕ → Entry → List Entry → Type 0
+CountsEarlier lags direction old new before now earlier later =
+    let set = coincidence_view lags.set in Counts set old new before now (λ c. sum_by (λ l. lag_pair direction set c lags.base lags.count l earlier) later) (length later)
 
 -- and with each of some entries
-abbrev pub CountsEach : Places → Side → Cells → Cells → ℕ → ℕ → List Entry → List Entry → Type 0
-CountsEach places direction old new before now es later =
-    let set = coincidence_view places.set in Counts set old new before now (λ c. each_lag_pair direction set c places.base es later) (length es * length later)
+abbrev pub CountsEach : Lags → Side → Cells → Cells → ℕ → ℕ → List Entry → List Entry → Type 0
+CountsEach lags direction old new before now es later =
+    let set = coincidence_view lags.set in Counts set old new before now (λ c. each_lag_pair direction set c lags.base lags.count es later) (length es * length later)

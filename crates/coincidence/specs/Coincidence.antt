@@ -1,8 +1,10 @@
 -- What a table of coincidences stands for.
-use Rattle.std.{specs.Prelude.{ℕ, ◌+◌, is_some, length, if◌then◌else◌, ◌≡◌, ◌≤◌, Bool, true, false, ◌&&◌, ◌||◌, [], ◌∷◌, ◌++◌}, proofs.Common.{cond, arith, rules, ◌∙◌, ap, subst}, proofs.Math.Logic.∥∥₁_elim, proofs.Props.props}
-use Rattle.tally_base.{specs.declared.settings.CoincidenceSet.CoincidenceSet, specs.Settings.{PartSettings, coincidence_view, CoincidenceView, coincidence_cells, entries}, specs.Settings.PartSettings.CoincidenceSettings, specs.Tally.History, specs.declared.event.Event.Event, specs.Events.{is_photon, is_in}, proofs.Sorted.{same_length, same_greatest, same_filter}}
-use Rattle.lag_ring.specs.Cells.{Cells}
-use Rattle.coincidence.{specs.declared.coincidence.Coincidence.Coincidence, specs.StandsFor.{StandsFor, HasPhotons}, specs.declared.pairing.Pairing.Pairing, specs.Pairs.{in_first, in_second}, specs.Pairing.{RingIs, CellsAre}}
+use Rattle.std.{specs.Prelude.{ℕ, ◌+◌, is_some, length, if◌then◌else◌, ◌≡◌, ◌≤◌, Bool, true, false, ◌&&◌, ◌||◌, [], ◌∷◌, ◌++◌}, proofs.Common.{cond, arith, rules, ◌∙◌, ap, subst}}
+use Rattle.std.proofs.{Math.Logic.∥∥₁_elim, Props.props}
+use Rattle.tally_base.specs.{declared.{settings.CoincidenceSet.CoincidenceSet, event.Event.Event}, Settings.{PartSettings, coincidence_view, CoincidenceView, coincidence_cells, entries}}
+use Rattle.tally_base.{specs.{Settings.PartSettings.CoincidenceSettings, Tally.History, Events.{is_photon, is_in}}, proofs.Sorted.{same_length, same_greatest, same_filter}}
+use Rattle.{lag_ring.specs.Cells.Cells, coincidence.specs.{declared.{coincidence.Coincidence.Coincidence, pairing.Pairing.Pairing}, StandsFor.{StandsFor, HasPhotons}, Pairs.{in_first, in_second}}}
+use Rattle.coincidence.specs.Pairing.{RingIs, CellsAre}
 
 -- what it was opened with
 abbrev pub set_of : Coincidence → CoincidenceSet

@@ -1,6 +1,7 @@
 -- The intervals from a photon of one group to the next of another.
-use Rattle.std.{specs.Prelude.{ℕ, ◌-◌, ◌/◌, Bool, ◌&&◌, ◌||◌, ◌==◌, nat_le, List, Option, None, Some, drop, count_by, if◌then◌else◌, suc, false, not, nat_lt, length, take, sum_by}, specs.List.{filter, zip, last_or, list_any, range_with_len, slice_get}, specs.Option.option_and_then}
-use Rattle.tally_base.{specs.declared.event.Event.Event, specs.Events.{is_photon, is_in}, specs.Settings.StartStopView, specs.Tally.History}
+use Rattle.std.specs.{Prelude.{ℕ, ◌-◌, ◌/◌, Bool, ◌&&◌, ◌||◌, ◌==◌, nat_le, List, Option, None, Some, drop, count_by, if◌then◌else◌, suc, false, not, nat_lt, length, take, sum_by}, List.{filter, zip}}
+use Rattle.std.specs.{List.{last_or, list_any, range_with_len, slice_get}, Option.option_and_then}
+use Rattle.tally_base.specs.{declared.event.Event.Event, Events.{is_photon, is_in}, Settings.StartStopView, Tally.History}
 
 -- each item with the next
 abbrev pub neighbours : {X : Type 0} → List X → List (X × X)

@@ -8,3 +8,4 @@ pub mod Starts
 pub mod Closing
 pub mod Lone
 pub mod Picked
+pub mod Stretch

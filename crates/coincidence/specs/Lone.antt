@@ -1,8 +1,8 @@
 -- Photons that are alone in their reach.
-use Rattle.std.{specs.Prelude.{◌≡◌, ℕ, ◌+◌, ◌-◌, ◌*◌, ◌<◌, Bool, true, ◌&&◌, ◌||◌, ◌++◌, nat_lt, Option, List, [], if◌then◌else◌}, specs.List.AllByRecursion}
-use Rattle.tally_base.{specs.Events.is_in, specs.Settings.CoincidenceView, specs.Tally.History, specs.declared.block.Block.Block, specs.Columns.{code_at, groups_at, time_at, gathered, item, rows}}
-use Rattle.lag_ring.{specs.declared.ring.Entry.Entry, specs.Cells.Cells, specs.Ring.Ring}
-use Rattle.coincidence.{specs.declared.pairing.Bin.Bin, specs.declared.pairing.Pairing.Pairing, specs.Pairs.photons_of_groups, specs.Pairing.{Came, Gathered}, specs.StandsFor.CanTake}
+use Rattle.std.specs.{Prelude.{◌≡◌, ℕ, ◌+◌, ◌-◌, ◌*◌, ◌<◌, Bool, true, ◌&&◌, ◌||◌, ◌++◌, nat_lt, Option, List, [], if◌then◌else◌}, List.AllByRecursion}
+use Rattle.tally_base.specs.{Events.is_in, Settings.CoincidenceView, Tally.History, declared.block.Block.Block, Columns.{code_at, groups_at, time_at, gathered, item, rows}}
+use Rattle.{lag_ring.specs.{declared.ring.Entry.Entry, Cells.Cells, Ring.Ring}, coincidence.specs.{declared.pairing.{Bin.Bin, Pairing.Pairing}, Pairs.photons_of_groups, Pairing.{Came, Gathered}}}
+use Rattle.coincidence.specs.StandsFor.{CanTake}
 
 -- whether a row has a photon of a group
 abbrev pub has_photon : {N : ℕ} → Block N → ℕ → ℕ → Bool

@@ -1,8 +1,9 @@
 -- What the bins and cells of a table of coincidences stand for: photons that came in order, and how far they are paired.
-use Rattle.std.{specs.Prelude.{◌≡◌, ℕ, ◌+◌, ◌-◌, ◌*◌, ◌/◌, ◌^◌, ◌<◌, ◌≤◌, ◌&&◌, ◌==◌, nat_lt, nat_le, Option, None, Some, List, [], ◌∷◌, ◌++◌, length, slice_index, sum_by, count_by, if◌then◌else◌}, specs.List.{AllByRecursion}}
-use Rattle.tally_base.{specs.Settings.{CoincidenceView, coincidence_cells}, specs.Tally.History, specs.Limits.record_limit}
-use Rattle.lag_ring.{specs.declared.ring.Entry.Entry, specs.declared.window.Side.{Side, TheVariants.{First, Second}}, specs.Cells.{Cells, Spends}, specs.Ring.{Ring, Weighs}, specs.Bytes.{weight_of}, specs.Binned.{IsOpen, KeepsReach, CellsCount}}
-use Rattle.coincidence.{specs.declared.pairing.Bin.Bin, specs.declared.pairing.Pairing.Pairing, specs.Pairs.{in_first, in_second, is_in_cell, coincidences}}
+use Rattle.std.specs.Prelude.{◌≡◌, ℕ, ◌+◌, ◌-◌, ◌*◌, ◌/◌, ◌^◌, ◌<◌, ◌≤◌, ◌&&◌, ◌==◌, nat_lt, nat_le, Option, None, Some, List, [], ◌∷◌, ◌++◌, filter, length, slice_index, sum_by, count_by}
+use Rattle.std.specs.{Prelude.if◌then◌else◌, List.AllByRecursion}
+use Rattle.{tally_base.specs.{Settings.{CoincidenceView, coincidence_cells}, Tally.History, Limits.record_limit}, lag_ring.specs.declared.{ring.Entry.Entry, window.Side.{Side, TheVariants.First}}}
+use Rattle.lag_ring.specs.{declared.window.Side.TheVariants.Second, Cells.{Cells, Spends}, Ring.{Ring, Weighs}, Bytes.weight_of, Binned.{IsOpen, KeepsReach, CellsCount}}
+use Rattle.coincidence.specs.{declared.pairing.{Bin.Bin, Pairing.Pairing}, Pairs.{in_first, in_second, is_in_cell, coincidences}}
 
 -- A direction is told by the side of the earlier photon of a pair: the difference is positive where it is of the first group.
 
@@ -41,7 +42,11 @@ pairs_with set c later es =
     pairs_of_all First set c later.index later.b es
     + pairs_of_all Second set c later.index later.a es
 
--- those, and the pairs inside the later one's bin
+-- those entries that a photon after the later one's tick may reach
+abbrev pub kept_for : ℕ → Entry → List Entry → List Entry
+kept_for reach later es = filter (λ e. nat_le (later.index - (reach - 1)) e.index) es
+
+-- the pairs with all of a list, and those inside the later one's bin
 abbrev pub bin_pairs : CoincidenceView → ℕ → Bin → List Entry → ℕ
 bin_pairs set c bin es =
     pairs_with set c bin.weights es

@@ -1,6 +1,6 @@
 -- The pairs of photons of two groups by the difference of their times.
-use Rattle.std.{specs.Prelude.{ℕ, ◌+◌, ◌-◌, ◌*◌, ◌/◌, Bool, false, not, ◌&&◌, ◌||◌, ◌==◌, nat_le, nat_lt, List, Option, None, Some, length, filter, count_by, sum_by}, specs.List.{range_with_len, slice_get}}
-use Rattle.tally_base.{specs.declared.event.Event.Event, specs.Events.{is_photon, is_in}, specs.Settings.CoincidenceView, specs.Tally.History}
+use Rattle.std.specs.{Prelude.{ℕ, ◌+◌, ◌-◌, ◌*◌, ◌/◌, Bool, false, not, ◌&&◌, ◌||◌, ◌==◌, nat_le, nat_lt, List, Option, None, Some, length, filter, count_by, sum_by}, List.{range_with_len, slice_get}}
+use Rattle.tally_base.specs.{declared.event.Event.Event, Events.{is_photon, is_in}, Settings.CoincidenceView, Tally.History}
 
 abbrev pub in_first : CoincidenceView → Event × ℕ → Bool
 in_first set x = is_photon x.0 && is_in x.1 set.first

@@ -1,7 +1,6 @@
 -- The rows of a block that have photons.
 use Rattle.std.specs.Prelude.{◌≡◌, ℕ, ◌+◌, ◌<◌, ◌≤◌, Bool, true, false, ◌||◌, List, [], ◌∷◌}
-use Rattle.tally_base.{specs.Settings.CoincidenceView, specs.declared.block.Block.Block}
-use Rattle.coincidence.specs.Lone.{has_photon}
+use Rattle.{tally_base.specs.{Settings.CoincidenceView, declared.block.Block.Block}, coincidence.specs.Lone.has_photon}
 
 module _ (set : CoincidenceView) {N : ℕ} (b : Block N) where
   -- the row has a photon of either group

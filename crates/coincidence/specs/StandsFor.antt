@@ -1,8 +1,7 @@
 -- What the fields of a table of coincidences stand for.
 use Rattle.std.specs.Prelude.{◌≡◌, ℕ, ◌+◌, ◌≤◌, Bool, true, false, Option, List, [], ◌++◌, length}
-use Rattle.tally_base.{specs.declared.event.Event.Event, specs.Settings.CoincidenceView, specs.Tally.{History, greatest_time, InOrder}, specs.Limits.record_limit, specs.declared.block.Block.Block, specs.Columns.{gathered, events_in}}
-use Rattle.lag_ring.{specs.Cells.Cells, specs.Ring.Ring}
-use Rattle.coincidence.{specs.declared.pairing.Bin.Bin, specs.declared.pairing.Pairing.Pairing, specs.Pairs.photons_of_groups, specs.Pairing.{Came, Pays, PairingDone, Gathered}}
+use Rattle.tally_base.specs.{declared.{event.Event.Event, block.Block.Block}, Settings.CoincidenceView, Tally.{History, greatest_time, InOrder}, Limits.record_limit, Columns.{gathered, events_in}}
+use Rattle.{lag_ring.specs.{Cells.Cells, Ring.Ring}, coincidence.specs.{declared.pairing.{Bin.Bin, Pairing.Pairing}, Pairs.photons_of_groups, Pairing.{Came, Pays, PairingDone, Gathered}}}
 
 -- the photons came, and in a closed table all of them are in closed bins
 abbrev pub HasPhotons : Bool → CoincidenceView → Pairing → History → Type 0

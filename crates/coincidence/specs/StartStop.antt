@@ -1,7 +1,10 @@
 -- What a start-stop table stands for.
-use Rattle.std.{specs.Prelude.{◌≡◌, ℕ, ◌<◌, false, slice_index, length, ◌≤◌, ◌+◌, ◌/◌, ◌&&◌, ◌||◌, ◌==◌, nat_le, [], ◌∷◌, ◌++◌, None, count_by, List}, specs.List.last_or, specs.Option.option_and_then, proofs.Common.{rules, ◌∙◌, ap}}
-use Rattle.tally_base.{specs.declared.settings.StartStopSet.StartStopSet, specs.Settings.{PartSettings, startstop_view, entries, StartStopView}, specs.Settings.PartSettings.StartStopSettings, specs.Tally.{History, greatest_time}, specs.declared.event.Event.Event, specs.Events.{is_photon, is_in}, proofs.Sorted.{same_length, same_greatest, same_filter}}
-use Rattle.coincidence.{specs.declared.start_stop.StartStop.StartStop, specs.Intervals.{in_interval, count_over, open_start, neighbours, is_of_either, photons_of_either, is_interval, start_of}, specs.Starts.start_in, specs.declared.start.Start.Start}
+use Rattle.std.specs.{Prelude.{◌≡◌, ℕ, ◌<◌, false, slice_index, length, ◌≤◌, ◌+◌, ◌/◌, ◌&&◌, ◌||◌, ◌==◌, nat_le, [], ◌∷◌, ◌++◌, None, count_by, List}, List.last_or, Option.option_and_then}
+use Rattle.std.proofs.Common.{rules, ◌∙◌, ap}
+use Rattle.tally_base.specs.{declared.{settings.StartStopSet.StartStopSet, event.Event.Event}, Settings.{PartSettings, startstop_view, entries, StartStopView, PartSettings.StartStopSettings}}
+use Rattle.tally_base.{specs.{Tally.{History, greatest_time}, Events.{is_photon, is_in}}, proofs.Sorted.{same_length, same_greatest, same_filter}}
+use Rattle.coincidence.specs.{declared.{start_stop.StartStop.StartStop, start.Start.Start}, Intervals.{in_interval, count_over, open_start, neighbours, is_of_either, photons_of_either, is_interval}}
+use Rattle.coincidence.specs.{Intervals.start_of, Starts.start_in}
 
 -- what it was opened with
 abbrev pub set_of : StartStop → StartStopSet

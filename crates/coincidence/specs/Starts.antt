@@ -1,5 +1,5 @@
 -- The start that is open.
-use Rattle.std.{specs.Prelude.{ℕ, Option, None, Some, if◌then◌else◌, Bool}, specs.Option.option_map_or}
+use Rattle.std.specs.{Prelude.{ℕ, Option, None, Some, if◌then◌else◌, Bool}, Option.option_map_or}
 use Rattle.coincidence.specs.declared.start.Start.{Start}
 
 abbrev pub start_in : Start → Option ℕ

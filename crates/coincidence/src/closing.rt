@@ -1,12 +1,12 @@
 // Bins that are closed together.
-ghost use Rattle.std.{specs.Prelude.{◌≡◌, ℕ, ◌+◌, ◌-◌, ◌*◌, ◌^◌, ◌<◌, ◌≤◌, ◌++◌, [], IsTrue, length, slice_index, sum_by}, specs.List.{AllByRecursion}};
-ghost use Rattle.tally_base.{specs.Settings.coincidence_view, specs.Tally.History};
-ghost use Rattle.lag_ring.{specs.Bytes.{weight_of, IsLight}};
-ghost use Rattle.arrayvec.specs.ArrayVec.{array_vec_len};
-ghost use Rattle.coincidence.{specs.Pairing.{bin_pairs, MayClose, Closes, HasRoom, Counts}, specs.Closing.{weights_in, FitsWindow}};
+ghost use Rattle.std.specs.{Prelude.{◌≡◌, ℕ, ◌+◌, ◌-◌, ◌*◌, ◌^◌, ◌<◌, ◌≤◌, ◌++◌, [], IsTrue, length, slice_index, sum_by}, List.AllByRecursion};
+ghost use Rattle.{tally_base.specs.{Settings.coincidence_view, Tally.History}, lag_ring.specs.Bytes.{weight_of, IsLight}, arrayvec.specs.ArrayVec.array_vec_len, coincidence.specs.Pairing.bin_pairs};
+ghost use Rattle.coincidence.specs.{Pairing.{MayClose, Closes, HasRoom, Counts}, Closing.{weights_in, FitsWindow}};
 
-use crate::lags::{MOST_LAGS, Places, are_near, pair_lags};
+use crate::lags::{are_near, pair_lags};
 use crate::pairing::{Bin, Pairing, close, least_kept, pair_inside};
+use crate::places::{MOST_LAGS, Places};
+use crate::stretch::Stretch;
 use arrayvec::ArrayVec;
 use lag_ring::{Entry, LagRing, MOST_SPOTS, PairCells, Side, total_weight, weight_bound};
 use std::sync::ledger::Ledger;
@@ -53,8 +53,8 @@ fn are_few(side: Side, entries: &[Entry]) -> bool
 /// Whether later entries have their places in windows, and few photons: no entry more than so many.
 fn fits_window(places: Places, ring: &LagRing, later: &[Entry]) -> bool
     requires most { (0 < places.most) × IsLight places.most (ring.now.entries ++ later.now) }
-    requires base { places.base ≤ places.set.reach }
-    ensures { IsTrue result → FitsWindow places ring.now.entries later.now }
+    requires some { (0 < length later.now) × (length later.now ≤ TABLE_BLOCK) }
+    ensures { IsTrue result → FitsWindow places (ring.now.entries ++ later.now) later.now }
 {
     let Places {
         low,
@@ -99,12 +99,19 @@ fn close_together<L: Ledger>(
 )
     requires stands { MayClose (coincidence_view places.set) pairing.old bins.now }
     requires entries { later.now ≡ weights_in bins.now }
-    requires window { FitsWindow places pairing.old.ring.entries later.now }
-    requires some { (0 < length bins.now) × (length bins.now ≤ TABLE_BLOCK) }
+    requires window { FitsWindow places (pairing.old.ring.entries ++ later.now) later.now }
     ensures { Closes (coincidence_view places.set) pairing.old pairing.new bins.now steps.old steps.new }
 {
     let Pairing { ring, cells, .. } = pairing;
-    pair_lags(cells, ring, places, later, steps);
+    let (front, back) = ring.slices();
+    let stretch = Stretch {
+        places,
+        front,
+        back,
+        own: later,
+        later,
+    };
+    pair_lags(cells, stretch, steps);
     pair_insides(cells, &places.set, bins, steps);
     let last = later[later.len() - 1].index;
     ring.renew(later, least_kept(&places.set, last));
@@ -125,13 +132,6 @@ fn close_each<L: Ledger>(
     }
 }
 
-/// Whether bins and those of a ring make so many pairs that it pays to go through all lags in reach.
-fn are_dense(set: &CoincidenceSet, ring: &LagRing, bins: &[Bin]) -> bool
-    requires few { length bins.now ≤ TABLE_BLOCK }
-{
-    ring.len() as usize * bins.len() >= set.reach as usize / 8
-}
-
 /// Pairs bins, over windows where they fit these and many are in reach, and puts them among the closed ones.
 fn close_part<L: Ledger>(
     pairing: &mut Pairing,
@@ -143,7 +143,10 @@ fn close_part<L: Ledger>(
     requires stands { MayClose (coincidence_view set.now) pairing.old bins.now }
     ensures { Closes (coincidence_view set.now) pairing.old pairing.new bins.now steps.old steps.new }
 {
-    if pairing.ring.len() >= MANY && bins.len() >= SOME && are_dense(set, &pairing.ring, bins) {
+    let kept = pairing.ring.len();
+    // So many pairs that it pays to go through all lags in reach.
+    let dense = kept as usize * bins.len() >= set.reach as usize / 8;
+    if kept >= MANY && bins.len() >= SOME && dense {
         let mut later = ArrayVec::new();
         put_weights(&mut later, bins);
         let places = Places {

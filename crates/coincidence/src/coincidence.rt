@@ -1,8 +1,8 @@
 // A table of the pairs of photons of two groups by the difference of their times.
 ghost use Rattle.std.specs.Prelude.{◌≡◌, ◌+◌, ◌≤◌, [], false, ◌<◌, IfOk, slice_index, true};
-ghost use Rattle.tally_base.{specs.Settings.{coincidence_view, coincidence_cells}, specs.Tally.History, specs.Limits.record_limit, specs.Settings.PartSettings.CoincidenceSettings};
-ghost use Rattle.coincidence.specs.StandsFor.{StandsFor};
+ghost use Rattle.{tally_base.specs.{Settings.{coincidence_view, coincidence_cells, PartSettings.CoincidenceSettings}, Tally.History, Limits.record_limit}, coincidence.specs.StandsFor.StandsFor};
 
+use crate::lone::Given;
 use crate::pairing::{Pairing, cells_of};
 use crate::taking::take_block;
 use std::alloc::{AllocError, Global};
@@ -112,7 +112,8 @@ impl Tally for Coincidence {
     fn events<L: Ledger>(&mut self, block: &Block<TABLE_BLOCK>, steps: &mut Steps<L>) {
         self.taken += block.len() as u64;
         self.floor = block.floor_after(false, self.floor);
-        take_block(&mut self.pairing, &self.set, block, steps);
+        let set = self.set;
+        take_block(&mut self.pairing, Given { set, block }, steps);
     }
 
     fn close<L: Ledger>(&mut self, steps: &mut Steps<L>) {

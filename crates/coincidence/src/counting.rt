@@ -1,7 +1,7 @@
 // The intervals that the photons of a block end.
 ghost use Rattle.std.specs.Prelude.{◌≡◌, ◌+◌, ◌/◌, ◌^◌, ◌<◌, ◌≤◌, ◌++◌, ◌==◌, ℕ, false, length, nat_le, slice_index, sum, if◌then◌else◌};
-ghost use Rattle.tally_base.{specs.Settings.{divisor_of, startstop_view}, specs.Limits.record_limit, specs.Columns.{gathered, events_in, IsSorted}, specs.Tally.{floor_after, InOrder}};
-ghost use Rattle.coincidence.{specs.StartStop.CountsMore, specs.Starts.since_in};
+ghost use Rattle.tally_base.specs.{Settings.{divisor_of, startstop_view}, Limits.record_limit, Columns.{gathered, events_in, IsSorted}, Tally.{floor_after, InOrder}};
+ghost use Rattle.coincidence.specs.{StartStop.CountsMore, Starts.since_in};
 
 use crate::start::{Start, ended, start_behind};
 use tally_base::{Block, Divisor, StartStopSet, TABLE_BLOCK};

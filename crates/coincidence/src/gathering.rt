@@ -1,28 +1,25 @@
 // Bins that the photons of a block close.
 ghost use Rattle.std.specs.Prelude.{◌≡◌, ◌+◌, ◌<◌, ◌≤◌, ◌++◌, [], take};
-ghost use Rattle.tally_base.{specs.Settings.{coincidence_view}, specs.Tally.History, specs.Columns.{count, gathered, events_in, IsSorted}};
-ghost use Rattle.lag_ring.{specs.Cells.Cells, specs.Ring.Ring};
-ghost use Rattle.arrayvec.specs.ArrayVec.{array_vec_len};
-ghost use Rattle.coincidence.{specs.StandsFor.{CanTake, Gathers}, specs.Pairing.{Gathered, closed_bin}, specs.Picked.ArePicked};
+ghost use Rattle.{tally_base.specs.{Settings.coincidence_view, Tally.History, Columns.{count, gathered, events_in}}, lag_ring.specs.{Cells.Cells, Ring.Ring}, arrayvec.specs.ArrayVec.array_vec_len};
+ghost use Rattle.coincidence.specs.{StandsFor.{CanTake, Gathers}, Pairing.{Gathered, closed_bin}, Picked.ArePicked};
 
-use crate::lone::bin_in;
+use crate::lone::{Given, bin_in};
 use crate::pairing::{Bin, join};
 use arrayvec::ArrayVec;
-use tally_base::{Block, CoincidenceSet, TABLE_BLOCK};
+use tally_base::TABLE_BLOCK;
 
 /// Puts the rows of a block that have a photon of either group after one another, and answers how many there are. What
 /// stands after them has no meaning.
 #[inline(always)]
-fn pick(set: CoincidenceSet, block: &Block<TABLE_BLOCK>, rows: &mut [u16; TABLE_BLOCK]) -> usize
-    requires sorted { IsSorted block.now }
+fn pick(given: Given, rows: &mut [u16; TABLE_BLOCK]) -> usize
     ensures few { result ≤ TABLE_BLOCK }
-    ensures picked { ArePicked (coincidence_view set) block.now (take result rows.new) 0 (count block.now) }
+    ensures picked { ArePicked (coincidence_view given.entry.set) given.entry.block.now (take result rows.new) 0 (count given.entry.block.now) }
 {
     let mut picked = 0;
-    for at in 0..block.len().min(TABLE_BLOCK) {
+    for at in 0..given.block.len().min(TABLE_BLOCK) {
         // No branch on which group it is, which is as good as random from photon to photon.
-        let first = block.has_photon(at, set.first);
-        let second = block.has_photon(at, set.second);
+        let first = given.block.has_photon(at, given.set.first);
+        let second = given.block.has_photon(at, given.set.second);
         rows[picked] = at as u16;
         picked += usize::from(first | second);
     }
@@ -45,25 +42,21 @@ fn put_bin(bins: &mut ArrayVec<Bin, TABLE_BLOCK>, more: Option<Bin>)
 /// that is open then.
 #[tactic(auto, using(crate::proofs::Picked::next_within))]
 pub(crate) fn gather_block(
-    set: &CoincidenceSet,
+    given: Given,
     waiting: Option<Bin>,
-    block: &Block<TABLE_BLOCK>,
     bins: &mut ArrayVec<Bin, TABLE_BLOCK>,
 ) -> Option<Bin>
-    requires sorted { IsSorted block.now }
     requires empty { (bins.old.items ≡ []) × (array_vec_len bins.old ≡ 0) }
-    requires stands { ∥ ((ring : Ring) × (cells : Cells) × (h : History) × CanTake (coincidence_view set.now)
-        (Gathered (coincidence_view set.now) waiting ring cells []) (gathered block.now) h) ∥₁ }
-    ensures follows { Gathers (coincidence_view set.now) waiting result bins.new.items (gathered block.now) (events_in block.now) }
+    requires stands { let set = coincidence_view given.set in ∥ ((ring : Ring) × (cells : Cells) × (h : History)
+        × CanTake set (Gathered set waiting ring cells []) (gathered given.block.now) h) ∥₁ }
+    ensures follows { Gathers (coincidence_view given.entry.set) waiting result bins.new.items (gathered given.entry.block.now) (events_in given.entry.block.now) }
     ensures few { array_vec_len bins.new ≤ TABLE_BLOCK }
 {
-    // Copies, so that no field is read again for each photon.
-    let own = *set;
     let mut rows = [0; TABLE_BLOCK];
-    let picked = pick(own, block, &mut rows);
+    let picked = pick(given, &mut rows);
     let mut open = waiting;
     for row in &rows[..picked] {
-        let bin = bin_in(own, block, *row as usize);
+        let bin = bin_in(given, *row as usize);
         let (closed, now) = join(open, bin);
         put_bin(bins, closed);
         open = Some(now);

@@ -1,19 +1,16 @@
 // Pairs of many bins at once, lag by lag.
-ghost use Rattle.std.{specs.Prelude.{◌≡◌, ℕ, ◌+◌, ◌-◌, ◌*◌, ◌^◌, ◌<◌, ◌≤◌, ◌++◌, IsTrue, length, min, take, drop, filter, nat_lt, nat_le, sum_by}, specs.List.{AllByRecursion}};
-ghost use Rattle.tally_base.specs.Settings.{coincidence_view};
-ghost use Rattle.lag_ring.specs.{Bytes.{Fit, Have, ServesSpots}, Ring.IsRising};
-ghost use Rattle.coincidence.specs.{Pairing.{HasRoom, Counts, lag_pair}, Closing.{row_sum, strip_sum, window_sum, reach_sums, at_lags, each_lag_pair, lags_of, placed, HasWindow, HasLagRoom, CountsLags, CountsEarlier, CountsEach}};
+ghost use Rattle.std.specs.{Prelude.{◌≡◌, ℕ, ◌+◌, ◌-◌, ◌*◌, ◌^◌, ◌<◌, ◌≤◌, ◌++◌, IsTrue, length, min, sum_by}, List.AllByRecursion};
+ghost use Rattle.{tally_base.specs.Settings.coincidence_view, lag_ring.specs.Bytes.{Fit, Have, ServesSpots}, coincidence.specs.{Pairing.{HasRoom, Counts, lag_pair}, Closing.{row_sum, strip_sum}}};
+ghost use Rattle.coincidence.specs.{Closing.{window_sum, each_lag_pair, lags_of, CountsEarlier, CountsEach}, Stretch.{reached, view_of, lags_in, at_lags, both_at_lags, reach_sums, CountsLags}};
 
-use crate::pairing::{add_pairs, later_side, shifted_by};
+use crate::pairing::{add_pairs, later_side, pair_one};
+use crate::places::{Lags, MOST_LAGS, Places};
+use crate::stretch::Stretch;
 use lag_ring::{
-    BYTE_LAGS, Entry, LagRing, MOST_SPOTS, PairCells, Side, byte_lag_sums, put_side, spots_of,
-    total_weight,
+    BYTE_LAGS, Entry, MOST_SPOTS, PairCells, Side, byte_lag_sums, put_side, spots_of, total_weight,
 };
 use std::sync::ledger::Ledger;
-use tally_base::{CoincidenceSet, Steps, TABLE_BLOCK};
-
-/// How many lags a window serves at most, and how many places after them it has for later bins.
-pub(crate) const MOST_LAGS: u32 = 4096;
+use tally_base::{CoincidenceSet, Steps};
 
 /// How many places a window has.
 const WIDE: usize = 8192;
@@ -26,63 +23,6 @@ const MANY_PAIRS: usize = 1 << 14;
 
 /// How many pairs take as long as one photon of the later ones does.
 const PAIRS_OF_SPOT: usize = 64;
-
-/// Windows in which later entries, and all that stand before them by some of the lags in reach, have their places.
-#[derive(Clone, Copy)]
-pub(crate) struct Places {
-    /// What the table was opened with.
-    pub(crate) set: CoincidenceSet,
-    /// The least index of the later ones.
-    pub(crate) low: u64,
-    /// An index that is above theirs.
-    pub(crate) high: u64,
-    /// A number that no place has more photons of either group than.
-    pub(crate) most: usize,
-    /// How many lags come before those of the windows.
-    pub(crate) base: u32,
-}
-
-impl Places {
-    ghost use Rattle.coincidence.specs.Closing.{lags_of};
-
-    /// How many lags the windows serve.
-    #[inline(always)]
-    fn lags(self) -> u32
-        requires { self.base ≤ self.set.reach }
-        ensures { result ≡ lags_of (coincidence_view self.set) self.base }
-    {
-        (self.set.reach - self.base).min(MOST_LAGS)
-    }
-}
-
-/// How many of rising entries are below an index.
-fn count_below(entries: &[Entry], index: u64) -> usize
-    requires rising { IsRising entries.now }
-    ensures below { take result entries.now ≡ filter (λ e. nat_lt e.index index) entries.now }
-    ensures above { drop result entries.now ≡ filter (λ e. nat_le index e.index) entries.now }
-    ensures within { result ≤ length entries.now }
-{
-    entries.partition_point(
-        |e: &Entry| -> bool
-            ensures { result ≡ nat_lt e.now.index index }
-        { e.index < index },
-    )
-}
-
-/// Those of rising entries that later ones reach at the lags of the windows.
-#[tactic(auto, using(lag_ring::proofs::Rising::rising_drop))]
-fn placed(places: Places, entries: &[Entry]) -> &[Entry]
-    requires base { places.base ≤ places.set.reach }
-    requires rising { IsRising entries.now }
-    ensures { result.now ≡ placed places.base places.low places.high entries.now }
-{
-    let from = places
-        .low
-        .saturating_sub(u64::from(places.base + MOST_LAGS));
-    let upto = places.high.saturating_sub(u64::from(places.base));
-    let rest = &entries[count_below(entries, from)..];
-    &rest[..count_below(rest, upto)]
-}
 
 /// Adds the numbers of a row to the cells of as many differences, from one upwards. A difference has the reach added.
 #[inline(always)]
@@ -146,39 +86,33 @@ fn pair_window<L: Ledger>(
     spots: &[u16],
     steps: &mut Steps<L>,
 )
-    requires base { places.base ≤ places.set.reach }
     requires window { ServesSpots places.most MOST_LAGS window.now spots.now }
     requires room { HasRoom (coincidence_view places.set) cells.old (λ c. window_sum direction (coincidence_view places.set) c places.base window.now spots.now) }
     ensures { let set = coincidence_view places.set in Counts set cells.old cells.new steps.old steps.new
         (λ c. window_sum direction set c places.base window.now spots.now) (lags_of set places.base) }
 {
-    let Places {
-        set,
-        most,
-        base,
-        ..
-    } = places;
     for strip in 0..places.lags().div_ceil(BYTE_LAGS as u32) {
         let past = strip * BYTE_LAGS as u32;
         let from = (MOST_LAGS - past) as usize - BYTE_LAGS;
-        let mut sums = byte_lag_sums::<BYTE_LAGS>(window, most, from, spots);
-        add_sums(cells, set, direction, base + past, &mut sums, steps);
+        let mut sums = byte_lag_sums::<BYTE_LAGS>(window, places.most, from, spots);
+        let least = places.base + past;
+        add_sums(cells, places.set, direction, least, &mut sums, steps);
     }
 }
 
-/// Adds the weights that the entries in a ring and later ones have on one side to a window.
-#[tactic(auto, using(lag_ring::proofs::Rising::rising_front, lag_ring::proofs::Rising::rising_back))]
-fn fill(window: &mut [u8], side: Side, ring: &LagRing, places: Places, later: &[Entry])
-    requires photons { HasWindow places ring.now.entries later.now }
-    requires fit { Fit side (places.base + MOST_LAGS) places.low window.old (placed places.base places.low places.high (ring.now.entries ++ later.now)) }
-    ensures have { Have side (places.base + MOST_LAGS) places.low window.old window.new (placed places.base places.low places.high (ring.now.entries ++ later.now)) }
+/// Adds the weights that the entries of a stretch have on one side to a window.
+fn fill(window: &mut [u8], side: Side, stretch: Stretch)
+    requires fit { Fit side (stretch.places.base + MOST_LAGS) stretch.places.low window.old (reached stretch) }
+    ensures have { Have side (stretch.entry.places.base + MOST_LAGS) stretch.entry.places.low window.old window.new (reached stretch.entry) }
     ensures same { length window.new ≡ length window.old }
 {
-    let (front, back) = ring.slices();
-    let (top, low) = (u64::from(places.base + MOST_LAGS), places.low);
-    put_side(window, side, top, low, placed(places, front));
-    put_side(window, side, top, low, placed(places, back));
-    put_side(window, side, top, low, placed(places, later));
+    let (top, low) = (
+        u64::from(stretch.places.base + MOST_LAGS),
+        stretch.places.low,
+    );
+    put_side(window, side, top, low, stretch.front);
+    put_side(window, side, top, low, stretch.back);
+    put_side(window, side, top, low, stretch.own);
 }
 
 /// Whether all entries have an index from one on and below another.
@@ -194,131 +128,69 @@ pub(crate) fn are_near(low: u64, high: u64, later: &[Entry]) -> bool
 }
 
 /// Pairs later entries with those before them over a window of one group, in one direction.
-fn pair_side<L: Ledger>(
-    cells: &mut PairCells,
-    ring: &LagRing,
-    places: Places,
-    direction: Side,
-    later: &[Entry],
-    steps: &mut Steps<L>,
-)
-    requires photons { HasWindow places ring.now.entries later.now }
-    requires room { HasLagRoom places direction cells.old ring.now.entries later.now }
-    ensures { CountsLags places direction cells.old cells.new steps.old steps.new ring.now.entries later.now 1 }
+fn pair_side<L: Ledger>(cells: &mut PairCells, stretch: Stretch, side: Side, steps: &mut Steps<L>)
+    requires { HasRoom (view_of stretch) cells.old (at_lags stretch side) }
+    ensures { CountsLags stretch.entry side cells.old cells.new steps.old steps.new 1 }
 {
     let mut window = [0; WIDE];
-    fill(&mut window, direction, ring, places, later);
-    let spots = spots_of(later_side(direction), places.low, later);
-    pair_window(cells, places, direction, &window, &spots, steps);
+    fill(&mut window, side, stretch);
+    let spots = spots_of(later_side(side), stretch.places.low, stretch.later);
+    pair_window(cells, stretch.places, side, &window, &spots, steps);
 }
 
-/// Pairs the photons of a later entry with those of an earlier one, where it is as far from it as a lag of the windows.
-#[inline(always)]
-fn pair_one<L: Ledger>(
-    cells: &mut PairCells,
-    places: Places,
-    direction: Side,
-    later: &Entry,
-    earlier: &Entry,
-    steps: &mut Steps<L>,
-)
-    requires base { places.base ≤ places.set.reach }
-    requires room { let set = coincidence_view places.set in HasRoom set cells.old
-        (λ c. lag_pair direction set c places.base (lags_of set places.base) later.now earlier.now) }
-    ensures { let set = coincidence_view places.set in Counts set cells.old cells.new steps.old steps.new
-        (λ c. lag_pair direction set c places.base (lags_of set places.base) later.now earlier.now) 1 }
-{
-    let apart = later.index.saturating_sub(earlier.index);
-    if apart > u64::from(places.base) && apart <= u64::from(places.base + places.lags()) {
-        let shifted = shifted_by(direction, places.set, apart);
-        let photons = later_side(direction).weight(later);
-        add_pairs(
-            cells,
-            places.set,
-            shifted,
-            direction.weight(earlier),
-            photons,
-            steps,
-        );
-    }
-}
-
-/// Pairs the photons of later entries with those of an earlier one, at the lags of the windows.
+/// Pairs the photons of later entries with those of an earlier one, at some lags.
 #[inline(always)]
 #[tactic(auto, using(std::proofs::lemmas::List::Sums::sum_by_more_le))]
 fn pair_with_later<L: Ledger>(
     cells: &mut PairCells,
-    places: Places,
+    lags: Lags,
     direction: Side,
     later: &[Entry],
     earlier: &Entry,
     steps: &mut Steps<L>,
 )
-    requires base { places.base ≤ places.set.reach }
-    requires room { let set = coincidence_view places.set in HasRoom set cells.old
-        (λ c. sum_by (λ l. lag_pair direction set c places.base (lags_of set places.base) l earlier.now) later.now) }
-    ensures { CountsEarlier places direction cells.old cells.new steps.old steps.new earlier.now later.now }
+    requires { let set = coincidence_view lags.set in HasRoom set cells.old
+        (λ c. sum_by (λ l. lag_pair direction set c lags.base lags.count l earlier.now) later.now) }
+    ensures { CountsEarlier lags direction cells.old cells.new steps.old steps.new earlier.now later.now }
 {
     if direction.weight(earlier) > 0 {
         for entry in later {
-            pair_one(cells, places, direction, entry, earlier, steps);
+            pair_one(cells, lags, direction, entry, earlier, steps);
         }
     }
 }
 
-/// Pairs later entries with others one by one, at the lags of the windows.
+/// Pairs later entries with others one by one, at some lags.
 #[tactic(auto, using(std::proofs::lemmas::List::Sums::sum_by_more_le))]
 fn pair_each<L: Ledger>(
     cells: &mut PairCells,
-    places: Places,
+    lags: Lags,
     direction: Side,
     entries: &[Entry],
     later: &[Entry],
     steps: &mut Steps<L>,
 )
-    requires base { places.base ≤ places.set.reach }
-    requires room { let set = coincidence_view places.set in HasRoom set cells.old
-        (λ c. each_lag_pair direction set c places.base entries.now later.now) }
-    ensures { CountsEach places direction cells.old cells.new steps.old steps.new entries.now later.now }
+    requires { let set = coincidence_view lags.set in HasRoom set cells.old
+        (λ c. each_lag_pair direction set c lags.base lags.count entries.now later.now) }
+    ensures { CountsEach lags direction cells.old cells.new steps.old steps.new entries.now later.now }
 {
     for earlier in entries {
-        pair_with_later(cells, places, direction, later, earlier, steps);
+        pair_with_later(cells, lags, direction, later, earlier, steps);
     }
 }
 
 /// Pairs later entries with those before them one by one, at the lags of the windows, in one direction.
-#[tactic(auto, using(lag_ring::proofs::Rising::rising_front, lag_ring::proofs::Rising::rising_back))]
-fn pair_few<L: Ledger>(
-    cells: &mut PairCells,
-    ring: &LagRing,
-    places: Places,
-    direction: Side,
-    later: &[Entry],
-    steps: &mut Steps<L>,
-)
-    requires photons { HasWindow places ring.now.entries later.now }
-    requires few { length (placed places.base places.low places.high (ring.now.entries ++ later.now)) ≤ lags_of (coincidence_view places.set) places.base }
-    requires room { HasLagRoom places direction cells.old ring.now.entries later.now }
-    ensures { CountsLags places direction cells.old cells.new steps.old steps.new ring.now.entries later.now (length later.now) }
+fn pair_few<L: Ledger>(cells: &mut PairCells, stretch: Stretch, side: Side, steps: &mut Steps<L>)
+    requires few { length (reached stretch) ≤ lags_in stretch }
+    requires room { HasRoom (view_of stretch) cells.old (at_lags stretch side) }
+    ensures { CountsLags stretch.entry side cells.old cells.new steps.old steps.new (length stretch.entry.later.now) }
 {
-    let (front, back) = ring.slices();
-    pair_each(
-        cells,
-        places,
-        direction,
-        placed(places, front),
-        later,
-        steps,
-    );
-    pair_each(cells, places, direction, placed(places, back), later, steps);
-    pair_each(
-        cells,
-        places,
-        direction,
-        placed(places, later),
-        later,
-        steps,
-    );
+    let Places { set, base, .. } = stretch.places;
+    let count = stretch.places.lags();
+    let lags = Lags { set, base, count };
+    pair_each(cells, lags, side, stretch.front, stretch.later, steps);
+    pair_each(cells, lags, side, stretch.back, stretch.later, steps);
+    pair_each(cells, lags, side, stretch.own, stretch.later, steps);
 }
 
 /// How many pairs of entries take as long, one by one, as windows for later ones.
@@ -329,61 +201,39 @@ fn pairs_of_windows(later: &[Entry]) -> usize {
 }
 
 /// Whether the entries that later ones reach at the lags of the windows are few.
-#[tactic(auto, using(lag_ring::proofs::Rising::rising_front, lag_ring::proofs::Rising::rising_back, crate::proofs::LagPairs::placed_append))]
-fn are_few_placed(ring: &LagRing, places: Places, later: &[Entry]) -> bool
-    requires photons { HasWindow places ring.now.entries later.now }
-    requires short { length later.now ≤ TABLE_BLOCK }
-    ensures { IsTrue result → length (placed places.base places.low places.high (ring.now.entries ++ later.now)) ≤ lags_of (coincidence_view places.set) places.base }
+fn are_few_reached(stretch: Stretch) -> bool
+    ensures { IsTrue result → length (reached stretch.entry) ≤ lags_in stretch.entry }
 {
-    if places.set.reach <= MOST_LAGS {
+    if stretch.places.set.reach <= MOST_LAGS {
         return false;
     }
-    let (front, back) = ring.slices();
-    let kept = placed(places, front).len() + placed(places, back).len();
-    let count = kept + placed(places, later).len();
-    count <= places.lags() as usize
-        && (count < FEW || count * later.len() < pairs_of_windows(later))
+    let count = stretch.front.len() + stretch.back.len() + stretch.own.len();
+    count <= stretch.places.lags() as usize
+        && (count < FEW || count * stretch.later.len() < pairs_of_windows(stretch.later))
 }
 
 /// Pairs later entries with those before them at the lags of the windows.
-fn pair_stretch<L: Ledger>(
-    cells: &mut PairCells,
-    ring: &LagRing,
-    places: Places,
-    later: &[Entry],
-    steps: &mut Steps<L>,
-)
-    requires photons { HasWindow places ring.now.entries later.now }
-    requires some { (0 < length later.now) × (length later.now ≤ TABLE_BLOCK) }
-    requires room { HasRoom (coincidence_view places.set) cells.old (at_lags places ring.now.entries later.now) }
-    ensures { let set = coincidence_view places.set in Counts set cells.old cells.new steps.old steps.new
-        (at_lags places ring.now.entries later.now) (2 * (length later.now * lags_of set places.base)) }
+fn pair_stretch<L: Ledger>(cells: &mut PairCells, stretch: Stretch, steps: &mut Steps<L>)
+    requires { HasRoom (view_of stretch) cells.old (both_at_lags stretch) }
+    ensures { Counts (view_of stretch.entry) cells.old cells.new steps.old steps.new
+        (both_at_lags stretch.entry) (2 * (length stretch.entry.later.now * lags_in stretch.entry)) }
 {
-    if are_few_placed(ring, places, later) {
-        pair_few(cells, ring, places, Side::First, later, steps);
-        pair_few(cells, ring, places, Side::Second, later, steps);
+    if are_few_reached(stretch) {
+        pair_few(cells, stretch, Side::First, steps);
+        pair_few(cells, stretch, Side::Second, steps);
     } else {
-        pair_side(cells, ring, places, Side::First, later, steps);
-        pair_side(cells, ring, places, Side::Second, later, steps);
+        pair_side(cells, stretch, Side::First, steps);
+        pair_side(cells, stretch, Side::Second, steps);
     }
 }
 
 /// Pairs later entries with those before them, at the lags of one window after another.
-pub(crate) fn pair_lags<L: Ledger>(
-    cells: &mut PairCells,
-    ring: &LagRing,
-    places: Places,
-    later: &[Entry],
-    steps: &mut Steps<L>,
-)
-    requires photons { HasWindow places ring.now.entries later.now }
-    requires some { (0 < length later.now) × (length later.now ≤ TABLE_BLOCK) }
-    requires room { HasRoom (coincidence_view places.set) cells.old (reach_sums (coincidence_view places.set) ring.now.entries later.now) }
-    ensures { let set = coincidence_view places.set in Counts set cells.old cells.new steps.old steps.new
-        (reach_sums set ring.now.entries later.now) (2 * (length later.now * set.reach)) }
+pub(crate) fn pair_lags<L: Ledger>(cells: &mut PairCells, stretch: Stretch, steps: &mut Steps<L>)
+    requires { HasRoom (view_of stretch) cells.old (reach_sums stretch) }
+    ensures { Counts (view_of stretch.entry) cells.old cells.new steps.old steps.new
+        (reach_sums stretch.entry) (2 * (length stretch.entry.later.now * stretch.entry.places.set.reach)) }
 {
-    for stretch in 0..places.set.reach.div_ceil(MOST_LAGS) {
-        let base = stretch * MOST_LAGS;
-        pair_stretch(cells, ring, Places { base, ..places }, later, steps);
+    for turn in 0..stretch.places.set.reach.div_ceil(MOST_LAGS) {
+        pair_stretch(cells, stretch.at(turn * MOST_LAGS), steps);
     }
 }

@@ -1,7 +1,7 @@
 // Laws of the definitions and of tables, each as the contract of a function that does nothing.
 ghost use Rattle.std.specs.Prelude.{◌≡◌, ℕ, ◌-◌, ◌*◌, ◌≤◌, Bool};
-ghost use Rattle.tally_base.{specs.Settings.{CoincidenceView, StartStopView}, specs.Tally.History};
-ghost use Rattle.coincidence.{specs.declared.coincidence.Coincidence.Coincidence, specs.Coincidence.{set_of, bins_kept}, specs.Intervals.{count_intervals, count_pairs}, specs.Pairs.{coincidences, exchanged}};
+ghost use Rattle.{tally_base.specs.{Settings.{CoincidenceView, StartStopView}, Tally.History}, coincidence.specs.{declared.coincidence.Coincidence.Coincidence, Coincidence.{set_of, bins_kept}}};
+ghost use Rattle.coincidence.specs.{Intervals.{count_intervals, count_pairs}, Pairs.{coincidences, exchanged}};
 
 /// The intervals are the pairs of places i before j in the list of events, with a photon of the start
 /// group at i, one of the stop group at j, and no photon of either group at a place between them.

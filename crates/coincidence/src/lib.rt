@@ -10,8 +10,10 @@ mod lags;
 pub mod laws;
 mod lone;
 mod pairing;
+mod places;
 mod start;
 mod start_stop;
+mod stretch;
 mod taking;
 
 pub use coincidence::Coincidence;

@@ -1,9 +1,10 @@
 // The bins of a table of coincidences, the ring of the last closed ones, and the cells.
-ghost use Rattle.std.{specs.Prelude.{◌≡◌, ℕ, ◌+◌, ◌-◌, ◌*◌, ◌/◌, ◌^◌, ◌<◌, ◌≤◌, [], ◌∷◌, ◌++◌, length, slice_index, if◌then◌else◌, ◌==◌, IfOk, None, Some, List}, specs.List.AllByRecursion};
-ghost use Rattle.tally_base.{specs.Settings.{CoincidenceView, coincidence_view, coincidence_cells}, specs.Tally.History};
-ghost use Rattle.lag_ring.specs.{Cells.{Cells, Spends}, Ring.Ring};
-ghost use Rattle.coincidence.specs.Pairing.{other_side, shifted_by, pairs_of, pairs_of_all, pairs_with, bin_pairs, closed_bin, MayClose, Closes, Pays, Gathered, CanPut, MayJoin, Joins, Puts, HasRoom, Counts};
+ghost use Rattle.std.specs.{Prelude.{◌≡◌, ℕ, ◌+◌, ◌-◌, ◌*◌, ◌/◌, ◌^◌, ◌<◌, ◌≤◌, [], ◌∷◌, ◌++◌, length, slice_index, if◌then◌else◌, ◌==◌, IfOk, None, Some, List}, List.AllByRecursion};
+ghost use Rattle.{tally_base.specs.{Settings.{CoincidenceView, coincidence_view, coincidence_cells}, Tally.History}, lag_ring.specs.{Cells.{Cells, Spends}, Ring.{Ring, ring as ring_of}}};
+ghost use Rattle.coincidence.specs.Pairing.{other_side, shifted_by, lag_pair, pairs_of, pairs_of_all, pairs_with, kept_for, bin_pairs, closed_bin, MayClose, Closes, Pays, Gathered, CanPut, MayJoin};
+ghost use Rattle.coincidence.specs.Pairing.{Joins, Puts, HasRoom, Counts};
 
+use crate::places::Lags;
 use lag_ring::{Entry, LagRing, PairCells, Side};
 use std::alloc::{AllocError, Global};
 use std::sync::ledger::Ledger;
@@ -54,7 +55,7 @@ pub(crate) fn later_side(earlier: Side) -> Side
 
 /// The difference of two ticks that are so far apart, with the reach added.
 #[inline(always)]
-pub(crate) fn shifted_by(earlier: Side, set: CoincidenceSet, apart: u64) -> u32
+fn shifted_by(earlier: Side, set: CoincidenceSet, apart: u64) -> u32
     requires { apart ≤ set.reach }
     ensures { result ≡ shifted_by earlier set.reach apart }
 {
@@ -118,6 +119,30 @@ pub(crate) fn add_pairs<L: Ledger>(
 {
     let pairs = u128::from(earlier) * u128::from(later);
     cells.add(cell_of(set, shifted), pairs, steps);
+}
+
+/// Pairs the photons of a later entry with those of an earlier one, where it is as far from it as one of some lags.
+#[inline(always)]
+pub(crate) fn pair_one<L: Ledger>(
+    cells: &mut PairCells,
+    lags: Lags,
+    direction: Side,
+    later: &Entry,
+    earlier: &Entry,
+    steps: &mut Steps<L>,
+)
+    requires { let set = coincidence_view lags.set in HasRoom set cells.old
+        (λ c. lag_pair direction set c lags.base lags.count later.now earlier.now) }
+    ensures { let set = coincidence_view lags.set in Counts set cells.old cells.new steps.old steps.new
+        (λ c. lag_pair direction set c lags.base lags.count later.now earlier.now) 1 }
+{
+    let apart = later.index.saturating_sub(earlier.index);
+    if apart > u64::from(lags.base) && apart <= u64::from(lags.base + lags.count) {
+        let shifted = shifted_by(direction, lags.set, apart);
+        let weight = direction.weight(earlier);
+        let photons = later_side(direction).weight(later);
+        add_pairs(cells, lags.set, shifted, weight, photons, steps);
+    }
 }
 
 /// Photons of one group at one tick.
@@ -214,37 +239,28 @@ pub(crate) fn pair_inside<L: Ledger>(
     }
 }
 
-/// Pairs the photons of a bin with one another, and with those of the closed bins.
+/// Pairs the photons of an entry with those of a ring, and puts it among them. Those that no later photon reaches leave
+/// the ring.
 #[tactic(auto, using(lag_ring::proofs::Lists::all_back))]
-fn pair<L: Ledger>(
+fn append<L: Ledger>(
     cells: &mut PairCells,
-    ring: &LagRing,
+    ring: &mut LagRing,
     set: &CoincidenceSet,
-    bin: &Bin,
+    later: &Entry,
     steps: &mut Steps<L>,
 )
-    requires after { AllByRecursion (λ e. e.index < bin.now.weights.index) ring.now.entries }
-    requires both { bin.now.both ≤ bin.now.weights.a * bin.now.weights.b }
-    requires room { HasRoom (coincidence_view set.now) cells.old (λ c. bin_pairs (coincidence_view set.now) c bin.now ring.now.entries) }
-    ensures { Counts (coincidence_view set.now) cells.old cells.new steps.old steps.new
-        (λ c. bin_pairs (coincidence_view set.now) c bin.now ring.now.entries) (2 * length ring.now.entries + 1) }
+    requires after { AllByRecursion (λ e. e.index < later.now.index) ring.old.entries }
+    requires room { HasRoom (coincidence_view set.now) cells.old (λ c. pairs_with (coincidence_view set.now) c later.now ring.old.entries) }
+    requires place { length (kept_for set.now.reach later.now ring.old.entries) < ring.old.reach }
+    ensures counts { Counts (coincidence_view set.now) cells.old cells.new steps.old steps.new
+        (λ c. pairs_with (coincidence_view set.now) c later.now ring.old.entries) (2 * length ring.old.entries) }
+    ensures kept { ring.new ≡ ring_of (kept_for set.now.reach later.now ring.old.entries ++ later.now ∷ []) ring.old.reach }
 {
     let (front, back) = ring.slices();
-    pair_entries(cells, set, &bin.weights, front, steps);
-    pair_entries(cells, set, &bin.weights, back, steps);
-    pair_inside(cells, set, bin, steps);
-}
-
-/// Pairs the photons of a bin with one another and with those of the closed bins, and puts it among
-/// these.
-fn append<L: Ledger>(pairing: &mut Pairing, set: &CoincidenceSet, bin: &Bin, steps: &mut Steps<L>)
-    requires stands { MayClose (coincidence_view set.now) pairing.old (bin.now ∷ []) }
-    ensures { Closes (coincidence_view set.now) pairing.old pairing.new (bin.now ∷ []) steps.old steps.new }
-{
-    pair(&mut pairing.cells, &pairing.ring, set, bin, steps);
-    let Entry { index, a, b } = bin.weights;
-    pairing.ring.retire(least_kept(set, index));
-    pairing.ring.push(index, a, b);
+    pair_entries(cells, set, later, front, steps);
+    pair_entries(cells, set, later, back, steps);
+    ring.retire(least_kept(set, later.index));
+    ring.push(later.index, later.a, later.b);
 }
 
 /// Pairs the photons of a bin, and puts it among the closed ones. Where the last of those is out of
@@ -259,14 +275,14 @@ pub(crate) fn close<L: Ledger>(
     requires stands { MayClose (coincidence_view set.now) pairing.old (bin.now ∷ []) }
     ensures { Closes (coincidence_view set.now) pairing.old pairing.new (bin.now ∷ []) steps.old steps.new }
 {
-    if bin.weights.index.saturating_sub(pairing.ring.newest()) > u64::from(set.reach) {
-        pair_inside(&mut pairing.cells, set, bin, steps);
-        let Entry { index, a, b } = bin.weights;
-        pairing.ring.restart(index, a, b);
+    let Pairing { ring, cells, .. } = pairing;
+    pair_inside(cells, set, bin, steps);
+    // A copy, so that a bin that is alone need not stand in memory.
+    let near = bin.weights;
+    if near.index.saturating_sub(ring.newest()) > u64::from(set.reach) {
+        ring.restart(near.index, near.a, near.b);
     } else {
-        // A copy, so that a bin that is alone need not stand in memory.
-        let near = *bin;
-        append(pairing, set, &near, steps);
+        append(cells, ring, set, &near, steps);
     }
 }
 

@@ -1,7 +1,6 @@
 // A table of the times from a photon of one group to the next of another.
 ghost use Rattle.std.specs.Prelude.{◌≡◌, ◌+◌, ◌≤◌, vec_len, sum, ◌<◌, length, IfOk, [], false};
-ghost use Rattle.tally_base.{specs.Tally.History, specs.Settings.startstop_view, specs.Settings.PartSettings.StartStopSettings};
-ghost use Rattle.coincidence.specs.Starts.{since_in};
+ghost use Rattle.{tally_base.specs.{Tally.History, Settings.{startstop_view, PartSettings.StartStopSettings}}, coincidence.specs.Starts.since_in};
 
 use crate::counting::count_block;
 use crate::start::Start;

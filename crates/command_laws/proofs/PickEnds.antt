@@ -1,17 +1,14 @@
 -- What `pick` ends with over a file that it reads whole, and that `events` lists what it writes.
-use Rattle.std.{proofs.Common.{◌≡◌, ℕ, List, [], None, Some, refl, sym, ap, ◌∙◌, inl, inr, append-nil, arith, ◌⊎◌}, specs.declared.option.Option.{Option}}
-use Rattle.tally_base.{specs.declared.header.Header.Header, specs.RecordTypes.mode_of, specs.declared.fault.Fault.TheVariants.{NoGroup, PickTime}}
-use Rattle.bench_io.specs.Inputs.{File}
-use Rattle.ptu_definitions.specs.Words.{words_of}
-use Rattle.plan_text.specs.Plan.{PlanView}
-use Rattle.gate_plan.specs.Shifting.{sorting}
-use Rattle.photon_pick.{specs.Late.too_late, proofs.CanBeWritten.written-can}
-use Rattle.minimal_file.specs.ShortFiles.{minimal_file}
-use Rattle.record_write.specs.Picked.{picked_file}
-use Rattle.command_work.{specs.Endings.outcome, specs.Outcomes.{Outcome}}
-use Rattle.ptu_cli.{specs.Behaviours.behaviour, specs.Commands.{Request, Pick, Events}, specs.Tables.{AtLate, Applies}, specs.Cases.{HasGroup, settled_photons, kept_photons, FirstLate, LateAtEnd, AllPicked, pick_lines}, specs.CommandCases.{IsValidPlan, Needs, Suits, file_lines, header_lines, suited_lines}, proofs.Shapes.{in-file, in-header, in-suited, in-plan}, proofs.PickPhotons.none-or-late, proofs.PickCases.{first-settled, picked-holds}}
-use Rattle.pick_work.specs.PickOutcomes.{picks_of}
-use Rattle.command_laws.{specs.Ends.{ends_with, EndsWithFault, Headed, IsPickable, photons_written, ListsWritten, EndsWellOrLate}, proofs.Proved.{one-outcome, exactly-where, listed-picked}}
+use Rattle.std.{proofs.Common.{◌≡◌, ℕ, List, [], None, Some, refl, sym, ap, ◌∙◌, inl, inr, append-nil, arith, ◌⊎◌}, specs.declared.option.Option.Option}
+use Rattle.{tally_base.specs.{declared.{header.Header.Header, fault.Fault.TheVariants.{NoGroup, PickTime}}, RecordTypes.mode_of}, bench_io.specs.Inputs.File}
+use Rattle.{ptu_definitions.specs.Words.words_of, plan_text.specs.Plan.PlanView, gate_plan.specs.Shifting.sorting, photon_pick.specs.Late.too_late}
+use Rattle.{photon_pick.proofs.CanBeWritten.written-can, minimal_file.specs.ShortFiles.minimal_file, record_write.specs.Picked.picked_file}
+use Rattle.{command_work.specs.{Endings.outcome, Outcomes.Outcome}, ptu_cli.specs.{Behaviours.behaviour, Commands.{Request, Pick, Events}, Tables.AtLate}}
+use Rattle.ptu_cli.specs.{Tables.Applies, Cases.{HasGroup, settled_photons, kept_photons, FirstLate, LateAtEnd, AllPicked, pick_lines}}
+use Rattle.ptu_cli.{specs.CommandCases.{IsValidPlan, Needs, Suits, file_lines, header_lines, suited_lines}, proofs.Shapes.{in-file, in-header, in-suited}}
+use Rattle.{ptu_cli.proofs.{Shapes.in-plan, PickPhotons.none-or-late, PickCases.{first-settled, picked-holds}}, pick_work.specs.PickOutcomes.picks_of}
+use Rattle.command_laws.{specs.Ends.{ends_with, EndsWithFault, Headed, IsPickable, photons_written, ListsWritten, EndsWellOrLate}, proofs.Proved.one-outcome}
+use Rattle.command_laws.proofs.Proved.{exactly-where, listed-picked}
 
 module _ (plan_name : List ℕ) (group : ℕ) (file : List ℕ) (plan_file data_file : File) where
   abbrev asked : Option Request

@@ -1,18 +1,16 @@
 -- What the laws show of each command, told once.
 use Rattle.std.{proofs.Common.{None, Some, ◌≡◌, ◌↔◌, arith, rules, ℕ, List, ◌≤◌, length, refl, sym, subst}, specs.declared.option.Option.Option}
-use Rattle.bench_io.specs.Inputs.{File}
-use Rattle.command_work.{specs.Endings.outcome, specs.Outcomes.{Outcome, status}, proofs.RestEnds.declined-stays}
-use Rattle.ptu_cli.{specs.Behaviours.behaviour, specs.Commands.{Request, Count, Events, Run, Trace, Pick, Demo}, specs.Commands.Header as HeaderOf, specs.Tables.{Phase, HasStatus}, specs.CommandCases.{cases, IsOutcome}, proofs.Tables.exactly, proofs.Told.{told, some-status, usage}}
-use Rattle.tally_base.{specs.declared.event.Event.Event, specs.declared.header.Mode.Mode, specs.declared.header.Mode.TheVariants.{T2, T3}, specs.declared.fault.Fault.Fault, specs.declared.fault.Fault.TheVariants.{Usage}, specs.Faults.status_of}
-use Rattle.ptu_definitions.{specs.Streams.streamed, specs.Words.record_limit}
-use Rattle.gate_plan.{specs.Histories.reading_by, specs.Shifting.sorting}
-use Rattle.file_work.{specs.FileOutcomes.{counts, listing, lists_by}, specs.CountLaws.counts-law, specs.EventLaws.lists-law}
-use Rattle.report_work.{specs.Reports.{reports_by}, specs.RunLaws.reports-law}
-use Rattle.trace_work.{specs.TraceOutcomes.{trace_of, traces_by}, specs.TraceTexts.refused-ends}
-use Rattle.pick_work.{specs.PickOutcomes.{chosen_by, picks_by}, specs.PickLaws.picks-law}
-use Rattle.command_laws.{specs.Ends.{EndsStay, EndsWhere, EndsWithFault, Lists}, proofs.Shown.{headed-shows, print-shows}}
-use Rattle.minimal_file.{specs.ShortFiles.{minimal_file}, proofs.ShortHeaders.{short-answer, words_of-bytes_in, rest_of-bytes_in}}
-use Rattle.record_write.{specs.Picked.{CanBePicked, picked_words, picked_file}, proofs.ReadBack.{small-words, unrefused, given-events}}
+use Rattle.{bench_io.specs.Inputs.File, command_work.{specs.{Endings.outcome, Outcomes.{Outcome, status}}, proofs.RestEnds.declined-stays}}
+use Rattle.ptu_cli.specs.{Behaviours.behaviour, Commands.{Request, Count, Events, Run, Trace, Pick, Demo, Header as HeaderOf}, Tables.{Phase, HasStatus}}
+use Rattle.ptu_cli.{specs.CommandCases.{cases, IsOutcome}, proofs.{Tables.exactly, Told.{told, some-status, usage}}}
+use Rattle.tally_base.specs.{declared.{event.Event.Event, header.Mode.{Mode, TheVariants.{T2, T3}}, fault.Fault.{Fault, TheVariants.Usage}}, Faults.status_of}
+use Rattle.{ptu_definitions.specs.{Streams.streamed, Words.record_limit}, gate_plan.specs.{Histories.reading_by, Shifting.sorting}}
+use Rattle.{file_work.specs.{FileOutcomes.{counts, listing, lists_by}, CountLaws.counts-law, EventLaws.lists-law}, report_work.specs.Reports.reports_by}
+use Rattle.{report_work.specs.RunLaws.reports-law, trace_work.specs.{TraceOutcomes.{trace_of, traces_by}, TraceTexts.refused-ends}}
+use Rattle.{pick_work.specs.{PickOutcomes.{chosen_by, picks_by}, PickLaws.picks-law}, command_laws.specs.Ends.{EndsStay, EndsWhere, EndsWithFault, Lists}}
+use Rattle.{command_laws.proofs.Shown.{headed-shows, print-shows}, minimal_file.{specs.ShortFiles.minimal_file, proofs.ShortHeaders.short-answer}}
+use Rattle.{minimal_file.proofs.ShortHeaders.{words_of-bytes_in, rest_of-bytes_in}, record_write.specs.Picked.{CanBePicked, picked_words, picked_file}}
+use Rattle.record_write.proofs.ReadBack.{small-words, unrefused, given-events}
 
 -- An end that its bytes show stays.
 pub ends-stay : (request : Option Request) → EndsStay (behaviour request)

@@ -1,11 +1,11 @@
 -- The commands and their outcomes at known words and bytes.
-use Rattle.std.proofs.Common.{◌≡◌, ℕ, List, [], ◌∷◌, ◌++◌, None, Some, replicate, refl, codes}
-use Rattle.tally_base.{specs.declared.slot.Slot.TheVariants.Data, specs.declared.header.RecordType.TheVariants.HydraHarp2T3, specs.declared.fault.Fault.TheVariants.{Usage, OpenFault, BadMagic, TruncatedHeader, TruncatedRecord}, specs.RecordTypes.type_with}
-use Rattle.ptu_definitions.{specs.TagList.{name_in, code_in, value_in, has_body, is_known}, specs.Endings.{walk, ending}, specs.Fields.{value_under, found_in, header_of}, specs.Headers.{header_answer, seen, seen_preamble}, specs.Layouts.hydra_t3, specs.Words.{counted, records_of}}
-use Rattle.list_out.specs.HeaderText.{shown_text, header_text}
-use Rattle.file_work.specs.FileOutcomes.{counts_text}
-use Rattle.ptu_cli.{specs.Commands.{Count, Header, Events, Run, Trace, Pick, Demo, number_in, request_of}, specs.Behaviours.behaviour}
-use Rattle.command_work.specs.Endings.{outcome}
+use Rattle.{std.proofs.Common.{◌≡◌, ℕ, List, [], ◌∷◌, ◌++◌, None, Some, replicate, refl, codes}, tally_base.specs.declared.slot.Slot.TheVariants.Data}
+use Rattle.tally_base.specs.declared.{header.RecordType.TheVariants.HydraHarp2T3, fault.Fault.TheVariants.{Usage, OpenFault, BadMagic, TruncatedHeader}}
+use Rattle.{tally_base.specs.{declared.fault.Fault.TheVariants.TruncatedRecord, RecordTypes.type_with}, ptu_definitions.specs.TagList.{name_in, code_in}}
+use Rattle.ptu_definitions.specs.{TagList.{value_in, has_body, is_known}, Endings.{walk, ending}, Fields.{value_under, found_in, header_of}}
+use Rattle.ptu_definitions.specs.{Headers.{header_answer, seen, seen_preamble}, Layouts.hydra_t3, Words.{counted, records_of}}
+use Rattle.{list_out.specs.HeaderText.{shown_text, header_text}, file_work.specs.FileOutcomes.counts_text, ptu_cli.specs.Commands.{Count, Header, Events, Run}}
+use Rattle.{ptu_cli.specs.{Commands.{Trace, Pick, Demo, number_in, request_of}, Behaviours.behaviour}, command_work.specs.Endings.outcome}
 
 abbrev known : List ℕ
 known =

@@ -1,12 +1,11 @@
 -- The ends that bytes of FILE show by themselves.
-use Rattle.std.{proofs.Common.{◌≡◌, ◌≢◌, ◌^◌, ℕ, List, [], length, None, Some, Ok, Err, refl, sym, ap, ◌∙◌, inl, inr, arith, rules, append-nil, ◌⊎◌}, specs.declared.option.Option.Option, proofs.lemmas.List.length-take}
-use Rattle.tally_base.{specs.declared.fault.Fault.Fault, specs.declared.fault.Fault.TheVariants.TruncatedHeader, specs.declared.header.Header.Header, specs.Faults.fault_in}
-use Rattle.ptu_definitions.{specs.Headers.{header_answer, Shows}, proofs.SeenLaws.cut-size, proofs.Stays.{refused-stays, headed-stays}}
-use Rattle.list_out.specs.HeaderText.{header_text}
-use Rattle.command_work.{specs.RecordsWork.{RecordsWork, RefusalStays, HeadedGoes, headed_end, headed_work}, proofs.RestEnds.end_with}
-use Rattle.file_work.{specs.FileOutcomes.printing, proofs.Ends.{outcome-done, outcome-refused}}
-use Rattle.ptu_cli.proofs.Shapes.{Answer}
-use Rattle.command_laws.specs.Ends.{GoesOnOrShows}
+use Rattle.std.proofs.Common.{◌≡◌, ◌≢◌, ◌^◌, ℕ, List, [], length, None, Some, Ok, Err, refl, sym, ap, ◌∙◌, inl, inr, arith, rules, append-nil, ◌⊎◌}
+use Rattle.{std.{proofs.lemmas.List.length-take, specs.declared.option.Option.Option}, tally_base.specs.declared.fault.Fault.Fault}
+use Rattle.tally_base.specs.{declared.{fault.Fault.TheVariants.TruncatedHeader, header.Header.Header}, Faults.fault_in}
+use Rattle.ptu_definitions.{specs.Headers.{header_answer, Shows}, proofs.{SeenLaws.cut-size, Stays.{refused-stays, headed-stays}}}
+use Rattle.{list_out.specs.HeaderText.header_text, command_work.specs.RecordsWork.{RecordsWork, RefusalStays, HeadedGoes, headed_end, headed_work}}
+use Rattle.{command_work.proofs.RestEnds.end_with, file_work.{specs.FileOutcomes.printing, proofs.Ends.{outcome-done, outcome-refused}}}
+use Rattle.{ptu_cli.proofs.Shapes.Answer, command_laws.specs.Ends.GoesOnOrShows}
 
 -- A fault is that of a header that is cut, or it isn't.
 cut-or : (fault : Fault) → ((count : ℕ) × (fault ≡ TruncatedHeader count)) ⊎ ((count : ℕ) → fault ≢ TruncatedHeader count)

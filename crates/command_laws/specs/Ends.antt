@@ -1,16 +1,10 @@
 -- How commands end over their files, in words that the laws share.
-use Rattle.std.{specs.Prelude.{ℕ, ◌≡◌, ◌≤◌, ◌⊎◌, ◌↔◌, List, [], None, Some, Ok, false, length, map}, specs.declared.option.Option.{Option}}
-use Rattle.tally_base.{specs.declared.event.Event.Event, specs.declared.fault.Fault.Fault, specs.declared.header.Header.Header, specs.declared.header.Mode.Mode, specs.RecordTypes.mode_of, specs.Faults.status_of}
-use Rattle.bench_io.specs.Inputs.{File}
-use Rattle.ptu_definitions.{specs.Words.{words_of, rest_of, record_limit}, specs.Headers.{HasAnswer, Shows}}
-use Rattle.plan_text.specs.Plan.{PlanView}
-use Rattle.gate_plan.specs.Histories.{reading_by}
-use Rattle.photon_pick.{specs.Ends.photons_of, specs.Late.writable}
-use Rattle.pick_work.specs.PickOutcomes.{chosen_by}
-use Rattle.list_out.specs.Lines.{events_text}
-use Rattle.record_write.specs.Picked.{picked_words, picked_events}
-use Rattle.ptu_cli.{specs.Commands.{Request, Events}, specs.Behaviours.behaviour, specs.Tables.{Phase, AtLate, InPhase, Cause, HasStatus}, specs.Cases.{NoneRefused, HasGroup}, specs.CommandCases.{IsValidPlan, Suits, cases}}
-use Rattle.command_work.{specs.Endings.outcome, specs.Outcomes.{Outcome, written, IsIn}, specs.Behaviours.{Work, Behaviour, Alone, OnFile, ByPlan}}
+use Rattle.std.specs.{Prelude.{ℕ, ◌≡◌, ◌≤◌, ◌⊎◌, ◌↔◌, List, [], None, Some, Ok, false, length, map}, declared.option.Option.Option}
+use Rattle.{tally_base.specs.{declared.{event.Event.Event, fault.Fault.Fault, header.{Header.Header, Mode.Mode}}, RecordTypes.mode_of, Faults.status_of}, bench_io.specs.Inputs.File}
+use Rattle.{ptu_definitions.specs.{Words.{words_of, rest_of, record_limit}, Headers.{HasAnswer, Shows}}, plan_text.specs.Plan.PlanView, gate_plan.specs.Histories.reading_by}
+use Rattle.{photon_pick.specs.{Ends.photons_of, Late.writable}, pick_work.specs.PickOutcomes.chosen_by, list_out.specs.Lines.events_text, record_write.specs.Picked.{picked_words, picked_events}}
+use Rattle.ptu_cli.specs.{Commands.{Request, Events}, Behaviours.behaviour, Tables.{Phase, AtLate, InPhase, Cause, HasStatus}, Cases.{NoneRefused, HasGroup}, CommandCases.{IsValidPlan, Suits, cases}}
+use Rattle.command_work.specs.{Endings.outcome, Outcomes.{Outcome, written, IsIn}, Behaviours.{Work, Behaviour, Alone, OnFile, ByPlan}}
 
 -- how a command ends over its files, where nothing outside fails
 abbrev pub ends_with : Request → File → File → Outcome

@@ -1,11 +1,8 @@
 -- What a run leaves over files that its inputs tell.
-use Rattle.std.{specs.Prelude.{ℕ, ◌≡◌, ◌⊎◌, ◌≤◌, ◌<◌, true, None, Some}, specs.declared.option.Option.Option}
-use Rattle.tally_base.{specs.declared.slot.Slot.Slot, specs.declared.fault.Fault.Fault, specs.declared.fault.Fault.TheVariants.{OpenFault, ReadFault, WriteFault, OutOfMemory}, specs.FaultCounts.Rose}
-use Rattle.bench_io.{specs.Inputs.File, specs.Given.IsAtEnd, specs.Sinks.WroteNone}
-use Rattle.plan_text.specs.Plan.{PlanView}
-use Rattle.ptu_cli.specs.Commands.{Request}
-use Rattle.ptu_cli.{specs.Runs.{Around, TellsOn, EndsIn, NothingFailed}, specs.Behaviours.behaviour}
-use Rattle.command_work.{specs.Outcomes.status, specs.Behaviours.Behaviour, specs.Endings.{outcome, IsPlan, AreItsFiles, InputsHold, Reaches, LeavesUnread, CutsShort, RunsOut, Asks, LacksMemory, IsGood}}
+use Rattle.std.specs.{Prelude.{ℕ, ◌≡◌, ◌⊎◌, ◌≤◌, ◌<◌, true, None, Some}, declared.option.Option.Option}
+use Rattle.{tally_base.specs.{declared.{slot.Slot.Slot, fault.Fault.{Fault, TheVariants.{OpenFault, ReadFault, WriteFault, OutOfMemory}}}, FaultCounts.Rose}, bench_io.specs.Inputs.File}
+use Rattle.{bench_io.specs.{Given.IsAtEnd, Sinks.WroteNone}, plan_text.specs.Plan.PlanView, ptu_cli.specs.{Commands.Request, Runs.{Around, TellsOn, EndsIn, NothingFailed}, Behaviours.behaviour}}
+use Rattle.command_work.specs.{Outcomes.status, Behaviours.Behaviour, Endings.{outcome, IsPlan, AreItsFiles, InputsHold, Reaches, LeavesUnread, CutsShort, RunsOut, Asks, LacksMemory, IsGood}}
 
 -- The file is this plan, and it lacks nothing.
 abbrev pub IsGoodPlan : File → (PlanView → Option Fault) → PlanView → Type 0

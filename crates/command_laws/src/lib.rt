@@ -3,17 +3,12 @@
 //! `specs/CommandCases.antt` of `ptu_cli`.
 #![tactic(auto)]
 
-ghost use Rattle.std.{specs.Prelude.{◌≡◌, ◌≤◌, ◌↔◌, ℕ, List, None, Some, length}, specs.declared.option.Option.{Option}};
-ghost use Rattle.bench_io.specs.Inputs.{File};
-ghost use Rattle.ptu_definitions.specs.Words.{record_limit};
-ghost use Rattle.record_write.specs.Picked.{CanBePicked, picked_words, picked_file};
-ghost use Rattle.ptu_made.{specs.Records.made_file, specs.Generator.photon_limit};
-ghost use Rattle.tally_base.{specs.declared.event.Event.Event, specs.declared.header.Mode.Mode, specs.declared.fault.Fault.Fault, specs.declared.fault.Fault.TheVariants.Usage, specs.Faults.status_of};
-ghost use Rattle.ptu_cli.{specs.Commands.{Request, Run, Pick, Demo}, specs.Tables.{AtFile, AtPlan, AtNeed, AtMode, AtHeader, AtCut, AtRecord, AtLate, HasStatus, Sound}, specs.CommandCases.{cases, IsOutcome}};
-ghost use Rattle.ptu_cli.{specs.Runs.{Around, Runs}, specs.Behaviours.behaviour};
-ghost use Rattle.report_work.specs.Demo.{demo_text};
-ghost use Rattle.command_work.{specs.Outcomes.Outcome, specs.Endings.outcome};
-ghost use Rattle.command_laws.{specs.Ends.{ends_with, EndsWithFault, EndsWhere, MayEndWith, IsPickable, Lists, ListsWritten, EndsWellOrLate, EndsStay}, specs.ToldFiles.OverToldFiles};
+ghost use Rattle.std.specs.{Prelude.{◌≡◌, ◌≤◌, ◌↔◌, ℕ, List, None, Some, length}, declared.option.Option.Option};
+ghost use Rattle.{bench_io.specs.Inputs.File, ptu_definitions.specs.Words.record_limit, record_write.specs.Picked.{CanBePicked, picked_words, picked_file}, ptu_made.specs.Records.made_file};
+ghost use Rattle.{ptu_made.specs.Generator.photon_limit, tally_base.specs.{declared.{event.Event.Event, header.Mode.Mode, fault.Fault.{Fault, TheVariants.Usage}}, Faults.status_of}};
+ghost use Rattle.ptu_cli.specs.{Commands.{Request, Run, Pick, Demo}, Tables.{Phase, HasStatus, Sound}, CommandCases.{cases, IsOutcome}, Runs.{Around, Runs}, Behaviours.behaviour};
+ghost use Rattle.{report_work.specs.Demo.demo_text, command_work.specs.{Outcomes.Outcome, Endings.outcome}, command_laws.specs.Ends.{ends_with, EndsWithFault, EndsWhere, MayEndWith, IsPickable}};
+ghost use Rattle.command_laws.specs.{Ends.{Lists, ListsWritten, EndsWellOrLate, EndsStay}, ToldFiles.OverToldFiles};
 
 /// A `demo` ends as `run` does on the text of its plan and the made file.
 pub fn demo_is_a_run()
@@ -54,14 +49,7 @@ pub fn one_outcome()
 pub fn exactly_where()
     ensures words { (request : Option Request) (plan_file data_file : File)
         → EndsWithFault request plan_file data_file Usage ↔ (request ≡ None) }
-    ensures absent { EndsWhere AtFile }
-    ensures plan { EndsWhere AtPlan }
-    ensures lacking { EndsWhere AtNeed }
-    ensures mode { EndsWhere AtMode }
-    ensures header { EndsWhere AtHeader }
-    ensures cut { EndsWhere AtCut }
-    ensures refused { EndsWhere AtRecord }
-    ensures late { EndsWhere AtLate }
+    ensures phases { (phase : Phase) → EndsWhere phase }
 {}
 
 /// `pick` ends well by a plan that has the group, over a file that suits it and whose records are whole and not refused,

@@ -1,7 +1,7 @@
 -- What was put of a text that grows after what a block holds, and what is written of it once the block is flushed.
 use Rattle.std.{proofs.Common.{◌≡◌, ◌⊎◌, ◌++◌, ℕ, List, [], None, Some, Ok, Err, refl, inl, inr, Result}, specs.declared.option.Option.Option}
-use Rattle.tally_base.{specs.declared.fault.Fault.Fault, specs.declared.fault.Fault.TheVariants.WriteFault}
-use Rattle.bench_io.{specs.Sinks.{SinkState, Wrote, WroteShort, PassesOn}, specs.Texts.{WroteText, CutText, WritesText}, proofs.Bytes.{Wrote-flushed, WroteShort-none, WroteShort-kept, WroteShort-flushed}}
+use Rattle.{tally_base.specs.declared.fault.Fault.{Fault, TheVariants.WriteFault}, bench_io.specs.Sinks.{SinkState, Wrote, WroteShort, PassesOn}}
+use Rattle.bench_io.{specs.Texts.{WroteText, CutText, WritesText}, proofs.Bytes.{Wrote-flushed, WroteShort-none, WroteShort-kept, WroteShort-flushed}}
 
 -- What the text has grown by was put, and the block holds the end of it.
 pub record PutText (shown grown : List ℕ) (old new : SinkState) (held : List ℕ) : Type 0 where

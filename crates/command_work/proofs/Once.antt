@@ -1,7 +1,7 @@
 -- Counts that stay over several calls, and move by one that failed.
 use Rattle.std.{proofs.Common.{ℕ, ◌≡◌, Bool, false, None, Some, refl, subst, arith, rules}, specs.declared.option.Option.Option}
-use Rattle.tally_base.{specs.declared.slot.Slot.Slot, specs.declared.fault.Fault.Fault, specs.declared.fault.Fault.TheVariants.{OpenFault, ReadFault, WriteFault, OutOfMemory}, specs.Faults.{is_outside, HasReason}, specs.FaultCounts.Rose}
-use Rattle.bench_io.specs.Inputs.{InputState, KeepsOther, OpensNone}
+use Rattle.tally_base.specs.{declared.{slot.Slot.Slot, fault.Fault.{Fault, TheVariants.{OpenFault, ReadFault, WriteFault, OutOfMemory}}}, Faults.is_outside}
+use Rattle.{tally_base.specs.{Faults.HasReason, FaultCounts.Rose}, bench_io.specs.Inputs.{InputState, KeepsOther, OpensNone}}
 use Rattle.command_work.specs.Outcomes.{tells_opening, tells_reading, tells_writing, CountsIf, InputsOnce}
 
 pub Rose-kept : (before mid now : ℕ) → mid ≡ before → Rose mid now → Rose before now

@@ -1,9 +1,9 @@
 -- A piece that is fed in two parts, and what the bytes taken call for.
-use Rattle.std.{proofs.Common.{slice_range, ◌≡◌, ◌+◌, ◌≤◌, ℕ, ◌-◌, List, [], ◌++◌, Ok, length, arith, take, drop, refl, sym, ap, ◌∙◌, append_assoc, append-nil, take-append-drop, ◌<◌, rules, true, false, Err, Result, IfOk, IfErr}, proofs.Math.Seq.take-add, proofs.lemmas.List.{length-drop, length-take-le, length-take}}
-use Rattle.tally_base.{specs.declared.header.Header.Header, specs.declared.fault.Fault.Fault, specs.Faults.is_outside}
-use Rattle.ptu_definitions.{specs.Endings.ending, specs.Headers.header_answer}
-use Rattle.command_work.{specs.Outcomes.{IsCut, SaysNoEnd}, specs.Behaviours.piece_limit, specs.Works.TakesFew, specs.Pieces.StopsSoon}
-use Rattle.bench_io.{specs.Given.{Given, Consumes, GivesCount}, proofs.States.Consumes-trans}
+use Rattle.std.proofs.Common.{slice_range, ◌≡◌, ◌+◌, ◌≤◌, ℕ, ◌-◌, List, [], ◌++◌, Ok, length, arith, take, drop, refl, sym, ap, ◌∙◌, append_assoc, append-nil}
+use Rattle.std.proofs.{Common.{take-append-drop, ◌<◌, rules, true, false, Err, Result, IfOk, IfErr}, Math.Seq.take-add, lemmas.List.length-drop}
+use Rattle.{std.proofs.lemmas.List.{length-take-le, length-take}, tally_base.specs.{declared.{header.Header.Header, fault.Fault.Fault}, Faults.is_outside}}
+use Rattle.{ptu_definitions.specs.{Endings.ending, Headers.header_answer}, command_work.specs.{Outcomes.{IsCut, SaysNoEnd}, Behaviours.piece_limit}}
+use Rattle.{command_work.specs.{Works.TakesFew, Pieces.StopsSoon}, bench_io.{specs.Given.{Given, Consumes, GivesCount}, proofs.States.Consumes-trans}}
 
 -- a first part, and a part of what is left
 pub two-parts : (bytes piece part : List ℕ) (used more : ℕ) → part ≡ drop used piece → (bytes ++ take used piece) ++ take more part ≡ bytes ++ take (used + more) piece
@@ -44,7 +44,8 @@ pub record ShowsHeader (taken : List ℕ) (header : Header) (behind : List ℕ) 
 pub few-none : (goes_on : List ℕ → Type 0) (front : List ℕ) (before after : Given) → Consumes before after front → goes_on front → TakesFew goes_on before after
 few-none goes_on front before after took goes = search (rules, arith, append-nil)
 
-pub few-piece : (goes_on : List ℕ → Type 0) (front : List ℕ) (len : ℕ) (into : List ℕ) (before mid after : Given) → Consumes before mid front → GivesCount mid after len into → goes_on front → length into ≤ piece_limit → TakesFew goes_on before after
+pub few-piece : (goes_on : List ℕ → Type 0) (front : List ℕ) (len : ℕ) (into : List ℕ) (before mid after : Given) → Consumes before mid front
+    → GivesCount mid after len into → goes_on front → length into ≤ piece_limit → TakesFew goes_on before after
 few-piece goes_on front len into before mid after took gives goes size = record { front = front; last = take len into; consumes = Consumes-trans before mid after front (take len into) took gives.0; goes = goes; few = let e = length-take len into in omega (arith, e, size) }
 
 pub few-map : (p q : List ℕ → Type 0) (before after : Given) → ((l : List ℕ) → p l → q l) → TakesFew p before after → TakesFew q before after
@@ -60,6 +61,7 @@ pub stops-unread : {A : Type 0} (goes_on : List ℕ → Type 0) (front : List �
 stops-unread goes_on front before after fault took goes on = search (rules, arith, few-none)
 
 -- a piece was read after bytes that go on so, and it ended the work
-pub stops-piece : {A : Type 0} (goes_on : List ℕ → Type 0) (front : List ℕ) (len : ℕ) (into : List ℕ) (before mid after : Given) (r : Result A Fault) → Consumes before mid front → GivesCount mid after len into → goes_on front → length into ≤ piece_limit
+pub stops-piece : {A : Type 0} (goes_on : List ℕ → Type 0) (front : List ℕ) (len : ℕ) (into : List ℕ) (before mid after : Given) (r : Result A Fault)
+    → Consumes before mid front → GivesCount mid after len into → goes_on front → length into ≤ piece_limit
     → IfErr r (λ fault. is_outside fault ≡ false) → IfOk r (λ value. SaysNoEnd before after) → StopsSoon goes_on before after r
 stops-piece goes_on front len into before mid after r took gives goes size inside on = record { unread = none-unread _ r inside; done = on; few = few-piece goes_on front len into before mid after took gives goes size }

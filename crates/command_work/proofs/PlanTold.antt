@@ -1,9 +1,17 @@
 -- What a command by a plan leaves, whatever its work is.
-use Rattle.std.{proofs.Common.{◌≡◌, ℕ, List, true, false, None, Some, Ok, Err, refl, sym, ◌∙◌, subst, inl, inr, Result, arith, rules, ◌<◌, ◌≤◌, ◌+◌, [], ◌++◌, length, take, ap, append-nil, ◌≢◌, IfErr}, specs.declared.option.Option.Option, proofs.lemmas.Bool.{cases_Bool, cases_lt}, proofs.lemmas.List.{length-append, length-take-le}}
-use Rattle.tally_base.{specs.declared.fault.Fault.Fault, specs.declared.slot.Slot.Slot, specs.declared.slot.Slot.TheVariants.{Plan as PlanSlot, Data}, specs.Faults.{is_outside, fault_in, HasReason}, proofs.Reasons.{HasReason-follows, HasReason-inside}, specs.declared.fault.Fault.TheVariants.OutOfMemory, specs.declared.header.Mode.Mode}
-use Rattle.bench_io.{specs.Given.{Given, no_bytes, IsOf, Consumes, IsAtEnd}, specs.Inputs.{File, InputState, KeepsOther, Keeps, OnlyReads}, specs.Sinks.SinkState, proofs.Bytes.Wrote-nil}
-use Rattle.plan_text.{specs.declared.plan.Plan.Plan, specs.Plan.PlanView, specs.ReadPlan.{plan_view, text_limit, plan_answer, plan_seen, IsCalledFor}, specs.Fits.IsMisfit, proofs.Called.plan_answer_long, proofs.Misfits.names_part}
-use Rattle.command_work.{specs.Outcomes.{Outcome, refused, InputsOnce}, specs.Pieces.{IsRead, AnswersPlan, PlanReason, OnlyUses}, specs.Behaviours.{Work, Writing, under, Memory, Behaviour, ByPlan}, specs.Works.{AnswersWork, WorkReason}, specs.Endings.{FileOf, IsPlan, HasPlan, OpensAs, ReadAgrees, TakesPlan, EndsWith, Answers, Cuts, WantsBehind, Span, HasCauses, on_file, outcome, HasWholePlan, WantsForPlan}, proofs.Once.{Rose-kept, IsQuiet, quiet-none, quiet-memory, quiet-inside}, proofs.Told.{all-taken, none-ended, read-agrees, ends-told, stops-told, cuts-told, file-splits}}
+use Rattle.std.proofs.Common.{◌≡◌, ℕ, List, true, false, None, Some, Ok, Err, refl, sym, ◌∙◌, subst, inl, inr, Result, arith, rules, ◌<◌, ◌≤◌, ◌+◌, [], ◌++◌}
+use Rattle.std.proofs.{Common.{length, take, ap, append-nil, ◌≢◌, IfErr}, lemmas.{Bool.{cases_Bool, cases_lt}, List.{length-append, length-take-le}}}
+use Rattle.{std.specs.declared.option.Option.Option, tally_base.specs.declared.{fault.Fault.{Fault, TheVariants.{OutOfMemory, ReadFault}}, slot.Slot.Slot}}
+use Rattle.tally_base.specs.{declared.{slot.Slot.TheVariants.{Plan as PlanSlot, Data}, header.Mode.Mode}, Faults.{is_outside, fault_in, HasReason}}
+use Rattle.{tally_base.{specs.FaultCounts.Rose, proofs.Reasons.{HasReason-follows, HasReason-inside}}, bench_io.specs.Given.{Given, no_bytes, IsOf, Consumes}}
+use Rattle.bench_io.{specs.{Given.IsAtEnd, Inputs.{File, InputState, KeepsOther, Keeps, OnlyReads}, Sinks.SinkState}, proofs.Bytes.Wrote-nil}
+use Rattle.plan_text.specs.{declared.plan.Plan.Plan, Plan.PlanView, ReadPlan.{plan_view, text_limit, plan_answer, plan_seen, IsCalledFor}, Fits.IsMisfit}
+use Rattle.{plan_text.proofs.{Called.plan_answer_long, Misfits.names_part}, command_work.specs.Outcomes.{Outcome, refused, InputsOnce, SaysNoEnd}}
+use Rattle.command_work.specs.{Pieces.{IsRead, AnswersPlan, PlanReason, OnlyUses}, Behaviours.{Work, Writing, under, Memory, Behaviour, ByPlan}}
+use Rattle.command_work.specs.{Works.{AnswersWork, WorkReason}, Endings.{FileOf, IsPlan, HasPlan, OpensAs, ReadAgrees, TakesPlan, EndsWith, Answers, Cuts}}
+use Rattle.command_work.{specs.Endings.{WantsBehind, Span, HasCauses, on_file, outcome, HasWholePlan, WantsForPlan}, proofs.Once.{Rose-kept, IsQuiet}}
+use Rattle.command_work.proofs.{Once.{quiet-none, quiet-memory, quiet-inside}, Told.{all-taken, none-ended, read-agrees, ends-told, stops-told, cuts-told}}
+use Rattle.command_work.proofs.Told.{file-splits}
 
 pub KeepsOther-trans : (slot : Slot) (a b c : InputState) → KeepsOther slot a b → KeepsOther slot b c → KeepsOther slot a c
 KeepsOther-trans slot a b c p q = search (rules, arith)
@@ -86,7 +94,8 @@ module _ (plan_name name : List ℕ) (writing : Writing (PlanView → List ℕ �
     planned plan_file data_file has may = sym (outcome-planned plan_name name writing memory lacks work plan_file data_file view (has.is_plan plan_file may) has.whole)
 
     -- work that ended is that of each such file
-    pub plan-answers : (after : InputState) (start : Given) (old new : SinkState) (r : Result (Unit {0}) Fault) → HasPlan after lacks view → start ≡ no_bytes → after.opened Data ≡ true → AnswersWork (work view) start (after.given Data) old new r
+    pub plan-answers : (after : InputState) (start : Given) (old new : SinkState) (r : Result (Unit {0}) Fault) → HasPlan after lacks view → start ≡ no_bytes
+        → after.opened Data ≡ true → AnswersWork (work view) start (after.given Data) old new r
         → Answers does after r old new
     plan-answers after start old new r has none opened (inl outside) = inl outside
     plan-answers after start old new r has none opened (inr ends) = inr (λ plan_file data_file may.
@@ -133,7 +142,8 @@ same_answer taken more ended = elim (cases_lt (length taken) (text_limit + 1)) [
 ]
 
 -- what was read of a plan is what each file answers that may be the one read
-pub plan_told : (after : InputState) (start : Given) (taken : List ℕ) (r : Result Plan Fault) → start ≡ no_bytes → after.opened PlanSlot ≡ true → Consumes start (after.given PlanSlot) taken → (length taken < text_limit + 1 → IsAtEnd (after.given PlanSlot))
+pub plan_told : (after : InputState) (start : Given) (taken : List ℕ) (r : Result Plan Fault) → start ≡ no_bytes → after.opened PlanSlot ≡ true
+    → Consumes start (after.given PlanSlot) taken → (length taken < text_limit + 1 → IsAtEnd (after.given PlanSlot))
     → (r ≢ Err OutOfMemory → plan_seen r ≡ plan_answer taken) → AnswersPlan after r
 plan_told after start taken (Ok plan) none opened took ended answer = search (rules, arith, file-splits, same_answer)
 plan_told after start taken (Err fault) none opened took ended answer = elim (cases_Bool (is_outside fault)) [
@@ -155,9 +165,18 @@ plan_wanted : (after : InputState) (start : Given) (taken : List ℕ) → start 
 plan_wanted after start taken none opened took ended few = search (rules, arith, all-taken)
 
 -- why the bytes that were read of a plan are refused
-pub plan-reasons : (opening reading : Slot → Type 0) (writing : Type 0) (after : InputState) (start : Given) (taken : List ℕ) (r : Result Plan Fault) → start ≡ no_bytes → after.opened PlanSlot ≡ true → Consumes start (after.given PlanSlot) taken
+pub plan-reasons : (opening reading : Slot → Type 0) (writing : Type 0) (after : InputState) (start : Given) (taken : List ℕ) (r : Result Plan Fault)
+    → start ≡ no_bytes → after.opened PlanSlot ≡ true → Consumes start (after.given PlanSlot) taken
     → (length taken < text_limit + 1 → IsAtEnd (after.given PlanSlot)) → IfErr r (λ fault. fault ≢ OutOfMemory → is_outside fault ≡ false) → IfErr r (IsCalledFor taken) → IfErr r (HasReason opening reading writing (WantsForPlan after))
 plan-reasons opening reading writing after start taken r none opened took ended inside called = search (rules, arith, plan_reason, plan_wanted)
+
+-- why a read of a plan that was opened fails
+pub reading-fails : (before mid after : InputState) (start : Given) (taken : List ℕ) (fault : Fault)
+    → start ≡ no_bytes → after.opened PlanSlot ≡ true → mid.read_faults PlanSlot ≡ before.read_faults PlanSlot → fault ≡ ReadFault PlanSlot
+    → Rose (mid.read_faults PlanSlot) (after.read_faults PlanSlot) → Consumes start (after.given PlanSlot) taken → length taken < text_limit + 1
+    → SaysNoEnd start (after.given PlanSlot) → PlanReason before after fault
+reading-fails before mid after start taken fault none opened same is rose took few going =
+    rw is (refl, opened, none-ended start (after.given PlanSlot) none going, Rose-kept _ _ _ same rose, rw (all-taken start (after.given PlanSlot) taken none took) (omega arith))
 
 quiet-unless : (fault : Fault) → (fault ≢ OutOfMemory → is_outside fault ≡ false) → IsQuiet (Some fault)
 quiet-unless fault h = search (rules, arith, quiet-memory, quiet-inside)

@@ -1,9 +1,16 @@
 -- How work on a file ends, by what its reads gave and what it wrote.
-use Rattle.std.{proofs.Common.{◌≡◌, ◌≢◌, ◌∙◌, ◌≤◌, ◌<◌, ℕ, List, [], ◌++◌, None, Some, Ok, Err, refl, sym, ap, subst, inl, inr, ⊎_elim, append_assoc, append-nil, length, take, arith, ◌⊎◌, true, false, Result, IfErr, rules}, specs.declared.option.Option.Option}
-use Rattle.tally_base.{specs.declared.fault.Fault.Fault, specs.declared.fault.Fault.TheVariants.{ReadFault, WriteFault}, specs.declared.slot.Slot.TheVariants.Data, specs.declared.header.Header.Header, specs.Faults.{is_outside, fault_in}, proofs.Reasons.{HasReason-inside, HasReason-follows, HasReason-with}, specs.FaultCounts.Rose}
-use Rattle.bench_io.{specs.Given.{Consumes, GivesCount, IsAtEnd, MayFollow}, specs.Inputs.{InputState, KeepsOther, OpensNone}, proofs.States.{Consumes-kept, Consumes-trans}, specs.Sinks.{SinkState, Wrote, WroteShort}, specs.Texts.WritesText, proofs.Bytes.{Wrote-nil, Wrote-trans, Wrote-same, WroteShort-same, WroteShort-behind, WroteShort-more}}
-use Rattle.ptu_definitions.specs.Headers.{header_answer}
-use Rattle.command_work.{specs.Outcomes.{Outcome, SaysNoEnd, InputsOnce, Decides, IsCut}, specs.Behaviours.{piece_limit, Work, Writing, so_far}, specs.Endings.{Span, Cuts}, specs.Works.{ReadsWork, TakesFew, LeavesWork}, specs.RecordsWork.{RecordsWork, WritesPiece, WritesEnd, Opens, headed_end, headed_text, HeadedGoes, Suits}, specs.Pieces.{ReadReason, StopsSoon}, proofs.Once.{Rose-kept, quiet-none, quiet-write, quiet-memory, quiet-inside, once-none, once-read, once-unread, out-inside, out-unwritten}, proofs.Told.{fails-on, reads-on}, proofs.Pieces.{ShowsHeader, few-none, few-piece, few-map}, proofs.RestEnds.same-end}
+use Rattle.std.proofs.Common.{◌≡◌, ◌≢◌, ◌∙◌, ◌≤◌, ◌<◌, ℕ, List, [], ◌++◌, None, Some, Ok, Err, refl, sym, ap, subst, inl, inr, ⊎_elim, append_assoc, append-nil}
+use Rattle.std.{proofs.Common.{length, take, arith, ◌⊎◌, true, false, Result, IfErr, rules}, specs.declared.option.Option.Option}
+use Rattle.tally_base.specs.declared.{fault.Fault.{Fault, TheVariants.{ReadFault, WriteFault}}, slot.Slot.TheVariants.Data, header.Header.Header}
+use Rattle.tally_base.{specs.{Faults.{is_outside, fault_in}, FaultCounts.Rose}, proofs.Reasons.{HasReason-inside, HasReason-follows, HasReason-with}}
+use Rattle.bench_io.specs.{Given.{Consumes, GivesCount, IsAtEnd, MayFollow}, Inputs.{InputState, KeepsOther, OpensNone}, Sinks.{SinkState, Wrote, WroteShort}}
+use Rattle.bench_io.{specs.Texts.WritesText, proofs.{States.{Consumes-kept, Consumes-trans}, Bytes.{Wrote-nil, Wrote-trans, Wrote-same, WroteShort-same}}}
+use Rattle.{bench_io.proofs.Bytes.{WroteShort-behind, WroteShort-more}, ptu_definitions.specs.Headers.header_answer, command_work.specs.Outcomes.Outcome}
+use Rattle.command_work.specs.{Outcomes.{SaysNoEnd, InputsOnce, Decides, IsCut}, Behaviours.{piece_limit, Work, Writing, so_far}, Endings.{Span, Cuts}}
+use Rattle.command_work.specs.{Works.{ReadsWork, TakesFew, LeavesWork}, RecordsWork.{RecordsWork, WritesPiece, WritesEnd, Opens, headed_end, headed_text}}
+use Rattle.command_work.{specs.{RecordsWork.{HeadedGoes, Suits}, Pieces.{ReadReason, StopsSoon}}, proofs.Once.{Rose-kept, quiet-none, quiet-write}}
+use Rattle.command_work.proofs.{Once.{quiet-memory, quiet-inside, once-none, once-read, once-unread, out-inside, out-unwritten}, Told.{fails-on, reads-on}}
+use Rattle.command_work.proofs.{Pieces.{ShowsHeader, few-none, few-piece, few-map}, RestEnds.same-end}
 
 abbrev between : InputState → InputState → SinkState → SinkState → Span
 between before after old new = record { before = before; after = after; old = old; new = new }

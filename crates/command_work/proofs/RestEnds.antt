@@ -1,11 +1,13 @@
 -- What is made of bytes that are refused or not, what opening writes, and streams that refuse nothing.
-use Rattle.std.{proofs.Common.{◌≡◌, ◌∙◌, ℕ, List, [], None, Some, Ok, Err, refl, sym, ap, inl, inr, length, arith, false, Result, rules, ◌≢◌, ◌+◌, ◌<◌, OnOk}, specs.declared.option.Option.Option}
-use Rattle.tally_base.{specs.declared.fault.Fault.Fault, specs.declared.fault.Fault.TheVariants.WriteFault, specs.Faults.{is_outside, fault_in}, specs.declared.header.Header.Header, specs.RecordTypes.mode_of}
-use Rattle.bench_io.{specs.Sinks.{SinkState, Wrote, WroteShort}, proofs.Bytes.WroteShort-none, proofs.Texts.WroteText-none}
-use Rattle.command_work.{specs.Outcomes.Outcome, specs.Behaviours.{piece_limit, AtEnd, AsItReads}, specs.Endings.Cuts, specs.Works.WantsNone, specs.RecordsWork.{RecordsWork, RefusalStays, IsText, Opens, unless_declined, if_suited, headed_end, headed_text, headed_work, headed_so_far, IsAllOrNothing, Suits}, proofs.PlanTold.misfit-inside}
-use Rattle.plan_text.{specs.Plan.PlanView, specs.Fits.fits, proofs.Misfits.misfit_named}
-use Rattle.ptu_definitions.{specs.Headers.header_answer, specs.Streams.{StreamSettings, record_refusal, refusals}}
-use Rattle.record_stream.{specs.declared.stream.RecordStream.RecordStream, specs.Standing.{refused_with, bytes_in}, specs.Pieces.StaysOpen}
+use Rattle.std.proofs.Common.{◌≡◌, ◌∙◌, ℕ, List, [], None, Some, Ok, Err, refl, sym, ap, inl, inr, length, arith, false, Result, rules, ◌≢◌, ◌+◌, ◌<◌, OnOk}
+use Rattle.{std.specs.declared.option.Option.Option, tally_base.specs.declared.{fault.Fault.{Fault, TheVariants.WriteFault}, header.Header.Header}}
+use Rattle.{tally_base.specs.{Faults.{is_outside, fault_in}, RecordTypes.mode_of}, bench_io.specs.Sinks.{SinkState, Wrote, WroteShort}}
+use Rattle.{bench_io.proofs.{Bytes.WroteShort-none, Texts.WroteText-none}, command_work.specs.{Outcomes.Outcome, Behaviours.{piece_limit, AtEnd, AsItReads}}}
+use Rattle.command_work.specs.{Endings.Cuts, Works.WantsNone, RecordsWork.{RecordsWork, RefusalStays, IsText, Opens, unless_declined, if_suited, headed_end}}
+use Rattle.command_work.{specs.RecordsWork.{headed_text, headed_work, headed_so_far, IsAllOrNothing, Suits}, proofs.PlanTold.misfit-inside}
+use Rattle.{plan_text.{specs.{Plan.PlanView, Fits.fits}, proofs.Misfits.misfit_named}, ptu_definitions.specs.{Headers.header_answer, Streams.StreamSettings}}
+use Rattle.{ptu_definitions.specs.Streams.{record_refusal, refusals}, record_stream.specs.{declared.stream.RecordStream.RecordStream, Standing.refused_with}}
+use Rattle.record_stream.specs.{Standing.bytes_in, Pieces.StaysOpen}
 
 -- What is made of bytes that are refused or not.
 

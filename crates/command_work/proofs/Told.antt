@@ -1,9 +1,12 @@
 -- What the bytes taken say of the whole.
-use Rattle.std.{proofs.Common.{◌≡◌, ◌≢◌, ℕ, List, [], ◌++◌, true, false, Some, refl, sym, ap, ◌∙◌, subst, ⊎_elim, append-nil, arith, rules, None, inl, inr, Result, ◌⊎◌, IsErrAnd}, specs.declared.option.Option.Option}
-use Rattle.tally_base.{specs.declared.slot.Slot.Slot, specs.declared.fault.Fault.Fault, specs.declared.slot.Slot.TheVariants.Data, specs.Faults.{fault_in, is_outside}}
-use Rattle.bench_io.{specs.Inputs.{File, InputState, IsOpened}, specs.Given.{Given, no_bytes, Consumes, GivesCount, IsAtEnd, MayFollow, IsOf}, specs.Sinks.SinkState}
-use Rattle.ptu_definitions.specs.Headers.{Shows}
-use Rattle.command_work.{specs.Outcomes.{Decides, SaysNoEnd, Outcome, InputsOnce}, specs.Endings.{FileOf, HasPlan, outcome, on_file, Answers, EndsWith, StopsIn, Cuts, Span, TakesData, HasCauses, AreItsFiles, ForItsFiles, InputsHold, ReadsAgree, Asks}, specs.Behaviours.{Work, Writing, OnFile, Behaviour, Alone, ByPlan}, specs.Works.{AnswersWork, EndsWork, ReadsWork, CutsWork, WantsNone, WorkReason, TakesFew}}
+use Rattle.std.proofs.Common.{◌≡◌, ◌≢◌, ℕ, List, [], ◌++◌, true, false, Some, refl, sym, ap, ◌∙◌, subst, ⊎_elim, append-nil, arith, rules, None, inl, inr}
+use Rattle.{std.{proofs.Common.{Result, ◌⊎◌, IsErrAnd}, specs.declared.option.Option.Option}, tally_base.specs.declared.slot.Slot.{Slot, TheVariants.Data}}
+use Rattle.{tally_base.specs.{declared.fault.Fault.Fault, Faults.{fault_in, is_outside}}, bench_io.specs.{Inputs.{File, InputState, IsOpened}, Given.Given}}
+use Rattle.{bench_io.specs.{Given.{no_bytes, Consumes, GivesCount, IsAtEnd, MayFollow, IsOf}, Sinks.SinkState}, ptu_definitions.specs.Headers.Shows}
+use Rattle.command_work.specs.{Outcomes.{Decides, SaysNoEnd, Outcome, InputsOnce}, Endings.{FileOf, HasPlan, outcome, on_file, Answers, EndsWith, StopsIn}}
+use Rattle.command_work.specs.{Endings.{Cuts, Span, TakesData, HasCauses, AreItsFiles, ForItsFiles, InputsHold, ReadsAgree, Asks}, Behaviours.{Work, Writing}}
+use Rattle.command_work.specs.{Behaviours.{OnFile, Behaviour, Alone, ByPlan}, Works.{AnswersWork, EndsWork, ReadsWork, CutsWork, WantsNone, WorkReason}}
+use Rattle.command_work.specs.Works.{TakesFew}
 
 -- at the end nothing stands after
 pub Decides-at_end : {A : Type 0} (meaning : List ℕ → A) (taken : List ℕ) (given : Given) (answer : A)
@@ -37,7 +40,8 @@ pub record Splits (given : Given) (taken : List ℕ) (file : File) : Type 0 wher
   pub follows : MayFollow given more
   pub parts : file ≡ Some (taken ++ more)
 
-pub file-splits : (after : InputState) (slot : Slot) (file : File) (start : Given) (taken : List ℕ) → FileOf after slot file → after.opened slot ≡ true → start ≡ no_bytes → Consumes start (after.given slot) taken → Splits (after.given slot) taken file
+pub file-splits : (after : InputState) (slot : Slot) (file : File) (start : Given) (taken : List ℕ) → FileOf after slot file → after.opened slot ≡ true
+    → start ≡ no_bytes → Consumes start (after.given slot) taken → Splits (after.given slot) taken file
 file-splits after slot file start taken may opened none took = search (rules, arith, all-taken)
 
 -- The bytes that were given may be the whole file: so some files always may be those of a run.
@@ -47,7 +51,8 @@ some-file after slot opened = ((after.given slot).bytes, refl, record { more = [
 -- What the work on a file leaves of the whole run.
 
 -- a file that is told may be the slot's
-pub read-agrees : (contents : Option File) (after : InputState) (slot : Slot) (file : File) → (after.opened slot ≡ true → IsOpened contents (after.told slot)) → ((bytes : List ℕ) → after.told slot ≡ Some bytes → IsOf (after.given slot) bytes) → contents ≡ Some file → FileOf after slot file
+pub read-agrees : (contents : Option File) (after : InputState) (slot : Slot) (file : File) → (after.opened slot ≡ true → IsOpened contents (after.told slot))
+    → ((bytes : List ℕ) → after.told slot ≡ Some bytes → IsOf (after.given slot) bytes) → contents ≡ Some file → FileOf after slot file
 read-agrees None after slot file is agrees known = cc
 read-agrees (Some own) after slot None is agrees known = search (rules, arith)
 read-agrees (Some own) after slot (Some bytes) is agrees known = search (rules, arith)
@@ -67,7 +72,8 @@ file-answers file writing work after start old new r none opened (inr ends) =
     inr (λ plan_file data_file may. ends-told work after start old new (fault_in r) data_file none opened ends may)
 
 -- work that stops where a read failed
-pub stops-told : (writing : Writing (List ℕ → List ℕ)) (work : Work) (after : InputState) (start : Given) (old new : SinkState) → start ≡ no_bytes → ReadsWork writing work start (after.given Data) old new → StopsIn writing work after old new
+pub stops-told : (writing : Writing (List ℕ → List ℕ)) (work : Work) (after : InputState) (start : Given) (old new : SinkState) → start ≡ no_bytes
+    → ReadsWork writing work start (after.given Data) old new → StopsIn writing work after old new
 stops-told writing work after start old new none h = search (rules, arith, all-taken)
 
 -- a text that is cut is cut of each such file
@@ -76,7 +82,8 @@ pub cuts-told : {A : Type 0} (writing : Writing (List ℕ → List ℕ)) (whole 
 cuts-told writing whole work after start old new data_file cuts none opened h may = search (rules, arith, file-splits)
 
 -- why a command on a file alone ended by a fault from outside
-pub file-causes : (file : List ℕ) (writing : Writing (List ℕ → List ℕ)) (work : Work) (before : InputState) (span : Span) (fault : Fault) → span.before.given Data ≡ no_bytes → span.after.opened Data ≡ true → InputsOnce before span.before None → WorkReason writing WantsNone work span fault
+pub file-causes : (file : List ℕ) (writing : Writing (List ℕ → List ℕ)) (work : Work) (before : InputState) (span : Span) (fault : Fault)
+    → span.before.given Data ≡ no_bytes → span.after.opened Data ≡ true → InputsOnce before span.before None → WorkReason writing WantsNone work span fault
     → HasCauses (OnFile file writing work) (record span { before = before }) fault
 unfolding HasCauses outcome
 file-causes file writing work before span fault none opened once reason = search (rules, arith, none-ended, stops-told, cuts-told)
@@ -97,7 +104,8 @@ pub files-map : (does : Behaviour) (after : InputState) (p q : Outcome → Type 
 files-map does after p q f all = λ plan_file data_file may. f (outcome does plan_file data_file) (all plan_file data_file may)
 
 -- files that are told for both words are among those that may be the run's
-pub reads-agree : (does : Behaviour) (before after : InputState) (plan_file data_file : File) → Asks does (HasPlan after) before after → ReadsAgree does before after → InputsHold before does plan_file data_file → AreItsFiles does after plan_file data_file
+pub reads-agree : (does : Behaviour) (before after : InputState) (plan_file data_file : File) → Asks does (HasPlan after) before after
+    → ReadsAgree does before after → InputsHold before does plan_file data_file → AreItsFiles does after plan_file data_file
 reads-agree (Alone end) before after plan_file data_file asks its tells = tt
 reads-agree (OnFile file writing work) before after plan_file data_file asks its tells = its data_file tells.1
 reads-agree (ByPlan plan file writing memory lacks work) before after plan_file data_file asks its tells = search (rules, arith)

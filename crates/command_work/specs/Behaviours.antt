@@ -1,9 +1,7 @@
 -- How a command comes to its end, and what it does with the bytes of FILE.
-use Rattle.std.{specs.Prelude.{ℕ, ◌≡◌, ◌≤◌, List, [], length, None, Ok}, specs.declared.option.Option.{Option}}
-use Rattle.tally_base.{specs.declared.fault.Fault.Fault, specs.declared.header.Header.Header}
-use Rattle.ptu_definitions.{specs.Headers.header_answer, specs.Words.{words_of, rest_of, record_limit}, specs.Streams.{StreamSettings, record_refusal}}
-use Rattle.plan_text.specs.Plan.{PlanView}
-use Rattle.command_work.specs.Outcomes.{Outcome}
+use Rattle.std.specs.{Prelude.{ℕ, ◌≡◌, ◌≤◌, List, [], length, None, Ok}, declared.option.Option.Option}
+use Rattle.{tally_base.specs.declared.{fault.Fault.Fault, header.Header.Header}, ptu_definitions.specs.{Headers.header_answer, Words.{words_of, rest_of, record_limit}, Streams.StreamSettings}}
+use Rattle.{ptu_definitions.specs.Streams.record_refusal, plan_text.specs.Plan.PlanView, command_work.specs.Outcomes.Outcome}
 
 -- the bytes that one read of FILE takes at most
 abbrev pub piece_limit : ℕ

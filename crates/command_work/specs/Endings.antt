@@ -1,10 +1,10 @@
 -- What a run of the program leaves, by what its command does.
-use Rattle.std.{specs.Prelude.{ℕ, ◌≡◌, ◌⊎◌, ◌+◌, ◌≤◌, ◌<◌, List, ◌++◌, length, true, false, None, Some, Result, Ok, Err, IsErrAnd, IfErr}, specs.declared.option.Option.Option}
-use Rattle.tally_base.{specs.declared.slot.Slot.Slot, specs.declared.slot.Slot.TheVariants.{Plan, Data}, specs.declared.fault.Fault.Fault, specs.declared.fault.Fault.TheVariants.OpenFault, specs.Faults.{line_of, is_outside, fault_in, HasReason}, specs.FaultCounts.Rose, specs.declared.header.Header.Header, specs.RecordTypes.mode_of}
-use Rattle.bench_io.{specs.Given.{IsOf, IsAtEnd}, specs.Inputs.{File, InputState, IsOpened}, specs.declared.inputs.Inputs.Ghosts as InputGhosts, specs.declared.sink.Sink.Ghosts as SinkGhosts, specs.Sinks.{SinkState, Wrote, WroteNone, WroteShort}}
-use Rattle.ptu_definitions.specs.Headers.{header_answer}
-use Rattle.plan_text.{specs.Plan.{PlanView, parts_of}, specs.ReadPlan.{text_limit, plan_answer}, specs.Fits.fits}
-use Rattle.command_work.{specs.Outcomes.{InputsOnce, OutOnce, Outcome, refused, status}, specs.Behaviours.{piece_limit, Work, Writing, AtEnd, AsItReads, so_far, under, Memory, ForPlan, ForTables, Behaviour, Alone, OnFile, ByPlan}}
+use Rattle.std.specs.{Prelude.{ℕ, ◌≡◌, ◌⊎◌, ◌+◌, ◌≤◌, ◌<◌, List, ◌++◌, length, true, false, None, Some, Result, Ok, Err, IsErrAnd, IfErr}, declared.option.Option.Option}
+use Rattle.tally_base.specs.{declared.{slot.Slot.{Slot, TheVariants.{Plan, Data}}, fault.Fault.{Fault, TheVariants.OpenFault}, header.Header.Header}, Faults.{line_of, is_outside, fault_in, HasReason}}
+use Rattle.{tally_base.specs.{FaultCounts.Rose, RecordTypes.mode_of}, bench_io.specs.{Given.{IsOf, IsAtEnd}, Inputs.{File, InputState, IsOpened}, declared.inputs.Inputs.Ghosts as InputGhosts}}
+use Rattle.{bench_io.specs.{declared.sink.Sink.Ghosts as SinkGhosts, Sinks.{SinkState, Wrote, WroteNone, WroteShort}}, ptu_definitions.specs.Headers.header_answer, plan_text.specs.Plan.PlanView}
+use Rattle.{plan_text.specs.{Plan.parts_of, ReadPlan.{text_limit, plan_answer}, Fits.fits}, command_work.specs.{Outcomes.{InputsOnce, OutOnce, Outcome, refused, status}, Behaviours.piece_limit}}
+use Rattle.command_work.specs.Behaviours.{Work, Writing, AtEnd, AsItReads, so_far, under, Memory, ForPlan, ForTables, Behaviour, Alone, OnFile, ByPlan}
 
 -- ## What the files call for
 

@@ -1,8 +1,7 @@
 -- What a command ends with, and which ends more bytes may change.
-use Rattle.std.{specs.Prelude.{ℕ, ◌≡◌, ◌≤◌, List, [], length, None, Some, Bool, true, false, Err, ◌++◌}, specs.declared.option.Option.Option}
-use Rattle.tally_base.{specs.declared.fault.Fault.Fault, specs.declared.fault.Fault.TheVariants.{TruncatedHeader, TruncatedRecord, OpenFault, ReadFault, WriteFault}, specs.Faults.status_of, specs.declared.slot.Slot.Slot, specs.declared.slot.Slot.TheVariants.{Plan, Data}, specs.FaultCounts.Rose}
-use Rattle.ptu_definitions.specs.Headers.{header_answer}
-use Rattle.bench_io.{specs.Given.{Given, IsAtEnd, MayFollow}, specs.Inputs.InputState, specs.Sinks.SinkState}
+use Rattle.std.specs.{Prelude.{ℕ, ◌≡◌, ◌≤◌, List, [], length, None, Some, Bool, true, false, Err, ◌++◌}, declared.option.Option.Option}
+use Rattle.tally_base.specs.declared.{fault.Fault.{Fault, TheVariants.{TruncatedHeader, TruncatedRecord, OpenFault, ReadFault, WriteFault}}, slot.Slot.{Slot, TheVariants.{Plan, Data}}}
+use Rattle.{tally_base.specs.{Faults.status_of, FaultCounts.Rose}, ptu_definitions.specs.Headers.header_answer, bench_io.specs.{Given.{Given, IsAtEnd, MayFollow}, Inputs.InputState, Sinks.SinkState}}
 
 -- the text on standard output, and the fault where there is one
 pub record Outcome : Type 0 where

@@ -1,11 +1,10 @@
 -- What reading the data in pieces leaves.
 use Rattle.std.specs.Prelude.{ℕ, ◌≡◌, ◌≤◌, ◌<◌, List, length, true, Result, IfOk, IfErr, ◌⊎◌, ◌+◌, [], ◌++◌, take, drop, slice_range, false, Ok, Err, Some, IsErrAnd}
-use Rattle.tally_base.{specs.declared.slot.Slot.TheVariants.{Data, Plan as PlanSlot}, specs.declared.fault.Fault.Fault, specs.Faults.{is_outside, HasReason}, specs.FaultCounts.Rose, specs.declared.slot.Slot.Slot}
-use Rattle.bench_io.{specs.Inputs.{InputState, File, Keeps, KeepsOther}, specs.Given.{Given, Consumes, IsAtEnd}}
-use Rattle.command_work.{specs.Outcomes.{SaysNoEnd, Decides, IsCut}, specs.Behaviours.piece_limit, specs.Works.TakesFew, specs.declared.header.Fed.Fed, specs.declared.header.Fed.TheVariants.{More, Done, Refused}, specs.declared.data.FoundHeader.FoundHeader, specs.Endings.{FileOf, WantsForPlan}}
-use Rattle.ptu_definitions.specs.Headers.{header_answer, Shows}
-use Rattle.ptu_header.{specs.declared.reader.HeaderReader.HeaderReader, specs.ReadHeader.{HasRead, is_open, bytes_taken}}
-use Rattle.plan_text.{specs.declared.plan.Plan.Plan, specs.ReadPlan.{text_limit, plan_answer, plan_seen}}
+use Rattle.{tally_base.specs.{declared.{slot.Slot.{TheVariants.{Data, Plan as PlanSlot}, Slot}, fault.Fault.Fault}, Faults.{is_outside, HasReason}, FaultCounts.Rose}, bench_io.specs.Inputs.InputState}
+use Rattle.{bench_io.specs.{Inputs.{File, Keeps, KeepsOther}, Given.{Given, Consumes, IsAtEnd}}, command_work.specs.{Outcomes.{SaysNoEnd, Decides, IsCut}, Behaviours.piece_limit, Works.TakesFew}}
+use Rattle.command_work.specs.{declared.{header.Fed.{Fed, TheVariants.{More, Done, Refused}}, data.FoundHeader.FoundHeader}, Endings.{FileOf, WantsForPlan}}
+use Rattle.{ptu_definitions.specs.Headers.{header_answer, Shows}, ptu_header.specs.{declared.reader.HeaderReader.HeaderReader, ReadHeader.{HasRead, is_open, bytes_taken}}}
+use Rattle.plan_text.specs.{declared.plan.Plan.Plan, ReadPlan.{text_limit, plan_answer, plan_seen}}
 
 -- The only fault from outside is that a read of the data failed, where its count rose.
 abbrev pub ReadReason : InputState → InputState → Fault → Type 0
@@ -16,12 +15,6 @@ pub record IsReady (state : InputState) (buffer : List ℕ) : Type 0 where
   pub opened : state.opened Data ≡ true
   pub room : 0 < length buffer
   pub small : length buffer ≤ piece_limit
-
--- It holds a piece of which the bytes from `used` to `len` are not used yet.
-pub record HoldsPart (state : InputState) (buffer : List ℕ) (used len : ℕ) : Type 0 where
-  pub ready : IsReady state buffer
-  pub order : used ≤ len
-  pub within : len ≤ length buffer
 
 -- A read fails only after bytes that go on so, and no more is taken after such than one read gives. No read said the end where one fails, nor where the work is done.
 pub record StopsSoon {A : Type 0} (goes_on : List ℕ → Type 0) (start now : Given) (result : Result A Fault) : Type 0 where

@@ -1,10 +1,8 @@
 -- What a command makes of the bytes after a header.
-use Rattle.std.{specs.Prelude.{ℕ, ◌≡◌, ◌⊎◌, ◌<◌, List, [], ◌++◌, length, false, None, Some, Result, Ok, Err}, specs.declared.option.Option.Option}
-use Rattle.tally_base.{specs.declared.fault.Fault.Fault, specs.declared.fault.Fault.TheVariants.OutOfMemory, specs.declared.header.Header.Header, specs.Faults.{is_outside, fault_in}, specs.RecordTypes.mode_of}
-use Rattle.bench_io.{specs.Sinks.{SinkState, WroteNone, WroteShort}, specs.Texts.WritesText}
-use Rattle.ptu_definitions.specs.Headers.{header_answer}
-use Rattle.plan_text.{specs.Plan.PlanView, specs.Fits.fits}
-use Rattle.command_work.{specs.Outcomes.{Outcome, refused, MayChange}, specs.Behaviours.{piece_limit, Work, Writing, so_far}, specs.Endings.Cuts}
+use Rattle.std.specs.{Prelude.{ℕ, ◌≡◌, ◌⊎◌, ◌<◌, List, [], ◌++◌, length, false, None, Some, Result, Ok, Err}, declared.option.Option.Option}
+use Rattle.{tally_base.specs.{declared.{fault.Fault.{Fault, TheVariants.OutOfMemory}, header.Header.Header}, Faults.{is_outside, fault_in}, RecordTypes.mode_of}, bench_io.specs.Sinks.SinkState}
+use Rattle.{bench_io.specs.{Sinks.{WroteNone, WroteShort}, Texts.WritesText}, ptu_definitions.specs.Headers.header_answer, plan_text.specs.{Plan.PlanView, Fits.fits}}
+use Rattle.command_work.specs.{Outcomes.{Outcome, refused, MayChange}, Behaviours.{piece_limit, Work, Writing, so_far}, Endings.Cuts}
 
 -- the text of bytes while more may come, what they end with if they are all, and why they are refused
 pub record RecordsWork : Type 0 where

@@ -1,9 +1,8 @@
 -- What a command's work on the bytes of FILE leaves.
-use Rattle.std.{specs.Prelude.{ℕ, ◌≡◌, ◌⊎◌, ◌≤◌, List, ◌++◌, length, true, Result, IsErrAnd, IfErr}, specs.declared.option.Option.Option}
-use Rattle.tally_base.{specs.declared.slot.Slot.TheVariants.Data, specs.declared.fault.Fault.Fault, specs.FaultCounts.Rose, specs.Faults.{is_outside, fault_in, HasReason}}
-use Rattle.bench_io.{specs.Given.{Given, Consumes, MayFollow}, specs.Sinks.{SinkState, Wrote, WroteNone}}
-use Rattle.plan_text.specs.Plan.{PlanView}
-use Rattle.command_work.{specs.Outcomes.{Decides, SaysNoEnd}, specs.Behaviours.{piece_limit, Work, Writing, Memory, so_far, under}, specs.Endings.{Cuts, Span, Once, WantsBehind}}
+use Rattle.std.specs.{Prelude.{ℕ, ◌≡◌, ◌⊎◌, ◌≤◌, List, ◌++◌, length, true, Result, IsErrAnd, IfErr}, declared.option.Option.Option}
+use Rattle.{tally_base.specs.{declared.{slot.Slot.TheVariants.Data, fault.Fault.Fault}, FaultCounts.Rose, Faults.{is_outside, fault_in, HasReason}}, bench_io.specs.Given.{Given, Consumes, MayFollow}}
+use Rattle.{bench_io.specs.Sinks.{SinkState, Wrote, WroteNone}, plan_text.specs.Plan.PlanView, command_work.specs.{Outcomes.{Decides, SaysNoEnd}, Behaviours.{piece_limit, Work, Writing, Memory}}}
+use Rattle.command_work.specs.{Behaviours.{so_far, under}, Endings.{Cuts, Span, Once, WantsBehind}}
 
 -- The bytes taken end so, whatever may stand after them, and this text was written.
 pub record EndsWork (work : Work) (start now : Given) (old new : SinkState) (fault : Option Fault) : Type 0 where

@@ -1,8 +1,7 @@
 // Reads the data up to the end of its header.
 ghost use Rattle.std.specs.Prelude.{List, ℕ, IfErr, IfOk};
-ghost use Rattle.tally_base.{specs.declared.slot.Slot.TheVariants.Data, specs.Faults.fault_in};
-ghost use Rattle.bench_io.{specs.Given.Consumes, specs.Inputs.OnlyReads};
-ghost use Rattle.command_work.{specs.Outcomes.{InputsOnce, IsCut}, specs.Pieces.{ReadReason, IsReady, StopsSoon, EndsIn, HeaderEnds}};
+ghost use Rattle.{tally_base.specs.{declared.slot.Slot.TheVariants.Data, Faults.fault_in}, bench_io.specs.{Given.Consumes, Inputs.OnlyReads}, command_work.specs.Outcomes.{InputsOnce, IsCut}};
+ghost use Rattle.command_work.specs.Pieces.{ReadReason, IsReady, StopsSoon, EndsIn, HeaderEnds};
 
 use crate::header::{Fed, feed_piece};
 use bench_io::Inputs;

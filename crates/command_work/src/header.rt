@@ -1,7 +1,6 @@
 // Feeds whole pieces to a header reader.
 ghost use Rattle.std.specs.Prelude.{◌≤◌, ◌^◌, List, ℕ};
-ghost use Rattle.ptu_header.specs.ReadHeader.{HasRead, bytes_taken};
-ghost use Rattle.command_work.specs.Pieces.{Ends, TakesPiece, RefusesInside};
+ghost use Rattle.{ptu_header.specs.ReadHeader.{HasRead, bytes_taken}, command_work.specs.Pieces.{Ends, TakesPiece, RefusesInside}};
 
 use ptu_header::{HeaderReader, HeaderStep};
 use tally_base::{Fault, Header};

@@ -1,8 +1,7 @@
 // What a command makes of the bytes after a header, and the loop that reads a file.
 ghost use Rattle.std.specs.Prelude.{◌≡◌, ◌+◌, ◌≤◌, [], List, ℕ, ◌++◌, length, IfOk, OnOk, None, true};
-ghost use Rattle.tally_base.{specs.declared.slot.Slot.TheVariants.Data, specs.declared.header.Header.Header};
-ghost use Rattle.bench_io.specs.Inputs.{OnlyReads};
-ghost use Rattle.command_work.{specs.Behaviours.{Work, Writing}, specs.Endings.span, specs.RecordsWork.{RecordsWork, IsText, Opens, Suits, WritesPiece, WritesEnd}, specs.Works.LeavesWork};
+ghost use Rattle.{tally_base.specs.declared.{slot.Slot.TheVariants.Data, header.Header.Header}, bench_io.specs.Inputs.OnlyReads, command_work.specs.{Behaviours.{Work, Writing}, Endings.span}};
+ghost use Rattle.command_work.specs.{RecordsWork.{RecordsWork, IsText, Opens, Suits, WritesPiece, WritesEnd}, Works.LeavesWork};
 
 use crate::data::{PIECE, READ_FAULT, read_header};
 use bench_io::{Inputs, Sink};

@@ -1,9 +1,8 @@
 // Reads the plan of a command.
 ghost use Rattle.std.specs.Prelude.{◌≡◌, ◌≤◌, ◌<◌, List, ℕ, length, true, IfErr, IfOk};
-ghost use Rattle.tally_base.{specs.declared.slot.Slot.TheVariants.Plan as PlanSlot, specs.declared.fault.Fault.TheVariants.ReadFault, specs.FaultCounts.Rose, specs.Faults.fault_in};
-ghost use Rattle.bench_io.{specs.Given.Consumes, specs.Inputs.OnlyReads};
-ghost use Rattle.ptu_definitions.specs.Words.{record_limit};
-ghost use Rattle.command_work.{specs.Outcomes.{SaysNoEnd, InputsOnce}, specs.Endings.{OpensAs, TakesPlan}, specs.Pieces.{MayOpen, OnlyUses, IsFilled, AnswersPlan, PlanReason}};
+ghost use Rattle.{tally_base.specs.{declared.{slot.Slot.TheVariants.Plan as PlanSlot, fault.Fault.TheVariants.ReadFault}, FaultCounts.Rose, Faults.fault_in}, bench_io.specs.Given.Consumes};
+ghost use Rattle.{bench_io.specs.Inputs.OnlyReads, ptu_definitions.specs.Words.record_limit, command_work.specs.{Outcomes.{SaysNoEnd, InputsOnce}, Endings.{OpensAs, TakesPlan}, Pieces.MayOpen}};
+ghost use Rattle.command_work.specs.Pieces.{OnlyUses, IsFilled, AnswersPlan, PlanReason};
 
 use bench_io::Inputs;
 use plan_text::{Plan, TEXT_LIMIT, read_plan};
@@ -46,32 +45,6 @@ fn read_text<I: Inputs>(inputs: &mut I, text: &mut [u8]) -> Result<usize, Fault>
     Ok(len)
 }
 
-/// Reads the plan of a name into the text.
-fn plan_in<I: Inputs>(
-    alloc: Global,
-    inputs: &mut I,
-    name: &str,
-    text: &mut [u8],
-) -> Result<Plan, Fault>
-    requires unasked { MayOpen (I.state inputs.old) PlanSlot name.now }
-    requires size { length text.old ≡ TEXT_SIZE }
-    ensures uses { OnlyUses PlanSlot (I.state inputs.old) (I.state inputs.new) }
-    ensures answer { AnswersPlan (I.state inputs.new) result }
-    ensures reason { IfErr result (PlanReason (I.state inputs.old) (I.state inputs.new)) }
-    ensures once { InputsOnce (I.state inputs.old) (I.state inputs.new) (fault_in result) }
-    ensures takes { TakesPlan (I.state inputs.new) }
-    ensures names { OpensAs PlanSlot (I.state inputs.old) (I.state inputs.new) name.now }
-    ensures records { IfOk result (λ plan. (0 < plan.policy.records)
-        × (plan.policy.records ≤ record_limit)) }
-{
-    match inputs.open(Slot::Plan, name) {
-        Err(Failed) => return Err(OPEN_FAULT),
-        Ok(()) => {}
-    }
-    let len = read_text(inputs, text)?;
-    read_plan(alloc, &text[..len])
-}
-
 /// Reads the plan of a name. Its text takes memory before the plan is opened.
 pub(crate) fn plan_of<I: Inputs>(alloc: Global, inputs: &mut I, name: &str) -> Result<Plan, Fault>
     requires { MayOpen (I.state inputs.old) PlanSlot name.now }
@@ -84,8 +57,14 @@ pub(crate) fn plan_of<I: Inputs>(alloc: Global, inputs: &mut I, name: &str) -> R
     ensures records { IfOk result (λ plan. (0 < plan.policy.records)
         × (plan.policy.records ≤ record_limit)) }
 {
-    let Ok(mut text) = vec![in alloc; 0u8; TEXT_SIZE] else {
+    let Ok(mut room) = vec![in alloc; 0u8; TEXT_SIZE] else {
         return Err(Fault::OutOfMemory);
     };
-    plan_in(alloc, inputs, name, &mut text)
+    let text = room.as_mut_slice();
+    match inputs.open(Slot::Plan, name) {
+        Err(Failed) => return Err(OPEN_FAULT),
+        Ok(()) => {}
+    }
+    let len = read_text(inputs, text)?;
+    read_plan(alloc, &text[..len])
 }

@@ -1,10 +1,8 @@
 // The work of a command: on FILE alone, or by a plan.
-ghost use Rattle.std.{specs.Prelude.{◌≡◌, ◌≤◌, ◌<◌, List, ℕ, true, false, None, IfSome}, specs.declared.option.Option.{Option}};
-ghost use Rattle.tally_base.{specs.declared.slot.Slot.Slot, specs.declared.slot.Slot.TheVariants.Plan as PlanSlot, specs.declared.slot.Slot.TheVariants.Data, specs.declared.fault.Fault.Fault, specs.Faults.is_outside};
-ghost use Rattle.bench_io.specs.Inputs.{OnlyReads};
-ghost use Rattle.ptu_definitions.specs.Words.{record_limit};
-ghost use Rattle.plan_text.{specs.Plan.PlanView, specs.ReadPlan.plan_view};
-ghost use Rattle.command_work.{specs.Behaviours.{Work, Writing, Memory, OnFile, ByPlan}, specs.Endings.{LeavesCommand, span}, specs.Works.{WantsNone, LeavesWork, LeavesPlanned}};
+ghost use Rattle.std.specs.{Prelude.{◌≡◌, ◌≤◌, ◌<◌, List, ℕ, true, false, None, IfSome}, declared.option.Option.Option};
+ghost use Rattle.{tally_base.specs.{declared.{slot.Slot.{Slot, TheVariants.{Plan as PlanSlot, Data}}, fault.Fault.Fault}, Faults.is_outside}, bench_io.specs.Inputs.OnlyReads};
+ghost use Rattle.{ptu_definitions.specs.Words.record_limit, plan_text.specs.{Plan.PlanView, ReadPlan.plan_view}, command_work.specs.Behaviours.{Work, Writing, Memory, OnFile, ByPlan}};
+ghost use Rattle.command_work.specs.{Endings.{LeavesCommand, span}, Works.{WantsNone, LeavesWork, LeavesPlanned}};
 
 use crate::plan::plan_of;
 use bench_io::{Inputs, Sink};

@@ -1,7 +1,8 @@
 -- The counts over the rows of a block.
-use Rattle.std.{proofs.Common.{◌≡◌, ℕ, ◌+◌, ◌-◌, ◌/◌, ◌<◌, ◌≤◌, Bool, true, false, ◌&&◌, cond, ◌++◌, ap, refl, arith, nat_lt, nat_le, ◌==◌, if◌then◌else◌, rules}, proofs.lemmas.Bool.Decides.nat_tests, proofs.lemmas.List.Sums.{sum_by-append, sum_by_push}}
-use Rattle.tally_base.{specs.declared.event.Event.Event, specs.Events.{is_photon, is_in}, specs.Settings.TraceView, specs.Tally.History, specs.Columns.{rows, item, code_at, time_at, groups_at}, specs.declared.block.Block.Block, proofs.Floors.moves_row, proofs.BlockRows.more_rows}
-use Rattle.count_trace.specs.TraceCounts.{count_times, in_trace_bin}
+use Rattle.std.proofs.Common.{◌≡◌, ℕ, ◌+◌, ◌-◌, ◌/◌, ◌<◌, ◌≤◌, Bool, true, false, ◌&&◌, cond, ◌++◌, ap, refl, arith, nat_lt, nat_le, ◌==◌, if◌then◌else◌, rules}
+use Rattle.{std.proofs.lemmas.{Bool.Decides.nat_tests, List.Sums.{sum_by-append, sum_by_push}}, tally_base.specs.declared.event.Event.Event}
+use Rattle.tally_base.specs.{declared.block.Block.Block, Events.{is_photon, is_in}, Settings.TraceView, Tally.History, Columns.{rows, item, code_at, time_at}}
+use Rattle.{tally_base.{specs.Columns.groups_at, proofs.{Floors.moves_row, BlockRows.more_rows}}, count_trace.specs.TraceCounts.{count_times, in_trace_bin}}
 
 none_either : (b : Bool) → ◌≡◌ {A = ℕ} 0 (if b then 0 else 0)
 none_either true = refl

@@ -1,7 +1,8 @@
 -- What a trace stands for, what the events of a block add to one, and what holds of every trace.
 use Rattle.std.{specs.Prelude.{◌≡◌, ℕ, ◌<◌, false, slice_index, length, ◌+◌, List, ◌≤◌, ◌-◌, ◌/◌, Bool, ◌&&◌, ◌==◌, nat_le, nat_lt, [], ◌∷◌, ◌++◌}, proofs.Common.{rules, ◌∙◌, ap}}
-use Rattle.tally_base.{specs.declared.settings.TraceSet.TraceSet, specs.Settings.{PartSettings, trace_view, TraceView, entries}, specs.Settings.PartSettings.TraceSettings, specs.Tally.{History, greatest_time}, specs.declared.event.Event.Event, specs.Events.{is_photon, is_in}, proofs.Sorted.{same_length, same_greatest, same_count}}
-use Rattle.count_trace.{specs.declared.trace.Trace.Trace, specs.TraceCounts.{in_trace_bin, count_before, count_beyond, count_times}, specs.declared.counting.Outside.Outside}
+use Rattle.tally_base.specs.{declared.{settings.TraceSet.TraceSet, event.Event.Event}, Settings.{PartSettings, trace_view, TraceView, entries, PartSettings.TraceSettings}, Tally.History}
+use Rattle.{tally_base.{specs.{Tally.greatest_time, Events.{is_photon, is_in}}, proofs.Sorted.{same_length, same_greatest, same_count}}, count_trace.specs.declared.trace.Trace.Trace}
+use Rattle.count_trace.specs.{declared.counting.Outside.Outside, TraceCounts.{in_trace_bin, count_before, count_beyond, count_times}}
 
 -- what it was opened with
 abbrev pub set_of : Trace → TraceSet

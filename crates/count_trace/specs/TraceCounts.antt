@@ -1,6 +1,6 @@
 -- The counts of a trace over the events that it is given.
 use Rattle.std.specs.Prelude.{ℕ, Bool, ◌&&◌, ◌==◌, nat_le, nat_lt, ◌-◌, ◌/◌, count_by}
-use Rattle.tally_base.{specs.Events.{is_photon, is_in}, specs.Settings.TraceView, specs.Tally.History}
+use Rattle.tally_base.specs.{Events.{is_photon, is_in}, Settings.TraceView, Tally.History}
 
 -- how many photons of the group come at a time that passes the test
 abbrev pub count_times : TraceView → (ℕ → Bool) → History → ℕ

@@ -1,7 +1,6 @@
 // The photons of a block, counted by their times.
 ghost use Rattle.std.specs.Prelude.{◌≡◌, ◌+◌, ◌*◌, ◌^◌, ◌<◌, ◌≤◌, ◌==◌, ℕ, length, nat_le, slice_index, sum, if◌then◌else◌};
-ghost use Rattle.tally_base.{specs.Settings.trace_view, specs.Limits.record_limit, specs.Columns.{gathered, events_in, IsSorted}};
-ghost use Rattle.count_trace.specs.Trace.{CountsMore};
+ghost use Rattle.{tally_base.specs.{Settings.trace_view, Limits.record_limit, Columns.{gathered, events_in, IsSorted}}, count_trace.specs.Trace.CountsMore};
 
 use crate::bin::Bin;
 use tally_base::{Block, TABLE_BLOCK, TraceSet};

@@ -1,7 +1,6 @@
 // Laws of the definitions, each as the contract of a function that does nothing.
 ghost use Rattle.std.specs.Prelude.{◌≡◌, ◌+◌};
-ghost use Rattle.tally_base.{specs.Settings.TraceView, specs.Tally.{History, in_all_bins, photons_of_group}};
-ghost use Rattle.count_trace.specs.TraceCounts.{in_trace_bin, count_before, count_beyond};
+ghost use Rattle.{tally_base.specs.{Settings.TraceView, Tally.{History, in_all_bins, photons_of_group}}, count_trace.specs.TraceCounts.{in_trace_bin, count_before, count_beyond}};
 
 /// Each photon of the group counts once, in a bin, before the origin or past the last bin.
 pub fn each_photon_counts_once()

@@ -1,6 +1,6 @@
 // A trace of photons over the time of the file.
 ghost use Rattle.std.specs.Prelude.{◌≡◌, ◌+◌, ◌*◌, ◌≤◌, vec_len, length, sum, ◌<◌, IfOk, [], false};
-ghost use Rattle.tally_base.{specs.Tally.History, specs.Settings.trace_view, specs.Settings.PartSettings.TraceSettings};
+ghost use Rattle.tally_base.specs.{Tally.History, Settings.{trace_view, PartSettings.TraceSettings}};
 
 use crate::bin::Bin;
 use crate::counting::{Outside, count_block};

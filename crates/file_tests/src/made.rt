@@ -1,6 +1,6 @@
 // The bytes of known seeds, in pieces of all kinds: the tests of `ptu_made`.
 ghost use Rattle.std.specs.Prelude.{◌≡◌, ◌≤◌, [], true, false};
-ghost use Rattle.ptu_made.{specs.Made.made_state, specs.Generator.photon_limit};
+ghost use Rattle.ptu_made.specs.{Made.made_state, Generator.photon_limit};
 
 use crate::checks::holds;
 use bench_io::Inputs;

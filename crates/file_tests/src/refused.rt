@@ -1,8 +1,6 @@
 // Streams that have refused, which are fed once more.
 ghost use Rattle.std.specs.Prelude.{◌≡◌, ◌+◌, ◌<◌, ◌≤◌, length, None, max};
-ghost use Rattle.tally_base.specs.Limits.{record_limit};
-ghost use Rattle.ptu_definitions.specs.Kept.{floor_of};
-ghost use Rattle.record_stream.{specs.Feeding.Follows, specs.Standing.{how_of, given_by, greatest_of, refused_with}};
+ghost use Rattle.{tally_base.specs.Limits.record_limit, ptu_definitions.specs.Kept.floor_of, record_stream.specs.{Feeding.Follows, Standing.{how_of, given_by, greatest_of, refused_with}}};
 
 use crate::checks::holds;
 use abs_time::moved_floor;

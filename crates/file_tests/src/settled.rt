@@ -1,7 +1,6 @@
 // Streams whose events are put in their places.
 ghost use Rattle.std.specs.Prelude.{◌≡◌, ◌<◌, ◌≤◌, None};
-ghost use Rattle.tally_base.specs.Limits.{record_limit};
-ghost use Rattle.record_stream.{specs.Feeding.Follows, specs.Standing.{how_of, given_by, greatest_of, refused_with}};
+ghost use Rattle.{tally_base.specs.Limits.record_limit, record_stream.specs.{Feeding.Follows, Standing.{how_of, given_by, greatest_of, refused_with}}};
 
 use crate::checks::holds;
 use crate::refused::{Counter, answer, with_place};

@@ -1,13 +1,17 @@
 -- How printing the header of a file ends.
-use Rattle.std.{proofs.Common.{◌≡◌, ℕ, List, [], ◌++◌, None, Some, refl, sym, ap, Ok, Err, ◌<◌, ◌==◌, Bool, length, map, arith, ◌∙◌, inl, inr, length-append, append_assoc, Result, if◌then◌else◌, rules, ◌≤◌, ◌↔◌, OnOk, OnErr, IfErr, IsErr, ◌∷◌}, specs.declared.option.Option.Option, proofs.lemmas.Bool.cases_lt}
-use Rattle.tally_base.{specs.declared.fault.Fault.Fault, specs.declared.header.Header.Header, specs.Faults.fault_in, specs.declared.header.Mode.Mode, specs.declared.fault.Fault.TheVariants.{RecordLimit, WriteFault}, specs.declared.header.RecordType.RecordType}
-use Rattle.bench_io.{specs.Sinks.{SinkState, Wrote, WroteShort, PassesOn}, proofs.Bytes.{Wrote-trans, Wrote-same, WroteShort-same, WroteShort-behind, WroteShort-more, WroteShort-passed, PassesOn-trans}, proofs.Texts.WroteText-none}
-use Rattle.ptu_definitions.{specs.Headers.{header_answer, Shows, seen}, specs.declared.records.Summary.Summary, specs.Words.{words_of, counted, record_limit}, specs.Kept.{Marked, marked}, specs.Prefixes.each, specs.Settled.{ordered, settles, delivered}, specs.Times.events, specs.Streams.{StreamSettings, given, last_in, streamed}, proofs.DeliveredLaws.delivered_last-0, specs.declared.records.KindCounts.KindCounts, specs.TagList.Item}
-use Rattle.list_out.{specs.HeaderText.header_text, proofs.Final.{header_text-grows, header_text-refused, header_text-done}, specs.Lines.{events_text, lines_of}}
-use Rattle.file_work.{specs.FileOutcomes.{header_outcome, counts_text, counted_end, counts, lists}, specs.BodyPieces.{PutsMore, CutsMore, AppendsHeader, CutsHeader}, specs.CountPieces.CountsBytes, specs.CountLaws.counts-clear}
-use Rattle.command_work.specs.RecordsWork.{WritesEnd, WritesPiece}
-use Rattle.record_stream.{specs.declared.taker.EventTaker.Ghosts, specs.Ending.Ended}
-use Rattle.record_layout.{specs.declared.counter.Counter.Counter, specs.Counting.HasCounted}
+use Rattle.std.proofs.Common.{◌≡◌, ℕ, List, [], ◌++◌, None, Some, refl, sym, ap, Ok, Err, ◌<◌, ◌==◌, Bool, length, map, arith, ◌∙◌, inl, inr, length-append}
+use Rattle.std.proofs.{Common.{append_assoc, Result, if◌then◌else◌, rules, ◌≤◌, ◌↔◌, OnOk, OnErr, IfErr, IsErr, ◌∷◌}, lemmas.Bool.cases_lt}
+use Rattle.{std.specs.declared.option.Option.Option, tally_base.specs.declared.fault.Fault.{Fault, TheVariants.{RecordLimit, WriteFault}}}
+use Rattle.{tally_base.specs.{declared.header.{Header.Header, Mode.Mode, RecordType.RecordType}, Faults.fault_in}, bench_io.specs.Sinks.{SinkState, Wrote}}
+use Rattle.bench_io.{specs.Sinks.{WroteShort, PassesOn}, proofs.Bytes.{Wrote-trans, Wrote-same, WroteShort-same, WroteShort-behind, WroteShort-more}}
+use Rattle.{bench_io.proofs.{Bytes.{WroteShort-passed, PassesOn-trans}, Texts.WroteText-none}, ptu_definitions.specs.Headers.{header_answer, Shows, seen}}
+use Rattle.ptu_definitions.specs.{declared.records.{Summary.Summary, KindCounts.KindCounts}, Words.{words_of, counted, record_limit}, Kept.{Marked, marked}}
+use Rattle.ptu_definitions.specs.{Prefixes.each, Settled.{ordered, settles, delivered}, Times.events, Streams.{StreamSettings, given, last_in, streamed}}
+use Rattle.{ptu_definitions.{specs.TagList.Item, proofs.DeliveredLaws.delivered_last-0}, list_out.specs.{HeaderText.header_text, Lines.{events_text, lines_of}}}
+use Rattle.{list_out.proofs.Final.{header_text-grows, header_text-refused, header_text-done}, file_work.specs.FileOutcomes.{header_outcome, counts_text}}
+use Rattle.file_work.specs.{FileOutcomes.{counted_end, counts, lists}, BodyPieces.{PutsMore, CutsMore, AppendsHeader, CutsHeader}, CountPieces.CountsBytes}
+use Rattle.{file_work.specs.CountLaws.counts-clear, command_work.specs.RecordsWork.{WritesEnd, WritesPiece}}
+use Rattle.{record_stream.specs.{declared.taker.EventTaker.Ghosts, Ending.Ended}, record_layout.specs.{declared.counter.Counter.Counter, Counting.HasCounted}}
 
 -- ## A text that grows on
 
@@ -20,7 +24,8 @@ PutsMore-next shown grown further text a b c held now later h more put = record 
 }
 
 -- more of it is cut, and the rest is missing
-pub CutsMore-next : (shown grown further whole text rest : List ℕ) (a b c : SinkState) (held now : List ℕ) → PutsMore shown grown a b held now → further ≡ grown ++ text → whole ≡ further ++ rest → WroteShort b c (now ++ text) → CutsMore shown whole a c held
+pub CutsMore-next : (shown grown further whole text rest : List ℕ) (a b c : SinkState) (held now : List ℕ) → PutsMore shown grown a b held now
+    → further ≡ grown ++ text → whole ≡ further ++ rest → WroteShort b c (now ++ text) → CutsMore shown whole a c held
 CutsMore-next shown grown further whole text rest a b c held now h more all cut = record {
   added = (h.added ++ text) ++ rest;
   text = all ∙ ap (λ l. l ++ rest) (more ∙ ap (λ l. l ++ text) h.text ∙ append_assoc shown h.added text) ∙ append_assoc shown (h.added ++ text) rest;
@@ -94,7 +99,8 @@ writes-piece header bytes piece a (Ok done) limit fault =
     (counts-clear (bytes ++ piece) (within_limit (bytes ++ piece) limit), WroteText-none [] a)
 writes-piece header bytes piece a (Err own) limit fault = search (rules, arith)
 
-pub takes-piece : (old new : Counter) (record_type : RecordType) (piece : List ℕ) (r : Result (Unit {0}) Fault) → ((record_type : RecordType) (bytes : List ℕ) → HasCounted old record_type bytes → HasCounted new record_type (bytes ++ piece))
+pub takes-piece : (old new : Counter) (record_type : RecordType) (piece : List ℕ) (r : Result (Unit {0}) Fault)
+    → ((record_type : RecordType) (bytes : List ℕ) → HasCounted old record_type bytes → HasCounted new record_type (bytes ++ piece))
     → ((record_type : RecordType) (bytes : List ℕ) → HasCounted old record_type bytes → (IsErr r ↔ (record_limit < length (words_of (bytes ++ piece))))) → OnOk r ((bytes : List ℕ) → CountsBytes old record_type bytes → CountsBytes new record_type (bytes ++ piece))
 takes-piece old new record_type piece r taken limit = search (rules, arith, within_limit)
 
@@ -108,7 +114,8 @@ module _ (header : Header) (bytes : List ℕ) where
       → Err fault ≡ counted header.record_type bytes → WritesEnd (counts header) bytes a a (Err fault)
   ends-refused fault a is = rw (ends-is (Err fault) is) (inl (refl, WroteText-none [] a))
 
-  pub ends-written : (kinds : KindCounts) (r : Result (Unit {0}) Fault) (old new : SinkState) → Ok kinds ≡ counted header.record_type bytes → OnOk r (Wrote old new (counts_text header kinds)) → OnErr r (WroteShort old new (counts_text header kinds)) → IfErr r (λ fault. fault ≡ WriteFault)
+  pub ends-written : (kinds : KindCounts) (r : Result (Unit {0}) Fault) (old new : SinkState) → Ok kinds ≡ counted header.record_type bytes
+      → OnOk r (Wrote old new (counts_text header kinds)) → OnErr r (WroteShort old new (counts_text header kinds)) → IfErr r (λ fault. fault ≡ WriteFault)
       → WritesEnd (counts header) bytes old new r
   ends-written kinds r old new is text short write = search (rules, arith, ends-is)
 

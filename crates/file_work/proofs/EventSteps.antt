@@ -1,13 +1,12 @@
 -- One line more, and the lines of a piece.
-use Rattle.std.{proofs.Common.{◌≡◌, ◌+◌, ◌≤◌, ℕ, List, [], ◌∷◌, ◌++◌, Bool, Ok, Err, refl, sym, ap, subst, ◌∙◌, inl, inr, append_assoc, arith, length, max, length-append, ◌&&◌, not, IsTrue, if◌then◌else◌}, specs.declared.result.Result.Result}
-use Rattle.tally_base.{specs.declared.event.Event.Event, specs.declared.header.Mode.Mode, specs.declared.fault.Fault.Fault, specs.Events.is_ordered, specs.Tally.{floor_after, InOrder}}
+use Rattle.std.proofs.Common.{◌≡◌, ◌+◌, ◌≤◌, ℕ, List, [], ◌∷◌, ◌++◌, Bool, Ok, Err, refl, sym, ap, subst, ◌∙◌, inl, inr, append_assoc, arith, length, max}
+use Rattle.std.{proofs.Common.{length-append, ◌&&◌, not, IsTrue, if◌then◌else◌}, specs.declared.result.Result.Result}
+use Rattle.tally_base.specs.{declared.{event.Event.Event, header.Mode.Mode, fault.Fault.Fault}, Events.is_ordered, Tally.{floor_after, InOrder}}
 use Rattle.bench_io.{specs.Sinks.{SinkState, WroteShort, PassesOn}, proofs.Bytes.{WroteShort-more, WroteShort-passed, PassesOn-trans}}
-use Rattle.ptu_definitions.{specs.Kept.{Marked, floor_of}, specs.Streams.{StreamSettings, record_refusal, given}}
-use Rattle.list_out.specs.Lines.{events_text, lines_of}
-use Rattle.record_stream.{specs.declared.taker.EventTaker.Ghosts, specs.Feeding.{GaveOn, Fed}, specs.Blocks.on_time, proofs.Gathering.floor_of-block}
-use Rattle.abs_time.{specs.Floors.orders_markers, proofs.Floors.moved_floor-push}
-use Rattle.command_work.proofs.Flushed.{PutText, PutsText}
-use Rattle.file_work.{specs.EventLines.{Listed, ListedShort}, specs.EventLaws.events_text-append}
+use Rattle.{ptu_definitions.specs.{Kept.{Marked, floor_of}, Streams.{StreamSettings, record_refusal, given}}, list_out.specs.Lines.{events_text, lines_of}}
+use Rattle.record_stream.{specs.{declared.taker.EventTaker.Ghosts, Feeding.{GaveOn, Fed}, Blocks.on_time}, proofs.Gathering.floor_of-block}
+use Rattle.{abs_time.{specs.Floors.orders_markers, proofs.Floors.moved_floor-push}, command_work.proofs.Flushed.{PutText, PutsText}}
+use Rattle.file_work.specs.{EventLines.{Listed, ListedShort}, EventLaws.events_text-append}
 
 -- the lines of more events
 pub lines_more : (held : List ℕ) (l more : Marked) (lines : List ℕ) → lines ≡ events_text more → (held ++ events_text l) ++ lines ≡ held ++ events_text (l ++ more)

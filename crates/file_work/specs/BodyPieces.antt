@@ -1,13 +1,9 @@
 -- What printing the body of a tag in pieces leaves.
 use Rattle.std.specs.Prelude.{ℕ, ◌≡◌, List, [], ◌++◌, codes, Bool, if◌then◌else◌, ◌+◌, ◌∷◌, length, true, false, Ok, Err}
-use Rattle.bench_io.{specs.Sinks.{SinkState, WroteShort, PassesOn}, specs.Texts.WroteText}
-use Rattle.ptu_tag.specs.declared.kind.TagKind.{TagKind}
-use Rattle.list_out.{specs.HeaderText.{body_text, kind_with, header_text}, specs.Lines.HasPut}
-use Rattle.tally_base.{specs.declared.header.Header.Header, specs.Faults.is_outside}
-use Rattle.ptu_definitions.{specs.TagList.{code_in, Item}, specs.Headers.{header_answer, Shows, seen}}
-use Rattle.ptu_header.specs.ReadHeader.{HasRead, bytes_taken, is_open}
-use Rattle.command_work.specs.Outcomes.{IsCut}
-use Rattle.file_work.{specs.declared.print.HeaderPrinter.HeaderPrinter, specs.declared.print.Printed.Printed, specs.declared.print.Printed.TheVariants.{More, Done, Refused}}
+use Rattle.{bench_io.specs.{Sinks.{SinkState, WroteShort, PassesOn}, Texts.WroteText}, ptu_tag.specs.declared.kind.TagKind.TagKind, list_out.specs.HeaderText.{body_text, kind_with, header_text}}
+use Rattle.{list_out.specs.Lines.HasPut, tally_base.specs.{declared.header.Header.Header, Faults.is_outside}, ptu_definitions.specs.{TagList.{code_in, Item}, Headers.{header_answer, Shows, seen}}}
+use Rattle.{ptu_header.specs.ReadHeader.{HasRead, bytes_taken, is_open}, command_work.specs.Outcomes.IsCut, file_work.specs.declared.print.{HeaderPrinter.HeaderPrinter, Printed.Printed}}
+use Rattle.file_work.specs.declared.print.Printed.TheVariants.{More, Done, Refused}
 
 -- ## A text that has grown
 

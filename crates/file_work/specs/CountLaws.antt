@@ -1,9 +1,10 @@
 -- What holds of the counts of bytes that grow.
-use Rattle.std.{proofs.Common.{◌≡◌, ◌∙◌, ◌+◌, ◌<◌, ◌≤◌, ◌==◌, ℕ, List, [], ◌++◌, Bool, true, false, length, length-append, arith, refl, sym, ap, None, Some, Ok, Err, nat_lt, if◌then◌else◌, Result, inl, inr}, proofs.lemmas.Bool.Decides.nat_tests}
-use Rattle.tally_base.{specs.declared.fault.Fault.Fault, specs.declared.fault.Fault.TheVariants.{RecordLimit, TruncatedRecord}, specs.declared.header.Header.Header, specs.declared.header.RecordType.RecordType, specs.Faults.{is_outside, fault_in}}
-use Rattle.ptu_definitions.{specs.declared.records.KindCounts.KindCounts, specs.Words.{words_of, rest_of, counted, records_of, record_limit}, specs.Kinds.counts_of, proofs.WordsLemmas.words_of-append}
-use Rattle.command_work.{specs.Behaviours.AtEnd, specs.Works.WantsNone, specs.RecordsWork.{IsText, IsAllOrNothing, Suits}, proofs.RestEnds.{end_with, suits-at_end}}
-use Rattle.file_work.specs.FileOutcomes.{counted_end, too_many, counts, counting}
+use Rattle.std.proofs.Common.{◌≡◌, ◌∙◌, ◌+◌, ◌<◌, ◌≤◌, ◌==◌, ℕ, List, [], ◌++◌, Bool, true, false, length, length-append, arith, refl, sym, ap, None, Some, Ok, Err, nat_lt, if◌then◌else◌, Result, inl}
+use Rattle.std.proofs.{Common.inr, lemmas.Bool.Decides.nat_tests}
+use Rattle.tally_base.specs.{declared.{fault.Fault.{Fault, TheVariants.{RecordLimit, TruncatedRecord}}, header.{Header.Header, RecordType.RecordType}}, Faults.{is_outside, fault_in}}
+use Rattle.ptu_definitions.{specs.{declared.records.KindCounts.KindCounts, Words.{words_of, rest_of, counted, records_of, record_limit}, Kinds.counts_of}, proofs.WordsLemmas.words_of-append}
+use Rattle.{command_work.{specs.{Behaviours.AtEnd, Works.WantsNone, RecordsWork.{IsText, IsAllOrNothing, Suits}}, proofs.RestEnds.{end_with, suits-at_end}}, file_work.specs.FileOutcomes.counted_end}
+use Rattle.file_work.specs.FileOutcomes.{too_many, counts, counting}
 
 -- ## Too many records
 

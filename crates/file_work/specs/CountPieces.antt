@@ -1,8 +1,6 @@
 -- What a counter stands for.
 use Rattle.std.specs.Prelude.{ℕ, ◌≤◌, List, length}
-use Rattle.tally_base.specs.declared.header.RecordType.{RecordType}
-use Rattle.ptu_definitions.specs.Words.{words_of, record_limit}
-use Rattle.record_layout.{specs.declared.counter.Counter.Counter, specs.Counting.HasCounted}
+use Rattle.{tally_base.specs.declared.header.RecordType.RecordType, ptu_definitions.specs.Words.{words_of, record_limit}, record_layout.specs.{declared.counter.Counter.Counter, Counting.HasCounted}}
 
 -- The counter was given these bytes, and their records are few enough.
 pub record CountsBytes (counter : Counter) (record_type : RecordType) (bytes : List ℕ) : Type 0 where

@@ -1,11 +1,10 @@
 -- What holds of the lines of events of bytes that grow.
 use Rattle.std.proofs.Common.{◌≡◌, ◌∙◌, ℕ, List, [], ◌∷◌, ◌++◌, None, refl, sym, ap, append_assoc}
-use Rattle.tally_base.specs.Faults.{fault_in}
-use Rattle.ptu_definitions.{specs.Kept.Marked, specs.Words.{words_of, rest_of}, specs.Streams.{StreamSettings, record_refusal, given}, proofs.Firsts.{record_refusal-inside, streamed-inside}, proofs.WordsLemmas.words_of-append, proofs.StreamLemmas.{given-front, given-stays}}
-use Rattle.record_stream.{specs.declared.stream.RecordStream.RecordStream, specs.Standing.how_of, proofs.Lasts.{streamed-shown, streamed-clear}}
-use Rattle.list_out.specs.Lines.{event_text, events_text, lines_of}
-use Rattle.command_work.{specs.Behaviours.AsItReads, specs.Works.WantsNone, specs.RecordsWork.{IsText, Suits}, proofs.RestEnds.{same-end, suits-as_it_reads}}
-use Rattle.file_work.{specs.FileOutcomes.{listing, listed, lists, lists_by, events_so_far, listing_all}, specs.EventLines.HasListed}
+use Rattle.{tally_base.specs.Faults.fault_in, ptu_definitions.{specs.{Kept.Marked, Words.{words_of, rest_of}, Streams.{StreamSettings, record_refusal, given}}, proofs.Firsts.record_refusal-inside}}
+use Rattle.{ptu_definitions.proofs.{Firsts.streamed-inside, WordsLemmas.words_of-append, StreamLemmas.{given-front, given-stays}}, record_stream.specs.declared.stream.RecordStream.RecordStream}
+use Rattle.{record_stream.{specs.Standing.how_of, proofs.Lasts.{streamed-shown, streamed-clear}}, list_out.specs.Lines.{event_text, events_text, lines_of}, command_work.specs.Behaviours.AsItReads}
+use Rattle.{command_work.{specs.{Works.WantsNone, RecordsWork.{IsText, Suits}}, proofs.RestEnds.{same-end, suits-as_it_reads}}, file_work.specs.FileOutcomes.{listing, listed, lists, lists_by}}
+use Rattle.file_work.specs.{FileOutcomes.{events_so_far, listing_all}, EventLines.HasListed}
 
 pub events_text-append : (l m : Marked) → events_text (l ++ m) ≡ events_text l ++ events_text m
 events_text-append [] m = refl

@@ -1,12 +1,8 @@
 -- The lines of events on their way to a sink.
 use Rattle.std.{specs.Prelude.{ℕ, ◌≡◌, ◌+◌, max, List, [], ◌++◌, length, refl, None, Result}, proofs.Common.{append-nil, arith}}
-use Rattle.tally_base.{specs.declared.header.Mode.Mode, specs.declared.fault.Fault.Fault}
-use Rattle.bench_io.{specs.declared.sink.Sink.Ghosts, specs.Sinks.{SinkState, WroteShort, PassesOn}, proofs.Bytes.PassesOn-held}
-use Rattle.ptu_definitions.specs.Kept.{Marked, floor_of}
-use Rattle.list_out.specs.Lines.{events_text}
-use Rattle.command_work.specs.RecordsWork.{WritesPiece}
-use Rattle.record_stream.{specs.declared.stream.RecordStream.RecordStream, specs.Standing.{how_of, refused_with, HasStreamed}}
-use Rattle.file_work.specs.FileOutcomes.{lists}
+use Rattle.{tally_base.specs.declared.{header.Mode.Mode, fault.Fault.Fault}, bench_io.{specs.{declared.sink.Sink.Ghosts, Sinks.{SinkState, WroteShort, PassesOn}}, proofs.Bytes.PassesOn-held}}
+use Rattle.{ptu_definitions.specs.Kept.{Marked, floor_of}, list_out.specs.Lines.events_text, command_work.specs.RecordsWork.WritesPiece, record_stream.specs.declared.stream.RecordStream.RecordStream}
+use Rattle.{record_stream.specs.Standing.{how_of, refused_with, HasStreamed}, file_work.specs.FileOutcomes.lists}
 
 -- Nothing was listed yet: no event was taken, and the block is empty.
 pub record ListsNone (taken floor : ℕ) (held : List ℕ) : Type 0 where

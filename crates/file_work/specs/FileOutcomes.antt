@@ -1,9 +1,9 @@
 -- What `count`, `header` and `events` do with the bytes of FILE, and what they end with where nothing outside fails.
-use Rattle.std.{specs.Prelude.{ℕ, List, [], ◌++◌, length, nat_lt, codes, decimal, None, Some, Result, Ok, Err, if◌then◌else◌}, specs.declared.option.Option.Option}
-use Rattle.tally_base.{specs.declared.fault.Fault.Fault, specs.declared.fault.Fault.TheVariants.RecordLimit, specs.declared.header.Header.Header, specs.RecordTypes.name_of, specs.Faults.fault_in, specs.declared.event.Policy.Policy, specs.declared.event.Order.TheVariants.Drop, specs.declared.event.OnReserved.TheVariants.Skip}
-use Rattle.ptu_definitions.{specs.declared.records.KindCounts.KindCounts, specs.Headers.header_answer, specs.Words.{counted, record_limit, words_of}, specs.Streams.{StreamSettings, reading, record_refusal, streamed}}
-use Rattle.list_out.{specs.Lines.{lines_of, line, announced}, specs.HeaderText.header_text}
-use Rattle.command_work.{specs.Outcomes.{Outcome, refused, written, IsCut}, specs.Behaviours.{Work, AreWhole, AreRead, IsHeaded}, specs.RecordsWork.{RecordsWork, headed_work, headed_so_far}}
+use Rattle.std.specs.{Prelude.{ℕ, List, [], ◌++◌, length, nat_lt, codes, decimal, None, Some, Result, Ok, Err, if◌then◌else◌}, declared.option.Option.Option}
+use Rattle.tally_base.specs.declared.{fault.Fault.{Fault, TheVariants.RecordLimit}, header.Header.Header, event.{Policy.Policy, Order.TheVariants.Drop, OnReserved.TheVariants.Skip}}
+use Rattle.{tally_base.specs.{RecordTypes.name_of, Faults.fault_in}, ptu_definitions.specs.{declared.records.KindCounts.KindCounts, Headers.header_answer, Words.{counted, record_limit, words_of}}}
+use Rattle.{ptu_definitions.specs.Streams.{StreamSettings, reading, record_refusal, streamed}, list_out.specs.{Lines.{lines_of, line, announced}, HeaderText.header_text}}
+use Rattle.command_work.specs.{Outcomes.{Outcome, refused, written, IsCut}, Behaviours.{Work, AreWhole, AreRead, IsHeaded}, RecordsWork.{RecordsWork, headed_work, headed_so_far}}
 
 -- what `count` prints
 unfoldable pub counts_text : Header → KindCounts → List ℕ

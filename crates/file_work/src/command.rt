@@ -1,6 +1,5 @@
 // The commands `count` and `events`.
-ghost use Rattle.command_work.specs.Behaviours.{AtEnd, AsItReads};
-ghost use Rattle.file_work.specs.FileOutcomes.{counting, events_so_far, listing_all};
+ghost use Rattle.{command_work.specs.Behaviours.{AtEnd, AsItReads}, file_work.specs.FileOutcomes.{counting, events_so_far, listing_all}};
 
 use crate::counting::Counting;
 use crate::events::Listing;

@@ -1,7 +1,6 @@
 // The lines of `count`.
 ghost use Rattle.std.specs.Prelude.{◌≡◌, IfErr, OnOk, OnErr};
-ghost use Rattle.bench_io.specs.Sinks.{Wrote, WroteShort};
-ghost use Rattle.file_work.specs.FileOutcomes.{counts_text};
+ghost use Rattle.{bench_io.specs.Sinks.{Wrote, WroteShort}, file_work.specs.FileOutcomes.counts_text};
 
 use arrayvec::ArrayVec;
 use bench_io::{Sink, write_all};

@@ -1,7 +1,5 @@
 // The command `header`: reads the data up to the end of its header, and prints it meanwhile.
-ghost use Rattle.list_out.specs.HeaderText.{header_text};
-ghost use Rattle.command_work.specs.Behaviours.{AsItReads};
-ghost use Rattle.file_work.specs.FileOutcomes.{printing};
+ghost use Rattle.{list_out.specs.HeaderText.header_text, command_work.specs.Behaviours.AsItReads, file_work.specs.FileOutcomes.printing};
 
 use crate::print::{HeaderPrinter, Printed};
 use bench_io::{Inputs, Sink};

@@ -1,8 +1,6 @@
 // The lines of the events of a file, written while it is read.
 ghost use Rattle.std.specs.Prelude.{◌≡◌, List, ℕ, OnOk, false, IfErr};
-ghost use Rattle.tally_base.specs.Faults.{is_outside};
-ghost use Rattle.ptu_definitions.specs.Streams.{streamed};
-ghost use Rattle.record_stream.{specs.Standing.{how_of, HasStreamed}, specs.Pieces.{TakesOn, StaysOpen}};
+ghost use Rattle.{tally_base.specs.Faults.is_outside, ptu_definitions.specs.Streams.streamed, record_stream.specs.{Standing.{how_of, HasStreamed}, Pieces.{TakesOn, StaysOpen}}};
 ghost use Rattle.file_work.specs.EventLines.{ListsNone, IsOpenIn, ListsPiece};
 
 use abs_time::{moved_floor, orders_markers};

@@ -1,6 +1,9 @@
 -- Bytes that are put, and the counts that they make.
-use Rattle.std.{proofs.Common.{◌≡◌, ◌∙◌, ℕ, zero, suc, ◌+◌, ◌*◌, ◌/◌, ◌%◌, ◌<◌, ◌≤◌, List, [], ◌∷◌, ◌++◌, length, get_or, set, take, replicate, refl, ap, sym, zero-add, inl, inr, arith, ◌≢◌, slice_index, rules}, specs.Int.{w16, w64, byte_worth, sum_through, from_le_bytes, div_ceil}, proofs.lemmas.Bool.{cases_eq, cases_lt}, proofs.lemmas.List.{ext_get_or, get_or-set_same, get_or-set_other, get_or_past, get_or-replicate, get_or_append_left, get_or-append_right, length-set, length-replicate, take_all}, proofs.lemmas.List.FromFn.get_or-map-range_with_len, proofs.lemmas.Nat.{mod-mul-add, mul-le, row_fits}}
-use Rattle.flim_cube.specs.Bytes.{byte_in, count_in, counts_in, length_counts}
+use Rattle.std.proofs.Common.{◌≡◌, ◌∙◌, ℕ, zero, suc, ◌+◌, ◌*◌, ◌/◌, ◌%◌, ◌<◌, ◌≤◌, List, [], ◌∷◌, ◌++◌, length, get_or, set, take, replicate, refl, ap, sym}
+use Rattle.std.proofs.{Common.{zero-add, inl, inr, arith, ◌≢◌, slice_index, rules}, lemmas.{Bool.{cases_eq, cases_lt}, List.{ext_get_or, get_or-set_same}}}
+use Rattle.std.proofs.lemmas.List.{get_or-set_other, get_or_past, get_or-replicate, get_or_append_left, get_or-append_right, length-set, length-replicate}
+use Rattle.std.{proofs.lemmas.{List.{take_all, FromFn.get_or-map-range_with_len}, Nat.{mod-mul-add, mul-le, row_fits}}, specs.Int.{w16, w64, byte_worth}}
+use Rattle.{std.specs.Int.{sum_through, from_le_bytes, div_ceil}, flim_cube.specs.Bytes.{byte_in, count_in, counts_in, length_counts}}
 
 -- A byte that is put in a list of lists is there, and the others are as before.
 pub put_own : (bytes : List (List ℕ)) (entry : List ℕ) (place byte : ℕ) → place / 8 < length bytes
@@ -11,7 +14,8 @@ put_own bytes entry place byte inside eight = search (rules, arith, get_or-set_s
 one_place : (a b : ℕ) → a / 8 ≡ b / 8 → a % 8 ≡ b % 8 → a ≡ b
 one_place a b entries bytes = omega (arith, entries, bytes)
 
-pub put_other : (bytes : List (List ℕ)) (entry : List ℕ) (place byte other : ℕ) → place / 8 < length bytes → entry ≡ get_or bytes (place / 8) [] → other ≢ place → byte_in (set bytes (place / 8) (set entry (place % 8) byte)) other ≡ byte_in bytes other
+pub put_other : (bytes : List (List ℕ)) (entry : List ℕ) (place byte other : ℕ) → place / 8 < length bytes → entry ≡ get_or bytes (place / 8) []
+    → other ≢ place → byte_in (set bytes (place / 8) (set entry (place % 8) byte)) other ≡ byte_in bytes other
 unfolding byte_in
 put_other bytes entry place byte other inside is apart = search (rules, arith, cases_eq, one_place, get_or-set_same, get_or-set_other)
 

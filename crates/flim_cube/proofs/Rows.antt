@@ -1,8 +1,7 @@
 -- The definitions at known events.
-use Rattle.std.proofs.Common.{◌≡◌, ℕ, refl, false, [], ◌∷◌, None, Some}
-use Rattle.tally_base.{specs.declared.event.Event.Event, specs.declared.event.EventKind.TheVariants.{Photon, Marker}, specs.Settings.{CubeView}, specs.Tally.History}
-use Rattle.scan_image.specs.ImageCounts.{count_outside, in_all_cells}
-use Rattle.flim_cube.specs.CubeCounts.{in_cell, count_over, in_whole_cube}
+use Rattle.{std.proofs.Common.{◌≡◌, ℕ, refl, false, [], ◌∷◌, None, Some}, tally_base.specs.declared.event.{Event.Event, EventKind.TheVariants.{Photon, Marker}}}
+use Rattle.{tally_base.specs.{Settings.CubeView, Tally.History}, scan_image.specs.ImageCounts.{count_outside, in_all_cells}, flim_cube.specs.CubeCounts.in_cell}
+use Rattle.flim_cube.specs.CubeCounts.{count_over, in_whole_cube}
 
 -- A photon of the first group with this dtime, and a marker of all groups.
 abbrev photon : ℕ → ℕ → Event × ℕ

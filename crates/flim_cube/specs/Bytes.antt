@@ -1,5 +1,6 @@
 -- Counts whose bytes stand apart: first the lowest byte of each count, then the second byte of each, and so on.
-use Rattle.std.{specs.Prelude.{ℕ, ◌+◌, ◌*◌, ◌/◌, ◌%◌, List, [], map, length, ◌≡◌, slice_index_or}, specs.Int.{byte_worth, sum_through}, specs.List.range_with_len, proofs.lemmas.List.FromFn.length-map-range_with_len}
+use Rattle.std.specs.{Prelude.{ℕ, ◌+◌, ◌*◌, ◌/◌, ◌%◌, List, [], map, length, ◌≡◌, slice_index_or}, Int.{byte_worth, sum_through}, List.range_with_len}
+use Rattle.std.proofs.lemmas.List.FromFn.{length-map-range_with_len}
 
 -- the byte at a place, where each list has eight of them and they are numbered one after the other; after the last it is 0
 unfoldable pub byte_in : List (List ℕ) → ℕ → ℕ

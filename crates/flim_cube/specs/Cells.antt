@@ -1,6 +1,6 @@
 -- What cells stand for.
-use Rattle.std.{specs.Prelude.{ℕ, ◌+◌, ◌*◌, ◌≤◌, List, length}, proofs.Common.{arith}, proofs.lemmas.Nat.{mul-le}}
-use Rattle.flim_cube.{specs.declared.spread.Cells.Cells, specs.Bytes.{byte_in, counts_in, length_counts}}
+use Rattle.std.{specs.Prelude.{ℕ, ◌+◌, ◌*◌, ◌≤◌, List, length}, proofs.{Common.arith, lemmas.Nat.mul-le}}
+use Rattle.flim_cube.specs.{declared.spread.Cells.Cells, Bytes.{byte_in, counts_in, length_counts}}
 
 -- the count of each cell
 abbrev pub counts_of : Cells → List ℕ

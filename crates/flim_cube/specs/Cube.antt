@@ -1,8 +1,8 @@
 -- The counts of a cube, what it stands for, and what holds of every cube.
 use Rattle.std.{specs.Prelude.{◌≡◌, ℕ, ◌+◌, ◌*◌, ◌/◌, ◌<◌, List, is_none, slice_index, true, length, ◌≤◌, false, [], ◌∷◌, ◌++◌}, proofs.Common.{rules, ◌∙◌}}
-use Rattle.tally_base.{specs.Settings.{CubeView, PartSettings, image_view, cube_view, entries}, specs.declared.settings.CubeSet.CubeSet, specs.Settings.PartSettings.CubeSettings, specs.Tally.{History, greatest_time}, specs.declared.event.Event.Event, specs.Events.is_photon, proofs.Sorted.{same_length, same_greatest}}
-use Rattle.scan_image.{specs.Behind.{HowMany, IsBehind}, specs.Image.behind_marker}
-use Rattle.flim_cube.{specs.CubeCounts.{is_in_cell, is_over}, specs.declared.cube.FlimCube.FlimCube, specs.Cells.{counts_of, entries_of, few_entries}}
+use Rattle.tally_base.specs.{Settings.{CubeView, PartSettings, image_view, cube_view, entries, PartSettings.CubeSettings}, declared.{settings.CubeSet.CubeSet, event.Event.Event}, Tally.History}
+use Rattle.{tally_base.{specs.{Tally.greatest_time, Events.is_photon}, proofs.Sorted.{same_length, same_greatest}}, scan_image.specs.{Behind.{HowMany, IsBehind}, Image.behind_marker}}
+use Rattle.flim_cube.specs.{CubeCounts.{is_in_cell, is_over}, declared.cube.FlimCube.FlimCube, Cells.{counts_of, entries_of, few_entries}}
 
 -- Each of these cells says how many have their place and their bin there.
 pub record Counted (set : CubeView) (cells : List ℕ) (outside over : ℕ) (many : HowMany) : Type 0 where

@@ -1,7 +1,6 @@
 -- The counts of a cube over the events that it is given, and their sums.
-use Rattle.std.{specs.Prelude.{ℕ, Bool, false, ◌&&◌, ◌==◌, nat_le, ◌/◌, Option, None, Some, sum_by}, specs.List.range_with_len}
-use Rattle.tally_base.{specs.Settings.CubeView, specs.Tally.History}
-use Rattle.scan_image.specs.ImageCounts.{count_met, is_at}
+use Rattle.std.specs.{Prelude.{ℕ, Bool, false, ◌&&◌, ◌==◌, nat_le, ◌/◌, Option, None, Some, sum_by}, List.range_with_len}
+use Rattle.{tally_base.specs.{Settings.CubeView, Tally.History}, scan_image.specs.ImageCounts.{count_met, is_at}}
 
 -- the place is column x and row y, and the bin is this one
 abbrev pub is_in_cell : ℕ → ℕ → ℕ → Option (ℕ × ℕ) → ℕ → Bool

@@ -1,5 +1,5 @@
 // Cells that count in one byte each until one of them needs more.
-ghost use Rattle.std.{specs.Prelude.{◌≡◌, ◌≢◌, ℕ, ◌+◌, ◌*◌, ◌/◌, ◌%◌, ◌^◌, ◌<◌, ◌≤◌, length, slice_index, vec_capacity, IfOk, replicate, slice_set}, specs.Int.div_ceil};
+ghost use Rattle.std.specs.{Prelude.{◌≡◌, ◌≢◌, ℕ, ◌+◌, ◌*◌, ◌/◌, ◌%◌, ◌^◌, ◌<◌, ◌≤◌, length, slice_index, vec_capacity, IfOk, replicate, slice_set}, Int.div_ceil};
 ghost use Rattle.flim_cube.specs.Bytes.{byte_in};
 
 use std::alloc::{AllocError, Global};

@@ -1,6 +1,8 @@
 -- The photons of bins.
-use Rattle.std.{proofs.Common.{◌≡◌, ℕ, zero, suc, ◌+◌, ◌<◌, ◌≤◌, Bool, ◌&&◌, cond, ltb, leb, eqb, List, [], ◌∷◌, length, get_or, take, drop, filter, arith, rules}, specs.List.{sum_by, AllByRecursion}, proofs.lemmas.List.Filters.sum_by-filter_both, proofs.lemmas.List.Sums.{sum_by_more, sum_by-take-drop, sum_by-take-le, sum_by-le-sum_by}}
-use Rattle.lag_ring.{specs.declared.ring.Entry.Entry, specs.Ring.IsRising, proofs.Rising.all_weaker, proofs.Lists.{all_filter, all_passed}, proofs.Between.few_kept, proofs.Sums.{sum_by-zero, sum_by-filter, sum_by-same, sum_by-agree, part-le}}
+use Rattle.std.proofs.Common.{◌≡◌, ℕ, zero, suc, ◌+◌, ◌<◌, ◌≤◌, Bool, ◌&&◌, cond, ltb, leb, eqb, List, [], ◌∷◌, length, get_or, take, drop, filter, arith}
+use Rattle.std.proofs.{Common.rules, lemmas.List.{Filters.sum_by-filter_both, Sums.{sum_by_more, sum_by-take-drop, sum_by-take-le, sum_by-le-sum_by}}}
+use Rattle.{std.specs.List.{sum_by, AllByRecursion}, lag_ring.{specs.{declared.ring.Entry.Entry, Ring.IsRising}, proofs.{Rising.all_weaker, Lists.all_filter}}}
+use Rattle.lag_ring.proofs.{Lists.all_passed, Between.few_kept, Sums.{sum_by-zero, sum_by-filter, sum_by-same, sum_by-agree, part-le}}
 use Rattle.fold_count.specs.Folded.{photons_in, photons_of, photons_where}
 
 pub where_at_most : (test : ℕ → Bool) (bins : List Entry) → photons_where test bins ≤ photons_in bins
@@ -28,7 +30,8 @@ late_from (e ∷ bins) zero before d rising inside late = search (rules, arith, 
 late_from (e ∷ bins) (suc i) before d rising inside late = late_from bins i before d rising.1 (omega (arith, inside)) late
 
 -- the bins before one that isn't before a tick have all that is before it
-pub all_before : (f : Entry → ℕ) (before : ℕ) (bins : List Entry) (i : ℕ) (d : Entry) → ((e : Entry) → before ≤ e.index → f e ≡ 0) → IsRising bins → i < length bins → before ≤ (get_or bins i d).index → sum_by f (take i bins) ≡ sum_by f bins
+pub all_before : (f : Entry → ℕ) (before : ℕ) (bins : List Entry) (i : ℕ) (d : Entry) → ((e : Entry) → before ≤ e.index → f e ≡ 0) → IsRising bins
+    → i < length bins → before ≤ (get_or bins i d).index → sum_by f (take i bins) ≡ sum_by f bins
 all_before f before bins i d none rising inside late = search (rules, arith, sum_by-zero, late_from, sum_by-take-drop)
 
 -- those that are kept
@@ -45,6 +48,7 @@ pub photons_kept : (before : ℕ) (bins : List Entry)
 photons_kept before bins = omega (arith, sum_by-filter_both (λ (e : Entry). leb before e.index) (λ e. ltb e.index before) (λ e. search (rules, arith)) (λ e. e.a) bins, sum_by-filter (λ (e : Entry). ltb e.index before) (λ e. e.a) bins)
 
 -- there is room for one more
-pub room_left : (before index reach : ℕ) (bins : List Entry) → IsRising (filter (λ e. leb before e.index) bins) → AllByRecursion (λ e. e.index < index) bins → before ≤ index → index < before + reach → length (filter (λ e. leb before e.index) bins) < reach
+pub room_left : (before index reach : ℕ) (bins : List Entry) → IsRising (filter (λ e. leb before e.index) bins) → AllByRecursion (λ e. e.index < index) bins
+    → before ≤ index → index < before + reach → length (filter (λ e. leb before e.index) bins) < reach
 room_left before index reach bins rising above le near =
     omega (arith, le, near, few_kept (filter (λ e. leb before e.index) bins) before index rising (all_passed (λ e. leb before e.index) bins) (all_filter (λ e. e.index < index) (λ e. leb before e.index) bins above))

@@ -1,8 +1,10 @@
 -- Bins in which the groups of those after them were met too, and what is kept of them stays sound.
-use Rattle.std.{proofs.Common.{◌≡◌, ◌∙◌, ℕ, zero, suc, true, cond, ◌+◌, ◌^◌, ◌<◌, Bool, List, [], ◌∷◌, ◌++◌, filter, length, refl, sym, ap, arith, slice_get, Some, bit_or, slice_set, rules, ◌≤◌, leb}, specs.Int.Bits.or_zero_r, specs.List.AllByRecursion, proofs.lemmas.List.Folds.fold-map, proofs.lemmas.Nat.{or_lt, pow_pos}}
-use Rattle.tally_base.{specs.Settings.FoldView, specs.Limits.time_limit}
-use Rattle.lag_ring.{specs.declared.ring.Entry.Entry, specs.Ring.{Ring, ring as ring_of}, proofs.Rising.{all_push, all_weaker, all_at}, proofs.Lists.{all_back, all_map, all_filter, all_both, all_passed}}
-use Rattle.fold_count.{specs.Folded.{met_in, photons_in, photons_where, IsNested, IsSound, AreHeld, as_met}, proofs.Numbers.{or_assoc, or_again, or_within, or_both}}
+use Rattle.std.proofs.Common.{◌≡◌, ◌∙◌, ℕ, zero, suc, true, cond, ◌+◌, ◌^◌, ◌<◌, Bool, List, [], ◌∷◌, ◌++◌, filter, length, refl, sym, ap, arith, slice_get}
+use Rattle.std.{proofs.{Common.{Some, bit_or, slice_set, rules, ◌≤◌, leb}, lemmas.{List.Folds.fold-map, Nat.{or_lt, pow_pos}}}, specs.Int.Bits.or_zero_r}
+use Rattle.{std.specs.List.AllByRecursion, tally_base.specs.{Settings.FoldView, Limits.time_limit}, lag_ring.specs.{declared.ring.Entry.Entry, Ring.Ring}}
+use Rattle.lag_ring.{specs.Ring.ring as ring_of, proofs.{Rising.{all_push, all_weaker, all_at}, Lists.{all_back, all_map, all_filter, all_both, all_passed}}}
+use Rattle.fold_count.{specs.Folded.{met_in, photons_in, photons_where, IsNested, IsSound, AreHeld, as_met}, proofs.Numbers.{or_assoc, or_again, or_within}}
+use Rattle.fold_count.proofs.Numbers.{or_both}
 
 -- ## Bins with more groups
 
@@ -98,7 +100,8 @@ pub ring_is : (r : Ring) (es : List Entry) (n : ℕ) → r.entries ≡ es → r.
 ring_is r es n entries reach = λ i. record { entries = entries i; reach = reach i }
 
 -- those that are kept from a tick on are before one that is not after it only where the open one is
-pub kept_below : (ring : Ring) (bin : Entry) (before tick : ℕ) → AllByRecursion (λ e. e.index < bin.index) ring.entries → (before ≤ bin.index → bin.index < tick) → AllByRecursion (λ e. e.index < tick) (filter (λ e. leb before e.index) (as_met ring bin))
+pub kept_below : (ring : Ring) (bin : Entry) (before tick : ℕ) → AllByRecursion (λ e. e.index < bin.index) ring.entries
+    → (before ≤ bin.index → bin.index < tick) → AllByRecursion (λ e. e.index < tick) (filter (λ e. leb before e.index) (as_met ring bin))
 kept_below ring bin before tick above lt =
     let upto = all_push (λ e. e.index ≤ bin.index) (met_in bin.b ring.entries) bin (all_map (λ e. e.index ≤ bin.index) (join bin.b) ring.entries (all_weaker (λ e. e.index < bin.index) (λ e. e.index ≤ bin.index) (λ e lt. omega (arith, lt)) ring.entries above)) (omega arith) in
     search (rules, arith, all_both, all_passed, all_filter)

@@ -1,6 +1,7 @@
 -- Sets as numbers, and sets taken together.
-use Rattle.fold_count.specs.FoldCounts.{number_of}
-use Rattle.std.{proofs.Common.{◌≡◌, ℕ, suc, ◌+◌, ◌*◌, ◌^◌, ◌<◌, Bool, false, cond, ltb, List, [], ◌∷◌, length, get_or, take, refl, arith, rules, ◌∙◌, ◌/◌, ◌||◌, sym, ap, bit_or, ◌++◌}, specs.List.{list_any, AllByRecursion}, proofs.lemmas.Grind.pow_more, specs.Int.Bits.{or_step, or_self}, proofs.Math.Arith.bin_ind, proofs.lemmas.Nat.{or_shr, or_comm}, proofs.lemmas.List.Folds.list_any-append, proofs.lemmas.Grind.common_steps}
+use Rattle.{fold_count.specs.FoldCounts.number_of, std.proofs.Common.{◌≡◌, ℕ, suc, ◌+◌, ◌*◌, ◌^◌, ◌<◌, Bool, false, cond, ltb, List, [], ◌∷◌, length, get_or}}
+use Rattle.std.proofs.{Common.{take, refl, arith, rules, ◌∙◌, ◌/◌, ◌||◌, sym, ap, bit_or, ◌++◌}, lemmas.{Grind.{pow_more, common_steps}, Nat.{or_shr, or_comm}}}
+use Rattle.std.{proofs.{lemmas.List.Folds.list_any-append, Math.Arith.bin_ind}, specs.{List.{list_any, AllByRecursion}, Int.Bits.{or_step, or_self}}}
 
 pow_suc : (i : ℕ) → 2 ^ suc i ≡ 2 * 2 ^ i
 pow_suc i = grind arith

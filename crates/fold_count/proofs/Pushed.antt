@@ -1,8 +1,11 @@
 -- One event more.
-use Rattle.std.{proofs.Common.{◌≡◌, ◌∙◌, ℕ, ◌+◌, ◌-◌, ◌<◌, ◌≤◌, Bool, true, false, ◌&&◌, ◌||◌, cond, ltb, leb, eqb, List, [], ◌∷◌, ◌++◌, get_or, refl, sym, ap, arith, slice_index, bit_or, rules, append-nil}, specs.List.{list_any, AllByRecursion}, proofs.lemmas.Bool.cases_lt, proofs.lemmas.List.Sums.{sum_by_push}, proofs.lemmas.List.Elements.filter-append}
-use Rattle.tally_base.{specs.declared.event.Event.Event, specs.Events.{is_photon, is_in}, specs.Settings.FoldView, specs.Tally.History, proofs.Sums.count_same}
-use Rattle.lag_ring.{specs.declared.ring.Entry.Entry, proofs.Rising.{all_push}, proofs.Lists.all_front, specs.Ring.Ring}
-use Rattle.fold_count.{specs.FoldCounts.{is_of_any, is_seen, number_of, seen_set}, specs.Folded.{is_from, met_from, met_in, photons, Parted, Stands, Counts}, proofs.Numbers.{number_agree, number_none, number_or, any_push}, proofs.Nested.{where_met_in, met_behind, last_of}}
+use Rattle.std.proofs.Common.{◌≡◌, ◌∙◌, ℕ, ◌+◌, ◌-◌, ◌<◌, ◌≤◌, Bool, true, false, ◌&&◌, ◌||◌, cond, ltb, leb, eqb, List, [], ◌∷◌, ◌++◌, get_or, refl, sym, ap}
+use Rattle.std.proofs.{Common.{arith, slice_index, bit_or, rules, append-nil}, lemmas.{Bool.cases_lt, List.{Sums.sum_by_push, Elements.filter-append}}}
+use Rattle.{std.specs.List.{list_any, AllByRecursion}, tally_base.specs.{declared.event.Event.Event, Events.{is_photon, is_in}, Settings.FoldView}}
+use Rattle.{tally_base.{specs.Tally.History, proofs.Sums.count_same}, lag_ring.{specs.{declared.ring.Entry.Entry, Ring.Ring}, proofs.Rising.all_push}}
+use Rattle.{lag_ring.proofs.Lists.all_front, fold_count.specs.{FoldCounts.{is_of_any, is_seen, number_of, seen_set}, Folded.{is_from, met_from, met_in}}}
+use Rattle.fold_count.{specs.Folded.{photons, Parted, Stands, Counts}, proofs.{Numbers.{number_agree, number_none, number_or, any_push}, Nested.where_met_in}}
+use Rattle.fold_count.proofs.Nested.{met_behind, last_of}
 
 -- an event that is of none of the groups brings no photon
 pub photons_same : (set : FoldView) (h : History) (x : Event × ℕ) → is_of_any set.groups x ≡ false → photons set (h ++ x ∷ []) ≡ photons set h

@@ -1,7 +1,6 @@
 -- The definitions at known photons.
-use Rattle.std.proofs.Common.{◌≡◌, ℕ, refl, [], ◌∷◌}
-use Rattle.tally_base.{specs.declared.event.Event.Event, specs.declared.event.EventKind.TheVariants.{Photon, Marker}, specs.Settings.FoldView, specs.Tally.History}
-use Rattle.fold_count.specs.FoldCounts.{in_set, in_all_sets}
+use Rattle.{std.proofs.Common.{◌≡◌, ℕ, refl, [], ◌∷◌}, tally_base.specs.declared.event.{Event.Event, EventKind.TheVariants.{Photon, Marker}}}
+use Rattle.{tally_base.specs.{Settings.FoldView, Tally.History}, fold_count.specs.FoldCounts.{in_set, in_all_sets}}
 
 -- A photon in these groups, and a marker of all groups.
 abbrev photon : ℕ → ℕ → Event × ℕ

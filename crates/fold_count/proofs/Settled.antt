@@ -1,8 +1,10 @@
 -- The bins before a tick are counted.
-use Rattle.std.{proofs.Common.{◌≡◌, ◌∙◌, ℕ, ◌+◌, ◌-◌, ◌^◌, ◌<◌, ◌≤◌, Bool, true, ◌&&◌, cond, ltb, leb, eqb, List, [], ◌∷◌, ◌++◌, filter, length, get_or, sym, arith, slice_index, rules}, specs.List.{list_any, count_by, AllByRecursion}, proofs.lemmas.Bool.cases_lt, proofs.lemmas.List.Sums.sum_by_push}
-use Rattle.tally_base.{specs.Settings.FoldView, specs.Tally.History, proofs.Sums.{count_same, count_parts}}
-use Rattle.lag_ring.{specs.declared.ring.Entry.Entry, proofs.Rising.{all_push, all_weaker}, proofs.Lists.all_filter, proofs.Sums.sum_by-agree}
-use Rattle.fold_count.{specs.FoldCounts.{is_seen, seen_set}, specs.Folded.{photons_of, is_from, met_from, Parted, AreCounts}, proofs.Numbers.{number_agree, number_none, any_agree, any_none}, proofs.Bins.{where_kept, of_known}}
+use Rattle.std.proofs.Common.{◌≡◌, ◌∙◌, ℕ, ◌+◌, ◌-◌, ◌^◌, ◌<◌, ◌≤◌, Bool, true, ◌&&◌, cond, ltb, leb, eqb, List, [], ◌∷◌, ◌++◌, filter, length, get_or, sym}
+use Rattle.std.{proofs.{Common.{arith, slice_index, rules}, lemmas.{Bool.cases_lt, List.Sums.sum_by_push}}, specs.List.{list_any, count_by, AllByRecursion}}
+use Rattle.{tally_base.{specs.{Settings.FoldView, Tally.History}, proofs.Sums.{count_same, count_parts}}, lag_ring.specs.declared.ring.Entry.Entry}
+use Rattle.{lag_ring.proofs.{Rising.{all_push, all_weaker}, Lists.all_filter, Sums.sum_by-agree}, fold_count.specs.FoldCounts.{is_seen, seen_set}}
+use Rattle.fold_count.{specs.Folded.{photons_of, is_from, met_from, Parted, AreCounts}, proofs.Numbers.{number_agree, number_none, any_agree, any_none}}
+use Rattle.fold_count.proofs.Bins.{where_kept, of_known}
 
 within : (of from to : Bool) → to ≡ true → (of && (from && to)) ≡ (of && from)
 within of from to is = search (rules, arith)

@@ -1,8 +1,10 @@
 -- The cells of a fold add up, and the first of them is 0.
-use Rattle.std.{proofs.Common.{rules}, proofs.Common.{◌≡◌, ◌∙◌, ℕ, ◌+◌, ◌^◌, ◌<◌, Bool, true, false, ◌&&◌, cond, eqb, leb, List, [], ◌∷◌, ◌++◌, length, refl, sym, ap, get_or, arith, append_assoc}, specs.List.{list_any, count_by, AllByRecursion}, proofs.lemmas.List.Folds.{list_any-append, list_any_at}, proofs.lemmas.Map.Views.any-filter_same}
-use Rattle.tally_base.{proofs.Sums.{sum_none, count_none, parts}, specs.declared.event.Event.Event, specs.Events.{is_photon, is_in}, specs.Settings.FoldView, specs.Tally.History}
-use Rattle.lag_ring.proofs.Sums.{sum_by-agree, sum_by-filter, sum_by-same}
-use Rattle.fold_count.{specs.FoldCounts.{is_of, is_of_any, is_seen, number_of, seen_set, in_set, in_all_sets}, specs.Folded.photons, proofs.Numbers.{number_below, number_agree, any_in}}
+use Rattle.std.proofs.Common.{rules, ◌≡◌, ◌∙◌, ℕ, ◌+◌, ◌^◌, ◌<◌, Bool, true, false, ◌&&◌, cond, eqb, leb, List, [], ◌∷◌, ◌++◌, length, refl, sym, ap, get_or}
+use Rattle.std.{proofs.{Common.{arith, append_assoc}, lemmas.{List.Folds.{list_any-append, list_any_at}, Map.Views.any-filter_same}}, specs.List.list_any}
+use Rattle.{std.specs.List.{count_by, AllByRecursion}, tally_base.{proofs.Sums.{sum_none, count_none, parts}, specs.declared.event.Event.Event}}
+use Rattle.{tally_base.specs.{Events.{is_photon, is_in}, Settings.FoldView, Tally.History}, lag_ring.proofs.Sums.{sum_by-agree, sum_by-filter, sum_by-same}}
+use Rattle.fold_count.{specs.{FoldCounts.{is_of, is_of_any, is_seen, number_of, seen_set, in_set, in_all_sets}, Folded.photons}, proofs.Numbers.number_below}
+use Rattle.fold_count.proofs.Numbers.{number_agree, any_in}
 
 -- a photon of a group is one of at least one of them
 of_any : (groups : List ℕ) (x : Event × ℕ) (k : ℕ) → k < length groups → is_of (get_or groups k 0) x ≡ true → is_of_any groups x ≡ true

@@ -1,7 +1,7 @@
 -- What a fold stands for, and what holds of every fold.
 use Rattle.std.{specs.Prelude.{◌≡◌, ℕ, ◌+◌, false, List, length, ◌≤◌, [], ◌∷◌, ◌++◌}, proofs.Common.{arith, ◌∙◌, refl, subst}}
-use Rattle.tally_base.{specs.declared.settings.FoldSet.FoldSet, specs.Settings.{PartSettings, fold_view, entries}, specs.Settings.PartSettings.FoldSettings, specs.Tally.{History, greatest_time}, specs.declared.event.Event.Event, specs.Events.is_photon, proofs.Sorted.{same_length, same_greatest, same_filter}}
-use Rattle.fold_count.{specs.declared.fold.Fold.Fold, specs.Folded.{Counts, photons}, specs.FoldCounts.is_of_any}
+use Rattle.tally_base.specs.{declared.{settings.FoldSet.FoldSet, event.Event.Event}, Settings.{PartSettings, fold_view, entries, PartSettings.FoldSettings}, Tally.{History, greatest_time}}
+use Rattle.{tally_base.{specs.Events.is_photon, proofs.Sorted.{same_length, same_greatest, same_filter}}, fold_count.specs.{declared.fold.Fold.Fold, Folded.{Counts, photons}, FoldCounts.is_of_any}}
 
 -- what it was opened with
 abbrev pub set_of : Fold → FoldSet

@@ -1,6 +1,6 @@
 -- The sets of groups that have a photon in the window that begins at a photon.
-use Rattle.std.{specs.Prelude.{ℕ, ◌+◌, ◌*◌, Bool, ◌&&◌, ◌==◌, nat_le, List, [], ◌∷◌, count_by, if◌then◌else◌, ◌^◌, sum_by, length}, specs.List.{list_any, range_with_len}}
-use Rattle.tally_base.{specs.declared.event.Event.Event, specs.Events.{is_photon, is_in}, specs.Settings.FoldView, specs.Tally.History}
+use Rattle.std.specs.{Prelude.{ℕ, ◌+◌, ◌*◌, Bool, ◌&&◌, ◌==◌, nat_le, List, [], ◌∷◌, count_by, if◌then◌else◌, ◌^◌, sum_by, length}, List.{list_any, range_with_len}}
+use Rattle.tally_base.specs.{declared.event.Event.Event, Events.{is_photon, is_in}, Settings.FoldView, Tally.History}
 
 -- a photon of the group
 abbrev pub is_of : ℕ → Event × ℕ → Bool

@@ -1,8 +1,8 @@
 -- What the numbers that a fold keeps stand for.
-use Rattle.std.{specs.Prelude.{◌≡◌, ℕ, ◌+◌, ◌-◌, ◌^◌, ◌<◌, ◌≤◌, ⊤, Bool, true, false, IsTrue, ◌&&◌, ◌==◌, nat_le, nat_lt, List, [], ◌∷◌, ◌++◌, length, map, slice_index, count_by, filter, sum_by, bit_or, if◌then◌else◌}, specs.Coded.Unit-prop, specs.List.{list_any, AllByRecursion}, proofs.Props.props}
-use Rattle.tally_base.{specs.declared.event.Event.Event, specs.Events.{is_photon, is_in}, specs.Settings.FoldView, specs.Tally.{History, InOrder}, specs.Limits.time_limit, specs.declared.block.Block.Block, specs.Columns.{gathered, IsSorted}}
-use Rattle.lag_ring.{specs.declared.ring.Entry.Entry, specs.Ring.{Ring, weight_where}}
-use Rattle.fold_count.specs.FoldCounts.{is_of, is_of_any, number_of, seen_set}
+use Rattle.std.specs.Prelude.{◌≡◌, ℕ, ◌+◌, ◌-◌, ◌^◌, ◌<◌, ◌≤◌, ⊤, Bool, true, false, IsTrue, ◌&&◌, ◌==◌, nat_le, nat_lt, List, [], ◌∷◌, ◌++◌, length, map, slice_index, count_by, filter, sum, sum_by}
+use Rattle.std.{specs.{Prelude.{bit_or, if◌then◌else◌}, Coded.Unit-prop, List.{list_any, AllByRecursion}}, proofs.Props.props}
+use Rattle.tally_base.specs.{declared.{event.Event.Event, block.Block.Block}, Events.{is_photon, is_in}, Settings.FoldView, Tally.{History, InOrder}, Limits.{record_limit, time_limit}}
+use Rattle.{tally_base.specs.Columns.{gathered, IsSorted}, lag_ring.specs.{declared.ring.Entry.Entry, Ring.{Ring, weight_where}}, fold_count.specs.FoldCounts.{is_of, is_of_any, number_of, seen_set}}
 
 -- the bins that wait to be counted, the open one last
 abbrev pub waiting : Ring → Entry → List Entry
@@ -91,11 +91,20 @@ abbrev pub Counts : Bool → FoldView → List ℕ → Ring → Entry → Histor
 Counts false set cells ring bin h = Parted set cells (as_met ring bin) bin.index h
 Counts true set cells ring bin h = AreCounts set cells h
 
--- Where cells and bins stand for any events, others stand for these and a photon at a time in which this set of the groups was met.
-abbrev pub PutsPhoton : FoldView → List ℕ → List ℕ → Ring → Ring → Entry → Entry → ℕ → ℕ → Type 0
-PutsPhoton set cells cells' ring ring' bin bin' time met =
-    (h : History) (x : Event × ℕ) → is_of_any set.groups x ≡ true → x.0.time ≡ time → number_of (λ group. is_in x.1 group) set.groups ≡ met
-    → Stands set cells ring bin h → Stands set cells' ring' bin' (h ++ x ∷ [])
+-- what is kept is sound, and has room for so many photons more
+pub record CanTake (set : FoldView) (cells : List ℕ) (ring : Ring) (bin : Entry) (more : ℕ) : Type 0 where
+  pub sound : IsSound set cells ring bin
+  pub room : sum cells + photons_in (waiting ring bin) + more ≤ record_limit
+
+-- what is kept then is sound, and has so many photons more at most
+pub record Took (set : FoldView) (cells cells' : List ℕ) (ring ring' : Ring) (bin bin' : Entry) (most : ℕ) : Type 0 where
+  pub sound : IsSound set cells' ring' bin'
+  pub few : sum cells' + photons_in (waiting ring' bin') ≤ sum cells + photons_in (waiting ring bin) + most
+
+-- it is sound, and has as many photons
+pub record Settled (set : FoldView) (cells cells' : List ℕ) (ring ring' : Ring) (bin bin' : Entry) : Type 0 where
+  pub sound : IsSound set cells' ring' bin'
+  pub same : sum cells' + photons_in (waiting ring' bin') ≡ sum cells + photons_in (waiting ring bin)
 
 -- its time is in range, and that of a photon is not before the open bin
 abbrev pub IsInTime : Entry → Event → Type 0
@@ -112,12 +121,6 @@ pub record AreHeld (cells : List ℕ) (ring : Ring) (bin : Entry) : Type 0 where
 pub record GainsBefore (cells cells' : List ℕ) (before : ℕ) (bins : List Entry) : Type 0 where
   pub each : (s : ℕ) → s < length cells → slice_index cells' s ≡ slice_index cells s + photons_of before s bins
   pub same : length cells' ≡ length cells
-
--- A photon at this time, in which this set of the groups was met, can be put after an open bin.
-pub record CanPut (set : FoldView) (bin : Entry) (time met : ℕ) : Type 0 where
-  pub after : bin.index ≤ time
-  pub in_time : time ≤ time_limit
-  pub inside : met < 2 ^ length set.groups
 
 -- The events of a block, whose groups are known, come in order and none before the open bin.
 pub record ComesAfter (bin : Entry) {N : ℕ} (block : Block N) : Type 0 where

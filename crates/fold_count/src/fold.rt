@@ -1,7 +1,6 @@
 // A fold: the sets of groups that have a photon in a window.
 ghost use Rattle.std.specs.Prelude.{◌≡◌, ◌+◌, ◌≤◌, false, sum, ◌<◌, ◌^◌, length, slice_index, true, IfOk, []};
-ghost use Rattle.tally_base.{specs.Settings.fold_view, specs.Tally.History, specs.Limits.record_limit, specs.Settings.PartSettings.FoldSettings};
-ghost use Rattle.fold_count.specs.Folded.{IsSound, IsSound-prop, waiting, photons_in};
+ghost use Rattle.{tally_base.specs.{Settings.{fold_view, PartSettings.FoldSettings}, Tally.History, Limits.record_limit}, fold_count.specs.Folded.{IsSound, IsSound-prop, waiting, photons_in}};
 
 use crate::taking::{count_all, put_block};
 use lag_ring::{Entry, LagRing};

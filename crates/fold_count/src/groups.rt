@@ -1,7 +1,6 @@
 // The groups of a fold that a photon is in, as a set.
 ghost use Rattle.std.specs.Prelude.{◌≡◌, ◌^◌, ◌<◌, ◌≤◌, length, if◌then◌else◌};
-ghost use Rattle.tally_base.specs.Events.{is_in};
-ghost use Rattle.fold_count.{specs.FoldCounts.number_of, specs.Folded.AreNumbers};
+ghost use Rattle.{tally_base.specs.Events.is_in, fold_count.specs.{FoldCounts.number_of, Folded.AreNumbers}};
 
 use tally_base::is_in;
 

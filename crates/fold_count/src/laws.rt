@@ -1,7 +1,6 @@
 // Laws of the definitions, each as the contract of a function that does nothing.
 ghost use Rattle.std.specs.Prelude.{◌≡◌, count_by};
-ghost use Rattle.tally_base.{specs.Settings.FoldView, specs.Tally.History};
-ghost use Rattle.fold_count.specs.FoldCounts.{is_of_any, in_set, in_all_sets};
+ghost use Rattle.{tally_base.specs.{Settings.FoldView, Tally.History}, fold_count.specs.FoldCounts.{is_of_any, in_set, in_all_sets}};
 
 /// Each photon of at least one of the groups is in one cell.
 #[tactic(auto, using(crate::proofs::Totals::add_up))]

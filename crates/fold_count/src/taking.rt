@@ -1,7 +1,7 @@
 // The events that a fold is given.
-ghost use Rattle.std.specs.Prelude.{◌≡◌, ◌+◌, ◌<◌, ◌≤◌, ◌++◌, ◌∷◌, [], ℕ, false, ◌^◌, IsTrue, length, sum, if◌then◌else◌};
-ghost use Rattle.tally_base.{specs.Events.is_photon, specs.Settings.fold_view, specs.Tally.{History, floor_after, InOrder}, specs.Limits.{record_limit, time_limit}, specs.Columns.{gathered, events_in, IsSorted}};
-ghost use Rattle.fold_count.specs.Folded.{IsSound, IsInTime, Stands, PutsPhoton, CanPut, ComesAfter, AreCounts, photons, waiting, photons_in};
+ghost use Rattle.std.specs.Prelude.{◌≡◌, ◌+◌, ◌<◌, ◌≤◌, ◌++◌, ◌∷◌, [], ℕ, false, ◌^◌, length, sum, if◌then◌else◌};
+ghost use Rattle.{tally_base.specs.{Events.is_photon, Settings.fold_view, Tally.{History, floor_after}, Limits.time_limit, Columns.{gathered, events_in}}, fold_count.specs.Folded.{IsSound, IsInTime}};
+ghost use Rattle.fold_count.specs.Folded.{Stands, ComesAfter, AreCounts, CanTake, Took, Settled, photons, waiting, photons_in};
 
 use crate::groups::set_in;
 use crate::waiting::settle;
@@ -12,12 +12,9 @@ use tally_base::{Block, Event, FoldSet, TABLE_BLOCK};
 /// are further back than the window are counted.
 #[inline(always)]
 fn open_at(cells: &mut [u64], ring: &mut LagRing, bin: Entry, set: &FoldSet, time: u64) -> Entry
-    requires sound { IsSound (fold_view set.now) cells.old ring.old bin }
-    requires room { sum cells.old + photons_in (waiting ring.old bin) ≤ record_limit }
+    requires ready { CanTake (fold_view set.now) cells.old ring.old bin 0 }
     requires after { (bin.index ≤ time) × (time ≤ time_limit) }
-    ensures sound { IsSound (fold_view set.now) cells.new ring.new result }
-    ensures sum { sum cells.new + photons_in (waiting ring.new result)
-        ≡ sum cells.old + photons_in (waiting ring.old bin) }
+    ensures settled { Settled (fold_view set.now) cells.old cells.new ring.old ring.new bin result }
     ensures time { result.index ≡ time }
     ensures follows { (h : History) → Stands (fold_view set.now) cells.old ring.old bin h
         → Stands (fold_view set.now) cells.new ring.new result h }
@@ -30,36 +27,6 @@ fn open_at(cells: &mut [u64], ring: &mut LagRing, bin: Entry, set: &FoldSet, tim
     Entry::at(time)
 }
 
-/// Puts a photon of this set of the groups, which is not that of none, into the bin of its time, which is not
-/// before the open one, and answers the bin that is open then.
-#[inline(always)]
-#[tactic(auto, using(lag_ring::proofs::Rising::all_push, lag_ring::proofs::Lists::all_front, std::proofs::lemmas::Nat::or_lt, crate::proofs::Nested::last_of))]
-fn put(
-    cells: &mut [u64],
-    ring: &mut LagRing,
-    bin: Entry,
-    set: &FoldSet,
-    time: u64,
-    met: u64,
-) -> Entry
-    requires sound { IsSound (fold_view set.now) cells.old ring.old bin }
-    requires room { sum cells.old + photons_in (waiting ring.old bin) < record_limit }
-    requires can { CanPut (fold_view set.now) bin time met }
-    ensures sound { IsSound (fold_view set.now) cells.new ring.new result }
-    ensures sum { sum cells.new + photons_in (waiting ring.new result)
-        ≡ sum cells.old + photons_in (waiting ring.old bin) + 1 }
-    ensures time { result.index ≡ time }
-    ensures follows { PutsPhoton (fold_view set.now) cells.old cells.new ring.old ring.new
-        bin result time met }
-{
-    let here = open_at(cells, ring, bin, set, time);
-    Entry {
-        index: here.index,
-        a: here.a + 1,
-        b: here.b | met,
-    }
-}
-
 /// Puts an event where it is a photon of at least one of the groups, and answers the bin that is open then.
 #[inline(always)]
 pub(crate) fn put_event(
@@ -70,12 +37,9 @@ pub(crate) fn put_event(
     e: &Event,
     groups: u64,
 ) -> Entry
-    requires sound { IsSound (fold_view set.now) cells.old ring.old bin }
-    requires room { sum cells.old + photons_in (waiting ring.old bin) < record_limit }
+    requires ready { CanTake (fold_view set.now) cells.old ring.old bin 1 }
     requires in_time { IsInTime bin e.now }
-    ensures sound { IsSound (fold_view set.now) cells.new ring.new result }
-    ensures few { sum cells.new + photons_in (waiting ring.new result)
-        ≤ sum cells.old + photons_in (waiting ring.old bin) + 1 }
+    ensures took { Took (fold_view set.now) cells.old cells.new ring.old ring.new bin result 1 }
     ensures begun { (floor : ℕ) → bin.index ≤ floor
         → result.index ≤ (if is_photon e.now then e.now.time else floor) }
     ensures follows { (h : History) → Stands (fold_view set.now) cells.old ring.old bin h
@@ -85,7 +49,12 @@ pub(crate) fn put_event(
     if e.is_photon() {
         let met = set_in(&set.groups, groups);
         if met != 0 {
-            return put(cells, ring, bin, set, e.time, met);
+            let here = open_at(cells, ring, bin, set, e.time);
+            return Entry {
+                index: here.index,
+                a: here.a + 1,
+                b: here.b | met,
+            };
         }
     }
     bin
@@ -99,13 +68,9 @@ pub(crate) fn put_block(
     set: &FoldSet,
     block: &Block<TABLE_BLOCK>,
 ) -> Entry
-    requires sound { IsSound (fold_view set.now) cells.old ring.old bin }
-    requires room { sum cells.old + photons_in (waiting ring.old bin)
-        + length (gathered block.now) ≤ record_limit }
+    requires ready { CanTake (fold_view set.now) cells.old ring.old bin (length (gathered block.now)) }
     requires comes { ComesAfter bin block.now }
-    ensures sound { IsSound (fold_view set.now) cells.new ring.new result }
-    ensures few { sum cells.new + photons_in (waiting ring.new result)
-        ≤ sum cells.old + photons_in (waiting ring.old bin) + length (gathered block.now) }
+    ensures took { Took (fold_view set.now) cells.old cells.new ring.old ring.new bin result (length (gathered block.now)) }
     ensures begun { result.index ≤ floor_after false bin.index (gathered block.now) }
     ensures follows { (h : History) → Stands (fold_view set.now) cells.old ring.old bin h
         → Stands (fold_view set.now) cells.new ring.new result
@@ -123,9 +88,7 @@ pub(crate) fn put_block(
 pub(crate) fn count_all(cells: &mut [u64], ring: &mut LagRing, bin: Entry, set: &FoldSet) -> Entry
     requires sound { IsSound (fold_view set.now) cells.old ring.old bin }
     requires room { sum cells.old + photons_in (waiting ring.old bin) < 2 ^ 64 }
-    ensures sound { IsSound (fold_view set.now) cells.new ring.new result }
-    ensures sum { sum cells.new + photons_in (waiting ring.new result)
-        ≡ sum cells.old + photons_in (waiting ring.old bin) }
+    ensures settled { Settled (fold_view set.now) cells.old cells.new ring.old ring.new bin result }
     ensures time { result.index ≡ bin.index }
     ensures follows { (h : History) → Stands (fold_view set.now) cells.old ring.old bin h
         → AreCounts (fold_view set.now) cells.new (photons (fold_view set.now) h) }

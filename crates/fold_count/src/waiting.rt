@@ -1,7 +1,6 @@
 // The bins of a fold that wait for their window to end.
-ghost use Rattle.std.{specs.Prelude.{◌≡◌, ◌+◌, ◌^◌, ◌<◌, ◌≤◌, ◌==◌, ℕ, filter, length, slice_index, sum, nat_lt, nat_le, if◌then◌else◌}, specs.List.{AllByRecursion}};
-ghost use Rattle.lag_ring.{specs.Ring.IsRising, specs.Ring.ring as ring_of};
-ghost use Rattle.fold_count.specs.Folded.{waiting, met_in, as_met, AreHeld, GainsBefore, IsNested, photons_in, photons_of, photons_where};
+ghost use Rattle.std.specs.{Prelude.{◌≡◌, ◌+◌, ◌^◌, ◌<◌, ◌≤◌, ◌==◌, ℕ, filter, length, slice_index, sum, nat_lt, nat_le, if◌then◌else◌}, List.AllByRecursion};
+ghost use Rattle.{lag_ring.specs.Ring.{IsRising, ring as ring_of}, fold_count.specs.Folded.{waiting, met_in, as_met, AreHeld, GainsBefore, IsNested, photons_in, photons_where}};
 
 use lag_ring::{Entry, LagRing};
 
@@ -46,11 +45,8 @@ fn count_front(cells: &mut [u64], bins: &[Entry], before: u64)
     requires inside { AllByRecursion (λ e. e.b < length cells.old) bins.now }
     requires rising { IsRising bins.now }
     requires room { sum cells.old + photons_in bins.now < 2 ^ 64 }
-    ensures cells { (s : ℕ) → s < length cells.old → slice_index cells.new s ≡ slice_index cells.old s
-        + photons_of before s bins.now }
-    ensures sum { sum cells.new
-        ≡ sum cells.old + photons_where (λ tick. nat_lt tick before) bins.now }
-    ensures same { length cells.new ≡ length cells.old }
+    ensures cells { GainsBefore cells.old cells.new before bins.now }
+    ensures sum { sum cells.new ≡ sum cells.old + photons_where (λ tick. nat_lt tick before) bins.now }
 {
     for bin in bins {
         if bin.index >= before {
@@ -66,11 +62,8 @@ fn count_front(cells: &mut [u64], bins: &[Entry], before: u64)
 fn count_closed(cells: &mut [u64], ring: &LagRing, before: u64)
     requires inside { AllByRecursion (λ e. e.b < length cells.old) ring.now.entries }
     requires room { sum cells.old + photons_in ring.now.entries < 2 ^ 64 }
-    ensures cells { (s : ℕ) → s < length cells.old → slice_index cells.new s ≡ slice_index cells.old s
-        + photons_of before s ring.now.entries }
-    ensures sum { sum cells.new
-        ≡ sum cells.old + photons_where (λ tick. nat_lt tick before) ring.now.entries }
-    ensures same { length cells.new ≡ length cells.old }
+    ensures cells { GainsBefore cells.old cells.new before ring.now.entries }
+    ensures sum { sum cells.new ≡ sum cells.old + photons_where (λ tick. nat_lt tick before) ring.now.entries }
 {
     let (front, back) = ring.slices();
     count_front(cells, front, before);

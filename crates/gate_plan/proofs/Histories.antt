@@ -1,8 +1,11 @@
 -- The list that tables count over, of more events, of none, and at the end.
-use Rattle.std.{proofs.Common.{◌≡◌, ℕ, List, [], ◌∷◌, ◌++◌, Bool, refl, sym, ap, ◌∙◌, map, if◌then◌else◌, ◌-◌, ◌==◌, arith, rules, ◌+◌, ◌<◌, zero, suc, length, get_or, set, ◌⊎◌, ◌≢◌, ◌≤◌}, proofs.lemmas.List.{map-append, get_or-set_same}, proofs.lemmas.List.Elements.filter-append, proofs.Math.Seq.take-nil, proofs.lemmas.Grind.common_steps}
-use Rattle.tally_base.{specs.declared.event.Event.Event, specs.declared.header.Mode.Mode, specs.Settings.GroupView, specs.Columns.rows, specs.declared.event.EventKind.EventKind, specs.Events.is_photon_kind, specs.Tally.{moves_floor, floor_after, InOrder}}
-use Rattle.ptu_definitions.{specs.Kept.{Marked, kept, marked}, specs.Settled.{not_marked, delivered, delivered_last, in_time, not_overtaken, ordered}, specs.Times.events, specs.Streams.{StreamSettings, last_in}, proofs.DeliveredLaws.{delivered-settled, delivered-kept}}
-use Rattle.gate_plan.{specs.Shifting.{Sorting, shifted, shifted_kind}, specs.Taking.groups_by, specs.Histories.{with_groups, history, settled_history, grouped}}
+use Rattle.std.proofs.Common.{◌≡◌, ℕ, List, [], ◌∷◌, ◌++◌, Bool, refl, sym, ap, ◌∙◌, map, if◌then◌else◌, ◌-◌, ◌==◌, arith, rules, ◌+◌, ◌<◌, zero, suc, length}
+use Rattle.std.proofs.{Common.{get_or, set, ◌⊎◌, ◌≢◌, ◌≤◌}, lemmas.{List.{map-append, get_or-set_same, Elements.filter-append}, Grind.common_steps}}
+use Rattle.{std.proofs.Math.Seq.take-nil, tally_base.specs.{declared.{event.{Event.Event, EventKind.EventKind}, header.Mode.Mode}, Settings.GroupView}}
+use Rattle.{tally_base.specs.{Columns.rows, Events.is_photon_kind, Tally.{moves_floor, floor_after, InOrder}}, ptu_definitions.specs.Kept.{Marked, kept}}
+use Rattle.ptu_definitions.specs.{Kept.marked, Settled.{not_marked, delivered, delivered_last, in_time, not_overtaken, ordered}, Times.events}
+use Rattle.ptu_definitions.{specs.Streams.{StreamSettings, last_in}, proofs.DeliveredLaws.{delivered-settled, delivered-kept}}
+use Rattle.gate_plan.specs.{Shifting.{Sorting, shifted, shifted_kind}, Taking.groups_by, Histories.{with_groups, history, settled_history, grouped}}
 
 pub with_groups-more : (by : Sorting) (es more : List Event) → with_groups by (es ++ more) ≡ with_groups by es ++ with_groups by more
 with_groups-more by es more = search (rules, arith, map-append)

@@ -1,7 +1,12 @@
 -- The groups without a gate and those with gates, apart, are all groups.
-use Rattle.tally_base.{specs.declared.event.Event.Event, specs.declared.event.EventKind.TheVariants.{Photon, Marker}, specs.declared.settings.Group.Group, specs.Settings.{GroupView, group_view}, specs.Codes.kind_of}
-use Rattle.gate_plan.{specs.Shifting.{Sorting, shifted_kind, shifted_dtime}, specs.Taking.{is_among, is_in_gates, takes_kind, groups_by, groups_in, one_if, bits_of}, specs.Parting.{is_open, passes, takes_gated, plain_bits, gated_bits, gates_of, gates_in, all_gates}, specs.declared.gated.Gated.Gated}
-use Rattle.std.{proofs.Common.{◌≡◌, sym, ◌∙◌, ℕ, zero, suc, ◌+◌, ◌*◌, ◌^◌, ◌<◌, ◌≤◌, Bool, true, false, ◌==◌, List, [], ◌∷◌, map, drop, length, get_or, set, arith, rules, not, nat_lt, min, ◌%◌, inl, inr, ◌++◌, ap, append_assoc, append-nil, length-append, ◌&&◌, refl}, proofs.lemmas.Grind.{common_steps, pow_more, flat_map-append}, specs.Int.bit_at, proofs.lemmas.Nat.Bits.{bit_at-zero, bit_at-suc, bit_at_lowest}, proofs.lemmas.List.{drop_more, length-map}, proofs.Math.Pow.pow_mono, proofs.lemmas.Bool.{cases_lt, Decides.nat_tests}}
+use Rattle.tally_base.specs.{declared.{event.{Event.Event, EventKind.TheVariants.{Photon, Marker}}, settings.Group.Group}, Settings.{GroupView, group_view}}
+use Rattle.{tally_base.specs.Codes.kind_of, gate_plan.specs.{Shifting.{Sorting, shifted_kind, shifted_dtime}, Taking.{is_among, is_in_gates, takes_kind}}}
+use Rattle.gate_plan.specs.{Taking.{groups_by, groups_in, one_if, bits_of}, Parting.{is_open, passes, takes_gated, plain_bits, gated_bits, gates_of, gates_in}}
+use Rattle.{gate_plan.specs.{Parting.all_gates, declared.gated.Gated.Gated}, std.proofs.Common.{◌≡◌, sym, ◌∙◌, ℕ, zero, suc, ◌+◌, ◌*◌, ◌^◌, ◌<◌, ◌≤◌, Bool}}
+use Rattle.std.proofs.Common.{true, false, ◌==◌, List, [], ◌∷◌, map, drop, length, get_or, set, arith, rules, not, nat_lt, min, ◌%◌, inl, inr, ◌++◌, ap}
+use Rattle.std.proofs.{Common.{append_assoc, append-nil, length-append, ◌&&◌, refl}, lemmas.Grind.{common_steps, pow_more, flat_map-append}}
+use Rattle.std.proofs.lemmas.{Nat.Bits.{bit_at-zero, bit_at-suc, bit_at_lowest}, List.{drop_more, length-map}, Bool.{cases_lt, Decides.nat_tests}}
+use Rattle.std.{proofs.Math.Pow.pow_mono, specs.Int.bit_at}
 
 -- A number by its bits.
 

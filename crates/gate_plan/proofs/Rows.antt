@@ -1,7 +1,6 @@
 -- Shifted dtimes, events at the ends of gates, and in several groups.
-use Rattle.std.proofs.Common.{◌≡◌, refl, [], ◌∷◌}
-use Rattle.tally_base.{specs.declared.event.Event.Event, specs.declared.event.EventKind.EventKind, specs.declared.event.EventKind.TheVariants.{Photon, Marker}}
-use Rattle.gate_plan.{specs.Shifting.{Sorting, shifted}, specs.Taking.groups_in}
+use Rattle.{std.proofs.Common.{◌≡◌, refl, [], ◌∷◌}, tally_base.specs.declared.event.{Event.Event, EventKind.{EventKind, TheVariants.{Photon, Marker}}}}
+use Rattle.gate_plan.specs.{Shifting.{Sorting, shifted}, Taking.groups_in}
 
 abbrev event : EventKind → Event
 event kind = record { place = 1; kind = kind; time = 0 }

@@ -1,7 +1,6 @@
 -- How gates sort events.
 use Rattle.std.specs.Prelude.{map}
-use Rattle.tally_base.specs.Settings.{group_view, shift_view}
-use Rattle.gate_plan.{specs.Shifting.Sorting, specs.declared.gates.Gates.Gates}
+use Rattle.{tally_base.specs.Settings.{group_view, shift_view}, gate_plan.specs.{Shifting.Sorting, declared.gates.Gates.Gates}}
 
 -- the shifts and the groups that they were made of
 abbrev pub sorting_of : Gates → Sorting

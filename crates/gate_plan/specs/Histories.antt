@@ -1,13 +1,18 @@
 -- The list of the events that tables are given: the kept list, with shifted dtimes and with groups.
-use Rattle.std.specs.Prelude.{ℕ, List, map}
-use Rattle.tally_base.{specs.declared.event.Event.Event, specs.Settings.GroupView, specs.Tally.History, specs.declared.event.Policy.Policy, specs.declared.header.Header.Header}
-use Rattle.gate_plan.{specs.Taking.groups_by, specs.Shifting.{Sorting, shifted}}
-use Rattle.ptu_definitions.{specs.Settled.{kept_by, settled_by}, specs.Times.events, specs.Streams.{StreamSettings, reading}}
+use Rattle.std.specs.Prelude.{◌≡◌, ℕ, List, map}
+use Rattle.tally_base.specs.{declared.{event.{Event.Event, Policy.Policy}, block.Block.Block, header.Header.Header}, Settings.GroupView, Tally.History, Columns.{gathered, events_in, IsSorted}}
+use Rattle.{gate_plan.specs.{Taking.groups_by, Shifting.{Sorting, shifted}}, ptu_definitions.specs.{Settled.{kept_by, settled_by}, Times.events, Streams.{StreamSettings, reading}}}
 use Rattle.plan_text.specs.Plan.{PlanView}
 
 -- events whose dtimes are shifted, each with the groups that it is in
 abbrev pub grouped : List GroupView → List Event → History
 grouped groups es = map (λ e. (e, groups_by groups e)) es
+
+-- A block keeps its events, and has the groups of each.
+pub record FindsGroups {N : ℕ} (groups : List GroupView) (old new : Block N) : Type 0 where
+  pub same : gathered new ≡ gathered old
+  pub found : events_in new ≡ grouped groups (gathered old)
+  pub ready : IsSorted new
 
 -- events of a file, each photon with its shifted dtime in place of its dtime, and each event with the groups that it is in
 abbrev pub with_groups : Sorting → List Event → History

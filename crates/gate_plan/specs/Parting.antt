@@ -1,7 +1,6 @@
 -- The groups without a gate and those with gates, apart.
-use Rattle.std.{specs.Prelude.{ℕ, ◌≡◌, ◌<◌, ◌+◌, ◌-◌, ◌*◌, ◌^◌, min, Bool, true, false, ◌&&◌, List, [], ◌∷◌, map, sum_by, slice_index, slice_index_or}, specs.List.{list_any, flat_map}}
-use Rattle.tally_base.specs.Settings.{GroupView}
-use Rattle.gate_plan.{specs.Taking.{is_among, is_in_gate, one_if, bits_of}, specs.declared.gated.Gated.Gated, specs.declared.only_gate.OnlyGate.OnlyGate}
+use Rattle.std.specs.{Prelude.{ℕ, ◌≡◌, ◌<◌, ◌+◌, ◌-◌, ◌*◌, ◌^◌, min, Bool, true, false, ◌&&◌, List, [], ◌∷◌, map, sum_by, slice_index, slice_index_or}, List.{list_any, flat_map}}
+use Rattle.{tally_base.specs.Settings.GroupView, gate_plan.specs.{Taking.{is_among, is_in_gate, one_if, bits_of}, declared.{gated.Gated.Gated, only_gate.OnlyGate.OnlyGate}}}
 
 abbrev pub is_open : List (ℕ × ℕ) → Bool
 is_open [] = true

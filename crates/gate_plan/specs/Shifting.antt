@@ -1,7 +1,6 @@
 -- The shifted dtimes of photons.
 use Rattle.std.specs.Prelude.{ℕ, ◌+◌, ◌%◌, ◌==◌, List, [], ◌∷◌, Option, None, Some, if◌then◌else◌}
-use Rattle.tally_base.{specs.declared.event.Event.Event, specs.declared.event.EventKind.EventKind, specs.declared.event.EventKind.TheVariants.{Photon, Marker}, specs.Settings.{GroupView, ShiftView}}
-use Rattle.plan_text.specs.Plan.{PlanView}
+use Rattle.{tally_base.specs.{declared.event.{Event.Event, EventKind.{EventKind, TheVariants.{Photon, Marker}}}, Settings.{GroupView, ShiftView}}, plan_text.specs.Plan.PlanView}
 
 -- how a plan sorts photons: its shifts modulo its period, and its groups
 pub record Sorting : Type 0 where

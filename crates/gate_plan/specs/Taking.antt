@@ -1,7 +1,6 @@
 -- Which groups an event is in.
-use Rattle.std.{specs.Prelude.{ℕ, ◌+◌, ◌*◌, Bool, true, false, ◌&&◌, ◌==◌, nat_le, nat_lt, List, map, [], ◌∷◌}, specs.List.list_any, specs.Int.bit_at}
-use Rattle.tally_base.{specs.declared.event.Event.Event, specs.declared.event.EventKind.EventKind, specs.declared.event.EventKind.TheVariants.{Photon, Marker}, specs.Settings.GroupView}
-use Rattle.gate_plan.specs.Shifting.{Sorting, shifted}
+use Rattle.std.specs.{Prelude.{ℕ, ◌+◌, ◌*◌, Bool, true, false, ◌&&◌, ◌==◌, nat_le, nat_lt, List, map, [], ◌∷◌}, List.list_any, Int.bit_at}
+use Rattle.{tally_base.specs.{declared.event.{Event.Event, EventKind.{EventKind, TheVariants.{Photon, Marker}}}, Settings.GroupView}, gate_plan.specs.Shifting.{Sorting, shifted}}
 
 -- the input is one of these: bit n is set for input n
 abbrev pub is_among : ℕ → ℕ → Bool

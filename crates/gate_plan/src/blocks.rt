@@ -1,7 +1,7 @@
 // The events of a block, shifted and sorted.
 ghost use Rattle.std.specs.Prelude.{◌≡◌, ℕ, ◌≤◌, map};
-ghost use Rattle.tally_base.{specs.declared.event.Event.Event, specs.Codes.kind_of, specs.Columns.{sorted, gathered, events_in, IsSorted}};
-ghost use Rattle.gate_plan.{specs.Groups.sorting_of, specs.Shifting.shifted, specs.Taking.groups_by, specs.Parting.gated_bits, specs.Histories.{grouped, with_groups}};
+ghost use Rattle.{tally_base.specs.{declared.event.Event.Event, Codes.kind_of, Columns.{sorted, gathered, events_in, IsSorted}}, gate_plan.specs.{Groups.sorting_of, Shifting.shifted}};
+ghost use Rattle.gate_plan.specs.{Taking.groups_by, Parting.gated_bits, Histories.{FindsGroups, with_groups}};
 
 use crate::gates::Gates;
 use tally_base::{Block, TABLE_BLOCK};
@@ -13,19 +13,10 @@ pub fn sort_events(gates: &Gates, block: &mut Block<TABLE_BLOCK>)
     ensures sorted { events_in block.new ≡ with_groups (sorting_of gates.now) (gathered block.old) }
     ensures ready { IsSorted block.new }
 {
-    shift(gates, block);
-    sort(gates, block);
-}
-
-/// Shifts the dtimes of the photons of a block, if an input has a shift.
-fn shift(gates: &Gates, block: &mut Block<TABLE_BLOCK>)
-    requires { sorted block.old ≡ 0 }
-    ensures shifted { gathered block.new ≡ map (shifted (sorting_of gates.now)) (gathered block.old) }
-    ensures unsorted { sorted block.new ≡ 0 }
-{
     if gates.has_shifts() {
         shift_each(gates, block);
     }
+    sort(gates, block);
 }
 
 /// Shifts the dtimes of the photons of a block.
@@ -56,9 +47,7 @@ fn dtime_behind(gates: &Gates, code: u16, dtime: u16) -> u16
 /// are read once for them all, and where it has none, the groups of a photon are those of its input.
 fn sort(gates: &Gates, block: &mut Block<TABLE_BLOCK>)
     requires { sorted block.old ≡ 0 }
-    ensures same { gathered block.new ≡ gathered block.old }
-    ensures sorted { events_in block.new ≡ grouped (sorting_of gates.now).groups (gathered block.old) }
-    ensures ready { IsSorted block.new }
+    ensures { FindsGroups (sorting_of gates.now).groups block.old block.new }
 {
     match gates.only_gate() {
         Some(only) => only.sort(block),
@@ -73,9 +62,7 @@ fn sort(gates: &Gates, block: &mut Block<TABLE_BLOCK>)
 fn sort_by_input(gates: &Gates, block: &mut Block<TABLE_BLOCK>)
     requires unsorted { sorted block.old ≡ 0 }
     requires none { (input dtime : ℕ) → gated_bits (sorting_of gates.now).groups input dtime ≡ 0 }
-    ensures same { gathered block.new ≡ gathered block.old }
-    ensures sorted { events_in block.new ≡ grouped (sorting_of gates.now).groups (gathered block.old) }
-    ensures ready { IsSorted block.new }
+    ensures { FindsGroups (sorting_of gates.now).groups block.old block.new }
 {
     block.sort_by(gates.by_input());
 }
@@ -85,9 +72,7 @@ fn sort_by_input(gates: &Gates, block: &mut Block<TABLE_BLOCK>)
 #[inline(never)]
 fn sort_each(gates: &Gates, block: &mut Block<TABLE_BLOCK>)
     requires { sorted block.old ≡ 0 }
-    ensures same { gathered block.new ≡ gathered block.old }
-    ensures sorted { events_in block.new ≡ grouped (sorting_of gates.now).groups (gathered block.old) }
-    ensures ready { IsSorted block.new }
+    ensures { FindsGroups (sorting_of gates.now).groups block.old block.new }
 {
     let mut groups = [0; TABLE_BLOCK];
     for at in 0..block.len().min(TABLE_BLOCK) {

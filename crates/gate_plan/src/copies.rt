@@ -6,13 +6,13 @@ use arrayvec::ArrayVec;
 use tally_base::Group;
 
 /// The same groups.
-pub(crate) fn clone_groups(groups: &[Group]) -> ArrayVec<Group, 64>
-    requires few { length groups.now ≤ 64 }
-    ensures same { map group_view result.items ≡ map group_view groups.now }
+pub(crate) fn clone_groups(groups: &ArrayVec<Group, 64>) -> ArrayVec<Group, 64>
+    ensures same { map group_view result.items ≡ map group_view groups.now.items }
     ensures few { length result.items ≤ 64 }
 {
+    let items = groups.as_slice();
     let mut again: ArrayVec<Group, 64> = ArrayVec::new();
-    'groups: for group in groups {
+    'groups: for group in items {
         again.push(group_again(group));
     }
     again

@@ -1,8 +1,7 @@
 // The shifted dtimes of events, and the groups that they are in.
-ghost use Rattle.std.{specs.Prelude.{◌≡◌, ◌<◌, ◌≤◌, ◌==◌, ℕ, map, length, None, is_some, slice_index, slice_index_or, ◌+◌, ◌-◌, ◌↔◌, [], get_or, nat_lt, false}, specs.Option.ForSome};
-ghost use Rattle.tally_base.{specs.Settings.{group_view, shift_view}, specs.Events.is_in};
-ghost use Rattle.plan_text.specs.ReadPlan.{plan_view};
-ghost use Rattle.gate_plan.{specs.Shifting.shift_of, specs.Parting.{plain_bits, gated_bits, gated_sum, all_gates, gates_in, TellsGroups}};
+ghost use Rattle.std.specs.{Prelude.{◌≡◌, ◌<◌, ◌≤◌, ◌==◌, ℕ, map, length, None, is_some, slice_index, slice_index_or, ◌+◌, ◌-◌, ◌↔◌, [], get_or, nat_lt, false}, Option.ForSome};
+ghost use Rattle.{tally_base.specs.{Settings.{group_view, shift_view}, Events.is_in}, plan_text.specs.ReadPlan.plan_view, gate_plan.specs.{Shifting.shift_of, Parting.{plain_bits, gated_bits}}};
+ghost use Rattle.gate_plan.specs.Parting.{gated_sum, all_gates, gates_in, TellsGroups};
 
 use crate::copies::clone_groups;
 use crate::gated::Gated;
@@ -51,9 +50,9 @@ impl Gates {
         let mut shifts: ArrayVec<ShiftSet, 65> = ArrayVec::new();
         let _ = shifts.try_extend_from_slice(plan.shifts.as_slice());
         let shift_by_input = shift_table(shifts.as_slice());
-        let groups = clone_groups(plan.groups.as_slice());
-        let plain = plain_table(groups.as_slice());
-        let gated = gated_of(groups.as_slice());
+        let groups = clone_groups(&plan.groups);
+        let plain = plain_table(&groups);
+        let gated = gated_of(&groups);
         let only = only_gate(gated.as_slice(), &plain);
         Gates {
             period: plan.period,

@@ -1,7 +1,6 @@
 // The shifts of dtimes by input.
 ghost use Rattle.std.specs.Prelude.{◌≡◌, ◌<◌, ◌≤◌, ℕ, map, None, slice_index_or, IfSome};
-ghost use Rattle.tally_base.specs.Settings.{shift_view};
-ghost use Rattle.gate_plan.specs.Shifting.{shift_of, shifted_by};
+ghost use Rattle.{tally_base.specs.Settings.shift_view, gate_plan.specs.Shifting.{shift_of, shifted_by}};
 
 use tally_base::ShiftSet;
 

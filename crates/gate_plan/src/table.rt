@@ -1,7 +1,7 @@
 // The groups without a gate by input, and those with gates.
-ghost use Rattle.std.{specs.Prelude.{◌≡◌, ◌<◌, ◌≤◌, ◌+◌, ◌-◌, ◌*◌, ◌^◌, ℕ, min, map, length, slice_index, slice_index_or, is_some, ◌==◌, false, [], ◌∷◌}, specs.Int.bit_at, specs.Option.ForSome};
-ghost use Rattle.tally_base.specs.Settings.{group_view};
-ghost use Rattle.gate_plan.{specs.Taking.{is_among, is_in_gate, one_if}, specs.Parting.{on_sides, takes_plainly, takes_gated, passes, gates_of, all_gates, gates_in, plain_bits, gated_bits, gated_bit, gated_sum, TellsGroupsBy}};
+ghost use Rattle.std.specs.{Prelude.{◌≡◌, ◌<◌, ◌≤◌, ◌+◌, ◌-◌, ◌*◌, ◌^◌, ℕ, min, map, length, slice_index, slice_index_or, is_some, ◌==◌, false, [], ◌∷◌}, Int.bit_at, Option.ForSome};
+ghost use Rattle.{tally_base.specs.Settings.group_view, gate_plan.specs.{Taking.{is_among, is_in_gate, one_if}, Parting.{on_sides, takes_plainly, takes_gated, passes, gates_of, all_gates, gates_in}}};
+ghost use Rattle.gate_plan.specs.Parting.{plain_bits, gated_bits, gated_bit, gated_sum, TellsGroupsBy};
 
 use crate::copies::gates_again;
 use crate::gated::Gated;
@@ -11,9 +11,8 @@ use tally_base::Group;
 
 /// For each input the number of those of its groups that have no gate, and after them 0, for markers.
 #[tactic(auto, using(crate::proofs::Parts::filled_more))]
-pub(crate) fn plain_table(groups: &[Group]) -> [u64; 257]
-    requires few { length groups.now ≤ 64 }
-    ensures inputs { (input : ℕ) → input < 256 → slice_index result input ≡ plain_bits (map group_view groups.now) input }
+pub(crate) fn plain_table(groups: &ArrayVec<Group, 64>) -> [u64; 257]
+    ensures inputs { (input : ℕ) → input < 256 → slice_index result input ≡ plain_bits (map group_view groups.now.items) input }
     ensures markers { slice_index result 256 ≡ 0 }
 {
     let mut table = [0; 257];
@@ -24,13 +23,13 @@ pub(crate) fn plain_table(groups: &[Group]) -> [u64; 257]
 }
 
 /// The number of the groups of an input that have no gate.
-fn plain_of(groups: &[Group], input: u8) -> u64
-    requires few { length groups.now ≤ 64 }
-    ensures { result ≡ plain_bits (map group_view groups.now) input }
+fn plain_of(groups: &ArrayVec<Group, 64>, input: u8) -> u64
+    ensures { result ≡ plain_bits (map group_view groups.now.items) input }
 {
+    let items = groups.as_slice();
     let mut bits: u64 = 0;
     let mut place: u64 = 0;
-    'groups: for group in groups {
+    'groups: for group in items {
         bits += bit_if(is_plain(group, input), place);
         place += 1;
     }
@@ -46,14 +45,14 @@ fn is_plain(group: &Group, input: u8) -> bool
 }
 
 /// The groups that have gates.
-pub(crate) fn gated_of(groups: &[Group]) -> ArrayVec<Gated, 64>
-    requires few { length groups.now ≤ 64 }
-    ensures bits { (input dtime : ℕ) → gated_sum result.items input dtime ≡ gated_bits (map group_view groups.now) input dtime }
-    ensures gates { gates_in result.items ≡ all_gates (map group_view groups.now) }
+pub(crate) fn gated_of(groups: &ArrayVec<Group, 64>) -> ArrayVec<Gated, 64>
+    ensures bits { (input dtime : ℕ) → gated_sum result.items input dtime ≡ gated_bits (map group_view groups.now.items) input dtime }
+    ensures gates { gates_in result.items ≡ all_gates (map group_view groups.now.items) }
 {
+    let items = groups.as_slice();
     let mut gated: ArrayVec<Gated, 64> = ArrayVec::new();
     let mut place: u64 = 0;
-    'groups: for group in groups {
+    'groups: for group in items {
         if !group.gates.is_empty() {
             gated.push(gated_at(group, place));
         }
@@ -159,7 +158,6 @@ fn passes_some(gates: &[(u16, u16)], dtime: u16) -> bool
 
 /// For each input whether it is one of these.
 fn inputs_of(inputs: u128) -> [bool; 256]
-    requires { inputs < 2 ^ 65 }
     ensures { (input : ℕ) → slice_index_or result input false ≡ is_among inputs input }
 {
     let mut has = [false; 256];
@@ -181,8 +179,7 @@ fn bit_if(set: bool, place: u64) -> u64
 /// Whether an input is one of these.
 #[inline]
 fn is_among(inputs: u128, input: u8) -> bool
-    requires { inputs < 2 ^ 65 }
     ensures { result ≡ is_among inputs input }
 {
-    input <= 64 && (inputs >> input) & 1 == 1
+    input < 128 && (inputs >> input) & 1 == 1
 }

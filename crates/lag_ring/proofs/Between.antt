@@ -1,6 +1,9 @@
 -- How many entries have an index in a range.
-use Rattle.std.{proofs.Common.{rules}, proofs.Common.{◌≡◌, ℕ, zero, suc, ◌+◌, ◌-◌, ◌<◌, ◌≤◌, Bool, true, false, ◌&&◌, ltb, leb, nat_le, List, [], ◌∷◌, length, drop, filter, cond, refl, sym, ap, ◌∙◌, arith, ◌++◌, map}, specs.List.{count_by, AllByRecursion, range_with_len}, proofs.Math.ListN.drop_of_length-le, proofs.lemmas.Grind.common_steps, proofs.lemmas.List.Sums.{sum_by-cons, length-filter}, proofs.lemmas.List.{append_assoc, length-append}, proofs.lemmas.List.FromFn.{map-range_with_len_more, length-map-range_with_len}}
-use Rattle.lag_ring.{specs.declared.ring.Entry.Entry, specs.Ring.IsRising, proofs.Rising.{filter_passed, all_weaker}, proofs.Lists.all_both, proofs.Sums.sum_by-agree, specs.Cells.{places_from}}
+use Rattle.std.proofs.Common.{rules, ◌≡◌, ℕ, zero, suc, ◌+◌, ◌-◌, ◌<◌, ◌≤◌, Bool, true, false, ◌&&◌, ltb, leb, nat_le, List, [], ◌∷◌, length, drop, filter}
+use Rattle.std.proofs.{Common.{cond, refl, sym, ap, ◌∙◌, arith, ◌++◌, map}, Math.ListN.drop_of_length-le, lemmas.{Grind.common_steps, List.Sums.sum_by-cons}}
+use Rattle.std.proofs.lemmas.List.{Sums.length-filter, append_assoc, length-append, FromFn.{map-range_with_len_more, length-map-range_with_len}}
+use Rattle.{std.specs.List.{count_by, AllByRecursion, range_with_len}, lag_ring.specs.{declared.ring.Entry.Entry, Ring.IsRising, Cells.places_from}}
+use Rattle.lag_ring.proofs.{Rising.{filter_passed, all_weaker}, Lists.all_both, Sums.sum_by-agree}
 
 abbrev pub between : ℕ → ℕ → Entry → Bool
 between low high e = leb low e.index && ltb e.index high

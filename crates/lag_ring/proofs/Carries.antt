@@ -1,7 +1,6 @@
 -- Counts to whose lower halves was added.
-use Rattle.std.proofs.Common.{◌≡◌, ◌≢◌, ℕ, ◌+◌, ◌^◌, ◌%◌, ◌<◌, true, false, eqb, List, length, get_or, set, refl, arith}
-use Rattle.std.{proofs.lemmas.Bool.Decides.{nat_tests}, proofs.lemmas.List.{get_or-set_same, get_or-set_other}}
-use Rattle.lag_ring.specs.Cells.{without_carry}
+use Rattle.std.proofs.{Common.{◌≡◌, ◌≢◌, ℕ, ◌+◌, ◌^◌, ◌%◌, ◌<◌, true, false, eqb, List, length, get_or, set, refl, arith}, lemmas.Bool.Decides.nat_tests}
+use Rattle.{std.proofs.lemmas.List.{get_or-set_same, get_or-set_other}, lag_ring.specs.Cells.without_carry}
 
 pub no-carry : (n more : ℕ) → n % 2 ^ 64 < 2 ^ 63 → more < 2 ^ 32 → without_carry n more ≡ n + more
 no-carry n more low few = omega arith

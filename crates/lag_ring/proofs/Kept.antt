@@ -1,6 +1,9 @@
 -- What a ring keeps once a bin more is put into it.
-use Rattle.std.{proofs.Common.{rules}, proofs.Common.{◌≡◌, ℕ, ◌+◌, ◌-◌, ◌<◌, ◌≤◌, Bool, true, false, ◌&&◌, leb, cond, List, [], ◌∷◌, ◌++◌, length, refl, ◌∙◌, arith}, specs.List.{sum_by, count_by, filter, AllByRecursion}, proofs.lemmas.Grind.common_steps, proofs.lemmas.List.Elements.filter-append, proofs.lemmas.List.Sums.{sum_by-append, sum_by_push}}
-use Rattle.lag_ring.{specs.declared.ring.Entry.Entry, specs.Ring.{Ring, ring, IsRising, weight_where, IsInReach, Weighs, Keeps}, proofs.Rising.{all_push, all_weaker, rising_filter}, proofs.Lists.{all_front, all_back, all_filter, all_passed, of_some}, proofs.Sums.{sum_by-agree, sum_by-same, sum_by-zero, sum_by-filter}, proofs.Between.few_kept}
+use Rattle.std.proofs.Common.{rules, ◌≡◌, ℕ, ◌+◌, ◌-◌, ◌<◌, ◌≤◌, Bool, true, false, ◌&&◌, leb, cond, List, [], ◌∷◌, ◌++◌, length, refl, ◌∙◌, arith}
+use Rattle.std.{proofs.lemmas.{Grind.common_steps, List.{Elements.filter-append, Sums.{sum_by-append, sum_by_push}}}, specs.List.{sum_by, count_by, filter}}
+use Rattle.{std.specs.List.AllByRecursion, lag_ring.specs.{declared.ring.Entry.Entry, Ring.{Ring, ring, IsRising, weight_where, IsInReach, Weighs, Keeps}}}
+use Rattle.lag_ring.proofs.{Rising.{all_push, all_weaker, rising_filter}, Lists.{all_front, all_back, all_filter, all_passed, of_some}, Sums.sum_by-agree}
+use Rattle.lag_ring.proofs.{Sums.{sum_by-same, sum_by-zero, sum_by-filter}, Between.few_kept}
 
 module _ {X : Type 0} (group : X → Bool) (at : X → ℕ) (weight : Entry → ℕ) where
   near : (test : ℕ → Bool) (i w n reach : ℕ) → 0 < reach → (test i ≡ true → n < i + reach)

@@ -1,5 +1,5 @@
 -- Elements that came in the order of their bins: those of closed bins, and after them those of one that is open.
-use Rattle.std.{specs.Prelude.{◌≡◌, ℕ, ◌<◌, ◌≤◌, Bool, Option, None, Some, List, [], length, slice_index}, specs.List.AllByRecursion}
+use Rattle.std.specs.{Prelude.{◌≡◌, ℕ, ◌<◌, ◌≤◌, Bool, Option, None, Some, List, [], length, slice_index}, List.AllByRecursion}
 use Rattle.lag_ring.specs.{Cells.Cells, Ring.{Ring, IsRising, Keeps}}
 
 -- the open bin has the elements that are not in closed ones, and comes after those

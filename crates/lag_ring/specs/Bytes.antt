@@ -1,6 +1,6 @@
 -- Weights by tick in bytes.
-use Rattle.std.{specs.Prelude.{ℕ, ◌≡◌, ◌+◌, ◌-◌, ◌*◌, ◌^◌, ◌<◌, ◌≤◌, ◌==◌, List, length, slice_index}, specs.List.AllByRecursion}
-use Rattle.lag_ring.{specs.declared.ring.Entry.Entry, specs.declared.window.Side.Side, specs.declared.window.Side.TheVariants.{First, Second}, specs.Ring.weight_where}
+use Rattle.std.specs.{Prelude.{ℕ, ◌≡◌, ◌+◌, ◌-◌, ◌*◌, ◌^◌, ◌<◌, ◌≤◌, ◌==◌, List, length, slice_index}, List.AllByRecursion}
+use Rattle.lag_ring.specs.{declared.{ring.Entry.Entry, window.Side.{Side, TheVariants.{First, Second}}}, Ring.weight_where}
 
 -- Weights by tick.
 

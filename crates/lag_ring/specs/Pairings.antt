@@ -1,5 +1,5 @@
 -- What a clause sees of the lists of bins that were paired.
-use Rattle.std.{specs.Prelude.{ℕ, refl}, specs.Coded.{Coded, code_by, coded×, coded_ℕ}}
+use Rattle.std.specs.{Prelude.{ℕ, refl}, Coded.{Coded, code_by, coded×, coded_ℕ}}
 
 -- how many bins the lists had together that were paired, and those of which a window was begun
 pub record Paired : Type 0 where

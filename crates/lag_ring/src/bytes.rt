@@ -1,7 +1,6 @@
 // Weights by tick in bytes, and the pairs that single photons make over them at many lags at once.
-ghost use Rattle.std.{specs.Prelude.{◌≡◌, ℕ, ◌+◌, ◌-◌, ◌*◌, ◌^◌, ◌<◌, ◌≤◌, ◌==◌, [], ◌∷◌, ◌++◌, take, length, slice_index, sum_by, if◌then◌else◌}, specs.List.{AllByRecursion}};
-ghost use Rattle.lag_ring.{specs.Bytes.{weight_of, IsLight, behind, Fit, Have}};
-ghost use Rattle.arrayvec.specs.ArrayVec.{array_vec_len};
+ghost use Rattle.std.specs.{Prelude.{◌≡◌, ℕ, ◌+◌, ◌-◌, ◌*◌, ◌^◌, ◌<◌, ◌≤◌, ◌==◌, [], ◌∷◌, ◌++◌, take, length, slice_index, sum_by, if◌then◌else◌}, List.AllByRecursion};
+ghost use Rattle.{lag_ring.specs.Bytes.{weight_of, IsLight, behind, Fit, Have}, arrayvec.specs.ArrayVec.array_vec_len};
 
 use crate::ring::Entry;
 use crate::window::Side;

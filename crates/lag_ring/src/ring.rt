@@ -1,7 +1,6 @@
 // The recent occupied bins.
-ghost use Rattle.std.{specs.Prelude.{◌≡◌, ◌+◌, ◌<◌, ◌≤◌, [], ◌∷◌, ◌++◌, IfOk, filter, length, nat_le, slice_get, slice_set, Some, true}, specs.List.AllByRecursion};
-ghost use Rattle.circular_buffer.specs.Buffer.{buffer};
-ghost use Rattle.lag_ring.specs.Ring.{IsRising, spare, ring, kept_or};
+ghost use Rattle.std.specs.{Prelude.{◌≡◌, ◌+◌, ◌<◌, ◌≤◌, [], ◌∷◌, ◌++◌, IfOk, filter, length, nat_le, slice_get, slice_set, Some, true}, List.AllByRecursion};
+ghost use Rattle.{circular_buffer.specs.Buffer.buffer, lag_ring.specs.Ring.{IsRising, spare, ring, kept_or}};
 
 use circular_buffer::HeapCircularBuffer;
 use std::alloc::{AllocError, Global};

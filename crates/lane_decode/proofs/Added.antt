@@ -1,6 +1,5 @@
 -- Wraps, added.
-use Rattle.std.proofs.Common.{◌≡◌, ◌+◌, ◌*◌, ◌<◌, ◌≤◌, ℕ, zero, suc, arith, rules}
-use Rattle.lane_decode.specs.InColumns.{sum_to}
+use Rattle.{std.proofs.Common.{◌≡◌, ◌+◌, ◌*◌, ◌<◌, ◌≤◌, ℕ, zero, suc, arith, rules}, lane_decode.specs.InColumns.sum_to}
 
 pub sum-more : (f : ℕ → ℕ) (n : ℕ) → sum_to f (n + 1) ≡ sum_to f n + f n
 unfolding sum_to

@@ -1,8 +1,11 @@
 -- Places that stay, eight at a time.
-use Rattle.std.{proofs.Common.{rules}, proofs.Common.{◌≡◌, ◌+◌, ◌<◌, ◌≤◌, ◌++◌, [], ◌∷◌, ℕ, zero, suc, List, Bool, true, false, length, map, take, get_or, replicate, cond, refl, sym, ap, subst, ◌∙◌, arith, ltb}, specs.Prelude.{count_ones}, specs.Prelude.{◌&&◌, nat_le}, specs.List.{filter, range_with_len}, proofs.lemmas.List.FromFn.{get_or-map-range_with_len, length-range_with_len}, proofs.lemmas.List.Elements.{filter-append}, proofs.lemmas.Simd.{get_or-replicate}, proofs.lemmas.Bool.{leb-true, ltb-true}, proofs.lemmas.List.{get_or-map, get_or-take}, proofs.lemmas.List.Sums.{length-filter, count_by-le-length}}
+use Rattle.std.proofs.Common.{rules, ◌≡◌, ◌+◌, ◌<◌, ◌≤◌, ◌++◌, [], ◌∷◌, ℕ, zero, suc, List, Bool, true, false, length, map, take, get_or, replicate, cond, refl}
+use Rattle.std.proofs.{Common.{sym, ap, subst, ◌∙◌, arith, ltb}, lemmas.List.FromFn.{get_or-map-range_with_len, length-range_with_len}}
+use Rattle.std.proofs.lemmas.{List.{Elements.filter-append, get_or-map, get_or-take, Sums.{length-filter, count_by-le-length}}, Simd.get_or-replicate}
+use Rattle.std.{proofs.lemmas.Bool.{leb-true, ltb-true}, specs.{Prelude.{count_ones, ◌&&◌, nat_le}, List.{filter, range_with_len}}}
+use Rattle.lane_decode.specs.Staying.{has_bit, bits_in}
 use lib.Count.{ones}
 use lib.Lanes.{Each1, all_below}
-use Rattle.lane_decode.specs.Staying.{has_bit, bits_in}
 
 -- what holds of each number below 256
 pub each : {X : Type 0} (f : ℕ → X) (x d : X) → map f (range_with_len 0 256) ≡ replicate 256 x → (m : ℕ) → m < 256 → f m ≡ x

@@ -1,8 +1,7 @@
 -- Columns with one record more.
 use Rattle.std.{proofs.Common.{◌≡◌, ◌<◌, ◌+◌, ℕ, List, [], get_or, ◌∙◌, arith, ◌⊎◌, ⊎_elim}, specs.Int.{from_le_bytes, w32}}
-use Rattle.ptu_definitions.specs.declared.records.Raw.{Raw}
-use Rattle.record_layout.{specs.declared.row.Row.Row, specs.Rowed.raw_of}
-use Rattle.lane_decode.{specs.declared.columns.Columns.Columns, specs.InColumns.{IsRow, HasRowsTo, row_at}}
+use Rattle.{ptu_definitions.specs.declared.records.Raw.Raw, record_layout.specs.{declared.row.Row.Row, Rowed.raw_of}}
+use Rattle.lane_decode.specs.{declared.columns.Columns.Columns, InColumns.{IsRow, HasRowsTo, row_at}}
 
 last_or : (i n : ℕ) → i < n + 1 → (i ≡ n) ⊎ (i < n)
 last_or i n lt = grind (arith, lt)

@@ -1,7 +1,8 @@
 -- Eight numbers and their sums.
-use Rattle.std.{proofs.Common.{rules}, proofs.Common.{◌≡◌, ◌+◌, ◌%◌, ◌^◌, ◌<◌, ◌≤◌, ◌++◌, [], ◌∷◌, ℕ, zero, suc, List, length, get_or, map, replicate, refl, ap, ◌∙◌, arith}, specs.List.{range_with_len}, proofs.lemmas.List.FromFn.{fill_by_all}, proofs.lemmas.Simd.{length-zip2, get_or-zip2}}
+use Rattle.std.proofs.Common.{rules, ◌≡◌, ◌+◌, ◌%◌, ◌^◌, ◌<◌, ◌≤◌, ◌++◌, [], ◌∷◌, ℕ, zero, suc, List, length, get_or, map, replicate, refl, ap, ◌∙◌, arith}
+use Rattle.{std.{proofs.lemmas.{List.FromFn.fill_by_all, Simd.{length-zip2, get_or-zip2}}, specs.List.range_with_len}, lane_decode.specs.InColumns.sum_to}
+use Rattle.lane_decode.proofs.Added.{sum-more}
 use lib.Lanes.{zip2}
-use Rattle.lane_decode.{specs.InColumns.{sum_to}, proofs.Added.sum-more}
 
 -- what holds of each place below 8
 pub each-of-eight : (P : ℕ → Type 0) → P 0 → P 1 → P 2 → P 3 → P 4 → P 5 → P 6 → P 7 → (i : ℕ) → i < 8 → P i

@@ -1,8 +1,9 @@
 -- The table of the places of bits.
-use Rattle.std.{proofs.Common.{◌≡◌, ◌+◌, ◌-◌, ◌<◌, ◌≤◌, ◌++◌, [], ◌∷◌, ℕ, suc, List, true, false, length, map, take, get_or, replicate, refl, ap, ◌∙◌, arith, rules, w32}, specs.List.{range_with_len}, proofs.lemmas.List.FromFn.{get_or-map-range_with_len}, proofs.lemmas.Simd.swz_l}
+use Rattle.std.proofs.Common.{◌≡◌, ◌+◌, ◌-◌, ◌<◌, ◌≤◌, ◌++◌, [], ◌∷◌, ℕ, suc, List, true, false, length, map, take, get_or, replicate, refl, ap, ◌∙◌, arith}
+use Rattle.std.{proofs.{Common.{rules, w32}, lemmas.{List.FromFn.get_or-map-range_with_len, Simd.swz_l}}, specs.List.range_with_len}
+use Rattle.lane_decode.{specs.{Staying.{has_bit, bits_in, lanes_in}, declared.events.TheConstants.LANES}, proofs.Chosen.{each, at-stayed}}
 use lib.ListN.{get_or-append}
 use lib.Lanes.{all_below}
-use Rattle.lane_decode.{specs.Staying.{has_bit, bits_in, lanes_in}, proofs.Chosen.{each, at-stayed}, specs.declared.events.TheConstants.LANES}
 
 -- the table has the lanes of each number
 table_is : LANES ≡ map lanes_in (range_with_len 0 256)

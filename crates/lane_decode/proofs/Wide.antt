@@ -1,5 +1,6 @@
 -- Lanes of 64 bits.
-use Rattle.std.{proofs.Common.{◌≡◌, ◌+◌, ◌*◌, ◌%◌, ◌^◌, ◌<◌, ℕ, List, length, map, get_or, replicate, ap, ◌∙◌, arith}, proofs.lemmas.Simd.{length-zip2, get_or-zip2, get_or-replicate}, proofs.lemmas.List.{length-map, get_or-map}}
+use Rattle.std.proofs.{Common.{◌≡◌, ◌+◌, ◌*◌, ◌%◌, ◌^◌, ◌<◌, ℕ, List, length, map, get_or, replicate, ap, ◌∙◌, arith}, lemmas.Simd.{length-zip2, get_or-zip2}}
+use Rattle.std.proofs.lemmas.{Simd.get_or-replicate, List.{length-map, get_or-map}}
 use lib.Lanes.{zip2}
 
 abbrev pub add64 : List ℕ → List ℕ → List ℕ
@@ -22,6 +23,9 @@ with-all f x ys j long lt =
 
 wide-at : (xs : List ℕ) (j : ℕ) → length xs ≡ 8 → j < 8 → get_or (wide xs) j 0 ≡ get_or xs j 0
 wide-at xs j long lt = get_or-map (λ x. x) xs j 0 0 (omega (arith, long, lt))
+
+pub long-places : (first : ℕ) (ls : List ℕ) → length ls ≡ 8 → length (add64 (replicate 8 first) (wide ls)) ≡ 8
+long-places first ls long = length-zip2 (λ a b. (a + b) % 2 ^ 64) (replicate 8 first) (wide ls) (omega (arith, long-wide ls long))
 
 pub places-at : (first : ℕ) (ls : List ℕ) (j : ℕ) → length ls ≡ 8 → j < 8
     → get_or (add64 (replicate 8 first) (wide ls)) j 0 ≡ (first + get_or ls j 0) % 2 ^ 64

@@ -1,8 +1,6 @@
 -- Records by their parts in columns.
-use Rattle.std.{specs.Prelude.{ℕ, zero, suc, ◌+◌, ◌*◌, ◌≡◌, ◌<◌, ◌≤◌, [], List, length, slice_index, slice_index_or}, specs.Int.{from_le_bytes, w32}}
-use Rattle.tally_base.specs.Codes.{code_in, dtime_in}
-use Rattle.ptu_definitions.{specs.declared.records.Raw.Raw, specs.Times.amount}
-use Rattle.record_layout.{specs.Rowed.raw_of, specs.declared.row.Row.Row}
+use Rattle.std.specs.{Prelude.{ℕ, zero, suc, ◌+◌, ◌*◌, ◌≡◌, ◌<◌, ◌≤◌, [], List, length, slice_index, slice_index_or}, Int.{from_le_bytes, w32}}
+use Rattle.{tally_base.specs.Codes.{code_in, dtime_in}, ptu_definitions.specs.{declared.records.Raw.Raw, Times.amount}, record_layout.specs.{Rowed.raw_of, declared.row.Row.Row}}
 use Rattle.lane_decode.specs.declared.columns.Columns.{Columns}
 
 -- The parts are those of what a word means, where a wrap adds a unit.

@@ -1,7 +1,6 @@
 -- Records that stay, put close together.
-use Rattle.tally_base.{specs.declared.event.Event.Event, specs.Codes.{code_in}, specs.Columns.event_by}
-use Rattle.lane_decode.{specs.declared.columns.Columns.Columns, specs.InColumns.{row_at, time_in}}
-use Rattle.std.{specs.Prelude.{ℕ, ◌/◌, ◌%◌, ◌^◌, ◌==◌, ◌++◌, ◌-◌, Bool, List, length, slice_index, replicate, ◌+◌, nat_lt}, specs.List.{filter, range_with_len}}
+use Rattle.std.specs.{Prelude.{ℕ, ◌≡◌, ◌<◌, ◌/◌, ◌%◌, ◌^◌, ◌==◌, ◌++◌, ◌-◌, Bool, List, length, slice_index, replicate, ◌+◌, nat_lt}, List.{filter, range_with_len}}
+use Rattle.{tally_base.specs.{declared.event.Event.Event, Codes.code_in, Columns.event_by}, lane_decode.specs.{declared.columns.Columns.Columns, InColumns.{row_at, time_in}}}
 
 -- whether the code of the record at a place is below this one
 abbrev pub stays : ℕ → Columns → ℕ → Bool
@@ -24,6 +23,16 @@ has_bit bits i = bits / 2 ^ i % 2 == 1
 -- the places of the lowest eight bits that are set
 unfoldable pub bits_in : ℕ → List ℕ
 bits_in bits = filter (has_bit bits) (range_with_len 0 8)
+
+-- Eight lanes, of which the first are, for each bit that is set, what its place gives.
+pub record HasClose (bits : ℕ) (at : ℕ → ℕ) (eight : List ℕ) : Type 0 where
+  pub lanes : length eight ≡ 8
+  pub close : (j : ℕ) → j < length (bits_in bits) → slice_index eight j ≡ at (slice_index (bits_in bits) j)
+
+-- Eight lanes, each by its place.
+pub record HasLanes (at : ℕ → ℕ) (eight : List ℕ) : Type 0 where
+  pub lanes : length eight ≡ 8
+  pub each : (j : ℕ) → j < 8 → slice_index eight j ≡ at j
 
 -- eight places, with 0 after these
 abbrev pub lanes_in : ℕ → List ℕ

@@ -34,8 +34,7 @@ fn decode_words<R: RecordLayout>(words: &[[u8; 4]], out: &mut [Raw])
 
 /// Decodes at most 64 words.
 fn decode_part<R: RecordLayout>(columns: &mut Columns, words: &[[u8; 4]], out: &mut [Raw])
-    requires few { length words.now ≤ 64 }
-    requires places { length out.old ≡ length words.now }
+    requires { (length out.old ≡ length words.now) × (length words.now ≤ 64) }
     ensures { out.new ≡ map R.meaning (numbers words.now) }
 {
     columns.fill::<R>(words);

@@ -1,7 +1,6 @@
 // The records of a few words, by their parts.
-ghost use Rattle.std.{specs.Prelude.{◌≡◌, ◌+◌, ◌*◌, ◌^◌, ◌<◌, ◌≤◌, ℕ, [], true, nat_lt, if◌then◌else◌, length, map, slice_index, slice_index_or}, specs.Int.{from_le_bytes, w32}};
-ghost use Rattle.ptu_definitions.{specs.Words.numbers, specs.Kinds.counts_of};
-ghost use Rattle.record_layout.{specs.Sums.IsSplit, specs.Rowed.raw_of};
+ghost use Rattle.std.specs.{Prelude.{◌≡◌, ◌+◌, ◌*◌, ◌^◌, ◌<◌, ◌≤◌, ℕ, [], true, nat_lt, if◌then◌else◌, length, map, slice_index, slice_index_or}, Int.{from_le_bytes, w32}};
+ghost use Rattle.{ptu_definitions.specs.{Words.numbers, Kinds.counts_of}, record_layout.specs.{Sums.IsSplit, Rowed.raw_of}};
 
 use crate::lanes::FieldLanes;
 use ptu_definitions::KindCounts;
@@ -49,8 +48,7 @@ impl Columns {
     /// Puts the records of eight words from a place on, of which those before have theirs.
     #[inline(always)]
     fn fill_eight<R: RecordLayout>(&mut self, words: &[[u8; 4]], at: usize)
-        requires few { length words.now ≤ 64 }
-        requires eight { at + 8 ≤ length words.now }
+        requires eight { (at + 8 ≤ length words.now) × (length words.now ≤ 64) }
         requires before { HasRowsTo R.meaning R.UNIT self.old words.now at }
         ensures { HasRowsTo R.meaning R.UNIT self.new words.now (at + 8) }
     {

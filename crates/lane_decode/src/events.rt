@@ -1,7 +1,6 @@
 // The events of records, put close together into a block.
-ghost use Rattle.std.{specs.Prelude.{◌≡◌, ◌+◌, ◌*◌, ◌%◌, ◌^◌, ◌<◌, ◌≤◌, ◌++◌, ℕ, length, map, nat_lt, slice_index}, specs.Simd.Lanes.chunk};
-ghost use Rattle.tally_base.specs.{Codes.code_in, Columns.{count, sorted, gathered}};
-ghost use Rattle.lane_decode.{specs.Staying.{has_bit, bits_in}, specs.InColumns.{wraps_at, sum_to, time_in}};
+ghost use Rattle.std.specs.{Prelude.{◌≡◌, ◌+◌, ◌*◌, ◌%◌, ◌^◌, ◌<◌, ◌≤◌, ◌++◌, ℕ, length, map, nat_lt, slice_index}, Simd.Lanes.chunk};
+ghost use Rattle.{tally_base.specs.{Codes.code_in, Columns.{count, sorted, gathered}}, lane_decode.specs.{Staying.{has_bit, HasClose, HasLanes}, InColumns.{wraps_at, sum_to, time_in}}};
 
 use crate::columns::Columns;
 use record_layout::RecordLayout;
@@ -82,9 +81,7 @@ static LANES: [[u32; 8]; 256] = [
 pub fn close(eight: u32x8, bits: usize) -> u32x8
     requires bits { bits < 256 }
     requires lanes { length eight ≡ 8 }
-    ensures lanes { length result ≡ 8 }
-    ensures close { (j : ℕ) → j < length (bits_in bits)
-        → slice_index result j ≡ slice_index eight (slice_index (bits_in bits) j) }
+    ensures { HasClose bits (λ i. slice_index eight i) result }
 {
     eight.swizzle_dyn(u32x8::from_array(LANES[bits]))
 }
@@ -92,10 +89,8 @@ pub fn close(eight: u32x8, bits: usize) -> u32x8
 /// The places of those lanes, counted from this one.
 #[inline(always)]
 fn places_from(first: u64, bits: usize) -> u64x8
-    requires bits { bits < 256 }
-    ensures lanes { length result ≡ 8 }
-    ensures places { (j : ℕ) → j < length (bits_in bits)
-        → slice_index result j ≡ (first + slice_index (bits_in bits) j) % 2 ^ 64 }
+    requires { bits < 256 }
+    ensures { HasClose bits (λ i. (first + i) % 2 ^ 64) result }
 {
     u64x8::splat(first) + u32x8::from_array(LANES[bits]).cast::<u64>()
 }
@@ -103,10 +98,8 @@ fn places_from(first: u64, bits: usize) -> u64x8
 /// The times of eight records, modulo 2^64, where each of so many wraps adds the unit of a layout to a base.
 #[inline(always)]
 fn times_from<R: RecordLayout>(base: u64, wraps: u32x8, times: u32x8) -> u64x8
-    requires lanes { (length wraps ≡ 8) × (length times ≡ 8) }
-    ensures lanes { length result ≡ 8 }
-    ensures times { (j : ℕ) → j < 8 → slice_index result j
-        ≡ (base + R.UNIT * slice_index wraps j + slice_index times j) % 2 ^ 64 }
+    requires { (length wraps ≡ 8) × (length times ≡ 8) }
+    ensures { HasLanes (λ j. (base + R.UNIT * slice_index wraps j + slice_index times j) % 2 ^ 64) result }
 {
     let from = u64x8::splat(R::UNIT) * wraps.cast::<u64>() + times.cast::<u64>();
     u64x8::splat(base) + from
@@ -165,11 +158,8 @@ fn eight_at(column: &[u32; 64], at: usize) -> u32x8
 /// The sum of the numbers up to each of eight.
 #[inline(always)]
 fn sums_up_to(eight: u32x8) -> u32x8
-    requires lanes { length eight ≡ 8 }
-    requires few { (i : ℕ) → i < 8 → slice_index eight i ≤ 2 ^ 25 }
-    ensures lanes { length result ≡ 8 }
-    ensures sums { (i : ℕ) → i < 8
-        → slice_index result i ≡ sum_to (λ k. slice_index eight k) (i + 1) }
+    requires { (length eight ≡ 8) × ((i : ℕ) → i < 8 → slice_index eight i ≤ 2 ^ 25) }
+    ensures { HasLanes (λ i. sum_to (λ k. slice_index eight k) (i + 1)) result }
 {
     // Within four and four: each number and the one before it, then the two before these. Then the lower four's sum.
     let twos = eight + eight.shuffle(u32x8::splat(0), [8, 0, 1, 2, 8, 4, 5, 6]);

@@ -1,8 +1,8 @@
 -- The text of a body that grows by a byte.
-use Rattle.std.{proofs.Common.{◌≡◌, ◌≢◌, ℕ, List, [], ◌∷◌, ◌++◌, Bool, true, false, cond, refl, sym, ap, ◌∙◌, append-nil, ◌==◌, not, take_while, ◌&&◌, arith, rules}, specs.List.{flat_map, list_all}, proofs.lemmas.Grind.flat_map-append, proofs.lemmas.List.Sums.take_while-cons}
-use Rattle.tally_base.specs.Hexadecimal.{hexadecimal}
-use Rattle.ptu_tag.{specs.declared.kind.TagKind.TagKind, specs.declared.kind.TagKind.TheVariants.AnsiString}
-use Rattle.list_out.{specs.HeaderText.{body_text, shown_byte}, specs.Lines.has_no_nul}
+use Rattle.std.proofs.Common.{◌≡◌, ◌≢◌, ℕ, List, [], ◌∷◌, ◌++◌, Bool, true, false, cond, refl, sym, ap, ◌∙◌, append-nil, ◌==◌, not, take_while, ◌&&◌, arith}
+use Rattle.std.{proofs.{Common.rules, lemmas.{Grind.flat_map-append, List.Sums.take_while-cons}}, specs.List.{flat_map, list_all}}
+use Rattle.{tally_base.specs.Hexadecimal.hexadecimal, ptu_tag.specs.declared.kind.TagKind.{TagKind, TheVariants.AnsiString}}
+use Rattle.list_out.specs.{HeaderText.{body_text, shown_byte}, Lines.has_no_nul}
 
 -- a front without what ends it is passed whole
 pub take_while-passed : (p : ℕ → Bool) (front more : List ℕ) → list_all p front ≡ true → take_while p (front ++ more) ≡ front ++ take_while p more

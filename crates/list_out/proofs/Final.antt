@@ -1,8 +1,10 @@
 -- The text of a header that is at its end or refused grows no more.
-use Rattle.std.{proofs.Common.{◌≡◌, ◌≢◌, ◌-◌, ◌^◌, ◌<◌, ◌≤◌, ℕ, List, [], ◌∷◌, ◌++◌, length, take, refl, sym, ap, ◌∙◌, subst, append-nil, arith, length-append, inl, inr, Result, Ok, Err, rules}, proofs.lemmas.Bool.cases_lt, proofs.lemmas.List.{length-take, take-append-le, take_all}}
-use Rattle.tally_base.{specs.declared.fault.Fault.Fault, specs.declared.fault.Fault.TheVariants.TruncatedHeader, specs.declared.header.Header.Header}
-use Rattle.ptu_definitions.{specs.declared.found.Found.Found, specs.Endings.{Ending, OtherFile, BadType, BadLength, Whole, Open, ending}, specs.Fields.header_of, specs.Headers.{header_answer, head_of, answer_as, with_rest, unfinished, Shows}, proofs.AnswerLemmas.head-front, proofs.SeenLaws.seen-answered}
-use Rattle.list_out.{specs.HeaderText.{shown_text, header_text}, proofs.Growing.{Grown, shown_text-grows}}
+use Rattle.std.proofs.Common.{◌≡◌, ◌≢◌, ◌-◌, ◌^◌, ◌<◌, ◌≤◌, ℕ, List, [], ◌∷◌, ◌++◌, length, take, refl, sym, ap, ◌∙◌, subst, append-nil, arith, length-append}
+use Rattle.std.proofs.{Common.{inl, inr, Result, Ok, Err, rules}, lemmas.{Bool.cases_lt, List.{length-take, take-append-le, take_all}}}
+use Rattle.tally_base.specs.declared.{fault.Fault.{Fault, TheVariants.TruncatedHeader}, header.Header.Header}
+use Rattle.ptu_definitions.specs.{declared.found.Found.Found, Endings.{Ending, OtherFile, BadType, BadLength, Whole, Open, ending}, Fields.header_of}
+use Rattle.ptu_definitions.{specs.Headers.{header_answer, head_of, answer_as, with_rest, unfinished, Shows}, proofs.AnswerLemmas.head-front}
+use Rattle.{ptu_definitions.proofs.SeenLaws.seen-answered, list_out.{specs.HeaderText.{shown_text, header_text}, proofs.Growing.{Grown, shown_text-grows}}}
 
 -- the first bytes of a longer file
 head_of-more : (a b : List ℕ) → (c : List ℕ) × (head_of (a ++ b) ≡ head_of a ++ c)

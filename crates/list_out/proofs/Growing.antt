@@ -1,8 +1,13 @@
 -- The text of a header grows with its bytes.
-use Rattle.std.{proofs.Common.{◌≡◌, ◌+◌, ◌-◌, ◌<◌, ◌≤◌, ℕ, zero, suc, List, [], ◌∷◌, ◌++◌, true, false, length, take, drop, refl, sym, ap, ◌∙◌, subst, append_assoc, append-nil, take-append-drop, arith, length-append, inl, inr, None, Some, nat_lt, codes, not, ◌||◌, ◌⊎◌, if◌then◌else◌, rules}, specs.declared.option.Option.Option, specs.Str.bytes_eq, specs.List.flat_map, proofs.lemmas.Bool.{cases_lt, cases_Bool}, proofs.lemmas.List.{length-take, length-drop, take-append-le, drop-append-le, take_all}, proofs.Math.Seq.{take-append-add, drop-append-add}}
-use Rattle.ptu_tag.{specs.declared.kind.TagKind.TagKind, specs.declared.kind.TagKind.TheVariants.{Empty8, Bool8, Int8, BitSet64, Color8, Float8, TDateTime, Float8Array, AnsiString, WideString, BinaryBlob}}
-use Rattle.ptu_definitions.{specs.TagList.{code_in, is_known, is_negative, body_size, is_end, Item}, specs.Headers.{seen_from, seen, seen_preamble}, proofs.Walks.{take_front, drop_front, not_less, is_less}, proofs.SeenLemmas.seen_from-short}
-use Rattle.list_out.{specs.HeaderText.{body_text, head_text, head_in, kind_with, item_text, end_text, preamble_text, shown_text}, specs.Lines.has_no_nul, proofs.Bodies.{body_text-digits, body_text-passed, body_text-ended}}
+use Rattle.std.proofs.Common.{◌≡◌, ◌+◌, ◌-◌, ◌<◌, ◌≤◌, ℕ, zero, suc, List, [], ◌∷◌, ◌++◌, true, false, length, take, drop, refl, sym, ap, ◌∙◌, subst}
+use Rattle.std.proofs.Common.{append_assoc, append-nil, take-append-drop, arith, length-append, inl, inr, None, Some, nat_lt, codes, not, ◌||◌, ◌⊎◌}
+use Rattle.std.proofs.{Common.{if◌then◌else◌, rules}, lemmas.{Bool.{cases_lt, cases_Bool}, List.{length-take, length-drop, take-append-le, drop-append-le}}}
+use Rattle.std.{proofs.{lemmas.List.take_all, Math.Seq.{take-append-add, drop-append-add}}, specs.{declared.option.Option.Option, Str.bytes_eq, List.flat_map}}
+use Rattle.ptu_tag.specs.declared.kind.TagKind.{TagKind, TheVariants.{Empty8, Bool8, Int8, BitSet64, Color8, Float8, TDateTime, Float8Array, AnsiString}}
+use Rattle.{ptu_tag.specs.declared.kind.TagKind.TheVariants.{WideString, BinaryBlob}, ptu_definitions.specs.TagList.{code_in, is_known, is_negative, body_size}}
+use Rattle.ptu_definitions.{specs.{TagList.{is_end, Item}, Headers.{seen_from, seen, seen_preamble}}, proofs.Walks.{take_front, drop_front, not_less, is_less}}
+use Rattle.{ptu_definitions.proofs.SeenLemmas.seen_from-short, list_out.specs.HeaderText.{body_text, head_text, head_in, kind_with, item_text, end_text}}
+use Rattle.list_out.{specs.{HeaderText.{preamble_text, shown_text}, Lines.has_no_nul}, proofs.Bodies.{body_text-digits, body_text-passed, body_text-ended}}
 
 -- a text that begins with another
 abbrev pub Grown : List ℕ → List ℕ → Type 0

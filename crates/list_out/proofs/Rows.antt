@@ -1,8 +1,10 @@
 -- The text of a header at known bytes.
-use Rattle.std.{proofs.Common.{inl, inr, ◌+◌, ◌≤◌, min, drop, ◌≡◌, ◌-◌, ◌/◌, ◌%◌, ℕ, zero, suc, List, [], ◌∷◌, ◌++◌, length, take, replicate, refl, codes, ◌∙◌, ◌<◌, false, map, ap, sym, append_assoc, append-nil, arith, rules, true}, specs.Fmt.digits, proofs.Math.Seq.{drop-append_seam, take-append_seam}, proofs.lemmas.List.take_all, proofs.lemmas.Bool.cases_lt}
-use Rattle.tally_base.{specs.Hexadecimal.hexadecimal, specs.declared.event.Event.Event, specs.Columns.rows, proofs.BlockRows.{length-rows, more_rows, rows-last}, specs.declared.event.EventKind.TheVariants.{Photon, Marker}}
-use Rattle.ptu_definitions.{specs.TagList.{name_in, index_in, code_in, value_in, has_body, is_known}, specs.Headers.{seen, seen_from, seen_preamble}}
-use Rattle.list_out.{specs.HeaderText.{head_text, body_text, kind_with, item_text, preamble_text, shown_text, header_text}, specs.Lines.{event_text, events_text}}
+use Rattle.std.proofs.Common.{inl, inr, ◌+◌, ◌≤◌, min, drop, ◌≡◌, ◌-◌, ◌/◌, ◌%◌, ℕ, zero, suc, List, [], ◌∷◌, ◌++◌, length, take, replicate, refl, codes, ◌∙◌}
+use Rattle.std.proofs.{Common.{◌<◌, false, map, ap, sym, append_assoc, append-nil, arith, rules, true}, Math.Seq.{drop-append_seam, take-append_seam}}
+use Rattle.{std.{proofs.lemmas.{List.take_all, Bool.cases_lt}, specs.Fmt.digits}, tally_base.specs.{Hexadecimal.hexadecimal, declared.event.Event.Event}}
+use Rattle.tally_base.{specs.{declared.event.EventKind.TheVariants.{Photon, Marker}, Columns.rows}, proofs.BlockRows.{length-rows, more_rows, rows-last}}
+use Rattle.ptu_definitions.specs.{TagList.{name_in, index_in, code_in, value_in, has_body, is_known}, Headers.{seen, seen_from, seen_preamble}}
+use Rattle.list_out.specs.{HeaderText.{head_text, body_text, kind_with, item_text, preamble_text, shown_text, header_text}, Lines.{event_text, events_text}}
 
 abbrev start_bytes : List ℕ
 start_bytes = (codes "PQTTTR" ++ 0 ∷ 0 ∷ []) ++ codes "1.0.00" ++ 0 ∷ 0 ∷ []

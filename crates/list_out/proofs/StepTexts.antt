@@ -1,8 +1,10 @@
 -- What each step of a header reader adds to the text of the bytes taken.
-use Rattle.std.{proofs.Common.{◌≡◌, ◌^◌, ◌<◌, ◌≤◌, ℕ, List, [], ◌∷◌, ◌++◌, Bool, length, take, drop, refl, sym, ap, ◌∙◌, append_assoc, append-nil, arith, length-append, None, Some, nat_eq, codes, if◌then◌else◌, rules}, proofs.lemmas.Grind.flat_map-append, proofs.lemmas.Bool.Decides.nat_tests, proofs.lemmas.List.take_all}
-use Rattle.ptu_tag.{specs.declared.kind.TagKind.TagKind, specs.declared.head.TagHead.TagHead, specs.Kinds.{IsHead, code_of}}
-use Rattle.ptu_definitions.{specs.TagList.{code_in, body_size, Item}, specs.Headers.{seen, seen_preamble}, proofs.Walks.is_less}
-use Rattle.list_out.{specs.HeaderText.{body_text, head_text, head_in, kind_with, item_text, end_text, bare_end, preamble_text, preamble_lines_of, shown_text, header_text}, proofs.Growing.{item_of, items_text, item_text-cut, shown_text-none}}
+use Rattle.std.proofs.Common.{◌≡◌, ◌^◌, ◌<◌, ◌≤◌, ℕ, List, [], ◌∷◌, ◌++◌, Bool, length, take, drop, refl, sym, ap, ◌∙◌, append_assoc, append-nil, arith}
+use Rattle.std.proofs.{Common.{length-append, None, Some, nat_eq, codes, if◌then◌else◌, rules}, lemmas.{Grind.flat_map-append, Bool.Decides.nat_tests}}
+use Rattle.{std.proofs.lemmas.List.take_all, ptu_tag.specs.{declared.{kind.TagKind.TagKind, head.TagHead.TagHead}, Kinds.{IsHead, code_of}}}
+use Rattle.ptu_definitions.{specs.{TagList.{code_in, body_size, Item}, Headers.{seen, seen_preamble}}, proofs.Walks.is_less}
+use Rattle.list_out.specs.HeaderText.{body_text, head_text, head_in, kind_with, item_text, end_text, bare_end, preamble_text, preamble_lines_of, shown_text}
+use Rattle.list_out.{specs.HeaderText.header_text, proofs.Growing.{item_of, items_text, item_text-cut, shown_text-none}}
 
 -- bytes that are not too many for a header
 pub header_text-short : (a : List ℕ) → length a ≤ 2 ^ 24 → header_text a ≡ shown_text a
@@ -83,7 +85,8 @@ item_text-longer tag part b added last cut last_is grown =
     ∙ ap (λ l. l ++ (added ++ end)) (sym (item_text-cut tag part cut))
 
 -- bytes of a body
-pub header_text-body : (a b tag part added : List ℕ) (items : List Item) (last : Bool) → length (a ++ b) ≤ 2 ^ 24 → seen_preamble (a ++ b) ≡ seen_preamble a → seen a ≡ items ++ item_of tag part ∷ [] → seen (a ++ b) ≡ items ++ item_of tag (part ++ b) ∷ []
+pub header_text-body : (a b tag part added : List ℕ) (items : List Item) (last : Bool) → length (a ++ b) ≤ 2 ^ 24 → seen_preamble (a ++ b) ≡ seen_preamble a
+    → seen a ≡ items ++ item_of tag part ∷ [] → seen (a ++ b) ≡ items ++ item_of tag (part ++ b) ∷ []
     → length part < body_size tag → last ≡ nat_eq (length (part ++ b)) (body_size tag)
     → body_text (kind_with (code_in tag)) (part ++ b) ≡ body_text (kind_with (code_in tag)) part ++ added
     → header_text (a ++ b) ≡ header_text a ++ (added ++ (if last then codes "\n" else []))

@@ -32,10 +32,8 @@ pub fn write_newline(line: &mut [u8; LINE_SIZE]) -> usize
 /// and returns where it starts.
 #[inline(always)]
 pub fn write_number(text: &mut [u8], end: usize, number: u64) -> usize
-    requires room { 20 ≤ end }
-    requires inside { end ≤ length text.old }
-    ensures few { end ≤ result + 20 }
-    ensures inside { result ≤ end }
+    requires { (20 ≤ end) × (end ≤ length text.old) }
+    ensures start { (result ≤ end) × (end ≤ result + 20) }
     ensures written { drop result text.new ≡ decimal number ++ drop end text.old }
 {
     write_digits(number, text, end)
@@ -44,10 +42,8 @@ pub fn write_number(text: &mut [u8], end: usize, number: u64) -> usize
 /// The same of a greater number, which has at most 39 digits.
 #[inline(always)]
 pub fn write_wide(text: &mut [u8], end: usize, number: u128) -> usize
-    requires room { 39 ≤ end }
-    requires inside { end ≤ length text.old }
-    ensures few { end ≤ result + 39 }
-    ensures inside { result ≤ end }
+    requires { (39 ≤ end) × (end ≤ length text.old) }
+    ensures start { (result ≤ end) × (end ≤ result + 39) }
     ensures written { drop result text.new ≡ decimal number ++ drop end text.old }
 {
     if number <= u64::MAX as u128 {
@@ -59,10 +55,8 @@ pub fn write_wide(text: &mut [u8], end: usize, number: u128) -> usize
 
 /// The same of a number of more than 64 bits.
 fn write_widest(text: &mut [u8], end: usize, number: u128) -> usize
-    requires room { 39 ≤ end }
-    requires inside { end ≤ length text.old }
-    ensures few { end ≤ result + 39 }
-    ensures inside { result ≤ end }
+    requires { (39 ≤ end) × (end ≤ length text.old) }
+    ensures start { (result ≤ end) × (end ≤ result + 39) }
     ensures written { drop result text.new ≡ decimal number ++ drop end text.old }
 {
     let mut buffer = Buffer::new();

@@ -1,7 +1,6 @@
 // The body of a tag, byte by byte.
 ghost use Rattle.std.specs.Prelude.{◌≡◌, ◌++◌, ◌∷◌, [], List, ℕ};
-ghost use Rattle.ptu_tag.specs.declared.kind.TagKind.{TagKind};
-ghost use Rattle.list_out.specs.HeaderText.{body_text};
+ghost use Rattle.{ptu_tag.specs.declared.kind.TagKind.TagKind, list_out.specs.HeaderText.body_text};
 
 use crate::head::put_shown;
 use arrayvec::ArrayVec;

@@ -1,7 +1,6 @@
 // The lines of events.
 ghost use Rattle.std.specs.Prelude.{◌≡◌, ◌+◌, ◌≤◌, ◌++◌, length, take, drop, map, false};
-ghost use Rattle.tally_base.specs.Columns.{count, gathered};
-ghost use Rattle.list_out.specs.Lines.{event_text, events_text, kind_text, line_end};
+ghost use Rattle.{tally_base.specs.Columns.{count, gathered}, list_out.specs.Lines.{event_text, events_text, kind_text, line_end}};
 
 use crate::backwards::{LINE_SIZE, write_number, write_text};
 use arrayvec::ArrayVec;
@@ -16,10 +15,8 @@ pub const LINES_SIZE: usize = LINES * LINE_SIZE;
 /// Writes what an event is, with its time, before what stands from `end` on, and returns where it starts.
 #[inline(always)]
 fn write_kind(line: &mut [u8], end: usize, kind: EventKind, time: u64) -> usize
-    requires room { 70 ≤ end }
-    requires inside { end ≤ length line.old }
-    ensures few { end ≤ result + 70 }
-    ensures inside { result ≤ end }
+    requires { (70 ≤ end) × (end ≤ length line.old) }
+    ensures start { (result ≤ end) × (end ≤ result + 70) }
     ensures written { drop result line.new ≡ kind_text kind time ++ drop end line.old }
 {
     match kind {
@@ -43,10 +40,8 @@ fn write_kind(line: &mut [u8], end: usize, kind: EventKind, time: u64) -> usize
 /// Writes the end of a line before what stands from `end` on, and returns where it starts.
 #[inline(always)]
 fn write_end(line: &mut [u8], end: usize, late: bool) -> usize
-    requires room { 6 ≤ end }
-    requires inside { end ≤ length line.old }
-    ensures few { end ≤ result + 6 }
-    ensures inside { result ≤ end }
+    requires { (6 ≤ end) × (end ≤ length line.old) }
+    ensures start { (result ≤ end) × (end ≤ result + 6) }
     ensures written { drop result line.new ≡ line_end late ++ drop end line.old }
 {
     if late {
@@ -61,10 +56,8 @@ fn write_end(line: &mut [u8], end: usize, late: bool) -> usize
 #[inline(always)]
 #[tactic(auto, unfolding(crate::specs::Lines::event_text))]
 fn write_event(text: &mut [u8], end: usize, event: &Event, late: bool) -> usize
-    requires room { LINE_SIZE ≤ end }
-    requires inside { end ≤ length text.old }
-    ensures few { end ≤ result + LINE_SIZE }
-    ensures inside { result ≤ end }
+    requires { (LINE_SIZE ≤ end) × (end ≤ length text.old) }
+    ensures start { (result ≤ end) × (end ≤ result + LINE_SIZE) }
     ensures written { drop result text.new ≡ event_text event.now late ++ drop end text.old }
 {
     let end_at = write_end(text, end, late);

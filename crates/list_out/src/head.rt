@@ -1,7 +1,6 @@
 // The line of a tag, up to its body.
-ghost use Rattle.std.{specs.Prelude.{◌≡◌, ◌+◌, ◌≤◌, ◌++◌, length}, specs.List.{flat_map}};
-ghost use Rattle.arrayvec.specs.ArrayVec.{array_vec_len};
-ghost use Rattle.list_out.specs.HeaderText.{head_text, type_name, value_text, shown_byte};
+ghost use Rattle.std.specs.{Prelude.{◌≡◌, ◌+◌, ◌≤◌, ◌++◌, length}, List.flat_map};
+ghost use Rattle.{arrayvec.specs.ArrayVec.array_vec_len, list_out.specs.HeaderText.{head_text, type_name, value_text, shown_byte}};
 
 use arrayvec::ArrayVec;
 use ptu_tag::{TagHead, TagKind};

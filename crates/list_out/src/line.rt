@@ -1,7 +1,6 @@
 // Lines of a word and a value.
 ghost use Rattle.std.specs.Prelude.{◌≡◌, ◌+◌, ◌≤◌, ◌++◌, length, decimal, codes};
-ghost use Rattle.arrayvec.specs.ArrayVec.{array_vec_len};
-ghost use Rattle.list_out.specs.Lines.{line, announced, bits_text, time_text};
+ghost use Rattle.{arrayvec.specs.ArrayVec.array_vec_len, list_out.specs.Lines.{line, announced, bits_text, time_text}};
 
 use arrayvec::ArrayVec;
 use itoa::Buffer;

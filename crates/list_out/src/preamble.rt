@@ -1,8 +1,6 @@
 // The lines of a preamble.
-ghost use Rattle.std.{specs.Prelude.{◌≡◌, ◌+◌, ◌*◌, ◌≤◌, ◌++◌, length}, specs.List.{flat_map}};
-ghost use Rattle.arrayvec.specs.ArrayVec.{array_vec_len};
-ghost use Rattle.tally_base.specs.Hexadecimal.{hexadecimal};
-ghost use Rattle.list_out.specs.HeaderText.{preamble_lines_of};
+ghost use Rattle.std.specs.{Prelude.{◌≡◌, ◌+◌, ◌*◌, ◌≤◌, ◌++◌, length}, List.flat_map};
+ghost use Rattle.{arrayvec.specs.ArrayVec.array_vec_len, tally_base.specs.Hexadecimal.hexadecimal, list_out.specs.HeaderText.preamble_lines_of};
 
 use arrayvec::ArrayVec;
 use tally_base::{put_hexadecimal, put_text};

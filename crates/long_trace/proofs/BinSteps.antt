@@ -1,8 +1,10 @@
 -- What one event more does to the numbers that are kept, and to the lines.
-use Rattle.std.{proofs.Common.{◌≡◌, ◌∙◌, ℕ, ◌+◌, ◌-◌, ◌/◌, ◌*◌, ◌<◌, ◌≤◌, Bool, true, false, ◌&&◌, List, [], ◌∷◌, ◌++◌, max, refl, sym, ap, arith, append-nil, append_assoc, IsTrue, nat_lt, nat_le, ◌==◌, slice_index, if◌then◌else◌, rules}, proofs.lemmas.Nat.{div-mul-add, le-div}}
-use Rattle.tally_base.{specs.declared.event.Event.Event, specs.Events.{is_photon, is_in}, specs.Settings.TraceView, specs.Tally.History}
-use Rattle.count_trace.specs.TraceCounts.{in_trace_bin, count_before}
-use Rattle.long_trace.{specs.Texts.{frequency_limit, is_binned, bin_at, bin_line, bin_lines, closed_lines}, specs.Bins.{BinState, CountsBins, CountsOn}, proofs.Steps.{of_group, times-group, none-follows, same-follows, bin-none, bin-other, closed-is, lines-still, next-follows, next-closes}}
+use Rattle.std.proofs.Common.{◌≡◌, ◌∙◌, ℕ, ◌+◌, ◌-◌, ◌/◌, ◌*◌, ◌<◌, ◌≤◌, Bool, true, false, ◌&&◌, List, [], ◌∷◌, ◌++◌, max, refl, sym, ap, arith, append-nil}
+use Rattle.std.proofs.{Common.{append_assoc, IsTrue, nat_lt, nat_le, ◌==◌, slice_index, if◌then◌else◌, rules}, lemmas.Nat.{div-mul-add, le-div}}
+use Rattle.tally_base.specs.{declared.event.Event.Event, Events.{is_photon, is_in}, Settings.TraceView, Tally.History}
+use Rattle.{count_trace.specs.TraceCounts.{in_trace_bin, count_before}, long_trace.specs.Texts.{frequency_limit, is_binned, bin_at, bin_line, bin_lines}}
+use Rattle.long_trace.{specs.{Texts.closed_lines, Bins.{BinState, CountsBins, CountsOn}}, proofs.Steps.{of_group, times-group, none-follows, same-follows}}
+use Rattle.long_trace.proofs.Steps.{bin-none, bin-other, closed-is, lines-still, next-follows, next-closes}
 
 binned : (p g l : Bool) → (p && (g && l)) ≡ ((p && g) && l)
 binned p g l = search (rules, arith)
@@ -38,7 +40,8 @@ CountsOn-same set state x lines e at = CountsOn-still set state _ x lines refl (
     (λ h b lt. bin-other set b h x e (λ (q : bin_at set x.0.time ≡ b). omega (arith, lt, q, at)))
 
 -- a photon of the newest bin, or none of the group
-pub CountsOn-in : (set : TraceView) (state : BinState) (x : Event × ℕ) (lines : List ℕ) (more : ℕ) → more ≡ (if of_group set x then 1 else 0) → set.origin ≤ x.0.time → bin_at set x.0.time ≡ state.bin → CountsOn set state (record state { count = state.count + more }) (x ∷ []) lines lines
+pub CountsOn-in : (set : TraceView) (state : BinState) (x : Event × ℕ) (lines : List ℕ) (more : ℕ) → more ≡ (if of_group set x then 1 else 0)
+    → set.origin ≤ x.0.time → bin_at set x.0.time ≡ state.bin → CountsOn set state (record state { count = state.count + more }) (x ∷ []) lines lines
 CountsOn-in set state x lines more is le at = by_group (of_group set x) refl
   where
     by_group : (b : Bool) → of_group set x ≡ b → CountsOn set state (record state { count = state.count + more }) (x ∷ []) lines lines

@@ -1,9 +1,10 @@
 -- What is after the lines of the bins that are closed.
-use Rattle.std.{proofs.Common.{◌≡◌, ◌∙◌, ℕ, ◌+◌, ◌-◌, ◌<◌, Bool, true, false, ◌&&◌, cond, List, [], ◌++◌, refl, sym, ap, subst, arith, append-nil, append_assoc, nat_lt, ◌==◌, count_by, if◌then◌else◌, rules}, proofs.lemmas.Bool.cases_eq, proofs.lemmas.Bool.Decides.nat_tests}
-use Rattle.bench_io.{specs.Sinks.{SinkState, WroteShort, PassesOn}, proofs.Bytes.{WroteShort-same, WroteShort-more, WroteShort-passed, PassesOn-trans}}
-use Rattle.tally_base.{specs.Settings.TraceView, specs.Tally.History}
-use Rattle.count_trace.specs.TraceCounts.{in_trace_bin, count_before}
-use Rattle.long_trace.{specs.Texts.{frequency_limit, span, bin_line, bin_lines, closed_lines, counts, frequency, frequency_line, frequency_lines, frequencies_text, summary_text, open_text, whole_text}, specs.Bins.{BinState, CountsBins}, proofs.Firsts.{lines-more, lines-front, count-more}, proofs.Steps.closed-is}
+use Rattle.std.proofs.Common.{◌≡◌, ◌∙◌, ℕ, ◌+◌, ◌<◌, Bool, true, false, ◌&&◌, cond, List, ◌++◌, refl, sym, ap, arith, append-nil, append_assoc, slice_index}
+use Rattle.std.proofs.{Common.{nat_lt, nat_le, ◌==◌, count_by, if◌then◌else◌, rules}, lemmas.Bool.{cases_eq, Decides.nat_tests}}
+use Rattle.{tally_base.specs.{Settings.TraceView, Tally.History}, count_trace.specs.TraceCounts.{in_trace_bin, count_before}}
+use Rattle.long_trace.specs.Texts.{frequency_limit, span, bin_line, bin_lines, closed_lines, counts, frequency, frequency_line, frequency_lines, above}
+use Rattle.long_trace.specs.{Texts.{summary_text, open_text, whole_text}, declared.{counting.Counting.Counting, closed.Closed.Closed}, States.state_of}
+use Rattle.long_trace.{specs.{States.{end_text, AreFrequencies}, Bins.{BinState, CountsBins}}, proofs.{Firsts.{lines-more, count-more}, Steps.closed-is}}
 
 none_more : (n : ℕ) → n + 0 ≡ n
 none_more n = omega arith
@@ -63,51 +64,20 @@ module _ (set : TraceView) (state : BinState) (h : History) (is : CountsBins set
 
 -- ## The lines of the frequencies
 
-lines-next : (all : List ℕ) (n : ℕ) (line held : List ℕ) → line ≡ frequency_line n (frequency all n)
+pub lines-next : (all : List ℕ) (n : ℕ) (line held : List ℕ) → line ≡ frequency_line n (frequency all n)
     → (held ++ frequency_lines all n) ++ line ≡ held ++ frequency_lines all (n + 1)
 lines-next all n line held is =
     append_assoc held (frequency_lines all n) line
     ∙ ap (λ l. held ++ l) (ap (λ l. frequency_lines all n ++ l) is ∙ sym (lines-more (λ c. frequency_line c (frequency all c)) n (n + 1) refl))
 
-pub next-put : (all : List ℕ) (n : ℕ) (line : List ℕ) (a b c : SinkState) (held mid now : List ℕ) → line ≡ frequency_line n (frequency all n) → PassesOn a b (held ++ frequency_lines all n) mid → PassesOn b c (mid ++ line) now → PassesOn a c (held ++ frequency_lines all (n + 1)) now
-next-put all n line a b c held mid now is so_far put =
-    subst (λ t. PassesOn a c t now) (lines-next all n line held is) (PassesOn-trans a b c (held ++ frequency_lines all n) mid line now so_far put)
-
-pub next-cut : (all : List ℕ) (n : ℕ) (line : List ℕ) (a b c : SinkState) (held mid : List ℕ) → n < frequency_limit → line ≡ frequency_line n (frequency all n) → PassesOn a b (held ++ frequency_lines all n) mid → WroteShort b c (mid ++ line) → WroteShort a c (held ++ frequencies_text all)
-unfolding frequencies_text
-next-cut all n line a b c held mid inside is so_far cut =
-    let rest = lines-front (λ c. frequency_line c (frequency all c)) (n + 1) (frequency_limit - (n + 1)) frequency_limit (omega (arith, inside)) in
-    WroteShort-same a c _ _
-    (ap (λ l. l ++ rest.0) (lines-next all n line held is) ∙ append_assoc held (frequency_lines all (n + 1)) rest.0 ∙ ap (λ l. held ++ l) (sym rest.1))
-    (WroteShort-more a c _ rest.0 (WroteShort-passed a b c (held ++ frequency_lines all n) mid line so_far cut))
-
-pub all-put : (all : List ℕ) (n : ℕ) (a b : SinkState) (held now : List ℕ) → n ≡ frequency_limit
-    → PassesOn a b (held ++ frequency_lines all n) now → PassesOn a b (held ++ frequencies_text all) now
-unfolding frequencies_text
-all-put all n a b held now is put = rw is at put
-
-end-same : (last before frequencies many : List ℕ) → ((last ++ before) ++ frequencies) ++ many ≡ last ++ ((before ++ frequencies) ++ many)
-end-same last before frequencies many = ap (λ l. l ++ many) (append_assoc last before frequencies) ∙ append_assoc last (before ++ frequencies) many
-
-pub end-front : (last before frequencies many : List ℕ) → (last ++ before) ++ (frequencies ++ many) ≡ last ++ ((before ++ frequencies) ++ many)
-end-front last before frequencies many = append_assoc last before (frequencies ++ many) ∙ ap (λ l. last ++ l) (sym (append_assoc before frequencies many))
-
--- The lines at the end, in their order: those of the last bin and before the origin, those of the frequencies, and the last.
-module _ (a b c : SinkState) (held first last before frequencies mid now : List ℕ) (none : held ≡ []) (is : first ≡ last ++ before)
-    (put : PassesOn a b (held ++ first) mid) where
-  first-put : PassesOn a b (last ++ before) mid
-  first-put = rw (none, is) at put
-
-  pub first-cut : (rest : List ℕ) → WroteShort b c (mid ++ frequencies) → WroteShort a c (last ++ ((before ++ frequencies) ++ rest))
-  first-cut rest cut = WroteShort-same a c _ _ (end-same last before frequencies rest)
-      (WroteShort-more a c _ rest (WroteShort-passed a b c (last ++ before) mid frequencies first-put cut))
-
-  module _ (d : SinkState) (many line : List ℕ) (all : PassesOn b c (mid ++ frequencies) now) (line_is : line ≡ many) where
-    two-put : PassesOn a c ((last ++ before) ++ frequencies) now
-    two-put = PassesOn-trans a b c (last ++ before) mid frequencies now first-put all
-
-    pub two-cut : WroteShort c d (now ++ line) → WroteShort a d (last ++ ((before ++ frequencies) ++ many))
-    two-cut cut = WroteShort-same a d _ _ (end-same last before frequencies many) (WroteShort-passed a c d _ now many two-put (rw line_is at cut))
-
-    pub end-put : (then' : List ℕ) → PassesOn c d (now ++ line) then' → PassesOn a d (last ++ ((before ++ frequencies) ++ many)) then'
-    end-put then' more = subst (λ t. PassesOn a d t then') (end-same last before frequencies many) (PassesOn-trans a c d _ now many then' two-put (rw line_is at more))
+-- what is printed at the end, after what was printed before
+pub end-adds : (set : TraceView) (n : Counting) (closed with_last : Closed) (h : History) (bytes : List ℕ) → CountsBins set (state_of n closed) h → n.before ≡ count_before set h
+    → ((c : ℕ) → c < frequency_limit → slice_index with_last.frequencies c ≡ slice_index closed.frequencies c + (if nat_lt 0 n.newest.count && (n.newest.count == c) then 1 else 0))
+    → with_last.many ≡ closed.many + (if nat_lt 0 n.newest.count && nat_le frequency_limit n.newest.count then 1 else 0)
+    → ((all : List ℕ) → AreFrequencies with_last all → with_last.many ≡ above all → bytes ≡ end_text n all) → whole_text set h ≡ open_text set h ++ bytes
+end-adds set n closed with_last h bytes is before frequencies many ends =
+    let state = state_of n closed in
+    let all = counts set (span set h) h in
+    let is_end = ends all (λ c inside. all-counted set state h is (λ n. n == c) _ _ (is.each c inside) (frequencies c inside))
+    (all-counted set state h is (λ n. nat_le frequency_limit n) _ _ is.others many) in
+    rw before (whole-any set state h is) ∙ ap (λ l. open_text set h ++ l) (sym is_end)

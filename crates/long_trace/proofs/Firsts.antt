@@ -1,5 +1,7 @@
 -- What is made of the first numbers, one by one.
-use Rattle.std.{proofs.Common.{◌≡◌, ◌∙◌, ℕ, zero, suc, ◌+◌, ◌<◌, Bool, true, false, cond, List, [], ◌∷◌, ◌++◌, map, refl, sym, ap, arith, append-nil, append_assoc, count_by, rules}, specs.List.{range_with_len, flat_map}, proofs.lemmas.List.flat_map_more, proofs.lemmas.List.FromFn.map-range_with_len_more, proofs.lemmas.List.Sums.sum_by_push}
+use Rattle.std.proofs.Common.{◌≡◌, ◌∙◌, ℕ, zero, suc, ◌+◌, ◌<◌, Bool, true, false, cond, List, [], ◌∷◌, ◌++◌, map, refl, sym, ap, arith, append-nil}
+use Rattle.std.proofs.{Common.{append_assoc, count_by, rules}, lemmas.List.{flat_map_more, FromFn.map-range_with_len_more, Sums.sum_by_push}}
+use Rattle.std.specs.List.{range_with_len, flat_map}
 
 pub first-more : {A : Type 0} (f : ℕ → A) (n m : ℕ) → m ≡ n + 1 → map f (range_with_len 0 m) ≡ map f (range_with_len 0 n) ++ f n ∷ []
 first-more f n m e = rw e (map-range_with_len_more f 0 n n (omega arith))

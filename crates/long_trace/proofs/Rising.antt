@@ -1,8 +1,10 @@
 -- The lines of bins that are closed stay, where the times of photons don't fall.
-use Rattle.std.{proofs.Common.{◌≡◌, ◌∙◌, ℕ, ◌+◌, ◌-◌, ◌<◌, ◌≤◌, Bool, true, false, ◌&&◌, List, [], ◌∷◌, ◌++◌, max, refl, sym, ap, arith, append-nil, append_assoc, IsTrue, nat_le, if◌then◌else◌, rules}, proofs.lemmas.Nat.le-div, proofs.Math.Nat.div-mul-le_self, proofs.lemmas.Grind.common_steps}
-use Rattle.tally_base.{specs.declared.event.Event.Event, specs.Events.{is_photon, is_in}, specs.Settings.TraceView, specs.Tally.History}
-use Rattle.count_trace.specs.TraceCounts.{in_trace_bin, count_before}
-use Rattle.long_trace.{specs.Texts.{is_binned, bin_at, span, bin_line, bin_lines, closed_lines, counts, summary_text, first_line, open_text, whole_text}, proofs.Firsts.{lines-front}, proofs.Steps.{bin-none, bin-other, lines-still, span-push}}
+use Rattle.std.proofs.Common.{◌≡◌, ◌∙◌, ℕ, ◌+◌, ◌-◌, ◌<◌, ◌≤◌, Bool, true, false, ◌&&◌, List, [], ◌∷◌, ◌++◌, max, refl, sym, ap, arith, append-nil}
+use Rattle.std.proofs.{Common.{append_assoc, IsTrue, nat_le, if◌then◌else◌, rules}, lemmas.{Nat.le-div, Grind.common_steps}, Math.Nat.div-mul-le_self}
+use Rattle.tally_base.specs.{declared.event.Event.Event, Events.{is_photon, is_in}, Settings.TraceView, Tally.History}
+use Rattle.{count_trace.specs.TraceCounts.{in_trace_bin, count_before}, long_trace.specs.Texts.{is_binned, bin_at, span, bin_line, bin_lines, closed_lines}}
+use Rattle.long_trace.{specs.Texts.{counts, summary_text, first_line, open_text, whole_text}, proofs.{Firsts.lines-front, Steps.{bin-none, bin-other}}}
+use Rattle.long_trace.proofs.Steps.{lines-still, span-push}
 
 -- the time of the last photon, or this one
 abbrev pub last_time : ℕ → History → ℕ

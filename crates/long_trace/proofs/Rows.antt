@@ -1,7 +1,7 @@
 -- Known traces.
-use Rattle.std.{proofs.Common.{◌≡◌, ℕ, [], ◌∷◌, refl, codes}, specs.Fmt.digits}
-use Rattle.tally_base.{specs.declared.event.Event.Event, specs.declared.event.EventKind.TheVariants.{Photon, Marker}, specs.Settings.TraceView, specs.Tally.History}
-use Rattle.long_trace.specs.Texts.{span, frequencies_text, open_text, whole_text}
+use Rattle.{std.{proofs.Common.{◌≡◌, ℕ, [], ◌∷◌, refl, codes}, specs.Fmt.digits}, tally_base.specs.declared.event.{Event.Event, EventKind.TheVariants.Photon}}
+use Rattle.{tally_base.specs.{declared.event.EventKind.TheVariants.Marker, Settings.TraceView, Tally.History}, long_trace.specs.Texts.{span, frequencies_text}}
+use Rattle.long_trace.specs.Texts.{open_text, whole_text}
 
 -- a photon of the first group
 abbrev photon : ℕ → Event × ℕ

@@ -1,8 +1,12 @@
 -- One event more.
-use Rattle.std.{proofs.Common.{◌≡◌, ◌∙◌, ℕ, ◌+◌, ◌-◌, ◌/◌, ◌<◌, Bool, true, false, ◌&&◌, cond, List, [], ◌∷◌, ◌++◌, max, sym, ap, arith, append-nil, nat_le, ◌==◌, slice_index, count_by, if◌then◌else◌, rules, ◌≤◌, length, append_assoc, length-append, IsTrue, nat_lt}, proofs.lemmas.Bool.Decides.nat_tests, proofs.lemmas.List.Sums.{sum_by_push, fold_push}}
-use Rattle.tally_base.{specs.declared.event.Event.Event, specs.Events.{is_photon, is_in}, specs.Settings.{TraceView, trace_view}, specs.Tally.{History, greatest_time}, proofs.Floors.greatest-push}
-use Rattle.count_trace.{specs.TraceCounts.{count_times, in_trace_bin, count_before}, proofs.Blocks.count-append}
-use Rattle.long_trace.{specs.Texts.{frequency_limit, is_binned, bin_at, span, bin_line, bin_lines, closed_lines, counts, frequency, above, open_text}, specs.Bins.{BinState, CountsBins, CountsOn}, proofs.Firsts.{first-same, lines-same, count-skip, lines-skip}, specs.declared.trace.LongTrace.LongTrace, specs.LongTrace.{GivenMore, set_of, is_going, was_begun}, specs.States.state_of}
+use Rattle.std.proofs.Common.{◌≡◌, ◌∙◌, ℕ, ◌+◌, ◌-◌, ◌/◌, ◌<◌, Bool, true, false, ◌&&◌, cond, List, [], ◌∷◌, ◌++◌, max, sym, ap, arith, append-nil, nat_le}
+use Rattle.std.proofs.Common.{◌==◌, slice_index, count_by, if◌then◌else◌, rules, ◌≤◌, length, append_assoc, length-append, IsTrue, nat_lt}
+use Rattle.{std.proofs.lemmas.{Bool.Decides.nat_tests, List.Sums.{sum_by_push, fold_push}}, tally_base.specs.{declared.event.Event.Event, Events.is_photon}}
+use Rattle.tally_base.{specs.{Events.is_in, Settings.{TraceView, trace_view}, Tally.{History, greatest_time}}, proofs.Floors.greatest-push}
+use Rattle.{count_trace.{specs.TraceCounts.{count_times, in_trace_bin, count_before}, proofs.Blocks.count-append}, long_trace.specs.Texts.frequency_limit}
+use Rattle.long_trace.specs.{Texts.{is_binned, bin_at, span, bin_line, bin_lines, closed_lines, counts, frequency, above, open_text}, Bins.BinState}
+use Rattle.long_trace.specs.{Bins.{CountsBins, CountsOn}, declared.trace.LongTrace.LongTrace, LongTrace.{GivenMore, set_of, is_going, was_begun}}
+use Rattle.long_trace.{specs.States.state_of, proofs.Firsts.{first-same, lines-same, count-skip, lines-skip}}
 
 -- it is a photon of the group
 abbrev pub of_group : TraceView → Event × ℕ → Bool
@@ -85,7 +89,8 @@ later_last : (count bin : ℕ) → max (if count == 0 then 0 else bin + 1) (bin 
 later_last count bin = grind (arith, nat_tests)
 
 -- a photon in the newest bin
-pub same-follows : (set : TraceView) (state : BinState) (h : History) (x : Event × ℕ) → is_binned set x ≡ true → bin_at set x.0.time ≡ state.bin → CountsBins set state h → CountsBins set (record state { count = state.count + 1 }) (h ++ x ∷ [])
+pub same-follows : (set : TraceView) (state : BinState) (h : History) (x : Event × ℕ) → is_binned set x ≡ true → bin_at set x.0.time ≡ state.bin
+    → CountsBins set state h → CountsBins set (record state { count = state.count + 1 }) (h ++ x ∷ [])
 same-follows set state h x e at is =
     let still : (b : ℕ) → (b ≡ state.bin → ⊥) → in_trace_bin set b (h ++ x ∷ []) ≡ in_trace_bin set b h =
     λ b ne. bin-other set b h x e (λ (q : bin_at set x.0.time ≡ b). ne (sym q ∙ at)) in

@@ -1,7 +1,6 @@
 -- What the numbers that a trace without end keeps say of the events that it was given.
 use Rattle.std.specs.Prelude.{◌≡◌, ℕ, ◌+◌, ◌<◌, ◌==◌, ◌&&◌, Bool, List, [], ◌∷◌, ◌++◌, slice_index, if◌then◌else◌}
-use Rattle.tally_base.{specs.declared.event.Event.Event, specs.Events.{is_photon, is_in}, specs.Settings.TraceView, specs.Tally.History}
-use Rattle.count_trace.specs.TraceCounts.{in_trace_bin}
+use Rattle.{tally_base.specs.{declared.event.Event.Event, Events.{is_photon, is_in}, Settings.TraceView, Tally.History}, count_trace.specs.TraceCounts.in_trace_bin}
 use Rattle.long_trace.specs.Texts.{frequency_limit, span, closed_lines, counts, frequency, above}
 
 -- The newest bin and its count, how often each count came in the bins before it, and how many of them have no frequency.

@@ -1,8 +1,7 @@
 -- What a trace without end stands for.
 use Rattle.std.specs.Prelude.{◌≡◌, ℕ, ◌+◌, ◌<◌, ◌≤◌, Bool, List, [], ◌∷◌, ◌++◌, true, false, length, Result, is_ok, IsTrue, if◌then◌else◌}
-use Rattle.tally_base.{specs.declared.fault.Fault.Fault, specs.declared.event.Event.Event, specs.Events.is_photon, specs.Limits.record_limit, specs.declared.settings.TraceSet.TraceSet, specs.Settings.trace_view, specs.Tally.{History, greatest_time}}
-use Rattle.count_trace.specs.TraceCounts.{count_before}
-use Rattle.long_trace.{specs.declared.trace.LongTrace.LongTrace, specs.Bins.CountsBins, specs.States.state_of, specs.Texts.open_text}
+use Rattle.tally_base.specs.{declared.{fault.Fault.Fault, event.Event.Event, settings.TraceSet.TraceSet}, Events.is_photon, Limits.record_limit, Settings.trace_view, Tally.{History, greatest_time}}
+use Rattle.{count_trace.specs.TraceCounts.count_before, long_trace.specs.{declared.trace.LongTrace.LongTrace, Bins.CountsBins, States.state_of, Texts.open_text}}
 
 -- what it was made with
 abbrev pub set_of : LongTrace → TraceSet

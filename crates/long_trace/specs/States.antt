@@ -1,8 +1,7 @@
 -- The numbers that a trace without end keeps, as definitions see them.
-use Rattle.std.specs.Prelude.{ℕ, ◌≡◌, ◌+◌, ◌*◌, ◌^◌, ◌<◌, ◌≤◌, max, nat_lt, if◌then◌else◌, List, [], ◌++◌, length, sum, slice_index}
-use Rattle.tally_base.{specs.Settings.trace_view, specs.Tally.History}
-use Rattle.count_trace.specs.TraceCounts.{count_before}
-use Rattle.long_trace.{specs.declared.counting.Counting.Counting, specs.declared.closed.Closed.Closed, specs.Bins.{BinState, CountsOn}, specs.Texts.{bin_line, frequency_limit, frequency, summary_text}}
+use Rattle.std.specs.Prelude.{ℕ, ◌≡◌, ◌+◌, ◌*◌, ◌^◌, ◌<◌, ◌≤◌, max, nat_lt, if◌then◌else◌, true, List, [], ◌++◌, length, sum, slice_index}
+use Rattle.{tally_base.specs.{Settings.trace_view, Tally.History}, count_trace.specs.TraceCounts.count_before, long_trace.specs.declared.{counting.Counting.Counting, closed.Closed.Closed}}
+use Rattle.long_trace.specs.{Bins.{BinState, CountsOn, CountsAt}, Texts.{bin_line, frequency_limit, frequency, summary_text}}
 
 abbrev pub state_of : Counting → Closed → BinState
 state_of n closed = record { bin = n.newest.bin.index; count = n.newest.count; frequencies = closed.frequencies; many = closed.many }
@@ -52,6 +51,11 @@ pub record Opens (n next : Counting) (closed closed' : Closed) (time : ℕ) : Ty
   pub low : next.newest.bin.low ≤ time
   pub one : next.newest.count ≡ 1
   pub filled : Fills (state_of n closed) (state_of next closed') 1
+
+-- With the line of the bin that it closed after any lines, it counts a photon of the group at this time.
+abbrev pub OpensAt : Counting → Counting → Closed → Closed → ℕ → Type 0
+OpensAt n next closed closed' time =
+    (lines : List ℕ) → CountsAt (trace_view n.set) (state_of n closed) (state_of next closed') time (λ met. met ≡ true) lines (lines ++ bin_line n.newest.bin.index n.newest.count)
 
 -- The events of a block were counted.
 pub record CountsAll (n n' : Counting) (closed closed' : Closed) (more : History) (lines : List ℕ) : Type 0 where

@@ -1,7 +1,6 @@
 -- What a trace without end prints of the events that it is given, and how many bins it has by their counts.
-use Rattle.std.{specs.Prelude.{ℕ, Bool, ◌+◌, ◌-◌, ◌/◌, ◌==◌, ◌&&◌, nat_le, max, List, [], ◌++◌, map, fold, count_by, codes, decimal, if◌then◌else◌, sum_by}, specs.List.{range_with_len, flat_map}}
-use Rattle.tally_base.{specs.declared.event.Event.Event, specs.Events.{is_photon, is_in}, specs.Settings.TraceView, specs.Tally.History}
-use Rattle.count_trace.specs.TraceCounts.{in_trace_bin, count_before}
+use Rattle.std.specs.{Prelude.{ℕ, Bool, ◌+◌, ◌-◌, ◌/◌, ◌==◌, ◌&&◌, nat_le, max, List, [], ◌++◌, map, fold, count_by, codes, decimal, if◌then◌else◌, sum_by}, List.{range_with_len, flat_map}}
+use Rattle.{tally_base.specs.{declared.event.Event.Event, Events.{is_photon, is_in}, Settings.TraceView, Tally.History}, count_trace.specs.TraceCounts.{in_trace_bin, count_before}}
 
 -- a bin of this count or more is counted in one number, whatever its count
 abbrev pub frequency_limit : ℕ

@@ -1,8 +1,7 @@
 // The photons of a trace, counted by their times.
 ghost use Rattle.std.specs.Prelude.{◌≡◌, ℕ, ◌+◌, ◌*◌, ◌^◌, ◌<◌, ◌≤◌, ◌&&◌, [], false, true, max, nat_lt, nat_le, ◌==◌, slice_index, sum, length, if◌then◌else◌};
-ghost use Rattle.arrayvec.specs.ArrayVec.{array_vec_len};
-ghost use Rattle.tally_base.{specs.Columns.{gathered, events_in, IsSorted}, specs.Tally.{floor_after, InOrder}, specs.Limits.record_limit, specs.Settings.trace_view};
-ghost use Rattle.long_trace.{specs.Texts.frequency_limit, specs.Bins.CountsAt, specs.States.state_of};
+ghost use Rattle.{arrayvec.specs.ArrayVec.array_vec_len, tally_base.specs.{Columns.{gathered, events_in, IsSorted}, Tally.{floor_after, InOrder}, Limits.record_limit, Settings.trace_view}};
+ghost use Rattle.long_trace.specs.{Texts.frequency_limit, Bins.CountsAt, States.state_of};
 
 use crate::closed::Closed;
 use crate::lines::{LINE_SIZE, LINES_SIZE, put_bin};
@@ -27,26 +26,17 @@ pub(crate) struct Counting {
 }
 
 impl Counting {
-    ghost use Rattle.long_trace.specs.States.{CanCount, Counted, CountsAll, IsInStep, IsUpTo, Opens};
+    ghost use Rattle.long_trace.specs.States.{CanCount, Counted, CountsAll, IsInStep, IsUpTo, Opens, OpensAt};
 
     /// Closes the newest bin, and answers the bin of a photon after it.
-    fn open_next<const N: usize>(
-        &self,
-        closed: &mut Closed,
-        time: u64,
-        lines: &mut ArrayVec<u8, N>,
-    ) -> Counting
+    fn open_next(&self, closed: &mut Closed, time: u64) -> Counting
         requires step { IsInStep self.now closed.old }
         requires later { self.now.newest.bin.low + self.now.set.width ≤ time }
-        requires room { array_vec_len lines.old + LINE_SIZE ≤ N }
         ensures step { IsInStep result closed.new }
         ensures opens { Opens self.now result closed.old closed.new time }
-        ensures len { array_vec_len lines.new ≤ array_vec_len lines.old + LINE_SIZE }
-        ensures counts { CountsAt (trace_view self.now.set) (state_of self.now closed.old)
-            (state_of result closed.new) time (λ met. met ≡ true) lines.old.items lines.new.items }
+        ensures counts { OpensAt self.now result closed.old closed.new time }
     {
         let bin = Bin::of(&self.set, self.newest.bin, time);
-        put_bin(lines, self.newest.bin.index, self.newest.count);
         closed.close(self.newest.count, bin.index - self.newest.bin.index - 1);
         Counting {
             newest: OpenBin { bin, count: 1 },
@@ -76,7 +66,8 @@ impl Counting {
         } else if self.newest.bin.low <= time && time - self.newest.bin.low < self.set.width {
             self.newest.count += more;
         } else if more > 0 {
-            *self = self.open_next(closed, time, lines);
+            put_bin(lines, self.newest.bin.index, self.newest.count);
+            *self = self.open_next(closed, time);
         }
     }
 

@@ -1,8 +1,6 @@
 // The lines of a trace without end.
 ghost use Rattle.std.specs.Prelude.{◌≡◌, ◌+◌, ◌≤◌, ◌++◌};
-ghost use Rattle.arrayvec.specs.ArrayVec.{array_vec_len};
-ghost use Rattle.tally_base.specs.Settings.{trace_view};
-ghost use Rattle.long_trace.specs.Texts.{bin_line, frequency_line, first_line};
+ghost use Rattle.{arrayvec.specs.ArrayVec.array_vec_len, tally_base.specs.Settings.trace_view, long_trace.specs.Texts.{bin_line, frequency_line, first_line}};
 
 use arrayvec::ArrayVec;
 use tally_base::{TraceSet, put_decimal, put_text};

@@ -1,12 +1,11 @@
 // A trace without end.
 ghost use Rattle.std.specs.Prelude.{◌≡◌, ◌+◌, ◌*◌, ◌<◌, ◌≤◌, ◌&&◌, if◌then◌else◌, IfErr, OnOk, OnErr, max, slice_index, sum, ◌++◌, ◌∷◌, [], IsTrue, true, false, is_ok, length};
-ghost use Rattle.bench_io.specs.Sinks.{CountsFault, Wrote, WroteShort};
-ghost use Rattle.tally_base.{specs.Events.{is_photon, is_in}, specs.Columns.{gathered, events_in, IsSorted}, specs.Tally.{floor_after, InOrder, History}, specs.Limits.record_limit, specs.Settings.trace_view};
-ghost use Rattle.long_trace.specs.States.{IsUpTo};
+ghost use Rattle.{bench_io.specs.Sinks.{CountsFault, Wrote, WroteShort}, tally_base.specs.{Events.{is_photon, is_in}, Columns.{gathered, events_in, IsSorted}, Tally.{floor_after, InOrder, History}}};
+ghost use Rattle.{tally_base.specs.{Limits.record_limit, Settings.trace_view}, long_trace.specs.States.IsUpTo};
 
 use crate::closed::Closed;
 use crate::counting::{Counting, OpenBin, closed_with};
-use crate::ending::put_end;
+use crate::ending::end_lines;
 use crate::lines::{LINE_SIZE, LINES_SIZE, first_line};
 use arrayvec::ArrayVec;
 use bench_io::{Sink, write_all};
@@ -38,7 +37,7 @@ pub struct LongTrace {
 }
 
 impl LongTrace {
-    ghost use Rattle.long_trace.{specs.Texts.{first_line, whole_text}, specs.Written.{AppendsRest, CutsRest}, specs.LongTrace.{Holds, GivenMore, GoesOn, CanTake, Starts, set_of, taken_of, floor_of, was_begun, is_going, held, printed_by}};
+    ghost use Rattle.long_trace.{specs.Texts.{first_line, whole_text}, specs.Written.{AppendsRest, CutsRest}, specs.LongTrace.{Holds, GivenMore, GoesOn, CanTake, Starts, set_of, taken_of, floor_of, was_begun, is_going, printed_by}};
 
     /// A trace of no events. It doesn't look at the number of bins.
     pub fn new(set: &TraceSet) -> LongTrace
@@ -46,7 +45,6 @@ impl LongTrace {
         ensures empty { Holds result [] }
         ensures none { (taken_of result ≡ 0) × (floor_of result ≡ 0) }
         ensures fresh { was_begun result ≡ false }
-        ensures held { held result ≤ 1032 }
     {
         let bin = Bin {
             index: 0,
@@ -76,7 +74,6 @@ impl LongTrace {
             (first_line (trace_view (set_of self.old)))) }
         ensures fault { IfErr result (λ fault. fault ≡ Fault.WriteFault) }
         ensures starts { Starts self.old self.new result }
-        ensures held { held self.new ≤ 1032 }
     {
         self.begun = true;
         let written = write_or_refuse(out, first_line(&self.counting.set).as_slice());
@@ -95,7 +92,6 @@ impl LongTrace {
         ensures given { GivenMore self.old self.new ((e.now, groups) ∷ []) result.items }
         ensures one_more { taken_of self.new ≡ taken_of self.old + 1 }
         ensures moved { floor_of self.new ≡ (if is_photon e.now then e.now.time else floor_of self.old) }
-        ensures held { held self.new ≤ 1032 }
     {
         let mut line = ArrayVec::new();
         let more = photons_in(e, groups, self.counting.set.group);
@@ -116,7 +112,6 @@ impl LongTrace {
         ensures given { GivenMore self.old self.new (events_in block.now) lines.new.items }
         ensures more { taken_of self.new ≡ taken_of self.old + length (gathered block.now) }
         ensures moved { floor_of self.new ≡ floor_after false (floor_of self.old) (gathered block.now) }
-        ensures held { held self.new ≤ 1032 }
     {
         self.taken += block.len() as u64;
         self.floor = self
@@ -141,7 +136,6 @@ impl LongTrace {
         ensures fault { IfErr result (λ fault. fault ≡ Fault.WriteFault) }
         ensures cause { CountsFault (O.state out.old) (O.state out.new) result }
         ensures follows { GoesOn self.old self.new e.now groups result }
-        ensures held { held self.new ≤ 1032 }
     {
         let line = self.take(e, groups);
         let written = write_or_refuse(out, line.as_slice());
@@ -166,10 +160,7 @@ impl LongTrace {
         ensures cause { CountsFault (O.state out.old) (O.state out.new) result }
     {
         let closed = closed_with(&self.counting.newest, self.closed);
-        match put_end(&self.counting, &closed, out) {
-            Ok(()) => Ok(()),
-            Err(Failed) => Err(Fault::WriteFault),
-        }
+        write_or_refuse(out, end_lines(&self.counting, &closed).as_slice())
     }
 }
 

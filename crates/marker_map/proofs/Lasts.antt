@@ -1,5 +1,6 @@
 -- One more element, and what the last one that passes parts a list into.
-use Rattle.std.{proofs.Common.{◌≡◌, ◌∙◌, Bool, true, false, ◌||◌, cond, List, [], ◌∷◌, ◌++◌, refl, ap, Option, None, Some, filter, arith, rules}, specs.List.{list_any, last_or}, proofs.lemmas.List.append-nil, proofs.lemmas.List.Elements.filter-append, proofs.lemmas.List.Folds.list_any-append}
+use Rattle.std.proofs.Common.{◌≡◌, ◌∙◌, Bool, true, false, ◌||◌, cond, List, [], ◌∷◌, ◌++◌, refl, ap, Option, None, Some, filter, arith, rules}
+use Rattle.std.{proofs.lemmas.List.{append-nil, Elements.filter-append, Folds.list_any-append}, specs.List.{list_any, last_or}}
 use Rattle.marker_map.specs.Places.{last_that, until_last, behind_last, from_last}
 
 list_any-one : {X : Type 0} (p : X → Bool) (y : X) (b : Bool) → p y ≡ b → list_any p (y ∷ []) ≡ b

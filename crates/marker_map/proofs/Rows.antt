@@ -1,6 +1,5 @@
 -- The definitions at known markers.
-use Rattle.std.proofs.Common.{◌≡◌, ℕ, refl, false, true, List, [], ◌∷◌, Option, None, Some, nat_le}
-use Rattle.tally_base.specs.Settings.{ImageView}
+use Rattle.{std.proofs.Common.{◌≡◌, ℕ, refl, false, true, List, [], ◌∷◌, Option, None, Some, nat_le}, tally_base.specs.Settings.ImageView}
 use Rattle.marker_map.specs.Places.{last_that, until_last, behind_last, from_last, Mark, mark, greatest_time, place_of}
 
 row-until : until_last (nat_le 5) (1 ∷ 7 ∷ 2 ∷ 6 ∷ 3 ∷ []) ≡ 1 ∷ 7 ∷ 2 ∷ 6 ∷ []

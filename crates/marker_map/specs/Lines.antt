@@ -1,7 +1,6 @@
 -- What the lines of a scan stand for.
-use Rattle.std.{specs.Prelude.{◌≡◌, ◌≤◌, ℕ, List, length, Option}, specs.Option.{option_map_or}}
-use Rattle.tally_base.specs.Settings.{ImageView, image_view}
-use Rattle.marker_map.{specs.Places.{Mark, greatest_time}, specs.Strips.{open_line, next_row}, specs.declared.lines.Line.Line, specs.declared.lines.Lines.Lines}
+use Rattle.std.specs.{Prelude.{◌≡◌, ◌≤◌, ℕ, List, length, Option}, Option.option_map_or}
+use Rattle.{tally_base.specs.Settings.{ImageView, image_view}, marker_map.specs.{Places.{Mark, greatest_time}, Strips.{open_line, next_row}, declared.lines.{Line.Line, Lines.Lines}}}
 
 -- the image that they are of
 abbrev pub image_of : Lines → ImageView

@@ -1,5 +1,6 @@
 -- Where a photon is in an image, by all the markers before it.
-use Rattle.std.{specs.Prelude.{ℕ, Bool, ◌-◌, ◌/◌, ◌%◌, ◌&&◌, ◌==◌, nat_lt, List, Option, None, Some, count_by, option_and_then, if◌then◌else◌, false, max, fold, [], ◌∷◌, filter}, specs.List.{list_any, last_or}, specs.Int.bit_at}
+use Rattle.std.specs.{Prelude.{ℕ, Bool, ◌-◌, ◌/◌, ◌%◌, ◌&&◌, ◌==◌, nat_lt, List, Option, None, Some, count_by, option_and_then, if◌then◌else◌, false, max, fold, [], ◌∷◌, filter}, List.list_any}
+use Rattle.std.specs.{List.last_or, Int.bit_at}
 use Rattle.tally_base.specs.Settings.{ImageView}
 
 -- The markers of a scan, and a list, seen from its last element that passes a test.

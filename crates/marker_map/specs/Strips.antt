@@ -1,7 +1,7 @@
 -- Where photons are on the line that is open.
-use Rattle.std.{specs.Prelude.{ℕ, Bool, true, false, ◌-◌, ◌/◌, nat_lt, Option, None, Some, if◌then◌else◌, ◌+◌, ◌%◌, ◌==◌, ◌&&◌, List, is_none, option_map, option_and_then}, specs.List.list_any}
-use Rattle.tally_base.specs.Settings.{divisor_of, ImageView}
-use Rattle.marker_map.{specs.declared.strip.Strip.Strip, specs.declared.strip.Way.Way, specs.declared.strip.Way.TheVariants.{Forwards, Backwards}, specs.Places.{from_last, Mark, is_frame, line_of, lines_in, row_of, within}, specs.declared.lines.Line.Line}
+use Rattle.std.specs.{Prelude.{ℕ, ◌≡◌, Bool, true, false, ◌-◌, ◌/◌, nat_lt, Option, None, Some, if◌then◌else◌, ◌+◌, ◌%◌, ◌==◌, ◌&&◌, List, is_none, option_map, option_and_then}, List.list_any}
+use Rattle.{tally_base.specs.Settings.{divisor_of, ImageView}, marker_map.specs.{declared.{strip.{Strip.Strip, Way.{Way, TheVariants.{Forwards, Backwards}}}, lines.Line.Line}, Places.from_last}}
+use Rattle.marker_map.specs.Places.{Mark, is_frame, line_of, lines_in, row_of, within}
 
 -- the time of the marker of the line
 abbrev pub start_of : Strip → ℕ
@@ -15,6 +15,11 @@ height_of strip = strip.height
 
 abbrev pub is_backwards : Strip → Bool
 is_backwards strip = strip.backwards
+
+-- It has as many columns and rows as the image.
+pub record HasSizeOf (image : ImageView) (strip : Strip) : Type 0 where
+  pub width : width_of strip ≡ image.width
+  pub height : height_of strip ≡ image.height
 
 -- whether this way is from the last column to the first
 abbrev pub turns : Way → Bool

@@ -1,5 +1,5 @@
 // The bits of a marker.
-ghost use Rattle.std.{specs.Prelude.{◌≡◌, ◌<◌, ◌≤◌}, specs.Option.{ForSome}};
+ghost use Rattle.std.specs.{Prelude.{◌≡◌, ◌<◌, ◌≤◌}, Option.ForSome};
 ghost use Rattle.marker_map.specs.Places.{has_bit, has_named_bit};
 
 /// Whether these bits have bit `bit`, 1 to 4, which has the value 2^(bit - 1).

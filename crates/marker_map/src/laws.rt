@@ -1,5 +1,5 @@
 // Laws of the definitions, each as the contract of a function that does nothing.
-ghost use Rattle.std.{specs.Prelude.{◌≡◌, Bool, false, None, List, [], ◌++◌, option_to_list, if◌then◌else◌}, specs.List.{list_any, last_or}};
+ghost use Rattle.std.specs.{Prelude.{◌≡◌, Bool, false, None, List, [], ◌++◌, option_to_list, if◌then◌else◌}, List.{list_any, last_or}};
 ghost use Rattle.marker_map.specs.Places.{last_that, until_last, behind_last, from_last, Mark};
 
 /// The last marker that passes a test parts the markers: up to it, and after it, where none passes.

@@ -1,7 +1,6 @@
 // The lines of a scan.
-ghost use Rattle.std.{specs.Prelude.{◌≡◌, ◌+◌, ◌<◌, ◌≤◌, None, Some, option_map, if◌then◌else◌, ℕ, List, [], ◌∷◌, ◌++◌, IfSome, max}, specs.Option.ForSome};
-ghost use Rattle.tally_base.{specs.Settings.{image_view, divisor_of}, specs.Limits.record_limit};
-ghost use Rattle.marker_map.{specs.Places.runs_back, specs.Strips.{line_at, row_after}};
+ghost use Rattle.std.specs.{Prelude.{◌≡◌, ◌+◌, ◌<◌, ◌≤◌, None, Some, option_map, if◌then◌else◌, ℕ, List, [], ◌∷◌, ◌++◌, IfSome, max}, Option.ForSome};
+ghost use Rattle.{tally_base.specs.{Settings.{image_view, divisor_of}, Limits.record_limit}, marker_map.specs.{Places.runs_back, Strips.{line_at, row_after}}};
 
 use crate::bits::{has_bit, has_named_bit};
 use crate::strip::Strip;
@@ -81,7 +80,7 @@ fn runs_back(set: &ImageSet, row: u64) -> bool
 }
 
 impl Lines {
-    ghost use Rattle.marker_map.{specs.Places.{Mark, mark, place_of}, specs.Strips.{place_on, start_of, width_of, height_of, place_by}, specs.Lines.{Saw, image_of, markers_given, line_start}};
+    ghost use Rattle.marker_map.{specs.Places.{Mark, mark, place_of}, specs.Strips.{HasSizeOf, place_on, start_of, width_of, height_of, place_by}, specs.Lines.{Saw, image_of, markers_given, line_start}};
 
     /// The lines of an image, before any marker.
     pub fn new(set: &ImageSet) -> Lines
@@ -152,8 +151,7 @@ impl Lines {
         requires { line.row < (image_of self.now).height }
         ensures place { (time : ℕ) → place_on result time ≡ place_by (image_of self.now) time (Some line) }
         ensures begun { start_of result ≡ line.start }
-        ensures width { width_of result ≡ (image_of self.now).width }
-        ensures height { height_of result ≡ (image_of self.now).height }
+        ensures size { HasSizeOf (image_of self.now) result }
     {
         Strip {
             open: true,
@@ -172,8 +170,7 @@ impl Lines {
     fn no_strip(&self) -> Strip
         ensures place { (time : ℕ) → place_on result time ≡ None }
         ensures begun { start_of result ≡ 0 }
-        ensures width { width_of result ≡ (image_of self.now).width }
-        ensures height { height_of result ≡ (image_of self.now).height }
+        ensures size { HasSizeOf (image_of self.now) result }
     {
         Strip {
             open: false,

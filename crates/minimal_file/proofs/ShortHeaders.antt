@@ -1,7 +1,9 @@
 -- The header of a short file is read.
-use Rattle.std.{proofs.Common.{◌≡◌, ◌*◌, ◌/◌, ◌%◌, ◌^◌, ◌<◌, ℕ, List, [], ◌∷◌, ◌++◌, length, refl, ap, sym, ◌∙◌, arith, append_assoc, ◌+◌, Ok, take, codes, replicate}, specs.List.AllByRecursion, specs.Int.{to_le_bytes, w32}, proofs.Math.Seq.take-append-add}
-use Rattle.tally_base.{specs.declared.header.Mode.Mode, specs.declared.header.Mode.TheVariants.{T2, T3}, specs.RecordTypes.{code_of, type_with}}
-use Rattle.ptu_definitions.{specs.TagList.{name_in, code_in, value_in, has_body, is_known, Item, IsHeader}, specs.Fields.{int8, value_under, found_in, header_of}, specs.Endings.Whole, specs.Headers.{header_answer, head_of, answer_as}, proofs.Sound.one_answer, specs.Words.{word_of, words_of, rest_of}}
+use Rattle.std.proofs.Common.{◌≡◌, ◌*◌, ◌/◌, ◌%◌, ◌^◌, ◌<◌, ℕ, List, [], ◌∷◌, ◌++◌, length, refl, ap, sym, ◌∙◌, arith, append_assoc, ◌+◌, Ok, take, codes}
+use Rattle.std.{proofs.{Common.replicate, Math.Seq.take-append-add}, specs.{List.AllByRecursion, Int.{to_le_bytes, w32}}}
+use Rattle.{tally_base.specs.{declared.header.Mode.{Mode, TheVariants.{T2, T3}}, RecordTypes.{code_of, type_with}}, ptu_definitions.specs.TagList.name_in}
+use Rattle.ptu_definitions.specs.{TagList.{code_in, value_in, has_body, is_known, Item, IsHeader}, Fields.{int8, value_under, found_in, header_of}}
+use Rattle.ptu_definitions.{specs.{Endings.Whole, Headers.{header_answer, head_of, answer_as}, Words.{word_of, words_of, rest_of}}, proofs.Sound.one_answer}
 use Rattle.minimal_file.specs.ShortFiles.{short_type, tag_bytes, empty8, short_header, short_fields, bytes_in, minimal_file}
 
 abbrev type_item : Mode → Item

@@ -1,7 +1,7 @@
 -- A file of a header of two tags and of words.
-use Rattle.std.{specs.Prelude.{ℕ, ◌-◌, List, [], ◌∷◌, ◌++◌, None, length, codes, replicate}, specs.Int.{to_le_bytes, w32, w64}}
-use Rattle.tally_base.{specs.declared.header.Header.Header, specs.declared.header.Mode.Mode, specs.declared.header.Mode.TheVariants.{T2, T3}, specs.declared.header.RecordType.RecordType, specs.declared.header.RecordType.TheVariants.{HydraHarp2T2, HydraHarp2T3}, specs.RecordTypes.code_of, specs.declared.event.EventKind.EventKind, specs.declared.event.Event.Event}
-use Rattle.ptu_definitions.specs.Fields.{int8}
+use Rattle.std.specs.{Prelude.{ℕ, ◌-◌, List, [], ◌∷◌, ◌++◌, None, length, codes, replicate}, Int.{to_le_bytes, w32, w64}}
+use Rattle.tally_base.specs.declared.{header.{Header.Header, Mode.{Mode, TheVariants.{T2, T3}}, RecordType.{RecordType, TheVariants.{HydraHarp2T2, HydraHarp2T3}}}, event.EventKind.EventKind}
+use Rattle.{tally_base.specs.{declared.event.Event.Event, RecordTypes.code_of}, ptu_definitions.specs.Fields.int8}
 
 -- the record type that is written in each mode
 abbrev pub short_type : Mode → RecordType

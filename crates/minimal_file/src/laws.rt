@@ -1,8 +1,7 @@
 // Laws of short files, each as the contract of a function that does nothing.
-ghost use Rattle.std.{specs.Prelude.{◌≡◌, ◌+◌, ◌*◌, ◌<◌, ◌^◌, ℕ, List, [], Ok, length}, specs.List.{All}};
-ghost use Rattle.tally_base.specs.declared.header.Mode.{Mode};
-ghost use Rattle.ptu_definitions.{specs.Headers.header_answer, specs.Words.{words_of, rest_of}};
-ghost use Rattle.minimal_file.specs.ShortFiles.{bytes_in, short_fields, minimal_file};
+ghost use Rattle.std.specs.{Prelude.{◌≡◌, ◌+◌, ◌*◌, ◌<◌, ◌^◌, ℕ, List, [], Ok, length}, List.All};
+ghost use Rattle.{tally_base.specs.declared.header.Mode.Mode, ptu_definitions.specs.{Headers.header_answer, Words.{words_of, rest_of}}, minimal_file.specs.ShortFiles.{bytes_in, short_fields}};
+ghost use Rattle.minimal_file.specs.ShortFiles.{minimal_file};
 
 /// A short file has a header of its mode's record type and 112 bytes, and after it its words, four bytes
 /// each and no byte more.

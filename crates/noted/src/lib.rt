@@ -1,7 +1,7 @@
 //! A list that only contracts read. It takes no memory, and its methods do nothing at run time.
 #![tactic(auto)]
 
-ghost use Rattle.std.{specs.Prelude.{◌≡◌, List, [], ◌++◌}, specs.Borrow.{ftrue}, specs.Coded.{coded_list}};
+ghost use Rattle.std.specs.{Prelude.{◌≡◌, List, [], ◌++◌}, Borrow.ftrue, Coded.coded_list};
 
 use std::marker::{Model, PhantomData};
 

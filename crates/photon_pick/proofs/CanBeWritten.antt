@@ -1,10 +1,17 @@
 -- The photons of a group of a file can be written, up to the first that is too late.
-use Rattle.std.{proofs.Common.{◌≡◌, ◌∙◌, ℕ, ◌+◌, List, [], ◌∷◌, ◌++◌, Bool, true, false, cond, if◌then◌else◌, length, take, drop, map, refl, sym, ap, subst, Result, Ok, Err, ◌==◌, arith, rules}, specs.List.{All, AllByRecursion, filter}, specs.List.Sorted.IsNonDecreasingBy, proofs.Math.Seq.take-append_seam, proofs.lemmas.Bool.eqb-true, proofs.lemmas.List.take-append-drop, proofs.lemmas.List.Elements.{All-nil, All-head, All-tail, All-append, All-filter, All-same, All-take, All-from_recursion, filter-append, filter_passes}, proofs.lemmas.List.Sorted.{All-permutation, IsNonDecreasingBy-take}}
-use Rattle.tally_base.{specs.declared.event.Event.Event, specs.declared.event.EventKind.TheVariants.Marker as MarkerEvent, specs.declared.event.Policy.Policy, specs.declared.fault.Fault.Fault, specs.declared.header.Mode.Mode, specs.declared.header.RecordType.RecordType, specs.Events.{is_photon, is_ordered}, specs.RecordTypes.mode_of}
-use Rattle.ptu_definitions.{specs.declared.records.Raw.Raw, specs.declared.records.Summary.Summary, specs.Layouts.{Fits, KindFits, meaning_of}, specs.Kept.kept, specs.Prefixes.each_after, specs.Settled.{is_overtaken, unless_overtaken, not_overtaken, in_time, ordered, kept_by, Rises}, specs.Streams.{StreamSettings, reading, given, streamed}, specs.Times.{event_of, event_after, events}, specs.Words.words_of, proofs.DeliveredLaws.{in_time-kept, delivered-settled}, proofs.WordsLemmas.meaning-fits, proofs.SettledLaws.{in_time-permutation, in_time-rises}, proofs.SettledLemmas.{Rises-lower, IsNonDecreasingBy-Rises}}
-use Rattle.gate_plan.specs.Shifting.{Sorting}
-use Rattle.record_write.specs.Picked.{is_too_late, IsPhotonOf, CanBePicked}
-use Rattle.photon_pick.{specs.Chosen.is_chosen, specs.Late.{too_late, writable, AreBeforeLate}, specs.Texts.photons_in, specs.Ends.{photons_kept, photons_by, photons_of}, proofs.Parts.writable-all, proofs.Ends.chosen-photon}
+use Rattle.std.proofs.Common.{◌≡◌, ◌∙◌, ℕ, ◌+◌, List, [], ◌∷◌, ◌++◌, Bool, true, false, cond, if◌then◌else◌, length, take, drop, map, refl, sym, ap, subst}
+use Rattle.std.proofs.{Common.{Result, Ok, Err, ◌==◌, arith, rules}, Math.Seq.take-append_seam, lemmas.{Bool.eqb-true, List.take-append-drop}}
+use Rattle.std.proofs.lemmas.List.Elements.{All-nil, All-head, All-tail, All-append, All-filter, All-same, All-take, All-from_recursion, filter-append}
+use Rattle.std.{proofs.lemmas.List.{Elements.filter_passes, Sorted.{All-permutation, IsNonDecreasingBy-take}}, specs.List.{All, AllByRecursion, filter}}
+use Rattle.{std.specs.List.Sorted.IsNonDecreasingBy, tally_base.specs.declared.event.{Event.Event, EventKind.TheVariants.Marker as MarkerEvent, Policy.Policy}}
+use Rattle.tally_base.specs.{declared.{fault.Fault.Fault, header.{Mode.Mode, RecordType.RecordType}}, Events.{is_photon, is_ordered}, RecordTypes.mode_of}
+use Rattle.ptu_definitions.specs.{declared.records.{Raw.Raw, Summary.Summary}, Layouts.{Fits, KindFits, meaning_of}, Kept.kept, Prefixes.each_after}
+use Rattle.ptu_definitions.specs.{Settled.{is_overtaken, unless_overtaken, not_overtaken, in_time, ordered, kept_by, Rises}, Streams.{StreamSettings, reading}}
+use Rattle.ptu_definitions.{specs.{Streams.{given, streamed}, Times.{event_of, event_after, events}, Words.words_of}, proofs.DeliveredLaws.in_time-kept}
+use Rattle.ptu_definitions.proofs.{DeliveredLaws.delivered-settled, WordsLemmas.meaning-fits, SettledLaws.{in_time-permutation, in_time-rises}}
+use Rattle.{ptu_definitions.proofs.SettledLemmas.{Rises-lower, IsNonDecreasingBy-Rises}, gate_plan.specs.Shifting.Sorting}
+use Rattle.{record_write.specs.Picked.{is_too_late, IsPhotonOf, CanBePicked}, photon_pick.specs.{Chosen.is_chosen, Late.{too_late, writable, AreBeforeLate}}}
+use Rattle.photon_pick.{specs.{Texts.photons_in, Ends.{photons_kept, photons_by, photons_of}}, proofs.{Parts.writable-all, Ends.chosen-photon}}
 
 -- ## Events fit the mode of their records
 

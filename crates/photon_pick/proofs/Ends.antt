@@ -1,11 +1,14 @@
 -- What the end of a stream writes of the photons of a group.
-use Rattle.std.{proofs.Common.{◌≡◌, ◌∙◌, ℕ, List, [], ◌++◌, Bool, None, Some, Ok, Err, map, refl, sym, ap, inl, inr, ⊎_elim, append-nil, Result, arith, rules, true}, specs.List.filter}
-use Rattle.tally_base.{specs.declared.event.Event.Event, specs.declared.fault.Fault.Fault, specs.declared.fault.Fault.TheVariants.WriteFault, specs.declared.header.Mode.Mode, specs.Events.{is_photon, is_ordered}}
-use Rattle.bench_io.{specs.Sinks.{SinkState, Wrote, WroteShort}, specs.Texts.{WroteText, CutText}, proofs.Bytes.WroteShort-none}
-use Rattle.ptu_definitions.{specs.declared.records.Summary.Summary, specs.Kept.Marked, specs.Settled.{not_marked, delivered, delivered_last}, specs.Streams.{StreamSettings, record_refusal, last_in, streamed, summary, given}, specs.Times.events, specs.Words.{words_of, rest_of}, proofs.DeliveredLaws.{delivered-kept, delivered-none}, proofs.Firsts.given-all}
-use Rattle.record_stream.{specs.declared.taker.EventTaker.Ghosts, specs.Ending.{GaveRest, BrokeFirst, Ended}}
-use Rattle.photon_pick.{specs.Giving.{Stand, TookPhotons, Refused}, specs.Texts.{photons_in, text_in, answer_by, HasPickedIn}, specs.Ends.{photons_kept, photons_by, end_text, end_fault, WritesEnd}, proofs.Parts.{chosen-more, bytes_of, took-clear, took-wrote, took-cut, refused-wrote, refused-cut}, specs.Chosen.is_chosen}
-use Rattle.gate_plan.specs.Shifting.{Sorting}
+use Rattle.std.proofs.Common.{◌≡◌, ◌∙◌, ℕ, List, [], ◌++◌, Bool, None, Some, Ok, Err, map, refl, sym, ap, inl, inr, ⊎_elim, append-nil, Result, arith, rules}
+use Rattle.{std.{proofs.Common.true, specs.List.filter}, tally_base.specs.declared.{event.Event.Event, fault.Fault.{Fault, TheVariants.WriteFault}}}
+use Rattle.{tally_base.specs.{declared.header.Mode.Mode, Events.{is_photon, is_ordered}}, bench_io.specs.Sinks.{SinkState, Wrote, WroteShort}}
+use Rattle.{bench_io.{specs.Texts.{WroteText, CutText}, proofs.Bytes.WroteShort-none}, ptu_definitions.specs.{declared.records.Summary.Summary, Kept.Marked}}
+use Rattle.ptu_definitions.specs.{Settled.{not_marked, delivered, delivered_last}, Streams.{StreamSettings, record_refusal, last_in, streamed, summary, given}}
+use Rattle.ptu_definitions.{specs.{Times.events, Words.{words_of, rest_of}}, proofs.{DeliveredLaws.{delivered-kept, delivered-none}, Firsts.given-all}}
+use Rattle.{record_stream.specs.{declared.taker.EventTaker.Ghosts, Ending.{GaveRest, BrokeFirst, Ended}}, photon_pick.specs.Giving.{Stand, TookPhotons}}
+use Rattle.photon_pick.specs.{Giving.Refused, Texts.{photons_in, text_in, answer_by, HasPickedIn}, Ends.{photons_kept, photons_by, end_text, end_fault}}
+use Rattle.photon_pick.{specs.{Ends.WritesEnd, Chosen.is_chosen}, proofs.Parts.{chosen-more, bytes_of, took-clear, took-wrote, took-cut, refused-wrote}}
+use Rattle.{photon_pick.proofs.Parts.refused-cut, gate_plan.specs.Shifting.Sorting}
 
 -- the kept list has what was given, and what is given at the end
 pub kept-are : (chooses : Event → Bool) (how : StreamSettings) (words : List ℕ) → record_refusal how words ≡ None

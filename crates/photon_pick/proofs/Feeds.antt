@@ -1,12 +1,14 @@
 -- What a piece writes of the photons of a group.
-use Rattle.std.{proofs.Common.{◌≡◌, ◌∙◌, ℕ, List, [], ◌++◌, Bool, None, Some, Ok, Err, refl, ap, inl, inr, ⊎_elim, Result, OnOk, arith, rules}, specs.List.filter, specs.declared.option.Option.Option}
-use Rattle.tally_base.{specs.declared.event.Event.Event, specs.declared.fault.Fault.Fault, specs.declared.fault.Fault.TheVariants.WriteFault}
-use Rattle.bench_io.{specs.Sinks.{SinkState, Wrote, WroteShort}, specs.Texts.{WroteText, CutText, WritesText}}
-use Rattle.ptu_definitions.{specs.Kept.Marked, specs.Settled.not_marked, specs.Streams.{StreamSettings, record_refusal, given}}
-use Rattle.record_stream.{specs.declared.taker.EventTaker.Ghosts, specs.Feeding.{GaveOn, BrokeOn, Fed}}
-use Rattle.photon_pick.{specs.Giving.{Stand, TookPhotons, Refused}, specs.Texts.{photons_in, text_in, refusal_in, answer_by, HasPickedIn}, proofs.Parts.{chosen-more, took-clear, took-picked, took-wrote, took-cut, refused-wrote, refused-cut}}
+use Rattle.std.proofs.Common.{◌≡◌, ◌∙◌, ℕ, List, [], ◌++◌, Bool, None, Some, Ok, Err, refl, ap, inl, inr, ⊎_elim, Result, OnOk, arith, rules}
+use Rattle.{std.specs.{List.filter, declared.option.Option.Option}, tally_base.specs.declared.{event.Event.Event, fault.Fault.{Fault, TheVariants.WriteFault}}}
+use Rattle.{bench_io.specs.{Sinks.{SinkState, Wrote, WroteShort}, Texts.{WroteText, CutText, WritesText}}, ptu_definitions.specs.Kept.Marked}
+use Rattle.{ptu_definitions.specs.{Settled.not_marked, Streams.{StreamSettings, record_refusal, given}}, record_stream.specs.declared.taker.EventTaker.Ghosts}
+use Rattle.{record_stream.specs.Feeding.{GaveOn, BrokeOn, Fed}, photon_pick.specs.{Giving.{Stand, TookPhotons, Refused}, Texts.{photons_in, text_in}}}
+use Rattle.photon_pick.{specs.Texts.{refusal_in, answer_by, HasPickedIn}, proofs.Parts.{chosen-more, took-clear, took-picked, took-wrote, took-cut}}
+use Rattle.photon_pick.proofs.Parts.{refused-wrote, refused-cut}
 
-pub photons-more : (chooses : Event → Bool) (how : StreamSettings) (words now : List ℕ) (more : Marked) → given how now ≡ given how words ++ more → photons_in chooses how now ≡ photons_in chooses how words ++ filter chooses (not_marked more)
+pub photons-more : (chooses : Event → Bool) (how : StreamSettings) (words now : List ℕ) (more : Marked) → given how now ≡ given how words ++ more
+    → photons_in chooses how now ≡ photons_in chooses how words ++ filter chooses (not_marked more)
 photons-more chooses how words now more adds = ap (λ l. filter chooses (not_marked l)) adds ∙ chosen-more chooses (given how words) more
 
 module _ {T : Type 0} (g : Ghosts T) (a b : T) (at : T → Stand) (chooses : Event → Bool) (how : StreamSettings) (same_choice : (at a).chooses ≡ chooses) (same_mode : (at a).mode ≡ how.mode) (empty : (at a).held ≡ []) (c : SinkState)
@@ -71,7 +73,8 @@ module _ {T : Type 0} (g : Ghosts T) (a b : T) (at : T → Stand) (chooses : Eve
       fed
 
   -- What it wrote where the flush failed.
-  pub feeds-cut : (r : Result (Unit {0}) Fault) → WroteShort t.sink c t.held → Fed g how a b words now r → WritesText {X = Unit {0}} (text_in chooses how words) (text_in chooses how now) (refusal_in chooses how now) s.sink c (Err WriteFault)
+  pub feeds-cut : (r : Result (Unit {0}) Fault) → WroteShort t.sink c t.held → Fed g how a b words now r
+      → WritesText {X = Unit {0}} (text_in chooses how words) (text_in chooses how now) (refusal_in chooses how now) s.sink c (Err WriteFault)
   feeds-cut (Ok done) short fed = inr (refl, gave-cut fed.1 short)
   feeds-cut (Err fault) short fed =
       ⊎_elim

@@ -1,9 +1,10 @@
 -- What one photon more, given to a picker, leaves by what `put` says.
-use Rattle.std.{proofs.Common.{◌≡◌, ◌∙◌, ◌⊎◌, ◌↔◌, Bool, true, false, List, [], ◌∷◌, ◌++◌, Result, Ok, Err, ap, sym, subst, refl, rules, arith, ⊎_elim, append_assoc, append-nil, inl, inr}, proofs.lemmas.List.Elements.filter-append}
-use Rattle.tally_base.{specs.declared.event.Event.Event, specs.declared.fault.Fault.Fault, specs.declared.fault.Fault.TheVariants.{PickTime, WriteFault}, specs.FaultCounts.Rose, proofs.Floors.floor-push}
-use Rattle.ptu_definitions.proofs.PrefixLemmas.{each_after-append}
-use Rattle.record_write.{specs.Picked.{is_too_late, photon_words}, specs.Picker.{mode_of, last_by, is_going, HasPicked, Picks, OnWordsOf}, specs.Writing.{PutsWords, CutsWords, PutsOrCuts, PickCause}, proofs.Puts.{puts-none, puts-more, cuts-behind}}
-use Rattle.photon_pick.{specs.Giving.{Gave, Pen, TooLate, WriteFailed, words_behind}, specs.Late.too_late}
+use Rattle.std.proofs.Common.{◌≡◌, ◌∙◌, ◌⊎◌, ◌↔◌, Bool, true, false, List, [], ◌∷◌, ◌++◌, Result, Ok, Err, ap, sym, subst, refl, rules, arith, ⊎_elim}
+use Rattle.{std.proofs.{Common.{append_assoc, append-nil, inl, inr}, lemmas.List.Elements.filter-append}, tally_base.specs.declared.event.Event.Event}
+use Rattle.tally_base.{specs.{declared.fault.Fault.{Fault, TheVariants.{PickTime, WriteFault}}, FaultCounts.Rose}, proofs.Floors.floor-push}
+use Rattle.{ptu_definitions.proofs.PrefixLemmas.each_after-append, record_write.specs.{Picked.{is_too_late, photon_words}, Picker.{mode_of, last_by, is_going}}}
+use Rattle.record_write.{specs.{Picker.{HasPicked, Picks, OnWordsOf}, Writing.{PutsWords, CutsWords, PutsOrCuts, PickCause}}, proofs.Puts.puts-none}
+use Rattle.{record_write.proofs.Puts.{puts-more, cuts-behind}, photon_pick.specs.{Giving.{Gave, Pen, TooLate, WriteFailed, words_behind}, Late.too_late}}
 
 abbrev Answer : Type 0
 Answer = Result (Unit {0}) Fault

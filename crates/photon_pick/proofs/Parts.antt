@@ -1,11 +1,13 @@
 -- What was put of photons after others, and what is left of them.
-use Rattle.std.{proofs.Common.{◌≡◌, ◌∙◌, ℕ, List, [], ◌∷◌, ◌++◌, Bool, true, false, Some, cond, refl, sym, ap, subst, append_assoc, append-nil, arith, rules, inl, inr, ⊎_elim, Err}, specs.List.filter, specs.declared.option.Option.Option, proofs.lemmas.List.Elements.filter-append}
-use Rattle.tally_base.{specs.declared.event.Event.Event, specs.declared.header.Mode.Mode, specs.declared.fault.Fault.Fault, specs.declared.fault.Fault.TheVariants.{PickTime, WriteFault}}
-use Rattle.bench_io.{specs.Sinks.{SinkState, Wrote, WroteShort, PassesOn}, specs.Texts.{WroteText, CutText, WritesText}, proofs.Bytes.{Wrote-flushed, WroteShort-none, WroteShort-more, WroteShort-kept, WroteShort-flushed}}
-use Rattle.ptu_definitions.{specs.Kept.Marked, specs.Prefixes.{each_after, first}, specs.Settled.not_marked, proofs.DeliveredLaws.not_marked-append, proofs.PrefixLemmas.each_after-append}
-use Rattle.minimal_file.{specs.ShortFiles.bytes_in, proofs.ShortHeaders.bytes_in-append}
-use Rattle.record_write.{specs.Picked.{is_too_late, photon_words, picked_words}, specs.Picker.HasPicked}
-use Rattle.photon_pick.{specs.Late.{too_late, writable}, specs.Giving.{Stand, TookPhotons, Refused, RefusedLate, RefusedCut, PutsPhotons}, specs.Texts.late_or}
+use Rattle.std.proofs.Common.{◌≡◌, ◌∙◌, ℕ, List, [], ◌∷◌, ◌++◌, Bool, true, false, Some, cond, refl, sym, ap, subst, append_assoc, append-nil, arith, rules}
+use Rattle.std.{proofs.{Common.{inl, inr, ⊎_elim, Err}, lemmas.List.Elements.filter-append}, specs.{List.filter, declared.option.Option.Option}}
+use Rattle.tally_base.specs.declared.{event.Event.Event, header.Mode.Mode, fault.Fault.{Fault, TheVariants.{PickTime, WriteFault}}}
+use Rattle.bench_io.{specs.{Sinks.{SinkState, Wrote, WroteShort, PassesOn}, Texts.{WroteText, CutText, WritesText}}, proofs.Bytes.Wrote-flushed}
+use Rattle.{bench_io.proofs.Bytes.{WroteShort-none, WroteShort-more, WroteShort-kept, WroteShort-flushed}, ptu_definitions.specs.Kept.Marked}
+use Rattle.ptu_definitions.{specs.{Prefixes.{each_after, first}, Settled.not_marked}, proofs.{DeliveredLaws.not_marked-append, PrefixLemmas.each_after-append}}
+use Rattle.{minimal_file.{specs.ShortFiles.bytes_in, proofs.ShortHeaders.bytes_in-append}, record_write.specs.Picked.{is_too_late, photon_words, picked_words}}
+use Rattle.{record_write.specs.Picker.HasPicked, photon_pick.specs.{Late.{too_late, writable}, Giving.{Stand, TookPhotons, Refused, RefusedLate, RefusedCut}}}
+use Rattle.photon_pick.specs.{Giving.PutsPhotons, Texts.late_or}
 
 -- ## Photons that are too late
 
@@ -36,7 +38,8 @@ writable-late mode ps back e p late = writable-clear mode ps (e ∷ back) p ∙ 
 move-time : (m n : Mode) (time : ℕ) (b : Bool) → m ≡ n → is_too_late m time ≡ b → is_too_late n time ≡ b
 move-time m n time b same h = subst (λ x. is_too_late x time ≡ b) same h
 
-move-cut : (m n : Mode) (a b : SinkState) (held : List ℕ) (behind photons : List Event) → m ≡ n → held ≡ [] → WroteShort a b (held ++ bytes_in (each_after (photon_words m) behind photons)) → WroteShort a b (bytes_in (each_after (photon_words n) behind photons))
+move-cut : (m n : Mode) (a b : SinkState) (held : List ℕ) (behind photons : List Event) → m ≡ n → held ≡ []
+    → WroteShort a b (held ++ bytes_in (each_after (photon_words m) behind photons)) → WroteShort a b (bytes_in (each_after (photon_words n) behind photons))
 move-cut m n a b held behind photons same none h = search (rules, arith)
 
 -- ## Texts

@@ -1,10 +1,11 @@
 -- The definitions at known photons.
-use Rattle.std.proofs.Common.{◌≡◌, ◌+◌, ◌^◌, ℕ, Bool, List, [], ◌∷◌, ◌++◌, Some, None, refl}
-use Rattle.tally_base.{specs.declared.event.Event.Event, specs.declared.event.EventKind.TheVariants.Photon, specs.declared.fault.Fault.TheVariants.{PickTime, TruncatedRecord}, specs.declared.event.Order.TheVariants.Drop, specs.declared.event.OnReserved.TheVariants.Skip, specs.declared.header.Mode.TheVariants.{T2, T3}, specs.declared.header.RecordType.RecordType, specs.declared.header.RecordType.TheVariants.{PicoHarpT2, HydraHarp2T2, HydraHarp2T3}}
-use Rattle.ptu_definitions.{specs.Kept.{marked, kept}, specs.Layouts.{pico_t2, hydra_t2, hydra_t3}, specs.Settled.delivered, specs.Streams.{StreamSettings, reading, refusal, refusals, given, streamed}, specs.Times.events, specs.Prefixes.first}
-use Rattle.minimal_file.specs.ShortFiles.{bytes_in}
-use Rattle.record_write.specs.Picked.{picked_words}
-use Rattle.photon_pick.{specs.Chosen.is_chosen, specs.Ends.{end_text, end_fault}, specs.Late.{too_late, writable}, specs.Texts.late_or}
+use Rattle.{std.proofs.Common.{◌≡◌, ◌+◌, ◌^◌, ℕ, Bool, List, [], ◌∷◌, ◌++◌, Some, None, refl}, tally_base.specs.declared.event.Event.Event}
+use Rattle.tally_base.specs.declared.event.{EventKind.TheVariants.Photon, Order.TheVariants.Drop, OnReserved.TheVariants.Skip}
+use Rattle.tally_base.specs.declared.{fault.Fault.TheVariants.{PickTime, TruncatedRecord}, header.{Mode.TheVariants.{T2, T3}, RecordType.RecordType}}
+use Rattle.{tally_base.specs.declared.header.RecordType.TheVariants.{PicoHarpT2, HydraHarp2T2, HydraHarp2T3}, ptu_definitions.specs.Kept.{marked, kept}}
+use Rattle.ptu_definitions.specs.{Layouts.{pico_t2, hydra_t2, hydra_t3}, Settled.delivered, Streams.{StreamSettings, reading, refusal, refusals, given}}
+use Rattle.{ptu_definitions.specs.{Streams.streamed, Times.events, Prefixes.first}, minimal_file.specs.ShortFiles.bytes_in}
+use Rattle.{record_write.specs.Picked.picked_words, photon_pick.specs.{Chosen.is_chosen, Ends.{end_text, end_fault}, Late.{too_late, writable}, Texts.late_or}}
 
 abbrev photon : ℕ → ℕ → Event
 photon place time = record { place = place; kind = Photon 1 0; time = time }

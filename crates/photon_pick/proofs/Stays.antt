@@ -1,11 +1,14 @@
 -- What is written of the photons of bytes is written of them with more after, and a refusal stays.
-use Rattle.std.{proofs.Common.{◌≡◌, ◌∙◌, ℕ, List, [], ◌∷◌, ◌++◌, Bool, true, false, None, Some, Ok, Err, cond, refl, sym, ap, append_assoc, append-nil, Result, if◌then◌else◌, arith, rules}, specs.List.filter, specs.declared.option.Option.Option, proofs.lemmas.List.Elements.filter-append}
-use Rattle.tally_base.{specs.declared.event.Event.Event, specs.declared.fault.Fault.Fault, specs.declared.fault.Fault.TheVariants.PickTime, specs.declared.header.Mode.Mode, specs.Faults.{is_outside, fault_in}}
-use Rattle.ptu_definitions.{specs.declared.records.Summary.Summary, specs.Prefixes.{each_after, first}, specs.Settled.not_marked, specs.Streams.{StreamSettings, record_refusal, last_in, streamed}, specs.Words.{words_of, rest_of}, proofs.Firsts.{record_refusal-inside, streamed-inside}, proofs.PrefixLemmas.first-append, proofs.StreamLemmas.{given-front, given-stays}, proofs.WordsLemmas.words_of-append}
-use Rattle.record_stream.proofs.Lasts.{streamed-shown}
-use Rattle.minimal_file.specs.ShortFiles.{bytes_in}
-use Rattle.record_write.{specs.declared.picker.Picker.Picker, specs.Picked.{is_too_late, photon_words, picked_words}, specs.Picker.HasPicked}
-use Rattle.photon_pick.{specs.Late.{too_late, writable}, specs.Texts.{photons_in, text_in, late_or, refusal_in, HasPickedIn}, specs.Ends.{photons_by, photons_of, end_text, end_fault}, proofs.Parts.{words-more, bytes_of}, proofs.Feeds.photons-more, proofs.Ends.{kept-are, given-none, clear-from_ok}}
+use Rattle.std.proofs.Common.{◌≡◌, ◌∙◌, ℕ, List, [], ◌∷◌, ◌++◌, Bool, true, false, None, Some, Ok, Err, cond, refl, sym, ap, append_assoc, append-nil, Result}
+use Rattle.std.{proofs.{Common.{if◌then◌else◌, arith, rules}, lemmas.List.Elements.filter-append}, specs.{List.filter, declared.option.Option.Option}}
+use Rattle.tally_base.specs.{declared.{event.Event.Event, fault.Fault.{Fault, TheVariants.PickTime}, header.Mode.Mode}, Faults.{is_outside, fault_in}}
+use Rattle.ptu_definitions.specs.{declared.records.Summary.Summary, Prefixes.{each_after, first}, Settled.not_marked, Streams.{StreamSettings, record_refusal}}
+use Rattle.ptu_definitions.{specs.{Streams.{last_in, streamed}, Words.{words_of, rest_of}}, proofs.Firsts.{record_refusal-inside, streamed-inside}}
+use Rattle.ptu_definitions.proofs.{PrefixLemmas.first-append, StreamLemmas.{given-front, given-stays}, WordsLemmas.words_of-append}
+use Rattle.{record_stream.proofs.Lasts.streamed-shown, minimal_file.specs.ShortFiles.bytes_in, record_write.specs.declared.picker.Picker.Picker}
+use Rattle.{record_write.specs.{Picked.{is_too_late, photon_words, picked_words}, Picker.HasPicked}, photon_pick.specs.Late.{too_late, writable}}
+use Rattle.photon_pick.specs.{Texts.{photons_in, text_in, late_or, refusal_in, HasPickedIn}, Ends.{photons_by, photons_of, end_text, end_fault}}
+use Rattle.photon_pick.proofs.{Parts.{words-more, bytes_of}, Feeds.photons-more, Ends.{kept-are, given-none, clear-from_ok}}
 
 -- ## Photons after others
 
@@ -106,7 +109,8 @@ module _ (chooses : Event → Bool) (how : StreamSettings) where
             (ap (λ ps. first (too_late how.mode ps)) all.1 ∙ first-stays how.mode before all.0 e late),
       )
 
-  record-stays : (bytes more : List ℕ) (fault : Fault) → first (too_late how.mode (photons_in chooses how (words_of bytes))) ≡ None → record_refusal how (words_of bytes) ≡ Some fault → Ends (bytes ++ more) (text_in chooses how (words_of bytes)) fault
+  record-stays : (bytes more : List ℕ) (fault : Fault) → first (too_late how.mode (photons_in chooses how (words_of bytes))) ≡ None
+      → record_refusal how (words_of bytes) ≡ Some fault → Ends (bytes ++ more) (text_in chooses how (words_of bytes)) fault
   record-stays bytes more fault none refused =
       let streams = streamed-shown how bytes fault refused more in
       let words = ap (photons_in chooses how) (words_of-append bytes more)
@@ -119,10 +123,12 @@ module _ (chooses : Event → Bool) (how : StreamSettings) where
       )
 
   -- A refusal over some bytes is the end of all that begin with them.
-  pub refused-stays : (bytes more : List ℕ) (fault : Fault) → refusal_in chooses how (words_of bytes) ≡ Some fault → (end_text chooses how (bytes ++ more) ≡ text_in chooses how (words_of bytes)) × (end_fault chooses how (bytes ++ more) ≡ Some fault)
+  pub refused-stays : (bytes more : List ℕ) (fault : Fault) → refusal_in chooses how (words_of bytes) ≡ Some fault
+      → (end_text chooses how (bytes ++ more) ≡ text_in chooses how (words_of bytes)) × (end_fault chooses how (bytes ++ more) ≡ Some fault)
   refused-stays bytes more fault refused = by (first (too_late how.mode (photons_in chooses how (words_of bytes)))) refl refused
     where
-      by : (late : Option Event) → first (too_late how.mode (photons_in chooses how (words_of bytes))) ≡ late → late_or late (record_refusal how (words_of bytes)) ≡ Some fault → Ends (bytes ++ more) (text_in chooses how (words_of bytes)) fault
+      by : (late : Option Event) → first (too_late how.mode (photons_in chooses how (words_of bytes))) ≡ late
+          → late_or late (record_refusal how (words_of bytes)) ≡ Some fault → Ends (bytes ++ more) (text_in chooses how (words_of bytes)) fault
       by None is h = record-stays bytes more fault is h
       by (Some e) is h = let stays = late-stays bytes more e is in (stays.0, stays.1 ∙ h)
 

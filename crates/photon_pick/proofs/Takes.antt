@@ -1,10 +1,12 @@
 -- More events for a picker.
-use Rattle.std.{proofs.Common.{◌≡◌, ◌∙◌, ℕ, ◌+◌, ◌<◌, ◌≤◌, Bool, true, false, List, [], ◌∷◌, ◌++◌, Some, cond, ap, sym, subst, refl, arith, append_assoc, inl, inr, length, length-append, max, ◌⊎◌, ⊎_elim, IsTrue, if◌then◌else◌, rules}, specs.List.filter, proofs.lemmas.List.Elements.filter-append}
-use Rattle.tally_base.{specs.declared.event.Event.Event, specs.declared.fault.Fault.Fault, specs.Events.is_photon, specs.Tally.{moves_floor, floor_after, InOrder}}
-use Rattle.ptu_definitions.{specs.Kept.{Marked, floor_of}, specs.Prefixes.each_after, specs.Settled.not_marked, proofs.PrefixLemmas.each_after-append}
-use Rattle.record_write.{specs.Picked.{is_too_late, photon_words}, specs.Picker.{mode_of, HasPicked}, specs.Writing.{PutsWords, CutsWords}, proofs.Puts.{puts-more, cuts-behind}}
-use Rattle.photon_pick.{specs.Giving.{Pen, pen, words_behind, TooLate, WriteFailed, Stand, TookPhotons, Refused, chosen_of}, specs.Chosen.is_chosen, specs.Late.too_late, proofs.Parts.chosen-more, proofs.Ends.chosen-photon}
-use Rattle.gate_plan.specs.Shifting.{Sorting}
+use Rattle.std.proofs.Common.{◌≡◌, ◌∙◌, ℕ, ◌+◌, ◌<◌, ◌≤◌, Bool, true, false, List, [], ◌∷◌, ◌++◌, Some, cond, ap, sym, subst, refl, arith, append_assoc, inl}
+use Rattle.std.proofs.{Common.{inr, length, length-append, max, ◌⊎◌, ⊎_elim, IsTrue, if◌then◌else◌, rules}, lemmas.List.Elements.filter-append}
+use Rattle.{std.specs.List.filter, tally_base.specs.{declared.{event.Event.Event, fault.Fault.Fault}, Events.is_photon, Tally.{moves_floor, floor_after}}}
+use Rattle.{tally_base.specs.Tally.InOrder, ptu_definitions.specs.{Kept.{Marked, floor_of}, Prefixes.each_after, Settled.not_marked}}
+use Rattle.{ptu_definitions.proofs.PrefixLemmas.each_after-append, record_write.specs.{Picked.{is_too_late, photon_words}, Picker.{mode_of, HasPicked}}}
+use Rattle.{record_write.{specs.Writing.{PutsWords, CutsWords}, proofs.Puts.{puts-more, cuts-behind}}, photon_pick.specs.Giving.{Pen, pen, words_behind}}
+use Rattle.photon_pick.specs.{Giving.{TooLate, WriteFailed, Stand, TookPhotons, Refused, chosen_of}, Chosen.is_chosen, Late.too_late}
+use Rattle.{photon_pick.proofs.{Parts.chosen-more, Ends.chosen-photon}, gate_plan.specs.Shifting.Sorting}
 
 abbrev pub pen_of : Stand → Pen
 pen_of t = pen t.picker t.sink t.held

@@ -1,7 +1,6 @@
 -- The photons of a group.
 use Rattle.std.specs.Prelude.{ℕ, ◌&&◌, Bool}
-use Rattle.tally_base.{specs.declared.event.Event.Event, specs.Events.{is_photon, is_in}}
-use Rattle.gate_plan.{specs.Groups.sorting_of, specs.Shifting.Sorting, specs.Taking.groups_in, specs.declared.gates.Gates.Gates}
+use Rattle.{tally_base.specs.{declared.event.Event.Event, Events.{is_photon, is_in}}, gate_plan.specs.{Groups.sorting_of, Shifting.Sorting, Taking.groups_in, declared.gates.Gates.Gates}}
 
 -- The event is a photon of the group, by its shifted dtime.
 abbrev pub is_chosen : Sorting → ℕ → Event → Bool

@@ -1,11 +1,8 @@
 -- What all bytes after a header write of the photons that are chosen.
-use Rattle.std.{specs.Prelude.{ℕ, ◌≡◌, Bool, List, [], map, Result, Ok, Err}, specs.List.filter, specs.declared.option.Option.Option}
-use Rattle.tally_base.{specs.declared.event.Event.Event, specs.declared.fault.Fault.Fault, specs.declared.header.Mode.Mode, specs.Faults.fault_in}
-use Rattle.ptu_definitions.{specs.declared.records.Summary.Summary, specs.Prefixes.first, specs.Settled.kept_by, specs.Streams.{StreamSettings, streamed}, specs.Times.events, specs.Words.words_of}
-use Rattle.bench_io.{specs.Sinks.SinkState, specs.Texts.WritesText}
-use Rattle.minimal_file.specs.ShortFiles.{bytes_in}
-use Rattle.record_write.specs.Picked.{picked_words, CanBePicked}
-use Rattle.photon_pick.{specs.Late.{too_late, writable}, specs.Texts.{photons_in, text_in, late_or}}
+use Rattle.std.specs.{Prelude.{ℕ, ◌≡◌, Bool, List, [], map, Result, Ok, Err}, List.filter, declared.option.Option.Option}
+use Rattle.{tally_base.specs.{declared.{event.Event.Event, fault.Fault.Fault, header.Mode.Mode}, Faults.fault_in}, ptu_definitions.specs.{declared.records.Summary.Summary, Prefixes.first}}
+use Rattle.{ptu_definitions.specs.{Settled.kept_by, Streams.{StreamSettings, streamed}, Times.events, Words.words_of}, bench_io.specs.{Sinks.SinkState, Texts.WritesText}}
+use Rattle.{minimal_file.specs.ShortFiles.bytes_in, record_write.specs.Picked.{picked_words, CanBePicked}, photon_pick.specs.{Late.{too_late, writable}, Texts.{photons_in, text_in, late_or}}}
 
 -- the photons that are chosen of the kept list
 abbrev pub photons_kept : (Event → Bool) → StreamSettings → List ℕ → List Event

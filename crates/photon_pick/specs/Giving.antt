@@ -1,11 +1,10 @@
 -- What giving photons to a picker writes.
-use Rattle.std.{specs.Prelude.{ℕ, ◌≡◌, ◌<◌, ◌≤◌, ◌⊎◌, All, slice_index, true, false, List, [], ◌∷◌, ◌++◌, ◌+◌, max, Bool, Some, length, refl}, specs.declared.option.Option.Option, specs.List.filter, proofs.Common.{append-nil, arith}}
-use Rattle.tally_base.{specs.declared.event.Event.Event, specs.declared.fault.Fault.Fault, specs.declared.fault.Fault.TheVariants.{PickTime, WriteFault}, specs.Tally.{floor_after, InOrder}, specs.Events.is_photon, specs.Columns.{count, event_at, rows}, specs.declared.block.Block.Block, specs.declared.header.Mode.Mode}
-use Rattle.record_stream.specs.Blocks.{AllFit}
-use Rattle.bench_io.{specs.declared.sink.Sink.Ghosts, specs.Sinks.SinkState, proofs.Bytes.PassesOn-held}
-use Rattle.ptu_definitions.{specs.Prefixes.each_after, specs.Kept.{Marked, floor_of}, specs.Settled.not_marked}
-use Rattle.record_write.{specs.declared.picker.Picker.Picker, specs.Picked.{is_too_late, photon_words}, specs.Picker.{mode_of, last_by, is_going, HasPicked}, specs.Writing.{PutsWords, CutsWords}}
-use Rattle.photon_pick.specs.Late.{too_late}
+use Rattle.std.specs.{Prelude.{ℕ, ◌≡◌, ◌<◌, ◌≤◌, ◌⊎◌, All, slice_index, true, false, List, [], ◌∷◌, ◌++◌, ◌+◌, max, Bool, Some, length, refl}, declared.option.Option.Option, List.filter}
+use Rattle.std.proofs.Common.{append-nil, arith}
+use Rattle.tally_base.specs.{declared.{event.Event.Event, fault.Fault.{Fault, TheVariants.{PickTime, WriteFault}}, block.Block.Block, header.Mode.Mode}, Tally.{floor_after, InOrder}, Events.is_photon}
+use Rattle.{tally_base.specs.Columns.{count, event_at, rows}, record_stream.specs.Blocks.AllFit, bench_io.{specs.{declared.sink.Sink.Ghosts, Sinks.SinkState}, proofs.Bytes.PassesOn-held}}
+use Rattle.{ptu_definitions.specs.{Prefixes.each_after, Kept.{Marked, floor_of}, Settled.not_marked}, record_write.specs.{declared.picker.Picker.Picker, Picked.{is_too_late, photon_words}}}
+use Rattle.{record_write.specs.{Picker.{mode_of, last_by, is_going, HasPicked}, Writing.{PutsWords, CutsWords}}, photon_pick.specs.Late.too_late}
 
 -- A picker, what its sink tells, and the bytes that its block holds.
 pub record Pen : Type 0 where

@@ -1,7 +1,6 @@
 -- Which photons are too late to be written.
-use Rattle.std.{specs.Prelude.{List, [], ◌∷◌, if◌then◌else◌, ◌≡◌, true, ◌++◌}, specs.List.filter}
-use Rattle.tally_base.{specs.declared.event.Event.Event, specs.declared.header.Mode.Mode}
-use Rattle.record_write.specs.Picked.{is_too_late}
+use Rattle.std.specs.{Prelude.{List, [], ◌∷◌, if◌then◌else◌, ◌≡◌, true, ◌++◌}, List.filter}
+use Rattle.{tally_base.specs.declared.{event.Event.Event, header.Mode.Mode}, record_write.specs.Picked.is_too_late}
 
 -- those whose time is too late to be written
 abbrev pub too_late : Mode → List Event → List Event

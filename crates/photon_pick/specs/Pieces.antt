@@ -1,11 +1,8 @@
 -- What feeding a piece writes of the photons that are chosen.
 use Rattle.std.specs.Prelude.{ℕ, ◌≡◌, ◌+◌, ◌≤◌, Bool, true, List, ◌++◌, length, OnOk, None, Result}
-use Rattle.tally_base.{specs.declared.event.Event.Event, specs.declared.fault.Fault.Fault}
-use Rattle.bench_io.{specs.declared.sink.Sink.Ghosts, specs.Texts.WritesText}
-use Rattle.ptu_definitions.specs.Words.{words_of}
-use Rattle.record_stream.{specs.declared.stream.RecordStream.RecordStream, specs.Standing.{how_of, greatest_of, bytes_in, refused_with, HasStreamed}}
-use Rattle.record_write.{specs.declared.picker.Picker.Picker, specs.Picker.{mode_of, last_by, is_going}}
-use Rattle.photon_pick.{specs.Texts.{text_in, refusal_in, HasPickedIn}, specs.Ends.WritesEnd}
+use Rattle.{tally_base.specs.declared.{event.Event.Event, fault.Fault.Fault}, bench_io.specs.{declared.sink.Sink.Ghosts, Texts.WritesText}, ptu_definitions.specs.Words.words_of}
+use Rattle.{record_stream.specs.{declared.stream.RecordStream.RecordStream, Standing.{how_of, greatest_of, bytes_in, refused_with, HasStreamed}}, record_write.specs.declared.picker.Picker.Picker}
+use Rattle.{record_write.specs.Picker.{mode_of, last_by, is_going}, photon_pick.specs.{Texts.{text_in, refusal_in, HasPickedIn}, Ends.WritesEnd}}
 
 -- The picker has written its header and refused nothing, in the mode of the stream, and is no further on than it.
 pub record IsNoFurther (stream : RecordStream) (picker : Picker) : Type 0 where

@@ -1,9 +1,7 @@
 -- What the words of a file write of the photons that are chosen.
-use Rattle.std.{specs.Prelude.{ℕ, ◌≡◌, Bool, List, [], None, Some, Result, Ok, Err}, specs.List.filter, specs.declared.option.Option.Option}
-use Rattle.tally_base.{specs.declared.event.Event.Event, specs.declared.fault.Fault.Fault, specs.declared.fault.Fault.TheVariants.PickTime}
-use Rattle.ptu_definitions.{specs.Prefixes.first, specs.Settled.not_marked, specs.Streams.{StreamSettings, record_refusal, given}}
-use Rattle.minimal_file.specs.ShortFiles.{bytes_in}
-use Rattle.record_write.{specs.declared.picker.Picker.Picker, specs.Picked.picked_words, specs.Picker.HasPicked}
+use Rattle.std.specs.{Prelude.{ℕ, ◌≡◌, Bool, List, [], None, Some, Result, Ok, Err}, List.filter, declared.option.Option.Option}
+use Rattle.{tally_base.specs.declared.{event.Event.Event, fault.Fault.{Fault, TheVariants.PickTime}}, ptu_definitions.specs.{Prefixes.first, Settled.not_marked, Streams.StreamSettings}}
+use Rattle.{ptu_definitions.specs.Streams.{record_refusal, given}, minimal_file.specs.ShortFiles.bytes_in, record_write.specs.{declared.picker.Picker.Picker, Picked.picked_words, Picker.HasPicked}}
 use Rattle.photon_pick.specs.Late.{too_late, writable}
 
 -- the photons that are chosen of those given by the words before the first that is refused, but for the late ones

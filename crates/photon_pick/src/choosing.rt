@@ -1,8 +1,6 @@
 // Which events of a block are photons of a group.
 ghost use Rattle.std.specs.Prelude.{◌≡◌, ◌<◌, ◌≤◌, ◌&&◌, ℕ, false, filter, slice_index};
-ghost use Rattle.tally_base.specs.Columns.{count, gathered};
-ghost use Rattle.gate_plan.{specs.Groups.sorting_of, specs.Parting.gated_bits, specs.Taking.groups_in};
-ghost use Rattle.photon_pick.{specs.Chosen.is_chosen, specs.Giving.events_at};
+ghost use Rattle.{tally_base.specs.Columns.{count, gathered}, gate_plan.specs.{Groups.sorting_of, Parting.gated_bits, Taking.groups_in}, photon_pick.specs.{Chosen.is_chosen, Giving.events_at}};
 
 use gate_plan::Gates;
 use tally_base::{Block, Event, EventKind, TABLE_BLOCK, is_in};

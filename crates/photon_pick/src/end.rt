@@ -1,7 +1,6 @@
 // What the end of a file writes of the photons of a group.
 ghost use Rattle.std.specs.Prelude.{◌≡◌, ◌<◌, ◌≤◌, [], None};
-ghost use Rattle.record_stream.{specs.Standing.{how_of, given_by, greatest_of, refused_with}, specs.Pieces.Begins};
-ghost use Rattle.photon_pick.{specs.Chosen.is_of_group, specs.Texts.answer_by, specs.Pieces.{IsNoFurther, PicksEnd}};
+ghost use Rattle.{record_stream.specs.{Standing.{how_of, given_by, greatest_of, refused_with}, Pieces.Begins}, photon_pick.specs.{Chosen.is_of_group, Texts.answer_by, Pieces.{IsNoFurther, PicksEnd}}};
 
 use crate::taker::Picks;
 use bench_io::{OutBuffer, Sink};

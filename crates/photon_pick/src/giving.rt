@@ -1,8 +1,7 @@
 // Photons of a block, given to a picker.
 ghost use Rattle.std.specs.Prelude.{◌≡◌, ◌≤◌, true, OnOk, IfErr};
-ghost use Rattle.tally_base.{specs.Columns.gathered, specs.Tally.floor_after};
-ghost use Rattle.record_write.specs.Picker.{mode_of, last_by};
-ghost use Rattle.photon_pick.specs.Giving.{events_at, pen_on, ArePlaces, CanBeGiven, Gave, Stopped};
+ghost use Rattle.{tally_base.specs.{Columns.gathered, Tally.floor_after}, record_write.specs.Picker.{mode_of, last_by}, photon_pick.specs.Giving.{events_at, pen_on, ArePlaces, CanBeGiven, Gave}};
+ghost use Rattle.photon_pick.specs.Giving.{Stopped};
 
 use bench_io::{OutBuffer, Sink};
 use record_write::Picker;

@@ -1,9 +1,7 @@
 // Laws of the photons that are picked, each as the contract of a function that does nothing.
 ghost use Rattle.std.specs.Prelude.{ℕ, List};
-ghost use Rattle.tally_base.{specs.declared.event.Event.Event, specs.declared.event.Policy.Policy, specs.declared.header.Mode.Mode, specs.declared.header.RecordType.RecordType, specs.RecordTypes.mode_of};
-ghost use Rattle.ptu_definitions.specs.Streams.{reading};
-ghost use Rattle.gate_plan.specs.Shifting.{Sorting};
-ghost use Rattle.photon_pick.{specs.Chosen.is_chosen, specs.Ends.CanBeWritten, specs.Late.{writable, AreBeforeLate}};
+ghost use Rattle.{tally_base.specs.{declared.{event.{Event.Event, Policy.Policy}, header.{Mode.Mode, RecordType.RecordType}}, RecordTypes.mode_of}, ptu_definitions.specs.Streams.reading};
+ghost use Rattle.{gate_plan.specs.Shifting.Sorting, photon_pick.specs.{Chosen.is_chosen, Ends.CanBeWritten, Late.{writable, AreBeforeLate}}};
 
 /// The photons of a group in the kept list of any words can be written where none of them is too late:
 /// they fit the mode of the record type, and their times never fall, whether late events are left out or

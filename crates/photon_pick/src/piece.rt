@@ -1,8 +1,7 @@
 // What a piece of a file writes of the photons of a group.
 ghost use Rattle.std.specs.Prelude.{◌≡◌, ◌<◌, ◌≤◌, None, OnOk};
-ghost use Rattle.record_stream.{specs.Standing.refused_with, specs.Pieces.{TakesOn, Begins}};
-ghost use Rattle.record_write.specs.Picker.{mode_of};
-ghost use Rattle.photon_pick.{specs.Chosen.is_of_group, specs.Texts.answer_by, specs.Pieces.{GoesOn, IsNoFurther, PicksPiece}};
+ghost use Rattle.{record_stream.specs.{Standing.refused_with, Pieces.{TakesOn, Begins}}, record_write.specs.Picker.mode_of, photon_pick.specs.{Chosen.is_of_group, Texts.answer_by, Pieces.GoesOn}};
+ghost use Rattle.photon_pick.specs.Pieces.{IsNoFurther, PicksPiece};
 
 use crate::taker::Picks;
 use bench_io::{OutBuffer, Sink};

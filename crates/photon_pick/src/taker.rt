@@ -1,9 +1,6 @@
 // What gives the photons of a group to a picker.
 ghost use Rattle.std.specs.Prelude.{◌≡◌, ◌+◌, ◌<◌, ◌≤◌, ◌&&◌, not, true, None};
-ghost use Rattle.tally_base.specs.declared.event.Event.{Event};
-ghost use Rattle.gate_plan.specs.Groups.{sorting_of};
-ghost use Rattle.record_write.specs.Picker.{mode_of, last_by, is_going};
-ghost use Rattle.photon_pick.specs.Chosen.{is_chosen};
+ghost use Rattle.{tally_base.specs.declared.event.Event.Event, gate_plan.specs.Groups.sorting_of, record_write.specs.Picker.{mode_of, last_by, is_going}, photon_pick.specs.Chosen.is_chosen};
 
 use crate::choosing::choose;
 use crate::giving::give_photons;

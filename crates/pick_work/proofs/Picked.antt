@@ -1,15 +1,11 @@
 -- A text that stands after another one.
-use Rattle.std.{proofs.Common.{◌≡◌, ◌∙◌, ℕ, Bool, List, [], ◌++◌, None, Ok, Err, sym, ap, append_assoc, append-nil, inl, inr, Result, arith, rules}, specs.declared.option.Option.{Option}}
-use Rattle.tally_base.{specs.declared.event.Event.Event, specs.declared.fault.Fault.Fault, specs.declared.header.Header.Header, specs.RecordTypes.mode_of}
-use Rattle.bench_io.{specs.Sinks.SinkState, specs.Texts.{WroteText, CutText, WritesText}}
-use Rattle.ptu_definitions.specs.Streams.{StreamSettings}
-use Rattle.plan_text.{specs.Plan.PlanView, specs.Fits.fits}
-use Rattle.gate_plan.{specs.Shifting.{Sorting, sorting}, specs.Histories.reading_by}
-use Rattle.minimal_file.specs.ShortFiles.{short_header}
-use Rattle.record_write.{specs.declared.picker.Picker.Picker, specs.Picker.HasPicked}
-use Rattle.photon_pick.{specs.Chosen.is_chosen, proofs.Stays.{text-none, has-none, unrefused}}
-use Rattle.command_work.proofs.RestEnds.{refused-none}
-use Rattle.pick_work.specs.PickOutcomes.{picks, picks_by}
+use Rattle.std.proofs.Common.{◌≡◌, ◌∙◌, ℕ, Bool, List, [], ◌++◌, None, Ok, Err, sym, ap, append_assoc, append-nil, inl, inr, Result, arith, rules}
+use Rattle.{std.specs.declared.option.Option.Option, tally_base.specs.declared.{event.Event.Event, fault.Fault.Fault, header.Header.Header}}
+use Rattle.{tally_base.specs.RecordTypes.mode_of, bench_io.specs.{Sinks.SinkState, Texts.{WroteText, CutText, WritesText}}}
+use Rattle.{ptu_definitions.specs.Streams.StreamSettings, plan_text.specs.{Plan.PlanView, Fits.fits}, gate_plan.specs.Shifting.{Sorting, sorting}}
+use Rattle.{gate_plan.specs.Histories.reading_by, minimal_file.specs.ShortFiles.short_header, record_write.specs.declared.picker.Picker.Picker}
+use Rattle.{record_write.specs.Picker.HasPicked, photon_pick.{specs.Chosen.is_chosen, proofs.Stays.{text-none, has-none, unrefused}}}
+use Rattle.{command_work.proofs.RestEnds.refused-none, pick_work.specs.PickOutcomes.{picks, picks_by}}
 
 module _ (head shown grown : List ℕ) (refused : Option Fault) (old new : SinkState) where
   adds : (more : List ℕ) → grown ≡ shown ++ more → head ++ grown ≡ (head ++ shown) ++ more
@@ -36,5 +32,6 @@ module _ (chooses : Event → Bool) (how : StreamSettings) where
   picks-none picker none = unrefused chooses how [] picker (has-none chooses how picker none) (refused-none how)
 
 -- a reader of a plan that suits is told of as the plan is
-pub picks-same : (group : ℕ) (plan : PlanView) (header : Header) (by : Sorting) (how : StreamSettings) → fits (mode_of header.record_type) plan ≡ Ok tt → by ≡ sorting plan → how ≡ reading_by plan header → picks (is_chosen by group) how ≡ picks_by group plan header
+pub picks-same : (group : ℕ) (plan : PlanView) (header : Header) (by : Sorting) (how : StreamSettings) → fits (mode_of header.record_type) plan ≡ Ok tt
+    → by ≡ sorting plan → how ≡ reading_by plan header → picks (is_chosen by group) how ≡ picks_by group plan header
 picks-same group plan header by how suits same_sorting same_how = search (rules, arith)

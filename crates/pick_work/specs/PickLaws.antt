@@ -1,14 +1,9 @@
 -- What holds of the photons that are picked of bytes that grow.
 use Rattle.std.proofs.Common.{◌≡◌, ◌∙◌, ℕ, List, ◌++◌, Bool, None, sym, ap, append_assoc}
-use Rattle.tally_base.specs.declared.event.Event.{Event}
-use Rattle.ptu_definitions.{specs.Words.words_of, specs.Streams.StreamSettings}
-use Rattle.plan_text.specs.Plan.{PlanView}
-use Rattle.gate_plan.specs.Histories.{reading_by}
-use Rattle.record_stream.{specs.declared.stream.RecordStream.RecordStream, specs.Standing.how_of, proofs.Lasts.streamed-clear}
-use Rattle.minimal_file.specs.ShortFiles.{short_header}
-use Rattle.record_write.specs.declared.picker.Picker.{Picker}
-use Rattle.photon_pick.{specs.Texts.{text_in, refusal_in}, proofs.Stays.{text-front, refused-stays, refused-inside, end-inside, unrefused}}
-use Rattle.command_work.{specs.Behaviours.AsItReads, specs.Works.WantsNone, specs.RecordsWork.{IsText, Suits}, proofs.RestEnds.{same-end, suited-law, suits-as_it_reads}}
+use Rattle.{tally_base.specs.declared.event.Event.Event, ptu_definitions.specs.{Words.words_of, Streams.StreamSettings}, plan_text.specs.Plan.PlanView, gate_plan.specs.Histories.reading_by}
+use Rattle.{record_stream.{specs.{declared.stream.RecordStream.RecordStream, Standing.how_of}, proofs.Lasts.streamed-clear}, minimal_file.specs.ShortFiles.short_header}
+use Rattle.{record_write.specs.declared.picker.Picker.Picker, photon_pick.{specs.Texts.{text_in, refusal_in}, proofs.Stays.{text-front, refused-stays, refused-inside, end-inside, unrefused}}}
+use Rattle.command_work.{specs.{Behaviours.AsItReads, Works.WantsNone, RecordsWork.{IsText, Suits}}, proofs.RestEnds.{same-end, suited-law, suits-as_it_reads}}
 use Rattle.pick_work.specs.PickOutcomes.{chosen_by, pick_so_far, picking, picks, picks_by, HasWritten}
 
 pub picks-law : (chooses : Event → Bool) (how : StreamSettings) → IsText (picks chooses how)

@@ -1,14 +1,10 @@
 -- What `pick` ends with over the bytes of a file.
-use Rattle.std.{specs.Prelude.{ℕ, ◌≡◌, ◌&&◌, nat_le, Bool, List, [], ◌++◌, length, None, Some, Ok, if◌then◌else◌}, specs.declared.option.Option.Option}
-use Rattle.tally_base.{specs.declared.event.Event.Event, specs.declared.fault.Fault.Fault, specs.declared.fault.Fault.TheVariants.NoGroup, specs.declared.header.Header.Header, specs.RecordTypes.mode_of}
-use Rattle.ptu_definitions.{specs.Words.words_of, specs.Streams.StreamSettings}
-use Rattle.plan_text.{specs.Plan.PlanView, specs.Fits.fits}
-use Rattle.gate_plan.{specs.Shifting.sorting, specs.Histories.reading_by}
-use Rattle.minimal_file.specs.ShortFiles.{short_header}
-use Rattle.photon_pick.{specs.Chosen.is_chosen, specs.Texts.{text_in, refusal_in, HasPickedIn}, specs.Ends.{photons_kept, end_text, end_fault}, specs.Late.too_late, specs.Pieces.IsNoFurther}
-use Rattle.command_work.{specs.Behaviours.{Work, AreRead, IsHeaded}, specs.RecordsWork.{RecordsWork, if_suited, headed_work, headed_so_far}}
-use Rattle.record_stream.{specs.declared.stream.RecordStream.RecordStream, specs.Standing.{how_of, refused_with, HasStreamed}}
-use Rattle.record_write.specs.declared.picker.Picker.{Picker}
+use Rattle.std.specs.{Prelude.{ℕ, ◌≡◌, ◌&&◌, nat_le, Bool, List, [], ◌++◌, length, None, Some, Ok, if◌then◌else◌}, declared.option.Option.Option}
+use Rattle.{tally_base.specs.{declared.{event.Event.Event, fault.Fault.{Fault, TheVariants.NoGroup}, header.Header.Header}, RecordTypes.mode_of}, ptu_definitions.specs.Words.words_of}
+use Rattle.{ptu_definitions.specs.Streams.StreamSettings, plan_text.specs.{Plan.PlanView, Fits.fits}, gate_plan.specs.{Shifting.sorting, Histories.reading_by}}
+use Rattle.{minimal_file.specs.ShortFiles.short_header, photon_pick.specs.{Chosen.is_chosen, Texts.{text_in, refusal_in, HasPickedIn}, Ends.{photons_kept, end_text, end_fault}, Late.too_late}}
+use Rattle.{photon_pick.specs.Pieces.IsNoFurther, command_work.specs.{Behaviours.{Work, AreRead, IsHeaded}, RecordsWork.{RecordsWork, if_suited, headed_work, headed_so_far}}}
+use Rattle.{record_stream.specs.{declared.stream.RecordStream.RecordStream, Standing.{how_of, refused_with, HasStreamed}}, record_write.specs.declared.picker.Picker.Picker}
 
 -- the fault of a plan without a group of this number
 abbrev pub no_group : ℕ → PlanView → Option Fault

@@ -1,8 +1,6 @@
 // The command `pick`.
 ghost use Rattle.std.specs.Prelude.{◌≡◌, None, Some, IfSome};
-ghost use Rattle.tally_base.specs.declared.fault.Fault.TheVariants.{NoGroup};
-ghost use Rattle.plan_text.specs.ReadPlan.{plan_view};
-ghost use Rattle.command_work.specs.Behaviours.{AsItReads, ForPlan};
+ghost use Rattle.{tally_base.specs.declared.fault.Fault.TheVariants.NoGroup, plan_text.specs.ReadPlan.plan_view, command_work.specs.Behaviours.{AsItReads, ForPlan}};
 ghost use Rattle.pick_work.specs.PickOutcomes.{no_group, pick_so_far, picking};
 
 use crate::pick::PickJob;

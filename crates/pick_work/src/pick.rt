@@ -1,8 +1,6 @@
 // The photons of a group of a plan, written while the data are read.
 ghost use Rattle.std.specs.Prelude.{◌≡◌, ◌<◌, ◌≤◌, None};
-ghost use Rattle.ptu_definitions.specs.Words.{record_limit};
-ghost use Rattle.plan_text.specs.ReadPlan.{plan_view};
-ghost use Rattle.pick_work.specs.PickOutcomes.{no_group};
+ghost use Rattle.{ptu_definitions.specs.Words.record_limit, plan_text.specs.ReadPlan.plan_view, pick_work.specs.PickOutcomes.no_group};
 
 use bench_io::Sink;
 use command_work::{Job, Reader};

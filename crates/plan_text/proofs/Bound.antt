@@ -1,9 +1,11 @@
 -- The bound of a plan that keeps the rules.
-use Rattle.std.{proofs.Common.{rules}, proofs.Common.{◌≡◌, refl, ℕ, suc, ◌+◌, ◌*◌, ◌≤◌, true, List, [], ◌∷◌, length, map, filter_map, codes, Option, Some, None, unwrap_or, Ok, inl, inr, arith}, specs.List.{sum_by, cons_option, flat_map, AllByRecursion}, proofs.lemmas.List.Sums.{sum_by-append, sum_by-cons}, proofs.lemmas.Nat.mul-le, proofs.lemmas.Bool.Decides.nat_tests}
-use Rattle.toml.specs.Data.{Data, table, get}
-use Rattle.tally_base.specs.Settings.{PartSettings, entries}
-use Rattle.toml_rules.{specs.Rules.{AllHold, each}, specs.Values.{number_or, list_at}}
-use Rattle.plan_text.{specs.Kind.{Kind, tables, list_of_kind, TableList}, specs.Kinds.{kinds, lists, table_lists}, specs.Settle.{settle, settle_or_none}, specs.Document.{document_rules, rule_of_lengths, has_at_most, AreShort}, specs.Plan.{PlanView, plan, plan_rules}, specs.ReadPlan.plan_answer, specs.Bound.{bound, greatest_bound, most_entries}, proofs.Whole.{all_before, each_holds, kinds_of_lists}, proofs.ByKind.{integer_most, KeepsFew, kinds_keep_few}, proofs.Called.{valid, plans}}
+use Rattle.std.proofs.Common.{rules, ◌≡◌, refl, ℕ, suc, ◌+◌, ◌*◌, ◌≤◌, true, List, [], ◌∷◌, length, map, filter_map, codes, Option, Some, None, unwrap_or, Ok}
+use Rattle.std.{proofs.{Common.{inl, inr, arith}, lemmas.{List.Sums.{sum_by-append, sum_by-cons}, Nat.mul-le, Bool.Decides.nat_tests}}, specs.List.sum_by}
+use Rattle.{std.specs.List.{cons_option, flat_map, AllByRecursion}, toml.specs.Data.{Data, table, get}, tally_base.specs.Settings.{PartSettings, entries}}
+use Rattle.{toml_rules.specs.{Rules.{AllHold, each}, Values.{number_or, list_at}}, plan_text.specs.{Kind.{Kind, tables, list_of_kind, TableList}, Kinds.kinds}}
+use Rattle.plan_text.specs.{Kinds.{lists, table_lists}, Settle.{settle, settle_or_none}, Document.{document_rules, rule_of_lengths, has_at_most, AreShort}}
+use Rattle.plan_text.{specs.{Plan.{PlanView, plan, plan_rules}, ReadPlan.plan_answer, Bound.{bound, greatest_bound, most_entries}}, proofs.Whole.all_before}
+use Rattle.plan_text.proofs.{Whole.{each_holds, kinds_of_lists}, ByKind.{KeepsFew, kinds_keep_few}, Numbers.integer_most, Called.{valid, plans}}
 
 -- ## Tables of one kind
 

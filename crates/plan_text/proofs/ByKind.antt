@@ -1,10 +1,17 @@
 -- What proofs ask of each kind of table: its place in the order of the report, and that none of its tables keeps more
 -- than one of the greatest settings.
-use Rattle.toml.specs.Data.{Data, Items, as_array, get}
-use Rattle.tally_base.{specs.Settings.{PartSettings, ImageView, entries}, specs.Settings.PartSettings.{HistSettings, TraceSettings, StartStopSettings, CoincidenceSettings, ImageSettings, CorrelationSettings, CubeSettings, FoldSettings}, specs.Limits.wrap_limit}
-use Rattle.toml_rules.{specs.Values.{integer_in, number_in}, specs.Rules.RiseFrom}
-use Rattle.plan_text.{specs.Kind.Kind, specs.Kinds.{kinds, lists, part_lists}, specs.Groups.{groups, group_number, group_rules}, specs.Histograms.{histogram, hist_of, histogram_kind}, specs.Traces.{trace, trace_of, trace_kind}, specs.StartStops.{startstop, startstop_of, startstop_kind}, specs.Coincidences.{coincidence, coincidence_of, coincidence_kind}, specs.Images.{image_kind, image_values, image_of, raster, raster_of, bits, serpentine}, specs.Correlations.{correlation, correlation_of, correlation_kind, lags, if_even}, specs.Cubes.{cube, cube_of, cube_kind, bins, has_few_bins}, specs.Folds.{fold_settings, fold_of, fold_kind, numbers, numbers_in, numbers_from}, specs.Plan.{plan, plan_rules}, specs.declared.plan.Plan.Plan, specs.Document.{document_rules, rule_of_lists, rule_of_lengths}, specs.Shifts.shift_rules}
-use Rattle.std.{proofs.Common.{rules, ◌≡◌, refl, ℕ, suc, ◌+◌, ◌-◌, ◌*◌, ◌/◌, ◌^◌, ◌≤◌, Bool, true, false, cond, List, [], ◌∷◌, map, codes, ◌&&◌, nat_le, length, Option, Some, None, arith}, specs.List.AllByRecursion, specs.Option.{option_and_then, option_map}, proofs.lemmas.Nat.mul-le, proofs.Math.Nat.div-le_of_le-mul, proofs.Math.Pow.pow_mono, proofs.lemmas.Bool.Decides.nat_tests}
+use Rattle.{toml.specs.Data.{Data, Items, as_array, get}, tally_base.specs.Settings.{PartSettings, ImageView, entries, PartSettings.HistSettings}}
+use Rattle.tally_base.specs.Settings.PartSettings.{TraceSettings, StartStopSettings, CoincidenceSettings, ImageSettings, CorrelationSettings, CubeSettings}
+use Rattle.{tally_base.specs.{Settings.PartSettings.FoldSettings, Limits.wrap_limit}, toml_rules.specs.{Values.{integer_in, number_in}, Rules.RiseFrom}}
+use Rattle.plan_text.{proofs.Numbers.integer_most, specs.{Kind.Kind, Kinds.{kinds, lists, part_lists}, Groups.{groups, group_number, group_rules}}}
+use Rattle.plan_text.specs.{Histograms.{histogram, hist_of, histogram_kind}, Traces.{trace, trace_of, trace_kind}, StartStops.{startstop, startstop_of}}
+use Rattle.plan_text.specs.{StartStops.startstop_kind, Coincidences.{coincidence, coincidence_of, coincidence_kind}, Images.{image_kind, image_values}}
+use Rattle.plan_text.specs.{Images.{image_of, raster, raster_of, bits, serpentine}, Correlations.{correlation, correlation_of, correlation_kind, lags, if_even}}
+use Rattle.plan_text.specs.{Cubes.{cube, cube_of, cube_kind, bins, has_few_bins}, Folds.{fold_settings, fold_of, fold_kind, numbers, numbers_in, numbers_from}}
+use Rattle.plan_text.specs.{Plan.{plan, plan_rules}, declared.plan.Plan.Plan, Document.{document_rules, rule_of_lists, rule_of_lengths}, Shifts.shift_rules}
+use Rattle.std.proofs.Common.{rules, ◌≡◌, refl, ℕ, suc, ◌+◌, ◌-◌, ◌*◌, ◌/◌, ◌^◌, ◌≤◌, Bool, true, false, cond, List, [], ◌∷◌, map, codes, ◌&&◌, nat_le, length}
+use Rattle.std.proofs.{Common.{Option, Some, None, arith}, lemmas.{Nat.mul-le, Bool.Decides.nat_tests}, Math.{Nat.div-le_of_le-mul, Pow.pow_mono}}
+use Rattle.std.specs.{List.AllByRecursion, Option.{option_and_then, option_map}}
 
 -- ## Its place
 
@@ -36,9 +43,6 @@ pub by_kinds : (plan : Plan) → AreByKinds 0 (part_lists plan)
 by_kinds plan = search (rules, arith, of_kind)
 
 -- ## Its greatest table
-
-pub integer_most : (least greatest : ℕ) (d : Data) (n : ℕ) → integer_in least greatest d ≡ Some n → n ≤ greatest
-integer_most least greatest d n is = search (rules, arith)
 
 -- a number that was read is not above the greatest
 most_read : (least greatest : ℕ) (found : Option Data) (n : ℕ) → number_in least greatest found ≡ Some n → n ≤ greatest
@@ -118,7 +122,8 @@ lags_few : (t : Data) → IsAtMost 128 (lags t)
 unfolding lags
 lags_few t = even_most (number_in 2 128 (get (codes "lags") t)) 128 (most_read 2 128 (get (codes "lags") t))
 
-few_bins_keep : (image : ImageView) (bins : ℕ × ℕ) (p : PartSettings) (few : Bool) → has_few_bins image bins.1 ≡ few → cond few (Some (CubeSettings (record { image = image; dwidth = bins.0; dbins = bins.1 }))) None ≡ Some p → entries p ≤ 67108869
+few_bins_keep : (image : ImageView) (bins : ℕ × ℕ) (p : PartSettings) (few : Bool) → has_few_bins image bins.1 ≡ few
+    → cond few (Some (CubeSettings (record { image = image; dwidth = bins.0; dbins = bins.1 }))) None ≡ Some p → entries p ≤ 67108869
 few_bins_keep image bins p true few is = search (rules, arith)
 few_bins_keep image bins p false few is = cc
 

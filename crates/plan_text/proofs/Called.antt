@@ -1,9 +1,17 @@
 -- What bytes answer as a plan, and what they call for.
-use Rattle.std.{proofs.Common.{rules, ◌≡◌, ◌<◌, ◌≤◌, ◌∙◌, refl, sym, ap, ℕ, List, length, Option, None, Some, Ok, Err, inl, inr, arith, ◌≢◌, Result, le-leb, IsUtf8}, proofs.lemmas.Bool.{cases_lt, cases_Bool}, specs.Str.{is_utf8, chars}, proofs.lemmas.Str.{IsUtf8-from_is_utf8, is_utf8-from_IsUtf8}, specs.Prelude.⊤}
-use Rattle.tally_base.{specs.declared.fault.Fault.Fault, specs.declared.fault.Fault.TheVariants.{OutOfMemory, PlanTooLong, PlanSyntax, PlanRule}}
-use Rattle.toml.{specs.Data.{table, Members, Data}, specs.Parse.parse_document, proofs.OnLiterals.toml_on_literals}
-use Rattle.toml_rules.{specs.Rules.{Rule, all_kept, AllHold, IsLeast, Names}, proofs.Least.{names_least, all_kept_nowhere}}
-use Rattle.plan_text.{specs.Plan.{PlanView, plan_rules, plan}, specs.ReadPlan.{text_limit, document, if_kept, plan_of_document, plan_answer, IsCalledFor, IsValid}, proofs.ByKind.plan_rules_rise, proofs.Whole.plan_is_whole, specs.Document.{document_rules, rule_of_lists, rule_of_lengths, order, reserved, records, known_keys, has_known_keys, may_have_tables, has_at_most}, specs.Groups.{group_rules, inputs, gates, has_group_keys, group}, specs.Histograms.{histogram, has_histogram_keys}, specs.Traces.{origin, trace, has_trace_keys}, specs.StartStops.{startstop, has_startstop_keys}, specs.Coincidences.{coincidence, has_coincidence_keys}, specs.Images.{bit, raster, bits, serpentine, image_values, has_image_keys}, specs.Cubes.{bins, has_cube_values, cube, has_cube_keys}, specs.Folds.{numbers, fold_settings, has_fold_keys}, specs.Correlations.{lags, correlation, has_correlation_keys}, specs.Shifts.{period, period_or_one, shift, all_shifts, has_shift_keys, shift_rules}, specs.Settle.{settle, settle_or_none}, specs.Version.{version, is_second}}
+use Rattle.std.proofs.Common.{rules, ◌≡◌, ◌<◌, ◌≤◌, ◌∙◌, refl, sym, ap, ℕ, List, length, Option, None, Some, Ok, Err, inl, inr, arith, ◌≢◌, Result, le-leb}
+use Rattle.std.{proofs.{Common.IsUtf8, lemmas.{Bool.{cases_lt, cases_Bool}, Str.{IsUtf8-from_is_utf8, is_utf8-from_IsUtf8}}}, specs.Str.{is_utf8, chars}}
+use Rattle.{std.specs.Prelude.⊤, tally_base.specs.declared.fault.Fault.{Fault, TheVariants.{OutOfMemory, PlanTooLong, PlanSyntax, PlanRule}}}
+use Rattle.{toml.{specs.{Data.{table, Members, Data}, Parse.parse_document}, proofs.OnLiterals.toml_on_literals}, toml_rules.specs.Rules.{Rule, all_kept}}
+use Rattle.{toml_rules.{specs.Rules.{AllHold, IsLeast, Names}, proofs.Least.{names_least, all_kept_nowhere}}, plan_text.specs.Plan.{PlanView, plan_rules, plan}}
+use Rattle.plan_text.specs.{ReadPlan.{text_limit, document, if_kept, plan_of_document, plan_answer, IsCalledFor, IsValid}, Document.document_rules}
+use Rattle.plan_text.specs.Document.{rule_of_lists, rule_of_lengths, order, reserved, records, known_keys, has_known_keys, may_have_tables, has_at_most}
+use Rattle.plan_text.specs.{Groups.{group_rules, inputs, gates, has_group_keys, group}, Histograms.{histogram, has_histogram_keys}, Traces.{origin, trace}}
+use Rattle.plan_text.specs.{Traces.has_trace_keys, StartStops.{startstop, has_startstop_keys}, Coincidences.{coincidence, has_coincidence_keys}, Images.bit}
+use Rattle.plan_text.specs.{Images.{raster, bits, serpentine, image_values, has_image_keys}, Cubes.{bins, has_cube_values, cube, has_cube_keys}, Folds.numbers}
+use Rattle.plan_text.specs.{Folds.{fold_settings, has_fold_keys}, Correlations.{lags, correlation, has_correlation_keys}, Shifts.{period, period_or_one, shift}}
+use Rattle.plan_text.specs.{Shifts.{all_shifts, has_shift_keys, shift_rules}, Settle.{settle, settle_or_none}, Version.{version, is_second}}
+use Rattle.plan_text.proofs.{ByKind.plan_rules_rise, Whole.plan_is_whole}
 
 -- What bytes are as a document, and what reading them as a plan answers.
 
@@ -52,7 +60,8 @@ named : (bytes : List ℕ) (ms : Members) (fault : Fault) → length bytes ≤ t
     → document bytes ≡ Some ms → Names (plan_rules (table ms)) fault → Calls bytes fault
 named bytes ms fault short is names = search (rules, arith)
 
-by_rules : (bytes : List ℕ) (ms : Members) (r : Result (Unit {0}) Fault) (fault : Fault) → length bytes ≤ text_limit → document bytes ≡ Some ms → all_kept (plan_rules (table ms)) ≡ r → if_kept r (plan (table ms)) ≡ Err fault → Calls bytes fault
+by_rules : (bytes : List ℕ) (ms : Members) (r : Result (Unit {0}) Fault) (fault : Fault) → length bytes ≤ text_limit → document bytes ≡ Some ms
+    → all_kept (plan_rules (table ms)) ≡ r → if_kept r (plan (table ms)) ≡ Err fault → Calls bytes fault
 by_rules bytes ms (Ok done) fault short is kept err = cc
 by_rules bytes ms (Err other) fault short is kept err =
     let same : fault ≡ other = cc in
@@ -73,7 +82,8 @@ called bytes fault err = elim (cases_lt text_limit (length bytes)) [
     too_long : plan_answer bytes ≡ Err PlanTooLong → text_limit < length bytes → Calls bytes fault
     too_long is long = let same : fault ≡ PlanTooLong = cc in rw same (long, λ e. cc)
 
-valid_rules : (bytes : List ℕ) (ms : Members) (r : Result (Unit {0}) Fault) (view : PlanView) → length bytes ≤ text_limit → document bytes ≡ Some ms → all_kept (plan_rules (table ms)) ≡ r → if_kept r (plan (table ms)) ≡ Ok view → IsValid bytes
+valid_rules : (bytes : List ℕ) (ms : Members) (r : Result (Unit {0}) Fault) (view : PlanView) → length bytes ≤ text_limit → document bytes ≡ Some ms
+    → all_kept (plan_rules (table ms)) ≡ r → if_kept r (plan (table ms)) ≡ Ok view → IsValid bytes
 valid_rules bytes ms (Ok done) view short is kept ok = search (rules, arith, all_kept_nowhere, plan_is_whole)
 valid_rules bytes ms (Err fault) view short is kept ok = cc
 

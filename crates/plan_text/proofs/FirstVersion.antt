@@ -1,9 +1,17 @@
 -- A plan of version 1 says nothing that version 2 adds.
-use Rattle.std.{proofs.Common.{rules}, proofs.Common.{◌≡◌, refl, ℕ, ◌≤◌, Bool, true, false, ◌&&◌, ◌||◌, List, [], ◌∷◌, length, filter_map, codes, Option, Some, None, Ok, inl, inr, arith, Ordering, nat_cmp, All}, specs.List.{AllByRecursion, cons_option, flat_map}, specs.Option.option_map, proofs.lemmas.Bool.cases_Bool, proofs.lemmas.List.Elements.{All-from_recursion, All-append, All-nil}, specs.Ordering.match_ordering, specs.Cmp.Lexicographic.slice_cmp, proofs.lemmas.Map.Lookups.exact_bytes}
-use Rattle.toml.specs.Data.{Data, Members, table, no_members, member, get, get_member}
-use Rattle.tally_base.{specs.Settings.{PartSettings, GroupView, ImageView}, specs.Settings.PartSettings.ImageSettings}
-use Rattle.toml_rules.{specs.Rules.AllHold, specs.Values.{is_one_of, members_within, has_keys, list_at}}
-use Rattle.plan_text.{specs.Version.is_second, specs.Kind.{Kind, tables}, specs.Kinds.{kinds, second_kinds, table_lists}, specs.Groups.{groups, group, group_of, group_number, inputs, gates, one_gate}, specs.Shifts.{shifts, period, period_or_one, all_shifts}, specs.Settle.{settle, settle_or_none}, specs.Histograms.{histogram_kind, histogram, hist_of}, specs.Traces.{trace_kind, trace, trace_of}, specs.StartStops.{startstop_kind, startstop, startstop_of}, specs.Coincidences.{coincidence_kind, coincidence, coincidence_of}, specs.Images.{images, image, image_values, image_of, raster, bits, serpentine, other_image_keys, has_image_keys}, specs.Correlations.{correlation_kind, correlation, correlation_of, lags}, specs.Document.{document_rules, known_keys, has_known_keys}, specs.Plan.{PlanView, plan, plan_rules}, specs.ReadPlan.{document, plan_answer}, specs.FirstVersion.{IsOfFirst, SaysFirst}, proofs.Whole.{all_before, all_after, lists_hold, each_holds}, proofs.Called.{valid, plans}}
+use Rattle.std.proofs.Common.{rules, ◌≡◌, refl, ℕ, ◌≤◌, Bool, true, false, ◌&&◌, ◌||◌, List, [], ◌∷◌, length, filter_map, codes, Option, Some, None, Ok, inl}
+use Rattle.std.proofs.{Common.{inr, arith, Ordering, nat_cmp, All}, lemmas.{Bool.cases_Bool, List.Elements.{All-from_recursion, All-append, All-nil}}}
+use Rattle.std.{proofs.lemmas.Map.Lookups.exact_bytes, specs.{List.{AllByRecursion, cons_option, flat_map}, Option.option_map, Ordering.match_ordering}}
+use Rattle.{std.specs.Cmp.Lexicographic.slice_cmp, toml.specs.Data.{Data, Members, table, no_members, member, get, get_member}}
+use Rattle.{tally_base.specs.Settings.{PartSettings, GroupView, ImageView, PartSettings.ImageSettings}, toml_rules.specs.{Rules.AllHold, Values.is_one_of}}
+use Rattle.{toml_rules.specs.Values.{members_within, has_keys, list_at}, plan_text.specs.{Version.is_second, Kind.{Kind, tables}, Kinds.{kinds, second_kinds}}}
+use Rattle.plan_text.specs.{Kinds.table_lists, Groups.{groups, group, group_of, group_number, inputs, gates, one_gate}, Shifts.{shifts, period, period_or_one}}
+use Rattle.plan_text.specs.{Shifts.all_shifts, Settle.{settle, settle_or_none}, Histograms.{histogram_kind, histogram, hist_of}, Traces.{trace_kind, trace}}
+use Rattle.plan_text.specs.{Traces.trace_of, StartStops.{startstop_kind, startstop, startstop_of}, Coincidences.{coincidence_kind, coincidence, coincidence_of}}
+use Rattle.plan_text.specs.Images.{images, image, image_values, image_of, raster, bits, serpentine, other_image_keys, has_image_keys}
+use Rattle.plan_text.specs.{Correlations.{correlation_kind, correlation, correlation_of, lags}, Document.{document_rules, known_keys, has_known_keys}}
+use Rattle.plan_text.{specs.{Plan.{PlanView, plan, plan_rules}, ReadPlan.{document, plan_answer}, FirstVersion.{IsOfFirst, SaysFirst}}, proofs.Whole.all_before}
+use Rattle.plan_text.proofs.{Whole.{all_after, lists_hold, each_holds}, Called.{valid, plans}}
 
 -- ## A key that is not known
 

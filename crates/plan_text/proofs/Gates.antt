@@ -1,22 +1,35 @@
 -- Gates that rise, one gate at a time.
-use Rattle.std.proofs.Common.{◌≡◌, refl, ap, sym, ◌∙◌, ℕ, ◌+◌, ◌<◌, ◌≤◌, List, [], ◌∷◌, ◌++◌, map, drop, length, get_or, Option, Some, option_map, arith, rules}
-use Rattle.toml.{specs.Data.{Data, as_array}, specs.declared.value.Value.Value, specs.View.view}
-use Rattle.tally_base.specs.Gates.{AreGates}
-use Rattle.plan_text.{specs.Groups.{range_among, ranges_from}, proofs.Numbers.{first_of, both_put}}
+use Rattle.std.proofs.Common.{◌≡◌, sym, ◌∙◌, ℕ, ◌+◌, ◌<◌, ◌≤◌, List, [], ◌∷◌, ◌++◌, map, drop, length, get_or, Option, Some, option_map, option_and_then, arith}
+use Rattle.{std.proofs.Common.rules, toml.specs.{Data.{Data, Items, as_array}, declared.value.Value.Value, View.view}, tally_base.specs.Gates.AreGates}
+use Rattle.{toml_rules.specs.Values.integer_in, plan_text.{specs.Groups.{range_of, range_in, range_among, ranges_from, gates}, proofs.Numbers.first_of}}
+use Rattle.plan_text.proofs.Numbers.{both_put, integer_least, integer_most}
 
--- Ranges that rise from low on, and end at last.
-abbrev pub RiseTo : ℕ → ℕ → List (ℕ × ℕ) → Type 0
-RiseTo last low [] = low ≤ last
-RiseTo last low (range ∷ ranges) = (low ≤ range.0) × (range.0 < range.1) × (range.1 ≤ 32768) × RiseTo last range.1 ranges
+-- ## Gates that are read rise
 
-pub rise_further : (last low : ℕ) (ranges : List (ℕ × ℕ)) (range : ℕ × ℕ) → RiseTo last low ranges
-    → last ≤ range.0 → range.0 < range.1 → range.1 ≤ 32768 → RiseTo range.1 low (ranges ++ range ∷ [])
-rise_further last low [] range rise from some most = (omega (arith, rise, from), some, most, omega arith)
-rise_further last low (first ∷ ranges) range rise from some most = (rise.0, rise.1, rise.2, rise_further last first.1 ranges range rise.3 from some most)
+range_rises : (low : ℕ) (lo hi : Option ℕ) (range : ℕ × ℕ) → ((n : ℕ) → lo ≡ Some n → low ≤ n) → ((n : ℕ) → hi ≡ Some n → n ≤ 32768)
+    → range_of lo hi ≡ Some range → AreGates low (range ∷ [])
+range_rises low lo hi range from most is = search (rules, arith)
 
-pub are_gates : (last low : ℕ) (ranges : List (ℕ × ℕ)) → RiseTo last low ranges → AreGates low ranges
-are_gates last low [] rise = tt
-are_gates last low (range ∷ ranges) rise = (rise.0, rise.1, rise.2, are_gates last range.1 ranges rise.3)
+range_in_rises : (low : ℕ) (ds : List Data) (range : ℕ × ℕ) → range_in low ds ≡ Some range → AreGates low (range ∷ [])
+range_in_rises low (lo ∷ hi ∷ []) range is =
+    range_rises low (integer_in low 32768 lo) (integer_in 0 32768 hi) range (integer_least low 32768 lo) (integer_most 0 32768 hi) is
+range_in_rises low _ range is = cc
+
+range_among_rises : (low : ℕ) (items : Option Items) (range : ℕ × ℕ) → range_among low items ≡ Some range → AreGates low (range ∷ [])
+range_among_rises low items range is = search (rules, arith, range_in_rises)
+
+first_rises : (low : ℕ) (found : Option (ℕ × ℕ)) (ds : List Data) (gates : List (ℕ × ℕ)) → ((range : ℕ × ℕ) → found ≡ Some range → AreGates low (range ∷ []))
+    → ((low : ℕ) (gates : List (ℕ × ℕ)) → ranges_from low ds ≡ Some gates → AreGates low gates)
+    → option_and_then (λ (range : ℕ × ℕ). option_map (λ ranges. range ∷ ranges) (ranges_from range.1 ds)) found ≡ Some gates → AreGates low gates
+first_rises low found ds gates first rest is = search (rules, arith)
+
+ranges_rise : (low : ℕ) (ds : List Data) (gates : List (ℕ × ℕ)) → ranges_from low ds ≡ Some gates → AreGates low gates
+ranges_rise low [] gates is = let same : gates ≡ [] = cc in rw same tt
+ranges_rise low (d ∷ ds) gates is = first_rises low (range_among low (as_array d)) ds gates (range_among_rises low (as_array d)) (λ low. ranges_rise low ds) is
+
+pub gates_rise : (d group : Data) (ranges : List (ℕ × ℕ)) → gates d group ≡ Some ranges → AreGates 0 ranges
+unfolding gates
+gates_rise d group ranges is = search (rules, arith, ranges_rise, range_among_rises)
 
 ranges_step : (front : List (ℕ × ℕ)) (low : ℕ) (range : ℕ × ℕ) (d : Data) (ds : List Data) → range_among low (as_array d) ≡ Some range
     → option_map (λ l. front ++ l) (ranges_from low (d ∷ ds)) ≡ option_map (λ l. (front ++ range ∷ []) ++ l) (ranges_from range.1 ds)

@@ -1,8 +1,10 @@
 -- What `fits` refuses is the first part that doesn't suit the mode.
-use Rattle.std.{proofs.Common.{◌≡◌, refl, ap, ◌∙◌, ℕ, ◌+◌, List, [], ◌∷◌, ◌++◌, ◌<◌, length, map, Bool, Option, None, Some, Result, Ok, Err, inl, inr, arith, rules}, specs.List.AllByRecursion, proofs.lemmas.Result.IfErr-at_err}
-use Rattle.tally_base.{specs.declared.fault.Fault.Fault, specs.declared.fault.Fault.TheVariants.PlanMode, specs.declared.header.Mode.Mode, specs.declared.header.Mode.TheVariants.{T2, T3}, specs.declared.part.PartKind.PartKind, specs.declared.part.PartKind.TheVariants.{Gate, Shift}, specs.declared.settings.ShiftSet.ShiftSet, specs.Settings.{PartSettings, shift_view}}
+use Rattle.std.proofs.Common.{◌≡◌, refl, ap, ◌∙◌, ℕ, ◌+◌, List, [], ◌∷◌, ◌++◌, ◌<◌, length, map, Bool, Option, None, Some, Result, Ok, Err, inl, inr, arith}
+use Rattle.{std.{proofs.{Common.rules, lemmas.Result.IfErr-at_err}, specs.List.AllByRecursion}, tally_base.specs.declared.fault.Fault.Fault}
+use Rattle.tally_base.specs.declared.{fault.Fault.TheVariants.PlanMode, header.Mode.{Mode, TheVariants.{T2, T3}}, part.PartKind.{PartKind, TheVariants.Gate}}
+use Rattle.tally_base.specs.{declared.{part.PartKind.TheVariants.Shift, settings.ShiftSet.ShiftSet}, Settings.{PartSettings, shift_view}}
 use Rattle.toml_rules.{specs.Rules.{or_next, held_from, BreaksFirst, BreaksAt}, proofs.Least.{or_next_err, breaks_first, kept_nowhere}}
-use Rattle.plan_text.{specs.Plan.PlanView, specs.Fits.{fits, misfit, refusal, group_suits, shift_suits, groups_fit, shifts_fit, parts_fit, IsFirstMisfit, IsMisfit}}
+use Rattle.plan_text.specs.{Plan.PlanView, Fits.{fits, misfit, refusal, group_suits, shift_suits, groups_fit, shifts_fit, parts_fit, IsFirstMisfit, IsMisfit}}
 
 pub or_next_assoc : (a b c : Result (Unit {0}) Fault) → or_next a (or_next b c) ≡ or_next (or_next a b) c
 or_next_assoc a b c = search (rules, arith)
@@ -61,7 +63,8 @@ names_part mode plan fault (inr (inr (suit, suits, (kind, is, first)))) = (kind,
 
 -- ## From the first part to the answer
 
-refused_first : (mode : Mode) (before : List PartSettings) (here : PartSettings) (after : List PartSettings) (kind : PartKind) → misfit mode here ≡ Some kind → AllByRecursion (λ part. misfit mode part ≡ None) before → parts_fit mode (before ++ here ∷ after) ≡ Err (PlanMode kind 1 mode)
+refused_first : (mode : Mode) (before : List PartSettings) (here : PartSettings) (after : List PartSettings) (kind : PartKind) → misfit mode here ≡ Some kind
+    → AllByRecursion (λ part. misfit mode part ≡ None) before → parts_fit mode (before ++ here ∷ after) ≡ Err (PlanMode kind 1 mode)
 refused_first mode [] here after kind names suit = rw names refl
 refused_first mode (part ∷ before) here after kind names suit = rw suit.0 (refused_first mode before here after kind names suit.1)
 

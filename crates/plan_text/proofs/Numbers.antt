@@ -1,9 +1,15 @@
 -- Numbers of groups that rise, one at a time.
-use Rattle.std.{proofs.Common.{◌≡◌, refl, ap, sym, ◌∙◌, ℕ, ◌+◌, ◌<◌, ◌≤◌, List, [], ◌∷◌, ◌++◌, map, drop, length, get_or, Option, Some, option_map, arith, rules, ◌^◌, None, append_assoc}, proofs.Math.Pow.pow_mono, proofs.lemmas.Grind.pow_more, proofs.lemmas.List.drop_more}
-use Rattle.toml.{specs.Data.Data, specs.declared.value.Value.Value, specs.View.view}
-use Rattle.tally_base.specs.Gates.{AreGroups}
-use Rattle.toml_rules.specs.Values.{integer_in}
-use Rattle.plan_text.{specs.Folds.numbers_from, specs.Groups.inputs_from}
+use Rattle.std.proofs.Common.{◌≡◌, refl, ap, sym, ◌∙◌, ℕ, ◌+◌, ◌<◌, ◌≤◌, List, [], ◌∷◌, ◌++◌, map, drop, length, get_or, Option, Some, option_map, arith, rules}
+use Rattle.{std.proofs.{Common.{◌^◌, None, append_assoc}, Math.Pow.pow_mono, lemmas.{Grind.pow_more, List.drop_more}}, toml.specs.Data.Data}
+use Rattle.{toml.specs.{declared.value.Value.Value, View.view}, tally_base.specs.Gates.AreGroups, toml_rules.specs.Values.integer_in}
+use Rattle.plan_text.specs.{Folds.numbers_from, Groups.inputs_from}
+
+-- An integer that is read is in its range.
+pub integer_least : (least greatest : ℕ) (d : Data) (n : ℕ) → integer_in least greatest d ≡ Some n → least ≤ n
+integer_least least greatest d n is = search (rules, arith)
+
+pub integer_most : (least greatest : ℕ) (d : Data) (n : ℕ) → integer_in least greatest d ≡ Some n → n ≤ greatest
+integer_most least greatest d n is = search (rules, arith)
 
 -- The bit set of inputs, one input at a time.
 

@@ -1,9 +1,11 @@
 -- Plans with one bad thing, and small plans that are read.
 use Rattle.std.proofs.Common.{◌≡◌, map, Result, ◌^◌, refl, codes, ℕ, List, Ok, Err, Some, None, [], ◌∷◌, true, false}
-use Rattle.tally_base.{specs.declared.fault.Fault.Fault, specs.declared.fault.Fault.TheVariants.{PlanSyntax, PlanRule, PlanMode}, specs.declared.header.Mode.TheVariants.T2, specs.declared.part.PartKind.TheVariants.{Gate, Shift}, specs.Settings.ShiftView, specs.Settings.PartSettings.{TraceSettings, StartStopSettings, CoincidenceSettings, ImageSettings, CorrelationSettings, CubeSettings, FoldSettings}}
+use Rattle.tally_base.specs.declared.{fault.Fault.{Fault, TheVariants.{PlanSyntax, PlanRule, PlanMode}}, header.Mode.TheVariants.T2}
+use Rattle.tally_base.specs.{declared.part.PartKind.TheVariants.{Gate, Shift}, Settings.{ShiftView, PartSettings.{TraceSettings, StartStopSettings}}}
+use Rattle.tally_base.specs.Settings.PartSettings.{CoincidenceSettings, ImageSettings, CorrelationSettings, CubeSettings, FoldSettings}
+use Rattle.plan_text.{specs.{Plan.PlanView, Fits.fits, ReadPlan.plan_answer}, proofs.Called.plan_on_literals}
 use Rattle.tally_base.specs.declared.event.Order.TheVariants as orders
 use Rattle.tally_base.specs.declared.event.OnReserved.TheVariants as choices
-use Rattle.plan_text.{specs.Plan.PlanView, specs.Fits.fits, specs.ReadPlan.plan_answer, proofs.Called.plan_on_literals}
 
 -- a plan of one group, of these gates, with these shifts and no tables
 abbrev of_one_group : List (ℕ × ℕ) → List ShiftView → PlanView

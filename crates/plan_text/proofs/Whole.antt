@@ -1,8 +1,10 @@
 -- Where each rule holds, each table of a list is in the plan.
-use Rattle.std.{proofs.Common.{arith, rules}, proofs.Common.{◌≡◌, ap, refl, ℕ, ◌+◌, Bool, true, List, [], ◌∷◌, ◌++◌, map, filter_map, ◌∙◌, Option, Some, is_some, inl, inr}, proofs.lemmas.Bool.{cases_Bool, false≢true}, proofs.lemmas.List.{map-append, map-id}, specs.List.{AllByRecursion, cons_option, flat_map}}
-use Rattle.toml.specs.Data.{Data}
-use Rattle.toml_rules.{specs.Rules.{Rule, BreaksAt, IsBroken, AllHold, or_next, all_kept}, proofs.Least.all_kept_after}
-use Rattle.plan_text.{specs.Plan.{plan_rules, lists_kept, plan, IsWhole}, specs.Document.document_rules, specs.Kind.{Kind, tables, last_rule, kind_rules, list_of_kind, TableList}, specs.Kinds.{kinds, first_lists, second_lists, table_lists}, specs.Groups.{group_rules, groups, group, group_of, inputs, gates}, specs.Shifts.{shift_rules, all_shifts}}
+use Rattle.std.proofs.Common.{arith, rules, ◌≡◌, ap, refl, ℕ, ◌+◌, Bool, true, List, [], ◌∷◌, ◌++◌, map, filter_map, ◌∙◌, Option, Some, is_some, inl, inr}
+use Rattle.std.{proofs.lemmas.{Bool.{cases_Bool, false≢true}, List.{map-append, map-id}}, specs.List.{AllByRecursion, cons_option, flat_map}}
+use Rattle.{toml.specs.Data.Data, toml_rules.{specs.Rules.{Rule, BreaksAt, IsBroken, AllHold, or_next, all_kept}, proofs.Least.all_kept_after}}
+use Rattle.plan_text.specs.{Plan.{plan_rules, lists_kept, plan, IsWhole}, Document.document_rules, Kind.{Kind, tables, last_rule, kind_rules, list_of_kind}}
+use Rattle.plan_text.specs.{Kind.TableList, Kinds.{kinds, first_lists, second_lists, table_lists}, Groups.{group_rules, groups, group, group_of, inputs, gates}}
+use Rattle.plan_text.specs.Shifts.{shift_rules, all_shifts}
 
 -- rules of a part are rules of the whole
 broken_after : (before after : List Rule) (n at : ℕ) → IsBroken after n at → IsBroken (before ++ after) n at

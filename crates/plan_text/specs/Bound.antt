@@ -1,7 +1,6 @@
 -- How many entries the tables of a plan keep at most.
 use Rattle.std.specs.Prelude.{ℕ, ◌+◌, ◌*◌, sum_by}
-use Rattle.tally_base.specs.Settings.{entries}
-use Rattle.plan_text.{specs.Kind.Kind, specs.Kinds.kinds, specs.Plan.{PlanView, parts_of}}
+use Rattle.{tally_base.specs.Settings.entries, plan_text.specs.{Kind.Kind, Kinds.kinds, Plan.{PlanView, parts_of}}}
 
 -- The bound of a plan: 48 bytes of a tag or of a record that are carried, the events that are kept back, and the
 -- entries of each table.

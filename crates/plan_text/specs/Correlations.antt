@@ -1,9 +1,7 @@
 -- What the tables of correlations say, and the rules on them.
-use Rattle.std.specs.Prelude.{ℕ, ◌%◌, ◌==◌, Bool, List, [], ◌∷◌, codes, Option, None, Some, option_and_then, if◌then◌else◌}
-use Rattle.toml.specs.Data.{Data, get}
-use Rattle.tally_base.{specs.Settings.PartSettings, specs.Settings.PartSettings.CorrelationSettings}
-use Rattle.toml_rules.{specs.Rules.each, specs.Values.{list_at, has_keys, number_in}}
-use Rattle.plan_text.{specs.Groups.group_number, specs.Kind.Kind}
+use Rattle.std.specs.Prelude.{ℕ, ◌%◌, ◌==◌, Bool, [], ◌∷◌, codes, Option, None, Some, option_and_then, if◌then◌else◌}
+use Rattle.{toml.specs.Data.{Data, get}, tally_base.specs.Settings.{PartSettings, PartSettings.CorrelationSettings}, toml_rules.specs.{Rules.each, Values.{list_at, has_keys, number_in}}}
+use Rattle.plan_text.specs.{Groups.group_number, Kind.Kind}
 
 -- a number that is even
 abbrev pub if_even : ℕ → Option ℕ

@@ -1,9 +1,7 @@
 -- What the tables of cubes say, and the rules on them.
-use Rattle.std.specs.Prelude.{ℕ, ◌*◌, ◌^◌, ◌&&◌, Bool, false, nat_le, List, [], ◌∷◌, codes, Option, None, Some, is_some, if◌then◌else◌}
-use Rattle.toml.specs.Data.{Data, get}
-use Rattle.tally_base.{specs.Settings.{PartSettings, ImageView}, specs.Settings.PartSettings.CubeSettings}
-use Rattle.toml_rules.{specs.Rules.each, specs.Values.{list_at, has_keys, number_in}}
-use Rattle.plan_text.{specs.Images.image_values, specs.Kind.Kind}
+use Rattle.std.specs.Prelude.{ℕ, ◌*◌, ◌^◌, ◌&&◌, Bool, false, nat_le, [], ◌∷◌, codes, Option, None, Some, is_some, if◌then◌else◌}
+use Rattle.{toml.specs.Data.{Data, get}, tally_base.specs.Settings.{PartSettings, ImageView, PartSettings.CubeSettings}, toml_rules.specs.{Rules.each, Values.{list_at, has_keys, number_in}}}
+use Rattle.plan_text.specs.{Images.image_values, Kind.Kind}
 
 -- the width of a bin and the number of bins of a pixel, where each keeps its rule
 abbrev pub bins_of : Option ℕ → Option ℕ → Option (ℕ × ℕ)

@@ -1,9 +1,7 @@
 -- What the document of a plan says as a whole, and the rules on it.
-use Rattle.std.{specs.Prelude.{ℕ, ◌≤◌, Bool, nat_le, List, [], ◌∷◌, ◌++◌, length, codes, Option, None, Some, is_some, if◌then◌else◌}, specs.List.AllByRecursion}
-use Rattle.tally_base.specs.Limits.{record_limit}
-use Rattle.toml.specs.Data.{Data, get}
-use Rattle.toml_rules.{specs.Rules.{Rule, whole, each}, specs.Values.{list_at, may_be_tables, has_keys, number_or, second_of}}
-use Rattle.plan_text.{specs.Kinds.{first_lists, second_lists, keys_of, lists}, specs.Version.{version, is_second}}
+use Rattle.std.specs.{Prelude.{ℕ, ◌≤◌, Bool, nat_le, List, [], ◌∷◌, ◌++◌, length, codes, Option, None, Some, is_some, if◌then◌else◌}, List.AllByRecursion}
+use Rattle.{tally_base.specs.Limits.record_limit, toml.specs.Data.{Data, get}, toml_rules.specs.{Rules.{Rule, whole, each}, Values.{list_at, may_be_tables, has_keys, number_or, second_of}}}
+use Rattle.plan_text.specs.{Kinds.{first_lists, second_lists, keys_of, lists}, Version.{version, is_second}}
 
 -- whether late events are refused
 unfoldable pub order : Data → Option Bool

@@ -1,6 +1,6 @@
 -- What a plan of version 1 says.
 use Rattle.std.specs.Prelude.{◌≡◌, ◌≤◌, All, [], length, false}
-use Rattle.tally_base.{specs.Settings.PartSettings, specs.Settings.PartSettings.{HistSettings, TraceSettings, StartStopSettings, CoincidenceSettings, ImageSettings, CorrelationSettings}}
+use Rattle.tally_base.specs.Settings.{PartSettings, PartSettings.{HistSettings, TraceSettings, StartStopSettings, CoincidenceSettings, ImageSettings, CorrelationSettings}}
 use Rattle.plan_text.specs.Plan.{PlanView}
 
 -- A table of a kind that version 1 has, and no row of an image runs backwards.

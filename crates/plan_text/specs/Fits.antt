@@ -1,8 +1,9 @@
 -- Which parts of a plan suit a file of a mode.
-use Rattle.std.{specs.Prelude.{◌≡◌, ℕ, ◌==◌, Bool, true, false, List, [], ◌∷◌, ◌++◌, map, length, ◌⊎◌, Result, Ok, Err, Option, None, Some}, specs.List.AllByRecursion}
-use Rattle.tally_base.{specs.declared.fault.Fault.Fault, specs.declared.fault.Fault.TheVariants.PlanMode, specs.declared.header.Mode.Mode, specs.declared.header.Mode.TheVariants.{T2, T3}, specs.declared.part.PartKind.PartKind, specs.declared.part.PartKind.TheVariants.{Gate, Shift, Histogram, StartStop, Coincidence, Image, Cube, Fold}, specs.Settings.{GroupView, ShiftView, PartSettings}, specs.Settings.PartSettings.{HistSettings, StartStopSettings, CoincidenceSettings, ImageSettings, CubeSettings, FoldSettings}}
-use Rattle.plan_text.specs.Plan.{PlanView}
-use Rattle.toml_rules.specs.Rules.{or_next, held_from, BreaksFirst, BreaksAt}
+use Rattle.std.specs.{Prelude.{◌≡◌, ℕ, ◌==◌, Bool, true, false, List, [], ◌∷◌, ◌++◌, map, length, ◌⊎◌, Result, Ok, Err, Option, None, Some}, List.AllByRecursion}
+use Rattle.tally_base.specs.declared.{fault.Fault.{Fault, TheVariants.PlanMode}, header.Mode.{Mode, TheVariants.{T2, T3}}, part.PartKind.{PartKind, TheVariants.{Gate, Shift, Histogram, StartStop}}}
+use Rattle.tally_base.specs.{declared.part.PartKind.TheVariants.{Coincidence, Image, Cube, Fold}, Settings.{GroupView, ShiftView, PartSettings, PartSettings.{HistSettings, StartStopSettings}}}
+use Rattle.{tally_base.specs.Settings.PartSettings.{CoincidenceSettings, ImageSettings, CubeSettings, FoldSettings}, plan_text.specs.Plan.PlanView, toml_rules.specs.Rules.{or_next, held_from}}
+use Rattle.toml_rules.specs.Rules.{BreaksFirst, BreaksAt}
 
 -- a group with gates doesn't suit T2, which has no dtimes
 abbrev pub group_suits : Mode → GroupView → Bool

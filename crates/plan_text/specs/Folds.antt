@@ -1,9 +1,7 @@
 -- What the tables of folds say, and the rules on them.
 use Rattle.std.specs.Prelude.{ℕ, ◌+◌, ◌^◌, ◌&&◌, Bool, nat_le, List, [], ◌∷◌, length, codes, Option, None, Some, option_map, option_and_then, if◌then◌else◌}
-use Rattle.toml.specs.Data.{Data, Items, as_array, get}
-use Rattle.tally_base.{specs.Settings.PartSettings, specs.Settings.PartSettings.FoldSettings}
-use Rattle.toml_rules.{specs.Rules.each, specs.Values.{list_of, list_at, has_keys, integer_in, number_in}}
-use Rattle.plan_text.{specs.Groups.groups, specs.Kind.Kind}
+use Rattle.{toml.specs.Data.{Data, Items, as_array, get}, tally_base.specs.Settings.{PartSettings, PartSettings.FoldSettings}, toml_rules.specs.{Rules.each, Values.{list_of, list_at, has_keys}}}
+use Rattle.{toml_rules.specs.Values.{integer_in, number_in}, plan_text.specs.{Groups.groups, Kind.Kind}}
 
 -- integers from low to the greatest, each greater than the one before
 abbrev pub numbers_from : ℕ → ℕ → List Data → Option (List ℕ)

@@ -1,9 +1,7 @@
 -- What the tables of groups say, and the rules on them.
 use Rattle.std.specs.Prelude.{ℕ, ◌+◌, ◌^◌, Bool, ◌&&◌, nat_le, List, [], ◌∷◌, length, codes, Option, None, Some, is_some, option_map, option_and_then, if◌then◌else◌}
-use Rattle.toml.specs.Data.{Data, Items, as_array, get}
-use Rattle.tally_base.specs.Settings.{GroupView}
-use Rattle.toml_rules.{specs.Rules.{Rule, each}, specs.Values.{list_of, list_at, has_keys, integer_in, number_in}}
-use Rattle.plan_text.{specs.Kind.TableList, specs.Version.is_second}
+use Rattle.{toml.specs.Data.{Data, Items, as_array, get}, tally_base.specs.Settings.GroupView, toml_rules.specs.{Rules.{Rule, each}, Values.{list_of, list_at, has_keys, integer_in, number_in}}}
+use Rattle.plan_text.specs.{Kind.TableList, Version.is_second}
 
 -- the tables of groups
 abbrev pub groups : Data → List Data

@@ -1,9 +1,7 @@
 -- What the tables of images say, and the rules on them.
 use Rattle.std.specs.Prelude.{ℕ, Bool, false, List, [], ◌∷◌, codes, Option, None, Some, option_map, if◌then◌else◌}
-use Rattle.toml.specs.Data.{Data, get}
-use Rattle.tally_base.{specs.Settings.{PartSettings, ImageView}, specs.Settings.PartSettings.ImageSettings, specs.Limits.wrap_limit}
-use Rattle.toml_rules.{specs.Rules.each, specs.Values.{list_at, has_keys, integer_in, number_in, truth_or}}
-use Rattle.plan_text.{specs.Groups.group_number, specs.Kind.Kind, specs.Version.is_second}
+use Rattle.{toml.specs.Data.{Data, get}, tally_base.specs.{Settings.{PartSettings, ImageView, PartSettings.ImageSettings}, Limits.wrap_limit}, toml_rules.specs.{Rules.each, Values.list_at}}
+use Rattle.{toml_rules.specs.Values.{has_keys, integer_in, number_in, truth_or}, plan_text.specs.{Groups.group_number, Kind.Kind, Version.is_second}}
 
 -- the tables of images
 abbrev pub images : Data → List Data

@@ -1,8 +1,6 @@
 -- What a plan says of one kind of tables.
 use Rattle.std.specs.Prelude.{ℕ, List, [], ◌∷◌, ◌++◌, Option, is_some}
-use Rattle.toml.specs.Data.{Data}
-use Rattle.tally_base.specs.Settings.{PartSettings}
-use Rattle.toml_rules.{specs.Rules.{Rule, each}, specs.Values.list_at}
+use Rattle.{toml.specs.Data.Data, tally_base.specs.Settings.PartSettings, toml_rules.specs.{Rules.{Rule, each}, Values.list_at}}
 
 -- What a plan says of one list of tables.
 

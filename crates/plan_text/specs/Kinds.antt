@@ -1,7 +1,9 @@
 -- The kinds of tables that a plan may have, all lists of tables, and the tables of each kind.
 use Rattle.std.specs.Prelude.{ℕ, List, [], ◌∷◌, ◌++◌, map}
-use Rattle.tally_base.{specs.Settings.{PartSettings, hist_view, trace_view, startstop_view, coincidence_view, image_view, correlation_view, cube_view, fold_view}, specs.Settings.PartSettings.{HistSettings, TraceSettings, StartStopSettings, CoincidenceSettings, ImageSettings, CorrelationSettings, CubeSettings, FoldSettings}}
-use Rattle.plan_text.{specs.Kind.{Kind, list_of_kind, TableList}, specs.Groups.group_list, specs.Histograms.histogram_kind, specs.Traces.trace_kind, specs.StartStops.startstop_kind, specs.Coincidences.coincidence_kind, specs.Images.image_kind, specs.Correlations.correlation_kind, specs.Cubes.cube_kind, specs.Folds.fold_kind, specs.Shifts.shift_list, specs.declared.plan.Plan.Plan}
+use Rattle.tally_base.specs.Settings.{PartSettings, hist_view, trace_view, startstop_view, coincidence_view, image_view, correlation_view, cube_view, fold_view, PartSettings.HistSettings}
+use Rattle.{tally_base.specs.Settings.PartSettings.{TraceSettings, StartStopSettings, CoincidenceSettings, ImageSettings, CorrelationSettings, CubeSettings, FoldSettings}, plan_text.specs.Kind.Kind}
+use Rattle.plan_text.specs.{Kind.{list_of_kind, TableList}, Groups.group_list, Histograms.histogram_kind, Traces.trace_kind, StartStops.startstop_kind, Coincidences.coincidence_kind}
+use Rattle.plan_text.specs.{Images.image_kind, Correlations.correlation_kind, Cubes.cube_kind, Folds.fold_kind, Shifts.shift_list, declared.plan.Plan.Plan}
 
 -- the kinds that a plan of either version may have
 abbrev pub first_kinds : List Kind

@@ -1,11 +1,10 @@
 -- All rules of a plan, and the plan that a document gives.
 use Rattle.std.specs.Prelude.{◌≡◌, map, ℕ, Bool, true, false, List, [], ◌∷◌, ◌++◌, Result, Ok, Option, None, Some, unwrap_or, filter_map, flat_map}
-use Rattle.toml.specs.Data.{Data}
-use Rattle.tally_base.{specs.declared.fault.Fault.Fault, specs.declared.event.Order.Order, specs.declared.event.OnReserved.OnReserved, specs.Settings.{GroupView, ShiftView, PartSettings}, specs.Limits.record_limit}
+use Rattle.{toml.specs.Data.Data, tally_base.specs.{declared.{fault.Fault.Fault, event.{Order.Order, OnReserved.OnReserved}}, Settings.{GroupView, ShiftView, PartSettings}, Limits.record_limit}}
+use Rattle.{toml_rules.specs.Rules.{Rule, or_next, all_kept}, plan_text.specs.{Document.{order, reserved, records, document_rules}, Groups.{groups, group}, Kind.{tables, TableList}, Kinds.kinds}}
+use Rattle.plan_text.specs.{Kinds.table_lists, Settle.settle_or_none, Shifts.{period_or_one, all_shifts}}
 use Rattle.tally_base.specs.declared.event.Order.TheVariants as orders
 use Rattle.tally_base.specs.declared.event.OnReserved.TheVariants as choices
-use Rattle.toml_rules.specs.Rules.{Rule, or_next, all_kept}
-use Rattle.plan_text.{specs.Document.{order, reserved, records, document_rules}, specs.Groups.{groups, group}, specs.Kind.{tables, TableList}, specs.Kinds.{kinds, table_lists}, specs.Settle.settle_or_none, specs.Shifts.{period_or_one, all_shifts}}
 
 -- all rules, in their order
 unfoldable pub plan_rules : Data → List Rule

@@ -1,9 +1,8 @@
 -- What reading a plan answers.
-use Rattle.std.{specs.Prelude.{◌≡◌, ◌<◌, ◌≤◌, ℕ, List, map, flat_map, length, nat_le, Option, None, Some, Result, Ok, Err, if◌then◌else◌}, specs.Str.is_utf8}
-use Rattle.tally_base.{specs.declared.fault.Fault.Fault, specs.declared.fault.Fault.TheVariants.{OutOfMemory, PlanTooLong, PlanSyntax, PlanRule}, specs.Settings.{group_view, shift_view}}
-use Rattle.toml.{specs.Data.{table, Members}, specs.Parse.parse_document}
-use Rattle.toml_rules.specs.Rules.{all_kept, AllHold, IsLeast}
-use Rattle.plan_text.{specs.Kinds.part_lists, specs.Plan.{PlanView, plan_rules, plan, IsWhole}, specs.declared.plan.Plan.Plan}
+use Rattle.std.specs.{Prelude.{◌≡◌, ◌<◌, ◌≤◌, ℕ, List, map, flat_map, length, nat_le, Option, None, Some, Result, Ok, Err, if◌then◌else◌}, Str.is_utf8}
+use Rattle.{tally_base.specs.{declared.fault.Fault.{Fault, TheVariants.{OutOfMemory, PlanTooLong, PlanSyntax, PlanRule}}, Settings.{group_view, shift_view}}, toml.specs.Data.{table, Members}}
+use Rattle.{toml.specs.Parse.parse_document, toml_rules.specs.Rules.{all_kept, AllHold, IsLeast}, plan_text.specs.{Kinds.part_lists, Plan.{PlanView, plan_rules, plan, IsWhole}}}
+use Rattle.plan_text.specs.declared.plan.Plan.{Plan}
 
 -- what a contract sees of a plan
 abbrev pub plan_view : Plan → PlanView

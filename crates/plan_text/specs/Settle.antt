@@ -1,7 +1,6 @@
 -- How many events may overtake one that is put in its place.
 use Rattle.std.specs.Prelude.{ℕ, codes, Option, unwrap_or}
-use Rattle.toml.specs.Data.{Data, get}
-use Rattle.toml_rules.specs.Values.{number_or}
+use Rattle.{toml.specs.Data.{Data, get}, toml_rules.specs.Values.number_or}
 
 -- the number that the document says, or none: None where it breaks its rule
 unfoldable pub settle : Data → Option ℕ

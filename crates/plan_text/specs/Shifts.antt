@@ -1,9 +1,7 @@
 -- What the tables of shifts say and the period of the dtimes, and the rules on them.
 use Rattle.std.specs.Prelude.{ℕ, ◌+◌, ◌-◌, ◌==◌, Bool, List, [], ◌∷◌, length, codes, Option, None, Some, is_some, unwrap_or, if◌then◌else◌}
-use Rattle.toml.specs.Data.{Data, get}
-use Rattle.tally_base.specs.Settings.{ShiftView}
-use Rattle.toml_rules.{specs.Rules.{Rule, whole, each}, specs.Values.{list_at, has_keys, integer_in, number_in}}
-use Rattle.plan_text.{specs.Settle.settle, specs.Kind.TableList}
+use Rattle.{toml.specs.Data.{Data, get}, tally_base.specs.Settings.ShiftView, toml_rules.specs.{Rules.{Rule, whole, each}, Values.{list_at, has_keys, integer_in, number_in}}}
+use Rattle.plan_text.specs.{Settle.settle, Kind.TableList}
 
 -- the tables of shifts
 abbrev pub shifts : Data → List Data

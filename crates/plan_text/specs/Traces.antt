@@ -1,9 +1,7 @@
 -- What the tables of traces say, and the rules on them.
-use Rattle.std.specs.Prelude.{ℕ, ◌^◌, Bool, List, [], ◌∷◌, codes, Option, None, Some}
-use Rattle.toml.specs.Data.{Data, get}
-use Rattle.tally_base.{specs.Settings.PartSettings, specs.Settings.PartSettings.TraceSettings, specs.Limits.wrap_limit}
-use Rattle.toml_rules.{specs.Rules.each, specs.Values.{list_at, has_keys, number_in, number_or}}
-use Rattle.plan_text.{specs.Groups.group_number, specs.Kind.Kind}
+use Rattle.std.specs.Prelude.{ℕ, ◌^◌, Bool, [], ◌∷◌, codes, Option, None, Some}
+use Rattle.{toml.specs.Data.{Data, get}, tally_base.specs.{Settings.{PartSettings, PartSettings.TraceSettings}, Limits.wrap_limit}, toml_rules.specs.{Rules.each, Values.{list_at, has_keys}}}
+use Rattle.{toml_rules.specs.Values.{number_in, number_or}, plan_text.specs.{Groups.group_number, Kind.Kind}}
 
 -- the settings of these numbers, where each keeps its rule
 abbrev pub trace_of : Option ℕ → Option ℕ → Option ℕ → Option ℕ → Option PartSettings

@@ -1,7 +1,6 @@
 -- The version of a plan.
 use Rattle.std.specs.Prelude.{ℕ, ◌==◌, Bool, false, codes, Option, None, Some}
-use Rattle.toml.specs.Data.{Data, get}
-use Rattle.toml_rules.specs.Values.{number_or}
+use Rattle.{toml.specs.Data.{Data, get}, toml_rules.specs.Values.number_or}
 
 -- the version that the document names, or the first
 unfoldable pub version : Data → Option ℕ

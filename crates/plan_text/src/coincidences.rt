@@ -1,32 +1,12 @@
 // The coincidences of a plan.
 ghost use Rattle.std.specs.Prelude.{◌≡◌, ◌≤◌, length, option_map};
-ghost use Rattle.toml.specs.View.{view};
-ghost use Rattle.tally_base.{specs.Settings.coincidence_view, specs.Settings.PartSettings.CoincidenceSettings};
-ghost use Rattle.plan_text.{specs.Coincidences.{coincidence, coincidence_kind}, specs.Groups.groups};
+ghost use Rattle.{toml.specs.View.view, tally_base.specs.Settings.{coincidence_view, PartSettings.CoincidenceSettings}, plan_text.specs.{Coincidences.{coincidence, coincidence_kind}, Groups.groups}};
 
 use crate::groups::group_number;
 use crate::kind::{PlanKind, each_has_keys};
 use tally_base::{CoincidenceSet, Fault, Mode, PartKind};
 use toml::Value;
 use toml_rules::{list_at, number_in};
-
-/// The coincidences that a table asks for.
-#[tactic(auto, unfolding(crate::specs::Coincidences::coincidence))]
-fn coincidence(document: &Value, table: &Value) -> Option<CoincidenceSet>
-    requires few { length (groups (view document.now)) ≤ 64 }
-    ensures { option_map (λ set. CoincidenceSettings (coincidence_view set)) result ≡ coincidence (view document.now) (view table.now) }
-{
-    let first = group_number(document, table, "first")?;
-    let second = group_number(document, table, "second")?;
-    let reach = number_in(table, "reach", 1, 1 << 20)?;
-    let width = number_in(table, "width", 1, 1 << 21)?;
-    Some(CoincidenceSet {
-        first: first as u8,
-        second: second as u8,
-        reach: reach as u32,
-        width: width as u32,
-    })
-}
 
 impl PlanKind for CoincidenceSet {
     ghost kind = { coincidence_kind };
@@ -48,8 +28,18 @@ impl PlanKind for CoincidenceSet {
         18
     }
 
+    #[tactic(auto, unfolding(crate::specs::Coincidences::coincidence))]
     fn read(document: &Value, table: &Value) -> Option<CoincidenceSet> {
-        coincidence(document, table)
+        let first = group_number(document, table, "first")?;
+        let second = group_number(document, table, "second")?;
+        let reach = number_in(table, "reach", 1, 1 << 20)?;
+        let width = number_in(table, "width", 1, 1 << 21)?;
+        Some(CoincidenceSet {
+            first: first as u8,
+            second: second as u8,
+            reach: reach as u32,
+            width: width as u32,
+        })
     }
 
     fn misfit(mode: Mode) -> Option<PartKind> {

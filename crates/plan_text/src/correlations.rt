@@ -1,8 +1,7 @@
 // The correlations of a plan.
 ghost use Rattle.std.specs.Prelude.{◌≡◌, ◌≤◌, ◌%◌, length, option_map, IfSome};
-ghost use Rattle.toml.specs.View.{view};
-ghost use Rattle.tally_base.{specs.Settings.correlation_view, specs.Settings.PartSettings.CorrelationSettings};
-ghost use Rattle.plan_text.{specs.Correlations.{lags, correlation, correlation_kind}, specs.Groups.groups};
+ghost use Rattle.{toml.specs.View.view, tally_base.specs.Settings.{correlation_view, PartSettings.CorrelationSettings}, plan_text.specs.Correlations.{lags, correlation, correlation_kind}};
+ghost use Rattle.plan_text.specs.Groups.{groups};
 
 use crate::groups::group_number;
 use crate::kind::{PlanKind, each_has_keys};
@@ -19,24 +18,6 @@ fn lags(table: &Value) -> Option<u64>
 {
     let number = number_in(table, "lags", 2, 128)?;
     if number % 2 == 0 { Some(number) } else { None }
-}
-
-/// The correlation that a table asks for.
-#[tactic(auto, unfolding(crate::specs::Correlations::correlation))]
-fn correlation(document: &Value, table: &Value) -> Option<CorrelationSet>
-    requires few { length (groups (view document.now)) ≤ 64 }
-    ensures { option_map (λ set. CorrelationSettings (correlation_view set)) result ≡ correlation (view document.now) (view table.now) }
-{
-    let first = group_number(document, table, "first")?;
-    let second = group_number(document, table, "second")?;
-    let lags = lags(table)?;
-    let levels = number_in(table, "levels", 1, 40)?;
-    Some(CorrelationSet {
-        first: first as u8,
-        second: second as u8,
-        lags: lags as u32,
-        levels: levels as u32,
-    })
 }
 
 impl PlanKind for CorrelationSet {
@@ -59,8 +40,18 @@ impl PlanKind for CorrelationSet {
         22
     }
 
+    #[tactic(auto, unfolding(crate::specs::Correlations::correlation))]
     fn read(document: &Value, table: &Value) -> Option<CorrelationSet> {
-        correlation(document, table)
+        let first = group_number(document, table, "first")?;
+        let second = group_number(document, table, "second")?;
+        let lags = lags(table)?;
+        let levels = number_in(table, "levels", 1, 40)?;
+        Some(CorrelationSet {
+            first: first as u8,
+            second: second as u8,
+            lags: lags as u32,
+            levels: levels as u32,
+        })
     }
 
     fn misfit(_mode: Mode) -> Option<PartKind> {

@@ -1,8 +1,6 @@
 // The cubes of a plan.
 ghost use Rattle.std.specs.Prelude.{◌≡◌, ◌<◌, ◌≤◌, length, option_map, IfSome};
-ghost use Rattle.toml.specs.View.{view};
-ghost use Rattle.tally_base.{specs.Settings.cube_view, specs.Settings.PartSettings.CubeSettings};
-ghost use Rattle.plan_text.{specs.Groups.groups, specs.Cubes.{bins, has_cube_values, cube, cube_kind}};
+ghost use Rattle.{toml.specs.View.view, tally_base.specs.Settings.{cube_view, PartSettings.CubeSettings}, plan_text.specs.{Groups.groups, Cubes.{bins, has_cube_values, cube, cube_kind}}};
 
 use crate::images::{has_image_values, image};
 use crate::kind::{PlanKind, each_has_keys};
@@ -23,25 +21,6 @@ fn bins(table: &Value) -> Option<(u32, u32)>
     let dwidth = number_in(table, "dwidth", 1, 32768)?;
     let dbins = number_in(table, "dbins", 1, 32768)?;
     Some((dwidth as u32, dbins as u32))
-}
-
-/// The cube that a table asks for.
-#[tactic(auto, unfolding(crate::specs::Cubes::cube))]
-fn cube(document: &Value, table: &Value) -> Option<CubeSet>
-    requires few { length (groups (view document.now)) ≤ 64 }
-    ensures { option_map (λ set. CubeSettings (cube_view set)) result ≡ cube (view document.now) (view table.now) }
-{
-    let image = image(document, table)?;
-    let (dwidth, dbins) = bins(table)?;
-    if u64::from(image.width) * u64::from(image.height) * u64::from(dbins) <= MOST_BINS {
-        Some(CubeSet {
-            image,
-            dwidth,
-            dbins,
-        })
-    } else {
-        None
-    }
 }
 
 /// It would be an image without its bins, and these are in their ranges.
@@ -85,8 +64,19 @@ impl PlanKind for CubeSet {
         29
     }
 
+    #[tactic(auto, unfolding(crate::specs::Cubes::cube))]
     fn read(document: &Value, table: &Value) -> Option<CubeSet> {
-        cube(document, table)
+        let image = image(document, table)?;
+        let (dwidth, dbins) = bins(table)?;
+        if u64::from(image.width) * u64::from(image.height) * u64::from(dbins) <= MOST_BINS {
+            Some(CubeSet {
+                image,
+                dwidth,
+                dbins,
+            })
+        } else {
+            None
+        }
     }
 
     fn misfit(mode: Mode) -> Option<PartKind> {

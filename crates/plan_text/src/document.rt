@@ -1,9 +1,8 @@
 // What the document says as a whole.
 ghost use Rattle.std.{specs.Prelude.{◌≡◌, ◌<◌, ◌≤◌, ◌+◌, ◌++◌, IfSome, OnOk, map, filter, length, true, false, [], ◌∷◌, if◌then◌else◌}, proofs.Math.Bool.beq};
-ghost use Rattle.tally_base.specs.Limits.{record_limit};
-ghost use Rattle.toml.specs.View.{view};
-ghost use Rattle.toml_rules.{specs.Rules.{all_kept, kept}, specs.Values.{list_at, has_keys}};
-ghost use Rattle.plan_text.{specs.Kinds.{lists, keys_of, first_lists, second_lists}, specs.Document.{order, reserved, records, known_keys, has_known_keys, may_have_tables, has_at_most, rule_of_lists, rule_of_lengths, document_rules, AreShort, HasFewTables}};
+ghost use Rattle.{tally_base.specs.Limits.record_limit, toml.specs.View.view, toml_rules.specs.{Rules.{all_kept, kept}, Values.{list_at, has_keys}}, plan_text.specs.Kinds.{lists, keys_of}};
+ghost use Rattle.plan_text.specs.{Kinds.{first_lists, second_lists}, Document.{order, reserved, records, known_keys, has_known_keys, may_have_tables, has_at_most, rule_of_lists, rule_of_lengths}};
+ghost use Rattle.plan_text.specs.Document.{document_rules, AreShort, HasFewTables};
 
 use crate::version::{is_second, version};
 use arrayvec::ArrayVec;
@@ -84,14 +83,6 @@ fn put_keys(own: &[&'static str], added: bool, keys: &mut ArrayVec<&'static str,
     }
 }
 
-/// Whether an array of tables stands at the key, or nothing at all.
-#[tactic(auto, unfolding(crate::specs::Document::may_have_tables))]
-fn may_have_tables(document: &Value, key: &str) -> bool
-    ensures { result ≡ may_have_tables key.now (view document.now) }
-{
-    may_be_tables(document, key)
-}
-
 /// Whether the array at the key has at most so many members.
 #[tactic(auto, unfolding(crate::specs::Document::has_at_most))]
 fn has_at_most(most: usize, document: &Value, key: &str) -> bool
@@ -102,14 +93,14 @@ fn has_at_most(most: usize, document: &Value, key: &str) -> bool
 }
 
 /// Rule 6: at the key of each list stands an array of tables, or nothing at all.
-#[tactic(auto, unfolding(crate::specs::Document::rule_of_lists))]
+#[tactic(auto, unfolding(crate::specs::Document::rule_of_lists, crate::specs::Document::may_have_tables))]
 fn may_have_lists(document: &Value, lists: &[(&str, usize, bool)]) -> Result<(), Fault>
     requires few { length lists.now ≤ 255 }
     ensures { result ≡ kept (rule_of_lists (map (λ list. (list.0.now, list.1)) lists.now) (view document.now)) }
 {
     let mut place: u16 = 1;
     'lists: for (key, _, _) in lists {
-        held(6, place, may_have_tables(document, key))?;
+        held(6, place, may_be_tables(document, key))?;
         place += 1;
     }
     Ok(())
@@ -150,17 +141,6 @@ fn lists() -> &'static [(&'static str, usize, bool)]
     ]
 }
 
-/// Goes through the rules on the lists of a plan, 6 and 7.
-fn keeps_list_rules(document: &Value) -> Result<(), Fault>
-    ensures kept { result ≡ all_kept (rule_of_lists lists (view document.now) ∷ rule_of_lengths lists (view document.now) ∷ []) }
-    ensures few { OnOk result (HasFewTables (view document.now)) }
-{
-    let lists = lists();
-    may_have_lists(document, lists)?;
-    have_at_most(document, lists)?;
-    Ok(())
-}
-
 /// Goes through the rules on the document as a whole, 1 to 7.
 #[tactic(auto, unfolding(crate::specs::Document::document_rules))]
 pub(crate) fn keeps_document_rules(document: &Value) -> Result<(), Fault>
@@ -172,6 +152,7 @@ pub(crate) fn keeps_document_rules(document: &Value) -> Result<(), Fault>
     held(3, 0, order(document).is_some())?;
     held(4, 0, reserved(document).is_some())?;
     held(5, 0, records(document).is_some())?;
-    keeps_list_rules(document)?;
-    Ok(())
+    let lists = lists();
+    may_have_lists(document, lists)?;
+    have_at_most(document, lists)
 }

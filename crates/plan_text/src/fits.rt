@@ -1,7 +1,6 @@
 // Whether the parts of a plan suit a file's mode.
 ghost use Rattle.std.specs.Prelude.{◌≡◌, IfErr, ◌≤◌, map, length};
-ghost use Rattle.tally_base.specs.Settings.{group_view, shift_view};
-ghost use Rattle.plan_text.{specs.Fits.{fits, groups_fit, shifts_fit, IsMisfit}, specs.ReadPlan.plan_view};
+ghost use Rattle.{tally_base.specs.Settings.{group_view, shift_view}, plan_text.specs.{Fits.{fits, groups_fit, shifts_fit, IsMisfit}, ReadPlan.plan_view}};
 
 use crate::plan::Plan;
 use tally_base::{Fault, Group, Mode, PartKind, ShiftSet};

@@ -1,8 +1,7 @@
 // The folds of a plan.
 ghost use Rattle.std.specs.Prelude.{◌≡◌, ◌<◌, ◌≤◌, length, map, option_map, IfSome};
-ghost use Rattle.toml.specs.View.{view};
-ghost use Rattle.tally_base.{specs.Gates.AreGroups, specs.Settings.fold_view, specs.Settings.PartSettings.FoldSettings};
-ghost use Rattle.plan_text.{specs.Groups.groups, specs.Folds.{numbers_from, numbers_among, numbers, fold_settings, fold_kind}};
+ghost use Rattle.{toml.specs.View.view, tally_base.specs.{Gates.AreGroups, Settings.{fold_view, PartSettings.FoldSettings}}, plan_text.specs.{Groups.groups, Folds.{numbers_from, numbers_among}}};
+ghost use Rattle.plan_text.specs.Folds.{numbers, fold_settings, fold_kind};
 
 use crate::kind::{PlanKind, each_has_keys};
 use arrayvec::ArrayVec;
@@ -34,9 +33,8 @@ fn numbers_among(most: u64, items: &[Value]) -> Option<ArrayVec<u8, 6>>
     requires most { most ≤ 64 }
     ensures numbers { option_map (λ numbers. numbers.items) result
         ≡ numbers_among most (map view items.now) }
-    ensures rise { IfSome result (λ numbers. AreGroups 0 numbers.items) }
-    ensures count { IfSome result
-        (λ numbers. (0 < length numbers.items) × (length numbers.items ≤ 6)) }
+    ensures groups { IfSome result
+        (λ numbers. AreGroups 0 numbers.items × (0 < length numbers.items) × (length numbers.items ≤ 6)) }
 {
     if items.is_empty() || 6 < items.len() {
         return None;
@@ -57,27 +55,11 @@ fn numbers(document: &Value, table: &Value) -> Option<ArrayVec<u8, 6>>
     requires few { length (groups (view document.now)) ≤ 64 }
     ensures numbers { option_map (λ numbers. numbers.items) result
         ≡ numbers (view document.now) (view table.now) }
-    ensures rise { IfSome result (λ numbers. AreGroups 0 numbers.items) }
-    ensures count { IfSome result
-        (λ numbers. (0 < length numbers.items) × (length numbers.items ≤ 6)) }
+    ensures groups { IfSome result
+        (λ numbers. AreGroups 0 numbers.items × (0 < length numbers.items) × (length numbers.items ≤ 6)) }
 {
     let items = table.get("groups")?.as_array()?;
     numbers_among(group_count(document), items.as_slice())
-}
-
-/// The fold that a table asks for.
-#[tactic(auto, unfolding(crate::specs::Folds::fold_settings))]
-fn fold_settings(document: &Value, table: &Value) -> Option<FoldSet>
-    requires few { length (groups (view document.now)) ≤ 64 }
-    ensures { option_map (λ set. FoldSettings (fold_view set)) result
-        ≡ fold_settings (view document.now) (view table.now) }
-{
-    let groups = numbers(document, table)?;
-    let window = number_in(table, "window", 1, 1 << 20)?;
-    Some(FoldSet {
-        groups,
-        window: window as u32,
-    })
 }
 
 impl PlanKind for FoldSet {
@@ -100,8 +82,14 @@ impl PlanKind for FoldSet {
         31
     }
 
+    #[tactic(auto, unfolding(crate::specs::Folds::fold_settings))]
     fn read(document: &Value, table: &Value) -> Option<FoldSet> {
-        fold_settings(document, table)
+        let groups = numbers(document, table)?;
+        let window = number_in(table, "window", 1, 1 << 20)?;
+        Some(FoldSet {
+            groups,
+            window: window as u32,
+        })
     }
 
     fn misfit(mode: Mode) -> Option<PartKind> {

@@ -1,9 +1,7 @@
 // The groups of a plan.
 ghost use Rattle.std.specs.Prelude.{◌≡◌, ◌<◌, ◌≤◌, ◌^◌, IfSome, map, length, is_some, option_map, codes};
-ghost use Rattle.toml.{specs.Data.{get, as_array}, specs.View.{view}};
-ghost use Rattle.tally_base.{specs.Gates.AreGates, specs.Settings.group_view};
-ghost use Rattle.toml_rules.specs.Rules.{all_kept};
-ghost use Rattle.plan_text.specs.Groups.{inputs_from, inputs_among, inputs, range_in, range_among, ranges_from, ranges_in, many_gates, one_gate, gates, groups, has_group_keys, group_rules, group, group_number};
+ghost use Rattle.{toml.specs.{Data.{get, as_array}, View.view}, tally_base.specs.{Gates.AreGates, Settings.group_view}, toml_rules.specs.Rules.all_kept, plan_text.specs.Groups.inputs_from};
+ghost use Rattle.plan_text.specs.Groups.{inputs_among, inputs, range_in, range_among, ranges_from, ranges_in, many_gates, one_gate, gates, groups, has_group_keys, group_rules, group, group_number};
 
 use crate::version::is_second;
 use arrayvec::ArrayVec;
@@ -57,8 +55,7 @@ fn inputs(group: &Value) -> Option<u128>
 
 /// A range of dtimes from two integers with low <= lo < hi <= 32768.
 fn range_in(low: u16, items: &[Value]) -> Option<(u16, u16)>
-    ensures range { result ≡ range_in low (map view items.now) }
-    ensures some { IfSome result (λ range. (low ≤ range.0) × (range.0 < range.1) × (range.1 ≤ 32768)) }
+    ensures { result ≡ range_in low (map view items.now) }
 {
     match items {
         [lo, hi] => {
@@ -77,8 +74,7 @@ fn range_in(low: u16, items: &[Value]) -> Option<(u16, u16)>
 /// The same of what may be an array.
 #[tactic(auto, using(toml_rules::proofs::Least::list_of_view))]
 fn range_among(low: u16, value: &Value) -> Option<(u16, u16)>
-    ensures range { result ≡ range_among low (as_array (view value.now)) }
-    ensures some { IfSome result (λ range. (low ≤ range.0) × (range.0 < range.1) × (range.1 ≤ 32768)) }
+    ensures { result ≡ range_among low (as_array (view value.now)) }
 {
     range_in(low, value.as_array()?.as_slice())
 }
@@ -86,8 +82,7 @@ fn range_among(low: u16, value: &Value) -> Option<(u16, u16)>
 /// At most 8 such ranges, each from the end of the one before on.
 fn ranges_from(items: &[Value]) -> Option<ArrayVec<(u16, u16), 8>>
     requires few { length items.now ≤ 8 }
-    ensures ranges { option_map (λ ranges. ranges.items) result ≡ ranges_from 0 (map view items.now) }
-    ensures rise { IfSome result (λ ranges. AreGates 0 ranges.items) }
+    ensures { option_map (λ ranges. ranges.items) result ≡ ranges_from 0 (map view items.now) }
 {
     let mut ranges: ArrayVec<(u16, u16), 8> = ArrayVec::new();
     let mut low: u16 = 0;
@@ -101,8 +96,7 @@ fn ranges_from(items: &[Value]) -> Option<ArrayVec<(u16, u16), 8>>
 
 /// 1 to 8 such ranges.
 fn ranges_in(items: &[Value]) -> Option<ArrayVec<(u16, u16), 8>>
-    ensures ranges { option_map (λ ranges. ranges.items) result ≡ ranges_in (map view items.now) }
-    ensures rise { IfSome result (λ ranges. AreGates 0 ranges.items) }
+    ensures { option_map (λ ranges. ranges.items) result ≡ ranges_in (map view items.now) }
 {
     if items.is_empty() || 8 < items.len() {
         return None;
@@ -113,8 +107,7 @@ fn ranges_in(items: &[Value]) -> Option<ArrayVec<(u16, u16), 8>>
 /// The gates of a group of version 2.
 #[tactic(auto, using(toml_rules::proofs::Least::list_of_view))]
 fn many_gates(group: &Value) -> Option<ArrayVec<(u16, u16), 8>>
-    ensures ranges { option_map (λ ranges. ranges.items) result ≡ many_gates (get (codes "gates") (view group.now)) }
-    ensures rise { IfSome result (λ ranges. AreGates 0 ranges.items) }
+    ensures { option_map (λ ranges. ranges.items) result ≡ many_gates (get (codes "gates") (view group.now)) }
 {
     match group.get("gates") {
         Some(value) => ranges_in(value.as_array()?.as_slice()),
@@ -124,8 +117,7 @@ fn many_gates(group: &Value) -> Option<ArrayVec<(u16, u16), 8>>
 
 /// The gate of a group of version 1, if it has one.
 fn one_gate(group: &Value) -> Option<ArrayVec<(u16, u16), 8>>
-    ensures ranges { option_map (λ ranges. ranges.items) result ≡ one_gate (get (codes "gate") (view group.now)) }
-    ensures rise { IfSome result (λ ranges. AreGates 0 ranges.items) }
+    ensures { option_map (λ ranges. ranges.items) result ≡ one_gate (get (codes "gate") (view group.now)) }
 {
     let mut ranges: ArrayVec<(u16, u16), 8> = ArrayVec::new();
     match group.get("gate") {
@@ -140,8 +132,7 @@ fn one_gate(group: &Value) -> Option<ArrayVec<(u16, u16), 8>>
 /// The gates of a group of a document, in its version.
 #[tactic(auto, unfolding(crate::specs::Groups::gates))]
 fn gates(document: &Value, group: &Value) -> Option<ArrayVec<(u16, u16), 8>>
-    ensures ranges { option_map (λ ranges. ranges.items) result ≡ gates (view document.now) (view group.now) }
-    ensures rise { IfSome result (λ ranges. AreGates 0 ranges.items) }
+    ensures { option_map (λ ranges. ranges.items) result ≡ gates (view document.now) (view group.now) }
 {
     if is_second(document) {
         many_gates(group)
@@ -151,7 +142,7 @@ fn gates(document: &Value, group: &Value) -> Option<ArrayVec<(u16, u16), 8>>
 }
 
 /// The group that a table gives.
-#[tactic(auto, unfolding(crate::specs::Groups::group))]
+#[tactic(auto, using(crate::proofs::Gates::gates_rise), unfolding(crate::specs::Groups::group))]
 pub(crate) fn group(document: &Value, table: &Value) -> Option<Group>
     ensures { option_map group_view result ≡ group (view document.now) (view table.now) }
 {

@@ -1,30 +1,12 @@
 // The histograms of a plan.
 ghost use Rattle.std.specs.Prelude.{◌≡◌, ◌≤◌, length, option_map};
-ghost use Rattle.toml.specs.View.{view};
-ghost use Rattle.tally_base.{specs.Settings.hist_view, specs.Settings.PartSettings.HistSettings};
-ghost use Rattle.plan_text.{specs.Groups.groups, specs.Histograms.{histogram_kind, histogram}};
+ghost use Rattle.{toml.specs.View.view, tally_base.specs.Settings.{hist_view, PartSettings.HistSettings}, plan_text.specs.{Groups.groups, Histograms.{histogram_kind, histogram}}};
 
 use crate::groups::group_number;
 use crate::kind::{PlanKind, each_has_keys};
 use tally_base::{Fault, HistSet, Mode, PartKind};
 use toml::Value;
 use toml_rules::{list_at, number_in};
-
-/// The histogram that a table gives.
-#[tactic(auto, unfolding(crate::specs::Histograms::histogram))]
-fn histogram(document: &Value, table: &Value) -> Option<HistSet>
-    requires few { length (groups (view document.now)) ≤ 64 }
-    ensures { option_map (λ set. HistSettings (hist_view set)) result ≡ histogram (view document.now) (view table.now) }
-{
-    let group = group_number(document, table, "group")?;
-    let width = number_in(table, "width", 1, 32768)?;
-    let bins = number_in(table, "bins", 1, 32768)?;
-    Some(HistSet {
-        group: group as u8,
-        width: width as u32,
-        bins: bins as u32,
-    })
-}
 
 impl PlanKind for HistSet {
     ghost kind = { histogram_kind };
@@ -46,8 +28,16 @@ impl PlanKind for HistSet {
         12
     }
 
+    #[tactic(auto, unfolding(crate::specs::Histograms::histogram))]
     fn read(document: &Value, table: &Value) -> Option<HistSet> {
-        histogram(document, table)
+        let group = group_number(document, table, "group")?;
+        let width = number_in(table, "width", 1, 32768)?;
+        let bins = number_in(table, "bins", 1, 32768)?;
+        Some(HistSet {
+            group: group as u8,
+            width: width as u32,
+            bins: bins as u32,
+        })
     }
 
     fn misfit(mode: Mode) -> Option<PartKind> {

@@ -1,8 +1,7 @@
 // The images of a plan.
 ghost use Rattle.std.specs.Prelude.{◌≡◌, ◌<◌, ◌≤◌, map, length, option_map, is_some, IfSome};
-ghost use Rattle.toml.specs.View.{view};
-ghost use Rattle.tally_base.{specs.Settings.image_view, specs.Settings.PartSettings.ImageSettings, specs.Limits.wrap_limit};
-ghost use Rattle.plan_text.{specs.Groups.groups, specs.Images.{other_image_keys, bit, raster, bits, serpentine, image_values, image_kind}};
+ghost use Rattle.{toml.specs.View.view, tally_base.specs.{Settings.{image_view, PartSettings.ImageSettings}, Limits.wrap_limit}, plan_text.specs.{Groups.groups, Images.{other_image_keys, bit}}};
+ghost use Rattle.plan_text.specs.Images.{raster, bits, serpentine, image_values, image_kind};
 
 use crate::groups::group_number;
 use crate::kind::{PlanKind, each_has_keys};

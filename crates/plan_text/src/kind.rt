@@ -1,9 +1,7 @@
 // What a plan says of one kind of tables: the rules on them, and the settings that they give.
 ghost use Rattle.std.specs.Prelude.{◌≡◌, ◌+◌, ◌≤◌, Option, map, filter_map, length, is_some, option_map, OnOk, IfOk, IfErr, Ok, Err};
-ghost use Rattle.toml.specs.View.{view};
-ghost use Rattle.tally_base.specs.Settings.{PartSettings};
-ghost use Rattle.toml_rules.{specs.Rules.{all_kept, kept, each}, specs.Values.has_keys};
-ghost use Rattle.plan_text.{specs.Fits.{misfit, parts_fit}, specs.Groups.groups, specs.Kind.{Kind, tables, kind_rules}};
+ghost use Rattle.{toml.specs.View.view, tally_base.specs.Settings.PartSettings, toml_rules.specs.{Rules.{all_kept, kept, each}, Values.has_keys}, plan_text.specs.Fits.{misfit, parts_fit}};
+ghost use Rattle.plan_text.specs.{Groups.groups, Kind.{Kind, tables, kind_rules}};
 
 use arrayvec::ArrayVec;
 use tally_base::{Fault, Mode, PartKind};
@@ -60,44 +58,13 @@ pub(crate) fn each_has_keys(
     Ok(())
 }
 
-/// Each of the tables gives settings. Refused with the rule and the number of the first, from 1, that gives none.
-fn each_gives<K: PlanKind>(rule: u8, document: &Value, items: &[Value]) -> Result<(), Fault>
-    requires groups { length (groups (view document.now)) ≤ 64 }
-    requires few { length (map view items.now) ≤ 255 }
-    ensures { result ≡ kept (each rule (λ table. is_some (K.kind.read (view document.now) table)) (map view items.now)) }
-{
-    let mut index: u16 = 1;
-    'items: for item in items {
-        held(rule, index, K::read(document, item).is_some())?;
-        index += 1;
-    }
-    Ok(())
-}
-
-/// The settings of the tables of a kind that give some, in their order.
-fn list_of<K: PlanKind, const N: usize>(document: &Value) -> ArrayVec<K, N>
-    requires groups { length (groups (view document.now)) ≤ 64 }
-    requires few { length (tables K.kind (view document.now)) ≤ N }
-    ensures { map K.settings result.items
-        ≡ filter_map (K.kind.read (view document.now)) (tables K.kind (view document.now)) }
-{
-    let mut found: ArrayVec<K, N> = ArrayVec::new();
-    let items = K::tables(document);
-    'items: for item in items {
-        if let Some(set) = K::read(document, item) {
-            found.push(set);
-        }
-    }
-    found
-}
-
-/// The settings of the tables of a kind, where no rule on it is broken.
+/// The settings that each of the tables of a kind gives, in their order, where they keep the rules on it.
 #[tactic(auto, using(toml_rules::proofs::Least::all_kept_after))]
 pub(crate) fn list_by_rules<K: PlanKind, const N: usize>(
     document: &Value,
 ) -> Result<ArrayVec<K, N>, Fault>
-    requires groups { length (groups (view document.now)) ≤ 64 }
-    requires few { length (tables K.kind (view document.now)) ≤ N }
+    requires few { length (groups (view document.now)) ≤ 64 }
+    requires room { length (tables K.kind (view document.now)) ≤ N }
     requires small { N ≤ 255 }
     ensures kept { OnOk result (all_kept (kind_rules K.kind (view document.now)) ≡ Ok tt) }
     ensures refused { IfErr result (λ fault. all_kept (kind_rules K.kind (view document.now)) ≡ Err fault) }
@@ -105,8 +72,22 @@ pub(crate) fn list_by_rules<K: PlanKind, const N: usize>(
         ≡ filter_map (K.kind.read (view document.now)) (tables K.kind (view document.now))) }
 {
     K::keeps_before(document)?;
-    each_gives::<K>(K::last_rule(), document, K::tables(document))?;
-    Ok(list_of(document))
+    let mut found: ArrayVec<K, N> = ArrayVec::new();
+    let mut index: u16 = 1;
+    let items = K::tables(document);
+    'items: for item in items {
+        match K::read(document, item) {
+            Some(set) => found.push(set),
+            None => {
+                return Err(Fault::PlanRule {
+                    rule: K::last_rule(),
+                    index,
+                });
+            }
+        }
+        index += 1;
+    }
+    Ok(found)
 }
 
 /// There is no table of a kind that the mode does not suit.

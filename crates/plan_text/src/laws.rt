@@ -1,8 +1,8 @@
 // Laws of plans, as the contracts of functions that do nothing.
 ghost use Rattle.std.specs.Prelude.{◌≡◌, ◌≢◌, ◌↔◌, ◌≤◌, ℕ, List, Some, Ok, Err, false};
-ghost use Rattle.toml.specs.Data.{Members, table};
-ghost use Rattle.tally_base.{specs.declared.fault.Fault.Fault, specs.declared.fault.Fault.TheVariants.OutOfMemory, specs.declared.header.Mode.Mode};
-ghost use Rattle.plan_text.{specs.declared.plan.Plan.Plan, specs.Plan.{PlanView, plan}, specs.Version.is_second, specs.FirstVersion.SaysFirst, specs.ReadPlan.{document, plan_answer, IsCalledFor, IsValid, HaveSameTables}, specs.Fits.{fits, IsMisfit}, specs.Bound.{bound, greatest_bound}};
+ghost use Rattle.{toml.specs.Data.{Members, table}, tally_base.specs.declared.{fault.Fault.{Fault, TheVariants.OutOfMemory}, header.Mode.Mode}, plan_text.specs.declared.plan.Plan.Plan};
+ghost use Rattle.plan_text.specs.{Plan.{PlanView, plan}, Version.is_second, FirstVersion.SaysFirst, ReadPlan.{document, plan_answer, IsCalledFor, IsValid, HaveSameTables}, Fits.{fits, IsMisfit}};
+ghost use Rattle.plan_text.specs.Bound.{bound, greatest_bound};
 
 /// What bytes answer as a plan is the one fault that they call for, or the plan of a document that breaks
 /// no rule.

@@ -1,16 +1,15 @@
 // How a plan is read.
 ghost use Rattle.std.specs.Prelude.{◌≡◌, ◌≤◌, ◌<◌, ◌≢◌, map, filter_map, length, IfOk, IfErr, OnOk, Some, None, Ok, Err, unwrap_or, false};
-ghost use Rattle.tally_base.{specs.Faults.is_outside, specs.Settings.group_view, specs.Limits.record_limit};
-ghost use Rattle.toml.{specs.Data.{Members, table}, specs.View.{view}};
-ghost use Rattle.toml_rules.specs.Rules.{all_kept, Names, AllHold};
-ghost use Rattle.plan_text.{specs.Groups.{groups, group}, specs.Document.{order, reserved, records}, specs.Settle.settle_or_none, specs.Plan.{order_of, reserved_of, plan_rules, plan, IsWhole}, specs.ReadPlan.{document, plan_answer, plan_view, plan_seen, if_kept, IsCalledFor, IsValid}};
+ghost use Rattle.{tally_base.specs.{Faults.is_outside, Settings.group_view, Limits.record_limit}, toml.specs.{Data.{Members, table}, View.view}, toml_rules.specs.Rules.{all_kept, Names, AllHold}};
+ghost use Rattle.plan_text.specs.{Groups.{groups, group}, Document.{order, reserved, records}, Settle.settle_or_none, Plan.{order_of, reserved_of, plan_rules, plan, IsWhole}, ReadPlan.document};
+ghost use Rattle.plan_text.specs.ReadPlan.{plan_answer, plan_view, plan_seen, if_kept, IsCalledFor, IsValid};
 
 use crate::document::{keeps_document_rules, order, records, reserved};
 use crate::groups::{group, keeps_group_rules};
 use crate::kind::list_by_rules;
 use crate::plan::Plan;
 use crate::settle::settle_or_none;
-use crate::shifts::{keeps_shift_rules, period_or_one, shifts_of};
+use crate::shifts::{period_or_one, shifts_by_rules};
 use arrayvec::ArrayVec;
 use std::alloc::Global;
 use tally_base::{Fault, Group, OnReserved, Order, Policy, RECORD_LIMIT};
@@ -100,10 +99,7 @@ fn plan_of(document: &Value) -> Result<Plan, Fault>
         coincidences: list_by_rules(document)?,
         images: list_by_rules(document)?,
         correlations: list_by_rules(document)?,
-        shifts: {
-            keeps_shift_rules(document)?;
-            shifts_of(document)
-        },
+        shifts: shifts_by_rules(document)?,
         cubes: list_by_rules(document)?,
         folds: list_by_rules(document)?,
     })

@@ -1,7 +1,6 @@
 // How many events may overtake one that is put in its place.
 ghost use Rattle.std.specs.Prelude.{◌≡◌, ◌≤◌, IfSome};
-ghost use Rattle.toml.specs.View.{view};
-ghost use Rattle.plan_text.specs.Settle.{settle, settle_or_none};
+ghost use Rattle.{toml.specs.View.view, plan_text.specs.Settle.{settle, settle_or_none}};
 
 use toml::Value;
 use toml_rules::number_or;

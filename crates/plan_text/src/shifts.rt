@@ -1,9 +1,7 @@
 // The period of the dtimes, and the shifts of a plan.
-ghost use Rattle.std.specs.Prelude.{◌≡◌, ◌<◌, ◌≤◌, map, filter_map, length, is_some, option_map, IfSome};
-ghost use Rattle.toml.specs.View.{view};
-ghost use Rattle.tally_base.specs.Settings.{shift_view};
-ghost use Rattle.toml_rules.specs.Rules.{all_kept, kept, each};
-ghost use Rattle.plan_text.specs.Shifts.{shifts, period, period_or_one, shift, input_behind, shifts_from, all_shifts, shift_rules};
+ghost use Rattle.std.specs.Prelude.{◌≡◌, ◌<◌, ◌≤◌, map, filter_map, length, is_some, option_map, IfSome, IfOk, IfErr, OnOk, Ok, Err};
+ghost use Rattle.{toml.specs.View.view, tally_base.specs.Settings.shift_view, toml_rules.specs.Rules.{all_kept, kept, each}, plan_text.specs.Shifts.{shifts, period, period_or_one, shift}};
+ghost use Rattle.plan_text.specs.Shifts.{shifts_from, all_shifts, shift_rules};
 
 use crate::kind::each_has_keys;
 use crate::settle::settle;
@@ -53,69 +51,43 @@ fn shift(period: u64, low: u64, table: &Value) -> Option<ShiftSet>
     })
 }
 
-/// The least input that may follow a shift.
-fn input_behind(set: Option<ShiftSet>) -> u64
-    ensures { result ≡ input_behind (option_map shift_view set) }
-{
-    match set {
-        Some(set) => set.input as u64 + 1,
-        None => 0,
-    }
-}
-
-/// Each of the tables gives a shift, of a greater input than the one before. Refused with the rule and the
-/// number of the first, from 1, that gives none.
-fn each_is_read(rule: u8, period: u64, items: &[Value]) -> Result<(), Fault>
+/// The shifts that the tables give, each of a greater input than the one before. Refused with the rule and the
+/// number of the first table, from 1, that gives none.
+fn shifts_in(rule: u8, period: u64, items: &[Value]) -> Result<ArrayVec<ShiftSet, 65>, Fault>
     requires period { (1 ≤ period) × (period ≤ 32768) }
-    requires few { length items.now ≤ 255 }
-    ensures { result ≡ kept (each rule (λ set. is_some set) (shifts_from period 0 (map view items.now))) }
+    requires few { length items.now ≤ 65 }
+    ensures kept { OnOk result (kept (each rule (λ set. is_some set) (shifts_from period 0 (map view items.now))) ≡ Ok tt) }
+    ensures refused { IfErr result (λ fault. kept (each rule (λ set. is_some set) (shifts_from period 0 (map view items.now))) ≡ Err fault) }
+    ensures list { IfOk result (λ list. map shift_view list.items ≡ filter_map (λ set. set) (shifts_from period 0 (map view items.now))) }
 {
+    let mut found: ArrayVec<ShiftSet, 65> = ArrayVec::new();
     let mut index: u16 = 1;
     let mut low: u64 = 0;
     'items: for item in items {
-        let set = shift(period, low, item);
-        held(rule, index, set.is_some())?;
-        low = input_behind(set);
+        match shift(period, low, item) {
+            Some(set) => {
+                low = set.input as u64 + 1;
+                found.push(set);
+            }
+            None => return Err(Fault::PlanRule { rule, index }),
+        }
         index += 1;
     }
-    Ok(())
+    Ok(found)
 }
 
-/// Goes through the rules on the period, the shifts and settling, 23 to 26.
+/// The shifts of the document, where it keeps the rules on the period, the shifts and settling, 23 to 26.
 #[tactic(auto, unfolding(crate::specs::Shifts::shift_rules, crate::specs::Shifts::all_shifts, crate::specs::Shifts::has_shift_keys))]
-pub(crate) fn keeps_shift_rules(document: &Value) -> Result<(), Fault>
+pub(crate) fn shifts_by_rules(document: &Value) -> Result<ArrayVec<ShiftSet, 65>, Fault>
     requires few { length (shifts (view document.now)) ≤ 65 }
-    ensures { result ≡ all_kept (shift_rules (view document.now)) }
+    ensures kept { OnOk result (all_kept (shift_rules (view document.now)) ≡ Ok tt) }
+    ensures refused { IfErr result (λ fault. all_kept (shift_rules (view document.now)) ≡ Err fault) }
+    ensures list { IfOk result (λ list. map shift_view list.items ≡ filter_map (λ set. set) (all_shifts (view document.now))) }
 {
     held(23, 0, period(document).is_some())?;
-    each_has_keys(24, list_at(document, "shift"), &["input", "shift"], &[])?;
-    each_is_read(25, period_or_one(document), list_at(document, "shift"))?;
-    held(26, 0, settle(document).is_some())
-}
-
-/// The shifts of the tables that give one, each of a greater input than the one before.
-fn shifts_in(period: u64, items: &[Value]) -> ArrayVec<ShiftSet, 65>
-    requires period { (1 ≤ period) × (period ≤ 32768) }
-    requires few { length items.now ≤ 65 }
-    ensures { map shift_view result.items ≡ filter_map (λ set. set) (shifts_from period 0 (map view items.now)) }
-{
-    let mut found: ArrayVec<ShiftSet, 65> = ArrayVec::new();
-    let mut low: u64 = 0;
-    'items: for item in items {
-        let set = shift(period, low, item);
-        low = input_behind(set);
-        if let Some(set) = set {
-            found.push(set);
-        }
-    }
-    found
-}
-
-/// The shifts of the document.
-#[tactic(auto, unfolding(crate::specs::Shifts::all_shifts))]
-pub(crate) fn shifts_of(document: &Value) -> ArrayVec<ShiftSet, 65>
-    requires few { length (shifts (view document.now)) ≤ 65 }
-    ensures { map shift_view result.items ≡ filter_map (λ set. set) (all_shifts (view document.now)) }
-{
-    shifts_in(period_or_one(document), list_at(document, "shift"))
+    let tables = list_at(document, "shift");
+    each_has_keys(24, tables, &["input", "shift"], &[])?;
+    let list = shifts_in(25, period_or_one(document), tables)?;
+    held(26, 0, settle(document).is_some())?;
+    Ok(list)
 }

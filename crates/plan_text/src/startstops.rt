@@ -1,32 +1,12 @@
 // The start-stops of a plan.
 ghost use Rattle.std.specs.Prelude.{◌≡◌, ◌≤◌, length, option_map};
-ghost use Rattle.toml.specs.View.{view};
-ghost use Rattle.tally_base.{specs.Settings.startstop_view, specs.Settings.PartSettings.StartStopSettings};
-ghost use Rattle.plan_text.{specs.Groups.groups, specs.StartStops.{startstop, startstop_kind}};
+ghost use Rattle.{toml.specs.View.view, tally_base.specs.Settings.{startstop_view, PartSettings.StartStopSettings}, plan_text.specs.{Groups.groups, StartStops.{startstop, startstop_kind}}};
 
 use crate::groups::group_number;
 use crate::kind::{PlanKind, each_has_keys};
 use tally_base::{Fault, Mode, PartKind, StartStopSet, WRAP_LIMIT};
 use toml::Value;
 use toml_rules::{list_at, number_in};
-
-/// The start-stop that a table gives.
-#[tactic(auto, unfolding(crate::specs::StartStops::startstop))]
-fn startstop(document: &Value, table: &Value) -> Option<StartStopSet>
-    requires few { length (groups (view document.now)) ≤ 64 }
-    ensures { option_map (λ set. StartStopSettings (startstop_view set)) result ≡ startstop (view document.now) (view table.now) }
-{
-    let start = group_number(document, table, "start")?;
-    let stop = group_number(document, table, "stop")?;
-    let width = number_in(table, "width", 1, WRAP_LIMIT)?;
-    let bins = number_in(table, "bins", 1, 32768)?;
-    Some(StartStopSet {
-        start: start as u8,
-        stop: stop as u8,
-        width,
-        bins: bins as u32,
-    })
-}
 
 impl PlanKind for StartStopSet {
     ghost kind = { startstop_kind };
@@ -48,8 +28,18 @@ impl PlanKind for StartStopSet {
         16
     }
 
+    #[tactic(auto, unfolding(crate::specs::StartStops::startstop))]
     fn read(document: &Value, table: &Value) -> Option<StartStopSet> {
-        startstop(document, table)
+        let start = group_number(document, table, "start")?;
+        let stop = group_number(document, table, "stop")?;
+        let width = number_in(table, "width", 1, WRAP_LIMIT)?;
+        let bins = number_in(table, "bins", 1, 32768)?;
+        Some(StartStopSet {
+            start: start as u8,
+            stop: stop as u8,
+            width,
+            bins: bins as u32,
+        })
     }
 
     fn misfit(mode: Mode) -> Option<PartKind> {

@@ -1,8 +1,6 @@
 // The traces of a plan.
 ghost use Rattle.std.specs.Prelude.{◌≡◌, ◌≤◌, length, option_map, IfSome};
-ghost use Rattle.toml.specs.View.{view};
-ghost use Rattle.tally_base.{specs.Settings.trace_view, specs.Settings.PartSettings.TraceSettings, specs.Limits.wrap_limit};
-ghost use Rattle.plan_text.{specs.Groups.groups, specs.Traces.{origin, trace, trace_kind}};
+ghost use Rattle.{toml.specs.View.view, tally_base.specs.{Settings.{trace_view, PartSettings.TraceSettings}, Limits.wrap_limit}, plan_text.specs.{Groups.groups, Traces.{origin, trace, trace_kind}}};
 
 use crate::groups::group_number;
 use crate::kind::{PlanKind, each_has_keys};
@@ -17,24 +15,6 @@ fn origin(table: &Value) -> Option<u64>
     ensures range { IfSome result (λ n. n ≤ wrap_limit) }
 {
     number_or(table, "origin", 0, 0, WRAP_LIMIT)
-}
-
-/// The trace that a table gives.
-#[tactic(auto, unfolding(crate::specs::Traces::trace))]
-fn trace(document: &Value, table: &Value) -> Option<TraceSet>
-    requires few { length (groups (view document.now)) ≤ 64 }
-    ensures { option_map (λ set. TraceSettings (trace_view set)) result ≡ trace (view document.now) (view table.now) }
-{
-    let group = group_number(document, table, "group")?;
-    let origin = origin(table)?;
-    let width = number_in(table, "width", 1, WRAP_LIMIT)?;
-    let bins = number_in(table, "bins", 1, 1 << 20)?;
-    Some(TraceSet {
-        group: group as u8,
-        origin,
-        width,
-        bins: bins as u32,
-    })
 }
 
 impl PlanKind for TraceSet {
@@ -57,8 +37,18 @@ impl PlanKind for TraceSet {
         14
     }
 
+    #[tactic(auto, unfolding(crate::specs::Traces::trace))]
     fn read(document: &Value, table: &Value) -> Option<TraceSet> {
-        trace(document, table)
+        let group = group_number(document, table, "group")?;
+        let origin = origin(table)?;
+        let width = number_in(table, "width", 1, WRAP_LIMIT)?;
+        let bins = number_in(table, "bins", 1, 1 << 20)?;
+        Some(TraceSet {
+            group: group as u8,
+            origin,
+            width,
+            bins: bins as u32,
+        })
     }
 
     fn misfit(_mode: Mode) -> Option<PartKind> {

@@ -1,7 +1,6 @@
 // The version of a plan.
 ghost use Rattle.std.specs.Prelude.{◌≡◌};
-ghost use Rattle.toml.specs.View.{view};
-ghost use Rattle.plan_text.specs.Version.{version, is_second};
+ghost use Rattle.{toml.specs.View.view, plan_text.specs.Version.{version, is_second}};
 
 use toml::Value;
 use toml_rules::number_or;

@@ -1,9 +1,12 @@
 -- The statuses of refusals of bytes.
-use Rattle.std.{proofs.Common.{◌≡◌, ℕ, List, [], Bool, true, None, Some, Ok, Err, subst, arith, rules, ◌≢◌, ◌≤◌, ◌==◌, Result, length, if◌then◌else◌}, specs.declared.option.Option.Option}
-use Rattle.tally_base.{specs.declared.fault.Fault.Fault, specs.declared.fault.Fault.TheVariants.{HeaderLimit, TruncatedHeader, RecordLimit, ReservedRecord, TimeLimit, OutOfMemory}, specs.declared.header.Header.Header, specs.declared.header.RecordType.RecordType, specs.declared.event.Event.Event, specs.declared.header.Mode.Mode, specs.Events.{stops_late, stops_reserved}}
-use Rattle.ptu_definitions.{specs.declared.found.Found.Found, specs.Words.{words_of}, specs.Endings.{Ending, OtherFile, BadType, BadLength, Whole, Open}, specs.Fields.{found_in, header_of, version_in, with_type, with_value}, specs.Headers.{head_of, answer_as, with_rest, header_limit}, specs.Streams.{IsFirst, StreamSettings, late_refusal, refusal}}
-use Rattle.command_work.specs.Outcomes.{StatusIn}
-use Rattle.plan_text.{specs.Plan.PlanView, specs.ReadPlan.{IsCalledFor}, specs.Fits.{IsMisfit}, proofs.Misfits.{names_part}}
+use Rattle.std.proofs.Common.{◌≡◌, ℕ, List, [], Bool, true, None, Some, Ok, Err, subst, arith, rules, ◌≢◌, ◌≤◌, ◌==◌, Result, length, if◌then◌else◌}
+use Rattle.{std.specs.declared.option.Option.Option, tally_base.specs.declared.fault.Fault.{Fault, TheVariants.{HeaderLimit, TruncatedHeader, RecordLimit}}}
+use Rattle.tally_base.specs.declared.{fault.Fault.TheVariants.{ReservedRecord, TimeLimit, OutOfMemory}, header.{Header.Header, RecordType.RecordType}}
+use Rattle.tally_base.specs.{declared.{header.Mode.Mode, event.Event.Event}, Events.{stops_late, stops_reserved}}
+use Rattle.ptu_definitions.specs.{declared.found.Found.Found, Words.words_of, Endings.{Ending, OtherFile, BadType, BadLength, Whole, Open}, Fields.found_in}
+use Rattle.ptu_definitions.specs.{Fields.{header_of, version_in, with_type, with_value}, Headers.{head_of, answer_as, with_rest, header_limit}, Streams.IsFirst}
+use Rattle.{ptu_definitions.specs.Streams.{StreamSettings, late_refusal, refusal}, command_work.specs.Outcomes.StatusIn, plan_text.specs.Plan.PlanView}
+use Rattle.plan_text.{specs.{ReadPlan.IsCalledFor, Fits.IsMisfit}, proofs.Misfits.names_part}
 
 -- what an answer of a header says of its fault
 abbrev pub InHeader : {A : Type 0} → Result A Fault → Type 0

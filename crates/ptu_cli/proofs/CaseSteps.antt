@@ -1,7 +1,8 @@
 -- Steps that the proofs for several commands share.
-use Rattle.std.{proofs.Common.{◌≡◌, ℕ, List, [], ◌∷◌, length, Bool, true, false, None, Ok, Err, refl, ap, ◌≢◌, ◌<◌, ◌≤◌, arith, ◌==◌, Result, nat_lt, if◌then◌else◌, rules}, proofs.lemmas.Bool.Decides.nat_tests}
-use Rattle.tally_base.{specs.declared.fault.Fault.Fault, specs.declared.fault.Fault.TheVariants.TruncatedRecord}
-use Rattle.ptu_definitions.{specs.declared.records.Summary.Summary, specs.Words.{words_of, rest_of}, specs.Streams.{StreamSettings, record_refusal, summary, streamed, or_refusal}}
+use Rattle.std.proofs.Common.{◌≡◌, ℕ, List, [], ◌∷◌, length, Bool, true, false, None, Ok, Err, refl, ap, ◌≢◌, ◌<◌, ◌≤◌, arith, ◌==◌, Result, nat_lt}
+use Rattle.{std.proofs.{Common.{if◌then◌else◌, rules}, lemmas.Bool.Decides.nat_tests}, tally_base.specs.declared.fault.Fault.Fault}
+use Rattle.{tally_base.specs.declared.fault.Fault.TheVariants.TruncatedRecord, ptu_definitions.specs.{declared.records.Summary.Summary, Words.words_of}}
+use Rattle.ptu_definitions.specs.{Words.rest_of, Streams.{StreamSettings, record_refusal, summary, streamed, or_refusal}}
 
 -- ## Tests
 

@@ -1,21 +1,22 @@
 -- What `count`, `events`, `run`, `trace` and `demo` end with is what their tables call for.
-use Rattle.std.{proofs.Common.{◌≡◌, ℕ, zero, suc, List, [], ◌∷◌, ◌++◌, length, Bool, true, false, None, Some, Ok, Err, refl, sym, ap, ◌∙◌, ◌⊎◌, ◌≤◌, subst, inl, inr, arith, ◌==◌, Result, nat_lt, map, if◌then◌else◌, rules}, specs.declared.option.Option.{Option}}
-use Rattle.tally_base.{specs.declared.fault.Fault.Fault, specs.declared.fault.Fault.TheVariants.{RecordLimit, TruncatedRecord, NoTrace}, specs.declared.header.Header.Header, specs.Faults.{fault_in}, specs.Settings.{PartSettings, StartStopView, TraceView}, specs.Tally.History}
-use Rattle.bench_io.specs.Inputs.{File}
-use Rattle.ptu_definitions.{specs.declared.records.Summary.Summary, specs.Words.{words_of, rest_of, record_limit, records_of, counted}, specs.Layouts.meaning_of, specs.Kinds.counts_of, specs.Prefixes.each_after, specs.Streams.{IsFirst, StreamSettings, record_refusal, summary, summary_of, streamed}, specs.Times.events, proofs.Firsts.{first-refusal, refused-first, none-refused, given-before, given-all}}
-use Rattle.record_stream.proofs.Lasts.{streamed-refused}
-use Rattle.plan_text.specs.Plan.{PlanView, parts_of}
-use Rattle.coincidence.proofs.Intervals.{intervals_are_pairs}
-use Rattle.gate_plan.{specs.Shifting.sorting, specs.Histories.{history, reading_by}}
-use Rattle.list_out.specs.Lines.{events_text, lines_of}
-use Rattle.table_out.{specs.Printed.{texts, table_lines}, specs.StartStop.startstop_printed, specs.Report.{head_text, printed, Table, table_text, report, with_events}}
-use Rattle.ptu_made.{specs.Generator.made_words, specs.Records.made_header}
-use Rattle.long_trace.specs.Texts.{open_text}
-use Rattle.report_work.{specs.Reports.{reported, reports}, specs.Demo.{demo_plan, demo_report}}
-use Rattle.file_work.specs.FileOutcomes.{counts_text, counted_end, counts, listing, lists_by}
-use Rattle.trace_work.{specs.TraceOutcomes.{trace_of, no_trace, traced, records_traced, traces_with}, specs.TraceTexts.{settled-whole, settled-first}}
-use Rattle.command_work.{specs.Outcomes.{Outcome, refused, written, StatusIn}, proofs.RestEnds.{end_with, same-end}}
-use Rattle.ptu_cli.{proofs.ByteFaults.{least-status, OfSome, refusal-in}, specs.Tables.{Lines, Applies}, specs.Cases.{count_lines, stream_lines, list_text, startstop_by_places, by_places, placed_text, report_by_places, words_report, trace_text, whole_trace, HasTrace, traced_lines, trace_lines}, specs.CommandCases.{NeedsNothing, Has}, proofs.Tables.{Meets, in_range, as-status, in-within, of-within, within-sound}, proofs.CaseSteps.{lt-true, lt-false, true-lt, false-lt, empty-true, empty-false, true-empty, false-empty, whole_answer, streamed-clear}}
+use Rattle.std.proofs.Common.{◌≡◌, ℕ, zero, suc, List, [], ◌∷◌, ◌++◌, length, Bool, true, false, None, Some, Ok, Err, refl, sym, ap, ◌∙◌, ◌⊎◌, ◌≤◌, subst, inl}
+use Rattle.std.{proofs.Common.{inr, arith, ◌==◌, Result, nat_lt, map, if◌then◌else◌, rules}, specs.declared.option.Option.Option}
+use Rattle.tally_base.specs.{declared.{fault.Fault.{Fault, TheVariants.{RecordLimit, TruncatedRecord, NoTrace}}, header.Header.Header}, Faults.fault_in}
+use Rattle.{tally_base.specs.{Settings.{PartSettings, StartStopView, TraceView}, Tally.History}, bench_io.specs.Inputs.File}
+use Rattle.ptu_definitions.specs.{declared.records.Summary.Summary, Words.{words_of, rest_of, record_limit, records_of, counted}, Layouts.meaning_of}
+use Rattle.ptu_definitions.specs.{Kinds.counts_of, Prefixes.each_after, Streams.{IsFirst, StreamSettings, record_refusal, summary, summary_of, streamed}}
+use Rattle.ptu_definitions.{specs.Times.events, proofs.Firsts.{first-refusal, refused-first, none-refused, given-before, given-all}}
+use Rattle.{record_stream.proofs.Lasts.streamed-refused, plan_text.specs.Plan.{PlanView, parts_of}, coincidence.proofs.Intervals.intervals_are_pairs}
+use Rattle.{gate_plan.specs.{Shifting.sorting, Histories.{history, reading_by}}, list_out.specs.Lines.{events_text, lines_of}, table_out.specs.Printed.texts}
+use Rattle.table_out.specs.{Printed.table_lines, StartStop.startstop_printed, Report.{head_text, printed, Table, table_text, report, with_events}}
+use Rattle.{ptu_made.specs.{Generator.made_words, Records.made_header}, long_trace.specs.Texts.open_text, report_work.specs.Reports.{reported, reports}}
+use Rattle.{report_work.specs.Demo.{demo_plan, demo_report}, file_work.specs.FileOutcomes.{counts_text, counted_end, counts, listing, lists_by}}
+use Rattle.trace_work.specs.{TraceOutcomes.{trace_of, no_trace, traced, records_traced, traces_with}, TraceTexts.{settled-whole, settled-first}}
+use Rattle.{command_work.{specs.Outcomes.{Outcome, refused, written, StatusIn}, proofs.RestEnds.{end_with, same-end}}, ptu_cli.proofs.ByteFaults.least-status}
+use Rattle.ptu_cli.proofs.{ByteFaults.{OfSome, refusal-in}, Tables.{Meets, in_range, as-status, in-within, of-within, within-sound}, CaseSteps.lt-true}
+use Rattle.ptu_cli.proofs.CaseSteps.{lt-false, true-lt, false-lt, empty-true, empty-false, true-empty, false-empty, whole_answer, streamed-clear}
+use Rattle.ptu_cli.specs.{Tables.{Lines, Applies}, Cases.{count_lines, stream_lines, list_text, startstop_by_places, by_places, placed_text, report_by_places}}
+use Rattle.ptu_cli.specs.{Cases.{words_report, trace_text, whole_trace, HasTrace, traced_lines, trace_lines}, CommandCases.{NeedsNothing, Has}}
 
 -- ## A report by places
 

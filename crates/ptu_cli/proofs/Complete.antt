@@ -1,9 +1,13 @@
 -- Good words and files end well, only words that are no command end as a bad command line, and a run leaves what is promised.
-use Rattle.std.{proofs.Common.{◌≡◌, ◌≤◌, ◌<◌, ℕ, true, None, Some, Ok, Err, refl, sym, ap, ◌∙◌, subst, arith, rules, inl, inr, ◌⊎◌, Result, IfErr}, specs.declared.option.Option.{Option}}
-use Rattle.tally_base.{specs.declared.slot.Slot.Slot, specs.declared.slot.Slot.TheVariants.{Plan, Data}, specs.declared.fault.Fault.Fault, specs.declared.fault.Fault.TheVariants.{Usage, OpenFault, ReadFault, WriteFault, OutOfMemory}, specs.Faults.{is_outside, fault_in, status_of, HasReason}, specs.FaultCounts.Rose}
-use Rattle.bench_io.{specs.Inputs.{File, InputState}, specs.Sinks.SinkState}
-use Rattle.ptu_cli.{specs.Commands.Request, specs.Runs.{Around, Runs, TellsOn, EndsIn, NothingFailed}, specs.Behaviours.behaviour, specs.Tables.HasStatus, specs.CommandCases.cases, proofs.Sound.{WorkIsSound, IsSound, sound}, proofs.Told.{some-status, usage}}
-use Rattle.command_work.{specs.Outcomes.{Outcome, status, IsIn}, specs.Behaviours.{Work, Behaviour, Alone}, specs.Endings.{HasPlan, on_file, outcome, Span, HasCauses, NoneRose, IsGood, IsGoodFor, AreItsFiles, ForItsFiles, Answers, EndsWith, LeavesCommand, RunsOut, LacksMemory}, proofs.Told.{files-map, some-file}, proofs.Once.{IsQuiet}}
+use Rattle.std.proofs.Common.{◌≡◌, ◌≤◌, ◌<◌, ℕ, true, None, Some, Ok, Err, refl, sym, ap, ◌∙◌, subst, arith, rules, inl, inr, ◌⊎◌, Result, IfErr}
+use Rattle.{std.specs.declared.option.Option.Option, tally_base.specs.declared.{slot.Slot.{Slot, TheVariants.{Plan, Data}}, fault.Fault.Fault}}
+use Rattle.tally_base.specs.{declared.fault.Fault.TheVariants.{Usage, OpenFault, ReadFault, WriteFault, OutOfMemory}, Faults.{is_outside, fault_in, status_of}}
+use Rattle.{tally_base.specs.{Faults.HasReason, FaultCounts.Rose}, bench_io.specs.{Inputs.{File, InputState}, Sinks.SinkState}, ptu_cli.specs.Commands.Request}
+use Rattle.ptu_cli.specs.{Runs.{Around, Runs, TellsOn, EndsIn, NothingFailed}, Behaviours.behaviour, Tables.HasStatus, CommandCases.cases}
+use Rattle.{ptu_cli.proofs.{Sound.{WorkIsSound, IsSound, sound}, Told.{some-status, usage}}, command_work.specs.Outcomes.{Outcome, status, IsIn}}
+use Rattle.command_work.specs.{Behaviours.{Work, Behaviour, Alone}, Endings.{HasPlan, on_file, outcome, Span, HasCauses, NoneRose, IsGood, IsGoodFor}}
+use Rattle.command_work.{specs.Endings.{AreItsFiles, ForItsFiles, Answers, EndsWith, LeavesCommand, RunsOut, LacksMemory}, proofs.Told.{files-map, some-file}}
+use Rattle.command_work.proofs.Once.{IsQuiet}
 
 -- ## Good files
 
@@ -80,7 +84,8 @@ completes does span (Err fault) result is none quiet causes (inl outside) =
     inl (may_want does span result (is ∙ ap status_of want.0) want.1)
 
 -- where files that may be its are good, the run ends well
-good-its : (request : Option Request) (after : InputState) (result : ℕ) (plan_file data_file : File) → Completes (behaviour request) after result → AreItsFiles (behaviour request) after plan_file data_file → IsGood (behaviour request) plan_file data_file
+good-its : (request : Option Request) (after : InputState) (result : ℕ) (plan_file data_file : File) → Completes (behaviour request) after result
+    → AreItsFiles (behaviour request) after plan_file data_file → IsGood (behaviour request) plan_file data_file
     → LacksMemory (behaviour request) result ⊎ (result ≡ 0)
 good-its request after result plan_file data_file completes may good = search (rules, arith, good-ends)
 

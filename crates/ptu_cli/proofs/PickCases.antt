@@ -1,14 +1,15 @@
 -- What `pick` ends with is what its table calls for.
-use Rattle.std.{proofs.Common.{◌≡◌, ℕ, List, [], ◌∷◌, ◌++◌, length, Bool, true, false, None, Some, Err, refl, sym, ap, ◌∙◌, inl, inr, ◌≢◌, append-nil, arith, append_assoc, ◌⊎◌, ◌==◌, nat_le, ◌&&◌, rules}, specs.declared.option.Option.Option}
-use Rattle.tally_base.{specs.declared.fault.Fault.Fault, specs.declared.fault.Fault.TheVariants.{TruncatedRecord, NoGroup, PickTime}, specs.declared.header.Header.Header, specs.Faults.fault_in, specs.declared.event.Event.Event}
-use Rattle.ptu_definitions.{specs.Words.{words_of, rest_of}, specs.Streams.{IsFirst, StreamSettings, record_refusal}, proofs.Firsts.{first-refusal, refused-first, none-refused}}
-use Rattle.record_stream.proofs.Lasts.{streamed-refused}
-use Rattle.plan_text.specs.Plan.{PlanView}
-use Rattle.gate_plan.specs.Histories.{reading_by}
-use Rattle.photon_pick.{specs.Late.too_late, specs.Ends.photons_by, specs.Texts.photons_in}
-use Rattle.pick_work.specs.PickOutcomes.{no_group, chosen_by, picks_of}
-use Rattle.command_work.specs.Outcomes.{Outcome}
-use Rattle.ptu_cli.{proofs.ByteFaults.{least-status}, specs.Tables.Applies, specs.Cases.{NoneRefused, HasGroup, settled_photons, kept_photons, FirstLate, LateAtRecord, LateAtEnd, RefusedInTime, SettledInTime, AllPicked, pick_end, pick_lines}, proofs.Tables.{Meets, as-status}, proofs.PickPhotons.{late-ends, none-or-late, late-more, picked_end, end-late, end-in_time, in-settled, in-before, least-late, clear-front, all-end}, proofs.CaseSteps.{empty-true, empty-false, true-empty, false-empty, whole_answer, streamed-clear}}
+use Rattle.std.proofs.Common.{◌≡◌, ℕ, List, [], ◌∷◌, ◌++◌, length, Bool, true, false, None, Some, Err, refl, sym, ap, ◌∙◌, inl, inr, ◌≢◌, append-nil, arith}
+use Rattle.std.{proofs.Common.{append_assoc, ◌⊎◌, ◌==◌, nat_le, ◌&&◌, rules}, specs.declared.option.Option.Option}
+use Rattle.tally_base.specs.declared.{fault.Fault.{Fault, TheVariants.{TruncatedRecord, NoGroup, PickTime}}, header.Header.Header, event.Event.Event}
+use Rattle.{tally_base.specs.Faults.fault_in, ptu_definitions.specs.{Words.{words_of, rest_of}, Streams.{IsFirst, StreamSettings, record_refusal}}}
+use Rattle.{ptu_definitions.proofs.Firsts.{first-refusal, refused-first, none-refused}, record_stream.proofs.Lasts.streamed-refused}
+use Rattle.{plan_text.specs.Plan.PlanView, gate_plan.specs.Histories.reading_by, photon_pick.specs.{Late.too_late, Ends.photons_by, Texts.photons_in}}
+use Rattle.{pick_work.specs.PickOutcomes.{no_group, chosen_by, picks_of}, command_work.specs.Outcomes.Outcome, ptu_cli.proofs.ByteFaults.least-status}
+use Rattle.ptu_cli.proofs.{Tables.{Meets, as-status}, PickPhotons.{late-ends, none-or-late, late-more, picked_end, end-late, end-in_time, in-settled}}
+use Rattle.ptu_cli.proofs.{PickPhotons.{in-before, least-late, clear-front, all-end}, CaseSteps.{empty-true, empty-false, true-empty, false-empty}}
+use Rattle.ptu_cli.{proofs.CaseSteps.{whole_answer, streamed-clear}, specs.{Tables.Applies, Cases.{NoneRefused, HasGroup, settled_photons, kept_photons}}}
+use Rattle.ptu_cli.specs.Cases.{FirstLate, LateAtRecord, LateAtEnd, RefusedInTime, SettledInTime, AllPicked, pick_end, pick_lines}
 
 -- ## The records
 
@@ -65,7 +66,8 @@ module _ (view : PlanView) (group : ℕ) (header : Header) (behind : List ℕ) w
       ∙ end-in_time how.mode (settled least.front) (Some fault) refusal.in_time
 
   -- where none is
-  clear-end : record_refusal how words ≡ None → (whole : Bool) → (length (rest_of behind) == 0) ≡ whole → whole_end ≡ picked_end how.mode (photons_by chooses how words (whole_answer how behind whole)) (fault_in (whole_answer how behind whole))
+  clear-end : record_refusal how words ≡ None → (whole : Bool) → (length (rest_of behind) == 0) ≡ whole
+      → whole_end ≡ picked_end how.mode (photons_by chooses how words (whole_answer how behind whole)) (fault_in (whole_answer how behind whole))
   clear-end none whole is = all-end chooses how behind (whole_answer how behind whole) (streamed-clear how behind none ∙ ap (whole_answer how behind) is)
 
   cut-end : SettledInTime view group header words → rest_of behind ≢ []

@@ -1,12 +1,13 @@
 -- The photons that `pick` writes, and the first of them that is too late.
-use Rattle.std.{proofs.Common.{◌≡◌, ◌∙◌, ℕ, List, [], ◌∷◌, ◌++◌, Bool, true, false, cond, None, Some, Ok, Err, map, refl, sym, ap, inl, inr, append_assoc, append-nil, ◌⊎◌, Result, arith, rules}, specs.List.filter, specs.declared.option.Option.Option, proofs.lemmas.List.Elements.filter-append}
-use Rattle.tally_base.{specs.declared.event.Event.Event, specs.declared.fault.Fault.Fault, specs.declared.fault.Fault.TheVariants.PickTime, specs.declared.header.Mode.Mode, specs.Faults.fault_in}
-use Rattle.ptu_definitions.{specs.declared.records.Summary.Summary, specs.Streams.{IsFirst, StreamSettings, record_refusal, given, last_in, streamed}, specs.Prefixes.first, specs.Settled.{not_marked, settled_by}, specs.Times.events, specs.Words.words_of, proofs.DeliveredLaws.{delivered-settled, delivered-none}, proofs.Firsts.{given-all, given-before}, proofs.StreamLemmas.{given-front, refused-more}}
-use Rattle.minimal_file.specs.ShortFiles.{short_header, minimal_file, bytes_in}
-use Rattle.record_write.specs.Picked.{is_too_late, picked_words, picked_file}
-use Rattle.photon_pick.{specs.Late.{too_late, writable}, specs.Texts.{photons_in, late_or}, specs.Ends.{photons_by, photons_of, end_text, end_fault}, proofs.Parts.chosen-more, proofs.Ends.{kept-are, clear-from_ok}}
-use Rattle.command_work.specs.Outcomes.{Outcome}
-use Rattle.ptu_cli.specs.Cases.{FirstLate}
+use Rattle.std.proofs.Common.{◌≡◌, ◌∙◌, ℕ, List, [], ◌∷◌, ◌++◌, Bool, true, false, cond, None, Some, Ok, Err, map, refl, sym, ap, inl, inr, append_assoc}
+use Rattle.std.{proofs.{Common.{append-nil, ◌⊎◌, Result, arith, rules}, lemmas.List.Elements.filter-append}, specs.{List.filter, declared.option.Option.Option}}
+use Rattle.tally_base.specs.{declared.{event.Event.Event, fault.Fault.{Fault, TheVariants.PickTime}, header.Mode.Mode}, Faults.fault_in}
+use Rattle.ptu_definitions.specs.{declared.records.Summary.Summary, Streams.{IsFirst, StreamSettings, record_refusal, given, last_in, streamed}, Prefixes.first}
+use Rattle.ptu_definitions.{specs.{Settled.{not_marked, settled_by}, Times.events, Words.words_of}, proofs.DeliveredLaws.{delivered-settled, delivered-none}}
+use Rattle.{ptu_definitions.proofs.{Firsts.{given-all, given-before}, StreamLemmas.{given-front, refused-more}}, minimal_file.specs.ShortFiles.short_header}
+use Rattle.{minimal_file.specs.ShortFiles.{minimal_file, bytes_in}, record_write.specs.Picked.{is_too_late, picked_words, picked_file}}
+use Rattle.photon_pick.specs.{Late.{too_late, writable}, Texts.{photons_in, late_or}, Ends.{photons_by, photons_of, end_text, end_fault}}
+use Rattle.{photon_pick.proofs.{Parts.chosen-more, Ends.{kept-are, clear-from_ok}}, command_work.specs.Outcomes.Outcome, ptu_cli.specs.Cases.FirstLate}
 
 -- ## The first that is too late
 
@@ -154,7 +155,8 @@ module _ (chooses : Event → Bool) (how : StreamSettings) where
   all-end bytes r is = ap (λ r. picked_end how.mode (photons_by chooses how (words_of bytes) r) (fault_in r)) is
 
   -- a photon that is too late among those of some words ends all bytes that begin with these
-  pub late-ends : (words more bytes : List ℕ) → words_of bytes ≡ words ++ more → (h : FirstLate how.mode (photons_in chooses how words)) → all_end bytes ≡ record { text = picked_file how.mode h.before; fault = Some (PickTime h.photon.place) }
+  pub late-ends : (words more bytes : List ℕ) → words_of bytes ≡ words ++ more → (h : FirstLate how.mode (photons_in chooses how words))
+      → all_end bytes ≡ record { text = picked_file how.mode h.before; fault = Some (PickTime h.photon.place) }
   late-ends words more bytes parts h =
       let front = front-of words more bytes parts in
       end-late how.mode (photons_of chooses how bytes) (fault_in (streamed how bytes))

@@ -1,11 +1,11 @@
 -- What `header` ends with is what its table calls for.
-use Rattle.std.{proofs.Common.{◌≡◌, ℕ, List, [], ◌++◌, None, Some, Ok, Err, refl, sym, ap, ◌∙◌, subst, inl, inr, ◌⊎◌, flat_map, arith, rules}, specs.declared.option.Option.{Option}}
-use Rattle.tally_base.{specs.declared.fault.Fault.Fault, specs.Faults.{fault_in}}
-use Rattle.ptu_definitions.{specs.TagList.Item, specs.Endings.HasHeader, specs.Headers.{header_answer, head_of, seen, seen_preamble, HasNoFront, HasLongestFront}, proofs.Sound.one_answer, proofs.SeenLemmas.{seen-header, seen_preamble-header}, proofs.SeenLaws.{seen-longest, seen-none}, proofs.Longest.some-longest}
-use Rattle.list_out.specs.HeaderText.{preamble_part, item_text, shown_text, header_text}
-use Rattle.command_work.{specs.Outcomes.{Outcome, IsIn, status}, proofs.RestEnds.same-end}
-use Rattle.file_work.specs.FileOutcomes.{header_outcome}
-use Rattle.ptu_cli.{specs.Tables.Applies, specs.Cases.{Prints, PrintCase, print_lines}, proofs.Tables.Meets, proofs.Shapes.{Answer, header-status}}
+use Rattle.std.proofs.Common.{◌≡◌, ℕ, List, [], ◌++◌, None, Some, Ok, Err, refl, sym, ap, ◌∙◌, subst, inl, inr, ◌⊎◌, flat_map, arith, rules}
+use Rattle.{std.specs.declared.option.Option.Option, tally_base.specs.{declared.fault.Fault.Fault, Faults.fault_in}, ptu_definitions.specs.TagList.Item}
+use Rattle.ptu_definitions.specs.{Endings.HasHeader, Headers.{header_answer, head_of, seen, seen_preamble, HasNoFront, HasLongestFront}}
+use Rattle.ptu_definitions.proofs.{Sound.one_answer, SeenLemmas.{seen-header, seen_preamble-header}, SeenLaws.{seen-longest, seen-none}, Longest.some-longest}
+use Rattle.{list_out.specs.HeaderText.{preamble_part, item_text, shown_text, header_text}, command_work.specs.Outcomes.{Outcome, IsIn, status}}
+use Rattle.{command_work.proofs.RestEnds.same-end, file_work.specs.FileOutcomes.header_outcome, ptu_cli.specs.{Tables.Applies, Cases.{Prints, PrintCase}}}
+use Rattle.ptu_cli.{specs.Cases.print_lines, proofs.{Tables.Meets, Shapes.{Answer, header-status}}}
 
 shown-at : (bytes : List ℕ) (start : Option (List ℕ)) (items : List Item) → seen_preamble bytes ≡ start
     → seen bytes ≡ items → shown_text bytes ≡ preamble_part start ++ flat_map item_text items

@@ -1,12 +1,14 @@
 -- The lines that commands share are met by what the commands share.
-use Rattle.std.{proofs.Common.{◌≡◌, ℕ, List, None, Some, Ok, Err, refl, sym, ap, ◌∙◌, ◌⊎◌, subst, inl, inr, Result, arith, rules}, specs.declared.option.Option.{Option}}
-use Rattle.toml.specs.Data.{table}
-use Rattle.tally_base.{specs.declared.slot.Slot.TheVariants.{Plan, Data}, specs.declared.fault.Fault.Fault, specs.declared.fault.Fault.TheVariants.OpenFault, specs.declared.header.Header.Header, specs.Faults.{status_of, fault_in}, specs.RecordTypes.mode_of}
-use Rattle.bench_io.specs.Inputs.{File}
-use Rattle.ptu_definitions.{specs.Headers.{header_answer, HasAnswer}, proofs.Sound.one_answer}
-use Rattle.plan_text.{specs.Plan.{PlanView, plan}, specs.ReadPlan.plan_answer, specs.Fits.fits, proofs.Called.{called, valid, answers, plans}, proofs.Misfits.{misfit_named, is_first}}
-use Rattle.command_work.{specs.Outcomes.{Outcome, refused, status, IsIn, StatusIn}, specs.Behaviours.{Work, Writing, Memory, ByPlan}, specs.Endings.{on_file, unless, by_plan, outcome}, specs.RecordsWork.{RecordsWork, unless_declined, if_suited, headed_end, headed_work}}
-use Rattle.ptu_cli.{proofs.ByteFaults.{InHeader, answer_as-in, called-status, misfit-status}, specs.Tables.{Phase, InPhase, Lines, NoLine, Line, within, Applies, Sound}, specs.CommandCases.{IsValidPlan, Need, NeedsNothing, Needs, Has, Suits, file_lines, header_lines, suited_lines, need_lines, plan_lines, planned_lines}, proofs.Tables.{Meets, as-status, in-within, of-within, within-sound}}
+use Rattle.std.proofs.Common.{◌≡◌, ℕ, List, None, Some, Ok, Err, refl, sym, ap, ◌∙◌, ◌⊎◌, subst, inl, inr, Result, arith, rules}
+use Rattle.{std.specs.declared.option.Option.Option, toml.specs.Data.table, tally_base.specs.declared.{slot.Slot.TheVariants.{Plan, Data}, fault.Fault.Fault}}
+use Rattle.tally_base.specs.{declared.{fault.Fault.TheVariants.OpenFault, header.Header.Header}, Faults.{status_of, fault_in}, RecordTypes.mode_of}
+use Rattle.{bench_io.specs.Inputs.File, ptu_definitions.{specs.Headers.{header_answer, HasAnswer}, proofs.Sound.one_answer}, plan_text.specs.Plan.PlanView}
+use Rattle.plan_text.{specs.{Plan.plan, ReadPlan.plan_answer, Fits.fits}, proofs.{Called.{called, valid, answers, plans}, Misfits.{misfit_named, is_first}}}
+use Rattle.command_work.specs.{Outcomes.{Outcome, refused, status, IsIn, StatusIn}, Behaviours.{Work, Writing, Memory, ByPlan}, Endings.{on_file, unless}}
+use Rattle.command_work.specs.{Endings.{by_plan, outcome}, RecordsWork.{RecordsWork, unless_declined, if_suited, headed_end, headed_work}}
+use Rattle.ptu_cli.proofs.{ByteFaults.{InHeader, answer_as-in, called-status, misfit-status}, Tables.{Meets, as-status, in-within, of-within, within-sound}}
+use Rattle.ptu_cli.specs.{Tables.{Phase, InPhase, Lines, NoLine, Line, within, Applies, Sound}, CommandCases.{IsValidPlan, Need, NeedsNothing, Needs, Has}}
+use Rattle.ptu_cli.specs.CommandCases.{Suits, file_lines, header_lines, suited_lines, need_lines, plan_lines, planned_lines}
 
 abbrev pub Answer : Type 0
 Answer = Result (Header × List ℕ) Fault

@@ -1,15 +1,13 @@
 -- What is shown of each command's work: good files end it well.
-use Rattle.std.{proofs.Common.{◌≡◌, ◌∙◌, Result, ℕ, List, length, false, None, Some, Ok, refl, ap, arith, nat_lt}, proofs.lemmas.Bool.Decides.nat_tests}
-use Rattle.tally_base.{specs.Faults.fault_in, specs.declared.header.Header.Header, specs.declared.header.RecordType.RecordType, specs.declared.fault.Fault.Fault, specs.RecordTypes.mode_of}
-use Rattle.ptu_definitions.{specs.Headers.header_answer, specs.Words.{words_of, record_limit, records_of, counted}, specs.Kinds.counts_of, specs.Streams.{StreamSettings, summary, streamed}}
-use Rattle.plan_text.{specs.Plan.PlanView, specs.Fits.fits}
-use Rattle.gate_plan.{specs.Histories.reading_by, specs.Shifting.sorting}
-use Rattle.command_work.{specs.Outcomes.{Outcome}, specs.Behaviours.{Work, Behaviour, AreWhole, AreRead, Alone, OnFile, ByPlan}, specs.RecordsWork.{RecordsWork, unless_declined, if_suited, headed_end}}
-use Rattle.file_work.{specs.FileOutcomes.{listing, counting, listing_all}}
-use Rattle.trace_work.{specs.TraceOutcomes.{trace_of, traced, traces_with, tracing}}
-use Rattle.report_work.{specs.Reports.{reporting, reported, reports}}
-use Rattle.pick_work.specs.PickOutcomes.{picking, picks_of}
-use Rattle.ptu_cli.{specs.Behaviours.behaviour, specs.Commands.{Request, Count, Events, Run, Trace, Pick, Demo, Header as HeaderOf}}
+use Rattle.std.proofs.{Common.{◌≡◌, ◌∙◌, Result, ℕ, List, length, false, None, Some, Ok, refl, ap, arith, nat_lt}, lemmas.Bool.Decides.nat_tests}
+use Rattle.tally_base.specs.{Faults.fault_in, declared.{header.{Header.Header, RecordType.RecordType}, fault.Fault.Fault}, RecordTypes.mode_of}
+use Rattle.ptu_definitions.specs.{Headers.header_answer, Words.{words_of, record_limit, records_of, counted}, Kinds.counts_of, Streams.StreamSettings}
+use Rattle.{ptu_definitions.specs.Streams.{summary, streamed}, plan_text.specs.{Plan.PlanView, Fits.fits}, gate_plan.specs.Histories.reading_by}
+use Rattle.{gate_plan.specs.Shifting.sorting, command_work.specs.{Outcomes.Outcome, Behaviours.{Work, Behaviour, AreWhole, AreRead, Alone, OnFile, ByPlan}}}
+use Rattle.{command_work.specs.RecordsWork.{RecordsWork, unless_declined, if_suited, headed_end}, file_work.specs.FileOutcomes.{listing, counting, listing_all}}
+use Rattle.{trace_work.specs.TraceOutcomes.{trace_of, traced, traces_with, tracing}, report_work.specs.Reports.{reporting, reported, reports}}
+use Rattle.{pick_work.specs.PickOutcomes.{picking, picks_of}, ptu_cli.specs.{Behaviours.behaviour, Commands.{Request, Count, Events, Run, Trace, Pick, Demo}}}
+use Rattle.ptu_cli.specs.Commands.{Header as HeaderOf}
 
 -- Good bytes of FILE end the work well.
 abbrev pub WorkIsSound : Work → Type 0

@@ -1,8 +1,7 @@
 -- Laws over any table: which of its lines ends a run, and with which status.
 use Rattle.std.{proofs.Common.{◌≡◌, ℕ, ◌≤◌, Some, refl, sym, ap, ◌∙◌, subst, inl, inr, ◌↔◌, arith, rules}, specs.declared.option.Option.Option}
-use Rattle.tally_base.{specs.declared.fault.Fault.Fault, specs.Faults.status_of}
-use Rattle.command_work.specs.Outcomes.{Outcome, IsIn, status}
-use Rattle.ptu_cli.specs.Tables.{Phase, InPhase, Lines, NoLine, Line, within, Applies, AppliesAt, Cause, HasStatus, Sound}
+use Rattle.{tally_base.specs.{declared.fault.Fault.Fault, Faults.status_of}, command_work.specs.Outcomes.{Outcome, IsIn, status}, ptu_cli.specs.Tables.Phase}
+use Rattle.ptu_cli.specs.Tables.{InPhase, Lines, NoLine, Line, within, Applies, AppliesAt, Cause, HasStatus, Sound}
 
 -- Where this holds of what is known, a line of the table ends the run so, and none in another way.
 pub record Meets {K X : Type 0} (given : K → Type 0) (table : Lines K X) (end_of : K → X → Outcome) : Type 0 where

@@ -1,14 +1,14 @@
 -- Each command ends by a line of its table.
 use Rattle.std.{proofs.Common.{None, Some, ◌≡◌, arith, rules, refl, ap}, specs.declared.option.Option.Option}
-use Rattle.tally_base.specs.declared.fault.Fault.TheVariants.{Usage, NoTrace, NoGroup}
-use Rattle.bench_io.specs.Inputs.{File}
-use Rattle.gate_plan.{specs.Histories.reading_by, specs.Shifting.sorting}
-use Rattle.command_work.{specs.Endings.outcome, specs.Outcomes.{refused, written, status}, specs.Behaviours.{AtEnd, AsItReads, ForPlan, ForTables}}
-use Rattle.file_work.specs.FileOutcomes.{counts, lists_by, counting, printing, listing_all}
-use Rattle.report_work.specs.Reports.{any_plan, reporting, reports}
-use Rattle.trace_work.specs.TraceOutcomes.{trace_of, no_trace, traces_with, trace_so_far, tracing}
-use Rattle.pick_work.specs.PickOutcomes.{no_group, picks_of, pick_so_far, picking}
-use Rattle.ptu_cli.{specs.Behaviours.behaviour, specs.Commands.{Request, Count, Events, Run, Trace, Pick, Demo, Header as HeaderOf}, specs.Tables.{Well, AtWords, HasStatus}, specs.Cases.{HasTrace, HasGroup}, specs.CommandCases.{NeedsNothing, Needs, cases}, proofs.Tables.{Meets, has-status}, proofs.Shapes.{alone-meets, file-meets, header-meets, planned-meets}, proofs.Prints.print-meets, proofs.PickCases.{group-decides, pick-meets}, proofs.Cases.{count-meets, events-meets, run-meets, trace-decides, trace-meets, demo-same}}
+use Rattle.{tally_base.specs.declared.fault.Fault.TheVariants.{Usage, NoTrace, NoGroup}, bench_io.specs.Inputs.File, gate_plan.specs.Histories.reading_by}
+use Rattle.{gate_plan.specs.Shifting.sorting, command_work.specs.{Endings.outcome, Outcomes.{refused, written, status}, Behaviours.{AtEnd, AsItReads, ForPlan}}}
+use Rattle.{command_work.specs.Behaviours.ForTables, file_work.specs.FileOutcomes.{counts, lists_by, counting, printing, listing_all}}
+use Rattle.{report_work.specs.Reports.{any_plan, reporting, reports}, trace_work.specs.TraceOutcomes.{trace_of, no_trace, traces_with, trace_so_far, tracing}}
+use Rattle.{pick_work.specs.PickOutcomes.{no_group, picks_of, pick_so_far, picking}, ptu_cli.specs.{Behaviours.behaviour, Commands.{Request, Count, Events}}}
+use Rattle.ptu_cli.specs.{Commands.{Run, Trace, Pick, Demo, Header as HeaderOf}, Tables.{Well, AtWords, HasStatus}, Cases.{HasTrace, HasGroup}}
+use Rattle.ptu_cli.{specs.CommandCases.{NeedsNothing, Needs, cases}, proofs.{Tables.{Meets, has-status}, Shapes.{alone-meets, file-meets, header-meets}}}
+use Rattle.ptu_cli.proofs.{Shapes.planned-meets, Prints.print-meets, PickCases.{group-decides, pick-meets}, Cases.{count-meets, events-meets, run-meets}}
+use Rattle.ptu_cli.proofs.Cases.{trace-decides, trace-meets, demo-same}
 
 -- A line of its table ends each command so, and none in another way.
 pub told : (request : Option Request) → Meets (λ (plan_file : File). Unit {0}) (cases request) (λ plan_file data_file. outcome (behaviour request) plan_file data_file)

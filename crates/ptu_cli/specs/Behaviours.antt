@@ -1,13 +1,9 @@
 -- What each command does, told once.
-use Rattle.std.{specs.Prelude.{List, None, Some, map, string_bytes}, specs.declared.string.String.String, specs.declared.alloc.Global.Global, specs.declared.option.Option.Option}
-use Rattle.tally_base.specs.declared.fault.Fault.TheVariants.{Usage}
-use Rattle.list_out.specs.HeaderText.{header_text}
-use Rattle.command_work.{specs.Outcomes.{refused, written}, specs.Behaviours.{AtEnd, AsItReads, ForPlan, ForTables, Behaviour, Alone, OnFile, ByPlan}}
-use Rattle.file_work.specs.FileOutcomes.{counting, printing, events_so_far, listing_all}
-use Rattle.report_work.{specs.Reports.{any_plan, reporting}, specs.Demo.demo_report}
-use Rattle.trace_work.specs.TraceOutcomes.{no_trace, trace_so_far, tracing}
-use Rattle.pick_work.specs.PickOutcomes.{no_group, pick_so_far, picking}
-use Rattle.ptu_cli.{specs.Commands.{Request, request_of, Count, Events, Run, Trace, Pick, Demo}, specs.Commands.Header as HeaderOf}
+use Rattle.std.specs.{Prelude.{List, None, Some, map, string_bytes}, declared.{string.String.String, alloc.Global.Global, option.Option.Option}}
+use Rattle.{tally_base.specs.declared.fault.Fault.TheVariants.Usage, list_out.specs.HeaderText.header_text, command_work.specs.{Outcomes.{refused, written}, Behaviours.{AtEnd, AsItReads, ForPlan}}}
+use Rattle.{command_work.specs.Behaviours.{ForTables, Behaviour, Alone, OnFile, ByPlan}, file_work.specs.FileOutcomes.{counting, printing, events_so_far, listing_all}}
+use Rattle.{report_work.specs.{Reports.{any_plan, reporting}, Demo.demo_report}, trace_work.specs.TraceOutcomes.{no_trace, trace_so_far, tracing}, pick_work.specs.PickOutcomes.{no_group, pick_so_far}}
+use Rattle.{pick_work.specs.PickOutcomes.picking, ptu_cli.specs.Commands.{Request, request_of, Count, Events, Run, Trace, Pick, Demo, Header as HeaderOf}}
 
 abbrev pub behaviour : Option Request → Behaviour
 behaviour None = Alone (refused Usage)

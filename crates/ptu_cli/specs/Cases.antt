@@ -1,20 +1,15 @@
 -- How commands end by the header and the records of FILE, as cases over whole lists: relations, plain counts and the texts of lines. No function is cited that finds an answer for the program (`header_answer`, `plan_answer`, `fits`, `counted`, `record_refusal`, `streamed`, `given`, `seen`).
-use Rattle.std.{specs.Prelude.{ℕ, ◌≡◌, ◌≢◌, ◌⊎◌, ◌<◌, ◌≤◌, List, [], ◌∷◌, ◌++◌, length, take, get_or, map, flat_map, codes, decimal, nat_le, count_by, ◌+◌, ◌/◌, ◌==◌, true, None, Some, Result, Ok, Err}, specs.List.filter, specs.declared.option.Option.Option}
-use Rattle.tally_base.{specs.declared.event.Event.Event, specs.declared.fault.Fault.Fault, specs.declared.fault.Fault.TheVariants.{RecordLimit, TruncatedRecord, PickTime}, specs.declared.header.Header.Header, specs.declared.header.Mode.Mode, specs.Faults.fault_in, specs.RecordTypes.mode_of, specs.Settings.{PartSettings, StartStopView, TraceView}, specs.Settings.PartSettings.StartStopSettings}
-use Rattle.ptu_definitions.{specs.declared.records.Summary.Summary, specs.TagList.Item, specs.Endings.HasHeader, specs.Headers.{HasAnswer, head_of, begun, IsLongestFront, HasNoFront}, specs.Words.{words_of, rest_of, record_limit}, specs.Layouts.meaning_of, specs.Kinds.counts_of, specs.Prefixes.each, specs.Settled.{kept_by, settled_by}, specs.Times.events, specs.Streams.{StreamSettings, refusal, events_in, summary_of, IsFirst}}
-use Rattle.plan_text.specs.Plan.{PlanView, parts_of}
-use Rattle.coincidence.specs.Intervals.{count_pairs}
-use Rattle.gate_plan.{specs.Shifting.sorting, specs.Histories.{history, settled_history, reading_by}}
-use Rattle.list_out.{specs.HeaderText.{preamble_text, item_text}, specs.Lines.{events_text, line}}
-use Rattle.table_out.{specs.Printed.{Printed, cell_line, table_lines}, specs.StartStop.startstop_printed, specs.Report.{head_text, printed, same_kind, Table, with_events}}
-use Rattle.file_work.specs.FileOutcomes.{counts_text, listing}
-use Rattle.command_work.specs.Outcomes.{Outcome, refused, written}
-use Rattle.trace_work.specs.TraceOutcomes.{trace_of}
-use Rattle.pick_work.specs.PickOutcomes.{chosen_by}
-use Rattle.record_write.specs.Picked.{is_too_late, picked_file}
-use Rattle.photon_pick.specs.Late.{too_late}
-use Rattle.long_trace.specs.Texts.{open_text, whole_text}
-use Rattle.ptu_cli.specs.Tables.{AtHeader, AtCut, AtRecord, AtLate, Well, Lines, NoLine, Line, within}
+use Rattle.std.specs.Prelude.{ℕ, ◌≡◌, ◌≢◌, ◌⊎◌, ◌<◌, ◌≤◌, List, [], ◌∷◌, ◌++◌, length, take, get_or, map, flat_map, codes, decimal, nat_le, count_by, ◌+◌, ◌/◌, ◌==◌, true, None, Some, Result, Ok, Err}
+use Rattle.std.specs.{List.filter, declared.option.Option.Option}
+use Rattle.tally_base.specs.{declared.{event.Event.Event, fault.Fault.{Fault, TheVariants.{RecordLimit, TruncatedRecord, PickTime}}, header.{Header.Header, Mode.Mode}}, Faults.fault_in}
+use Rattle.{tally_base.specs.{RecordTypes.mode_of, Settings.{PartSettings, StartStopView, TraceView, PartSettings.StartStopSettings}}, ptu_definitions.specs.declared.records.Summary.Summary}
+use Rattle.ptu_definitions.specs.{TagList.Item, Endings.HasHeader, Headers.{HasAnswer, head_of, begun, IsLongestFront, HasNoFront}, Words.{words_of, rest_of, record_limit}, Layouts.meaning_of}
+use Rattle.ptu_definitions.specs.{Kinds.counts_of, Prefixes.each, Settled.{kept_by, settled_by}, Times.events, Streams.{StreamSettings, refusal, events_in, summary_of, IsFirst}}
+use Rattle.{plan_text.specs.Plan.{PlanView, parts_of}, coincidence.specs.Intervals.count_pairs, gate_plan.specs.{Shifting.sorting, Histories.{history, settled_history, reading_by}}}
+use Rattle.{list_out.specs.{HeaderText.{preamble_text, item_text}, Lines.{events_text, line}}, table_out.specs.{Printed.{Printed, cell_line, table_lines}, StartStop.startstop_printed}}
+use Rattle.{table_out.specs.Report.{head_text, printed, same_kind, Table, with_events}, file_work.specs.FileOutcomes.{counts_text, listing}, command_work.specs.Outcomes.{Outcome, refused, written}}
+use Rattle.{trace_work.specs.TraceOutcomes.trace_of, pick_work.specs.PickOutcomes.chosen_by, record_write.specs.Picked.{is_too_late, picked_file}, photon_pick.specs.Late.too_late}
+use Rattle.{long_trace.specs.Texts.{open_text, whole_text}, ptu_cli.specs.Tables.{AtHeader, AtCut, AtRecord, AtLate, Well, Lines, NoLine, Line, within}}
 
 -- ## Records
 

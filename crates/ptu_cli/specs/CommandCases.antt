@@ -1,16 +1,11 @@
 -- How each command may end and what it is refused for, told once: a table for each command, of lines that commands share and of its own in `Cases`. As in `Cases`, no function is cited that finds an answer for the program.
-use Rattle.std.{specs.Prelude.{ℕ, ◌≡◌, ◌≢◌, List, [], None, Some, Ok, Err}, specs.declared.option.Option.{Option}}
-use Rattle.toml.specs.Data.{Members, table}
-use Rattle.tally_base.{specs.declared.slot.Slot.TheVariants.{Plan, Data}, specs.declared.fault.Fault.Fault, specs.declared.fault.Fault.TheVariants.{Usage, OpenFault, OutOfMemory, NoTrace, NoGroup}, specs.declared.header.Header.Header, specs.RecordTypes.mode_of}
-use Rattle.bench_io.specs.Inputs.{File}
-use Rattle.ptu_definitions.specs.Headers.{HasAnswer}
-use Rattle.plan_text.{specs.Plan.{PlanView, plan}, specs.ReadPlan.{document, IsValid, IsCalledFor}, specs.Fits.IsMisfit}
-use Rattle.gate_plan.specs.Histories.{reading_by}
-use Rattle.ptu_made.{specs.Generator.made_words, specs.Records.made_header}
-use Rattle.ptu_cli.{specs.Commands.{Request, Count, Events, Run, Trace, Pick, Demo}, specs.Commands.Header as HeaderOf, specs.Tables.{AtWords, AtFile, AtPlan, AtNeed, AtMode, AtHeader, Well, Lines, NoLine, Line, within, Applies}, specs.Cases.{count_lines, print_lines, stream_lines, list_text, words_report, trace_lines, HasTrace, pick_lines, HasGroup}}
-use Rattle.report_work.specs.Demo.{demo_plan}
-use Rattle.command_work.specs.Outcomes.{Outcome, refused, written}
-use Rattle.file_work.specs.FileOutcomes.{listing}
+use Rattle.std.specs.{Prelude.{ℕ, ◌≡◌, ◌≢◌, List, [], None, Some, Ok, Err}, declared.option.Option.Option}
+use Rattle.{toml.specs.Data.{Members, table}, tally_base.specs.declared.{slot.Slot.TheVariants.{Plan, Data}, fault.Fault.{Fault, TheVariants.{Usage, OpenFault, OutOfMemory, NoTrace, NoGroup}}}}
+use Rattle.{tally_base.specs.{declared.header.Header.Header, RecordTypes.mode_of}, bench_io.specs.Inputs.File, ptu_definitions.specs.Headers.HasAnswer, plan_text.specs.Plan.{PlanView, plan}}
+use Rattle.{plan_text.specs.{ReadPlan.{document, IsValid, IsCalledFor}, Fits.IsMisfit}, gate_plan.specs.Histories.reading_by, ptu_made.specs.{Generator.made_words, Records.made_header}}
+use Rattle.ptu_cli.specs.{Commands.{Request, Count, Events, Run, Trace, Pick, Demo, Header as HeaderOf}, Tables.{AtWords, AtFile, AtPlan, AtNeed, AtMode, AtHeader, Well, Lines, NoLine, Line, within}}
+use Rattle.{ptu_cli.specs.{Tables.Applies, Cases.{count_lines, print_lines, stream_lines, list_text, words_report, trace_lines, HasTrace, pick_lines, HasGroup}}, report_work.specs.Demo.demo_plan}
+use Rattle.{command_work.specs.Outcomes.{Outcome, refused, written}, file_work.specs.FileOutcomes.listing}
 
 -- ## Lines that commands share
 

@@ -1,5 +1,6 @@
 -- The commands of the program.
-use Rattle.std.{specs.Prelude.{ℕ, ◌-◌, ◌^◌, ◌&&◌, Bool, nat_le, List, [], ◌∷◌, length, None, Some, codes, if◌then◌else◌}, specs.Str.{bytes_eq, all_ascii_digits}, specs.Str.Parse.digits_value, specs.declared.option.Option.Option}
+use Rattle.std.specs.{Prelude.{ℕ, ◌-◌, ◌^◌, ◌&&◌, Bool, nat_le, List, [], ◌∷◌, length, None, Some, codes, if◌then◌else◌}, Str.{bytes_eq, all_ascii_digits, Parse.digits_value}}
+use Rattle.std.specs.declared.option.Option.{Option}
 use Rattle.ptu_made.specs.Generator.{photon_limit}
 
 -- what the words ask for

@@ -1,7 +1,7 @@
 -- What the words of a command ask for.
-use Rattle.std.{specs.Prelude.{◌≤◌, None, Some}, specs.declared.option.Option.Option}
-use Rattle.ptu_made.specs.Generator.{photon_limit}
-use Rattle.ptu_cli.{specs.Commands.{Request, Count as CountOf, Header as HeaderOf, Events as EventsOf, Run as RunOf, Trace as TraceOf, Pick as PickOf, Demo as DemoOf}, specs.declared.words.Command.Command, specs.declared.words.Command.TheVariants.{Count, Header, Events, Run, Trace, Pick, Demo}}
+use Rattle.std.specs.{Prelude.{◌≤◌, None, Some}, declared.option.Option.Option}
+use Rattle.{ptu_made.specs.Generator.photon_limit, ptu_cli.specs.Commands.{Request, Count as CountOf, Header as HeaderOf, Events as EventsOf, Run as RunOf, Trace as TraceOf, Pick as PickOf}}
+use Rattle.ptu_cli.specs.{Commands.Demo as DemoOf, declared.words.Command.{Command, TheVariants.{Count, Header, Events, Run, Trace, Pick, Demo}}}
 
 abbrev pub asked_for : Option Command → Option Request
 asked_for None = None

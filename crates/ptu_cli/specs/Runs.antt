@@ -1,9 +1,9 @@
 -- What a run of the whole program leaves, by what its words ask for.
-use Rattle.std.{specs.Prelude.{ℕ, ◌≡◌, ◌⊎◌, ◌↔◌, ◌≤◌, ◌<◌, None, Some}, specs.declared.option.Option.{Option}}
-use Rattle.tally_base.{specs.declared.slot.Slot.Slot, specs.declared.fault.Fault.Fault, specs.declared.fault.Fault.TheVariants.{OpenFault, ReadFault, WriteFault, OutOfMemory}, specs.FaultCounts.Rose}
-use Rattle.bench_io.{specs.Inputs.{File, InputState}, specs.declared.inputs.Inputs.Ghosts as InputGhosts, specs.declared.sink.Sink.Ghosts as SinkGhosts, specs.Sinks.SinkState}
-use Rattle.ptu_cli.{specs.Commands.Request, specs.Behaviours.behaviour}
-use Rattle.command_work.{specs.Outcomes.{InputsOnce, OutOnce, Outcome, status}, specs.Endings.{HasPlan, AreItsFiles, ForItsFiles, ReadsAgree, TellsFault, EndsBy, FailsOpening, FailsReading, CutsOutcome, RunsOut, Asks, LacksMemory, NoneRose, IsGood}}
+use Rattle.std.specs.{Prelude.{ℕ, ◌≡◌, ◌⊎◌, ◌↔◌, ◌≤◌, ◌<◌, None, Some}, declared.option.Option.Option}
+use Rattle.{tally_base.specs.{declared.{slot.Slot.Slot, fault.Fault.{Fault, TheVariants.{OpenFault, ReadFault, WriteFault, OutOfMemory}}}, FaultCounts.Rose}, bench_io.specs.Inputs.{File, InputState}}
+use Rattle.{bench_io.specs.{declared.{inputs.Inputs.Ghosts as InputGhosts, sink.Sink.Ghosts as SinkGhosts}, Sinks.SinkState}, ptu_cli.specs.{Commands.Request, Behaviours.behaviour}}
+use Rattle.command_work.specs.{Outcomes.{InputsOnce, OutOnce, Outcome, status}, Endings.{HasPlan, AreItsFiles, ForItsFiles, ReadsAgree, TellsFault, EndsBy, FailsOpening, FailsReading, CutsOutcome}}
+use Rattle.command_work.specs.Endings.{RunsOut, Asks, LacksMemory, NoneRose, IsGood}
 
 -- The states before a run and after it: of the inputs, of standard output and of standard error.
 pub record Around : Type 0 where

@@ -1,7 +1,6 @@
 -- A table of how a run may end: lines, of which one applies, whatever their order.
 use Rattle.std.specs.Prelude.{ℕ, ◌≡◌, ◌⊎◌, Some}
-use Rattle.tally_base.specs.declared.fault.Fault.{Fault}
-use Rattle.command_work.specs.Outcomes.{Outcome, IsIn, status}
+use Rattle.{tally_base.specs.declared.fault.Fault.Fault, command_work.specs.Outcomes.{Outcome, IsIn, status}}
 
 -- What a line is for: a good end, or what calls for its fault.
 pub data Phase : Type 0 where

@@ -1,8 +1,7 @@
 // The whole program: the words of its command line, the command that they ask for, and its exit status.
-ghost use Rattle.std.{specs.Prelude.{◌≡◌, drop, false, None, Some, Ok, Err, IsOk, IfOk, IfErr}, specs.Process.exit_status, specs.IoError.error_kind, specs.Vec.Iter.into_iter_items};
-ghost use Rattle.tally_base.{specs.declared.slot.Slot.Slot, specs.declared.fault.Fault.TheVariants.OutOfMemory, specs.Faults.status_of};
-ghost use Rattle.command_work.specs.Endings.{IsMeant, TellsFault, LeavesCommand, span};
-ghost use Rattle.ptu_cli.{specs.Edge.fault_of_kind, specs.Behaviours.{request_in, behaviour_of}, specs.Runs.{Runs, around}};
+ghost use Rattle.std.specs.{Prelude.{◌≡◌, drop, false, None, Some, Ok, Err, IsOk, IfOk, IfErr}, Process.exit_status, IoError.error_kind, Vec.Iter.into_iter_items};
+ghost use Rattle.{tally_base.specs.{declared.{slot.Slot.Slot, fault.Fault.TheVariants.OutOfMemory}, Faults.status_of}, command_work.specs.Endings.{IsMeant, TellsFault, LeavesCommand, span}};
+ghost use Rattle.ptu_cli.specs.{Edge.fault_of_kind, Behaviours.{request_in, behaviour_of}, Runs.{Runs, around}};
 
 use crate::edge::{FileInputs, StreamSink};
 use crate::words::{Command, read_words};

@@ -1,7 +1,6 @@
 // The words of the command line.
-ghost use Rattle.std.{specs.Prelude.{◌≡◌, ◌≤◌, ◌-◌, ◌^◌, [], ◌∷◌, map, string_bytes, IfSome}, specs.Str.{all_ascii_digits}};
-ghost use Rattle.ptu_made.specs.Generator.{photon_limit};
-ghost use Rattle.ptu_cli.{specs.Commands.{demo_of, is_numeral, number_in, pick_of, request_of}, specs.Requests.{asked_for, AsksFew}};
+ghost use Rattle.std.specs.{Prelude.{◌≡◌, ◌≤◌, ◌-◌, ◌^◌, [], ◌∷◌, map, string_bytes, IfSome}, Str.all_ascii_digits};
+ghost use Rattle.{ptu_made.specs.Generator.photon_limit, ptu_cli.specs.{Commands.{demo_of, is_numeral, number_in, pick_of, request_of}, Requests.{asked_for, AsksFew}}};
 
 use ptu_made::PHOTON_LIMIT;
 

@@ -1,7 +1,14 @@
 -- What is delivered makes up the settled list, and with the rest the kept list.
-use Rattle.std.{proofs.Common.{◌≡◌, ◌+◌, ◌-◌, ◌≤◌, ℕ, List, [], ◌∷◌, ◌++◌, Bool, true, false, cond, map, length, refl, sym, ap, ◌∙◌, append_assoc, append-nil, zero-add, arith, nat_lt, not, ◌&&◌, ◌==◌, ◌||◌, rules, take, take-append-drop, zero, suc, inl, inr, drop}, specs.List.{AllByRecursion, filter, list_any}, proofs.lemmas.List.{map-append, take_all, take-take, length-take}, proofs.lemmas.List.Elements.filter-append, proofs.lemmas.Bool.{cases_lt, lt-ltb, ltb-false, ltb-true, cases_Bool, cases_eq, ne_eqb}, proofs.lemmas.Grind.common_steps}
-use Rattle.tally_base.{specs.declared.event.Event.Event, specs.declared.header.Mode.Mode, specs.Events.is_ordered}
-use Rattle.ptu_definitions.{specs.Prefixes.each_after, specs.Kept.{Marked, mark, marked, is_late, kept}, specs.Settled.{later_than, is_overtaken, unless_overtaken, not_overtaken, put_in, put_all, in_time, without_last, last_of, marked_as, settles, delivered, delivered_last, those_marked, not_marked, late_by, is_late_by, ordered, kept_by, settled_by, Rises}, proofs.PrefixLemmas.each_after-append, proofs.SettledLemmas.{later_than-cons, later_than-push, put_in-append, length-put_in, later_than-put_in, later_than-length, all_later, is_no_later, in_time-push, in_time-late}, proofs.SettlingLemmas.all-push, proofs.SettledLaws.in_time-rises}
+use Rattle.std.proofs.Common.{◌≡◌, ◌+◌, ◌-◌, ◌≤◌, ℕ, List, [], ◌∷◌, ◌++◌, Bool, true, false, cond, map, length, refl, sym, ap, ◌∙◌, append_assoc, append-nil}
+use Rattle.std.proofs.Common.{zero-add, arith, nat_lt, not, ◌&&◌, ◌==◌, ◌||◌, rules, take, take-append-drop, zero, suc, inl, inr, drop}
+use Rattle.std.proofs.lemmas.{List.{map-append, take_all, take-take, length-take, Elements.filter-append}, Bool.{cases_lt, lt-ltb, ltb-false, ltb-true}}
+use Rattle.std.{proofs.lemmas.{Bool.{cases_Bool, cases_eq, ne_eqb}, Grind.common_steps}, specs.List.{AllByRecursion, filter, list_any}}
+use Rattle.{tally_base.specs.{declared.{event.Event.Event, header.Mode.Mode}, Events.is_ordered}, ptu_definitions.specs.{Prefixes.each_after, Kept.Marked}}
+use Rattle.ptu_definitions.specs.{Kept.{mark, marked, is_late, kept}, Settled.{later_than, is_overtaken, unless_overtaken, not_overtaken, put_in, put_all}}
+use Rattle.ptu_definitions.specs.Settled.{in_time, without_last, last_of, marked_as, settles, delivered, delivered_last, those_marked, not_marked, late_by}
+use Rattle.ptu_definitions.{specs.Settled.{is_late_by, ordered, kept_by, settled_by, Rises}, proofs.PrefixLemmas.each_after-append}
+use Rattle.ptu_definitions.proofs.SettledLemmas.{later_than-cons, later_than-push, put_in-append, length-put_in, later_than-put_in, later_than-length}
+use Rattle.ptu_definitions.proofs.{SettledLemmas.{all_later, is_no_later, in_time-push, in_time-late}, SettlingLemmas.all-push, SettledLaws.in_time-rises}
 
 -- Where k is 0 the words that stood before mean the same.
 one_pick : (c : Bool) (n : ℕ) → nat_lt 0 (cond c 1 0 + n) ≡ c || nat_lt 0 n

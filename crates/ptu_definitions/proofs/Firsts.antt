@@ -1,7 +1,11 @@
 -- The record refusal is that of the least record that is refused.
-use Rattle.std.{proofs.Common.{◌≡◌, ◌<◌, ℕ, zero, suc, List, [], ◌∷◌, ◌++◌, None, Some, Ok, Err, ◌==◌, length, take, get_or, refl, sym, ap, ◌∙◌, append_assoc, append-nil, arith, ◌↔◌, Bool, true, false, if◌then◌else◌, rules}, specs.declared.option.Option.Option}
-use Rattle.tally_base.{specs.declared.event.Event.Event, specs.declared.header.Mode.Mode, specs.Faults.{is_outside, fault_in}, specs.declared.fault.Fault.TheVariants.{RecordLimit, ReservedRecord, TimeLimit, TruncatedRecord}, specs.declared.fault.Fault.Fault}
-use Rattle.ptu_definitions.{specs.Prefixes.{listed, first}, specs.Streams.{StreamSettings, late_refusal, refusal, refusals, record_refusal, unrefused_after, events_in, given, streamed, or_refusal, summary, IsFirst}, proofs.StreamLemmas.{listed-none, listed-rest, refused-push, refused-more, unrefused-all, unrefused-upto, refusals_after}, specs.Words.{words_of, rest_of}}
+use Rattle.std.proofs.Common.{◌≡◌, ◌<◌, ℕ, zero, suc, List, [], ◌∷◌, ◌++◌, None, Some, Ok, Err, ◌==◌, length, take, get_or, refl, sym, ap, ◌∙◌, append_assoc}
+use Rattle.std.{proofs.Common.{append-nil, arith, ◌↔◌, Bool, true, false, if◌then◌else◌, rules}, specs.declared.option.Option.Option}
+use Rattle.tally_base.specs.declared.{event.Event.Event, header.Mode.Mode, fault.Fault.TheVariants.{RecordLimit, ReservedRecord, TimeLimit, TruncatedRecord}}
+use Rattle.{tally_base.specs.{declared.fault.Fault.Fault, Faults.{is_outside, fault_in}}, ptu_definitions.specs.Prefixes.{listed, first}}
+use Rattle.ptu_definitions.specs.Streams.{StreamSettings, late_refusal, refusal, refusals, record_refusal, unrefused_after, events_in, given, streamed}
+use Rattle.ptu_definitions.{specs.{Streams.{or_refusal, summary, IsFirst}, Words.{words_of, rest_of}}, proofs.StreamLemmas.{listed-none, listed-rest}}
+use Rattle.ptu_definitions.proofs.StreamLemmas.{refused-push, refused-more, unrefused-all, unrefused-upto, refusals_after}
 
 first_here : (how : StreamSettings) (fault : Fault) (before : List ℕ) (w : ℕ) (ws : List ℕ) (o : Option Fault)
     → refusal how before w ≡ o → first (listed o ++ refusals_after how (before ++ w ∷ []) ws) ≡ Some fault

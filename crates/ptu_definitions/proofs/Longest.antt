@@ -1,6 +1,9 @@
 -- All bytes have no front, a longest front or a header.
-use Rattle.std.{proofs.Common.{◌≡◌, ◌⊎◌, ◌+◌, ◌≤◌, ℕ, List, [], ◌∷◌, ◌++◌, length, take, refl, sym, ap, ◌∙◌, append_assoc, append-nil, arith, length-append, inl, inr, codes, rules}}
-use Rattle.ptu_definitions.{specs.TagList.{code_in, is_known, is_negative, body_size, Item, AreInner, bytes_of, IsFront}, specs.Endings.HasHeader, specs.Headers.{HasLongestFront, HasNoFront, IsLongestFront}, proofs.Walks.{drop_front, tag_front, whole_length, magic_front, take_front}, proofs.Nests.{fronts-nest, AreInner-behind}, proofs.Sound.{Few, Other, Preamble, start_of, StartsWhole, Stuck, Part, Unknown, Negative, Cut, Reached, found_of, stops}, proofs.AnswerLemmas.ending-header}
+use Rattle.std.proofs.Common.{◌≡◌, ◌⊎◌, ◌+◌, ◌≤◌, ℕ, List, [], ◌∷◌, ◌++◌, length, take, refl, sym, ap, ◌∙◌, append_assoc, append-nil, arith, length-append, inl}
+use Rattle.{std.proofs.Common.{inr, codes, rules}, ptu_definitions.specs.TagList.{code_in, is_known, is_negative, body_size, Item, AreInner, bytes_of, IsFront}}
+use Rattle.ptu_definitions.{specs.{Endings.HasHeader, Headers.{HasLongestFront, HasNoFront, IsLongestFront}}, proofs.Walks.{drop_front, tag_front}}
+use Rattle.ptu_definitions.proofs.{Walks.{whole_length, magic_front, take_front}, Nests.{fronts-nest, AreInner-behind}, Sound.{Few, Other, Preamble, start_of}}
+use Rattle.ptu_definitions.proofs.{Sound.{StartsWhole, Stuck, Part, Unknown, Negative, Cut, Reached, found_of, stops}, AnswerLemmas.ending-header}
 
 -- no whole item stands where one is cut or bad
 same_tag : (rest tag part : List ℕ) (h : StartsWhole rest) → rest ≡ tag ++ part → length tag ≡ 48 → h.item.tag ≡ tag

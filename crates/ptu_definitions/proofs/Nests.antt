@@ -1,6 +1,7 @@
 -- Fronts and headers of the same bytes, by what these show.
 use Rattle.std.proofs.Common.{◌≡◌, ◌⊎◌, ℕ, List, [], ◌∷◌, ◌++◌, Some, true, refl, sym, ap, ◌∙◌, append_assoc, append-nil, inl, inr, arith, rules}
-use Rattle.ptu_definitions.{specs.TagList.{is_end, Item, AreInner, IsFront, IsHeader, GoesOn}, specs.Headers.{seen_from, seen, seen_preamble}, proofs.AnswerLemmas.bytes_of-append, proofs.SeenLemmas.{seen-front, seen-header, seen_preamble-front, seen_preamble-header}}
+use Rattle.ptu_definitions.specs.{TagList.{is_end, Item, AreInner, IsFront, IsHeader, GoesOn}, Headers.{seen_from, seen, seen_preamble}}
+use Rattle.ptu_definitions.proofs.{AnswerLemmas.bytes_of-append, SeenLemmas.{seen-front, seen-header, seen_preamble-front, seen_preamble-header}}
 
 -- Of two fronts of one list one goes on as the other.
 nest : (xs ys a b : List Item) → xs ++ a ≡ ys ++ b → ((more : List Item) × (ys ≡ xs ++ more)) ⊎ ((more : List Item) × (xs ≡ ys ++ more) × (more ++ a ≡ b))

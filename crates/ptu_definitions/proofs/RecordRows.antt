@@ -1,7 +1,8 @@
 -- The meaning of words at known words: the nine words of an example file, and words of each layout.
-use Rattle.std.proofs.Common.{◌≡◌, [], ◌∷◌, refl, Ok, Err, map}
-use Rattle.tally_base.{specs.declared.header.RecordType.TheVariants.{PicoHarpT2, PicoHarpT3, HydraHarpT2, HydraHarpT3, HydraHarp2T2, HydraHarp2T3}, specs.declared.fault.Fault.TheVariants.TruncatedRecord}
-use Rattle.ptu_definitions.{specs.declared.records.Raw.TheVariants.{Photon, Marker, Wrap, Reserved}, specs.Layouts.{pico_t2, pico_t3, hydra_t2, hydra_t3, meaning_of}, specs.Words.{words_of, rest_of, counted, records_of}}
+use Rattle.{std.proofs.Common.{◌≡◌, [], ◌∷◌, refl, Ok, Err, map}, tally_base.specs.declared.header.RecordType.TheVariants.{PicoHarpT2, PicoHarpT3, HydraHarpT2}}
+use Rattle.tally_base.specs.declared.{header.RecordType.TheVariants.{HydraHarpT3, HydraHarp2T2, HydraHarp2T3}, fault.Fault.TheVariants.TruncatedRecord}
+use Rattle.ptu_definitions.specs.{declared.records.Raw.TheVariants.{Photon, Marker, Wrap, Reserved}, Layouts.{pico_t2, pico_t3, hydra_t2, hydra_t3, meaning_of}}
+use Rattle.ptu_definitions.specs.Words.{words_of, rest_of, counted, records_of}
 
 pub rows :
     -- wraps, markers and photons of a HydraHarp2T3 file

@@ -1,7 +1,9 @@
 -- The definitions at known bytes.
 use Rattle.std.proofs.Common.{◌≡◌, ◌-◌, ◌/◌, ◌%◌, ℕ, zero, suc, List, [], ◌∷◌, ◌++◌, None, Some, Ok, Err, length, take, replicate, refl, codes, negsuc, pos}
-use Rattle.tally_base.{specs.declared.header.RecordType.TheVariants.HydraHarp2T3, specs.declared.fault.Fault.TheVariants.{BadMagic, TruncatedHeader, TagType, TagLength, NoRecordType, UnknownRecordType}, specs.RecordTypes.type_with}
-use Rattle.ptu_definitions.{specs.TagList.{name_in, code_in, value_in, has_body, is_known}, specs.Endings.{walk, ending}, specs.Fields.{value_under, found_in, header_of}, specs.Headers.{header_answer, seen_from, seen, seen_preamble}}
+use Rattle.tally_base.specs.declared.{header.RecordType.TheVariants.HydraHarp2T3, fault.Fault.TheVariants.{BadMagic, TruncatedHeader, TagType, TagLength}}
+use Rattle.{tally_base.specs.{declared.fault.Fault.TheVariants.{NoRecordType, UnknownRecordType}, RecordTypes.type_with}, ptu_definitions.specs.TagList.name_in}
+use Rattle.ptu_definitions.specs.{TagList.{code_in, value_in, has_body, is_known}, Endings.{walk, ending}, Fields.{value_under, found_in, header_of}}
+use Rattle.ptu_definitions.specs.Headers.{header_answer, seen_from, seen, seen_preamble}
 
 abbrev version_bytes : List ℕ
 version_bytes = codes "1.0.00" ++ 0 ∷ 0 ∷ []

@@ -1,7 +1,16 @@
 -- What bytes show, by the longest front or header, and where they have an answer.
-use Rattle.std.{proofs.Common.{min, subst, ◌+◌, ◌≡◌, ◌≢◌, ◌-◌, ◌≤◌, ◌^◌, ℕ, List, [], ◌∷◌, ◌++◌, true, false, length, take, drop, refl, sym, ap, ◌∙◌, append_assoc, append-nil, take-append-drop, arith, length-append, inl, inr, None, Some, Err, nat_eq, Result, rules}, proofs.lemmas.List.{length-take, take-append-le}, proofs.lemmas.Bool.{cases_Bool, cases_lt, cases_eq}, proofs.lemmas.Bool.Decides.nat_tests}
-use Rattle.tally_base.{specs.declared.fault.Fault.Fault, specs.declared.fault.Fault.TheVariants.TruncatedHeader, specs.declared.header.Header.Header}
-use Rattle.ptu_definitions.{specs.declared.found.Found.Found, specs.TagList.{is_end, Item, bytes_of}, specs.Endings.{Ending, OtherFile, BadType, BadLength, Whole, Open, HasTag, IsOtherFile, EndsAs, ending}, specs.Fields.{found_in, header_of, version_in}, specs.Headers.{header_answer, head_of, answer_as, with_rest, unfinished, Shows, seen_from, seen, seen_preamble, begun, IsLongestFront, HasNoFront}, proofs.Walks.{is_less, tag_long, take_front, drop_front}, proofs.Sound.{ending-applies, Few, Other, Preamble, start_of, Stuck, Part, Unknown, Negative, Cut, starts, start_front}, proofs.AnswerLemmas.{head-front, answer-open, front-push, front-header}, proofs.SeenLemmas.{seen_from-short, seen_from-part, seen_from-unknown, seen_from-negative, seen-front, seen-short, seen-other, seen-unknown, seen-negative, seen-header, seen_preamble-short, seen_preamble-other, seen_preamble-front, seen_preamble-header}}
+use Rattle.std.proofs.Common.{min, subst, ◌+◌, ◌≡◌, ◌≢◌, ◌-◌, ◌≤◌, ◌^◌, ℕ, List, [], ◌∷◌, ◌++◌, true, false, length, take, drop, refl, sym, ap, ◌∙◌}
+use Rattle.std.proofs.Common.{append_assoc, append-nil, take-append-drop, arith, length-append, inl, inr, None, Some, Err, nat_eq, Result, rules}
+use Rattle.std.proofs.lemmas.{List.{length-take, take-append-le}, Bool.{cases_Bool, cases_lt, cases_eq, Decides.nat_tests}}
+use Rattle.tally_base.specs.declared.{fault.Fault.{Fault, TheVariants.TruncatedHeader}, header.Header.Header}
+use Rattle.ptu_definitions.specs.{declared.found.Found.Found, TagList.{is_end, Item, bytes_of}, Endings.{Ending, OtherFile, BadType, BadLength, Whole, Open}}
+use Rattle.ptu_definitions.specs.{Endings.{HasTag, IsOtherFile, EndsAs, ending}, Fields.{found_in, header_of, version_in}, Headers.{header_answer, head_of}}
+use Rattle.ptu_definitions.specs.Headers.{answer_as, with_rest, unfinished, Shows, seen_from, seen, seen_preamble, begun, IsLongestFront, HasNoFront}
+use Rattle.ptu_definitions.proofs.{Walks.{is_less, tag_long, take_front, drop_front}, Sound.{ending-applies, Few, Other, Preamble, start_of, Stuck, Part}}
+use Rattle.ptu_definitions.proofs.{Sound.{Unknown, Negative, Cut, starts, start_front}, AnswerLemmas.{head-front, answer-open, front-push, front-header}}
+use Rattle.ptu_definitions.proofs.SeenLemmas.{seen_from-short, seen_from-part, seen_from-unknown, seen_from-negative, seen-front, seen-short, seen-other}
+use Rattle.ptu_definitions.proofs.SeenLemmas.{seen-unknown, seen-negative, seen-header, seen_preamble-short, seen_preamble-other, seen_preamble-front}
+use Rattle.ptu_definitions.proofs.SeenLemmas.{seen_preamble-header}
 
 -- no whole item stands after the longest front
 longest_stuck : (bytes start : List ℕ) (items : List Item) (front rest : List ℕ) → IsLongestFront bytes start items front rest → Stuck rest

@@ -1,6 +1,10 @@
 -- What the bytes taken show.
-use Rattle.std.{proofs.Common.{◌≡◌, ◌+◌, ◌-◌, ◌<◌, ◌≤◌, ℕ, zero, suc, List, [], ◌∷◌, ◌++◌, true, false, length, take, drop, refl, sym, ap, ◌∙◌, append_assoc, append-nil, arith, length-append, inl, inr, None, Some, nat_lt, codes, rules}, specs.Str.bytes_eq, proofs.Math.Seq.{take-append_seam, take-append-add}, proofs.lemmas.List.{take_all, take-append-le, length-take, length-drop}, proofs.lemmas.Bool.cases_Bool, proofs.lemmas.Grind.common_steps}
-use Rattle.ptu_definitions.{specs.TagList.{code_in, is_known, is_negative, body_size, is_end, Item, IsItem, AreInner, bytes_of, IsFront, IsHeader}, specs.Endings.IsOtherFile, specs.Headers.{seen_from, seen, seen_preamble}, proofs.Walks.{take_front, drop_front, not_less, is_less, body_front, tag_front, whole_length, same_bytes, magic_front, tag_long}, proofs.AnswerLemmas.other_bytes}
+use Rattle.std.proofs.Common.{◌≡◌, ◌+◌, ◌-◌, ◌<◌, ◌≤◌, ℕ, zero, suc, List, [], ◌∷◌, ◌++◌, true, false, length, take, drop, refl, sym, ap, ◌∙◌, append_assoc}
+use Rattle.std.proofs.{Common.{append-nil, arith, length-append, inl, inr, None, Some, nat_lt, codes, rules}, Math.Seq.{take-append_seam, take-append-add}}
+use Rattle.std.{proofs.lemmas.{List.{take_all, take-append-le, length-take, length-drop}, Bool.cases_Bool, Grind.common_steps}, specs.Str.bytes_eq}
+use Rattle.ptu_definitions.specs.TagList.{code_in, is_known, is_negative, body_size, is_end, Item, IsItem, AreInner, bytes_of, IsFront, IsHeader}
+use Rattle.ptu_definitions.{specs.{Endings.IsOtherFile, Headers.{seen_from, seen, seen_preamble}}, proofs.Walks.{take_front, drop_front, not_less, is_less}}
+use Rattle.ptu_definitions.proofs.{Walks.{body_front, tag_front, whole_length, same_bytes, magic_front, tag_long}, AnswerLemmas.other_bytes}
 
 pub seen_from-short : (limit : ℕ) (bytes : List ℕ) → length bytes < 48 → seen_from limit bytes ≡ []
 unfolding seen_from

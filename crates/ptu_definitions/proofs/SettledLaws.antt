@@ -1,7 +1,10 @@
 -- Laws of the kept list and the settled list.
-use Rattle.std.{proofs.Common.{◌≡◌, ◌+◌, ◌<◌, ◌≤◌, ℕ, List, [], ◌∷◌, ◌++◌, Bool, true, false, cond, length, length-append, refl, sym, ap, ◌∙◌, append_assoc, append-nil, arith, nat_lt, ◌==◌, rules}, specs.List.filter, specs.List.Sorted.{IsPermutation, IsNonDecreasingBy}, proofs.lemmas.List.Sorted.{IsPermutation-refl, IsPermutation-cons, IsPermutation-middle, IsPermutation-trans, IsPermutation-append_left}, proofs.lemmas.List.Elements.filter-append, proofs.lemmas.Bool.{ltb-true, ltb-false, eqb-true, ne_eqb}}
-use Rattle.tally_base.specs.declared.event.Event.{Event}
-use Rattle.ptu_definitions.{specs.Prefixes.each_after, specs.Settled.{later_than, is_overtaken, unless_overtaken, not_overtaken, put_in, put_all, in_time, Rises}, proofs.SettledLemmas.{later_than-length, Rises-put_in, IsNonDecreasingBy-Rises}}
+use Rattle.std.proofs.Common.{◌≡◌, ◌+◌, ◌<◌, ◌≤◌, ℕ, List, [], ◌∷◌, ◌++◌, Bool, true, false, cond, length, length-append, refl, sym, ap, ◌∙◌, append_assoc}
+use Rattle.std.proofs.{Common.{append-nil, arith, nat_lt, ◌==◌, rules}, lemmas.List.Sorted.{IsPermutation-refl, IsPermutation-cons, IsPermutation-middle}}
+use Rattle.std.proofs.lemmas.{List.{Sorted.{IsPermutation-trans, IsPermutation-append_left}, Elements.filter-append}, Bool.{ltb-true, ltb-false, eqb-true}}
+use Rattle.{std.{proofs.lemmas.Bool.ne_eqb, specs.List.{filter, Sorted.{IsPermutation, IsNonDecreasingBy}}}, tally_base.specs.declared.event.Event.Event}
+use Rattle.ptu_definitions.specs.{Prefixes.each_after, Settled.{later_than, is_overtaken, unless_overtaken, not_overtaken, put_in, put_all, in_time, Rises}}
+use Rattle.ptu_definitions.proofs.SettledLemmas.{later_than-length, Rises-put_in, IsNonDecreasingBy-Rises}
 
 -- Each once.
 perm-pick : (b : Bool) (e x : Event) (xs ys : List Event) → IsPermutation (e ∷ xs) ys → IsPermutation (e ∷ x ∷ xs) (cond b (e ∷ x ∷ xs) (x ∷ ys))
@@ -53,7 +56,8 @@ front_pick : (t : ℕ) (b : Bool) (e : Event) (xs : List Event) → (e.time == t
     → cond b (e ∷ at_time t xs) (at_time t xs) ≡ at_time t xs ++ cond b (e ∷ []) []
 front_pick t b e xs is none = search (rules, arith, append-nil, at_time)
 
-stable_pick : (t : ℕ) (b : Bool) (e x : Event) (xs ys : List Event) → nat_lt e.time x.time ≡ b → Rises x.time xs → (x.time ≤ e.time → at_time t ys ≡ at_time t (xs ++ e ∷ [])) → at_time t (cond b (e ∷ x ∷ xs) (x ∷ ys)) ≡ at_time t ((x ∷ xs) ++ e ∷ [])
+stable_pick : (t : ℕ) (b : Bool) (e x : Event) (xs ys : List Event) → nat_lt e.time x.time ≡ b → Rises x.time xs
+    → (x.time ≤ e.time → at_time t ys ≡ at_time t (xs ++ e ∷ [])) → at_time t (cond b (e ∷ x ∷ xs) (x ∷ ys)) ≡ at_time t ((x ∷ xs) ++ e ∷ [])
 stable_pick t b e x xs ys is up rest = search (rules, arith, ltb-true, front_pick, none_at, eqb-true, filter-append, ltb-false)
 
 pub put_in-stable : (t u : ℕ) (e : Event) (xs : List Event) → Rises u xs → at_time t (put_in e xs) ≡ at_time t (xs ++ e ∷ [])

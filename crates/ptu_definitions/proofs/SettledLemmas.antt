@@ -1,7 +1,9 @@
 -- Lists in order of time, and one event more.
-use Rattle.std.{proofs.Common.{◌≡◌, ◌+◌, ◌-◌, ◌<◌, ◌≤◌, ℕ, zero, suc, List, [], ◌∷◌, ◌++◌, Bool, true, false, cond, length, get_or, refl, sym, ap, subst, ◌∙◌, append-nil, arith, nat_lt, rules}, specs.List.{AllByRecursion, AllWithin, insert, remove}, specs.List.Sorted.IsNonDecreasingBy, proofs.lemmas.Bool.{ltb-true, ltb-false}, proofs.lemmas.List.Sums.{sum_by_push, sum_by-cons}, proofs.lemmas.Grind.common_steps}
-use Rattle.tally_base.specs.declared.event.Event.{Event}
-use Rattle.ptu_definitions.{specs.Settled.{later_than, is_overtaken, unless_overtaken, not_overtaken, put_in, put_all, in_time, Rises}, proofs.PrefixLemmas.each-push}
+use Rattle.std.proofs.Common.{◌≡◌, ◌+◌, ◌-◌, ◌<◌, ◌≤◌, ℕ, zero, suc, List, [], ◌∷◌, ◌++◌, Bool, true, false, cond, length, get_or, refl, sym, ap, subst, ◌∙◌}
+use Rattle.std.proofs.{Common.{append-nil, arith, nat_lt, rules}, lemmas.{Bool.{ltb-true, ltb-false}, List.Sums.{sum_by_push, sum_by-cons}, Grind.common_steps}}
+use Rattle.{std.specs.List.{AllByRecursion, AllWithin, insert, remove, Sorted.IsNonDecreasingBy}, tally_base.specs.declared.event.Event.Event}
+use Rattle.ptu_definitions.specs.Settled.{later_than, is_overtaken, unless_overtaken, not_overtaken, put_in, put_all, in_time, Rises}
+use Rattle.ptu_definitions.proofs.PrefixLemmas.{each-push}
 
 pub later_than-push : (t : ℕ) (es : List Event) (e : Event) → later_than t (es ++ e ∷ []) ≡ later_than t es + cond (nat_lt t e.time) 1 0
 later_than-push t es e = sum_by_push (λ (x : Event). cond (nat_lt t x.time) 1 0) es e

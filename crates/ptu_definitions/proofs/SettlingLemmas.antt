@@ -1,7 +1,10 @@
 -- What is settled, one event after another.
-use Rattle.std.{proofs.Common.{◌≡◌, ◌+◌, ◌-◌, ◌<◌, ◌≤◌, ℕ, List, [], ◌∷◌, ◌++◌, true, false, length, refl, sym, ap, subst, ◌∙◌, append_assoc, length-append, arith, ⊎_elim, rules}, specs.List.AllByRecursion, proofs.lemmas.Bool.{cases_lt, lt-ltb, le-ltb}, proofs.Math.Seq.{take-append_seam, drop-append_seam}, proofs.lemmas.Grind.common_steps}
-use Rattle.tally_base.specs.declared.event.Event.{Event}
-use Rattle.ptu_definitions.{specs.Settled.{later_than, is_overtaken, put_in, in_time, without_last, last_of, marked_as, settles, Rises, IsOpen}, proofs.SettledLemmas.{later_than-push, later_than-cons, later_than-put_in, length-put_in, Rises-put_in, put_in-append, is_no_later, all_later, later_than-length, in_time-late, in_time-push}}
+use Rattle.std.proofs.Common.{◌≡◌, ◌+◌, ◌-◌, ◌<◌, ◌≤◌, ℕ, List, [], ◌∷◌, ◌++◌, true, false, length, refl, sym, ap, subst, ◌∙◌, append_assoc, length-append}
+use Rattle.std.proofs.{Common.{arith, ⊎_elim, rules}, lemmas.{Bool.{cases_lt, lt-ltb, le-ltb}, Grind.common_steps}, Math.Seq.take-append_seam}
+use Rattle.{std.{proofs.Math.Seq.drop-append_seam, specs.List.AllByRecursion}, tally_base.specs.declared.event.Event.Event}
+use Rattle.ptu_definitions.specs.Settled.{later_than, is_overtaken, put_in, in_time, without_last, last_of, marked_as, settles, Rises, IsOpen}
+use Rattle.ptu_definitions.proofs.SettledLemmas.{later_than-push, later_than-cons, later_than-put_in, length-put_in, Rises-put_in, put_in-append, is_no_later}
+use Rattle.ptu_definitions.proofs.SettledLemmas.{all_later, later_than-length, in_time-late, in_time-push}
 
 -- Facts of each event of a list.
 pub each-put_in : (P : Event → Type 0) (e : Event) (xs : List Event) → P e → AllByRecursion P xs → AllByRecursion P (put_in e xs)
@@ -104,5 +107,6 @@ waits-is k es g w last now few joined = grind (arith, common_steps, none_settled
 pub settles-late : (k : ℕ) (es : List Event) (e : Event) → is_overtaken k es e ≡ true → settles k es e ≡ (e, true) ∷ []
 settles-late k es e late = rw late refl
 
-pub settles-more : (k : ℕ) (es : List Event) (e : Event) (g more : List Event) → is_overtaken k es e ≡ false → without_last k (in_time k es) ≡ g → without_last k (in_time k (es ++ e ∷ [])) ≡ g ++ more → settles k es e ≡ marked_as false more
+pub settles-more : (k : ℕ) (es : List Event) (e : Event) (g more : List Event) → is_overtaken k es e ≡ false → without_last k (in_time k es) ≡ g
+    → without_last k (in_time k (es ++ e ∷ [])) ≡ g ++ more → settles k es e ≡ marked_as false more
 settles-more k es e g more late before now = rw (late, before, now, drop-append_seam) refl

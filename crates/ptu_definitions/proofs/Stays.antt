@@ -1,7 +1,11 @@
 -- More bytes after a file change its header's answer only where the header is cut.
-use Rattle.std.{proofs.Common.{subst, ◌+◌, ◌≡◌, ◌≢◌, ◌-◌, ◌≤◌, ◌^◌, ℕ, List, [], ◌++◌, length, take, drop, refl, sym, ap, ◌∙◌, append_assoc, append-nil, arith, length-append, inl, inr, Ok, Err, Result, rules}, proofs.lemmas.List.{length-take, take-append-le, drop-append-le, take_all, length-drop}, proofs.lemmas.Bool.cases_lt}
-use Rattle.tally_base.{specs.declared.fault.Fault.Fault, specs.declared.fault.Fault.TheVariants.TruncatedHeader, specs.declared.header.Header.Header}
-use Rattle.ptu_definitions.{specs.TagList.{Item, bytes_of}, specs.Endings.{Ending, OtherFile, BadType, BadLength, Whole, Open, HasTag, HasHeader, IsOpen, EndsAs, ending}, specs.Fields.{found_in, header_of, version_in}, specs.Headers.{header_answer, head_of, answer_as, with_rest, unfinished}, proofs.Sound.{ending-applies, ending-one}, proofs.AnswerLemmas.{head-front, answer-open, answer-at, bytes_of-append}, proofs.SeenLaws.{other-append, behind_tag, refusal, err_is}}
+use Rattle.std.proofs.Common.{subst, ◌+◌, ◌≡◌, ◌≢◌, ◌-◌, ◌≤◌, ◌^◌, ℕ, List, [], ◌++◌, length, take, drop, refl, sym, ap, ◌∙◌, append_assoc, append-nil, arith}
+use Rattle.std.proofs.{Common.{length-append, inl, inr, Ok, Err, Result, rules}, lemmas.List.{length-take, take-append-le, drop-append-le, take_all}}
+use Rattle.{std.proofs.lemmas.{List.length-drop, Bool.cases_lt}, tally_base.specs.declared.fault.Fault.{Fault, TheVariants.TruncatedHeader}}
+use Rattle.{tally_base.specs.declared.header.Header.Header, ptu_definitions.specs.{TagList.{Item, bytes_of}, Endings.{Ending, OtherFile, BadType, BadLength}}}
+use Rattle.ptu_definitions.specs.{Endings.{Whole, Open, HasTag, HasHeader, IsOpen, EndsAs, ending}, Fields.{found_in, header_of, version_in}}
+use Rattle.ptu_definitions.{specs.Headers.{header_answer, head_of, answer_as, with_rest, unfinished}, proofs.Sound.{ending-applies, ending-one}}
+use Rattle.ptu_definitions.proofs.{AnswerLemmas.{head-front, answer-open, answer-at, bytes_of-append}, SeenLaws.{other-append, behind_tag, refusal, err_is}}
 
 -- an answer of a file that goes on
 abbrev pub with_more : List ℕ → Result (Header × List ℕ) Fault → Result (Header × List ℕ) Fault

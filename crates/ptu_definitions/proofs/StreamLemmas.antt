@@ -1,7 +1,11 @@
 -- Streams that grow.
-use Rattle.std.{proofs.Common.{◌≡◌, ℕ, List, [], ◌∷◌, ◌++◌, Bool, cond, None, Some, map, max, refl, sym, ap, ◌∙◌, append_assoc, append-nil, arith, nat_lt, not, ◌&&◌, ◌||◌, rules}, specs.declared.option.Option.Option, specs.List.list_any, proofs.lemmas.Grind.common_steps, proofs.lemmas.List.map-append, proofs.lemmas.Bool.Decides.nat_tests}
-use Rattle.tally_base.{specs.declared.event.Event.Event, specs.declared.header.Mode.Mode, specs.Events.is_ordered, specs.declared.fault.Fault.Fault}
-use Rattle.ptu_definitions.{specs.declared.records.Raw.Raw, specs.Prefixes.{each_after, listed, first}, specs.Times.{event_after, events}, specs.Kept.{floor_of, mark, marked, is_late, greatest, ordered_time, Marked}, specs.Streams.{StreamSettings, refusal, refusals, record_refusal, unless_refused, unrefused_after, events_in, given}, proofs.PrefixLemmas.{each-push, each_after-append, first-append}, proofs.DeliveredLaws.{delivered_after, delivered-append}}
+use Rattle.std.proofs.Common.{◌≡◌, ℕ, List, [], ◌∷◌, ◌++◌, Bool, cond, None, Some, map, max, refl, sym, ap, ◌∙◌, append_assoc, append-nil, arith, nat_lt, not}
+use Rattle.std.{proofs.{Common.{◌&&◌, ◌||◌, rules}, lemmas.{Grind.common_steps, List.map-append, Bool.Decides.nat_tests}}, specs.declared.option.Option.Option}
+use Rattle.{std.specs.List.list_any, tally_base.specs.{declared.{event.Event.Event, header.Mode.Mode, fault.Fault.Fault}, Events.is_ordered}}
+use Rattle.ptu_definitions.specs.{declared.records.Raw.Raw, Prefixes.{each_after, listed, first}, Times.{event_after, events}, Kept.{floor_of, mark, marked}}
+use Rattle.ptu_definitions.specs.{Kept.{is_late, greatest, ordered_time, Marked}, Streams.{StreamSettings, refusal, refusals, record_refusal, unless_refused}}
+use Rattle.ptu_definitions.{specs.Streams.{unrefused_after, events_in, given}, proofs.PrefixLemmas.{each-push, each_after-append, first-append}}
+use Rattle.ptu_definitions.proofs.DeliveredLaws.{delivered_after, delivered-append}
 
 pub events-push : (records : List Raw) (raw : Raw) → events (records ++ raw ∷ []) ≡ events records ++ event_after records raw
 unfolding events

@@ -1,7 +1,11 @@
 -- The definitions of streams at known words.
-use Rattle.std.proofs.Common.{◌≡◌, ℕ, [], ◌∷◌, true, false, Some, Ok, Err, refl}
-use Rattle.tally_base.{specs.declared.event.EventKind.TheVariants.{Photon, Marker}, specs.declared.event.Order.Order, specs.declared.event.Order.TheVariants.{Drop, Stop}, specs.declared.event.OnReserved.OnReserved, specs.declared.event.OnReserved.TheVariants.Skip, specs.declared.event.OnReserved.TheVariants.Stop as StopReserved, specs.declared.fault.Fault.TheVariants.{BackwardTime, RecordLimit, ReservedRecord, TruncatedRecord}, specs.declared.header.RecordType.RecordType, specs.declared.header.RecordType.TheVariants.{PicoHarpT2, PicoHarpT3, HydraHarpT2, HydraHarp2T2, HydraHarp2T3, MultiHarpT3}}
-use Rattle.ptu_definitions.{specs.declared.records.Raw.TheVariants.Wrap, specs.Layouts.{pico_t2, pico_t3, hydra_t2, hydra_t3}, specs.Times.{events, passes}, specs.Kept.{marked, kept}, specs.Settled.{delivered, delivered_last, in_time, late_by, not_overtaken}, specs.Streams.{StreamSettings, reading, refusal, refusals, record_refusal, given, last_in, summary, streamed}}
+use Rattle.{std.proofs.Common.{◌≡◌, ℕ, [], ◌∷◌, true, false, Some, Ok, Err, refl}, tally_base.specs.declared.event.EventKind.TheVariants.{Photon, Marker}}
+use Rattle.tally_base.specs.declared.event.{Order.{Order, TheVariants.{Drop, Stop}}, OnReserved.{OnReserved, TheVariants.{Skip, Stop as StopReserved}}}
+use Rattle.tally_base.specs.declared.{fault.Fault.TheVariants.{BackwardTime, RecordLimit, ReservedRecord, TruncatedRecord}, header.RecordType.RecordType}
+use Rattle.tally_base.specs.declared.header.RecordType.TheVariants.{PicoHarpT2, PicoHarpT3, HydraHarpT2, HydraHarp2T2, HydraHarp2T3, MultiHarpT3}
+use Rattle.ptu_definitions.specs.{declared.records.Raw.TheVariants.Wrap, Layouts.{pico_t2, pico_t3, hydra_t2, hydra_t3}, Times.{events, passes}, Kept.marked}
+use Rattle.ptu_definitions.specs.{Kept.kept, Settled.{delivered, delivered_last, in_time, late_by, not_overtaken}, Streams.{StreamSettings, reading, refusal}}
+use Rattle.ptu_definitions.specs.Streams.{refusals, record_refusal, given, last_in, summary, streamed}
 
 abbrev how_by : ℕ → RecordType → Order → OnReserved → ℕ → StreamSettings
 how_by k record_type order reserved limit = reading record_type (record { order = order; reserved = reserved; records = limit; settle = k })

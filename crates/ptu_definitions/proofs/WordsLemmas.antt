@@ -1,7 +1,8 @@
 -- The words of bytes that grow, and of bytes in fours.
-use Rattle.std.{proofs.Common.{◌≡◌, ◌/◌, ◌%◌, ◌<◌, ◌≤◌, ℕ, List, [], ◌∷◌, ◌++◌, length, refl, ap, arith, rules, ◌*◌, suc, drop, length-append, Bool}, specs.Simd.first_chunks, specs.Int.{from_le_bytes, w32}, proofs.lemmas.Grind.common_steps, proofs.lemmas.Bool.Decides.nat_tests}
-use Rattle.tally_base.{specs.declared.header.RecordType.RecordType, specs.declared.header.Mode.TheVariants.{T2, T3}, specs.RecordTypes.mode_of}
-use Rattle.ptu_definitions.{specs.Words.{word_of, words_of, rest_of, numbers}, specs.Layouts.{pico_t2, pico_t3, hydra_t2, hydra_t3, meaning_of, Fits}}
+use Rattle.std.proofs.Common.{◌≡◌, ◌/◌, ◌%◌, ◌<◌, ◌≤◌, ℕ, List, [], ◌∷◌, ◌++◌, length, refl, ap, arith, rules, ◌*◌, suc, drop, length-append, Bool}
+use Rattle.std.{proofs.lemmas.{Grind.common_steps, Bool.Decides.nat_tests}, specs.{Simd.first_chunks, Int.{from_le_bytes, w32}}}
+use Rattle.{tally_base.specs.{declared.header.{RecordType.RecordType, Mode.TheVariants.{T2, T3}}, RecordTypes.mode_of}, ptu_definitions.specs.Words.word_of}
+use Rattle.ptu_definitions.specs.{Words.{words_of, rest_of, numbers}, Layouts.{pico_t2, pico_t3, hydra_t2, hydra_t3, meaning_of, Fits}}
 
 -- the words of bytes after others, by what was left over of these
 pub words_of-append : (bytes piece : List ℕ) → words_of (bytes ++ piece) ≡ words_of bytes ++ words_of (rest_of bytes ++ piece)

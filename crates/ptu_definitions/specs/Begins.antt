@@ -1,6 +1,6 @@
 -- What stands at the front of a file, and what of a file's bytes is shown.
 use Rattle.std.specs.Prelude.{ℕ, ◌≡◌, ◌≤◌, ◌⊎◌, List, ◌++◌, length, true, false, Some}
-use Rattle.ptu_definitions.{specs.TagList.{code_in, is_known, is_negative, body_size, Item, IsFront, GoesOn}, specs.Headers.{head_of, seen, seen_preamble}}
+use Rattle.ptu_definitions.specs.{TagList.{code_in, is_known, is_negative, body_size, Item, IsFront, GoesOn}, Headers.{head_of, seen, seen_preamble}}
 
 -- a preamble, items after it, and their bytes
 pub record Front : Type 0 where

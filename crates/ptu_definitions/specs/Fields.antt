@@ -1,7 +1,7 @@
 -- The fields of a header: each the value of the first item of its name and type.
-use Rattle.std.{specs.Prelude.{ℕ, ◌==◌, ◌&&◌, List, [], ◌∷◌, take, drop, codes, if◌then◌else◌, None, Some, ℤ, Result, Ok, Err}, specs.declared.option.Option.Option, specs.Str.bytes_eq, specs.Int.{w64, cast_signed}}
-use Rattle.tally_base.{specs.declared.fault.Fault.Fault, specs.declared.fault.Fault.TheVariants.{NoRecordType, UnknownRecordType}, specs.declared.header.Header.Header, specs.declared.header.RecordType.RecordType, specs.RecordTypes.type_with}
-use Rattle.ptu_definitions.{specs.declared.found.Found.Found, specs.TagList.{name_in, code_in, value_in, Item}}
+use Rattle.std.specs.{Prelude.{ℕ, ◌==◌, ◌&&◌, List, [], ◌∷◌, take, drop, codes, if◌then◌else◌, None, Some, ℤ, Result, Ok, Err}, declared.option.Option.Option, Str.bytes_eq, Int.{w64, cast_signed}}
+use Rattle.tally_base.specs.{declared.{fault.Fault.{Fault, TheVariants.{NoRecordType, UnknownRecordType}}, header.{Header.Header, RecordType.RecordType}}, RecordTypes.type_with}
+use Rattle.ptu_definitions.specs.{declared.found.Found.Found, TagList.{name_in, code_in, value_in, Item}}
 
 -- the value of a tag that has this name and type
 unfoldable pub value_under : List ℕ → ℕ → List ℕ → Option ℕ

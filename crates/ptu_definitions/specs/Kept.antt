@@ -1,7 +1,6 @@
 -- Which events are late, and the kept list, where no event is put in its place.
-use Rattle.std.{specs.Prelude.{ℕ, ◌&&◌, Bool, nat_lt, max, List, [], ◌∷◌, map, filter, not, if◌then◌else◌}, specs.List.list_any}
-use Rattle.tally_base.{specs.declared.event.Event.Event, specs.declared.header.Mode.Mode, specs.Events.is_ordered}
-use Rattle.ptu_definitions.specs.Prefixes.{each}
+use Rattle.std.specs.{Prelude.{ℕ, ◌&&◌, Bool, nat_lt, max, List, [], ◌∷◌, map, filter, not, if◌then◌else◌}, List.list_any}
+use Rattle.{tally_base.specs.{declared.{event.Event.Event, header.Mode.Mode}, Events.is_ordered}, ptu_definitions.specs.Prefixes.each}
 
 -- An ordered event is late where some earlier ordered event has a greater time.
 abbrev pub is_late : Mode → List Event → Event → Bool

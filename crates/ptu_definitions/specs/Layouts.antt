@@ -1,7 +1,9 @@
 -- What a record means, after the record layouts of PicoQuant's unified TTTR format. Bit 0 is the lowest of a word.
 use Rattle.std.specs.Prelude.{ℕ, ◌+◌, ◌*◌, ◌/◌, ◌%◌, ◌^◌, ◌==◌, nat_le, Bool, true, false, if◌then◌else◌, ◌≡◌, ◌<◌, ◌≤◌}
-use Rattle.tally_base.{specs.declared.header.RecordType.RecordType, specs.declared.header.RecordType.TheVariants.{PicoHarpT2, PicoHarpT3, HydraHarpT2, HydraHarpT3, HydraHarp2T2, HydraHarp2T3, TimeHarp260NT2, TimeHarp260NT3, TimeHarp260PT2, TimeHarp260PT3, MultiHarpT2, MultiHarpT3}, specs.declared.header.Mode.Mode, specs.declared.header.Mode.TheVariants.{T2, T3}, specs.declared.event.EventKind.EventKind, specs.declared.event.EventKind.TheVariants.{Photon as PhotonEvent, Marker as MarkerEvent}}
-use Rattle.ptu_definitions.{specs.declared.records.Raw.Raw, specs.declared.records.Raw.TheVariants.{Photon, Marker, Wrap, Reserved}}
+use Rattle.tally_base.specs.declared.header.RecordType.{RecordType, TheVariants.{PicoHarpT2, PicoHarpT3, HydraHarpT2, HydraHarpT3, HydraHarp2T2, HydraHarp2T3, TimeHarp260NT2, TimeHarp260NT3}}
+use Rattle.tally_base.specs.declared.{header.{RecordType.TheVariants.{TimeHarp260PT2, TimeHarp260PT3, MultiHarpT2, MultiHarpT3}, Mode.{Mode, TheVariants.{T2, T3}}}, event.EventKind.EventKind}
+use Rattle.{tally_base.specs.declared.event.EventKind.TheVariants.{Photon as PhotonEvent, Marker as MarkerEvent}, ptu_definitions.specs.declared.records.Raw.{Raw, TheVariants.{Photon, Marker, Wrap}}}
+use Rattle.ptu_definitions.specs.declared.records.Raw.TheVariants.{Reserved}
 
 -- the `count` bits of a word from bit `low` on
 abbrev pub bits : ℕ → ℕ → ℕ → ℕ

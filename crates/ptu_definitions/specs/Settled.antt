@@ -1,7 +1,6 @@
 -- Events that may come some places too late: which are late all the same, the kept list and the settled list.
-use Rattle.std.{specs.Prelude.{ℕ, ◌-◌, ◌≤◌, ◌&&◌, ◌==◌, not, Bool, true, false, nat_lt, List, [], ◌∷◌, ◌++◌, length, take, drop, map, filter, count_by, if◌then◌else◌, ◌≡◌, ◌<◌}, specs.List.AllByRecursion}
-use Rattle.tally_base.{specs.declared.event.Event.Event, specs.declared.header.Mode.Mode, specs.Events.is_ordered}
-use Rattle.ptu_definitions.{specs.Prefixes.each, specs.Kept.{Marked, marked, kept}}
+use Rattle.std.specs.{Prelude.{ℕ, ◌-◌, ◌≤◌, ◌&&◌, ◌==◌, not, Bool, true, false, nat_lt, List, [], ◌∷◌, ◌++◌, length, take, drop, map, filter, count_by, if◌then◌else◌, ◌≡◌, ◌<◌}, List.AllByRecursion}
+use Rattle.{tally_base.specs.{declared.{event.Event.Event, header.Mode.Mode}, Events.is_ordered}, ptu_definitions.specs.{Prefixes.each, Kept.{Marked, marked, kept}}}
 
 -- Of events that are all ordered.
 

@@ -1,7 +1,10 @@
 -- What a stream of records gives: its refusal, its events and its summary.
-use Rattle.std.{specs.Prelude.{ℕ, ◌+◌, ◌&&◌, ◌==◌, nat_le, List, [], ◌∷◌, ◌++◌, length, count_by, map, None, Some, Result, Ok, Err, if◌then◌else◌, ◌≡◌, ◌<◌, take, get_or}, specs.declared.option.Option.Option}
-use Rattle.tally_base.{specs.declared.event.Event.Event, specs.declared.event.Policy.Policy, specs.declared.fault.Fault.Fault, specs.declared.fault.Fault.TheVariants.{TruncatedRecord, RecordLimit, ReservedRecord, BackwardTime, TimeLimit}, specs.declared.header.Mode.Mode, specs.declared.header.RecordType.RecordType, specs.RecordTypes.mode_of, specs.Events.{stops_late, stops_reserved}}
-use Rattle.ptu_definitions.{specs.declared.records.Summary.Summary, specs.declared.records.Raw.Raw, specs.Kinds.{is_photon, is_marker, is_wrap, is_reserved}, specs.Layouts.meaning_of, specs.Prefixes.{each, listed, first, last}, specs.Times.{event_after, events, passes}, specs.Kept.{Marked, greatest}, specs.Settled.{is_late_by, late_by, kept_by, delivered, delivered_last}, specs.Words.{words_of, rest_of}}
+use Rattle.std.specs.Prelude.{ℕ, ◌+◌, ◌&&◌, ◌==◌, nat_le, List, [], ◌∷◌, ◌++◌, length, count_by, map, None, Some, Result, Ok, Err, if◌then◌else◌, ◌≡◌, ◌<◌, take, get_or}
+use Rattle.std.specs.declared.option.Option.{Option}
+use Rattle.tally_base.specs.declared.{event.{Event.Event, Policy.Policy}, fault.Fault.{Fault, TheVariants.{TruncatedRecord, RecordLimit, ReservedRecord, BackwardTime, TimeLimit}}, header.Mode.Mode}
+use Rattle.{tally_base.specs.{declared.header.RecordType.RecordType, RecordTypes.mode_of, Events.{stops_late, stops_reserved}}, ptu_definitions.specs.declared.records.{Summary.Summary, Raw.Raw}}
+use Rattle.ptu_definitions.specs.{Kinds.{is_photon, is_marker, is_wrap, is_reserved}, Layouts.meaning_of, Prefixes.{each, listed, first, last}, Times.{event_after, events, passes}, Kept.Marked}
+use Rattle.ptu_definitions.specs.{Kept.greatest, Settled.{is_late_by, late_by, kept_by, delivered, delivered_last}, Words.{words_of, rest_of}}
 
 -- how words are read
 pub record StreamSettings : Type 0 where

@@ -1,5 +1,5 @@
 -- The tag list of a file: fronts, items and headers, as whole lists of bytes.
-use Rattle.std.{specs.Prelude.{ℕ, ◌+◌, ◌*◌, ◌^◌, ◌==◌, ◌||◌, ◌&&◌, not, nat_le, List, [], ◌∷◌, take, drop, take_while, codes, Bool, if◌then◌else◌, ◌≡◌, ◌++◌, length, true, false}, specs.Str.bytes_eq}
+use Rattle.std.specs.{Prelude.{ℕ, ◌+◌, ◌*◌, ◌^◌, ◌==◌, ◌||◌, ◌&&◌, not, nat_le, List, [], ◌∷◌, take, drop, take_while, codes, Bool, if◌then◌else◌, ◌≡◌, ◌++◌, length, true, false}, Str.bytes_eq}
 
 -- The parts of the 48 bytes of a tag.
 

@@ -1,7 +1,7 @@
 -- The absolute times of records.
 use Rattle.std.specs.Prelude.{ℕ, ◌+◌, ◌&&◌, Bool, nat_lt, List, [], ◌∷◌, length, sum_by}
-use Rattle.tally_base.{specs.declared.event.Event.Event, specs.declared.event.EventKind.TheVariants.Photon as PhotonEvent, specs.declared.event.EventKind.TheVariants.Marker as MarkerEvent, specs.Limits.wrap_limit}
-use Rattle.ptu_definitions.{specs.declared.records.Raw.Raw, specs.declared.records.Raw.TheVariants.{Photon, Marker, Wrap, Reserved}, specs.Kinds.is_wrap, specs.Prefixes.each}
+use Rattle.{tally_base.specs.{declared.event.{Event.Event, EventKind.TheVariants.{Photon as PhotonEvent, Marker as MarkerEvent}}, Limits.wrap_limit}, ptu_definitions.specs.declared.records.Raw.Raw}
+use Rattle.ptu_definitions.specs.{declared.records.Raw.TheVariants.{Photon, Marker, Wrap, Reserved}, Kinds.is_wrap, Prefixes.each}
 
 -- how much later the times after a record are
 abbrev pub amount : Raw → ℕ

@@ -1,8 +1,11 @@
 // Laws of the definitions, each as the contract of a function that does nothing.
-ghost use Rattle.std.{specs.Prelude.{◌==◌, filter, ◌≡◌, ◌≢◌, ◌↔◌, ◌⊎◌, ◌++◌, ◌∷◌, [], ◌+◌, ◌<◌, ◌≤◌, ◌^◌, ℕ, List, Result, Ok, length, take, get_or}, specs.List.Sorted.{IsPermutation, IsNonDecreasingBy}};
+ghost use Rattle.std.specs.{Prelude.{◌==◌, filter, ◌≡◌, ◌≢◌, ◌↔◌, ◌⊎◌, ◌++◌, ◌∷◌, [], ◌+◌, ◌<◌, ◌≤◌, ◌^◌, ℕ, List, Result, Ok, length, take, get_or}, List.Sorted.{IsPermutation, IsNonDecreasingBy}};
+ghost use Rattle.{tally_base.specs.declared.{fault.Fault.Fault, header.{Header.Header, Mode.Mode}, event.Event.Event}, ptu_definitions.specs.Headers.{HasAnswer, header_answer, Shows, seen}};
+ghost use Rattle.ptu_definitions.specs.{Headers.{seen_preamble, begun, IsLongestFront, HasLongestFront, HasNoFront}, TagList.{Item, IsFront, IsHeader}, Begins.{Front, BeginsWith, IsFrontOf, Nest}};
+ghost use Rattle.ptu_definitions.specs.{Begins.{IsBegun, ShowsItems, ShowsNoMore}, Endings.{Ending, EndsAs, HasHeader}, Kept.{marked, kept, is_late, greatest, floor_of}, Settled.not_overtaken};
+ghost use Rattle.ptu_definitions.specs.{Settled.{in_time, is_late_by, ordered, kept_by, settled_by, late_by, delivered, delivered_last, not_marked, those_marked}, Streams.{StreamSettings, refusal}};
+ghost use Rattle.ptu_definitions.specs.Streams.{record_refusal, unrefused_after, events_in, given, IsFirst};
 ghost use Rattle.tally_base.specs.declared.fault.Fault.TheVariants as Fault;
-ghost use Rattle.tally_base.{specs.declared.fault.Fault.Fault, specs.declared.header.Header.Header, specs.declared.event.Event.Event, specs.declared.header.Mode.Mode};
-ghost use Rattle.ptu_definitions.{specs.Headers.{HasAnswer, header_answer, Shows, seen, seen_preamble, begun, IsLongestFront, HasLongestFront, HasNoFront}, specs.TagList.{Item, IsFront, IsHeader}, specs.Begins.{Front, BeginsWith, IsFrontOf, Nest, IsBegun, ShowsItems, ShowsNoMore}, specs.Endings.{Ending, EndsAs, HasHeader}, specs.Kept.{marked, kept, is_late, greatest, floor_of}, specs.Settled.{not_overtaken, in_time, is_late_by, ordered, kept_by, settled_by, late_by, delivered, delivered_last, not_marked, those_marked}, specs.Streams.{StreamSettings, refusal, record_refusal, unrefused_after, events_in, given, IsFirst}};
 
 /// Exactly one answer applies to a file, and it is the one that the function finds.
 pub fn one_answer()

@@ -1,8 +1,19 @@
 -- How a reader goes on.
-use Rattle.std.{proofs.Common.{◌≡◌, ◌+◌, ◌<◌, ◌≤◌, ◌≢◌, ◌^◌, ◌&&◌, ℕ, zero, suc, List, [], ◌∷◌, ◌++◌, Bool, true, false, length, take, drop, refl, sym, ap, ◌∙◌, subst, append_assoc, append-nil, take-append-drop, arith, length-append, Ok, Err, Some, inl, inr, IsTrue, ◌↔◌, nat_lt, nat_eq, codes, Result, rules}, proofs.Math.Seq.take-append-add, proofs.lemmas.List.{take_all, take-append-le, length-take}, proofs.lemmas.Bool.Decides.nat_tests, proofs.lemmas.Bool.{and_parts, cases_eq, cases_lt, false≢true, ltb-true}, specs.Int.{w64, cast_signed}}
-use Rattle.tally_base.{specs.declared.fault.Fault.Fault, specs.declared.fault.Fault.TheVariants.{TruncatedHeader, HeaderLimit, BadMagic, TagType, TagLength}, specs.declared.header.Header.Header}
-use Rattle.ptu_definitions.{specs.declared.found.Found.Found, specs.TagList.{code_in, value_in, is_known, is_negative, body_size, is_end, Item, IsItem, bytes_of, IsPreamble, IsFront, IsHeader}, specs.Endings.{Open, ending, IsOtherFile}, specs.Fields.{found_in, header_of, version_in, with_tag}, specs.Headers.{header_answer, with_rest, Shows, seen, seen_preamble}, proofs.SeenLemmas.{seen-short, seen-tag, seen-body, seen-before, seen-other, seen-unknown, seen-negative, seen_preamble-short, seen_preamble-other, seen_preamble-front, seen_preamble-append}, proofs.AnswerLemmas.{ending-start, ending-carried, ending-cut, answer-open, answer-limit, answer-header, answer-other, answer-bad_type, answer-bad_length, found_in-push, Shows-append, front-push, front-header}, proofs.Walks.is_less}
-use Rattle.ptu_header.{specs.declared.reader.HeaderReader.HeaderReader, specs.declared.reader.Phase.Phase, specs.declared.step.HeaderStep.HeaderStep, specs.declared.step.HeaderStep.TheVariants.{More, Preamble, Tag, Body, Done, Refused}, specs.Phases.phase_after, specs.ReadHeader.{Takes, TookTag, InPreamble, InTag, InBody, AtEnd, Stays, Adds, AddsNothing, IsDue, bare, EndsInTag, EndsInBody, Reads, HasRead, goes_on, Steps, StepsWhole, Took}}
+use Rattle.std.proofs.Common.{◌≡◌, ◌+◌, ◌<◌, ◌≤◌, ◌≢◌, ◌^◌, ◌&&◌, ℕ, zero, suc, List, [], ◌∷◌, ◌++◌, Bool, true, false, length, take, drop, refl, sym, ap, ◌∙◌}
+use Rattle.std.proofs.Common.{subst, append_assoc, append-nil, take-append-drop, arith, length-append, Ok, Err, Some, inl, inr, IsTrue, ◌↔◌, nat_lt, nat_eq}
+use Rattle.std.proofs.{Common.{codes, Result, rules}, Math.Seq.take-append-add, lemmas.{List.{take_all, take-append-le, length-take}, Bool.Decides.nat_tests}}
+use Rattle.std.{proofs.lemmas.Bool.{and_parts, cases_eq, cases_lt, false≢true, ltb-true}, specs.Int.{w64, cast_signed}}
+use Rattle.tally_base.specs.declared.{fault.Fault.{Fault, TheVariants.{TruncatedHeader, HeaderLimit, BadMagic, TagType, TagLength}}, header.Header.Header}
+use Rattle.ptu_definitions.specs.{declared.found.Found.Found, TagList.{code_in, value_in, is_known, is_negative, body_size, is_end, Item, IsItem, bytes_of}}
+use Rattle.ptu_definitions.specs.{TagList.{IsPreamble, IsFront, IsHeader}, Endings.{Open, ending, IsOtherFile}, Fields.{found_in, header_of, version_in}}
+use Rattle.ptu_definitions.{specs.{Fields.with_tag, Headers.{header_answer, with_rest, Shows, seen, seen_preamble}}, proofs.SeenLemmas.{seen-short, seen-tag}}
+use Rattle.ptu_definitions.proofs.SeenLemmas.{seen-body, seen-before, seen-other, seen-unknown, seen-negative, seen_preamble-short, seen_preamble-other}
+use Rattle.ptu_definitions.proofs.{SeenLemmas.{seen_preamble-front, seen_preamble-append}, AnswerLemmas.{ending-start, ending-carried, ending-cut, answer-open}}
+use Rattle.ptu_definitions.proofs.AnswerLemmas.{answer-limit, answer-header, answer-other, answer-bad_type, answer-bad_length, found_in-push, Shows-append}
+use Rattle.{ptu_definitions.proofs.{AnswerLemmas.{front-push, front-header}, Walks.is_less}, ptu_header.specs.declared.reader.HeaderReader.HeaderReader}
+use Rattle.ptu_header.specs.declared.{reader.Phase.Phase, step.HeaderStep.{HeaderStep, TheVariants.{More, Preamble, Tag, Body, Done, Refused}}}
+use Rattle.ptu_header.specs.{Phases.phase_after, ReadHeader.{Takes, TookTag, InPreamble, InTag, InBody, AtEnd, Stays, Adds, AddsNothing, IsDue, bare}}
+use Rattle.ptu_header.specs.ReadHeader.{EndsInTag, EndsInBody, Reads, HasRead, goes_on, Steps, StepsWhole, Took}
 use Rattle.ptu_header.specs.declared.reader.Phase.TheVariants as Phases
 
 pub preamble-open : (carried bytes : List ℕ) → InPreamble carried bytes → ending bytes ≡ Open

@@ -1,9 +1,10 @@
 -- What a header reader stands for.
-use Rattle.std.{specs.Prelude.{ℕ, ◌≡◌, ◌≢◌, ◌+◌, ◌^◌, ◌<◌, ◌≤◌, List, [], ◌∷◌, ◌++◌, length, take, codes, Bool, true, false, ◌&&◌, nat_lt, nat_eq, Ok, Err, None, Some, Result}, specs.declared.option.Option.{Option}}
-use Rattle.tally_base.{specs.declared.fault.Fault.Fault, specs.declared.fault.Fault.TheVariants.TruncatedHeader, specs.Faults.is_outside, specs.declared.header.Header.Header}
-use Rattle.ptu_definitions.{specs.declared.found.Found.Found, specs.TagList.{code_in, is_known, is_negative, body_size, is_end, Item, IsPreamble, IsFront, IsHeader}, specs.Fields.{found_in, header_of, with_tag, version_in}, specs.Headers.{header_answer, Shows, seen, seen_preamble}}
-use Rattle.ptu_tag.specs.Kinds.{IsHead, code_of}
-use Rattle.ptu_header.{specs.declared.reader.HeaderReader.HeaderReader, specs.declared.reader.Phase.Phase, specs.declared.step.HeaderStep.HeaderStep, specs.declared.step.HeaderStep.TheVariants.{More, Preamble, Tag, Body, Done, Refused}}
+use Rattle.std.specs.Prelude.{ℕ, ◌≡◌, ◌≢◌, ◌+◌, ◌^◌, ◌<◌, ◌≤◌, List, [], ◌∷◌, ◌++◌, length, take, codes, Bool, true, false, ◌&&◌, nat_lt, nat_eq, Ok, Err, None, Some, Result}
+use Rattle.std.specs.declared.option.Option.{Option}
+use Rattle.{tally_base.specs.{declared.{fault.Fault.{Fault, TheVariants.TruncatedHeader}, header.Header.Header}, Faults.is_outside}, ptu_definitions.specs.declared.found.Found.Found}
+use Rattle.ptu_definitions.specs.{TagList.{code_in, is_known, is_negative, body_size, is_end, Item, IsPreamble, IsFront, IsHeader}, Fields.{found_in, header_of, with_tag, version_in}}
+use Rattle.{ptu_definitions.specs.Headers.{header_answer, Shows, seen, seen_preamble}, ptu_tag.specs.Kinds.{IsHead, code_of}, ptu_header.specs.declared.reader.{HeaderReader.HeaderReader, Phase.Phase}}
+use Rattle.ptu_header.specs.declared.step.HeaderStep.{HeaderStep, TheVariants.{More, Preamble, Tag, Body, Done, Refused}}
 use Rattle.ptu_header.specs.declared.reader.Phase.TheVariants as Phases
 
 -- less than a preamble

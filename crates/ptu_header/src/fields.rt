@@ -1,8 +1,6 @@
 // The fields of a header, from the tags that are read.
 ghost use Rattle.std.specs.Prelude.{◌≡◌, List, ℕ, IfErr, false};
-ghost use Rattle.ptu_definitions.specs.Fields.{value_under, or_else, with_tag, header_of};
-ghost use Rattle.ptu_tag.specs.Kinds.{IsHead};
-ghost use Rattle.tally_base.specs.Faults.{is_outside};
+ghost use Rattle.{ptu_definitions.specs.Fields.{value_under, or_else, with_tag, header_of}, ptu_tag.specs.Kinds.IsHead, tally_base.specs.Faults.is_outside};
 
 use crate::fill::same;
 use ptu_definitions::Found;

@@ -1,11 +1,8 @@
 // A reader that carries at most one tag, and the number of body bytes still to come.
 ghost use Rattle.std.specs.Prelude.{◌≡◌, ◌+◌, ◌*◌, ◌^◌, ◌≤◌, ◌↔◌, [], IsTrue, List, ℕ, length, true, false, Err, take, codes};
-ghost use Rattle.arrayvec.specs.ArrayVec.{array_vec_len};
-ghost use Rattle.ptu_definitions.{specs.Endings.IsOtherFile, specs.TagList.{code_in, body_size}, specs.Headers.header_answer};
-ghost use Rattle.ptu_tag.specs.Kinds.{IsHead, code_of};
-ghost use Rattle.tally_base.specs.Faults.{is_outside};
+ghost use Rattle.{arrayvec.specs.ArrayVec.array_vec_len, ptu_definitions.specs.{Endings.IsOtherFile, TagList.{code_in, body_size}, Headers.header_answer}, ptu_tag.specs.Kinds.{IsHead, code_of}};
+ghost use Rattle.{tally_base.specs.Faults.is_outside, ptu_header.specs.Phases.{phase_after, outside_at}};
 ghost use Rattle.ptu_header.specs.declared.reader.Phase.TheVariants as Phase;
-ghost use Rattle.ptu_header.specs.Phases.{phase_after, outside_at};
 
 use crate::fields::{header, with};
 use crate::fill::{eight, fill, same};

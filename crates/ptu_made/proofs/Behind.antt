@@ -1,7 +1,8 @@
 -- The words after one more photon.
-use Rattle.std.{proofs.Common.{◌≡◌, ◌+◌, ◌<◌, ℕ, List, [], ◌∷◌, ◌++◌, refl, arith, rules, ◌-◌, ◌≤◌, length, take, drop, sym, ap, ◌∙◌, append_assoc, slice_range}, proofs.lemmas.List.Sums.sum_by-cons, proofs.lemmas.List.{length-take, take-take, drop-append-le, drop-drop}, proofs.lemmas.Slice.{take-put_mid, between_is}, proofs.Math.Seq.{take-add, take-append-add}}
-use Rattle.ptu_definitions.specs.Prefixes.{each_after, each}
-use Rattle.ptu_made.specs.Generator.{next_state, states, gap, channel, last_time, photon_words, words_behind}
+use Rattle.std.proofs.Common.{◌≡◌, ◌+◌, ◌<◌, ℕ, List, [], ◌∷◌, ◌++◌, refl, arith, rules, ◌-◌, ◌≤◌, length, take, drop, sym, ap, ◌∙◌, append_assoc, slice_range}
+use Rattle.std.proofs.{lemmas.{List.{Sums.sum_by-cons, length-take, take-take, drop-append-le, drop-drop}, Slice.{take-put_mid, between_is}}, Math.Seq.take-add}
+use Rattle.{std.proofs.Math.Seq.take-append-add, ptu_definitions.specs.Prefixes.{each_after, each}, ptu_made.specs.Generator.{next_state, states, gap, channel}}
+use Rattle.ptu_made.specs.Generator.{last_time, photon_words, words_behind}
 use borrow.Rule.Slice.PartMut.{put_mid}
 
 -- what each state gives by the time of the photon before, its own time and its channel

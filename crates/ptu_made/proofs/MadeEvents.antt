@@ -1,9 +1,15 @@
 -- The events of the made file are its photons.
-use Rattle.tally_base.{specs.declared.event.EventKind.TheVariants.Photon as PhotonEvent, specs.declared.event.Policy.Policy, specs.declared.fault.Fault.Fault, specs.declared.header.RecordType.TheVariants.HydraHarp2T2, specs.Events.stops_late, specs.Limits.wrap_limit}
-use Rattle.ptu_definitions.{specs.declared.records.Raw.Raw, specs.declared.records.Raw.TheVariants.{Photon, Wrap}, specs.Layouts.hydra_t2, specs.Prefixes.each_after, specs.Times.{amount, base, event_after, events}, specs.Words.{words_of, rest_of}, specs.Kinds.{is_reserved, is_wrap}, specs.Streams.{reading, refusal, record_refusal}, proofs.Firsts.none-refused}
-use Rattle.ptu_made.{specs.Generator.{next_state, states, gap, channel, last_time, unit, photon_word, words_behind, made_words}, specs.Records.{made_photons, IsPhotonOrWrap}, proofs.Behind.{Giving, all_given, all_given-cons, words_behind-cons}}
-use Rattle.minimal_file.{specs.ShortFiles.{Timed, timed, bytes_in}, proofs.ShortHeaders.{IsWord, words_of-bytes_in, rest_of-bytes_in}}
-use Rattle.std.{proofs.Common.{◌≡◌, ◌+◌, ◌*◌, ◌<◌, ◌≤◌, ℕ, zero, suc, Bool, false, None, List, [], ◌∷◌, length, map, take, refl, arith, nat_lt, nat_le, ◌&&◌, if◌then◌else◌, rules, ◌/◌, ◌%◌, true, ◌++◌, ◌∙◌, ◌^◌, get_or}, specs.List.AllByRecursion, specs.declared.option.Option.Option, proofs.lemmas.List.{length-map, length-take}, proofs.lemmas.List.Sums.{sum_by-cons, sum_by_push}, proofs.lemmas.Bool.Decides.nat_tests}
+use Rattle.tally_base.specs.declared.{event.{EventKind.TheVariants.Photon as PhotonEvent, Policy.Policy}, fault.Fault.Fault}
+use Rattle.tally_base.specs.{declared.header.RecordType.TheVariants.HydraHarp2T2, Events.stops_late, Limits.wrap_limit}
+use Rattle.ptu_definitions.specs.{declared.records.Raw.{Raw, TheVariants.{Photon, Wrap}}, Layouts.hydra_t2, Prefixes.each_after, Times.{amount, base}}
+use Rattle.ptu_definitions.specs.{Times.{event_after, events}, Words.{words_of, rest_of}, Kinds.{is_reserved, is_wrap}, Streams.{reading, refusal}}
+use Rattle.{ptu_definitions.{specs.Streams.record_refusal, proofs.Firsts.none-refused}, ptu_made.specs.Generator.{next_state, states, gap, channel, last_time}}
+use Rattle.ptu_made.{specs.{Generator.{unit, photon_word, words_behind, made_words}, Records.{made_photons, IsPhotonOrWrap}}, proofs.Behind.{Giving, all_given}}
+use Rattle.{ptu_made.proofs.Behind.{all_given-cons, words_behind-cons}, minimal_file.{specs.ShortFiles.{Timed, timed, bytes_in}, proofs.ShortHeaders.IsWord}}
+use Rattle.{minimal_file.proofs.ShortHeaders.{words_of-bytes_in, rest_of-bytes_in}, std.proofs.Common.{◌≡◌, ◌+◌, ◌*◌, ◌<◌, ◌≤◌, ℕ, zero, suc, Bool, false}}
+use Rattle.std.proofs.Common.{None, List, [], ◌∷◌, length, map, take, refl, arith, nat_lt, nat_le, ◌&&◌, if◌then◌else◌, rules, ◌/◌, ◌%◌, true, ◌++◌, ◌∙◌, ◌^◌}
+use Rattle.std.proofs.{Common.get_or, lemmas.{List.{length-map, length-take, Sums.{sum_by-cons, sum_by_push}}, Bool.Decides.nat_tests}}
+use Rattle.std.specs.{List.AllByRecursion, declared.option.Option.Option}
 
 -- The words of the made file are photons and wraps.
 

@@ -1,7 +1,6 @@
 -- The definitions at known seeds.
-use Rattle.std.proofs.Common.{◌≡◌, [], ◌∷◌, ◌++◌, replicate, refl, codes}
-use Rattle.ptu_made.{specs.Generator.{next_state, states, gap, channel, drawn, photon_words, made_words}, specs.Records.{made_photons, made_file}}
-use Rattle.tally_base.specs.declared.event.EventKind.TheVariants.{Photon}
+use Rattle.{std.proofs.Common.{◌≡◌, [], ◌∷◌, ◌++◌, replicate, refl, codes}, ptu_made.specs.Generator.{next_state, states, gap, channel, drawn, photon_words}}
+use Rattle.{ptu_made.specs.{Generator.made_words, Records.{made_photons, made_file}}, tally_base.specs.declared.event.EventKind.TheVariants.Photon}
 use Rattle.minimal_file.specs.ShortFiles.{short_header, minimal_file}
 
 pub rows :

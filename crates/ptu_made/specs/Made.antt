@@ -1,8 +1,7 @@
 -- A made file as inputs.
-use Rattle.std.{specs.Prelude.{ℕ, List, ◌++◌, ◌≡◌, true, false, None, Some, is_some}, specs.declared.option.Option.Option, proofs.Common.sym, proofs.lemmas.Option.{none-some, same_Some}}
-use Rattle.tally_base.{specs.declared.slot.Slot.Slot, specs.declared.slot.Slot.TheVariants.{Plan, Data}}
-use Rattle.bench_io.{specs.Inputs.InputState, specs.Given.{IsOf, no_bytes}, proofs.States.IsOf-left}
-use Rattle.ptu_made.{specs.declared.made.Made.Made, specs.declared.slot.Begun.Begun, specs.Records.made_file, specs.Unread.{bytes_left, told_in, given_in}}
+use Rattle.std.{specs.{Prelude.{ℕ, List, ◌++◌, ◌≡◌, true, false, None, Some, is_some}, declared.option.Option.Option}, proofs.{Common.sym, lemmas.Option.{none-some, same_Some}}}
+use Rattle.{tally_base.specs.declared.slot.Slot.{Slot, TheVariants.{Plan, Data}}, bench_io.{specs.{Inputs.InputState, Given.{IsOf, no_bytes}}, proofs.States.IsOf-left}}
+use Rattle.ptu_made.specs.{declared.{made.Made.Made, slot.Begun.Begun}, Records.made_file, Unread.{bytes_left, told_in, given_in}}
 
 -- one slot of the two
 abbrev pub slot_of : Made → Slot → Option Begun

@@ -1,9 +1,9 @@
 -- What the words of the made file mean.
-use Rattle.std.{specs.Prelude.{ℕ, ◌+◌, ◌≡◌, ◌<◌, ◌≤◌, List, [], ◌∷◌}, specs.declared.option.Option.Option}
-use Rattle.tally_base.{specs.declared.header.Header.Header, specs.declared.header.Mode.TheVariants.T2, specs.declared.event.EventKind.TheVariants.Photon as PhotonEvent, specs.declared.event.Policy.Policy, specs.declared.fault.Fault.Fault, specs.declared.header.RecordType.TheVariants.HydraHarp2T2}
-use Rattle.ptu_definitions.{specs.declared.records.Raw.Raw, specs.declared.records.Raw.TheVariants.{Photon, Marker, Wrap, Reserved}, specs.Prefixes.each, specs.Streams.{reading, record_refusal}}
-use Rattle.minimal_file.specs.ShortFiles.{short_fields, minimal_file, Timed}
-use Rattle.ptu_made.specs.Generator.{states, gap, channel, last_time, unit, made_words}
+use Rattle.std.specs.{Prelude.{ℕ, ◌+◌, ◌≡◌, ◌<◌, ◌≤◌, List, [], ◌∷◌}, declared.option.Option.Option}
+use Rattle.tally_base.specs.declared.{header.{Header.Header, Mode.TheVariants.T2, RecordType.TheVariants.HydraHarp2T2}, event.{EventKind.TheVariants.Photon as PhotonEvent, Policy.Policy}}
+use Rattle.{tally_base.specs.declared.fault.Fault.Fault, ptu_definitions.specs.{declared.records.Raw.{Raw, TheVariants.{Photon, Marker, Wrap, Reserved}}, Prefixes.each, Streams.reading}}
+use Rattle.{ptu_definitions.specs.Streams.record_refusal, minimal_file.specs.ShortFiles.{short_fields, minimal_file, Timed}, ptu_made.specs.Generator.{states, gap, channel, last_time, unit}}
+use Rattle.ptu_made.specs.Generator.{made_words}
 
 -- a photon of input 1 or 2, or one wrap
 abbrev pub IsPhotonOrWrap : Raw → Type 0

@@ -1,8 +1,7 @@
 -- The bytes that are still to come of a made file, and those that its reads gave.
-use Rattle.std.{specs.Prelude.{ℕ, List, [], ◌++◌, None, Some, slice_range}, specs.declared.option.Option.Option}
-use Rattle.bench_io.specs.Given.{Given, gave, no_bytes, is_over}
-use Rattle.minimal_file.specs.ShortFiles.{bytes_in}
-use Rattle.ptu_made.{specs.declared.unread.Unread.Unread, specs.declared.slot.Begun.Begun, specs.declared.photons.Photons.Photons, specs.Generator.{states, words_behind}}
+use Rattle.std.specs.{Prelude.{ℕ, List, [], ◌++◌, None, Some, slice_range}, declared.option.Option.Option}
+use Rattle.{bench_io.specs.Given.{Given, gave, no_bytes, is_over}, minimal_file.specs.ShortFiles.bytes_in, ptu_made.specs.declared.{unread.Unread.Unread, slot.Begun.Begun, photons.Photons.Photons}}
+use Rattle.ptu_made.specs.Generator.{states, words_behind}
 
 -- What is still to come of a made file.
 

@@ -1,11 +1,9 @@
 // Laws of the made file, each as the contract of a function that does nothing.
-ghost use Rattle.std.{specs.Prelude.{◌≡◌, ◌+◌, ◌*◌, ◌≤◌, ℕ, List, [], Ok, false, length, map}, specs.List.{All}};
-ghost use Rattle.tally_base.{specs.declared.event.Policy.Policy, specs.declared.slot.Slot.Slot, specs.Events.stops_late};
-ghost use Rattle.bench_io.specs.Memory.{left_of};
+ghost use Rattle.std.specs.{Prelude.{◌≡◌, ◌+◌, ◌*◌, ◌≤◌, ℕ, List, [], Ok, false, length, map}, List.All};
+ghost use Rattle.{tally_base.specs.{declared.{event.Policy.Policy, slot.Slot.Slot}, Events.stops_late}, bench_io.specs.Memory.left_of, ptu_definitions.specs.Headers.header_answer};
+ghost use Rattle.{ptu_definitions.specs.{Layouts.meaning_of, Times.{base, events}, Words.{words_of, rest_of}}, ptu_made.specs.{declared.made.Made.Made, Generator.{photon_limit, made_words}}};
+ghost use Rattle.{ptu_made.specs.Records.{IsPhotonOrWrap, made_header, made_photons, made_file, made_refusal}, minimal_file.specs.ShortFiles.{bytes_in, timed}};
 ghost use Rattle.tally_base.specs.declared.header.RecordType.TheVariants as RecordType;
-ghost use Rattle.ptu_definitions.{specs.Headers.header_answer, specs.Layouts.meaning_of, specs.Times.{base, events}, specs.Words.{words_of, rest_of}};
-ghost use Rattle.ptu_made.{specs.declared.made.Made.Made, specs.Generator.{photon_limit, made_words}, specs.Records.{IsPhotonOrWrap, made_header, made_photons, made_file, made_refusal}};
-ghost use Rattle.minimal_file.specs.ShortFiles.{bytes_in, timed};
 
 use crate::made::Made;
 use bench_io::Inputs;

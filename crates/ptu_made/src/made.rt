@@ -1,8 +1,7 @@
 // A made file as inputs.
-ghost use Rattle.std.{specs.Prelude.{◌≡◌, ◌≤◌, true, false, length, min, unwrap_or, [], IsOk, IfOk, OnErr, OnOk}, specs.Io.ReadsAtMost};
-ghost use Rattle.bench_io.{specs.Given.{ReadGives, no_bytes}, specs.Inputs.{IsOpened, Keeps, KeepsOther, OpensNone}, specs.Memory.left_of};
-ghost use Rattle.tally_base.specs.FaultCounts.{FailsOnce};
-ghost use Rattle.ptu_made.{specs.Records.made_file, specs.Generator.photon_limit};
+ghost use Rattle.std.specs.{Prelude.{◌≡◌, ◌≤◌, true, false, length, min, unwrap_or, [], IsOk, IfOk, OnErr, OnOk}, Io.ReadsAtMost};
+ghost use Rattle.{bench_io.specs.{Given.{ReadGives, no_bytes}, Inputs.{IsOpened, Keeps, KeepsOther, OpensNone}, Memory.left_of}, tally_base.specs.FaultCounts.FailsOnce};
+ghost use Rattle.ptu_made.specs.{Records.made_file, Generator.photon_limit};
 
 use crate::slot::{Begun, read_in};
 use crate::unread::Unread;

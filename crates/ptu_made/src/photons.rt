@@ -1,6 +1,6 @@
 // The generator of the made file: photons of two inputs, each a few ticks after the one before.
 ghost use Rattle.std.specs.Prelude.{◌≡◌, ◌+◌, ◌*◌, ◌%◌, ◌^◌, ◌<◌, ◌≤◌, ◌++◌, [], MatchOption, OnSome};
-ghost use Rattle.ptu_made.{specs.Generator.{photon_limit, next_state, made_words}, specs.Photon.words_of_photon};
+ghost use Rattle.ptu_made.specs.{Generator.{photon_limit, next_state, made_words}, Photon.words_of_photon};
 
 use crate::photon_words::PhotonWords;
 

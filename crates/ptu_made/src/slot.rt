@@ -1,7 +1,6 @@
 // One slot of a made file.
 ghost use Rattle.std.specs.Prelude.{◌≡◌, [], length, min, is_some, true, false, Some};
-ghost use Rattle.bench_io.specs.Given.{GivesCount};
-ghost use Rattle.ptu_made.specs.Unread.{bytes_left, rest_in, told_in, given_in};
+ghost use Rattle.{bench_io.specs.Given.GivesCount, ptu_made.specs.Unread.{bytes_left, rest_in, told_in, given_in}};
 
 use crate::unread::Unread;
 use noted::Noted;

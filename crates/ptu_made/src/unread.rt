@@ -1,7 +1,6 @@
 // What is still to come of a made file.
-ghost use Rattle.std.{specs.Prelude.{◌≡◌, ◌+◌, ◌<◌, ◌≤◌, ◌++◌, [], length, take, min, true, false}, specs.Int.{to_le_bytes, w32}};
-ghost use Rattle.minimal_file.specs.ShortFiles.{bytes_in};
-ghost use Rattle.ptu_made.{specs.Photon.words_of_photon, specs.Records.made_file, specs.Generator.photon_limit};
+ghost use Rattle.std.specs.{Prelude.{◌≡◌, ◌+◌, ◌<◌, ◌≤◌, ◌++◌, [], length, take, min, true, false}, Int.{to_le_bytes, w32}};
+ghost use Rattle.{minimal_file.specs.ShortFiles.bytes_in, ptu_made.specs.{Photon.words_of_photon, Records.made_file, Generator.photon_limit}};
 
 use crate::photon_words::PhotonWords;
 use crate::photons::{Photons, WRAP};

@@ -1,7 +1,7 @@
 -- The table of types, and the parts of a tag.
-use Rattle.std.{specs.Prelude.{ℕ, ◌≡◌, List}, specs.Int.{w32, cast_signed}}
-use Rattle.ptu_definitions.specs.TagList.{ident_in, index_in, code_in, value_in}
-use Rattle.ptu_tag.{specs.declared.kind.TagKind.TagKind, specs.declared.kind.TagKind.TheVariants.{Empty8, Bool8, Int8, BitSet64, Color8, Float8, TDateTime, Float8Array, AnsiString, WideString, BinaryBlob}, specs.declared.head.TagHead.TagHead}
+use Rattle.std.specs.{Prelude.{ℕ, ◌≡◌, List}, Int.{w32, cast_signed}}
+use Rattle.{ptu_definitions.specs.TagList.{ident_in, index_in, code_in, value_in}, ptu_tag.specs.declared.kind.TagKind.{TagKind, TheVariants.{Empty8, Bool8, Int8, BitSet64, Color8, Float8}}}
+use Rattle.ptu_tag.specs.declared.{kind.TagKind.TheVariants.{TDateTime, Float8Array, AnsiString, WideString, BinaryBlob}, head.TagHead.TagHead}
 
 -- the code of a type
 abbrev pub code_of : TagKind → ℕ

@@ -1,7 +1,6 @@
 // The parts of one tag.
 ghost use Rattle.std.specs.Prelude.{◌≡◌};
-ghost use Rattle.ptu_definitions.specs.TagList.{name_of};
-ghost use Rattle.ptu_tag.specs.Kinds.{IsHead};
+ghost use Rattle.{ptu_definitions.specs.TagList.name_of, ptu_tag.specs.Kinds.IsHead};
 
 use byteorder::{ByteOrder, LittleEndian};
 

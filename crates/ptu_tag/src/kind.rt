@@ -1,7 +1,6 @@
 // The types of tags.
 ghost use Rattle.std.specs.Prelude.{◌≡◌, IfSome, IsSome, ◌↔◌, true};
-ghost use Rattle.ptu_definitions.specs.TagList.{is_known, has_body};
-ghost use Rattle.ptu_tag.specs.Kinds.{code_of};
+ghost use Rattle.{ptu_definitions.specs.TagList.{is_known, has_body}, ptu_tag.specs.Kinds.code_of};
 
 /// The types of tags in PicoQuant's unified TTTR format, there named tyEmpty8, tyBool8 and so on.
 /// A tag of one of the last four has a body after it, and its value is the body's length in bytes.

@@ -1,8 +1,11 @@
 -- A counter's bytes grow.
-use Rattle.std.{proofs.Common.{rules}, proofs.Common.{◌≡◌, ◌+◌, ◌-◌, ◌*◌, ◌<◌, ◌≤◌, ℕ, List, [], ◌++◌, length, map, Ok, Err, refl, sym, ap, ◌∙◌, arith, length-append, ◌∷◌, take, drop, get_or, take-append-drop, append_assoc, Option, MatchOption}, proofs.lemmas.List.{length-map, map-append}, proofs.lemmas.Bool.Decides.nat_tests}
-use Rattle.tally_base.{specs.declared.fault.Fault.TheVariants.{RecordLimit, TruncatedRecord}, specs.declared.header.RecordType.RecordType}
-use Rattle.ptu_definitions.{specs.declared.records.KindCounts.KindCounts, specs.Words.{words_of, rest_of, numbers, counted, records_of, record_limit}, specs.Layouts.meaning_of, specs.Kinds.counts_of, specs.Headers.Shows, proofs.WordsLemmas.{words_of-append, rest_of-append, length-words_of, length-rest_of, length-words_of-append, rest_of-four}, specs.Prefixes.listed}
-use Rattle.record_layout.{specs.Sums.sum_of, specs.Counting.AreCounts, proofs.KindLemmas.counts_of-append}
+use Rattle.std.proofs.Common.{rules, ◌≡◌, ◌+◌, ◌-◌, ◌*◌, ◌<◌, ◌≤◌, ℕ, List, [], ◌++◌, length, map, Ok, Err, refl, sym, ap, ◌∙◌, arith, length-append, ◌∷◌, take}
+use Rattle.std.proofs.{Common.{drop, get_or, take-append-drop, append_assoc, Option, MatchOption}, lemmas.List.{length-map, map-append}}
+use Rattle.{std.proofs.lemmas.Bool.Decides.nat_tests, tally_base.specs.declared.fault.Fault.TheVariants.{RecordLimit, TruncatedRecord}}
+use Rattle.{tally_base.specs.declared.header.RecordType.RecordType, ptu_definitions.specs.{declared.records.KindCounts.KindCounts, Words.{words_of, rest_of}}}
+use Rattle.ptu_definitions.specs.{Words.{numbers, counted, records_of, record_limit}, Layouts.meaning_of, Kinds.counts_of, Headers.Shows, Prefixes.listed}
+use Rattle.ptu_definitions.proofs.WordsLemmas.{words_of-append, rest_of-append, length-words_of, length-rest_of, length-words_of-append, rest_of-four}
+use Rattle.record_layout.{specs.{Sums.sum_of, Counting.AreCounts}, proofs.KindLemmas.counts_of-append}
 
 module _ (record_type : RecordType) (carried : List ℕ) (counts : KindCounts) (bytes : List ℕ) (h : AreCounts record_type carried counts bytes) where
   -- each word is counted

@@ -1,7 +1,8 @@
 -- How many of some words are of each kind.
-use Rattle.std.{proofs.Common.{rules}, proofs.Common.{◌≡◌, ◌+◌, ◌-◌, ◌<◌, ◌≤◌, ℕ, zero, suc, get_or, take, List, [], ◌∷◌, ◌++◌, Bool, cond, length, map, refl, ◌∙◌, arith, count_by}, specs.Int.{from_le_bytes, w32}, proofs.lemmas.List.{length-append, length-map}, proofs.lemmas.List.Sums.sum_by-append}
-use Rattle.ptu_definitions.{specs.declared.records.Raw.Raw, specs.declared.records.Raw.TheVariants.{Photon, Marker, Wrap, Reserved}, specs.Words.numbers, specs.Kinds.{is_photon, is_marker, is_wrap, is_reserved, counts_of}}
-use Rattle.record_layout.specs.Sums.{IsSplit, sum_of}
+use Rattle.std.proofs.Common.{rules, ◌≡◌, ◌+◌, ◌-◌, ◌<◌, ◌≤◌, ℕ, zero, suc, get_or, take, List, [], ◌∷◌, ◌++◌, Bool, cond, length, map, refl, ◌∙◌, arith}
+use Rattle.std.{proofs.{Common.count_by, lemmas.List.{length-append, length-map, Sums.sum_by-append}}, specs.Int.{from_le_bytes, w32}}
+use Rattle.ptu_definitions.specs.{declared.records.Raw.{Raw, TheVariants.{Photon, Marker, Wrap, Reserved}}, Words.numbers, Kinds.{is_photon, is_marker}}
+use Rattle.{ptu_definitions.specs.Kinds.{is_wrap, is_reserved, counts_of}, record_layout.specs.Sums.{IsSplit, sum_of}}
 
 count_by-append : {X : Type 0} (p : X → Bool) (xs ys : List X) → count_by p (xs ++ ys) ≡ count_by p xs + count_by p ys
 count_by-append p xs ys = sum_by-append (λ x. cond (p x) 1 0) xs ys

@@ -1,7 +1,7 @@
 -- The parts of a record say what its fields say.
-use Rattle.std.{proofs.Common.{◌≡◌, ℕ, Bool, true, false, arith}, proofs.lemmas.Grind.common_steps, proofs.lemmas.Bool.Decides.nat_tests}
-use Rattle.ptu_definitions.specs.Layouts.{bits}
-use Rattle.record_layout.{specs.Rowed.{raw_of, hydra_t2_code, hydra_t3_code, hydra_t2_unit, hydra_wraps, pico_code, pico_wraps}, specs.Joins.{joined_pico_t2, joined_pico_t3, joined_hydra_t2, joined_hydra_t3}}
+use Rattle.{std.proofs.{Common.{◌≡◌, ℕ, Bool, true, false, arith}, lemmas.{Grind.common_steps, Bool.Decides.nat_tests}}, ptu_definitions.specs.Layouts.bits}
+use Rattle.record_layout.specs.{Rowed.{raw_of, hydra_t2_code, hydra_t3_code, hydra_t2_unit, hydra_wraps, pico_code, pico_wraps}, Joins.joined_pico_t2}
+use Rattle.record_layout.specs.Joins.{joined_pico_t3, joined_hydra_t2, joined_hydra_t3}
 
 old-t2 : (top time dtime : ℕ) → raw_of (hydra_t2_unit true) (record { code = hydra_t2_code top; time = time; dtime = 0; wraps = hydra_wraps true top time })
     ≡ joined_hydra_t2 true (record { top = top; dtime = dtime; time = time })

@@ -1,6 +1,5 @@
 -- The fields of known words, and what they say together.
-use Rattle.std.proofs.Common.{◌≡◌, true, false, refl}
-use Rattle.ptu_definitions.specs.declared.records.Raw.TheVariants.{Photon, Marker, Wrap, Reserved}
+use Rattle.{std.proofs.Common.{◌≡◌, true, false, refl}, ptu_definitions.specs.declared.records.Raw.TheVariants.{Photon, Marker, Wrap, Reserved}}
 use Rattle.record_layout.specs.Joins.{fields_in, joined_pico_t2, joined_pico_t3, joined_hydra_t2, joined_hydra_t3}
 
 pub rows :

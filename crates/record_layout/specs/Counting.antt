@@ -1,8 +1,7 @@
 -- What a counter stands for.
-use Rattle.tally_base.specs.declared.header.RecordType.{RecordType}
-use Rattle.ptu_definitions.{specs.declared.records.KindCounts.KindCounts, specs.Words.{words_of, rest_of, records_of, record_limit}, specs.Kinds.counts_of}
-use Rattle.record_layout.{specs.declared.counter.Counter.Counter, specs.declared.begun.BegunWord.BegunWord}
 use Rattle.std.specs.Prelude.{ℕ, ◌≡◌, ◌+◌, ◌-◌, ◌*◌, ◌<◌, ◌≤◌, List, Bool, true, false, length}
+use Rattle.{tally_base.specs.declared.header.RecordType.RecordType, ptu_definitions.specs.{declared.records.KindCounts.KindCounts, Words.{words_of, rest_of, records_of, record_limit}}}
+use Rattle.{ptu_definitions.specs.Kinds.counts_of, record_layout.specs.declared.{counter.Counter.Counter, begun.BegunWord.BegunWord}}
 
 -- The bytes of a begun word.
 

@@ -1,7 +1,6 @@
 -- How many wraps a word stands for at most.
-use Rattle.std.{proofs.Common.{◌≡◌, ◌*◌, ◌^◌, ◌≤◌, ℕ, Bool, true, false, arith}, proofs.lemmas.Grind.common_steps, proofs.lemmas.Bool.Decides.nat_tests}
-use Rattle.ptu_definitions.{specs.Layouts.{pico_t2, pico_t3, hydra_t2, hydra_t3}, specs.Times.amount}
-use Rattle.record_layout.specs.Rowed.{hydra_t2_unit}
+use Rattle.std.proofs.{Common.{◌≡◌, ◌*◌, ◌^◌, ◌≤◌, ℕ, Bool, true, false, arith}, lemmas.{Grind.common_steps, Bool.Decides.nat_tests}}
+use Rattle.{ptu_definitions.specs.{Layouts.{pico_t2, pico_t3, hydra_t2, hydra_t3}, Times.amount}, record_layout.specs.Rowed.hydra_t2_unit}
 
 pub pico_t2-few : (word n : ℕ) → 210698240 * n ≡ amount (pico_t2 word) → n ≤ 2 ^ 25
 unfolding pico_t2

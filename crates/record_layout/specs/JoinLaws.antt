@@ -1,7 +1,8 @@
 -- In each layout a word means what its fields say.
-use Rattle.std.{proofs.Common.{◌≡◌, ◌<◌, ◌^◌, ◌+◌, ◌-◌, ◌/◌, inl, inr, ℕ, Bool, true, false, refl, arith, ◌∙◌, ap}, specs.Prelude.{◌==◌, nat_lt, bit_and, if◌then◌else◌}, proofs.lemmas.Nat.and_mask, proofs.lemmas.Bool.cases_lt, proofs.lemmas.Bool.Decides.nat_tests}
-use Rattle.ptu_definitions.{specs.declared.records.Raw.Raw, specs.declared.records.Raw.TheVariants.Photon, specs.Layouts.{bits, pico_t2, pico_t3, hydra_t2, hydra_t3, hydra_t2_special, hydra_t3_special}}
-use Rattle.record_layout.{specs.Joins.{fields_in, joined_pico_t2, joined_pico_t3, joined_hydra_t2, joined_hydra_t3}, specs.Rowed.hydra_t2_unit}
+use Rattle.std.{proofs.{Common.{◌≡◌, ◌<◌, ◌^◌, ◌+◌, ◌-◌, ◌/◌, inl, inr, ℕ, Bool, true, false, refl, arith, ◌∙◌, ap}, lemmas.{Nat.and_mask, Bool.{cases_lt, Decides.nat_tests}}}, specs.Prelude.◌==◌}
+use Rattle.std.specs.Prelude.{nat_lt, bit_and, if◌then◌else◌}
+use Rattle.ptu_definitions.specs.{declared.records.Raw.{Raw, TheVariants.Photon}, Layouts.{bits, pico_t2, pico_t3, hydra_t2, hydra_t3, hydra_t2_special, hydra_t3_special}}
+use Rattle.record_layout.specs.{Joins.{fields_in, joined_pico_t2, joined_pico_t3, joined_hydra_t2, joined_hydra_t3}, Rowed.hydra_t2_unit}
 
 -- a shift and a mask take the bits of a field
 pub bit_and-shifted : (word low count : ℕ) → bit_and (word / 2 ^ low) (2 ^ count - 1) ≡ bits word low count

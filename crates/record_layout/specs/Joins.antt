@@ -1,6 +1,6 @@
 -- What the fields of a word say in each layout.
 use Rattle.std.specs.Prelude.{◌+◌, ◌-◌, ◌==◌, nat_lt, nat_le, Bool, if◌then◌else◌, ℕ, ◌/◌, ◌^◌, bit_and}
-use Rattle.ptu_definitions.{specs.declared.records.Raw.Raw, specs.declared.records.Raw.TheVariants.{Photon, Reserved}, specs.Layouts.{bits, pico_t2_special, pico_t3_special, hydra_t2_special, hydra_t3_special}}
+use Rattle.ptu_definitions.specs.{declared.records.Raw.{Raw, TheVariants.{Photon, Reserved}}, Layouts.{bits, pico_t2_special, pico_t3_special, hydra_t2_special, hydra_t3_special}}
 use Rattle.record_layout.specs.declared.fields.Fields.{Fields}
 
 -- the top four bits are the channel

@@ -1,7 +1,6 @@
 -- What a record says, by its parts, and the parts by the fields of its word.
 use Rattle.std.specs.Prelude.{ℕ, ◌+◌, ◌*◌, ◌%◌, ◌==◌, Bool, true, false, nat_lt, nat_le, if◌then◌else◌}
-use Rattle.ptu_definitions.{specs.declared.records.Raw.Raw, specs.declared.records.Raw.TheVariants.{Photon, Marker, Wrap, Reserved}, specs.Layouts.wraps_in}
-use Rattle.record_layout.specs.declared.row.Row.{Row}
+use Rattle.{ptu_definitions.specs.{declared.records.Raw.{Raw, TheVariants.{Photon, Marker, Wrap, Reserved}}, Layouts.wraps_in}, record_layout.specs.declared.row.Row.Row}
 
 -- what a row says, where a wrap adds a unit
 abbrev pub raw_of : ℕ → Row → Raw

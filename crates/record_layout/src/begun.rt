@@ -1,7 +1,6 @@
 // The bytes of a word that one piece begins and a later one completes.
 ghost use Rattle.std.specs.Prelude.{◌≡◌, ◌+◌, ◌*◌, ◌<◌, ◌++◌, ◌∷◌, [], length};
-ghost use Rattle.arrayvec.specs.ArrayVec.{array_vec_len};
-ghost use Rattle.ptu_definitions.{specs.Words.{numbers, words_of, rest_of}, specs.Prefixes.listed};
+ghost use Rattle.{arrayvec.specs.ArrayVec.array_vec_len, ptu_definitions.specs.{Words.{numbers, words_of, rest_of}, Prefixes.listed}};
 
 use arrayvec::ArrayVec;
 use tally_base::put_text;

@@ -1,7 +1,6 @@
 // What words mean by the record type of their file.
 ghost use Rattle.std.specs.Prelude.{◌≡◌, length, map};
-ghost use Rattle.ptu_definitions.{specs.Words.numbers, specs.Kinds.counts_of, specs.Layouts.meaning_of};
-ghost use Rattle.record_layout.specs.Sums.{IsSplit};
+ghost use Rattle.{ptu_definitions.specs.{Words.numbers, Kinds.counts_of, Layouts.meaning_of}, record_layout.specs.Sums.IsSplit};
 
 use crate::kinds::kinds_of;
 use crate::layout::RecordLayout;

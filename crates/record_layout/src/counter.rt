@@ -1,7 +1,6 @@
 // Counts the records of bytes that come in pieces.
 ghost use Rattle.std.specs.Prelude.{◌≡◌, ◌+◌, ◌<◌, ◌≤◌, ◌++◌, ◌↔◌, [], List, ℕ, length, true, false, IsErr, IfErr, Err, OnOk, OnErr};
-ghost use Rattle.tally_base.{specs.declared.header.RecordType.RecordType, specs.Limits.record_limit, specs.Faults.is_outside};
-ghost use Rattle.ptu_definitions.{specs.Words.{words_of, counted}, specs.Headers.Shows};
+ghost use Rattle.{tally_base.specs.{declared.header.RecordType.RecordType, Limits.record_limit, Faults.is_outside}, ptu_definitions.specs.{Words.{words_of, counted}, Headers.Shows}};
 ghost use Rattle.record_layout.specs.Sums.{IsSplit};
 
 use crate::begun::BegunWord;

@@ -1,8 +1,7 @@
 // The T2 layout of HydraHarp and later devices.
-ghost use Rattle.std.{specs.Prelude.{◌≡◌, ◌<◌, ◌^◌}, proofs.Common.{rules}};
-ghost use Rattle.tally_base.specs.declared.header.Mode.TheVariants.{T2};
-ghost use Rattle.ptu_definitions.specs.Layouts.{hydra_t2, hydra_t2_wrap, wraps_in};
-ghost use Rattle.record_layout.{specs.Joins.joined_hydra_t2, specs.Rowed.{hydra_t2_code, hydra_t2_unit, hydra_wraps}, specs.FewWraps.hydra_t2-few, specs.JoinLaws.{hydra_t2-is_join, hydra_t2-unit_small}};
+ghost use Rattle.std.{specs.Prelude.{◌≡◌, ◌<◌, ◌^◌}, proofs.Common.rules};
+ghost use Rattle.{tally_base.specs.declared.header.Mode.TheVariants.T2, ptu_definitions.specs.Layouts.{hydra_t2, hydra_t2_wrap, wraps_in}, record_layout.specs.Joins.joined_hydra_t2};
+ghost use Rattle.record_layout.specs.{Rowed.{hydra_t2_code, hydra_t2_unit, hydra_wraps}, FewWraps.hydra_t2-few, JoinLaws.{hydra_t2-is_join, hydra_t2-unit_small}};
 
 use crate::fields::Fields;
 use crate::layout::RecordLayout;

@@ -1,8 +1,7 @@
 // The T3 layout of HydraHarp and later devices.
-ghost use Rattle.std.{specs.Prelude.{◌≡◌}, proofs.Common.{rules}};
-ghost use Rattle.tally_base.specs.declared.header.Mode.TheVariants.{T3};
-ghost use Rattle.ptu_definitions.specs.Layouts.{hydra_t3, hydra_t3_wrap};
-ghost use Rattle.record_layout.{specs.Joins.joined_hydra_t3, specs.Rowed.hydra_t3_code, specs.FewWraps.hydra_t3-few, specs.JoinLaws.hydra_t3-is_join};
+ghost use Rattle.std.{specs.Prelude.◌≡◌, proofs.Common.rules};
+ghost use Rattle.{tally_base.specs.declared.header.Mode.TheVariants.T3, ptu_definitions.specs.Layouts.{hydra_t3, hydra_t3_wrap}, record_layout.specs.{Joins.joined_hydra_t3, Rowed.hydra_t3_code}};
+ghost use Rattle.record_layout.specs.{FewWraps.hydra_t3-few, JoinLaws.hydra_t3-is_join};
 
 use crate::fields::Fields;
 use crate::hydra_t2::{wraps_by, wraps_in};

@@ -1,7 +1,6 @@
 // How many records there are of each kind, in words.
 ghost use Rattle.std.specs.Prelude.{◌≡◌, ◌+◌, ◌^◌, ◌<◌, length, map};
-ghost use Rattle.ptu_definitions.{specs.Words.numbers, specs.Kinds.{is_photon, is_marker, is_wrap, counts_of}};
-ghost use Rattle.record_layout.specs.Sums.{IsSplit, sum_of};
+ghost use Rattle.{ptu_definitions.specs.{Words.numbers, Kinds.{is_photon, is_marker, is_wrap, counts_of}}, record_layout.specs.Sums.{IsSplit, sum_of}};
 
 use crate::layout::RecordLayout;
 use ptu_definitions::{KindCounts, Raw};

@@ -1,8 +1,7 @@
 // How the bits of a word are laid out.
 ghost use Rattle.std.specs.Prelude.{◌≡◌, ◌*◌, ◌^◌, ◌<◌, ◌≤◌, ℕ};
-ghost use Rattle.tally_base.specs.declared.header.Mode.{Mode};
-ghost use Rattle.ptu_definitions.{specs.declared.records.Raw.Raw, specs.Times.amount};
-ghost use Rattle.record_layout.{specs.declared.fields.Fields.Fields, specs.Joins.fields_in, specs.Rowed.raw_of};
+ghost use Rattle.{tally_base.specs.declared.header.Mode.Mode, ptu_definitions.specs.{declared.records.Raw.Raw, Times.amount}, record_layout.specs.{declared.fields.Fields.Fields, Joins.fields_in}};
+ghost use Rattle.record_layout.specs.Rowed.{raw_of};
 
 use crate::fields::Fields;
 use crate::row::Row;

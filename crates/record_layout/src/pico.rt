@@ -1,8 +1,7 @@
 // The layouts of PicoHarp.
-ghost use Rattle.std.{specs.Prelude.{◌≡◌}, proofs.Common.{rules}};
-ghost use Rattle.tally_base.specs.declared.header.Mode.TheVariants.{T2, T3};
-ghost use Rattle.ptu_definitions.specs.Layouts.{pico_t2, pico_t3};
-ghost use Rattle.record_layout.{specs.FewWraps.{pico_t2-few, pico_t3-few}, specs.Joins.{joined_pico_t2, joined_pico_t3}, specs.Rowed.{pico_code, pico_wraps}, specs.JoinLaws.{pico_t2-is_join, pico_t3-is_join}};
+ghost use Rattle.std.{specs.Prelude.◌≡◌, proofs.Common.rules};
+ghost use Rattle.{tally_base.specs.declared.header.Mode.TheVariants.{T2, T3}, ptu_definitions.specs.Layouts.{pico_t2, pico_t3}, record_layout.specs.FewWraps.{pico_t2-few, pico_t3-few}};
+ghost use Rattle.record_layout.specs.{Joins.{joined_pico_t2, joined_pico_t3}, Rowed.{pico_code, pico_wraps}, JoinLaws.{pico_t2-is_join, pico_t3-is_join}};
 
 use crate::fields::Fields;
 use crate::layout::RecordLayout;

@@ -1,10 +1,8 @@
 -- Events that are only counted.
-use Rattle.std.proofs.Common.{rules}
-use Rattle.std.{proofs.Common.{◌≡◌, ◌+◌, ◌≤◌, ℕ, [], ◌∷◌, ◌++◌, List, Bool, IsTrue, ◌&&◌, not, length, length-append, arith}}
-use Rattle.tally_base.{specs.declared.event.Event.Event, specs.declared.header.Mode.Mode, specs.Events.is_ordered, specs.Tally.{floor_after, InOrder}}
-use Rattle.ptu_definitions.specs.Kept.{Marked}
-use Rattle.abs_time.{specs.Floors.{moved_floor, orders_markers}, proofs.Floors.moved_floor-push}
-use Rattle.record_stream.{specs.Blocks.on_time, specs.Counted.HasCounted, proofs.Gathering.floor_of-block, proofs.Steps.length-on_time}
+use Rattle.std.proofs.Common.{rules, ◌≡◌, ◌+◌, ◌≤◌, ℕ, [], ◌∷◌, ◌++◌, List, Bool, IsTrue, ◌&&◌, not, length, length-append, arith}
+use Rattle.tally_base.specs.{declared.{event.Event.Event, header.Mode.Mode}, Events.is_ordered, Tally.{floor_after, InOrder}}
+use Rattle.{ptu_definitions.specs.Kept.Marked, abs_time.{specs.Floors.{moved_floor, orders_markers}, proofs.Floors.moved_floor-push}}
+use Rattle.record_stream.{specs.{Blocks.on_time, Counted.HasCounted}, proofs.{Gathering.floor_of-block, Steps.length-on_time}}
 
 module _ (mode mode' : Mode) (taken taken' floor floor' : ℕ) (l : Marked) (so_far : HasCounted mode mode' taken taken' floor floor' l) where
   pub counted-one : (e : Event) (late : Bool) (now : ℕ) → now ≡ moved_floor mode' floor' e late → (IsTrue (is_ordered mode' e && not late) → floor' ≤ e.time)

@@ -1,11 +1,17 @@
 -- One word more in a block.
-use Rattle.std.{proofs.Common.{rules, ◌≡◌, ◌+◌, ◌*◌, ◌<◌, ◌≤◌, le-leb, ℕ, List, [], ◌∷◌, ◌++◌, Bool, true, false, length, map, get_or, refl, sym, ap, ◌∙◌, add-zero, append-nil, append_assoc, arith, ◌&&◌, nat_le, count_by, nat_lt, if◌then◌else◌, ◌^◌, take, length-take-le, subst, All, not, IsTrue, max}, specs.Int.{from_le_bytes, w32}, proofs.lemmas.Bool.{cases_Bool, cases_lt, leb-true}, proofs.lemmas.List.Sums.{get_or-le-sum_by, sum_by-cons}, proofs.lemmas.List.Elements.{filter-append}, proofs.lemmas.List.{map_push, map-append}, proofs.Math.Seq.{get_or-append_seam}}
-use Rattle.tally_base.{specs.declared.event.Event.Event, specs.declared.header.Mode.Mode, specs.Events.{stops_reserved, is_ordered}, specs.Limits.wrap_limit, specs.Columns.{event_by, rows, count}, specs.Tally.{moves_floor, floor_after, InOrder}, proofs.BlockRows.{length-rows, more_rows, rows-split}, proofs.Floors.floor-more}
-use Rattle.ptu_definitions.{specs.declared.records.Raw.Raw, specs.Kinds.is_reserved, specs.Times.{event_of, amount}, specs.Layouts.Fits, specs.Words.numbers, specs.Streams.StreamSettings, proofs.WordsLemmas.meaning-fits, specs.Kept.{Marked, floor_of}}
-use Rattle.abs_time.{specs.Placing.{base_of, placed_by, IsClock, LeadsOn}, specs.Floors.orders_markers, proofs.Floors.{moves_by, moved_floor-push}}
-use Rattle.record_layout.{specs.declared.row.Row.Row, specs.Rowed.raw_of}
-use Rattle.lane_decode.specs.InColumns.{IsRow}
-use Rattle.record_stream.{specs.Blocks.{chosen, Adds, IsInLine, greatest_with, IsOnTime, on_time}, specs.Rows.{ordered_below, greatest_with_row, gathered_below, event_below}, specs.Walking.{how_of, greatest_of, clock_in, AddsBehind, Gathers, LetsPass}, specs.declared.walk.Walk.Walk, proofs.Steps.{adds-push, clock-push, in_line-push, places-push}, proofs.Wraps.{numbers-more, amount-small}}
+use Rattle.std.proofs.Common.{rules, ◌≡◌, ◌+◌, ◌*◌, ◌<◌, ◌≤◌, le-leb, ℕ, List, [], ◌∷◌, ◌++◌, Bool, true, false, length, map, get_or, refl, sym, ap, ◌∙◌}
+use Rattle.std.proofs.Common.{add-zero, append-nil, append_assoc, arith, ◌&&◌, nat_le, count_by, nat_lt, if◌then◌else◌, ◌^◌, take, length-take-le, subst, All}
+use Rattle.std.proofs.{Common.{not, IsTrue, max}, lemmas.{Bool.{cases_Bool, cases_lt, leb-true}, List.Sums.{get_or-le-sum_by, sum_by-cons}}}
+use Rattle.std.{proofs.{lemmas.List.{Elements.filter-append, map_push, map-append}, Math.Seq.get_or-append_seam}, specs.Int.{from_le_bytes, w32}}
+use Rattle.tally_base.specs.{declared.{event.Event.Event, header.Mode.Mode}, Events.{stops_reserved, is_ordered}, Limits.wrap_limit, Columns.{event_by, rows}}
+use Rattle.tally_base.{specs.{Columns.count, Tally.{moves_floor, floor_after, InOrder}}, proofs.BlockRows.{length-rows, more_rows, rows-split}}
+use Rattle.{tally_base.proofs.Floors.floor-more, ptu_definitions.specs.{declared.records.Raw.Raw, Kinds.is_reserved, Times.{event_of, amount}, Layouts.Fits}}
+use Rattle.ptu_definitions.{specs.{Words.numbers, Streams.StreamSettings, Kept.{Marked, floor_of}}, proofs.WordsLemmas.meaning-fits}
+use Rattle.abs_time.{specs.{Placing.{base_of, placed_by, IsClock, LeadsOn}, Floors.orders_markers}, proofs.Floors.{moves_by, moved_floor-push}}
+use Rattle.{record_layout.specs.{declared.row.Row.Row, Rowed.raw_of}, lane_decode.specs.InColumns.IsRow, record_stream.specs.Blocks.{chosen, Adds, IsInLine}}
+use Rattle.record_stream.specs.{Blocks.{greatest_with, IsOnTime, on_time}, Rows.{ordered_below, greatest_with_row, gathered_below, event_below}, Walking.how_of}
+use Rattle.record_stream.{specs.{Walking.{greatest_of, clock_in, AddsBehind, Gathers, LetsPass}, declared.walk.Walk.Walk}, proofs.Steps.{adds-push, clock-push}}
+use Rattle.record_stream.proofs.{Steps.{in_line-push, places-push}, Wraps.{numbers-more, amount-small}}
 
 -- The event of a record, by its code.
 
@@ -80,7 +86,8 @@ pub chosen-append : (only : Bool) (mode : Mode) (xs ys : List Event) → chosen 
 chosen-append only mode xs ys = search (rules, arith, filter-append)
 
 -- nothing is gathered of no words
-pub gathers-none : (walk : Walk) (words : List (List ℕ)) (only : Bool) (sum greatest : ℕ) (es : List Event) → words ≡ [] → es ≡ [] → sum ≡ base_of (clock_in walk) → sum ≤ wrap_limit → greatest ≡ greatest_of walk → Gathers walk words only sum greatest es
+pub gathers-none : (walk : Walk) (words : List (List ℕ)) (only : Bool) (sum greatest : ℕ) (es : List Event) → words ≡ [] → es ≡ []
+    → sum ≡ base_of (clock_in walk) → sum ≤ wrap_limit → greatest ≡ greatest_of walk → Gathers walk words only sum greatest es
 gathers-none walk words only sum greatest es no_words none sum_is low greatest_is = search (rules, arith, append-nil, add-zero)
 
 -- where all events are gathered

@@ -1,9 +1,14 @@
 -- A taker with the events that it is given next.
-use Rattle.std.{proofs.Common.{rules, if◌then◌else◌, IfErr, inl, inr, ◌⊎◌, ◌≢◌, subst, Ok, Err, OnOk, OnErr, ◌≡◌, ◌+◌, ◌<◌, ◌≤◌, ℕ, List, [], ◌∷◌, ◌++◌, length, refl, sym, ap, ◌∙◌, append-nil, append_assoc, length-append, arith, max, Bool, true, false, IsTrue, ◌&&◌, not}, specs.declared.result.Result.Result, proofs.lemmas.List.map-append, proofs.lemmas.List.Elements.{All-append}}
-use Rattle.tally_base.{specs.declared.event.Event.Event, specs.declared.fault.Fault.Fault, specs.declared.fault.Fault.TheVariants.WriteFault, specs.FaultCounts.Rose, specs.declared.header.Mode.Mode, specs.Events.is_ordered, specs.declared.block.Block.Block, specs.Columns.{gathered, sorted}, specs.Limits.{time_limit, record_limit}, specs.Tally.{floor_after, InOrder}, proofs.Floors.{floor-append, order-append}}
-use Rattle.ptu_definitions.{specs.Kept.{Marked, floor_of}, specs.Layouts.KindFits, specs.Streams.{StreamSettings, given}, proofs.{Firsts.record_refusal-inside, DeliveredLaws.not_marked-append}}
-use Rattle.abs_time.{specs.Floors.{orders_markers, moved_floor}, proofs.Floors.{moved_floor-push}}
-use Rattle.record_stream.{specs.Feeding.{GaveOn, BrokeOn, Fed}, specs.Blocks.{on_time, AllFit, AreAlike, LetsLatePass, BrokeAmong}, specs.InBlocks.{MayStandFor, stands-same, GoesOn, Breaks, Waits, taken_with, floor_with}, specs.declared.taker.EventTaker.Ghosts, proofs.Gathering.floor_of-block, proofs.Steps.length-on_time}
+use Rattle.std.proofs.Common.{rules, if◌then◌else◌, IfErr, inl, inr, ◌⊎◌, ◌≢◌, subst, Ok, Err, OnOk, OnErr, ◌≡◌, ◌+◌, ◌<◌, ◌≤◌, ℕ, List, [], ◌∷◌, ◌++◌, length}
+use Rattle.std.proofs.Common.{refl, sym, ap, ◌∙◌, append-nil, append_assoc, length-append, arith, max, Bool, true, false, IsTrue, ◌&&◌, not}
+use Rattle.{std.{proofs.lemmas.List.{map-append, Elements.All-append}, specs.declared.result.Result.Result}, tally_base.specs.declared.event.Event.Event}
+use Rattle.tally_base.specs.{declared.{fault.Fault.{Fault, TheVariants.WriteFault}, header.Mode.Mode, block.Block.Block}, FaultCounts.Rose, Events.is_ordered}
+use Rattle.tally_base.{specs.{Columns.{gathered, sorted}, Limits.{time_limit, record_limit}, Tally.{floor_after, InOrder}}, proofs.Floors.floor-append}
+use Rattle.{tally_base.proofs.Floors.order-append, ptu_definitions.specs.{Kept.{Marked, floor_of}, Layouts.KindFits, Streams.{StreamSettings, given}}}
+use Rattle.{ptu_definitions.proofs.{Firsts.record_refusal-inside, DeliveredLaws.not_marked-append}, abs_time.specs.Floors.{orders_markers, moved_floor}}
+use Rattle.{abs_time.proofs.Floors.moved_floor-push, record_stream.specs.{Feeding.{GaveOn, BrokeOn, Fed}, Blocks.{on_time, AllFit, AreAlike, LetsLatePass}}}
+use Rattle.record_stream.specs.{Blocks.BrokeAmong, InBlocks.{MayStandFor, stands-same, GoesOn, Breaks, Waits, taken_with, floor_with}}
+use Rattle.record_stream.{specs.declared.taker.EventTaker.Ghosts, proofs.{Gathering.floor_of-block, Steps.length-on_time}}
 
 floor_of-append : (mode : Mode) (l m : Marked) → floor_of mode (l ++ m) ≡ max (floor_of mode l) (floor_of mode m)
 floor_of-append mode [] m = omega arith

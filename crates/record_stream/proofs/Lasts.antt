@@ -1,10 +1,13 @@
 -- What ends a stream.
-use Rattle.std.{proofs.Common.{rules}, proofs.Common.{◌≡◌, ◌≢◌, ℕ, List, [], ◌++◌, Bool, true, false, None, Some, Ok, Err, length, refl, sym, ⊎_elim, arith, ◌==◌, if◌then◌else◌}, proofs.lemmas.Bool.eqb-true, specs.declared.option.Option.Option}
-use Rattle.ptu_definitions.{specs.declared.records.Summary.Summary, specs.Words.{words_of, rest_of}, specs.Streams.{StreamSettings, refusals, record_refusal, streamed, given, events_in, last_in}, specs.Headers.Shows, specs.Kept.floor_of, specs.Times.events, proofs.DeliveredLaws.{delivered-0, delivered-none}, proofs.StreamLemmas.{given-clear, floor_of-marked}}
-use Rattle.tally_base.{specs.declared.fault.Fault.Fault, specs.declared.fault.Fault.TheVariants.{TruncatedRecord, WriteFault}}
-use Rattle.abs_time.{specs.declared.clock.Clock.Clock, specs.Placing.mode_of as clock_mode, specs.Placing.{greatest_by, HasPlaced}}
-use Rattle.record_stream.{specs.declared.taker.EventTaker.Ghosts, specs.Feeding.{IsAt, GaveOn, BrokeOn, Fed}, specs.Keeping.{Settles, HasCome}, specs.OneMore.{eventless, so_far, with_marks}, proofs.Summaries.summary-end, specs.Standing.Stands, proofs.Wraps.refused-bytes}
-use Rattle.settle.{specs.Standing.{last_time, HasSettled}, specs.declared.settle.Settle.Settle}
+use Rattle.std.proofs.Common.{rules, ◌≡◌, ◌≢◌, ℕ, List, [], ◌++◌, Bool, true, false, None, Some, Ok, Err, length, refl, sym, ⊎_elim, arith, ◌==◌, if◌then◌else◌}
+use Rattle.{std.{proofs.lemmas.Bool.eqb-true, specs.declared.option.Option.Option}, ptu_definitions.specs.{declared.records.Summary.Summary, Words.words_of}}
+use Rattle.ptu_definitions.specs.{Words.rest_of, Streams.{StreamSettings, refusals, record_refusal, streamed, given, events_in, last_in}, Headers.Shows}
+use Rattle.ptu_definitions.{specs.{Kept.floor_of, Times.events}, proofs.{DeliveredLaws.{delivered-0, delivered-none}, StreamLemmas.given-clear}}
+use Rattle.{ptu_definitions.proofs.StreamLemmas.floor_of-marked, tally_base.specs.declared.fault.Fault.{Fault, TheVariants.{TruncatedRecord, WriteFault}}}
+use Rattle.abs_time.specs.{declared.clock.Clock.Clock, Placing.{mode_of as clock_mode, greatest_by, HasPlaced}}
+use Rattle.record_stream.specs.{declared.taker.EventTaker.Ghosts, Feeding.{IsAt, GaveOn, BrokeOn, Fed}, Keeping.{Settles, HasCome}, OneMore.{eventless, so_far}}
+use Rattle.{record_stream.{specs.{OneMore.with_marks, Standing.Stands}, proofs.{Summaries.summary-end, Wraps.refused-bytes}}, settle.specs.Standing.last_time}
+use Rattle.settle.specs.{Standing.HasSettled, declared.settle.Settle.Settle}
 
 pub unrefused : (how : StreamSettings) (words : List ℕ) → refusals how words ≡ [] → record_refusal how words ≡ None
 unrefused how words clear = rw clear refl
@@ -17,11 +20,13 @@ pub streamed-refused : (how : StreamSettings) (bytes : List ℕ) (fault : Fault)
 unfolding streamed
 streamed-refused how bytes fault h = rw h refl
 
-pub streamed-whole : (how : StreamSettings) (clock : Clock) (sum sum' : Summary) (count : ℕ) (carried bytes : List ℕ) → length carried ≡ 0 → carried ≡ rest_of bytes → IsAt how clock sum count (words_of bytes) → sum' ≡ with_marks sum (last_in how (words_of bytes)) → streamed how bytes ≡ Ok sum'
+pub streamed-whole : (how : StreamSettings) (clock : Clock) (sum sum' : Summary) (count : ℕ) (carried bytes : List ℕ) → length carried ≡ 0
+    → carried ≡ rest_of bytes → IsAt how clock sum count (words_of bytes) → sum' ≡ with_marks sum (last_in how (words_of bytes)) → streamed how bytes ≡ Ok sum'
 unfolding streamed
 streamed-whole how clock sum sum' count carried bytes none is h ends = search (rules, arith, unrefused, summary-end)
 
-pub streamed-cut : (how : StreamSettings) (clock : Clock) (sum : Summary) (count : ℕ) (carried bytes : List ℕ) → (length carried ≡ 0 → ⊥) → carried ≡ rest_of bytes → IsAt how clock sum count (words_of bytes) → Err (TruncatedRecord (length carried)) ≡ streamed how bytes
+pub streamed-cut : (how : StreamSettings) (clock : Clock) (sum : Summary) (count : ℕ) (carried bytes : List ℕ) → (length carried ≡ 0 → ⊥)
+    → carried ≡ rest_of bytes → IsAt how clock sum count (words_of bytes) → Err (TruncatedRecord (length carried)) ≡ streamed how bytes
 unfolding streamed
 streamed-cut how clock sum count carried bytes some is h = search (rules, arith, unrefused)
 
@@ -31,7 +36,8 @@ pub streamed-shown : (how : StreamSettings) (bytes : List ℕ) (fault : Fault)
 streamed-shown how bytes fault h = λ more. sym (streamed-refused how (bytes ++ more) fault (refused-bytes how bytes more fault h))
 
 -- and so does a piece that is refused
-pub fed-shown : {T : Type 0} (g : Ghosts T) (X : Type 0) (how : StreamSettings) (old new : T) (words bytes : List ℕ) (fault : Fault) → Fed g {X = X} how old new words (words_of bytes) (Err fault) → fault ≢ WriteFault → Shows (streamed how) bytes (Err fault)
+pub fed-shown : {T : Type 0} (g : Ghosts T) (X : Type 0) (how : StreamSettings) (old new : T) (words bytes : List ℕ) (fault : Fault)
+    → Fed g {X = X} how old new words (words_of bytes) (Err fault) → fault ≢ WriteFault → Shows (streamed how) bytes (Err fault)
 fed-shown g X how old new words bytes fault fed inside =
     ⊎_elim
     (λ (r : (record_refusal how (words_of bytes) ≡ Some fault) × GaveOn g how old new words (words_of bytes)). streamed-shown how bytes fault r.0)
@@ -43,13 +49,15 @@ pub given-count : (how : StreamSettings) (clock : Clock) (sum : Summary) (count 
 given-count how clock sum count settle carried refused bytes h none = search (rules, arith, given-clear)
 
 -- where no event is put in its place the greatest time is the clock's, and else that of the last event let go
-pub plain-greatest : (how : StreamSettings) (clock : Clock) (sum : Summary) (count : ℕ) (words : List ℕ) → how.policy.settle ≡ 0 → clock_mode clock ≡ how.mode → IsAt how clock sum count words → greatest_by clock ≡ floor_of how.mode (events_in how words)
+pub plain-greatest : (how : StreamSettings) (clock : Clock) (sum : Summary) (count : ℕ) (words : List ℕ) → how.policy.settle ≡ 0 → clock_mode clock ≡ how.mode
+    → IsAt how clock sum count words → greatest_by clock ≡ floor_of how.mode (events_in how words)
 plain-greatest how clock sum count words zero same h = search (rules, arith, delivered-0, floor_of-marked)
 
 pub some-settle : (k : ℕ) → (k == 0) ≡ false → k ≢ 0
 some-settle k is = λ zero. let e : (k == 0) ≡ true = rw zero refl in cc
 
-greatest_pick : (b : Bool) (how : StreamSettings) (clock : Clock) (sum : Summary) (count : ℕ) (settle : Settle) (words : List ℕ) → (how.policy.settle == 0) ≡ b → clock_mode clock ≡ how.mode → IsAt how clock sum count words → Settles how settle words
+greatest_pick : (b : Bool) (how : StreamSettings) (clock : Clock) (sum : Summary) (count : ℕ) (settle : Settle) (words : List ℕ) → (how.policy.settle == 0) ≡ b
+    → clock_mode clock ≡ how.mode → IsAt how clock sum count words → Settles how settle words
     → (if b then greatest_by clock else last_time settle) ≡ floor_of how.mode (events_in how words)
 greatest_pick b how clock sum count settle words is same h come = search (rules, arith, plain-greatest, eqb-true, some-settle)
 

@@ -1,10 +1,17 @@
 -- Events in order, of which none is late, and those that are let go with them.
-use Rattle.std.{proofs.Common.{rules}, proofs.Common.{◌≡◌, ◌≢◌, ◌+◌, ◌<◌, ◌≤◌, ℕ, List, [], ◌∷◌, ◌++◌, Bool, true, false, None, Some, length, map, refl, ap, subst, ◌∙◌, append_assoc, append-nil, arith, length-append, ◌&&◌, not, is_some, nat_lt, IfSome, IsTrue}, specs.Option.option_to_list, specs.List.{All}, specs.declared.option.Option.Option, proofs.lemmas.Bool.ne_eqb, proofs.lemmas.Bool.Decides.nat_tests, proofs.lemmas.List.map-append, proofs.lemmas.List.Elements.filter-append}
-use Rattle.tally_base.{specs.declared.event.Event.Event, specs.declared.header.Mode.Mode, specs.Events.is_ordered, specs.Tally.{moves_floor, floor_after, InOrder}, specs.Columns.rows, proofs.Floors.{order-at, order-parts}, proofs.BlockRows.rows-split}
-use Rattle.ptu_definitions.{specs.Kept.{Marked, floor_of, greatest}, specs.Settled.{delivered, is_overtaken, not_marked, ordered, put_in, settles}, specs.Streams.{StreamSettings, events_in}, specs.Times.events, proofs.DeliveredLaws.{delivered-append, delivered_after, delivered_after-ordered, not_marked-append, not_marked-false}, proofs.StreamLemmas.later}
-use Rattle.abs_time.{specs.Placing.IsSmall, specs.Floors.orders_markers, proofs.Floors.moves_by}
-use Rattle.record_stream.{specs.Blocks.{on_time, IsInLine, PlacesRise}, specs.Keeping.{CanWait, HasCome}, specs.LettingGo.{LetsGo, IsDelivered}, proofs.Steps.{on_time-push, in_line-event}, proofs.Gathering.{not_late, rows-at, floor_of-block}, proofs.Placed.not_late as not_late_by, proofs.Settles.{ordered-on, that_goes, those_waiting, count_waiting}}
-use Rattle.settle.{specs.Settling.told, specs.Standing.{HasSettled, kept_back, next_place, last_time, reach_of, was_popped}, specs.declared.settle.Settle.Settle, specs.Passing.place_after}
+use Rattle.std.proofs.Common.{rules, ◌≡◌, ◌≢◌, ◌+◌, ◌<◌, ◌≤◌, ℕ, List, [], ◌∷◌, ◌++◌, Bool, true, false, None, Some, length, map, refl, ap, subst, ◌∙◌}
+use Rattle.std.proofs.{Common.{append_assoc, append-nil, arith, length-append, ◌&&◌, not, is_some, nat_lt, IfSome, IsTrue}, lemmas.Bool.ne_eqb}
+use Rattle.std.{proofs.lemmas.{Bool.Decides.nat_tests, List.{map-append, Elements.filter-append}}, specs.{Option.option_to_list, List.All}}
+use Rattle.{std.specs.declared.option.Option.Option, tally_base.specs.{declared.{event.Event.Event, header.Mode.Mode}, Events.is_ordered, Tally.moves_floor}}
+use Rattle.tally_base.{specs.{Tally.{floor_after, InOrder}, Columns.rows}, proofs.{Floors.{order-at, order-parts}, BlockRows.rows-split}}
+use Rattle.ptu_definitions.specs.{Kept.{Marked, floor_of, greatest}, Settled.{delivered, is_overtaken, not_marked, ordered, put_in, settles}}
+use Rattle.ptu_definitions.{specs.{Streams.{StreamSettings, events_in}, Times.events}, proofs.DeliveredLaws.{delivered-append, delivered_after}}
+use Rattle.ptu_definitions.proofs.{DeliveredLaws.{delivered_after-ordered, not_marked-append, not_marked-false}, StreamLemmas.later}
+use Rattle.{abs_time.{specs.{Placing.IsSmall, Floors.orders_markers}, proofs.Floors.moves_by}, record_stream.specs.Blocks.{on_time, IsInLine, PlacesRise}}
+use Rattle.record_stream.{specs.{Keeping.{CanWait, HasCome}, LettingGo.{LetsGo, IsDelivered}}, proofs.{Steps.{on_time-push, in_line-event}, Gathering.not_late}}
+use Rattle.record_stream.proofs.{Gathering.{rows-at, floor_of-block}, Placed.not_late as not_late_by, Settles.{ordered-on, that_goes, those_waiting}}
+use Rattle.{record_stream.proofs.Settles.count_waiting, settle.specs.{Settling.told, Standing.{HasSettled, kept_back, next_place, last_time, reach_of}}}
+use Rattle.settle.specs.{Standing.was_popped, declared.settle.Settle.Settle, Passing.place_after}
 
 -- The greatest time of events in order.
 greatest-is : (mode : Mode) (es : List Event) → greatest mode es ≡ floor_of mode (on_time es)

@@ -1,10 +1,16 @@
 -- Events in order after all that are kept back, and those that are let go with them.
-use Rattle.std.{proofs.Common.{rules}, proofs.Common.{◌≡◌, ◌≢◌, ◌+◌, ◌-◌, ◌<◌, ◌≤◌, ℕ, suc, List, [], ◌∷◌, ◌++◌, true, false, drop, get_or, length, map, refl, sym, ap, subst, ◌∙◌, append_assoc, append-nil, arith, length-append}, specs.List.{All, AllByRecursion}, specs.List.Sorted.IsNonDecreasingBy, proofs.Math.Seq.drop-append_seam, proofs.lemmas.Bool.ne_eqb, proofs.lemmas.List.Elements.{All-tail, All-from_recursion, filter-append, recursion_from_All}}
-use Rattle.tally_base.{specs.declared.event.Event.Event, specs.declared.event.EventKind.TheVariants.Marker as MarkerEvent, specs.declared.header.Mode.Mode, specs.Events.is_ordered, specs.Tally.{moves_floor, floor_after, InOrder}, specs.Columns.rows, proofs.Floors.{order-lower, order-append, order-parts}, proofs.BlockRows.{length-rows, rows-split}}
-use Rattle.ptu_definitions.{specs.Layouts.KindFits, specs.Settled.{not_marked, ordered, Rises}, specs.Streams.{StreamSettings, events_in}, specs.Times.events, proofs.DeliveredLaws.{delivered-append}, proofs.SettledLemmas.IsNonDecreasingBy-Rises, proofs.SettlingLemmas.each-weaker}
-use Rattle.abs_time.{specs.Placing.placed_by, specs.Floors.orders_markers, proofs.Floors.moves_by}
-use Rattle.record_stream.{specs.Blocks.{PlacesRise}, specs.Keeping.{CanWait, IsKeeping}, specs.LettingGo.{AreOrdered, ComesNext, IsFull, LetsGo, IsDelivered}, specs.Walking.{how_of, greatest_of, clock_in}, specs.declared.walk.Walk.Walk, proofs.LettingGo.place-push}
-use Rattle.settle.{specs.Passing.{ComesBehind, ComesOn, HasPassed, next_after, place_after, time_after}, specs.Standing.{kept_back, next_place, last_time, reach_of, was_popped}, specs.declared.settle.Settle.Settle}
+use Rattle.std.proofs.Common.{rules, ◌≡◌, ◌≢◌, ◌+◌, ◌-◌, ◌<◌, ◌≤◌, ℕ, suc, List, [], ◌∷◌, ◌++◌, true, false, drop, get_or, length, map, refl, sym, ap, subst}
+use Rattle.std.proofs.{Common.{◌∙◌, append_assoc, append-nil, arith, length-append}, Math.Seq.drop-append_seam, lemmas.{Bool.ne_eqb, List.Elements.All-tail}}
+use Rattle.std.{proofs.lemmas.List.Elements.{All-from_recursion, filter-append, recursion_from_All}, specs.List.{All, AllByRecursion, Sorted.IsNonDecreasingBy}}
+use Rattle.tally_base.specs.{declared.{event.{Event.Event, EventKind.TheVariants.Marker as MarkerEvent}, header.Mode.Mode}, Events.is_ordered}
+use Rattle.tally_base.{specs.{Tally.{moves_floor, floor_after, InOrder}, Columns.rows}, proofs.Floors.{order-lower, order-append, order-parts}}
+use Rattle.{tally_base.proofs.BlockRows.{length-rows, rows-split}, ptu_definitions.specs.{Layouts.KindFits, Settled.{not_marked, ordered, Rises}}}
+use Rattle.ptu_definitions.{specs.{Streams.{StreamSettings, events_in}, Times.events}, proofs.DeliveredLaws.delivered-append}
+use Rattle.{ptu_definitions.proofs.{SettledLemmas.IsNonDecreasingBy-Rises, SettlingLemmas.each-weaker}, abs_time.specs.Placing.placed_by}
+use Rattle.{abs_time.{specs.Floors.orders_markers, proofs.Floors.moves_by}, record_stream.specs.{Blocks.PlacesRise, Keeping.{CanWait, IsKeeping}}}
+use Rattle.record_stream.specs.{LettingGo.{AreOrdered, ComesNext, IsFull, LetsGo, IsDelivered}, Walking.{how_of, greatest_of, clock_in}}
+use Rattle.{record_stream.{specs.declared.walk.Walk.Walk, proofs.LettingGo.place-push}, settle.specs.Passing.{ComesBehind, ComesOn, HasPassed, next_after}}
+use Rattle.settle.specs.{Passing.{place_after, time_after}, Standing.{kept_back, next_place, last_time, reach_of, was_popped}, declared.settle.Settle.Settle}
 
 -- Lists of which each event is in order.
 pub ordered-same : (mode : Mode) (es : List Event) → AreOrdered mode es → ordered mode es ≡ es
@@ -158,7 +164,8 @@ module _ (walk : Walk) (from : Settle) (came went stay : List Event) (settles : 
     place_is = place_is;
   }
 
-  pub lets_passed : (new : Settle) → kept_back new ≡ stay → length stay ≡ length (kept_back from) → last_time new ≡ time_after (last_time from) went → next_place new ≡ place_after low came + 1 → reach_of new ≡ reach_of from → was_popped new ≡ false
+  pub lets_passed : (new : Settle) → kept_back new ≡ stay → length stay ≡ length (kept_back from) → last_time new ≡ time_after (last_time from) went
+      → next_place new ≡ place_after low came + 1 → reach_of new ≡ reach_of from → was_popped new ≡ false
       → LetsGo mode low from new came went
   lets_passed new kept as_many time place reach unpopped =
       let count = rw (length-append, length-append) at (ap length joined) in

@@ -1,9 +1,13 @@
 -- What the clock's answer says of a word: its refusal and its event.
-use Rattle.std.{proofs.Common.{rules}, proofs.Common.{append-nil, ◌≡◌, ◌+◌, ◌<◌, ℕ, List, [], ◌∷◌, Bool, true, false, None, Some, Ok, Err, length, map, refl, sym, ap, ◌⊎◌, ⊎_elim, arith, ◌&&◌, ◌==◌, if◌then◌else◌}, specs.declared.option.Option.Option, specs.declared.result.Result.Result}
-use Rattle.tally_base.{specs.declared.event.Event.Event, specs.declared.fault.Fault.Fault, specs.declared.fault.Fault.TheVariants.{RecordLimit, ReservedRecord, BackwardTime}, specs.declared.header.Mode.Mode, specs.Events.{is_ordered, stops_late, stops_reserved}}
-use Rattle.ptu_definitions.{specs.declared.records.Raw.Raw, specs.declared.records.Raw.TheVariants.{Photon, Marker, Wrap, Reserved}, specs.Kinds.is_reserved, specs.Times.{event_after, events}, specs.Kept.{is_late, greatest, Marked}, specs.Settled.{is_late_by}, specs.Streams.{StreamSettings, refusal, late_refusal}, proofs.DeliveredLaws.{delivered_after, is_late-by}, proofs.StreamLemmas.fresh}
-use Rattle.abs_time.{specs.declared.clock.Placed.Placed, specs.declared.clock.Placed.TheVariants.Event as InOrder, specs.declared.clock.Placed.TheVariants.Late, specs.declared.clock.Placed.TheVariants.Wrap as WrapPlaced, specs.declared.clock.Placed.TheVariants.Reserved as ReservedPlaced, specs.Placing.place_answer}
-use Rattle.record_stream.{specs.Keeping.{tells, refused_for}, specs.Rows.refused_late}
+use Rattle.std.proofs.Common.{rules, append-nil, ◌≡◌, ◌+◌, ◌<◌, ℕ, List, [], ◌∷◌, Bool, true, false, None, Some, Ok, Err, length, map, refl, sym, ap, ◌⊎◌}
+use Rattle.std.{proofs.Common.{⊎_elim, arith, ◌&&◌, ◌==◌, if◌then◌else◌}, specs.declared.{option.Option.Option, result.Result.Result}}
+use Rattle.tally_base.specs.declared.{event.Event.Event, fault.Fault.{Fault, TheVariants.{RecordLimit, ReservedRecord, BackwardTime}}, header.Mode.Mode}
+use Rattle.{tally_base.specs.Events.{is_ordered, stops_late, stops_reserved}, ptu_definitions.specs.declared.records.Raw.{Raw, TheVariants.{Photon, Marker}}}
+use Rattle.ptu_definitions.specs.{declared.records.Raw.TheVariants.{Wrap, Reserved}, Kinds.is_reserved, Times.{event_after, events}, Kept.{is_late, greatest}}
+use Rattle.ptu_definitions.{specs.{Kept.Marked, Settled.is_late_by, Streams.{StreamSettings, refusal, late_refusal}}, proofs.DeliveredLaws.delivered_after}
+use Rattle.{ptu_definitions.proofs.{DeliveredLaws.is_late-by, StreamLemmas.fresh}, abs_time.specs.declared.clock.Placed.{Placed, TheVariants.Event as InOrder}}
+use Rattle.abs_time.specs.{declared.clock.Placed.TheVariants.{Late, Wrap as WrapPlaced, Reserved as ReservedPlaced}, Placing.place_answer}
+use Rattle.record_stream.specs.{Keeping.{tells, refused_for}, Rows.refused_late}
 
 -- the event of a placed record with its mark
 abbrev pub marks_of : Placed → Marked
@@ -114,14 +118,16 @@ by_top how before (InOrder x) e is so =
 by_top how before (Late x top) e is so = ap (late_if how (is_late_by how.policy.settle how.mode before e) e) (sym so.1)
 by_top how before p e is so = cc
 
-pub refused-placed : (how : StreamSettings) (before : List Raw) (raw : Raw) (p : Placed) (e : Event) → place_answer how.mode before raw ≡ Ok p → event_in p ≡ e ∷ [] → refused_late how before raw ≡ refused_for how (events before) e (top_in p)
+pub refused-placed : (how : StreamSettings) (before : List Raw) (raw : Raw) (p : Placed) (e : Event) → place_answer how.mode before raw ≡ Ok p
+    → event_in p ≡ e ∷ [] → refused_late how before raw ≡ refused_for how (events before) e (top_in p)
 refused-placed how before raw p e answer is = let c = comes how.mode before raw p answer in rw (c.0, is) (by_top how (events before) p e is c.1)
 
 tells-pick : (k : ℕ) (mode : Mode) (before : List Event) (e : Event) (z b : Bool) → (k == 0) ≡ z
     → is_ordered mode e ≡ b → delivered_after k mode before (e ∷ []) ≡ tells k mode before e
 tells-pick k mode before e z b none is = search (rules, arith, append-nil)
 
-pub fresh-placed : (how : StreamSettings) (ws : List ℕ) (raw : Raw) (p : Placed) (e : Event) → place_answer how.mode (map how.meaning ws) raw ≡ Ok p → event_in p ≡ e ∷ [] → fresh how ws raw ≡ tells how.policy.settle how.mode (events (map how.meaning ws)) e
+pub fresh-placed : (how : StreamSettings) (ws : List ℕ) (raw : Raw) (p : Placed) (e : Event) → place_answer how.mode (map how.meaning ws) raw ≡ Ok p
+    → event_in p ≡ e ∷ [] → fresh how ws raw ≡ tells how.policy.settle how.mode (events (map how.meaning ws)) e
 fresh-placed how ws raw p e answer is =
     rw ((comes how.mode (map how.meaning ws) raw p answer).0, is) (tells-pick how.policy.settle how.mode (events (map how.meaning ws)) e _ _ refl refl)
 

@@ -1,16 +1,21 @@
 -- The events that are kept back, given one after another at the end.
-use Rattle.std.{proofs.Common.{rules}, proofs.Common.{◌≡◌, ◌+◌, ◌≤◌, ℕ, List, [], ◌∷◌, ◌++◌, Bool, false, cond, Ok, Err, OnErr, IfErr, length, map, refl, sym, ap, subst, ◌∙◌, append_assoc, append-nil, arith, length-append, ◌==◌}, specs.List.All, specs.declared.result.Result.Result, proofs.lemmas.Bool.eqb-true, proofs.lemmas.List.{map-append, length-map, nil_from_length}, proofs.lemmas.List.Elements.All-tail}
-use Rattle.tally_base.{specs.declared.event.Event.Event, specs.declared.fault.Fault.Fault, specs.declared.fault.Fault.TheVariants.WriteFault, specs.FaultCounts.{FailsOnce, Rose}}
-use Rattle.ptu_definitions.{specs.Kept.Marked, specs.Settled.{delivered_last, in_time, last_of, marked_as, ordered}, specs.Streams.{StreamSettings, last_in}, specs.Times.events, proofs.DeliveredLaws.delivered_last-0, proofs.SettlingLemmas.waits-is}
-use Rattle.settle.{specs.Standing.{kept_back, reach_of, was_popped}, specs.declared.settle.Settle.Settle}
-use Rattle.record_stream.{specs.Ending.{GaveFirst, BrokeFirst}, specs.Feeding.Follows, specs.Keeping.{CanWait, Settles}, specs.Walking.{how_of, given_by, records_of, Notes, KeepsPlace}, specs.declared.taker.EventTaker.Ghosts, specs.declared.walk.Walk.Walk, proofs.Steps.on_time-push, proofs.Lasts.some-settle, proofs.Summaries.with_marks-append}
+use Rattle.std.proofs.Common.{rules, ◌≡◌, ◌+◌, ◌≤◌, ℕ, List, [], ◌∷◌, ◌++◌, Bool, false, cond, Ok, Err, OnErr, IfErr, length, map, refl, sym, ap, subst, ◌∙◌}
+use Rattle.std.proofs.{Common.{append_assoc, append-nil, arith, length-append, ◌==◌}, lemmas.{Bool.eqb-true, List.{map-append, length-map, nil_from_length}}}
+use Rattle.{std.{proofs.lemmas.List.Elements.All-tail, specs.{List.All, declared.result.Result.Result}}, tally_base.specs.declared.event.Event.Event}
+use Rattle.{tally_base.specs.{declared.fault.Fault.{Fault, TheVariants.WriteFault}, FaultCounts.{FailsOnce, Rose}}, ptu_definitions.specs.Kept.Marked}
+use Rattle.ptu_definitions.specs.{Settled.{delivered_last, in_time, last_of, marked_as, ordered}, Streams.{StreamSettings, last_in}, Times.events}
+use Rattle.{ptu_definitions.proofs.{DeliveredLaws.delivered_last-0, SettlingLemmas.waits-is}, settle.specs.Standing.{kept_back, reach_of, was_popped}}
+use Rattle.{settle.specs.declared.settle.Settle.Settle, record_stream.specs.{Ending.{GaveFirst, BrokeFirst}, Feeding.Follows, Keeping.{CanWait, Settles}}}
+use Rattle.record_stream.specs.{Walking.{how_of, given_by, records_of, Notes, KeepsPlace}, declared.{taker.EventTaker.Ghosts, walk.Walk.Walk}}
+use Rattle.record_stream.proofs.{Steps.on_time-push, Lasts.some-settle, Summaries.with_marks-append}
 
 -- all that is left begins with the event that is taken out
 pub parts_one : (all front left rest : List Event) (e : Event) → all ≡ front ++ left → left ≡ e ∷ rest → all ≡ (front ++ e ∷ []) ++ rest
 parts_one all front left rest e is first = is ∙ ap (λ l. front ++ l) first ∙ sym (append_assoc front (e ∷ []) rest)
 
 module _ {T : Type 0} (g : Ghosts T) (walk : Walk) (start : T) (all : List Event) where
-  pub gave_none : (last : ℕ) → given_by walk + length all ≤ records_of walk → Follows g (how_of walk).mode (given_by walk) last start → All (CanWait (how_of walk).mode) all → g.same start start → GaveFirst g walk start all walk start all last
+  pub gave_none : (last : ℕ) → given_by walk + length all ≤ records_of walk → Follows g (how_of walk).mode (given_by walk) last start
+      → All (CanWait (how_of walk).mode) all → g.same start start → GaveFirst g walk start all walk start all last
   gave_none last room follows fit same = search (rules, arith, append-nil)
 
   pub broke_one : {X : Type 0} (r : Result X Fault) (now : Walk) (taker new : T) (left rest : List Event) (last : ℕ) (e : Event)

@@ -1,10 +1,18 @@
 -- One event more where events are put in their places.
-use Rattle.std.{proofs.Common.{rules, IfSome, ◌≡◌, ◌+◌, ◌≤◌, ℕ, List, [], ◌∷◌, ◌++◌, Bool, true, false, cond, None, Some, Ok, Err, OnOk, OnErr, IfErr, length, length-append, map, sym, ap, ◌∙◌, append-nil, add-zero, arith, ◌&&◌, not, is_some, IsTrue, if◌then◌else◌, ◌≢◌, refl, ◌==◌}, specs.List.All, specs.Option.option_to_list, specs.declared.option.Option.Option, specs.declared.result.Result.Result, proofs.lemmas.List.map-append, proofs.lemmas.List.Elements.{filter-append, All-tail, All-from_recursion, recursion_from_All}, proofs.lemmas.Bool.{ne_eqb}}
-use Rattle.tally_base.{specs.declared.event.Event.Event, specs.declared.fault.Fault.Fault, specs.declared.fault.Fault.TheVariants.{WriteFault}, specs.declared.header.Mode.Mode, specs.Events.{is_ordered}, specs.FaultCounts.FailsOnce}
-use Rattle.ptu_definitions.{specs.Kept.{Marked, floor_of, is_late}, specs.Settled.{ordered, put_in, not_marked}, specs.Streams.{StreamSettings, events_in}, specs.Times.{event_after, events}, proofs.DeliveredLaws.{is_late_by-0, not_marked-append}, proofs.SettledLemmas.length-put_in, proofs.SettlingLemmas.each-put_in, proofs.StreamLemmas.{events-push, events_in-push, fresh}}
-use Rattle.abs_time.{specs.Placing.{mode_of as clock_mode, placed_by}, specs.Floors.moved_floor, proofs.Floors.moved_floor-push}
-use Rattle.record_stream.{specs.Keeping.{CanWait, Comes, IsKeeping, Settles, tells, refused_for}, specs.Settling.{Becomes, ComesUp, Judges, GoesBetween, floor_in, Tells, Told}, specs.Walking.{how_of, given_by, greatest_of, records_of, clock_in, Gave, KeepsPlace}, specs.declared.taker.EventTaker.Ghosts, specs.declared.walk.Walk.Walk, specs.Feeding.Follows}
-use Rattle.settle.{specs.Passing.{HasPushed, KeepsOrEmits, MovesTo, StandsBehind}, specs.Settling.told, specs.declared.settle.Settled.Settled, specs.Standing.{HasSettled, kept_back, next_place, last_time, reach_of, was_popped}, specs.declared.settle.Settle.Settle}
+use Rattle.std.proofs.Common.{rules, IfSome, ◌≡◌, ◌+◌, ◌≤◌, ℕ, List, [], ◌∷◌, ◌++◌, Bool, true, false, cond, None, Some, Ok, Err, OnOk, OnErr, IfErr, length}
+use Rattle.std.proofs.Common.{length-append, map, sym, ap, ◌∙◌, append-nil, add-zero, arith, ◌&&◌, not, is_some, IsTrue, if◌then◌else◌, ◌≢◌, refl, ◌==◌}
+use Rattle.std.{proofs.lemmas.{List.{map-append, Elements.{filter-append, All-tail, All-from_recursion, recursion_from_All}}, Bool.ne_eqb}, specs.List.All}
+use Rattle.{std.specs.{Option.option_to_list, declared.{option.Option.Option, result.Result.Result}}, tally_base.specs.declared.event.Event.Event}
+use Rattle.tally_base.specs.{declared.{fault.Fault.{Fault, TheVariants.WriteFault}, header.Mode.Mode}, Events.is_ordered, FaultCounts.FailsOnce}
+use Rattle.ptu_definitions.specs.{Kept.{Marked, floor_of, is_late}, Settled.{ordered, put_in, not_marked}, Streams.{StreamSettings, events_in}}
+use Rattle.ptu_definitions.{specs.Times.{event_after, events}, proofs.{DeliveredLaws.{is_late_by-0, not_marked-append}, SettledLemmas.length-put_in}}
+use Rattle.ptu_definitions.proofs.{SettlingLemmas.each-put_in, StreamLemmas.{events-push, events_in-push, fresh}}
+use Rattle.abs_time.{specs.{Placing.{mode_of as clock_mode, placed_by}, Floors.moved_floor}, proofs.Floors.moved_floor-push}
+use Rattle.record_stream.specs.{Keeping.{CanWait, Comes, IsKeeping, Settles, tells, refused_for}, Settling.{Becomes, ComesUp, Judges, GoesBetween, floor_in}}
+use Rattle.record_stream.specs.{Settling.{Tells, Told}, Walking.{how_of, given_by, greatest_of, records_of, clock_in, Gave, KeepsPlace}}
+use Rattle.{record_stream.specs.{declared.{taker.EventTaker.Ghosts, walk.Walk.Walk}, Feeding.Follows}, settle.specs.Passing.{HasPushed, KeepsOrEmits, MovesTo}}
+use Rattle.settle.specs.{Passing.StandsBehind, Settling.told, declared.settle.{Settled.Settled, Settle.Settle}, Standing.{HasSettled, kept_back, next_place}}
+use Rattle.settle.specs.Standing.{last_time, reach_of, was_popped}
 
 -- whether an event is in order, by the mode of the clock of a walk
 pub by_clock : (walk : Walk) (e : Event) (r : Bool) (mode : Mode) (b : Bool) → r ≡ is_ordered mode e
@@ -21,7 +29,8 @@ floor-most mode floor last e low time = search (rules, arith)
 not_marked-told : (e : Event) (late : Bool) (o : Option Event) → (late ≡ true → o ≡ None) → not_marked (told e late o) ≡ option_to_list o
 not_marked-told e late o none = search (rules, arith)
 
-greatest-push : (mode : Mode) (l : Marked) (e : Event) (late : Bool) (last now : ℕ) → now ≡ moved_floor mode last e late → (IsTrue (is_ordered mode e && not late) → last ≤ e.time) → last ≡ floor_of mode l → now ≡ floor_of mode (l ++ (e, late) ∷ [])
+greatest-push : (mode : Mode) (l : Marked) (e : Event) (late : Bool) (last now : ℕ) → now ≡ moved_floor mode last e late
+    → (IsTrue (is_ordered mode e && not late) → last ≤ e.time) → last ≡ floor_of mode l → now ≡ floor_of mode (l ++ (e, late) ∷ [])
 greatest-push mode l e late last now moved in_order is = moved ∙ moved_floor-push mode 0 last l e late (omega (arith, is)) in_order ∙ omega arith
 
 -- A late event lets none go.

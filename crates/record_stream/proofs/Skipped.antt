@@ -1,12 +1,17 @@
 -- Runs of reserved words.
-use Rattle.std.{proofs.Common.{rules, arith, ◌≡◌, ◌+◌, ◌<◌, ◌≤◌, ◌&&◌, ℕ, zero, suc, Bool, true, false, List, [], ◌∷◌, ◌++◌, Ok, cond, length, map, get_or, take, drop, replicate, take-append-drop, count_by, refl, sym, ap, subst, ◌∙◌, add-zero, append-nil, append_assoc}, specs.Int.{from_le_bytes, w32}, proofs.lemmas.Grind.common_steps, proofs.lemmas.Bool.Decides.nat_tests, proofs.lemmas.List.Sums.sum_by-cons, proofs.lemmas.List.{take_all, take-take, length-take-le, length-drop, length-map, get_or-take, get_or-drop}}
-use Rattle.tally_base.specs.{Events.stops_reserved, Limits.wrap_limit, declared.header.Mode.Mode}
-use Rattle.ptu_definitions.{specs.declared.records.Raw.Raw, specs.declared.records.Raw.TheVariants.Reserved, specs.Kinds.{is_reserved, counts_of}, specs.Settled.delivered, specs.Streams.{StreamSettings, events_in}, specs.Times.events, specs.Words.numbers}
-use Rattle.record_layout.{specs.declared.row.Row.Row, specs.Rowed.raw_of}
-use Rattle.abs_time.{specs.declared.clock.Clock.Clock, specs.Placing.{IsClock, LeadsOn, placed_by, base_of, greatest_by}, proofs.ClockLemmas.IsClock-reserved}
-use Rattle.lane_decode.specs.{declared.columns.Columns.Columns, InColumns.row_at}
-use Rattle.settle.specs.{declared.settle.Settle.Settle}
-use Rattle.record_stream.{specs.declared.taker.EventTaker.Ghosts, specs.declared.walk.Walk.Walk, specs.Blocks.{Adds, on_time}, specs.Feeding.Delivers, specs.Keeping.{Came, IsKeeping, StandsAt}, specs.Runs.{EndsReserved, IsBlock, LetsSkip, Skips, reserved_kinds}, specs.Settling.{HasTaken, floor_in}, specs.Walking.{how_of, given_by, greatest_of, records_of, clock_in, summary_in, Took, WalksOn}, proofs.Feeds.{delivers-both, took-more}, proofs.Settles.kept_on, proofs.Steps.{adds-push, block_at, block_fed}, proofs.Wraps.{numbers-more, both-numbers}}
+use Rattle.std.proofs.Common.{rules, arith, ◌≡◌, ◌+◌, ◌<◌, ◌≤◌, ◌&&◌, ℕ, zero, suc, Bool, true, false, List, [], ◌∷◌, ◌++◌, Ok, cond, length, map, get_or, take}
+use Rattle.std.proofs.Common.{drop, replicate, take-append-drop, count_by, refl, sym, ap, subst, ◌∙◌, add-zero, append-nil, append_assoc}
+use Rattle.std.proofs.lemmas.{Grind.common_steps, Bool.Decides.nat_tests, List.{Sums.sum_by-cons, take_all, take-take, length-take-le, length-drop, length-map}}
+use Rattle.{std.{proofs.lemmas.List.{get_or-take, get_or-drop}, specs.Int.{from_le_bytes, w32}}, tally_base.specs.{Events.stops_reserved, Limits.wrap_limit}}
+use Rattle.{tally_base.specs.declared.header.Mode.Mode, ptu_definitions.specs.{declared.records.Raw.{Raw, TheVariants.Reserved}, Kinds.is_reserved}}
+use Rattle.ptu_definitions.specs.{Kinds.counts_of, Settled.delivered, Streams.{StreamSettings, events_in}, Times.events, Words.numbers}
+use Rattle.{record_layout.specs.{declared.row.Row.Row, Rowed.raw_of}, abs_time.specs.{declared.clock.Clock.Clock, Placing.{IsClock, LeadsOn, placed_by}}}
+use Rattle.{abs_time.{specs.Placing.{base_of, greatest_by}, proofs.ClockLemmas.IsClock-reserved}, lane_decode.specs.declared.columns.Columns.Columns}
+use Rattle.{lane_decode.specs.InColumns.row_at, settle.specs.declared.settle.Settle.Settle, record_stream.specs.declared.taker.EventTaker.Ghosts}
+use Rattle.record_stream.specs.{declared.walk.Walk.Walk, Blocks.{Adds, on_time}, Feeding.Delivers, Keeping.{Came, IsKeeping, StandsAt}, Runs.EndsReserved}
+use Rattle.record_stream.specs.{Runs.{IsBlock, LetsSkip, Skips, reserved_kinds}, Settling.{HasTaken, Walks, floor_in}, Walking.{how_of, given_by, greatest_of}}
+use Rattle.record_stream.{specs.Walking.{records_of, clock_in, summary_in}, proofs.{Feeds.{delivers-both, walks-then}, Settles.kept_on, Steps.adds-push}}
+use Rattle.record_stream.proofs.{Steps.{block_at, block_fed}, Wraps.{numbers-more, both-numbers}}
 
 raw-reserved : (unit : ℕ) (row : Row) → 512 < row.code → raw_of unit row ≡ Reserved
 raw-reserved unit row high = grind (arith, common_steps, nat_tests, high)
@@ -70,7 +75,7 @@ lets-on {old} {new} {m = m} more same counted few lets = search (rules, arith)
 
 module _ {T : Type 0} (g : Ghosts T) {old new : Walk} (settle : Settle) (t : T) where
   -- The words that are skipped deliver nothing.
-  pub skip-delivers : (words : List (List ℕ)) → Skips old new (length words) → LetsSkip old (length words)
+  skip-delivers : (words : List (List ℕ)) → Skips old new (length words) → LetsSkip old (length words)
       → ((i : ℕ) → i < length words → (how_of old).meaning (from_le_bytes w32 (get_or words i [])) ≡ Reserved)
       → Delivers g {X = Unit {0}} (how_of old) (HasTaken old settle) (HasTaken new settle) t t (numbers words) (Ok tt)
   skip-delivers words skips lets each = delivers-both g (λ before h.
@@ -99,15 +104,16 @@ module _ {T : Type 0} (g : Ghosts T) {old new : Walk} (settle : Settle) (t : T) 
   pub records-skip : {many : ℕ} → Skips old new many → records_of new ≡ records_of old + many
   records-skip skips = ap (λ s. s.records) skips.summary
 
-  pub keeping-skip : {many : ℕ} → Skips old new many → IsKeeping old settle → IsKeeping new settle
+  keeping-skip : {many : ℕ} → Skips old new many → IsKeeping old settle → IsKeeping new settle
   keeping-skip skips keeps = search (rules, arith, kept_on)
 
   -- Words up to a place, and those that are skipped after them.
-  pub took-skip : {stood : List ℕ → Type 0} {first : Walk} {start : T} {meaning : ℕ → Raw} {unit : ℕ} {columns : Columns} {words : List (List ℕ)} (from to many : ℕ) → from + many ≡ to
-      → Took g stood (HasTaken old settle) first old (floor_in old settle) start t (numbers (take from words)) from → meaning ≡ (how_of old).meaning
-      → IsBlock meaning unit columns words → EndsReserved columns from to → LetsSkip old many → Skips old new many → g.same t t → g.same start t
-      → Took g stood (HasTaken new settle) first new (floor_in new settle) start t (numbers (take to words)) to
-  took-skip {meaning = meaning} {unit = unit} {columns = columns} {words = words} from to many sum took means block ends lets skips same all =
+  pub walks-skip : {begun : Settle} {first : Walk} {start : T} {meaning : ℕ → Raw} {unit : ℕ} {columns : Columns} {words : List (List ℕ)} (from to many : ℕ) → from + many ≡ to
+      → Walks g {X = Unit {0}} first old begun settle start t (numbers (take from words)) (Ok tt) → meaning ≡ (how_of old).meaning
+      → IsBlock meaning unit columns words → EndsReserved columns from to → LetsSkip old many → Skips old new many
+      → g.same t t → ((a b c : T) → g.same a b → g.same b c → g.same a c)
+      → Walks g {X = Unit {0}} first new begun settle start t (numbers (take to words)) (Ok tt)
+  walks-skip {meaning = meaning} {unit = unit} {columns = columns} {words = words} from to many sum walks means block ends lets skips same more =
       let run = drop from (take to words) in
       let inside : to ≤ length words = omega (arith, block.whole, ends.inside) in
       let count : length run ≡ many = omega (arith, length-drop from (take to words), length-take-le to words inside, sum) in
@@ -119,15 +125,16 @@ module _ {T : Type 0} (g : Ghosts T) {old new : Walk} (settle : Settle) (t : T) 
       ∙ raw-reserved unit (row_at columns (from + i)) (ends.reserved (from + i) (omega arith) below)) in
       let parts : numbers (take to words) ≡ numbers (take from words) ++ numbers run =
       both-numbers (take to words) (take from words) run (sym (take-append-drop from (take to words)) ∙ ap (λ l. l ++ run) (take-take from to words (omega (arith, sum)))) in
-      let delivers = skip-delivers run (rw count skips) (rw count lets) each in
-      let follows = took.goes_on.follows in
-      let goes_on : WalksOn g old new (floor_in new settle) t many = record {
-        follows = record {
-          mode_is = follows.mode_is ∙ ap (λ (x : StreamSettings). x.mode) (sym took.stays.same_how);
-          few = omega (arith, follows.few, skips.same_given);
-          before = omega (arith, follows.before, floor-kept skips);
+      let follows = walks.goes_on.follows in
+      walks-then g (numbers (take to words)) more parts walks (record {
+        delivers = skip-delivers run (rw count skips) (rw count lets) each;
+        goes_on = record {
+          follows = record {
+            mode_is = follows.mode_is ∙ ap (λ (x : StreamSettings). x.mode) (sym walks.stays.stays.same_how);
+            few = omega (arith, follows.few, skips.same_given);
+            before = omega (arith, follows.before, floor-kept skips);
+          };
+          counted = omega (arith, records-skip skips, length-map run (from_le_bytes w32), count);
         };
-        counted = records-skip skips;
-      } in
-      took-more g took (numbers (take to words)) to parts (sym sum) delivers goes_on
-      (record { same_how = skips.same_how; later = omega arith; same = same }) all
+        stays = record { stays = record { same_how = skips.same_how; later = omega arith; same = same }; keeps = keeping-skip skips walks.stays.keeps };
+      })

@@ -1,9 +1,21 @@
 -- One word more.
-use Rattle.std.{proofs.Common.{rules, ◌≡◌, ◌+◌, ◌<◌, ℕ, List, [], ◌∷◌, ◌++◌, false, None, Some, Ok, Err, OnOk, OnErr, IfOk, IfErr, length, map, refl, sym, ap, subst, ◌∙◌, append-nil, add-zero, arith, length-append, ◌&&◌, ◌≤◌, true, is_err, ◌^◌, max, append_assoc, IsTrue, if◌then◌else◌}, specs.declared.result.Result.Result, proofs.lemmas.List.{map-append, map_push}, proofs.lemmas.List.Elements.All-push}
-use Rattle.tally_base.{specs.declared.event.Event.Event, specs.declared.fault.Fault.Fault, specs.FaultCounts.{Rose}, specs.Events.{stops_reserved, is_ordered}, specs.declared.header.Mode.Mode, specs.Tally.floor_after, proofs.Floors.{floor-lower, floor-push, order-push}, specs.declared.header.Mode.TheVariants.{T2, T3}, specs.Limits.{time_limit, wrap_limit}}
-use Rattle.ptu_definitions.{specs.declared.records.Summary.Summary, specs.declared.records.Raw.Raw, specs.Kept.{Marked, ordered_time}, specs.Streams.{StreamSettings, refusal, refusals, record_refusal, given, events_in}, proofs.StreamLemmas.{fresh, events_in-push, clear-push, refused-push, given-clear, given-refused, events-push}, specs.Kinds.{is_reserved, counts_of}, specs.declared.records.KindCounts.KindCounts, specs.declared.records.Raw.TheVariants.{Photon, Marker, Wrap, Reserved}, specs.Times.{event_of, amount}, specs.Layouts.{Fits, KindFits}}
-use Rattle.abs_time.{specs.declared.clock.Clock.Clock, specs.declared.clock.Placed.Placed, specs.Placing.{HasPlaced, place_answer, mode_of, placed_by, base_of, greatest_by, IsClock, against}, specs.Floors.orders_markers, specs.declared.clock.Placed.TheVariants.{Event as InOrderPlaced, Wrap as WrapPlaced, Reserved as ReservedPlaced}, proofs.ClockLemmas.{IsClock-photon, IsClock-marker, IsClock-wrap, IsClock-reserved, answer-photon, answer-marker, answer-wrap, answer-reserved}, proofs.Floors.moves_by}
-use Rattle.record_stream.{specs.Rows.{IsPlaced}, specs.Walking.{how_of, given_by, summary_in, clock_in, IsBehind, KeepsPlace}, proofs.Placed.{refusal-ok, refusal-err, event_in, marks_of, fresh-plain, skipped-refusal, skipped-fresh, IsEarly, comes, refused-early}, specs.declared.taker.EventTaker.Ghosts, specs.Feeding.{IsAt, GaveOn, BrokeOn, Fed}, specs.OneMore.{with_raw, with_marks, with_block}, specs.declared.walk.Walk.Walk, proofs.Summaries.{so_far-push, so_far-records, so_far-more}, specs.Blocks.{on_time, Adds, BrokeAmong, greatest_with, IsOnTime, IsInLine, PlacesRise, RisesWithin}}
+use Rattle.std.proofs.Common.{rules, ◌≡◌, ◌+◌, ◌<◌, ℕ, List, [], ◌∷◌, ◌++◌, false, None, Some, Ok, Err, OnOk, OnErr, IfOk, IfErr, length, map, refl, sym, ap}
+use Rattle.std.proofs.Common.{subst, ◌∙◌, append-nil, add-zero, arith, length-append, ◌&&◌, ◌≤◌, true, is_err, ◌^◌, max, append_assoc, IsTrue, if◌then◌else◌}
+use Rattle.std.{proofs.lemmas.List.{map-append, map_push, Elements.All-push}, specs.declared.result.Result.Result}
+use Rattle.tally_base.specs.{declared.{event.Event.Event, fault.Fault.Fault, header.Mode.{Mode, TheVariants.{T2, T3}}}, FaultCounts.Rose, Events.stops_reserved}
+use Rattle.tally_base.{specs.{Events.is_ordered, Tally.floor_after, Limits.{time_limit, wrap_limit}}, proofs.Floors.{floor-lower, floor-push, order-push}}
+use Rattle.ptu_definitions.specs.declared.records.{Summary.Summary, Raw.{Raw, TheVariants.{Photon, Marker, Wrap, Reserved}}, KindCounts.KindCounts}
+use Rattle.ptu_definitions.specs.{Kept.{Marked, ordered_time}, Streams.{StreamSettings, refusal, refusals, record_refusal, given, events_in}, Kinds.is_reserved}
+use Rattle.ptu_definitions.{specs.{Kinds.counts_of, Times.{event_of, amount}, Layouts.{Fits, KindFits}}, proofs.StreamLemmas.{fresh, events_in-push}}
+use Rattle.{ptu_definitions.proofs.StreamLemmas.{clear-push, refused-push, given-clear, given-refused, events-push}, abs_time.specs.declared.clock.Clock.Clock}
+use Rattle.abs_time.specs.declared.clock.Placed.{Placed, TheVariants.{Event as InOrderPlaced, Wrap as WrapPlaced, Reserved as ReservedPlaced}}
+use Rattle.abs_time.specs.{Placing.{HasPlaced, place_answer, mode_of, placed_by, base_of, greatest_by, IsClock, against}, Floors.orders_markers}
+use Rattle.abs_time.proofs.ClockLemmas.{IsClock-photon, IsClock-marker, IsClock-wrap, IsClock-reserved, answer-photon, answer-marker, answer-wrap}
+use Rattle.{abs_time.proofs.{ClockLemmas.answer-reserved, Floors.moves_by}, record_stream.specs.{Rows.IsPlaced, Walking.{how_of, given_by, summary_in}}}
+use Rattle.record_stream.specs.{Walking.{clock_in, IsBehind, KeepsPlace}, declared.{taker.EventTaker.Ghosts, walk.Walk.Walk}, Feeding.{IsAt, GaveOn, BrokeOn}}
+use Rattle.record_stream.specs.{Feeding.Fed, OneMore.{with_raw, with_marks, with_block}, Blocks.{on_time, Adds, BrokeAmong, greatest_with, IsOnTime, IsInLine}}
+use Rattle.record_stream.{specs.Blocks.{PlacesRise, RisesWithin}, proofs.Placed.{refusal-ok, refusal-err, event_in, marks_of, fresh-plain, skipped-refusal}}
+use Rattle.record_stream.proofs.{Placed.{skipped-fresh, IsEarly, comes, refused-early}, Summaries.{so_far-push, so_far-records, so_far-more}}
 use Rattle.settle.specs.Passing.{place_after}
 
 -- as many records as words
@@ -12,11 +24,13 @@ pub records-is : (how : StreamSettings) (clock : Clock) (sum : Summary) (count :
 records-is how clock sum count ws h = ap (λ (s : Summary). s.records) h.summary ∙ so_far-records how ws
 
 -- what the clock's answer says of a word
-pub word_refused : (how : StreamSettings) (ws : List ℕ) (w n : ℕ) (raw : Raw) (r : Result Placed Fault) → n ≡ length (map how.meaning ws) → n < how.policy.records → raw ≡ how.meaning w → (is_reserved raw && stops_reserved how.policy.reserved) ≡ false
+pub word_refused : (how : StreamSettings) (ws : List ℕ) (w n : ℕ) (raw : Raw) (r : Result Placed Fault) → n ≡ length (map how.meaning ws)
+    → n < how.policy.records → raw ≡ how.meaning w → (is_reserved raw && stops_reserved how.policy.reserved) ≡ false
     → r ≡ place_answer how.mode (map how.meaning ws) raw → IfErr r (λ fault. refusal how ws w ≡ Some fault)
 word_refused how ws w n raw r is room means go answers = search (rules, arith, refusal-err)
 
-pub word_placed : (old new : Walk) (ws : List ℕ) (w n : ℕ) (raw : Raw) (r : Result Placed Fault) → n ≡ length (map (how_of old).meaning ws) → n < (how_of old).policy.records → raw ≡ (how_of old).meaning w → (is_reserved raw && stops_reserved (how_of old).policy.reserved) ≡ false
+pub word_placed : (old new : Walk) (ws : List ℕ) (w n : ℕ) (raw : Raw) (r : Result Placed Fault) → n ≡ length (map (how_of old).meaning ws)
+    → n < (how_of old).policy.records → raw ≡ (how_of old).meaning w → (is_reserved raw && stops_reserved (how_of old).policy.reserved) ≡ false
     → r ≡ place_answer (how_of old).mode (map (how_of old).meaning ws) raw → OnOk r (HasPlaced (clock_in new) (map (how_of old).meaning ws ++ raw ∷ [])) → summary_in new ≡ with_raw (summary_in old) raw → IfOk r (IsPlaced old new ws w)
 word_placed old new ws w n raw (Err fault) is room means go answers clock sum = tt
 word_placed old new ws w n raw (Ok p) is room means go answers clock sum = record {

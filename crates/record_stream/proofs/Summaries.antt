@@ -1,9 +1,12 @@
 -- The summary grows: by a record and its events, by a block, and by what is delivered at the end.
-use Rattle.std.proofs.Common.{rules}
-use Rattle.std.{proofs.Common.{◌≡◌, ◌+◌, ◌-◌, ◌<◌, ℕ, List, [], ◌∷◌, ◌++◌, Bool, true, false, Some, None, cond, length, map, refl, sym, ap, ◌∙◌, arith, length-append, add-zero, zero-add, count_by, if◌then◌else◌}, specs.declared.option.Option.Option, proofs.lemmas.List.map-append, proofs.lemmas.List.Sums.{sum_by-append, sum_by_push}}
-use Rattle.tally_base.{specs.declared.event.Event.Event, specs.Columns.rows, proofs.BlockRows.{rows-first, rows-last}}
-use Rattle.ptu_definitions.{specs.declared.records.KindCounts.KindCounts, specs.declared.records.Raw.Raw, specs.declared.records.Summary.Summary, specs.Kinds.{counts_of}, specs.Kept.Marked, specs.Prefixes.{first, last_after}, specs.Settled.{delivered, delivered_last, kept_by, late_by, not_marked, those_marked}, specs.Streams.{StreamSettings, events_in, last_in, summary, time_of}, specs.Times.events, proofs.DeliveredLaws.{delivered-kept, delivered-late, delivered_last-late}, proofs.StreamLemmas.{events_in-push, fresh}}
-use Rattle.record_stream.{specs.OneMore.{with_raw, with_event, with_marks, with_block, first_with, last_with, or_time, eventless, so_far, time_if}, specs.Blocks.on_time}
+use Rattle.std.proofs.Common.{rules, ◌≡◌, ◌+◌, ◌-◌, ◌<◌, ℕ, List, [], ◌∷◌, ◌++◌, Bool, true, false, Some, None, cond, length, map, refl, sym, ap, ◌∙◌, arith}
+use Rattle.std.proofs.{Common.{length-append, add-zero, zero-add, count_by, if◌then◌else◌}, lemmas.List.{map-append, Sums.{sum_by-append, sum_by_push}}}
+use Rattle.{std.specs.declared.option.Option.Option, tally_base.{specs.{declared.event.Event.Event, Columns.rows}, proofs.BlockRows.{rows-first, rows-last}}}
+use Rattle.ptu_definitions.specs.{declared.records.{KindCounts.KindCounts, Raw.Raw, Summary.Summary}, Kinds.counts_of, Kept.Marked, Prefixes.first}
+use Rattle.ptu_definitions.specs.{Prefixes.last_after, Settled.{delivered, delivered_last, kept_by, late_by, not_marked, those_marked}, Streams.StreamSettings}
+use Rattle.ptu_definitions.{specs.{Streams.{events_in, last_in, summary, time_of}, Times.events}, proofs.DeliveredLaws.{delivered-kept, delivered-late}}
+use Rattle.{ptu_definitions.proofs.{DeliveredLaws.delivered_last-late, StreamLemmas.{events_in-push, fresh}}, record_stream.specs.OneMore.with_raw}
+use Rattle.record_stream.specs.{OneMore.{with_event, with_marks, with_block, first_with, last_with, or_time, eventless, so_far, time_if}, Blocks.on_time}
 
 pub with_marks-append : (s : Summary) (a b : Marked) → with_marks s (a ++ b) ≡ with_marks (with_marks s a) b
 with_marks-append s [] b = refl

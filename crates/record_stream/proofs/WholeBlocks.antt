@@ -1,11 +1,17 @@
 -- What is gathered of a whole block.
-use Rattle.std.{proofs.Common.{rules, ◌≡◌, ◌+◌, ◌*◌, ◌-◌, ◌^◌, ◌<◌, ◌≤◌, ◌++◌, [], ◌∷◌, ℕ, zero, suc, Bool, true, false, List, Option, Some, None, length, map, take, get_or, cond, nat_lt, unwrap_or, count_by, IfSome, refl, sym, ap, subst, ◌∙◌, append-nil, length-append, arith, slice_index, ⊎_elim, inl, inr, ◌⊎◌}, specs.Option.option_or, specs.Prelude.{if◌then◌else◌}, specs.Int.{from_le_bytes, w32}, proofs.lemmas.Grind.common_steps, proofs.lemmas.Bool.{cases_Bool, ltb-true}, proofs.lemmas.Bool.Decides.nat_tests, proofs.lemmas.List.{map-append, length-map, take_all}}
-use Rattle.ptu_definitions.{specs.declared.records.Raw.Raw, specs.declared.records.KindCounts.KindCounts, specs.Kinds.{is_photon, is_marker, counts_of}, specs.Times.amount, specs.Words.numbers}
-use Rattle.tally_base.{specs.declared.event.Event.Event, specs.declared.header.Mode.Mode, specs.declared.header.Mode.TheVariants.{T2, T3}, specs.Limits.wrap_limit, specs.Tally.{moves_floor, floor_after}, proofs.Floors.floor-push}
-use Rattle.abs_time.{specs.declared.clock.Clock.Clock, specs.Placing.{placed_by, base_of}, specs.Floors.orders_markers}
-use Rattle.record_layout.{specs.declared.row.Row.Row, specs.Rowed.raw_of, proofs.KindLemmas.count-more}
-use Rattle.lane_decode.{specs.declared.columns.Columns.Columns, specs.InColumns.{HasRows, row_at, wraps_at, sum_to, time_in, before, Rises}, specs.Staying.{stays, staying, event_in}, proofs.Chosen.{place-more, few-staying as few-stay}, proofs.Added.sum-more}
-use Rattle.record_stream.{specs.OneMore.{first_with, last_with, or_time, time_if}, specs.Whole.{events_below, last_below, last_time}, specs.Rows.{ordered_below, gathered_below, event_below, greatest_with_row}, specs.Walking.{how_of, greatest_of, clock_in, Gathers, LetsPass}, specs.declared.walk.Walk.Walk, proofs.Gathering.{gathers-none, small, gathers-row, count_by-meanings}, proofs.Summaries.last_with-push}
+use Rattle.std.proofs.Common.{rules, ◌≡◌, ◌+◌, ◌*◌, ◌-◌, ◌^◌, ◌<◌, ◌≤◌, ◌++◌, [], ◌∷◌, ℕ, zero, suc, Bool, true, false, List, Option, Some, None, length, map}
+use Rattle.std.proofs.Common.{take, get_or, cond, nat_lt, unwrap_or, count_by, IfSome, refl, sym, ap, subst, ◌∙◌, append-nil, length-append, arith, slice_index}
+use Rattle.std.proofs.{Common.{⊎_elim, inl, inr, ◌⊎◌}, lemmas.{Grind.common_steps, Bool.{cases_Bool, ltb-true, Decides.nat_tests}, List.map-append}}
+use Rattle.std.{proofs.lemmas.List.{length-map, take_all}, specs.{Option.option_or, Prelude.if◌then◌else◌, Int.{from_le_bytes, w32}}}
+use Rattle.ptu_definitions.specs.{declared.records.{Raw.Raw, KindCounts.KindCounts}, Kinds.{is_photon, is_marker, counts_of}, Times.amount, Words.numbers}
+use Rattle.tally_base.specs.{declared.{event.Event.Event, header.Mode.{Mode, TheVariants.{T2, T3}}}, Limits.wrap_limit, Tally.{moves_floor, floor_after}}
+use Rattle.{tally_base.proofs.Floors.floor-push, abs_time.specs.{declared.clock.Clock.Clock, Placing.{placed_by, base_of}, Floors.orders_markers}}
+use Rattle.{record_layout.{specs.{declared.row.Row.Row, Rowed.raw_of}, proofs.KindLemmas.count-more}, lane_decode.specs.declared.columns.Columns.Columns}
+use Rattle.lane_decode.specs.{InColumns.{HasRows, row_at, wraps_at, sum_to, time_in, before, Rises}, Staying.{stays, staying, event_in}}
+use Rattle.{lane_decode.proofs.{Chosen.{place-more, few-staying as few-stay}, Added.sum-more}, record_stream.specs.OneMore.{first_with, last_with, or_time}}
+use Rattle.record_stream.specs.{OneMore.time_if, Whole.{events_below, last_below, last_time}, Rows.{ordered_below, gathered_below, event_below}}
+use Rattle.record_stream.specs.{Rows.greatest_with_row, Walking.{how_of, greatest_of, clock_in, Gathers, LetsPass}, declared.walk.Walk.Walk}
+use Rattle.record_stream.proofs.{Gathering.{gathers-none, small, gathers-row, count_by-meanings}, Summaries.last_with-push}
 
 -- the codes below which events in order are, and events are
 below-few : (only : Bool) (mode : Mode) → (ordered_below mode ≤ gathered_below only mode) × (gathered_below only mode ≤ 512)

@@ -1,7 +1,9 @@
 -- How much one wrap adds at most.
-use Rattle.std.{proofs.Common.{rules, ◌<◌, ◌^◌, ℕ, Bool, arith, ◌≡◌, ◌+◌, List, [], ◌∷◌, ◌++◌, Some, length, take, drop, get_or, take-append-drop, refl, sym, ap, ◌∙◌, append_assoc}, proofs.lemmas.Grind.common_steps, proofs.lemmas.Bool.Decides.nat_tests, specs.Int.{from_le_bytes, w32}, proofs.lemmas.List.{take_more, map-append}}
-use Rattle.tally_base.{specs.declared.header.RecordType.RecordType, specs.declared.fault.Fault.Fault}
-use Rattle.ptu_definitions.{specs.Layouts.{pico_t2, pico_t3, hydra_t2, hydra_t3, meaning_of}, specs.Times.amount, specs.Words.{words_of, rest_of, numbers}, proofs.WordsLemmas.{words_of-append, rest_of-append}, specs.Streams.{StreamSettings, record_refusal}, proofs.StreamLemmas.refused-more}
+use Rattle.std.proofs.Common.{rules, ◌<◌, ◌^◌, ℕ, Bool, arith, ◌≡◌, ◌+◌, List, [], ◌∷◌, ◌++◌, Some, length, take, drop, get_or, take-append-drop, refl, sym, ap}
+use Rattle.std.{proofs.{Common.{◌∙◌, append_assoc}, lemmas.{Grind.common_steps, Bool.Decides.nat_tests, List.{take_more, map-append}}}, specs.Int.from_le_bytes}
+use Rattle.{std.specs.Int.w32, tally_base.specs.declared.{header.RecordType.RecordType, fault.Fault.Fault}, ptu_definitions.specs.Layouts.{pico_t2, pico_t3}}
+use Rattle.ptu_definitions.specs.{Layouts.{hydra_t2, hydra_t3, meaning_of}, Times.amount, Words.{words_of, rest_of, numbers}, Streams.StreamSettings}
+use Rattle.ptu_definitions.{specs.Streams.record_refusal, proofs.{WordsLemmas.{words_of-append, rest_of-append}, StreamLemmas.refused-more}}
 
 pico_t2-small : (word : ℕ) → amount (pico_t2 word) < 2 ^ 50
 unfolding pico_t2

@@ -1,9 +1,8 @@
 -- What words add of which none is refused and no event is late.
 use Rattle.std.specs.Prelude.{ℕ, ◌≡◌, ◌<◌, ◌≤◌, IsTrue, true, false, Bool, List, [], ◌∷◌, ◌++◌, All, length, map, if◌then◌else◌}
-use Rattle.tally_base.{specs.declared.event.Event.Event, specs.declared.header.Mode.Mode, specs.Events.is_ordered, specs.Tally.{floor_after, InOrder}}
-use Rattle.ptu_definitions.{specs.Kept.{Marked, floor_of}, specs.Layouts.KindFits, specs.Settled.{ordered, not_marked}, specs.Streams.{StreamSettings, refusals, events_in}, specs.Times.events}
-use Rattle.abs_time.{specs.Placing.IsClock, specs.Floors.orders_markers}
-use Rattle.settle.specs.Passing.{place_after}
+use Rattle.tally_base.specs.{declared.{block.Block.Block, event.Event.Event, header.Mode.Mode}, Columns.{sorted, gathered}, Events.is_ordered, Tally.{floor_after, InOrder}}
+use Rattle.ptu_definitions.specs.{Kept.{Marked, floor_of}, Layouts.KindFits, Settled.{ordered, not_marked}, Streams.{StreamSettings, refusals, events_in}, Times.events}
+use Rattle.{abs_time.specs.{Placing.IsClock, Floors.orders_markers}, settle.specs.Passing.place_after}
 
 -- the events, none of them late
 abbrev pub on_time : List Event → Marked
@@ -30,6 +29,11 @@ pub record BrokeAmong {T : Type 0} (got broke : T → T → Marked → Type 0) (
   pub some : 0 < length front
   pub are : es ≡ front ++ back
   pub broken : (start : T) (l : Marked) → got start old l → broke start new (l ++ on_time front)
+
+-- These events were put after those of a block.
+pub record PutsAfter {N : ℕ} (old new : Block N) (es : List Event) : Type 0 where
+  pub more : gathered new ≡ gathered old ++ es
+  pub unsorted : sorted new ≡ sorted old
 
 -- the greatest time of the events in order, with these, at most one and not late
 abbrev pub greatest_with : Mode → ℕ → List Event → ℕ

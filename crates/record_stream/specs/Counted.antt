@@ -1,7 +1,6 @@
 -- Events that are only counted.
 use Rattle.std.{specs.Prelude.{ℕ, ◌≡◌, ◌+◌, [], length, max, refl}, proofs.Common.arith}
-use Rattle.tally_base.specs.declared.header.Mode.{Mode}
-use Rattle.ptu_definitions.specs.Kept.{Marked, floor_of}
+use Rattle.{tally_base.specs.declared.header.Mode.Mode, ptu_definitions.specs.Kept.{Marked, floor_of}}
 
 -- These came more.
 pub record HasCounted (mode mode' : Mode) (taken taken' floor floor' : ℕ) (l : Marked) : Type 0 where

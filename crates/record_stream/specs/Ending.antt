@@ -1,8 +1,8 @@
 -- What the end of a stream does.
-use Rattle.std.{specs.Prelude.{ℕ, ◌≡◌, ◌+◌, ◌<◌, ◌≤◌, false, List, [], ◌++◌, length, Result, Ok, Err, ◌⊎◌}, specs.List.All}
-use Rattle.tally_base.{specs.declared.event.Event.Event, specs.declared.fault.Fault.Fault, specs.declared.fault.Fault.TheVariants.WriteFault, specs.FaultCounts.Rose}
-use Rattle.ptu_definitions.{specs.declared.records.Summary.Summary, specs.Kept.Marked, specs.Settled.marked_as, specs.Streams.{StreamSettings, last_in, streamed}, specs.Words.{words_of, rest_of}}
-use Rattle.record_stream.{specs.Keeping.CanWait, specs.OneMore.with_marks, specs.Walking.{how_of, given_by, records_of, summary_in}, specs.declared.taker.EventTaker.Ghosts, specs.declared.walk.Walk.Walk}
+use Rattle.std.specs.{Prelude.{ℕ, ◌≡◌, ◌+◌, ◌<◌, ◌≤◌, false, List, [], ◌++◌, length, Result, Ok, Err, ◌⊎◌}, List.All}
+use Rattle.{tally_base.specs.{declared.{event.Event.Event, fault.Fault.{Fault, TheVariants.WriteFault}}, FaultCounts.Rose}, ptu_definitions.specs.{declared.records.Summary.Summary, Kept.Marked}}
+use Rattle.{ptu_definitions.specs.{Settled.marked_as, Streams.{StreamSettings, last_in, streamed}, Words.{words_of, rest_of}}, record_stream.specs.{Keeping.CanWait, OneMore.with_marks}}
+use Rattle.record_stream.specs.{Walking.{how_of, given_by, records_of, summary_in}, declared.{taker.EventTaker.Ghosts, walk.Walk.Walk}}
 
 module _ {T : Type 0} (g : Ghosts T) where
   -- The taker got the first of the events that were kept back, and the rest can be given.

@@ -1,9 +1,8 @@
 -- What a taker is given by words that come after others.
 use Rattle.std.specs.Prelude.{ℕ, ◌≡◌, ◌+◌, ◌<◌, ◌≤◌, List, [], ◌++◌, length, map, None, Some, Result, Ok, Err, OnOk, ◌⊎◌}
-use Rattle.ptu_definitions.{specs.declared.records.Summary.Summary, specs.Kept.Marked, specs.Words.words_of, specs.Streams.{StreamSettings, refusals, record_refusal, given, events_in}}
-use Rattle.tally_base.{specs.declared.fault.Fault.Fault, specs.declared.fault.Fault.TheVariants.WriteFault, specs.declared.header.Mode.Mode, specs.FaultCounts.Rose, specs.declared.event.Event.Event, specs.Limits.record_limit, specs.Tally.InOrder}
-use Rattle.abs_time.{specs.declared.clock.Clock.Clock, specs.Placing.HasPlaced, specs.Floors.orders_markers}
-use Rattle.record_stream.{specs.Blocks.{on_time, AllFit}, specs.OneMore.so_far, specs.declared.taker.EventTaker.Ghosts}
+use Rattle.ptu_definitions.specs.{declared.records.Summary.Summary, Kept.Marked, Words.words_of, Streams.{StreamSettings, refusals, record_refusal, given, events_in}}
+use Rattle.tally_base.specs.{declared.{fault.Fault.{Fault, TheVariants.WriteFault}, header.Mode.Mode, event.Event.Event}, FaultCounts.{FailsOnce, Rose}, Limits.record_limit, Tally.InOrder}
+use Rattle.{abs_time.specs.{declared.clock.Clock.Clock, Placing.HasPlaced, Floors.orders_markers}, record_stream.specs.{Blocks.{on_time, AllFit}, OneMore.so_far, declared.taker.EventTaker.Ghosts}}
 
 -- Where a stream stands that took these words and refused none.
 pub record IsAt (how : StreamSettings) (clock : Clock) (sum : Summary) (count : ℕ) (words : List ℕ) : Type 0 where
@@ -25,6 +24,11 @@ module _ {T : Type 0} (g : Ghosts T) where
     pub room : g.taken taker + length es ≤ record_limit
     pub fit : AllFit mode es
     pub in_order : InOrder (orders_markers mode) (g.floor taker) es
+
+  -- Whatever a taker answers, it keeps what a call leaves as it is, and counts one fault more where it fails.
+  pub record WasCalled {X E : Type 0} (old new : T) (answer : Result X E) : Type 0 where
+    pub cause : FailsOnce (g.faults old) (g.faults new) answer
+    pub same : g.same old new
 
   -- It was given them.
   pub record WasGiven (old new : T) (es : List Event) : Type 0 where

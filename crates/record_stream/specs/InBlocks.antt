@@ -1,9 +1,8 @@
 -- A taker with the events that it is given next.
-use Rattle.std.{specs.Prelude.{ℕ, ◌≡◌, ◌+◌, ◌<◌, ◌≤◌, ◌⊎◌, List, [], ◌++◌, length, max, refl}, proofs.Common.{inl, append-nil, arith}}
-use Rattle.tally_base.{specs.declared.event.Event.Event, specs.declared.block.Block.Block, specs.Columns.{sorted, gathered}, specs.Limits.record_limit, specs.Tally.{floor_after, InOrder}}
-use Rattle.ptu_definitions.specs.Kept.{Marked, floor_of}
-use Rattle.abs_time.specs.Floors.{orders_markers}
-use Rattle.record_stream.{specs.Blocks.{on_time, AllFit, AreAlike, LetsLatePass}, specs.declared.taker.EventTaker.Ghosts}
+use Rattle.std.{specs.Prelude.{ℕ, ◌≡◌, ◌+◌, ◌<◌, ◌≤◌, ◌⊎◌, List, [], ◌++◌, length, max, Result, OnOk, OnErr, refl}, proofs.Common.{inl, append-nil, arith}}
+use Rattle.tally_base.specs.{declared.{event.Event.Event, block.Block.Block}, Columns.{sorted, gathered}, FaultCounts.FailsOnce, Limits.record_limit, Tally.{floor_after, InOrder}}
+use Rattle.{ptu_definitions.specs.Kept.{Marked, floor_of}, abs_time.specs.Floors.orders_markers, record_stream.specs.Blocks.{on_time, AllFit, AreAlike, LetsLatePass}}
+use Rattle.record_stream.specs.declared.taker.EventTaker.{Ghosts}
 
 module _ {T : Type 0} (g : Ghosts T) where
   -- how many events it was given, with those that wait
@@ -51,6 +50,13 @@ module _ {T : Type 0} (g : Ghosts T) where
     pub strict : LetsLatePass g.got g.broke → ⊥
     pub parts : on_time es ++ l ≡ front ++ back
     pub broken : (start : T) (m : Marked) → g.got start old m → g.broke start new (m ++ front)
+
+  -- It was given these, or some of them while the others wait, or it broke at one of them.
+  pub record Gives {X E : Type 0} (old new : T) (es now : List Event) (answer : Result X E) : Type 0 where
+    pub gave : OnOk answer (GoesOn old new es now [])
+    pub broken : OnErr answer (Breaks old new es [])
+    pub cause : FailsOnce (g.faults old) (g.faults new) answer
+    pub same : g.same old new
 
   pub goes_on-none : (t : T) (es : List Event) → GoesOn t t es es []
   goes_on-none t es = record { front = []; parts = rw append-nil (stands-same (on_time es)); follows = λ start m got. rw append-nil got; counted = omega arith; moved = omega arith; same_mode = refl }

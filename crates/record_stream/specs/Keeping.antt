@@ -1,10 +1,9 @@
 -- The events that a stream keeps back.
-use Rattle.std.{specs.Prelude.{ℕ, ◌≡◌, ◌≢◌, ◌+◌, ◌≤◌, ◌==◌, true, false, List, [], length, map, None, Some, if◌then◌else◌}, specs.declared.option.Option.Option, specs.List.All}
-use Rattle.tally_base.{specs.declared.event.Event.Event, specs.declared.fault.Fault.Fault, specs.declared.fault.Fault.TheVariants.BackwardTime, specs.declared.header.Mode.Mode, specs.Events.{is_ordered, stops_late}, specs.RecordTypes.mode_of}
-use Rattle.ptu_definitions.{specs.Kept.{Marked, floor_of, mark}, specs.Settled.{is_late_by, ordered, settles, not_marked}, specs.Streams.{StreamSettings, events_in}, specs.Times.events, specs.declared.records.Summary.Summary}
-use Rattle.abs_time.{specs.Placing.{IsSmall, placed_by}, specs.declared.clock.Clock.Clock}
-use Rattle.settle.{specs.Standing.{HasSettled, kept_back, next_place, last_time, reach_of, was_popped}, specs.declared.settle.Settle.Settle}
-use Rattle.record_stream.{specs.Feeding.IsAt, specs.declared.walk.Walk.Walk}
+use Rattle.std.specs.{Prelude.{ℕ, ◌≡◌, ◌≢◌, ◌+◌, ◌≤◌, ◌==◌, true, false, List, [], length, map, None, Some, if◌then◌else◌}, declared.option.Option.Option, List.All}
+use Rattle.tally_base.specs.{declared.{event.Event.Event, fault.Fault.{Fault, TheVariants.BackwardTime}, header.Mode.Mode}, Events.{is_ordered, stops_late}, RecordTypes.mode_of}
+use Rattle.ptu_definitions.specs.{Kept.{Marked, floor_of, mark}, Settled.{is_late_by, ordered, settles, not_marked}, Streams.{StreamSettings, events_in}, Times.events}
+use Rattle.{ptu_definitions.specs.declared.records.Summary.Summary, abs_time.specs.{Placing.{IsSmall, placed_by}, declared.clock.Clock.Clock}, settle.specs.Standing.{HasSettled, kept_back}}
+use Rattle.{settle.specs.{Standing.{next_place, last_time, reach_of, was_popped}, declared.settle.Settle.Settle}, record_stream.specs.{Feeding.IsAt, declared.walk.Walk.Walk}}
 
 -- an event in order that fits its mode
 pub record CanWait (mode : Mode) (e : Event) : Type 0 where

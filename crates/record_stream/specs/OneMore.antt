@@ -1,8 +1,7 @@
 -- A summary with one more record, and with its event.
-use Rattle.std.{specs.Prelude.{ℕ, ◌+◌, Bool, true, false, List, [], ◌∷◌, None, Some, length, map, count_by}, specs.declared.option.Option.Option}
-use Rattle.tally_base.specs.declared.event.Event.{Event}
-use Rattle.ptu_definitions.{specs.declared.records.Summary.Summary, specs.declared.records.KindCounts.KindCounts, specs.declared.records.Raw.Raw, specs.declared.records.Raw.TheVariants.{Photon, Marker, Wrap, Reserved}, specs.Kept.Marked, specs.Kinds.{is_photon, is_marker, is_wrap, is_reserved}, specs.Streams.{StreamSettings, events_in}}
-use Rattle.record_stream.specs.declared.count.Sums.{Sums}
+use Rattle.std.specs.{Prelude.{ℕ, ◌≡◌, ◌+◌, Bool, true, false, List, [], ◌∷◌, None, Some, length, map, count_by}, declared.option.Option.Option}
+use Rattle.{tally_base.specs.declared.event.Event.Event, ptu_definitions.specs.declared.records.{Summary.Summary, KindCounts.KindCounts, Raw.{Raw, TheVariants.{Photon, Marker, Wrap, Reserved}}}}
+use Rattle.{ptu_definitions.specs.{Kept.Marked, Kinds.{is_photon, is_marker, is_wrap, is_reserved}, Streams.{StreamSettings, events_in}}, record_stream.specs.declared.sums.Sums.Sums}
 
 abbrev pub with_raw : Summary → Raw → Summary
 with_raw s (Photon input time dtime) = record s { records = s.records + 1; photons = s.photons + 1 }
@@ -62,6 +61,11 @@ eventless records = record {
 -- The summary of these words, with the events that are delivered so far.
 unfoldable pub so_far : StreamSettings → List ℕ → Summary
 so_far how words = with_marks (eventless (map how.meaning words)) (events_in how words)
+
+-- So many records more were counted, and no late event.
+pub record CountsMore (old new : Sums) (many : ℕ) : Type 0 where
+  pub records : new.records ≡ old.records + many
+  pub late : new.late ≡ old.late
 
 -- The summary that sums stand for.
 

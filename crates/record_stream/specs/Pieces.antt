@@ -1,8 +1,7 @@
 -- What feeding a piece to a stream of records leaves.
 use Rattle.std.specs.Prelude.{ℕ, ◌≡◌, ◌+◌, ◌*◌, ◌≤◌, List, [], ◌++◌, length, None}
-use Rattle.tally_base.specs.declared.header.Mode.{Mode}
-use Rattle.ptu_definitions.specs.Words.{record_limit}
-use Rattle.record_stream.{specs.declared.stream.RecordStream.RecordStream, specs.Standing.{how_of, given_by, greatest_of, refused_with, bytes_in, HasStreamed}}
+use Rattle.{tally_base.specs.declared.header.Mode.Mode, ptu_definitions.specs.Words.record_limit, record_stream.specs.{declared.stream.RecordStream.RecordStream, Standing.{how_of, given_by}}}
+use Rattle.record_stream.specs.Standing.{greatest_of, refused_with, bytes_in, HasStreamed}
 
 -- A stream was given a piece, whatever it answered: it is read as before, and stands for the bytes with the piece after them. It never takes more than the greatest number of records and a begun one.
 pub record TakesOn (old new : RecordStream) (piece : List ℕ) : Type 0 where

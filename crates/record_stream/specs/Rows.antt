@@ -1,10 +1,9 @@
 -- What is known of a record by its code.
-use Rattle.std.{specs.Prelude.{ℕ, ◌≡◌, ◌+◌, ◌≤◌, Bool, true, false, nat_lt, List, [], ◌∷◌, if◌then◌else◌, ◌++◌, map, None, Ok}, specs.declared.option.Option.Option}
-use Rattle.tally_base.{specs.declared.event.Event.Event, specs.declared.header.Mode.Mode, specs.declared.header.Mode.TheVariants.{T2, T3}, specs.Columns.event_by, specs.declared.fault.Fault.Fault, specs.Events.stops_late}
-use Rattle.record_layout.specs.declared.row.Row.{Row}
-use Rattle.record_stream.{specs.OneMore.with_raw, specs.Walking.{how_of, given_by, records_of, summary_in, clock_in}, specs.declared.walk.Walk.Walk}
-use Rattle.ptu_definitions.{specs.declared.records.Raw.Raw, specs.Streams.{StreamSettings, refusal, late_refusal}, specs.Times.{event_after, events}}
-use Rattle.abs_time.{specs.declared.clock.Placed.Placed, specs.Placing.{HasPlaced, IsNext, Moves, place_answer, greatest_by, placed_by}}
+use Rattle.std.specs.{Prelude.{ℕ, ◌≡◌, ◌+◌, ◌≤◌, Bool, true, false, nat_lt, List, [], ◌∷◌, if◌then◌else◌, ◌++◌, map, None, Ok}, declared.option.Option.Option}
+use Rattle.{tally_base.specs.{declared.{event.Event.Event, header.Mode.{Mode, TheVariants.{T2, T3}}, fault.Fault.Fault}, Columns.event_by, Events.stops_late}, record_layout.specs.declared.row.Row.Row}
+use Rattle.{record_stream.specs.{OneMore.with_raw, Walking.{how_of, given_by, records_of, summary_in, clock_in}, declared.walk.Walk.Walk}, ptu_definitions.specs.declared.records.Raw.Raw}
+use Rattle.{ptu_definitions.specs.{Streams.{StreamSettings, refusal, late_refusal}, Times.{event_after, events}}, abs_time.specs.{declared.clock.Placed.Placed, Placing.{HasPlaced, IsNext, Moves}}}
+use Rattle.abs_time.specs.Placing.{place_answer, greatest_by, placed_by}
 
 -- the codes below this one are those of events in order
 abbrev pub ordered_below : Mode → ℕ

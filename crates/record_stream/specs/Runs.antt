@@ -1,10 +1,8 @@
 -- Runs of reserved records.
 use Rattle.std.specs.Prelude.{ℕ, ◌≡◌, ◌+◌, ◌<◌, ◌≤◌, [], false, List, length}
-use Rattle.tally_base.specs.Events.{stops_reserved}
-use Rattle.ptu_definitions.specs.declared.records.{KindCounts.KindCounts, Raw.Raw}
-use Rattle.abs_time.specs.Placing.{base_of, placed_by}
-use Rattle.lane_decode.specs.{declared.columns.Columns.Columns, InColumns.{HasRows, row_at}}
-use Rattle.record_stream.specs.{OneMore.with_block, Walking.{how_of, given_by, greatest_of, records_of, clock_in, summary_in}, declared.walk.Walk.Walk}
+use Rattle.{tally_base.specs.Events.stops_reserved, ptu_definitions.specs.declared.records.{KindCounts.KindCounts, Raw.Raw}, abs_time.specs.Placing.{base_of, placed_by}}
+use Rattle.{lane_decode.specs.{declared.columns.Columns.Columns, InColumns.{HasRows, row_at}}, record_stream.specs.{OneMore.with_block, Walking.{how_of, given_by, greatest_of, records_of, clock_in}}}
+use Rattle.record_stream.specs.{Walking.summary_in, declared.walk.Walk.Walk}
 
 -- The records of 64 words are in columns.
 pub record IsBlock (meaning : ℕ → Raw) (unit : ℕ) (columns : Columns) (words : List (List ℕ)) : Type 0 where
@@ -22,6 +20,7 @@ pub record LetsSkip (walk : Walk) (many : ℕ) : Type 0 where
   pub room : records_of walk + many ≤ (how_of walk).policy.records
   pub skips : stops_reserved (how_of walk).policy.reserved ≡ false
 
+-- the kinds of so many reserved records
 abbrev pub reserved_kinds : ℕ → KindCounts
 reserved_kinds many = record { records = many; photons = 0; markers = 0; wraps = 0; reserved = many }
 

@@ -1,10 +1,10 @@
 -- How far a walk is with the events that it keeps back.
-use Rattle.std.{specs.Prelude.{ℕ, ◌≡◌, ◌+◌, ◌<◌, ◌≤◌, ◌==◌, Bool, true, false, Result, Ok, Err, List, [], ◌∷◌, ◌++◌, length, None, Some, IfSome, ◌⊎◌, if◌then◌else◌}, specs.List.All}
-use Rattle.tally_base.{specs.declared.event.Event.Event, specs.declared.fault.Fault.Fault, specs.declared.fault.Fault.TheVariants.WriteFault, specs.declared.header.Mode.Mode, specs.Events.is_ordered, specs.FaultCounts.Rose}
-use Rattle.ptu_definitions.{specs.Kept.{Marked, is_late}, specs.Settled.is_late_by, specs.Streams.StreamSettings}
-use Rattle.abs_time.specs.Placing.{placed_by, IsSmall}
-use Rattle.settle.{specs.Settling.told, specs.Standing.{kept_back, last_time, next_place, reach_of, was_popped}, specs.declared.settle.Settle.Settle, specs.declared.settle.Settled.Settled}
-use Rattle.record_stream.{specs.Feeding.Follows, specs.Keeping.{CanWait, Comes, HasCome, IsKeeping, StandsAt, tells, refused_for}, specs.OneMore.{summed, with_marks}, specs.Walking.{how_of, given_by, greatest_of, records_of, clock_in, summary_in, IsBehind, Stays}, specs.declared.taker.EventTaker.Ghosts, specs.declared.walk.Walk.Walk}
+use Rattle.std.specs.{Prelude.{ℕ, ◌≡◌, ◌+◌, ◌<◌, ◌≤◌, ◌==◌, Bool, true, false, Result, Ok, Err, OnOk, List, [], ◌∷◌, ◌++◌, length, None, Some, IfSome, ◌⊎◌, if◌then◌else◌}, List.All}
+use Rattle.tally_base.specs.{declared.{event.Event.Event, fault.Fault.{Fault, TheVariants.WriteFault}, header.Mode.Mode}, Events.is_ordered, FaultCounts.Rose}
+use Rattle.{ptu_definitions.specs.{declared.records.Raw.Raw, Kept.{Marked, is_late}, Settled.is_late_by, Streams.StreamSettings}, abs_time.specs.Placing.{placed_by, IsSmall}}
+use Rattle.{settle.specs.{Settling.told, Standing.{kept_back, last_time, next_place, reach_of, was_popped}, declared.settle.{Settle.Settle, Settled.Settled}}, record_stream.specs.Feeding.Follows}
+use Rattle.record_stream.specs.{Feeding.Delivers, Keeping.{CanWait, Comes, HasCome, IsKeeping, StandsAt, tells, refused_for}, OneMore.{summed, with_marks}, Walking.{how_of, given_by, greatest_of}}
+use Rattle.record_stream.specs.{Walking.{records_of, clock_in, summary_in, IsBehind, Stays, WalksOn}, declared.{taker.EventTaker.Ghosts, walk.Walk.Walk}}
 
 -- the greatest time of the events in order that were given and not late
 abbrev pub floor_in : Walk → Settle → ℕ
@@ -54,8 +54,9 @@ module _ {T : Type 0} (g : Ghosts T) where
   abbrev pub IsFollowedBy : Walk → Settle → T → Type 0
   IsFollowedBy walk settle taker = Follows g (how_of walk).mode (given_by walk) (floor_in walk settle) taker
 
-  -- What is kept back and the taker are in step with the walk.
-  pub record IsReady (walk : Walk) (settle : Settle) (taker : T) : Type 0 where
+  -- What is kept back and the taker are in step with the walk, whose events come in an order that is for its policy.
+  pub record IsReady (fits : ℕ → Type 0) (walk : Walk) (settle : Settle) (taker : T) : Type 0 where
+    pub is_for : fits (how_of walk).policy.settle
     pub keeps : IsKeeping walk settle
     pub follows : IsFollowedBy walk settle taker
 
@@ -63,6 +64,17 @@ module _ {T : Type 0} (g : Ghosts T) where
   pub record StaysKept (old new : Walk) (settle : Settle) (taker now : T) : Type 0 where
     pub stays : Stays g old new taker now
     pub keeps : IsKeeping new settle
+
+  -- They can take words, which are read by this meaning.
+  pub record CanWalk (fits : ℕ → Type 0) (read : ℕ → Raw) (walk : Walk) (settle : Settle) (taker : T) : Type 0 where
+    pub meaning : read ≡ (how_of walk).meaning
+    pub ready : IsReady fits walk settle taker
+
+  -- What taking words did, by the answer.
+  pub record Walks {X : Type 0} (old new : Walk) (from settle : Settle) (taker now : T) (words : List ℕ) (answer : Result X Fault) : Type 0 where
+    pub delivers : Delivers g (how_of old) (HasTaken old from) (HasTaken new settle) taker now words answer
+    pub goes_on : OnOk answer (WalksOn g old new (floor_in new settle) now (length words))
+    pub stays : StaysKept old new settle taker now
 
   -- After these events, with which this was delivered, one more came, and what it adds was given.
   pub record Told (how : StreamSettings) (old new : Walk) (settle : Settle) (taker now : T) (before : List Event) (l : Marked) (e : Event) (latest : ℕ) : Type 0 where

@@ -1,11 +1,9 @@
 -- What a stream stands for.
-use Rattle.std.{specs.Prelude.{ℕ, ◌≡◌, ◌≢◌, ◌+◌, ◌*◌, ◌≤◌, ◌==◌, List, length, None, Some, if◌then◌else◌}, specs.declared.option.Option.Option}
-use Rattle.ptu_definitions.{specs.declared.records.Summary.Summary, specs.Streams.{StreamSettings, reading, record_refusal, given}, specs.Kept.Marked, specs.Words.{words_of, rest_of}}
-use Rattle.tally_base.{specs.declared.fault.Fault.Fault, specs.declared.fault.Fault.TheVariants.WriteFault, specs.declared.event.Event.Event}
-use Rattle.record_layout.specs.Counting.{begun_in}
-use Rattle.abs_time.{specs.declared.clock.Clock.Clock, specs.Placing.greatest_by}
-use Rattle.settle.{specs.Standing.{kept_back, last_time}, specs.declared.settle.Settle.Settle}
-use Rattle.record_stream.{specs.Feeding.Follows, specs.Keeping.StandsAt, specs.declared.taker.EventTaker.Ghosts, specs.OneMore.summed, specs.declared.stream.RecordStream.RecordStream}
+use Rattle.std.specs.{Prelude.{ℕ, ◌≡◌, ◌≢◌, ◌+◌, ◌*◌, ◌≤◌, ◌==◌, List, [], ◌++◌, length, None, Some, Result, OnOk, if◌then◌else◌}, declared.option.Option.Option}
+use Rattle.ptu_definitions.specs.{declared.records.{Raw.Raw, Summary.Summary}, Streams.{StreamSettings, reading, record_refusal, given}, Kept.Marked, Words.{words_of, rest_of}}
+use Rattle.{tally_base.specs.declared.{fault.Fault.{Fault, TheVariants.WriteFault}, event.Event.Event}, record_layout.specs.Counting.begun_in, abs_time.specs.declared.clock.Clock.Clock}
+use Rattle.{abs_time.specs.Placing.greatest_by, settle.specs.{Standing.{kept_back, last_time}, declared.settle.Settle.Settle}, record_stream.specs.{Feeding.{Follows, FedPiece}, Keeping.StandsAt}}
+use Rattle.record_stream.specs.{declared.{taker.EventTaker.Ghosts, stream.RecordStream.RecordStream}, OneMore.summed}
 
 abbrev pub how_of : RecordStream → StreamSettings
 how_of stream = reading stream.walk.record_type stream.walk.policy
@@ -62,6 +60,12 @@ Stands how clock sum count settle carried (Some fault) bytes = fault ≢ WriteFa
 abbrev pub HasStreamed : RecordStream → List ℕ → Type 0
 HasStreamed stream bytes = Stands (how_of stream) stream.walk.clock (summed stream.walk.sums) stream.walk.given stream.settle (begun_in stream.carried) stream.refused bytes
 
+-- It has given no event, and keeps none back.
+pub record HasGivenNone (stream : RecordStream) : Type 0 where
+  pub given : given_by stream ≡ 0
+  pub greatest : greatest_of stream ≡ 0
+  pub none : kept_back_by stream ≡ []
+
 module _ {T : Type 0} (g : Ghosts T) where
   -- The taker is of the mode of the stream, and no further on.
   abbrev pub IsFollowed : RecordStream → T → Type 0
@@ -78,3 +82,15 @@ module _ {T : Type 0} (g : Ghosts T) where
     pub same_refused : refused_with new ≡ refused_with old
     pub later : g.faults taker ≤ g.faults now
     pub same : g.same taker now
+
+  -- The stream reads words by this meaning, and the taker is no further on.
+  pub record CanRead (read : ℕ → Raw) (stream : RecordStream) (taker : T) : Type 0 where
+    pub meaning : read ≡ (how_of stream).meaning
+    pub follows : IsFollowed stream taker
+
+  -- What a piece did, by the answer.
+  pub record Feeds {X : Type 0} (old new : RecordStream) (taker now : T) (piece : List ℕ) (answer : Result X Fault) : Type 0 where
+    pub at : (bytes : List ℕ) → CarriesOn old bytes → OnOk answer (CarriesOn new (bytes ++ piece))
+    pub fed : (bytes : List ℕ) → CarriesOn old bytes → FedPiece g (how_of old) taker now bytes piece answer
+    pub goes_on : OnOk answer (StreamsOn old new now (length piece))
+    pub stays : Stays old new taker now

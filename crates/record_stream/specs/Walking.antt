@@ -1,9 +1,9 @@
 -- How far a walk is.
 use Rattle.std.specs.Prelude.{ℕ, Bool, true, not, IsTrue, ◌&&◌, ◌≡◌, ◌+◌, ◌^◌, ◌<◌, ◌≤◌, List, [], ◌∷◌, ◌++◌, length, map, count_by}
-use Rattle.tally_base.{specs.declared.event.Event.Event, specs.Events.{is_ordered, stops_reserved}, specs.Limits.wrap_limit}
-use Rattle.ptu_definitions.{specs.declared.records.Raw.Raw, specs.declared.records.Summary.Summary, specs.Kept.Marked, specs.Kinds.is_reserved, specs.Streams.{StreamSettings, reading}, specs.Words.numbers}
-use Rattle.abs_time.{specs.declared.clock.Clock.Clock, specs.Placing.{base_of, greatest_by, placed_by, IsSmall, LeadsOn}, specs.Floors.moved_floor}
-use Rattle.record_stream.{specs.Blocks.{chosen as chosen_of, Adds, IsInLine, RisesWithin}, specs.Feeding.{IsAt, Follows, GaveOn}, specs.declared.taker.EventTaker.Ghosts, specs.OneMore.{with_event, summed}, specs.declared.walk.Walk.Walk}
+use Rattle.{tally_base.specs.{declared.event.Event.Event, Events.{is_ordered, stops_reserved}, Limits.wrap_limit}, ptu_definitions.specs.{declared.records.{Raw.Raw, Summary.Summary}, Kept.Marked}}
+use Rattle.{ptu_definitions.specs.{Kinds.is_reserved, Streams.{StreamSettings, reading}, Words.numbers}, abs_time.specs.{declared.clock.Clock.Clock, Placing.{base_of, greatest_by, placed_by}}}
+use Rattle.{abs_time.specs.{Placing.{IsSmall, LeadsOn}, Floors.moved_floor}, record_stream.specs.{Blocks.{chosen as chosen_of, Adds, IsInLine, RisesWithin}, Feeding.{IsAt, Follows}}}
+use Rattle.record_stream.specs.{declared.{taker.EventTaker.Ghosts, walk.Walk.Walk}, OneMore.{with_event, summed}}
 
 abbrev pub how_of : Walk → StreamSettings
 how_of walk = reading walk.record_type walk.policy
@@ -92,10 +92,3 @@ module _ {T : Type 0} (g : Ghosts T) where
     pub same_how : how_of new ≡ how_of old
     pub later : g.faults taker ≤ g.faults now
     pub same : g.same taker now
-
-  -- A walk took these words, so many, and refused none: it stood as the first says, and stands as the second.
-  pub record Took (stood stands : List ℕ → Type 0) (old new : Walk) (time : ℕ) (taker now : T) (words : List ℕ) (many : ℕ) : Type 0 where
-    pub goes_on : WalksOn old new time now many
-    pub stays : Stays old new taker now
-    pub at : (before : List ℕ) → stood before → stands (before ++ words)
-    pub gave : (before : List ℕ) → stood before → GaveOn g (how_of old) taker now before (before ++ words)

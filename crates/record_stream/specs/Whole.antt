@@ -1,11 +1,9 @@
 -- A block of words whose records are in columns.
-use Rattle.std.{specs.Prelude.{ℕ, zero, suc, ◌≡◌, ◌<◌, ◌≤◌, ◌+◌, ◌^◌, Bool, List, length, map, nat_lt, None, Some, if◌then◌else◌}, specs.declared.option.Option.Option, specs.Option.unwrap_or}
-use Rattle.tally_base.{specs.declared.event.Event.Event, specs.Limits.record_limit}
-use Rattle.ptu_definitions.{specs.Kinds.counts_of, specs.Words.numbers}
-use Rattle.record_layout.specs.Sums.{IsSplit}
-use Rattle.abs_time.{specs.declared.clock.Clock.Clock, specs.Placing.{base_of, mode_of, placed_by}}
-use Rattle.record_stream.{specs.declared.ahead.Ahead.Ahead, specs.declared.walk.Walk.Walk, specs.Rows.{ordered_below, gathered_below}, specs.Walking.{how_of, greatest_of, records_of, clock_in, Gathers}}
-use Rattle.lane_decode.{specs.declared.columns.Columns.Columns, specs.InColumns.{row_at, wraps_at, time_in}, specs.Staying.{staying, event_in}}
+use Rattle.std.specs.{Prelude.{ℕ, zero, suc, ◌≡◌, ◌<◌, ◌≤◌, ◌+◌, ◌*◌, ◌^◌, Bool, List, length, map, nat_lt, None, Some, if◌then◌else◌}, declared.option.Option.Option, Option.unwrap_or}
+use Rattle.{tally_base.specs.{declared.event.Event.Event, Limits.record_limit}, ptu_definitions.specs.{Kinds.counts_of, Words.numbers}, record_layout.specs.Sums.IsSplit}
+use Rattle.{abs_time.specs.{declared.clock.Clock.Clock, Placing.{base_of, mode_of, placed_by}}, record_stream.specs.{declared.{ahead.Ahead.Ahead, walk.Walk.Walk}, Rows.ordered_below}}
+use Rattle.{record_stream.specs.{Rows.gathered_below, Walking.{how_of, greatest_of, records_of, clock_in, Gathers}}, lane_decode.specs.{declared.columns.Columns.Columns, InColumns.{row_at, wraps_at}}}
+use Rattle.lane_decode.specs.{InColumns.{sum_to, time_in}, Staying.{staying, event_in}}
 
 -- the events of the records whose codes are below this one
 abbrev pub events_below : ℕ → Clock → ℕ → Columns → List Event
@@ -25,6 +23,11 @@ pub record InReach (clock : Clock) (unit : ℕ) (columns : Columns) : Type 0 whe
   pub few : (i : ℕ) → i < 64 → wraps_at columns i ≤ 2 ^ 25
   pub times : (i : ℕ) → i < 64 → time_in (base_of clock) unit columns i < 2 ^ 64
   pub places : placed_by clock + 64 ≤ record_limit
+
+-- It is at least what their wraps add, and a time after it is below 2^64.
+pub record IsAfterAll (unit : ℕ) (columns : Columns) (sum : ℕ) : Type 0 where
+  pub low : unit * sum_to (wraps_at columns) 64 ≤ sum
+  pub room : sum + 2 ^ 32 ≤ 2 ^ 64
 
 -- What their events are, in short.
 pub record IsAhead (clock : Clock) (unit : ℕ) (columns : Columns) (ahead : Ahead) : Type 0 where

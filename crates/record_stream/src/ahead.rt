@@ -1,11 +1,12 @@
 // Where a block of words leads, whose records are in columns.
 ghost use Rattle.std.specs.Prelude.{◌≡◌, ◌+◌, ◌*◌, ◌^◌, ◌<◌, ◌≤◌, ◌∷◌, ℕ, List, length, IfSome, if◌then◌else◌};
-ghost use Rattle.tally_base.specs.declared.header.Mode.{Mode};
-ghost use Rattle.lane_decode.specs.{InColumns.{HasRows, row_at, wraps_at, sum_to, time_in}, Staying.staying};
-ghost use Rattle.record_stream.specs.{Rows.{ordered_below, gathered_below}, Runs.IsBlock, Whole.{last_time, LeadsTo}, Walking.how_of};
+ghost use Rattle.{tally_base.specs.declared.header.Mode.Mode, abs_time.specs.Placing.base_of, lane_decode.specs.{InColumns.{HasRows, row_at, wraps_at, sum_to, time_in}, Staying.staying}};
+ghost use Rattle.record_stream.specs.{Rows.{ordered_below, gathered_below}, Runs.IsBlock, Whole.{last_time, InReach, IsAfterAll, LeadsTo}, Walking.how_of};
 
-use crate::count::{Sums, stops_reserved};
+use crate::count::stops_reserved;
+use crate::sums::Sums;
 use crate::walk::Walk;
+use abs_time::Clock;
 use lane_decode::Columns;
 use ptu_definitions::KindCounts;
 use record_layout::RecordLayout;
@@ -84,8 +85,7 @@ fn wraps_in(columns: &Columns) -> u32
 /// The time of the last of 64 records whose code is below `below`, where this is the sum of all wraps with theirs.
 #[inline(always)]
 fn last_time<R: RecordLayout>(columns: &Columns, below: u16, sum: u64) -> Option<u64>
-    requires low { R.UNIT * sum_to (wraps_at columns.now) 64 ≤ sum }
-    requires room { sum + 2 ^ 32 ≤ 2 ^ 64 }
+    requires { IsAfterAll R.UNIT columns.now sum }
     ensures { (base : ℕ) → sum ≡ base + R.UNIT * sum_to (wraps_at columns.now) 64
         → result ≡ last_time below base R.UNIT columns.now }
 {
@@ -110,8 +110,7 @@ fn last_in_order<R: RecordLayout>(
     sum: u64,
     last: Option<u64>,
 ) -> Option<u64>
-    requires low { R.UNIT * sum_to (wraps_at columns.now) 64 ≤ sum }
-    requires room { sum + 2 ^ 32 ≤ 2 ^ 64 }
+    requires { IsAfterAll R.UNIT columns.now sum }
     ensures { (base : ℕ) → sum ≡ base + R.UNIT * sum_to (wraps_at columns.now) 64
         → last ≡ last_time 512 base R.UNIT columns.now
         → result ≡ last_time (ordered_below mode) base R.UNIT columns.now }
@@ -122,26 +121,23 @@ fn last_in_order<R: RecordLayout>(
     }
 }
 
-/// The time of the first event that was kept, where those of 64 records are kept too, and this is the sum of the wraps
-/// before them.
+/// The time of the first event that was kept, where those of 64 records are kept too, which come next.
 #[inline(always)]
-pub(crate) fn first_time<R: RecordLayout>(sums: &Sums, columns: &Columns, base: u64) -> u64
-    requires few { (i : ℕ) → i < 64 → wraps_at columns.now i ≤ 2 ^ 25 }
-    requires room { base ≤ 2 ^ 62 }
-    ensures { (at : ℕ) (more : List ℕ) → staying 512 columns.now 64 ≡ at ∷ more
-        → result ≡ (if sums.now.kept then sums.now.first else time_in base R.UNIT columns.now at) }
+pub(crate) fn first_time<R: RecordLayout>(sums: &Sums, columns: &Columns, clock: &Clock) -> u64
+    requires { InReach clock.now R.UNIT columns.now }
+    ensures { (at : ℕ) (more : List ℕ) → staying 512 columns.now 64 ≡ at ∷ more → result
+        ≡ (if sums.now.kept then sums.now.first else time_in (base_of clock.now) R.UNIT columns.now at) }
 {
     if sums.kept {
         return sums.first;
     }
-    first_event::<R>(columns, base)
+    first_event::<R>(columns, clock.base())
 }
 
 /// The time of the first event of 64 records, if they have one, where this is the sum of the wraps before them.
 #[inline(never)]
 fn first_event<R: RecordLayout>(columns: &Columns, base: u64) -> u64
-    requires few { (i : ℕ) → i < 64 → wraps_at columns.now i ≤ 2 ^ 25 }
-    requires room { base ≤ 2 ^ 62 }
+    requires { (i : ℕ) → i < 64 → time_in base R.UNIT columns.now i < 2 ^ 64 }
     ensures { (at : ℕ) (more : List ℕ) → staying 512 columns.now 64 ≡ at ∷ more
         → result ≡ time_in base R.UNIT columns.now at }
 {

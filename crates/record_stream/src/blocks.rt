@@ -1,13 +1,12 @@
 // The words of a piece in blocks, without a branch on what each record is, in file order or another.
 ghost use Rattle.std.specs.Prelude.{◌≡◌, ◌+◌, ◌*◌, ◌≤◌, ◌++◌, List, ℕ, length, Some, if◌then◌else◌, OnOk, IfSome};
-ghost use Rattle.tally_base.{specs.declared.event.Event.Event, specs.Limits.record_limit, specs.Columns.{count, sorted, gathered}};
-ghost use Rattle.ptu_definitions.specs.Words.{numbers};
-ghost use Rattle.record_layout.specs.Sums.{IsSplit};
-ghost use Rattle.record_stream.specs.{Feeding.Delivers, OneMore.{summed, with_block, first_with, last_with}, Whole.{events_below, InReach}, Walking.{how_of, WalksOn}, Keeping.IsKeeping, Settling.{floor_in, Becomes, ComesUp, HasTaken, IsReady, StaysKept}};
+ghost use Rattle.{tally_base.specs.{declared.event.Event.Event, Limits.record_limit, Columns.{count, sorted, gathered}}, ptu_definitions.specs.Words.numbers, record_layout.specs.Sums.IsSplit};
+ghost use Rattle.record_stream.specs.{Blocks.PutsAfter, OneMore.{CountsMore, summed, with_block, first_with, last_with}, Whole.{events_below, InReach}, Walking.how_of, Keeping.IsKeeping};
+ghost use Rattle.record_stream.specs.Settling.{Becomes, CanWalk, ComesUp, Walks};
 
 use crate::ahead::{Ahead, first_time};
 use crate::columns_taker::TakesColumns;
-use crate::count::Sums;
+use crate::sums::Sums;
 use crate::walk::Walk;
 use abs_time::Clock;
 use lane_decode::Columns;
@@ -26,9 +25,7 @@ pub(crate) fn put_events<R: RecordLayout>(
 )
     requires reach { InReach clock.now R.UNIT columns.now }
     requires room { count block.old + BLOCK_SIZE ≤ TABLE_BLOCK }
-    ensures more { gathered block.new
-        ≡ gathered block.old ++ events_below below clock.now R.UNIT columns.now }
-    ensures unsorted { sorted block.new ≡ sorted block.old }
+    ensures { PutsAfter block.old block.new (events_below below clock.now R.UNIT columns.now) }
 {
     columns.put_events::<R>(below, clock.placed(), clock.base(), block);
 }
@@ -39,15 +36,10 @@ pub(crate) fn put_events<R: RecordLayout>(
 pub(crate) fn add_block(sums: &mut Sums, counts: &KindCounts, first: u64, last: Option<u64>)
     requires few { sums.old.records + counts.now.records ≤ record_limit }
     requires split { IsSplit counts.now }
-    requires parts { sums.old.photons + sums.old.markers + sums.old.wraps + sums.old.reserved ≡
-        sums.old.records }
     ensures value { (es : List Event) → last_with None es ≡ last
         → IfSome last (λ t. Some first ≡ first_with (summed sums.old).first es)
         → summed sums.new ≡ with_block (summed sums.old) counts.now es }
-    ensures records { sums.new.records ≡ sums.old.records + counts.now.records }
-    ensures parts { sums.new.photons + sums.new.markers + sums.new.wraps + sums.new.reserved ≡
-        sums.new.records }
-    ensures late { sums.new.late ≡ sums.old.late }
+    ensures more { CountsMore sums.old sums.new counts.now.records }
 {
     sums.records += counts.records;
     sums.photons += counts.photons;
@@ -93,15 +85,10 @@ pub(crate) trait GivingOrder: SettlesEvents {
         words: &[[u8; 4]],
         taker: &mut W,
     ) -> Result<(), Fault>
-        requires is_for { Self.is_for (how_of walk.old).policy.settle }
         requires whole { length words.now ≡ BLOCK_SIZE }
-        requires meaning { R.meaning ≡ (how_of walk.old).meaning }
-        requires ready { IsReady W.EventTaker walk.old settle.old taker.old }
-        ensures delivers { Delivers W.EventTaker (how_of walk.old) (HasTaken walk.old settle.old)
-            (HasTaken walk.new settle.new) taker.old taker.new (numbers words.now) result }
-        ensures goes_on { OnOk result (WalksOn W.EventTaker walk.old walk.new
-            (floor_in walk.new settle.new) taker.new (length words.now)) }
-        ensures stays { StaysKept W.EventTaker walk.old walk.new settle.new taker.old taker.new };
+        requires can { CanWalk W.EventTaker Self.is_for R.meaning walk.old settle.old taker.old }
+        ensures { Walks W.EventTaker walk.old walk.new settle.old settle.new taker.old taker.new
+            (numbers words.now) result };
 }
 
 /// File order.
@@ -147,7 +134,7 @@ impl GivingOrder for FileOrder {
             return Err(Fault::WriteFault);
         }
         let sums = walk.sums;
-        let first = first_time::<R>(&sums, &self.columns, clock.base());
+        let first = first_time::<R>(&sums, &self.columns, &clock);
         add_block(&mut walk.sums, &ahead.counts, first, ahead.last);
         let placed = clock.placed() + ahead.counts.records;
         let low = clock.greatest();
@@ -165,14 +152,9 @@ pub(crate) fn take_words<R: RecordLayout, O: GivingOrder + Drop, W: TakesColumns
     words: &[[u8; 4]],
     taker: &mut W,
 ) -> Result<(), Fault>
-    requires is_for { O.is_for (how_of walk.old).policy.settle }
-    requires meaning { R.meaning ≡ (how_of walk.old).meaning }
-    requires ready { IsReady W.EventTaker walk.old settle.old taker.old }
-    ensures delivers { Delivers W.EventTaker (how_of walk.old) (HasTaken walk.old settle.old)
-        (HasTaken walk.new settle.new) taker.old taker.new (numbers words.now) result }
-    ensures goes_on { OnOk result (WalksOn W.EventTaker walk.old walk.new
-        (floor_in walk.new settle.new) taker.new (length words.now)) }
-    ensures stays { StaysKept W.EventTaker walk.old walk.new settle.new taker.old taker.new }
+    requires { CanWalk W.EventTaker O.is_for R.meaning walk.old settle.old taker.old }
+    ensures { Walks W.EventTaker walk.old walk.new settle.old settle.new taker.old taker.new
+        (numbers words.now) result }
 {
     if words.len() < BLOCK_SIZE {
         return walk.words::<R, O, W>(settle, words, taker);

@@ -1,8 +1,6 @@
 // What the events of a block of words are given to.
 ghost use Rattle.std.specs.Prelude.{OnOk, OnErr};
-ghost use Rattle.tally_base.specs.FaultCounts.{FailsOnce};
-ghost use Rattle.abs_time.specs.Placing.{mode_of};
-ghost use Rattle.record_stream.specs.{Blocks.BrokeAmong, Feeding.{CanTake, WasGiven}, Whole.{events_below, InReach, IsAhead}};
+ghost use Rattle.{tally_base.specs.FaultCounts.FailsOnce, abs_time.specs.Placing.mode_of, record_stream.specs.{Blocks.BrokeAmong, Feeding.{CanTake, WasGiven}, Whole.{events_below, InReach, IsAhead}}};
 
 use crate::ahead::Ahead;
 use crate::taker::EventTaker;

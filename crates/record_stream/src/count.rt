@@ -1,27 +1,11 @@
 // The summary of a stream, one record and one event at a time.
 ghost use Rattle.std.specs.Prelude.{◌≡◌, ◌+◌, ◌<◌, ◌≤◌, ◌&&◌, if◌then◌else◌};
-ghost use Rattle.tally_base.{specs.Events.{stops_late, stops_reserved}, specs.Limits.record_limit};
-ghost use Rattle.ptu_definitions.specs.Kinds.{is_reserved};
-ghost use Rattle.record_stream.specs.OneMore.{with_raw, with_event, time_if, summed};
+ghost use Rattle.{tally_base.specs.{Events.{stops_late, stops_reserved}, Limits.record_limit}, ptu_definitions.specs.Kinds.is_reserved, record_stream.specs.OneMore.{with_raw, with_event, time_if}};
+ghost use Rattle.record_stream.specs.OneMore.{summed, CountsMore};
 
+use crate::sums::Sums;
 use ptu_definitions::{Raw, Summary};
 use tally_base::{Event, OnReserved, Order};
-
-/// What a stream counted so far: a summary, whose times mean nothing until an event is kept. So the loop
-/// over the words keeps each field in a register.
-#[derive(Clone, Copy)]
-pub struct Sums {
-    pub records: u64,
-    pub photons: u64,
-    pub markers: u64,
-    pub wraps: u64,
-    pub reserved: u64,
-    pub late: u64,
-    /// An event was kept.
-    pub kept: bool,
-    pub first: u64,
-    pub last: u64,
-}
 
 impl Sums {
     ghost use Rattle.record_stream.specs.OneMore.{summed};
@@ -52,14 +36,9 @@ fn time_if(kept: bool, time: u64) -> Option<u64>
 /// Counts one more record.
 #[inline(always)]
 pub(crate) fn add_raw(sums: &mut Sums, raw: &Raw)
-    requires few { sums.old.records < record_limit }
-    requires parts { sums.old.photons + sums.old.markers + sums.old.wraps + sums.old.reserved ≡
-        sums.old.records }
+    requires { sums.old.records < record_limit }
     ensures value { summed sums.new ≡ with_raw (summed sums.old) raw.now }
-    ensures records { sums.new.records ≡ sums.old.records + 1 }
-    ensures parts { sums.new.photons + sums.new.markers + sums.new.wraps + sums.new.reserved ≡
-        sums.new.records }
-    ensures late { sums.new.late ≡ sums.old.late }
+    ensures more { CountsMore sums.old sums.new 1 }
 {
     sums.records += 1;
     match raw {
@@ -76,8 +55,6 @@ pub(crate) fn add_event(sums: &mut Sums, event: &Event, late: bool)
     requires { sums.old.late < record_limit }
     ensures value { summed sums.new ≡ with_event (summed sums.old) event.now late }
     ensures records { sums.new.records ≡ sums.old.records }
-    ensures parts { sums.new.photons + sums.new.markers + sums.new.wraps + sums.new.reserved ≡
-        sums.old.photons + sums.old.markers + sums.old.wraps + sums.old.reserved }
     ensures late { sums.new.late ≤ sums.old.late + 1 }
 {
     if late {

@@ -1,8 +1,7 @@
 // Events in blocks.
 ghost use Rattle.std.{specs.Prelude.{◌≡◌, ◌+◌, ◌<◌, ◌≤◌, [], true, length, OnOk, OnErr}, proofs.Props.props};
-ghost use Rattle.abs_time.proofs.Floors.{kind_fits-prop};
-ghost use Rattle.tally_base.{specs.FaultCounts.FailsOnce, specs.Columns.{sorted, gathered}, proofs.Floors.in_order-prop};
-ghost use Rattle.record_stream.specs.InBlocks.{GoesOn, Breaks, MakesWay, Waits};
+ghost use Rattle.{abs_time.proofs.Floors.kind_fits-prop, tally_base.{specs.{FaultCounts.FailsOnce, Columns.{sorted, gathered}}, proofs.Floors.in_order-prop}, record_stream.specs.InBlocks.GoesOn};
+ghost use Rattle.record_stream.specs.InBlocks.{Breaks, Gives, MakesWay, Waits};
 
 use crate::ahead::Ahead;
 use crate::blocks::put_events;
@@ -19,12 +18,9 @@ pub(crate) fn give_all<S: EventTaker>(
     block: &mut Block<TABLE_BLOCK>,
 ) -> Result<(), Failed>
     requires waits { Waits S.EventTaker taker.old block.old }
-    ensures gave { OnOk result (GoesOn S.EventTaker taker.old taker.new (gathered block.old) [] []) }
-    ensures broken { OnErr result (Breaks S.EventTaker taker.old taker.new (gathered block.old) []) }
+    ensures gives { Gives S.EventTaker taker.old taker.new (gathered block.old) [] result }
     ensures empty { gathered block.new ≡ [] }
     ensures unsorted { sorted block.new ≡ 0 }
-    ensures cause { FailsOnce (S.faults taker.old) (S.faults taker.new) result }
-    ensures same { S.same taker.old taker.new }
 {
     if block.len() == 0 {
         return Ok(());
@@ -42,14 +38,11 @@ pub(crate) fn make_room<S: EventTaker>(
     more: usize,
 ) -> Result<(), Failed>
     requires waits { Waits S.EventTaker taker.old block.old × (more ≤ TABLE_BLOCK) }
-    ensures gave { OnOk result (GoesOn S.EventTaker taker.old taker.new (gathered block.old)
-        (gathered block.new) []) }
-    ensures broken { OnErr result (Breaks S.EventTaker taker.old taker.new (gathered block.old) []
-        × (TABLE_BLOCK < length (gathered block.old) + more)) }
+    ensures gives { Gives S.EventTaker taker.old taker.new (gathered block.old)
+        (gathered block.new) result }
+    ensures crowded { OnErr result (TABLE_BLOCK < length (gathered block.old) + more) }
     ensures waits { Waits S.EventTaker taker.new block.new }
     ensures room { length (gathered block.new) + more ≤ TABLE_BLOCK }
-    ensures cause { FailsOnce (S.faults taker.old) (S.faults taker.new) result }
-    ensures same { S.same taker.old taker.new }
 {
     if block.len() + more > TABLE_BLOCK {
         return give_all(taker, block);
@@ -64,13 +57,10 @@ pub(crate) fn give_before_late<S: EventTaker>(
     block: &mut Block<TABLE_BLOCK>,
 ) -> Result<(), Failed>
     requires waits { Waits S.EventTaker taker.old block.old }
-    ensures gave { OnOk result (GoesOn S.EventTaker taker.old taker.new (gathered block.old)
-        (gathered block.new) []) }
-    ensures broken { OnErr result (Breaks S.EventTaker taker.old taker.new (gathered block.old) []) }
+    ensures gives { Gives S.EventTaker taker.old taker.new (gathered block.old)
+        (gathered block.new) result }
     ensures waits { Waits S.EventTaker taker.new block.new }
     ensures passed { MakesWay S.EventTaker block.old block.new }
-    ensures cause { FailsOnce (S.faults taker.old) (S.faults taker.new) result }
-    ensures same { S.same taker.old taker.new }
 {
     if taker.lets_late_pass() {
         return Ok(());

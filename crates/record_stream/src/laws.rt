@@ -1,8 +1,7 @@
 // Laws of streams, each as the contract of a function that does nothing.
 ghost use Rattle.std.specs.Prelude.{◌≡◌, ◌++◌, ℕ, List, length, None, Some, Err};
-ghost use Rattle.tally_base.specs.declared.fault.Fault.{Fault};
-ghost use Rattle.ptu_definitions.{specs.Words.words_of, specs.Kept.floor_of, specs.Headers.Shows, specs.Streams.{StreamSettings, record_refusal, streamed}};
-ghost use Rattle.record_stream.{specs.declared.stream.RecordStream.RecordStream, specs.Standing.{how_of, given_in, given_by, greatest_of, refused_with, HasStreamed}};
+ghost use Rattle.{tally_base.specs.declared.fault.Fault.Fault, ptu_definitions.specs.{Words.words_of, Kept.floor_of, Headers.Shows, Streams.{StreamSettings, record_refusal, streamed}}};
+ghost use Rattle.record_stream.specs.{declared.stream.RecordStream.RecordStream, Standing.{how_of, given_in, given_by, greatest_of, refused_with, HasStreamed}};
 
 /// The two numbers of a stream that has refused nothing: how many events it has given, and the greatest
 /// time of those in order that were not late.

@@ -1,8 +1,6 @@
 // What the events of a block let go, where events are put in their places.
-ghost use Rattle.std.{specs.Prelude.{◌≡◌, ◌≢◌, ◌+◌, ◌-◌, ◌<◌, ◌≤◌, ◌++◌, List, ℕ, true, length, take, drop}, specs.Option.{option_to_list}};
-ghost use Rattle.abs_time.specs.Placing.{placed_by};
-ghost use Rattle.tally_base.specs.Columns.{count, sorted, gathered};
-ghost use Rattle.record_stream.{specs.Keeping.IsKeeping, specs.LettingGo.{ComesNext, IsFull, LetsGo, IsDelivered}, specs.Settling.IsSettledBehind, specs.Walking.{how_of, clock_in}};
+ghost use Rattle.std.specs.{Prelude.{◌≡◌, ◌+◌, ◌-◌, ◌<◌, ◌≤◌, ◌++◌, [], true, length, drop}, Option.option_to_list};
+ghost use Rattle.{tally_base.specs.Columns.{count, sorted, gathered}, record_stream.specs.{Blocks.PutsAfter, Keeping.IsKeeping, LettingGo.{CanLetGo, IsFull, LetsBlockGo}}};
 
 use crate::walk::Walk;
 use arrayvec::ArrayVec;
@@ -12,9 +10,8 @@ use tally_base::{Block, Event, TABLE_BLOCK};
 /// Puts an event after the others, if there is one.
 #[inline(always)]
 fn push_some(block: &mut Block<TABLE_BLOCK>, event: Option<Event>)
-    requires room { length (gathered block.old) < TABLE_BLOCK }
-    ensures more { gathered block.new ≡ gathered block.old ++ option_to_list event }
-    ensures unsorted { sorted block.new ≡ sorted block.old }
+    requires { length (gathered block.old) < TABLE_BLOCK }
+    ensures { PutsAfter block.old block.new (option_to_list event) }
 {
     if let Some(event) = event {
         block.push(&event);
@@ -24,9 +21,8 @@ fn push_some(block: &mut Block<TABLE_BLOCK>, event: Option<Event>)
 /// Puts events after the others.
 #[inline(always)]
 fn push_all(block: &mut Block<TABLE_BLOCK>, events: &[Event])
-    requires room { length (gathered block.old) + length events.now ≤ TABLE_BLOCK }
-    ensures more { gathered block.new ≡ gathered block.old ++ events.now }
-    ensures unsorted { sorted block.new ≡ sorted block.old }
+    requires { length (gathered block.old) + length events.now ≤ TABLE_BLOCK }
+    ensures { PutsAfter block.old block.new events.now }
 {
     for event in events {
         block.push(event);
@@ -70,32 +66,8 @@ fn is_full(walk: &Walk, settle: &Settle) -> bool
     }
 }
 
-/// Takes the events of a block, all in order and none late, one by one, and puts those that are let go with
-/// them into another, in place of its own.
-fn push_block(
-    walk: &Walk,
-    block: &Block<TABLE_BLOCK>,
-    settle: &mut Settle,
-    out: &mut Block<TABLE_BLOCK>,
-)
-    requires settles { (how_of walk.now).policy.settle ≢ 0 }
-    requires keeps { IsKeeping walk.now settle.old }
-    requires comes { ComesNext walk.now (gathered block.now) }
-    ensures lets_go { LetsGo (how_of walk.now).mode (placed_by (clock_in walk.now)) settle.old
-        settle.new (gathered block.now) (gathered out.new) }
-    ensures delivers { (words : List ℕ) → IsSettledBehind walk.now settle.old words
-        → IsDelivered (how_of walk.now) settle.new words (gathered block.now) (gathered out.new) }
-    ensures unsorted { sorted out.new ≡ 0 }
-{
-    out.clear();
-    for at in 0..block.len() {
-        let settled = settle.push(block.event(at));
-        push_some(out, settled.emitted);
-    }
-}
-
-/// The same, at once, where they come after as many that are kept back as may be. What stays is written to
-/// an array first.
+/// Takes the events of a block at once, where they come after as many that are kept back as may be, and puts those that
+/// are let go with them into another. What stays is written to an array first.
 fn pass_block(
     walk: &Walk,
     block: &Block<TABLE_BLOCK>,
@@ -103,17 +75,11 @@ fn pass_block(
     out: &mut Block<TABLE_BLOCK>,
     stay: &mut ArrayVec<Event, 64>,
 )
-    requires settles { (how_of walk.now).policy.settle ≢ 0 }
-    requires keeps { IsKeeping walk.now settle.old }
+    requires can { CanLetGo walk.now settle.old (gathered block.now) }
     requires full { IsFull walk.now settle.old }
-    requires comes { ComesNext walk.now (gathered block.now) }
-    ensures lets_go { LetsGo (how_of walk.now).mode (placed_by (clock_in walk.now)) settle.old
-        settle.new (gathered block.now) (gathered out.new) }
-    ensures delivers { (words : List ℕ) → IsSettledBehind walk.now settle.old words
-        → IsDelivered (how_of walk.now) settle.new words (gathered block.now) (gathered out.new) }
-    ensures unsorted { sorted out.new ≡ 0 }
+    requires none { (gathered out.old ≡ []) × (sorted out.old ≡ 0) }
+    ensures { LetsBlockGo walk.now settle.old settle.new block.now out.new }
 {
-    out.clear();
     let len = block.len();
     if len == 0 {
         return;
@@ -141,18 +107,15 @@ pub(crate) fn let_go(
     out: &mut Block<TABLE_BLOCK>,
     stay: &mut ArrayVec<Event, 64>,
 )
-    requires settles { (how_of walk.now).policy.settle ≢ 0 }
-    requires keeps { IsKeeping walk.now settle.old }
-    requires comes { ComesNext walk.now (gathered block.now) }
-    ensures lets_go { LetsGo (how_of walk.now).mode (placed_by (clock_in walk.now)) settle.old
-        settle.new (gathered block.now) (gathered out.new) }
-    ensures delivers { (words : List ℕ) → IsSettledBehind walk.now settle.old words
-        → IsDelivered (how_of walk.now) settle.new words (gathered block.now) (gathered out.new) }
-    ensures unsorted { sorted out.new ≡ 0 }
+    requires { CanLetGo walk.now settle.old (gathered block.now) }
+    ensures { LetsBlockGo walk.now settle.old settle.new block.now out.new }
 {
+    out.clear();
     if is_full(walk, settle) {
-        pass_block(walk, block, settle, out, stay);
-    } else {
-        push_block(walk, block, settle, out);
+        return pass_block(walk, block, settle, out, stay);
+    }
+    for at in 0..block.len() {
+        let settled = settle.push(block.event(at));
+        push_some(out, settled.emitted);
     }
 }

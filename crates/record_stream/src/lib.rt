@@ -14,6 +14,7 @@ mod runs;
 mod settled;
 mod settled_blocks;
 mod stream;
+mod sums;
 mod taker;
 mod unwritten;
 mod walk;

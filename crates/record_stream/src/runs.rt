@@ -1,8 +1,6 @@
 // The words of a block one after the other, but for runs of reserved ones.
 ghost use Rattle.std.specs.Prelude.{◌≡◌, ◌<◌, ◌≤◌, ℕ, true, length, OnOk, slice_index};
-ghost use Rattle.ptu_definitions.specs.Words.{numbers};
-ghost use Rattle.lane_decode.specs.InColumns.{row_at};
-ghost use Rattle.record_stream.specs.Runs.{EndsReserved};
+ghost use Rattle.{ptu_definitions.specs.Words.numbers, lane_decode.specs.InColumns.row_at, record_stream.specs.Runs.EndsReserved};
 
 use crate::blocks::{SettlesEvents, add_block};
 use crate::count::stops_reserved;
@@ -14,14 +12,18 @@ use record_layout::RecordLayout;
 use settle::Settle;
 use tally_base::{BLOCK_SIZE, Fault};
 
-/// For each place of 64 records, and 64: the first one from it on whose record isn't reserved, or 64.
+/// How many places there are where a run of a block's reserved records may end.
+const ENDS: usize = BLOCK_SIZE + 1;
+
+/// For each place of a block's records, and the one after them: the first from it on whose record isn't reserved, or
+/// the one after them.
 #[inline(always)]
-fn reserved_ends(columns: &Columns) -> [u8; 65]
-    ensures { (from : ℕ) → from ≤ 64 → EndsReserved columns.now from (slice_index result from) }
+fn reserved_ends(columns: &Columns) -> [u8; ENDS]
+    ensures { (from : ℕ) → from ≤ BLOCK_SIZE → EndsReserved columns.now from (slice_index result from) }
 {
-    let mut ends = [64u8; 65];
-    let mut end = 64u8;
-    let mut at = 64usize;
+    let mut ends = [BLOCK_SIZE as u8; ENDS];
+    let mut end = BLOCK_SIZE as u8;
+    let mut at = BLOCK_SIZE;
     'back: while at > 0 {
         at -= 1;
         if columns.get(at).code <= 512 {
@@ -32,28 +34,30 @@ fn reserved_ends(columns: &Columns) -> [u8; 65]
     ends
 }
 
-/// The greatest code of 64 records: above 512 where one of them is reserved.
+/// The greatest code of a block's records: above 512 where one of them is reserved.
 #[inline(always)]
 fn greatest_code(columns: &Columns) -> u16
-    ensures { (at : ℕ) → at < 64 → (row_at columns.now at).code ≤ result }
+    ensures { (at : ℕ) → at < BLOCK_SIZE → (row_at columns.now at).code ≤ result }
 {
     let mut greatest = 0u16;
-    for at in 0..64usize {
+    for at in 0..BLOCK_SIZE {
         greatest = greatest.max(columns.get(at).code);
     }
     greatest
 }
 
 impl Walk {
-    ghost use Rattle.record_stream.{specs.Feeding.Delivers, specs.Keeping.IsKeeping, specs.Runs.{IsBlock, LetsSkip, Skips}, specs.Settling.{floor_in, HasTaken, IsReady, StaysKept}, specs.Walking.{how_of, WalksOn}};
+    ghost use Rattle.record_stream.{specs.Keeping.IsKeeping, specs.Runs.{IsBlock, LetsSkip, Skips}, specs.Settling.{CanWalk, Walks}};
 
-    /// Whether the next 64 records have reserved ones, which can be skipped as none of the 64 is one too many.
+    /// Whether a block has reserved records that can be skipped: they aren't refused, and there is room for all its records.
     #[inline(always)]
     fn lets_skip(&self, columns: &Columns) -> bool
-        ensures { result ≡ true → LetsSkip self.now 64 }
+        ensures { result ≡ true → LetsSkip self.now BLOCK_SIZE }
     {
         let room = self.policy.records - self.sums.records;
-        greatest_code(columns) > 512 && room >= 64 && !stops_reserved(self.policy.reserved)
+        greatest_code(columns) > 512
+            && room >= BLOCK_SIZE as u64
+            && !stops_reserved(self.policy.reserved)
     }
 
     /// Counts and places so many reserved records.
@@ -76,8 +80,8 @@ impl Walk {
         self.clock.go_on(placed, base, greatest);
     }
 
-    /// Takes the words of a block, of which these are the records, one after the other, but reserved ones in runs: they
-    /// come and go without a branch that the processor has to guess.
+    /// Takes the words of a block, of which these are the records, one after the other, but reserved ones in runs:
+    /// where they begin and end is as good as random, and a branch on it is costly.
     #[inline(never)]
     pub(crate) fn runs<R: RecordLayout, O: SettlesEvents, S: EventTaker>(
         &mut self,
@@ -86,15 +90,10 @@ impl Walk {
         columns: &Columns,
         taker: &mut S,
     ) -> Result<(), Fault>
-        requires meaning { R.meaning ≡ (how_of self.old).meaning }
-        requires is_for { O.is_for (how_of self.old).policy.settle }
-        requires ready { IsReady S.EventTaker self.old settle.old taker.old }
+        requires can { CanWalk S.EventTaker O.is_for R.meaning self.old settle.old taker.old }
         requires block { IsBlock R.meaning R.UNIT columns.now words.now }
-        ensures delivers { Delivers S.EventTaker (how_of self.old) (HasTaken self.old settle.old)
-            (HasTaken self.new settle.new) taker.old taker.new (numbers words.now) result }
-        ensures goes_on { OnOk result (WalksOn S.EventTaker self.old self.new
-            (floor_in self.new settle.new) taker.new (length words.now)) }
-        ensures stays { StaysKept S.EventTaker self.old self.new settle.new taker.old taker.new }
+        ensures { Walks S.EventTaker self.old self.new settle.old settle.new taker.old taker.new
+            (numbers words.now) result }
     {
         if !self.lets_skip(columns) {
             return self.words::<R, O, S>(settle, words, taker);

@@ -1,9 +1,7 @@
 // The events that are kept back at the end.
 ghost use Rattle.std.specs.Prelude.{◌≡◌, ◌++◌, List, false, OnOk, IfErr};
-ghost use Rattle.tally_base.{specs.declared.fault.Fault.TheVariants.WriteFault, specs.FaultCounts.FailsOnce};
-ghost use Rattle.ptu_definitions.{specs.Kept.Marked, specs.Settled.marked_as};
-ghost use Rattle.settle.specs.Standing.{kept_back, last_time};
-ghost use Rattle.record_stream.{specs.Feeding.Follows, specs.Keeping.IsKeeping, specs.Ending.BrokeFirst, specs.OneMore.with_marks, specs.Walking.{how_of, given_by, summary_in, Stays}};
+ghost use Rattle.{tally_base.specs.{declared.fault.Fault.TheVariants.WriteFault, FaultCounts.FailsOnce}, ptu_definitions.specs.{Kept.Marked, Settled.marked_as}, settle.specs.Standing.kept_back};
+ghost use Rattle.{settle.specs.Standing.last_time, record_stream.specs.{Feeding.Follows, Keeping.IsKeeping, Ending.BrokeFirst, OneMore.with_marks, Walking.{how_of, given_by, summary_in, Stays}}};
 
 use crate::taker::EventTaker;
 use crate::walk::Walk;

@@ -1,42 +1,33 @@
 // The words of a piece in blocks, where events are put in their places.
-ghost use Rattle.std.specs.Prelude.{◌≡◌, ◌≢◌, ◌+◌, ◌≤◌, length};
-ghost use Rattle.tally_base.{specs.Limits.record_limit, specs.Columns.gathered};
-ghost use Rattle.record_stream.specs.OneMore.{summed, with_block};
-ghost use Rattle.record_layout.specs.Sums.{IsSplit};
+ghost use Rattle.std.specs.Prelude.{◌≡◌, ◌≢◌, Some, IfSome};
+ghost use Rattle.{tally_base.specs.Columns.gathered, record_stream.specs.OneMore.{summed, first_with, last_with}};
 
 use crate::ahead::{Ahead, ordered_below};
 use crate::blocks::{GivingOrder, SettlesEvents, add_block, first_kept, put_events};
 use crate::columns_taker::TakesColumns;
-use crate::count::Sums;
 use crate::letting_go::let_go;
+use crate::sums::Sums;
 use crate::walk::Walk;
 use abs_time::is_ordered;
 use arrayvec::ArrayVec;
 use lane_decode::Columns;
-use ptu_definitions::KindCounts;
 use record_layout::RecordLayout;
 use settle::{Settle, Settled};
 use tally_base::{BLOCK_SIZE, Block, Event, Fault, TABLE_BLOCK};
 
-/// Counts the records of words, of which these are the kinds, and the events that are given with them.
-fn add_given(sums: &mut Sums, counts: &KindCounts, block: &Block<TABLE_BLOCK>)
-    requires few { sums.old.records + counts.now.records ≤ record_limit }
-    requires split { IsSplit counts.now }
-    requires parts { sums.old.photons + sums.old.markers + sums.old.wraps + sums.old.reserved ≡
-        sums.old.records }
-    ensures value { summed sums.new
-        ≡ with_block (summed sums.old) counts.now (gathered block.now) }
-    ensures records { sums.new.records ≡ sums.old.records + counts.now.records }
-    ensures parts { sums.new.photons + sums.new.markers + sums.new.wraps + sums.new.reserved ≡
-        sums.new.records }
-    ensures late { sums.new.late ≡ sums.old.late }
+/// The time of the first event that was kept, where those of a block are kept too, and that of their last. Where there is
+/// no last, the first means nothing.
+fn times_of(sums: &Sums, block: &Block<TABLE_BLOCK>) -> (u64, Option<u64>)
+    ensures last { last_with None (gathered block.now) ≡ result.1 }
+    ensures first { IfSome result.1 (λ t. Some result.0
+        ≡ first_with (summed sums.now).first (gathered block.now)) }
 {
     let len = block.len();
     if len == 0 {
-        return add_block(sums, counts, 0, None);
+        return (0, None);
     }
     let first = first_kept(sums.kept, sums.first, block.time(0));
-    add_block(sums, counts, first, Some(block.time(len - 1)));
+    (first, Some(block.time(len - 1)))
 }
 
 /// Each event in its place.
@@ -92,7 +83,8 @@ impl GivingOrder for InPlace {
         self.block.clear();
         put_events::<R>(&clock, &self.columns, below, &mut self.block);
         let_go(walk, &self.block, settle, &mut self.out, &mut self.stay);
-        add_given(&mut walk.sums, &ahead.counts, &self.out);
+        let (first, last) = times_of(&walk.sums, &self.out);
+        add_block(&mut walk.sums, &ahead.counts, first, last);
         let placed = clock.placed() + ahead.counts.records;
         let low = clock.greatest();
         let greatest = ahead.greatest.unwrap_or(low);

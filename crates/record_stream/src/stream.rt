@@ -1,16 +1,16 @@
 // A stream of records that comes in pieces.
-ghost use Rattle.std.{specs.Prelude.{◌≡◌, ◌+◌, ◌*◌, ◌<◌, ◌≤◌, ◌++◌, ◌∷◌, [], List, ℕ, length, None, Some, OnOk, OnErr, IfErr, ◌≢◌, ◌&&◌, not, IsTrue, if◌then◌else◌, Err, true, false}, proofs.Props.props};
-ghost use Rattle.abs_time.{proofs.Floors.kind_fits-prop, specs.Placing.IsSmall};
-ghost use Rattle.tally_base.{specs.Limits.record_limit, specs.declared.fault.Fault.Fault, specs.declared.fault.Fault.TheVariants.WriteFault, specs.FaultCounts.{FailsOnce, Rose}, specs.Events.is_ordered, specs.Faults.{is_outside, fault_in}, specs.Columns.gathered};
-ghost use Rattle.ptu_definitions.{specs.Kept.Marked, specs.Streams.{reading, record_refusal, streamed}, specs.Layouts.Fits, specs.Words.{numbers, words_of}, specs.Headers.Shows};
-ghost use Rattle.record_stream.specs.Keeping.{IsKeeping};
+ghost use Rattle.std.specs.Prelude.{◌≡◌, ◌+◌, ◌*◌, ◌<◌, ◌≤◌, ◌++◌, ◌∷◌, [], List, ℕ, length, None, Some, OnOk, OnErr, IfErr, ◌≢◌, ◌&&◌, not, IsTrue, if◌then◌else◌, Err, true, false};
+ghost use Rattle.std.proofs.Props.{props};
+ghost use Rattle.{abs_time.{proofs.Floors.kind_fits-prop, specs.Placing.IsSmall}, tally_base.specs.{Limits.record_limit, declared.fault.Fault.{Fault, TheVariants.WriteFault}, FaultCounts.FailsOnce}};
+ghost use Rattle.{tally_base.specs.{FaultCounts.Rose, Events.is_ordered, Faults.{is_outside, fault_in}, Columns.gathered}, ptu_definitions.specs.{Kept.Marked, Streams.{reading, record_refusal}}};
+ghost use Rattle.{ptu_definitions.specs.{Streams.streamed, Layouts.Fits, Words.{numbers, words_of}, Headers.Shows}, record_stream.specs.Keeping.IsKeeping};
 
 use crate::blocks::{FileOrder, take_words};
 use crate::columns_taker::TakesColumns;
-use crate::count::Sums;
 use crate::in_blocks::{InBlocks, give_all};
 use crate::settled::give_rest;
 use crate::settled_blocks::InPlace;
+use crate::sums::Sums;
 use crate::taker::EventTaker;
 use crate::unwritten::Unwritten;
 use crate::walk::Walk;
@@ -40,7 +40,7 @@ pub struct RecordStream {
 }
 
 impl RecordStream {
-    ghost use Rattle.record_stream.{specs.OneMore.with_event, specs.Feeding.{Follows, Delivers, FedPiece}, specs.Standing.{how_of, given_by, greatest_of, refused_with, carried_by, kept_back_by, records_of, bytes_in, summary_in, clock_in, IsBehind, CarriesOn, HasStreamed, IsFollowed, StreamsOn, Stays}, specs.Ending.Ended, specs.Pieces.TakesOn};
+    ghost use Rattle.record_stream.{specs.OneMore.with_event, specs.Feeding.{Follows, Delivers, FedPiece}, specs.Standing.{how_of, given_by, greatest_of, refused_with, carried_by, kept_back_by, records_of, bytes_in, summary_in, clock_in, IsBehind, CarriesOn, HasStreamed, HasGivenNone, CanRead, Feeds, IsFollowed, StreamsOn, Stays}, specs.Ending.Ended, specs.Pieces.TakesOn};
 
     /// The stream of a file of this type, which was given no bytes. The greatest number of records is 1
     /// to 2^40, and at most 64 events may overtake one.
@@ -50,9 +50,7 @@ impl RecordStream {
         ensures how { how_of result ≡ reading record_type policy }
         ensures empty { HasStreamed result [] }
         ensures unrefused { refused_with result ≡ None }
-        ensures given { given_by result ≡ 0 }
-        ensures greatest { greatest_of result ≡ 0 }
-        ensures none { kept_back_by result ≡ [] }
+        ensures none { HasGivenNone result }
     {
         RecordStream {
             walk: Walk {
@@ -118,8 +116,7 @@ impl RecordStream {
         words: &[[u8; 4]],
         taker: &mut W,
     ) -> Result<(), Fault>
-        requires meaning { R.meaning ≡ (how_of self.old).meaning }
-        requires follows { IsFollowed W.EventTaker self.old taker.old }
+        requires { CanRead W.EventTaker R.meaning self.old taker.old }
         ensures delivers { Delivers W.EventTaker (how_of self.old) (IsBehind self.old)
             (IsBehind self.new) taker.old taker.new (numbers words.now) result }
         ensures goes_on { OnOk result
@@ -140,16 +137,8 @@ impl RecordStream {
         piece: &[u8],
         taker: &mut W,
     ) -> Result<(), Fault>
-        requires meaning { R.meaning ≡ (how_of self.old).meaning }
-        requires follows { IsFollowed W.EventTaker self.old taker.old }
-        ensures at { (bytes : List ℕ) → CarriesOn self.old bytes
-            → OnOk result (CarriesOn self.new (bytes ++ piece.now)) }
-        ensures fed { (bytes : List ℕ) → CarriesOn self.old bytes
-            → FedPiece W.EventTaker (how_of self.old) taker.old taker.new bytes piece.now
-            result }
-        ensures goes_on { OnOk result
-            (StreamsOn W.EventTaker self.old self.new taker.new (length piece.now)) }
-        ensures stays { Stays W.EventTaker self.old self.new taker.old taker.new }
+        requires { CanRead W.EventTaker R.meaning self.old taker.old }
+        ensures { Feeds W.EventTaker self.old self.new taker.old taker.new piece.now result }
     {
         let (first, words) = self.carried.take(piece);
         self.words::<R, W>(first.as_slice(), taker)?;
@@ -158,15 +147,8 @@ impl RecordStream {
 
     /// Takes a piece in the layout of the record type.
     fn by_type<W: TakesColumns>(&mut self, piece: &[u8], taker: &mut W) -> Result<(), Fault>
-        requires follows { IsFollowed W.EventTaker self.old taker.old }
-        ensures at { (bytes : List ℕ) → CarriesOn self.old bytes
-            → OnOk result (CarriesOn self.new (bytes ++ piece.now)) }
-        ensures fed { (bytes : List ℕ) → CarriesOn self.old bytes
-            → FedPiece W.EventTaker (how_of self.old) taker.old taker.new bytes piece.now
-            result }
-        ensures goes_on { OnOk result
-            (StreamsOn W.EventTaker self.old self.new taker.new (length piece.now)) }
-        ensures stays { Stays W.EventTaker self.old self.new taker.old taker.new }
+        requires { IsFollowed W.EventTaker self.old taker.old }
+        ensures { Feeds W.EventTaker self.old self.new taker.old taker.new piece.now result }
     {
         in_layout!(self.walk.record_type, self.piece::<R, W>(piece, taker))
     }
@@ -179,14 +161,8 @@ impl RecordStream {
     ) -> Result<(), Fault>
         requires follows { IsFollowed S.EventTaker self.old blocks.old.taker.now }
         requires none { gathered blocks.old.block ≡ [] }
-        ensures at { (bytes : List ℕ) → CarriesOn self.old bytes
-            → OnOk result (CarriesOn self.new (bytes ++ piece.now)) }
-        ensures fed { (bytes : List ℕ) → CarriesOn self.old bytes
-            → FedPiece S.EventTaker (how_of self.old) blocks.old.taker.now blocks.new.taker.now bytes
-            piece.now result }
-        ensures goes_on { OnOk result
-            (StreamsOn S.EventTaker self.old self.new blocks.new.taker.now (length piece.now)) }
-        ensures stays { Stays S.EventTaker self.old self.new blocks.old.taker.now blocks.new.taker.now }
+        ensures feeds { Feeds S.EventTaker self.old self.new blocks.old.taker.now
+            blocks.new.taker.now piece.now result }
         ensures name { blocks.new.taker.ghost_name ≡ blocks.old.taker.ghost_name }
     {
         let fed = self.by_type(piece, blocks);
@@ -201,15 +177,8 @@ impl RecordStream {
 
     /// Takes a piece, with a block for its events.
     fn in_blocks<S: EventTaker>(&mut self, piece: &[u8], taker: &mut S) -> Result<(), Fault>
-        requires follows { IsFollowed S.EventTaker self.old taker.old }
-        ensures at { (bytes : List ℕ) → CarriesOn self.old bytes
-            → OnOk result (CarriesOn self.new (bytes ++ piece.now)) }
-        ensures fed { (bytes : List ℕ) → CarriesOn self.old bytes
-            → FedPiece S.EventTaker (how_of self.old) taker.old taker.new bytes piece.now
-            result }
-        ensures goes_on { OnOk result
-            (StreamsOn S.EventTaker self.old self.new taker.new (length piece.now)) }
-        ensures stays { Stays S.EventTaker self.old self.new taker.old taker.new }
+        requires { IsFollowed S.EventTaker self.old taker.old }
+        ensures { Feeds S.EventTaker self.old self.new taker.old taker.new piece.now result }
     {
         let mut blocks = InBlocks {
             taker,

@@ -1,9 +1,8 @@
 // What events are given to.
 ghost use Rattle.std.specs.Prelude.{◌≡◌, ℕ, ◌+◌, ◌<◌, ◌≤◌, ◌&&◌, not, true, IsTrue, [], ◌∷◌, ◌++◌, length, OnOk, OnErr, max};
-ghost use Rattle.tally_base.{specs.declared.header.Mode.Mode, specs.FaultCounts.FailsOnce, specs.Events.is_ordered, specs.Limits.{record_limit, time_limit}, specs.Columns.{sorted, gathered}, specs.Tally.{floor_after, InOrder}};
-ghost use Rattle.ptu_definitions.{specs.Layouts.KindFits, specs.Kept.{Marked, floor_of}};
-ghost use Rattle.abs_time.specs.Floors.{moved_floor, orders_markers};
-ghost use Rattle.record_stream.specs.Blocks.{on_time, AllFit, LetsLatePass, BrokeAmong};
+ghost use Rattle.tally_base.specs.{declared.header.Mode.Mode, FaultCounts.FailsOnce, Events.is_ordered, Limits.{record_limit, time_limit}, Columns.{sorted, gathered}, Tally.{floor_after, InOrder}};
+ghost use Rattle.{ptu_definitions.specs.{Layouts.KindFits, Kept.{Marked, floor_of}}, abs_time.specs.Floors.{moved_floor, orders_markers}, record_stream.specs.Blocks.{on_time, AllFit, LetsLatePass}};
+ghost use Rattle.record_stream.specs.Blocks.{BrokeAmong};
 
 use tally_base::{Block, Event, Failed, Mode, TABLE_BLOCK};
 

@@ -1,11 +1,11 @@
 // The records of a stream, one after the other.
 ghost use Rattle.std.specs.Prelude.{◌≡◌, ◌+◌, ◌*◌, ◌<◌, ◌≤◌, ◌++◌, ◌∷◌, [], List, ℕ, length, Some, OnOk, OnErr, IfOk, IfErr, ◌&&◌, not, IsTrue};
-ghost use Rattle.abs_time.{specs.Placing.{mode_of as clock_mode, placed_by, IsSmall}, specs.Floors.moved_floor};
-ghost use Rattle.tally_base.{specs.RecordTypes.mode_of, specs.Limits.record_limit, specs.declared.fault.Fault.TheVariants.WriteFault, specs.FaultCounts.FailsOnce, specs.Events.is_ordered};
-ghost use Rattle.ptu_definitions.{specs.Kept.Marked, specs.Words.numbers, specs.Streams.refusal};
+ghost use Rattle.{abs_time.specs.{Placing.{mode_of as clock_mode, placed_by, IsSmall}, Floors.moved_floor}, tally_base.specs.{RecordTypes.mode_of, Limits.record_limit}};
+ghost use Rattle.{tally_base.specs.{declared.fault.Fault.TheVariants.WriteFault, Events.is_ordered}, ptu_definitions.specs.{Kept.Marked, Words.numbers, Streams.refusal}};
 
 use crate::blocks::SettlesEvents;
-use crate::count::{Sums, add_event, add_raw, stops_at, stops_late};
+use crate::count::{add_event, add_raw, stops_at, stops_late};
+use crate::sums::Sums;
 use crate::taker::EventTaker;
 use abs_time::{Clock, Placed};
 use record_layout::RecordLayout;
@@ -22,7 +22,6 @@ pub struct Walk {
     pub given: u64,
     pub ghost limit: { policy.records ≤ record_limit },
     pub ghost few: { sums.records ≤ policy.records },
-    pub ghost parts: { sums.photons + sums.markers + sums.wraps + sums.reserved ≡ sums.records },
     pub ghost few_given: { given ≤ sums.records },
     pub ghost few_late: { sums.late ≤ given },
     pub ghost same_mode: { clock_mode clock ≡ mode_of record_type },
@@ -30,7 +29,7 @@ pub struct Walk {
 }
 
 impl Walk {
-    ghost use Rattle.record_stream.{specs.OneMore.with_event, specs.Feeding.{Follows, Delivers}, specs.Walking.{how_of, given_by, KeepsPlace, IsBehind, CanGive, Gave, WalksOn}, specs.Keeping.IsKeeping, specs.Settling.{floor_in, ComesUp, HasTaken, IsReady, StaysKept, TellsAfterAny}, specs.Rows.{IsPlaced, CountsOne, KeepsGiven}};
+    ghost use Rattle.record_stream.{specs.OneMore.with_event, specs.Feeding.{Follows, WasCalled}, specs.Walking.{how_of, given_by, KeepsPlace, IsBehind, CanGive, Gave}, specs.Keeping.IsKeeping, specs.Settling.{floor_in, CanWalk, ComesUp, IsReady, StaysKept, TellsAfterAny, Walks}, specs.Rows.{IsPlaced, CountsOne, KeepsGiven}};
 
     /// Counts and places the record of the next word. Refuses it for all but a late event.
     #[inline(always)]
@@ -67,14 +66,9 @@ impl Walk {
         word: u32,
         taker: &mut S,
     ) -> Result<(), Fault>
-        requires meaning { R.meaning ≡ (how_of self.old).meaning }
-        requires is_for { O.is_for (how_of self.old).policy.settle }
-        requires ready { IsReady S.EventTaker self.old settle.old taker.old }
-        ensures delivers { Delivers S.EventTaker (how_of self.old) (HasTaken self.old settle.old)
-            (HasTaken self.new settle.new) taker.old taker.new (word ∷ []) result }
-        ensures goes_on { OnOk result (WalksOn S.EventTaker self.old self.new
-            (floor_in self.new settle.new) taker.new 1) }
-        ensures stays { StaysKept S.EventTaker self.old self.new settle.new taker.old taker.new }
+        requires { CanWalk S.EventTaker O.is_for R.meaning self.old settle.old taker.old }
+        ensures { Walks S.EventTaker self.old self.new settle.old settle.new taker.old taker.new
+            (word ∷ []) result }
     {
         match self.place_next::<R>(word)? {
             Placed::Event(event) => self.take_event::<O, S>(
@@ -98,8 +92,7 @@ impl Walk {
         late: bool,
         taker: &mut S,
     ) -> Result<(), Fault>
-        requires is_for { O.is_for (how_of self.old).policy.settle }
-        requires ready { IsReady S.EventTaker self.old settle.old taker.old }
+        requires ready { IsReady S.EventTaker O.is_for self.old settle.old taker.old }
         requires comes { ComesUp self.old settle.old event late }
         ensures tells { TellsAfterAny S.EventTaker self.old self.new settle.old settle.new taker.old
             taker.new event before late result }
@@ -139,8 +132,7 @@ impl Walk {
         ensures broken { OnErr result ((start : S) (l : Marked) → S.got start taker.old l
             → S.broke start taker.new (l ++ (event.now, late) ∷ [])) }
         ensures fault { IfErr result (λ fault. fault ≡ WriteFault) }
-        ensures cause { FailsOnce (S.faults taker.old) (S.faults taker.new) result }
-        ensures same { S.same taker.old taker.new }
+        ensures called { WasCalled S.EventTaker taker.old taker.new result }
         ensures keeps { KeepsPlace self.old self.new }
     {
         if taker.take(event, late).is_err() {
@@ -158,14 +150,9 @@ impl Walk {
         words: &[[u8; 4]],
         taker: &mut S,
     ) -> Result<(), Fault>
-        requires meaning { R.meaning ≡ (how_of self.old).meaning }
-        requires is_for { O.is_for (how_of self.old).policy.settle }
-        requires ready { IsReady S.EventTaker self.old settle.old taker.old }
-        ensures delivers { Delivers S.EventTaker (how_of self.old) (HasTaken self.old settle.old)
-            (HasTaken self.new settle.new) taker.old taker.new (numbers words.now) result }
-        ensures goes_on { OnOk result (WalksOn S.EventTaker self.old self.new
-            (floor_in self.new settle.new) taker.new (length words.now)) }
-        ensures stays { StaysKept S.EventTaker self.old self.new settle.new taker.old taker.new }
+        requires { CanWalk S.EventTaker O.is_for R.meaning self.old settle.old taker.old }
+        ensures { Walks S.EventTaker self.old self.new settle.old settle.new taker.old taker.new
+            (numbers words.now) result }
     {
         // A copy, whose fields the loop keeps in registers.
         let mut at = *self;

@@ -1,8 +1,8 @@
 -- What the words of photons mean, and how the wraps before them add up.
-use Rattle.std.{proofs.Common.{◌≡◌, ◌+◌, ◌-◌, ◌*◌, ◌/◌, ◌%◌, ◌^◌, ◌<◌, ◌≤◌, ℕ, zero, suc, false, arith, rules}, proofs.lemmas.Bool.ne_eqb}
-use Rattle.tally_base.{specs.declared.event.EventKind.TheVariants.Photon as PhotonEvent, specs.declared.header.Mode.Mode, specs.declared.header.Mode.TheVariants.{T2, T3}}
-use Rattle.ptu_definitions.{specs.declared.records.Raw.TheVariants.{Photon, Wrap}, specs.Layouts.{KindFits, hydra_t2, hydra_t3}}
-use Rattle.record_write.specs.Picked.{unit_of, wrap_word, photon_word, meaning_in, is_too_late}
+use Rattle.std.proofs.{Common.{◌≡◌, ◌+◌, ◌-◌, ◌*◌, ◌/◌, ◌%◌, ◌^◌, ◌<◌, ◌≤◌, ℕ, zero, suc, false, arith, rules}, lemmas.Bool.ne_eqb}
+use Rattle.tally_base.specs.declared.{event.EventKind.TheVariants.Photon as PhotonEvent, header.Mode.{Mode, TheVariants.{T2, T3}}}
+use Rattle.{ptu_definitions.specs.{declared.records.Raw.TheVariants.{Photon, Wrap}, Layouts.{KindFits, hydra_t2, hydra_t3}}, record_write.specs.Picked.unit_of}
+use Rattle.record_write.specs.Picked.{wrap_word, photon_word, meaning_in, is_too_late}
 
 pub wrap-meaning : (mode : Mode) (units : ℕ) → 0 < units → units < unit_of mode → meaning_in mode (wrap_word units) ≡ Wrap (unit_of mode * units)
 unfolding hydra_t2 hydra_t3

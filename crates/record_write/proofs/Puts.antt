@@ -1,10 +1,10 @@
 -- Words that are put into a block one after another.
-use Rattle.std.{proofs.Common.{◌≡◌, ◌≢◌, ◌+◌, ◌-◌, ◌/◌, ◌%◌, ◌<◌, ℕ, false, List, [], ◌∷◌, ◌++◌, replicate, refl, sym, ap, subst, ◌∙◌, append_assoc, append-nil, arith, ◌==◌}, proofs.lemmas.List.{replicate_more, replicate-append-replicate}, proofs.lemmas.Bool.ne_eqb}
-use Rattle.tally_base.{specs.declared.event.Event.Event}
-use Rattle.bench_io.{specs.Sinks.{SinkState, WroteShort, PassesOn}, proofs.Bytes.{WroteShort-same, WroteShort-more, WroteShort-flushed, WroteShort-passed, PassesOn-held, PassesOn-trans}}
-use Rattle.ptu_definitions.proofs.PrefixLemmas.{last_after-push}
-use Rattle.minimal_file.{specs.ShortFiles.bytes_in, proofs.ShortHeaders.bytes_in-append}
-use Rattle.record_write.{specs.Picked.{wrap_word, wraps, time_or_none, last_time}, specs.Writing.{PutsWords, CutsWords}}
+use Rattle.std.proofs.Common.{◌≡◌, ◌≢◌, ◌+◌, ◌-◌, ◌/◌, ◌%◌, ◌<◌, ℕ, false, List, [], ◌∷◌, ◌++◌, replicate, refl, sym, ap, subst, ◌∙◌, append_assoc, append-nil}
+use Rattle.std.proofs.{Common.{arith, ◌==◌}, lemmas.{List.{replicate_more, replicate-append-replicate}, Bool.ne_eqb}}
+use Rattle.{tally_base.specs.declared.event.Event.Event, bench_io.{specs.Sinks.{SinkState, WroteShort, PassesOn}, proofs.Bytes.WroteShort-same}}
+use Rattle.bench_io.proofs.Bytes.{WroteShort-more, WroteShort-flushed, WroteShort-passed, PassesOn-held, PassesOn-trans}
+use Rattle.{ptu_definitions.proofs.PrefixLemmas.last_after-push, minimal_file.{specs.ShortFiles.bytes_in, proofs.ShortHeaders.bytes_in-append}}
+use Rattle.record_write.specs.{Picked.{wrap_word, wraps, time_or_none, last_time}, Writing.{PutsWords, CutsWords}}
 
 more-bytes : (held xs ys : List ℕ) → (held ++ bytes_in xs) ++ bytes_in ys ≡ held ++ bytes_in (xs ++ ys)
 more-bytes held xs ys = append_assoc held (bytes_in xs) (bytes_in ys) ∙ ap (λ l. held ++ l) (sym (bytes_in-append xs ys))

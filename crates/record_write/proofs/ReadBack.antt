@@ -1,9 +1,16 @@
 -- Photons are read back from their words.
-use Rattle.std.{proofs.Common.{◌≡◌, ◌∙◌, ◌+◌, ◌*◌, ◌/◌, ◌%◌, ◌^◌, ◌<◌, ◌≤◌, ℕ, Bool, false, None, List, [], ◌∷◌, ◌++◌, length, map, refl, ap, arith, nat_lt, nat_le, ◌&&◌, if◌then◌else◌, subst, append_assoc, append-nil, rules}, specs.declared.option.Option.Option, specs.List.{AllByRecursion}, proofs.lemmas.List.{length-map, length_push, map_push, map-append}, proofs.lemmas.List.Sums.sum_by-append, proofs.lemmas.List.Elements.recursion_from_All, proofs.lemmas.Bool.Decides.nat_tests}
-use Rattle.tally_base.{specs.declared.event.Event.Event, specs.declared.event.EventKind.TheVariants.Photon as PhotonEvent, specs.declared.event.Policy.Policy, specs.declared.fault.Fault.Fault, specs.declared.header.Mode.Mode, specs.Events.{is_ordered}, specs.Limits.wrap_limit}
-use Rattle.ptu_definitions.{specs.declared.records.Raw.TheVariants.Photon, specs.Kept.{mark, marked, kept, is_late, greatest, ordered_time}, specs.Prefixes.{each_after, listed}, specs.Settled.{Rises, delivered, not_marked}, specs.Streams.{StreamSettings, late_refusal, refusal, refusals, record_refusal, given}, specs.Times.{amount, base, event_after, events}, proofs.DeliveredLaws.{is_late_by-0, not_marked-false}, proofs.Firsts.given-all, proofs.SettledLemmas.Rises-IsNonDecreasingBy, proofs.StreamLemmas.{later, greatest-push}}
-use Rattle.minimal_file.{specs.ShortFiles.{Timed, timed}, proofs.ShortHeaders.IsWord}
-use Rattle.record_write.{specs.Picked.{unit_of, wrap_word, photon_word, picked_words, picked_events, is_too_late, meaning_in, IsPhotonOf, IsPhotonOrWrap, CanBePicked, StaysWithin}, proofs.Meanings.{wrap-meaning, photon-meaning, wrap-small, photon-small}, proofs.Walks.{Walks, IsAt, records_of, walk, at-wrap, at-photon}}
+use Rattle.std.proofs.Common.{◌≡◌, ◌∙◌, ◌+◌, ◌*◌, ◌/◌, ◌%◌, ◌^◌, ◌<◌, ◌≤◌, ℕ, Bool, false, None, List, [], ◌∷◌, ◌++◌, length, map, refl, ap, arith, nat_lt}
+use Rattle.std.proofs.{Common.{nat_le, ◌&&◌, if◌then◌else◌, subst, append_assoc, append-nil, rules}, lemmas.List.{length-map, length_push, map_push}}
+use Rattle.std.{proofs.lemmas.{List.{map-append, Sums.sum_by-append, Elements.recursion_from_All}, Bool.Decides.nat_tests}, specs.declared.option.Option.Option}
+use Rattle.{std.specs.List.AllByRecursion, tally_base.specs.declared.event.{Event.Event, EventKind.TheVariants.Photon as PhotonEvent, Policy.Policy}}
+use Rattle.tally_base.specs.{declared.{fault.Fault.Fault, header.Mode.Mode}, Events.is_ordered, Limits.wrap_limit}
+use Rattle.ptu_definitions.specs.{declared.records.Raw.TheVariants.Photon, Kept.{mark, marked, kept, is_late, greatest, ordered_time}, Prefixes.each_after}
+use Rattle.ptu_definitions.specs.{Prefixes.listed, Settled.{Rises, delivered, not_marked}, Streams.{StreamSettings, late_refusal, refusal, refusals}}
+use Rattle.ptu_definitions.{specs.{Streams.{record_refusal, given}, Times.{amount, base, event_after, events}}, proofs.DeliveredLaws.is_late_by-0}
+use Rattle.ptu_definitions.proofs.{DeliveredLaws.not_marked-false, Firsts.given-all, SettledLemmas.Rises-IsNonDecreasingBy, StreamLemmas.{later, greatest-push}}
+use Rattle.{minimal_file.{specs.ShortFiles.{Timed, timed}, proofs.ShortHeaders.IsWord}, record_write.specs.Picked.{unit_of, wrap_word, photon_word}}
+use Rattle.record_write.specs.Picked.{picked_words, picked_events, is_too_late, meaning_in, IsPhotonOf, IsPhotonOrWrap, CanBePicked, StaysWithin}
+use Rattle.record_write.proofs.{Meanings.{wrap-meaning, photon-meaning, wrap-small, photon-small}, Walks.{Walks, IsAt, records_of, walk, at-wrap, at-photon}}
 
 pub rising : (mode : Mode) (photons : List Event) → CanBePicked mode photons → Rises 0 photons
 rising mode photons can = Rises-IsNonDecreasingBy 0 photons can.in_order (λ d some. omega arith)
@@ -65,10 +72,12 @@ within mode photons can = λ front back are.
 abbrev AreEvents : Mode → List ℕ → List ℕ → List Event → Type 0
 AreEvents mode before words photons = map timed (each_after event_after (records_of mode before) (records_of mode words)) ≡ map timed photons
 
-wrap-events : (mode : Mode) (before : List ℕ) (units : ℕ) (words : List ℕ) (photons : List Event) → 0 < units → units < unit_of mode → AreEvents mode (before ++ wrap_word units ∷ []) words photons → AreEvents mode before (wrap_word units ∷ words) photons
+wrap-events : (mode : Mode) (before : List ℕ) (units : ℕ) (words : List ℕ) (photons : List Event) → 0 < units → units < unit_of mode
+    → AreEvents mode (before ++ wrap_word units ∷ []) words photons → AreEvents mode before (wrap_word units ∷ words) photons
 wrap-events mode before units words photons some few rest = search (rules, arith, wrap-meaning, map_push)
 
-photon-events : (mode : Mode) (before : List ℕ) (e : Event) (input dtime : ℕ) (words : List ℕ) (photons : List Event) → e.kind ≡ PhotonEvent input dtime → meaning_in mode (photon_word mode input dtime e.time) ≡ Photon input (e.time % unit_of mode) dtime
+photon-events : (mode : Mode) (before : List ℕ) (e : Event) (input dtime : ℕ) (words : List ℕ) (photons : List Event) → e.kind ≡ PhotonEvent input dtime
+    → meaning_in mode (photon_word mode input dtime e.time) ≡ Photon input (e.time % unit_of mode) dtime
     → base (records_of mode before) + e.time % unit_of mode ≡ e.time → AreEvents mode (before ++ photon_word mode input dtime e.time ∷ []) words photons → AreEvents mode before (photon_word mode input dtime e.time ∷ words) (e ∷ photons)
 photon-events mode before e input dtime words photons same raw here rest = search (rules, arith, map_push)
 
@@ -96,7 +105,8 @@ no-cause full reserved passing stops limit gap pass late f r p l = search (rules
 is-room : (most : ℕ) (mode : Mode) (before : List ℕ) → length before < most → nat_le most (length (records_of mode before)) ≡ false
 is-room most mode before few = let size : length (records_of mode before) ≡ length before = length-map before (meaning_in mode) in grind (arith, nat_tests)
 
-refusal-wrap : (mode : Mode) (policy : Policy) (before : List ℕ) (units : ℕ) → 0 < units → units < unit_of mode → length before < policy.records → base (records_of mode before) + unit_of mode * units ≤ 2 ^ 62 → refusal (how_in mode policy) before (wrap_word units) ≡ None
+refusal-wrap : (mode : Mode) (policy : Policy) (before : List ℕ) (units : ℕ) → 0 < units → units < unit_of mode → length before < policy.records
+    → base (records_of mode before) + unit_of mode * units ≤ 2 ^ 62 → refusal (how_in mode policy) before (wrap_word units) ≡ None
 unfolding refusal
 refusal-wrap mode policy before units some few room low = search (rules, arith, wrap-meaning, records_of, no-cause, is-room)
 
@@ -111,13 +121,15 @@ not-late mode before e low =
 none-late : (mode : Mode) (k : ℕ) (before : List Event) (e : Event) → k ≡ 0 → greatest mode before ≤ e.time → late_refusal k mode before (e ∷ []) ≡ None
 none-late mode k before e first low = rw (first, is_late_by-0 mode before e, not-late mode before e low) refl
 
-refusal-photon : (mode : Mode) (policy : Policy) (before : List ℕ) (e : Event) (input dtime : ℕ) → meaning_in mode (photon_word mode input dtime e.time) ≡ Photon input (e.time % unit_of mode) dtime → policy.settle ≡ 0 → length before < policy.records
+refusal-photon : (mode : Mode) (policy : Policy) (before : List ℕ) (e : Event) (input dtime : ℕ)
+    → meaning_in mode (photon_word mode input dtime e.time) ≡ Photon input (e.time % unit_of mode) dtime → policy.settle ≡ 0 → length before < policy.records
     → base (records_of mode before) + e.time % unit_of mode ≡ e.time → greatest mode (events (records_of mode before)) ≤ e.time
     → refusal (how_in mode policy) before (photon_word mode input dtime e.time) ≡ None
 unfolding refusal
 refusal-photon mode policy before e input dtime raw first room here low = search (rules, arith, no-cause, records_of, is-room, none-late)
 
-pub unrefused : (mode : Mode) (policy : Policy) (photons : List Event) → CanBePicked mode photons → policy.settle ≡ 0 → length (picked_words mode photons) ≤ policy.records → record_refusal (how_in mode policy) (picked_words mode photons) ≡ None
+pub unrefused : (mode : Mode) (policy : Policy) (photons : List Event) → CanBePicked mode photons → policy.settle ≡ 0
+    → length (picked_words mode photons) ≤ policy.records → record_refusal (how_in mode policy) (picked_words mode photons) ≡ None
 unfolding refusals
 unrefused mode policy photons can first room =
     let clear = over mode (AreUnrefused mode policy) (record {

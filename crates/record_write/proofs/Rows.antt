@@ -1,7 +1,6 @@
 -- The definitions at known photons.
-use Rattle.std.proofs.Common.{◌≡◌, ◌+◌, ◌-◌, ◌^◌, ℕ, [], ◌∷◌, true, false, refl}
-use Rattle.tally_base.{specs.declared.event.Event.Event, specs.declared.event.EventKind.TheVariants.Photon, specs.declared.header.Mode.TheVariants.{T2, T3}}
-use Rattle.record_write.specs.Picked.{wraps, picked_words, is_too_late}
+use Rattle.{std.proofs.Common.{◌≡◌, ◌+◌, ◌-◌, ◌^◌, ℕ, [], ◌∷◌, true, false, refl}, tally_base.specs.declared.event.{Event.Event, EventKind.TheVariants.Photon}}
+use Rattle.{tally_base.specs.declared.header.Mode.TheVariants.{T2, T3}, record_write.specs.Picked.{wraps, picked_words, is_too_late}}
 
 abbrev photon : ℕ → ℕ → ℕ → Event
 photon input time dtime = record { place = 1; kind = Photon input dtime; time = time }

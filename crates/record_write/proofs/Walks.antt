@@ -1,8 +1,13 @@
 -- An induction over the words of photons: wrap by wrap, and photon by photon.
-use Rattle.std.{proofs.Common.{◌≡◌, ◌+◌, ◌-◌, ◌*◌, ◌/◌, ◌%◌, ◌^◌, ◌<◌, ◌≤◌, ℕ, zero, suc, Bool, true, false, List, [], ◌∷◌, ◌++◌, length, map, replicate, refl, ap, ◌∙◌, arith, append_assoc, append-nil, ◌==◌, if◌then◌else◌, rules}, specs.List.AllByRecursion, proofs.lemmas.Nat.mod_below, proofs.lemmas.Bool.eqb-true, proofs.lemmas.List.map_push, proofs.lemmas.List.Sums.sum_by_push}
-use Rattle.tally_base.{specs.declared.event.Event.Event, specs.declared.event.EventKind.EventKind, specs.declared.event.EventKind.TheVariants.Photon as PhotonEvent, specs.declared.event.EventKind.TheVariants.Marker as MarkerEvent, specs.declared.header.Mode.Mode, specs.Events.is_photon_kind}
-use Rattle.ptu_definitions.{specs.declared.records.Raw.Raw, specs.declared.records.Raw.TheVariants.{Photon}, specs.Layouts.KindFits, specs.Kept.{greatest, ordered_time}, specs.Prefixes.each_after, specs.Settled.Rises, specs.Times.{amount, base, events}, proofs.PrefixLemmas.last_after-push, proofs.StreamLemmas.{events-push, greatest-push}}
-use Rattle.record_write.{specs.Picked.{unit_of, wrap_word, wraps, photon_word, own_word, time_or_none, last_time, photon_words, is_too_late, IsPhotonOf, meaning_in}, proofs.Meanings.{wrap-meaning, photon-meaning, units-lead, unit-time, unit-in-time, unit-some}}
+use Rattle.std.proofs.Common.{◌≡◌, ◌+◌, ◌-◌, ◌*◌, ◌/◌, ◌%◌, ◌^◌, ◌<◌, ◌≤◌, ℕ, zero, suc, Bool, true, false, List, [], ◌∷◌, ◌++◌, length, map, replicate, refl}
+use Rattle.std.proofs.{Common.{ap, ◌∙◌, arith, append_assoc, append-nil, ◌==◌, if◌then◌else◌, rules}, lemmas.{Nat.mod_below, Bool.eqb-true, List.map_push}}
+use Rattle.{std.{proofs.lemmas.List.Sums.sum_by_push, specs.List.AllByRecursion}, tally_base.specs.declared.event.{Event.Event, EventKind.EventKind}}
+use Rattle.tally_base.specs.{declared.{event.EventKind.TheVariants.{Photon as PhotonEvent, Marker as MarkerEvent}, header.Mode.Mode}, Events.is_photon_kind}
+use Rattle.ptu_definitions.specs.{declared.records.Raw.{Raw, TheVariants.Photon}, Layouts.KindFits, Kept.{greatest, ordered_time}, Prefixes.each_after}
+use Rattle.ptu_definitions.{specs.{Settled.Rises, Times.{amount, base, events}}, proofs.{PrefixLemmas.last_after-push, StreamLemmas.events-push}}
+use Rattle.{ptu_definitions.proofs.StreamLemmas.greatest-push, record_write.specs.Picked.{unit_of, wrap_word, wraps, photon_word, own_word, time_or_none}}
+use Rattle.record_write.{specs.Picked.{last_time, photon_words, is_too_late, IsPhotonOf, meaning_in}, proofs.Meanings.{wrap-meaning, photon-meaning}}
+use Rattle.record_write.proofs.Meanings.{units-lead, unit-time, unit-in-time, unit-some}
 
 abbrev pub records_of : Mode → List ℕ → List Raw
 records_of mode words = map (meaning_in mode) words
@@ -65,7 +70,8 @@ copies mode C walks (suc n) units before more photons sum top some few is room g
     (copies mode C walks n units (before ++ wrap_word units ∷ []) more photons (sum + step) top some few
     (at-wrap mode before sum top units is some few) (omega (arith, all, room)) (rw all go))
 
-one_left : (mode : Mode) (C : List ℕ → List ℕ → List Event → Type 0) → Walks mode C → (left : ℕ) (none : Bool) (before more : List ℕ) (photons : List Event) (sum top : ℕ) → (left == 0) ≡ none → left < unit_of mode → IsAt mode before sum top
+one_left : (mode : Mode) (C : List ℕ → List ℕ → List Event → Type 0) → Walks mode C
+    → (left : ℕ) (none : Bool) (before more : List ℕ) (photons : List Event) (sum top : ℕ) → (left == 0) ≡ none → left < unit_of mode → IsAt mode before sum top
     → sum + unit_of mode * left ≤ 2 ^ 62 → ((longer : List ℕ) → IsAt mode longer (sum + unit_of mode * left) top → C longer more photons)
     → C before ((if none then [] else wrap_word left ∷ []) ++ more) photons
 one_left mode C walks left true before more photons sum top none few is room go = search (rules, arith, eqb-true)

@@ -1,8 +1,9 @@
 -- The words of a file of photons.
-use Rattle.std.{specs.Prelude.{ℕ, ◌+◌, ◌-◌, ◌*◌, ◌/◌, ◌%◌, ◌^◌, ◌==◌, ◌≡◌, ◌≤◌, ◌||◌, nat_lt, length, Bool, true, false, List, [], ◌∷◌, ◌++◌, None, Some, map, replicate, if◌then◌else◌}, specs.List.All, specs.List.Sorted.IsNonDecreasingBy, specs.declared.option.Option.Option}
-use Rattle.tally_base.{specs.declared.event.Event.Event, specs.declared.event.Policy.Policy, specs.declared.event.EventKind.EventKind, specs.declared.event.EventKind.TheVariants.{Photon, Marker}, specs.declared.header.Mode.Mode, specs.declared.header.Mode.TheVariants.{T2, T3}, specs.Events.is_photon, specs.Limits.wrap_limit}
-use Rattle.ptu_definitions.{specs.declared.records.Raw.Raw, specs.Layouts.{KindFits, meaning_of}, specs.Kinds.{is_wrap, is_photon as is_record_photon}, specs.Prefixes.{each, last}, specs.Streams.{reading, record_refusal, given}, specs.Times.{base, events}}
-use Rattle.minimal_file.specs.ShortFiles.{minimal_file, short_type}
+use Rattle.std.specs.{Prelude.{ℕ, ◌+◌, ◌-◌, ◌*◌, ◌/◌, ◌%◌, ◌^◌, ◌==◌, ◌≡◌, ◌≤◌, ◌||◌, nat_lt, length, Bool, true, false, List, [], ◌∷◌, ◌++◌, None, Some, map, replicate, if◌then◌else◌}, List.All}
+use Rattle.std.specs.{List.Sorted.IsNonDecreasingBy, declared.option.Option.Option}
+use Rattle.tally_base.specs.{declared.{event.{Event.Event, Policy.Policy, EventKind.{EventKind, TheVariants.{Photon, Marker}}}, header.Mode.{Mode, TheVariants.{T2, T3}}}, Events.is_photon}
+use Rattle.{tally_base.specs.Limits.wrap_limit, ptu_definitions.specs.{declared.records.Raw.Raw, Layouts.{KindFits, meaning_of}, Kinds.{is_wrap, is_photon as is_record_photon}, Prefixes.{each, last}}}
+use Rattle.{ptu_definitions.specs.{Streams.{reading, record_refusal, given}, Times.{base, events}}, minimal_file.specs.ShortFiles.{minimal_file, short_type}}
 
 -- how many ticks one unit of a wrap has
 abbrev pub unit_of : Mode → ℕ

@@ -1,8 +1,7 @@
 -- What a picker stands for.
 use Rattle.std.specs.Prelude.{ℕ, ◌≡◌, ◌≤◌, Bool, true, false, List, [], ◌∷◌, ◌++◌, Result, is_ok}
-use Rattle.tally_base.{specs.declared.event.Event.Event, specs.declared.fault.Fault.Fault, specs.declared.header.Mode.Mode, specs.Events.is_photon}
-use Rattle.ptu_definitions.specs.Layouts.{KindFits}
-use Rattle.record_write.{specs.declared.picker.Picker.Picker, specs.Picked.{last_time, photon_words}}
+use Rattle.{tally_base.specs.{declared.{event.Event.Event, fault.Fault.Fault, header.Mode.Mode}, Events.is_photon}, ptu_definitions.specs.Layouts.KindFits}
+use Rattle.record_write.specs.{declared.picker.Picker.Picker, Picked.{last_time, photon_words}}
 
 abbrev pub mode_of : Picker → Mode
 mode_of picker = picker.mode

@@ -1,7 +1,6 @@
 -- What a call says of the words that it puts into a block or writes.
-use Rattle.std.{specs.Prelude.{ℕ, ◌≡◌, ◌≤◌, ◌⊎◌, Err, List, [], ◌++◌, OnOk, IfErr}, specs.declared.result.Result.Result}
-use Rattle.tally_base.{specs.declared.fault.Fault.Fault, specs.declared.fault.Fault.TheVariants.{PickTime, WriteFault}, specs.FaultCounts.Rose}
-use Rattle.bench_io.specs.Sinks.{SinkState, Wrote, WroteShort, PassesOn}
+use Rattle.std.specs.{Prelude.{ℕ, ◌≡◌, ◌≤◌, ◌⊎◌, Err, List, [], ◌++◌, OnOk, IfErr}, declared.result.Result.Result}
+use Rattle.{tally_base.specs.{declared.fault.Fault.{Fault, TheVariants.{PickTime, WriteFault}}, FaultCounts.Rose}, bench_io.specs.Sinks.{SinkState, Wrote, WroteShort, PassesOn}}
 use Rattle.minimal_file.specs.ShortFiles.{bytes_in}
 
 -- The bytes of the words come after those that a block held, and what it passed on and what it holds are all of these.

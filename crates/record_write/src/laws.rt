@@ -1,9 +1,8 @@
 // The law of written photons, as the contract of a function that does nothing.
-ghost use Rattle.std.{specs.Prelude.{◌≡◌, List, Ok, map}, specs.List.{All}};
-ghost use Rattle.tally_base.{specs.declared.event.Event.Event, specs.declared.event.Policy.Policy, specs.declared.header.Mode.Mode};
-ghost use Rattle.ptu_definitions.{specs.Headers.header_answer, specs.Kept.kept, specs.Words.words_of};
-ghost use Rattle.minimal_file.specs.ShortFiles.{bytes_in, short_fields, timed};
-ghost use Rattle.record_write.specs.Picked.{picked_words, picked_file, picked_events, CanBePicked, IsPhotonOrWrap, StaysWithin, TakesAll, GivesAll};
+ghost use Rattle.std.specs.{Prelude.{◌≡◌, List, Ok, map}, List.All};
+ghost use Rattle.{tally_base.specs.declared.{event.{Event.Event, Policy.Policy}, header.Mode.Mode}, ptu_definitions.specs.{Headers.header_answer, Kept.kept, Words.words_of}};
+ghost use Rattle.{minimal_file.specs.ShortFiles.{bytes_in, short_fields, timed}, record_write.specs.Picked.{picked_words, picked_file, picked_events, CanBePicked, IsPhotonOrWrap, StaysWithin}};
+ghost use Rattle.record_write.specs.Picked.{TakesAll, GivesAll};
 
 /// Photons that can be written are read back: from their file come their words, each word is one of
 /// these photons or a wrap, no front of the words passes the greatest time, and the events are these photons,

@@ -1,10 +1,8 @@
 // Writes photons one after another.
 ghost use Rattle.std.specs.Prelude.{◌≡◌, ◌≤◌, ◌↔◌, ◌++◌, ◌∷◌, [], List, Err, true, false, OnOk, OnErr, IfErr};
-ghost use Rattle.tally_base.{specs.declared.event.Event.Event, specs.declared.fault.Fault.TheVariants.{PickTime, WriteFault}, specs.Events.is_photon};
-ghost use Rattle.bench_io.specs.Sinks.{Wrote, WroteShort};
-ghost use Rattle.ptu_definitions.specs.Layouts.{KindFits};
-ghost use Rattle.minimal_file.specs.ShortFiles.{bytes_in, short_header};
-ghost use Rattle.record_write.{specs.Picked.is_too_late, specs.Writing.{PutsOrCuts, WritesOrCuts, PickCause}};
+ghost use Rattle.{tally_base.specs.{declared.{event.Event.Event, fault.Fault.TheVariants.{PickTime, WriteFault}}, Events.is_photon}, bench_io.specs.Sinks.{Wrote, WroteShort}};
+ghost use Rattle.{ptu_definitions.specs.Layouts.KindFits, minimal_file.specs.ShortFiles.{bytes_in, short_header}, record_write.specs.{Picked.is_too_late, Writing.{PutsOrCuts, WritesOrCuts}}};
+ghost use Rattle.record_write.specs.Writing.{PickCause};
 
 use crate::words::{is_too_late, photon_word, put_photon};
 use bench_io::{OutBuffer, Sink, write_all};

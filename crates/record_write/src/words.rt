@@ -1,8 +1,7 @@
 // The words of photons, put into a block on the way to a sink.
 ghost use Rattle.std.specs.Prelude.{◌≡◌, ◌-◌, ◌/◌, ◌<◌, ◌≤◌, ◌∷◌, ◌++◌, [], replicate, OnOk, OnErr};
-ghost use Rattle.tally_base.specs.declared.event.EventKind.TheVariants.{Photon};
-ghost use Rattle.ptu_definitions.specs.Layouts.{KindFits};
-ghost use Rattle.record_write.{specs.Picked.{is_too_late, unit_of, wraps, photon_word, wraps_between}, specs.Writing.{PutsWords, CutsWords}};
+ghost use Rattle.{tally_base.specs.declared.event.EventKind.TheVariants.Photon, ptu_definitions.specs.Layouts.KindFits, record_write.specs.Picked.{is_too_late, unit_of, wraps, photon_word}};
+ghost use Rattle.record_write.specs.{Picked.wraps_between, Writing.{PutsWords, CutsWords}};
 
 use bench_io::{OutBuffer, Sink};
 use tally_base::{Failed, Mode, WRAP_LIMIT};

@@ -1,16 +1,20 @@
 -- What `demo` leaves.
-use Rattle.std.{proofs.Common.{◌≡◌, ◌≤◌, ◌++◌, ℕ, List, None, Some, Ok, Err, true, refl, sym, ap, subst, ◌∙◌, inl, inr, arith, ◌≢◌, ◌⊎◌, Result, IsErrAnd, IfErr, [], OnOk, OnErr}, proofs.lemmas.Result.IfErr-weaker}
-use Rattle.tally_base.{specs.declared.fault.Fault.Fault, specs.declared.fault.Fault.TheVariants.{OutOfMemory, WriteFault}, specs.declared.slot.Slot.TheVariants.Data, specs.declared.header.Mode.TheVariants.T2, specs.declared.header.RecordType.TheVariants.HydraHarp2T2, specs.Faults.{is_outside, fault_in}, specs.RecordTypes.mode_of, proofs.Reasons.HasReason-follows, specs.declared.header.Header.Header}
-use Rattle.bench_io.{specs.Given.{Given, no_bytes, Consumes, MayFollow}, specs.Inputs.InputState, specs.Sinks.{SinkState, Wrote, WroteShort}, proofs.Bytes.{Wrote-nil, Wrote-same}, proofs.Texts.WroteText-none}
-use Rattle.ptu_definitions.{specs.Headers.header_answer, specs.Words.words_of, specs.Streams.{record_refusal, streamed, summary}}
-use Rattle.plan_text.{specs.declared.plan.Plan.Plan, specs.Plan.PlanView, specs.ReadPlan.{plan_view, plan_answer}, specs.Fits.fits, proofs.Called.plan_on_literals}
-use Rattle.gate_plan.specs.Histories.{policy_of, reading_by, history}
-use Rattle.ptu_made.{specs.Generator.{made_words, photon_limit}, specs.Records.{made_file, made_header}, specs.declared.made.Made.Made, specs.Made.{made_state, made_agrees}, proofs.MadeEvents.{all-made, words-bytes, few-words, unrefused}}
-use Rattle.minimal_file.{specs.ShortFiles.{short_header, minimal_file, bytes_in}, proofs.ShortHeaders.short-answer}
-use Rattle.report_work.{specs.Reports.{reporting, reported, reports, reports_by, MayWant, CountsBy}, specs.Demo.{demo_text, demo_plan, demo_reading, demo_report}}
-use Rattle.command_work.{specs.Outcomes.{Outcome, written}, specs.Behaviours.{Alone, AtEnd, ForTables}, specs.Endings.{Cuts, EndsWith, HasCauses, WantsBehind, outcome}, specs.Works.{AnswersWork, WorkReason}, proofs.Told.all-taken, specs.RecordsWork.{WritesPiece, WritesEnd, Opens, unless_declined, headed_end}, proofs.RestEnds.opens-misfit}
-use Rattle.tally_engine.{specs.declared.engine.Engine.Engine, specs.Engine.{header_of, engine_sorting, reading_of, refused_by, HasFed, IsFor, SameEngine, IsCounted, OpensAs}}
-use Rattle.tally_engine.{specs.declared.results.Results.Results, specs.Parts.settings_in}
+use Rattle.std.proofs.Common.{◌≡◌, ◌≤◌, ◌++◌, ℕ, List, None, Some, Ok, Err, true, refl, sym, ap, subst, ◌∙◌, inl, inr, arith, ◌≢◌, ◌⊎◌, Result, IsErrAnd, IfErr}
+use Rattle.{std.proofs.{Common.{[], OnOk, OnErr}, lemmas.Result.IfErr-weaker}, tally_base.specs.declared.fault.Fault.{Fault, TheVariants.OutOfMemory}}
+use Rattle.tally_base.specs.declared.{fault.Fault.TheVariants.WriteFault, slot.Slot.TheVariants.Data, header.Mode.TheVariants.T2}
+use Rattle.tally_base.specs.{declared.header.{RecordType.TheVariants.HydraHarp2T2, Header.Header}, Faults.{is_outside, fault_in}, RecordTypes.mode_of}
+use Rattle.{tally_base.proofs.Reasons.HasReason-follows, bench_io.specs.{Given.{Given, no_bytes, Consumes, MayFollow}, Inputs.InputState, Sinks.SinkState}}
+use Rattle.bench_io.{specs.Sinks.{Wrote, WroteShort}, proofs.{Bytes.{Wrote-nil, Wrote-same}, Texts.WroteText-none}}
+use Rattle.{ptu_definitions.specs.{Headers.header_answer, Words.words_of, Streams.{record_refusal, streamed, summary}}, plan_text.specs.declared.plan.Plan.Plan}
+use Rattle.plan_text.{specs.{Plan.PlanView, ReadPlan.{plan_view, plan_answer}, Fits.fits}, proofs.Called.plan_on_literals}
+use Rattle.{gate_plan.specs.Histories.{policy_of, reading_by, history}, ptu_made.specs.{Generator.{made_words, photon_limit}, Records.{made_file, made_header}}}
+use Rattle.ptu_made.{specs.{declared.made.Made.Made, Made.{made_state, made_agrees}}, proofs.MadeEvents.{all-made, words-bytes, few-words, unrefused}}
+use Rattle.{minimal_file.{specs.ShortFiles.{short_header, minimal_file, bytes_in}, proofs.ShortHeaders.short-answer}, report_work.specs.Reports.reporting}
+use Rattle.report_work.specs.{Reports.{reported, reports, reports_by, MayWant, CountsBy}, Demo.{demo_text, demo_plan, demo_reading, demo_report}}
+use Rattle.command_work.specs.{Outcomes.{Outcome, written}, Behaviours.{Alone, AtEnd, ForTables}, Endings.{Cuts, EndsWith, HasCauses, WantsBehind, outcome}}
+use Rattle.command_work.specs.{Works.{AnswersWork, WorkReason}, RecordsWork.{WritesPiece, WritesEnd, Opens, unless_declined, headed_end}}
+use Rattle.{command_work.proofs.{Told.all-taken, RestEnds.opens-misfit}, tally_engine.specs.declared.{engine.Engine.Engine, results.Results.Results}}
+use Rattle.tally_engine.specs.{Engine.{header_of, engine_sorting, reading_of, refused_by, HasFed, IsFor, SameEngine, IsCounted, OpensAs}, Parts.settings_in}
 use Rattle.table_out.{specs.Report.{Table, report, with_events, EachHolds}, proofs.Putting.each_holds_all}
 
 -- ## The plan
@@ -69,7 +73,8 @@ module _ (seed count : ℕ) (plan : PlanView) (few : count ≤ photon_limit) (sa
       (is.more, is.may_follow, ap (reporting plan).outcome whole ∙ ap (λ (view : PlanView). (reporting view).outcome file) same_plan ∙ made-report seed count few)
 
   -- the report was written, or a fault from outside came
-  pub ends-demo : (after : Made) (start : Given) (old new : SinkState) (r : Result (Unit {0}) Fault) → start ≡ no_bytes → (made_state after).told Data ≡ Some (made_file seed count) → AnswersWork (reporting plan) start ((made_state after).given Data) old new r
+  pub ends-demo : (after : Made) (start : Given) (old new : SinkState) (r : Result (Unit {0}) Fault) → start ≡ no_bytes
+      → (made_state after).told Data ≡ Some (made_file seed count) → AnswersWork (reporting plan) start ((made_state after).given Data) old new r
       → IsErrAnd r (λ fault. is_outside fault ≡ true) ⊎ EndsWith (written (demo_report seed count)) (fault_in r) old new
   ends-demo after start old new r none told (inl outside) = inl outside
   ends-demo after start old new r none told (inr h) =

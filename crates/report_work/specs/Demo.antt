@@ -1,11 +1,8 @@
 -- What `demo` counts, and its report.
 use Rattle.std.specs.Prelude.{ℕ, List, [], ◌∷◌, codes}
-use Rattle.tally_base.{specs.declared.event.Order.TheVariants.Drop, specs.declared.event.OnReserved.TheVariants.Skip, specs.Settings.PartSettings.{TraceSettings, StartStopSettings, CoincidenceSettings, CorrelationSettings}}
-use Rattle.ptu_definitions.{specs.Words.record_limit, specs.Streams.{StreamSettings, summary}}
-use Rattle.plan_text.specs.Plan.{PlanView, parts_of}
-use Rattle.gate_plan.{specs.Shifting.sorting, specs.Histories.{history, reading_by}}
-use Rattle.table_out.specs.Report.{report, with_events}
-use Rattle.ptu_made.{specs.Generator.made_words, specs.Records.made_header}
+use Rattle.tally_base.specs.{declared.event.{Order.TheVariants.Drop, OnReserved.TheVariants.Skip}, Settings.PartSettings.{TraceSettings, StartStopSettings, CoincidenceSettings, CorrelationSettings}}
+use Rattle.{ptu_definitions.specs.{Words.record_limit, Streams.{StreamSettings, summary}}, plan_text.specs.Plan.{PlanView, parts_of}, gate_plan.specs.{Shifting.sorting, Histories.history}}
+use Rattle.{gate_plan.specs.Histories.reading_by, table_out.specs.Report.{report, with_events}, ptu_made.specs.{Generator.made_words, Records.made_header}}
 
 -- the text of its plan
 abbrev pub demo_text : List ℕ

@@ -1,12 +1,9 @@
 -- What running a plan over a file reports.
-use Rattle.std.{specs.Prelude.{ℕ, ◌≡◌, List, None, Result, Ok, Err, ◌<◌, [], length}, specs.declared.option.Option.Option}
-use Rattle.tally_base.{specs.declared.fault.Fault.Fault, specs.declared.header.Header.Header, specs.RecordTypes.mode_of}
-use Rattle.ptu_definitions.{specs.declared.records.Summary.Summary, specs.Words.words_of, specs.Streams.{streamed, record_refusal}}
-use Rattle.plan_text.{specs.Plan.{PlanView, parts_of}, specs.Fits.fits}
-use Rattle.gate_plan.{specs.Shifting.sorting, specs.Histories.{history, reading_by}}
-use Rattle.table_out.specs.Report.{report, with_events}
-use Rattle.command_work.{specs.Outcomes.{Outcome, refused, written}, specs.Behaviours.{Work, AreRead, IsHeaded}, specs.RecordsWork.{RecordsWork, if_suited, headed_work}}
-use Rattle.tally_engine.{specs.declared.engine.Engine.Engine, specs.Engine.{HasFed, header_of, refused_by, IsFor}}
+use Rattle.std.specs.{Prelude.{ℕ, ◌≡◌, List, None, Result, Ok, Err, ◌<◌, [], length}, declared.option.Option.Option}
+use Rattle.{tally_base.specs.{declared.{fault.Fault.Fault, header.Header.Header}, RecordTypes.mode_of}, ptu_definitions.specs.{declared.records.Summary.Summary, Words.words_of, Streams.streamed}}
+use Rattle.{ptu_definitions.specs.Streams.record_refusal, plan_text.specs.{Plan.{PlanView, parts_of}, Fits.fits}, gate_plan.specs.{Shifting.sorting, Histories.{history, reading_by}}}
+use Rattle.{table_out.specs.Report.{report, with_events}, command_work.specs.{Outcomes.{Outcome, refused, written}, Behaviours.{Work, AreRead, IsHeaded}, RecordsWork.{RecordsWork, if_suited}}}
+use Rattle.{command_work.specs.RecordsWork.headed_work, tally_engine.specs.{declared.engine.Engine.Engine, Engine.{HasFed, header_of, refused_by, IsFor}}}
 
 -- what the records after a header end with: the report, where none is refused
 abbrev pub reported : PlanView → Header → List ℕ → Result Summary Fault → Outcome

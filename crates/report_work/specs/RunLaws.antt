@@ -1,13 +1,10 @@
 -- What holds of the report of bytes that grow.
 use Rattle.std.proofs.Common.{◌≡◌, ◌∙◌, ℕ, List, ◌++◌, None, Ok, Err, refl, sym, ap, inl, inr, Result}
-use Rattle.tally_base.{specs.declared.fault.Fault.Fault, specs.declared.header.Header.Header, specs.Faults.fault_in}
-use Rattle.ptu_definitions.{specs.declared.records.Summary.Summary, specs.Streams.{record_refusal, streamed}, specs.Words.words_of, proofs.Firsts.{record_refusal-inside, streamed-inside}}
-use Rattle.plan_text.specs.Plan.{PlanView}
-use Rattle.record_stream.proofs.Lasts.{streamed-shown, streamed-clear}
-use Rattle.tally_engine.{specs.declared.engine.Engine.Engine, specs.Engine.header_of}
-use Rattle.gate_plan.specs.Histories.{reading_by}
-use Rattle.command_work.{specs.Behaviours.{AtEnd, ForTables}, specs.Endings.WantsBehind, specs.RecordsWork.{IsText, IsAllOrNothing, Suits}, proofs.RestEnds.{suited-law, declined-late, suits-at_end}}
-use Rattle.report_work.specs.Reports.{reported, reporting, reports, reports_by, MayWant, CountsBy}
+use Rattle.{tally_base.specs.{declared.{fault.Fault.Fault, header.Header.Header}, Faults.fault_in}, ptu_definitions.specs.{declared.records.Summary.Summary, Streams.{record_refusal, streamed}}}
+use Rattle.{ptu_definitions.{specs.Words.words_of, proofs.Firsts.{record_refusal-inside, streamed-inside}}, plan_text.specs.Plan.PlanView, record_stream.proofs.Lasts.{streamed-shown, streamed-clear}}
+use Rattle.{tally_engine.specs.{declared.engine.Engine.Engine, Engine.header_of}, gate_plan.specs.Histories.reading_by, command_work.specs.{Behaviours.{AtEnd, ForTables}, Endings.WantsBehind}}
+use Rattle.{command_work.{specs.RecordsWork.{IsText, IsAllOrNothing, Suits}, proofs.RestEnds.{suited-law, declined-late, suits-at_end}}, report_work.specs.Reports.{reported, reporting, reports}}
+use Rattle.report_work.specs.Reports.{reports_by, MayWant, CountsBy}
 
 pub ends-fault : (plan : PlanView) (header : Header) (bytes : List ℕ) (r : Result Summary Fault) → (reported plan header bytes r).fault ≡ fault_in r
 ends-fault plan header bytes (Ok summary) = refl

@@ -1,9 +1,7 @@
 // The command that needs no files.
 ghost use Rattle.std.specs.Prelude.{◌≡◌, ◌≤◌, true, Some, IfErr};
-ghost use Rattle.bench_io.{specs.Given.no_bytes, specs.Inputs.InputState};
-ghost use Rattle.tally_base.{specs.declared.slot.Slot.TheVariants.Data, specs.Faults.fault_in};
-ghost use Rattle.ptu_made.{specs.Records.made_file, specs.Made.made_state, specs.Generator.photon_limit};
-ghost use Rattle.command_work.{specs.Outcomes.{written, OutOnce}, specs.Behaviours.Alone, specs.Endings.{Answers, HasCauses, alone_span}};
+ghost use Rattle.{bench_io.specs.{Given.no_bytes, Inputs.InputState}, tally_base.specs.{declared.slot.Slot.TheVariants.Data, Faults.fault_in}, ptu_made.specs.{Records.made_file, Made.made_state}};
+ghost use Rattle.{ptu_made.specs.Generator.photon_limit, command_work.specs.{Outcomes.{written, OutOnce}, Behaviours.Alone, Endings.{Answers, HasCauses, alone_span}}};
 ghost use Rattle.report_work.specs.Demo.{demo_report};
 
 use crate::run::RunJob;

@@ -1,10 +1,7 @@
 // The command `run`: the records of a file are counted by a plan.
 ghost use Rattle.std.specs.Prelude.{◌≡◌, ◌+◌, ◌*◌, ◌<◌, ◌≤◌, List, ℕ, length, ◌++◌, None, OnOk};
-ghost use Rattle.tally_base.specs.Faults.{fault_in};
-ghost use Rattle.ptu_definitions.{specs.Words.{record_limit, words_of}, specs.Streams.record_refusal};
-ghost use Rattle.tally_engine.specs.Engine.{HasFed, SameEngine, Finishes, reading_of, refused_by, bytes_fed};
-ghost use Rattle.command_work.specs.Behaviours.{AtEnd, ForTables};
-ghost use Rattle.report_work.specs.Reports.{IsLedger, any_plan, reporting};
+ghost use Rattle.{tally_base.specs.Faults.fault_in, ptu_definitions.specs.{Words.{record_limit, words_of}, Streams.record_refusal}, tally_engine.specs.Engine.{HasFed, SameEngine, Finishes}};
+ghost use Rattle.{tally_engine.specs.Engine.{reading_of, refused_by, bytes_fed}, command_work.specs.Behaviours.{AtEnd, ForTables}, report_work.specs.Reports.{IsLedger, any_plan, reporting}};
 
 use bench_io::{Inputs, Sink};
 use command_work::{Job, PlanWork, Reader, read_file};

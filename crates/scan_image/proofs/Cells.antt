@@ -1,5 +1,6 @@
 -- One more in one cell of a table of rows and columns.
-use Rattle.std.{proofs.Common.{◌≡◌, ◌∙◌, ℕ, ◌+◌, ◌*◌, ◌/◌, ◌%◌, ◌<◌, Bool, ◌&&◌, List, length, get_or, set, cond, eqb, ap, sym, arith}, proofs.lemmas.Grind.common_steps, proofs.lemmas.Nat.{mod-mul-add, div-mul-add}}
+use Rattle.std.proofs.Common.{◌≡◌, ◌∙◌, ℕ, ◌+◌, ◌*◌, ◌/◌, ◌%◌, ◌<◌, Bool, ◌&&◌, List, length, get_or, set, cond, eqb, ap, sym, arith}
+use Rattle.std.proofs.lemmas.{Grind.common_steps, Nat.{mod-mul-add, div-mul-add}}
 
 same_column : (width x₁ y₁ x₂ y₂ : ℕ) → x₁ < width → x₂ < width → y₁ * width + x₁ ≡ y₂ * width + x₂ → x₁ ≡ x₂
 same_column width x₁ y₁ x₂ y₂ in₁ in₂ same = sym (mod-mul-add y₁ width x₁ in₁) ∙ (ap (λ n. n % width) same ∙ mod-mul-add y₂ width x₂ in₂)

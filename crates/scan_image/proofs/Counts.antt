@@ -1,9 +1,9 @@
 -- One more event, and the counts of an image and the lines after it.
-use Rattle.std.{proofs.Common.{◌≡◌, ◌∙◌, ℕ, ◌+◌, Bool, false, ◌&&◌, cond, [], ◌∷◌, ◌++◌, ap, arith, Option, ◌≤◌, true, List, sym, subst, refl, if◌then◌else◌, rules}, specs.List.cons_option, proofs.lemmas.List.append-nil, proofs.lemmas.List.Elements.filter_map-append, proofs.Math.Path.fun_ext}
-use Rattle.tally_base.{specs.declared.event.Event.Event, specs.declared.event.EventKind.TheVariants.{Photon, Marker}, specs.Events.is_in, specs.Settings.ImageView, specs.Tally.History}
-use Rattle.tcspc_hist.specs.HistogramCounts.{dtime_passes}
-use Rattle.marker_map.{specs.Places.{mark, Mark, place_of}, specs.declared.lines.Lines.Lines, specs.Lines.Saw}
-use Rattle.scan_image.{specs.ImageCounts.{mark_at, markers, is_met, count_met}, specs.Pushed.count_behind-push, specs.Behind.{IsBehind, HowMany, with_photon}}
+use Rattle.std.proofs.Common.{◌≡◌, ◌∙◌, ℕ, ◌+◌, Bool, false, ◌&&◌, cond, [], ◌∷◌, ◌++◌, ap, arith, Option, ◌≤◌, true, List, sym, subst, refl, if◌then◌else◌}
+use Rattle.std.{proofs.{Common.rules, lemmas.List.{append-nil, Elements.filter_map-append}, Math.Path.fun_ext}, specs.List.cons_option}
+use Rattle.tally_base.specs.{declared.event.{Event.Event, EventKind.TheVariants.{Photon, Marker}}, Events.is_in, Settings.ImageView, Tally.History}
+use Rattle.{tcspc_hist.specs.HistogramCounts.dtime_passes, marker_map.specs.{Places.{mark, Mark, place_of}, declared.lines.Lines.Lines, Lines.Saw}}
+use Rattle.scan_image.specs.{ImageCounts.{mark_at, markers, is_met, count_met}, Pushed.count_behind-push, Behind.{IsBehind, HowMany, with_photon}}
 
 pub markers-marker : (h : History) (x : Event × ℕ) (bits : ℕ) → x.0.kind ≡ Marker bits → markers (h ++ x ∷ []) ≡ markers h ++ mark bits x.0.time ∷ []
 markers-marker h x bits is = filter_map-append (λ x. mark_at x.0.time x.0.kind) h (x ∷ []) ∙ ap (λ kind. markers h ++ cons_option (mark_at x.0.time kind) []) is

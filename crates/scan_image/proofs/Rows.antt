@@ -1,7 +1,7 @@
 -- The definitions at known events.
-use Rattle.std.proofs.Common.{◌≡◌, ℕ, refl, false, true, [], ◌∷◌, Option, None, Some}
-use Rattle.tally_base.{specs.declared.event.Event.Event, specs.declared.event.EventKind.TheVariants.{Photon, Marker}, specs.Settings.ImageView, specs.Tally.History}
-use Rattle.scan_image.specs.ImageCounts.{in_cell, count_outside}
+use Rattle.{std.proofs.Common.{◌≡◌, ℕ, refl, false, true, [], ◌∷◌, Option, None, Some}, tally_base.specs.declared.event.Event.Event}
+use Rattle.{tally_base.specs.{declared.event.EventKind.TheVariants.{Photon, Marker}, Settings.ImageView, Tally.History}, scan_image.specs.ImageCounts.in_cell}
+use Rattle.scan_image.specs.ImageCounts.{count_outside}
 
 -- A photon of these groups, and a marker.
 abbrev photon : ℕ → ℕ → Event × ℕ

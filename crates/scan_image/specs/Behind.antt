@@ -1,8 +1,8 @@
 -- The counts of an image, and counts and lines after the events of a block.
 use Rattle.std.specs.Prelude.{◌≡◌, ℕ, ◌+◌, ◌*◌, ◌<◌, Bool, List, Option, is_none, slice_index, if◌then◌else◌, ◌≤◌, ◌++◌, true, length}
-use Rattle.tally_base.{specs.Settings.ImageView, specs.declared.settings.ImageSet.ImageSet, specs.Tally.{History, floor_after}, specs.declared.block.Block.Block, specs.Columns.{count, code_at, time_at, item, rows, gathered, IsSorted}, specs.Limits.record_limit}
-use Rattle.marker_map.{specs.declared.lines.Lines.Lines, specs.declared.strip.Strip.Strip, specs.Lines.{Saw, image_of, markers_given, line_start}, specs.Places.{Mark, place_of}, specs.Strips.{place_on, width_of, height_of}}
-use Rattle.scan_image.specs.ImageCounts.{is_at, markers, count_met}
+use Rattle.tally_base.specs.{Settings.ImageView, declared.{settings.ImageSet.ImageSet, block.Block.Block}, Tally.{History, floor_after}, Columns.{count, code_at, time_at, item, rows, gathered}}
+use Rattle.{tally_base.specs.{Columns.IsSorted, Limits.record_limit}, marker_map.specs.{declared.{lines.Lines.Lines, strip.Strip.Strip}, Lines.{Saw, image_of, markers_given, line_start}, Places.Mark}}
+use Rattle.{marker_map.specs.{Places.place_of, Strips.{place_on, width_of, height_of}}, scan_image.specs.ImageCounts.{is_at, markers, count_met}}
 
 -- how many photons have a place, or none, and a dtime that pass a test
 abbrev pub HowMany : Type 0

@@ -1,9 +1,10 @@
 -- What an image stands for, and what holds of every image.
-use Rattle.std.{specs.Prelude.{◌≡◌, true, length, ℕ, ◌≤◌, ◌+◌, Bool, false, [], ◌∷◌, ◌++◌, Option}, proofs.Common.{rules, ◌∙◌, sym, ap, subst, cond}, proofs.Math.Path.fun_ext, proofs.lemmas.List.Elements.filter_map-append}
-use Rattle.tally_base.{specs.declared.settings.ImageSet.ImageSet, specs.Settings.{PartSettings, image_view, ImageView, entries}, specs.Settings.PartSettings.ImageSettings, specs.Tally.{History, greatest_time}, specs.declared.event.Event.Event, specs.Events.{is_photon, is_in}, proofs.Sorted.{same_length, same_greatest}}
-use Rattle.tcspc_hist.specs.Hist.{no_dtime}
-use Rattle.marker_map.{specs.declared.lines.Lines.Lines, specs.Lines.Saw, specs.Places.place_of}
-use Rattle.scan_image.{specs.declared.image.Image.Image, specs.Behind.{Counted, IsBehind, HowMany}, specs.ImageCounts.{mark_at, markers, count_behind, is_met, count_met}, specs.Pushed.count_behind-push}
+use Rattle.std.{specs.Prelude.{◌≡◌, true, length, ℕ, ◌≤◌, ◌+◌, Bool, false, [], ◌∷◌, ◌++◌, Option}, proofs.{Common.{rules, ◌∙◌, sym, ap, subst, cond}, Math.Path.fun_ext}}
+use Rattle.std.proofs.lemmas.List.Elements.{filter_map-append}
+use Rattle.tally_base.specs.{declared.{settings.ImageSet.ImageSet, event.Event.Event}, Settings.{PartSettings, image_view, ImageView, entries, PartSettings.ImageSettings}, Tally.History}
+use Rattle.{tally_base.{specs.{Tally.greatest_time, Events.{is_photon, is_in}}, proofs.Sorted.{same_length, same_greatest}}, tcspc_hist.specs.Hist.no_dtime}
+use Rattle.{marker_map.specs.{declared.lines.Lines.Lines, Lines.Saw, Places.place_of}, scan_image.specs.{declared.image.Image.Image, Behind.{Counted, IsBehind, HowMany}, ImageCounts.mark_at}}
+use Rattle.scan_image.specs.{ImageCounts.{markers, count_behind, is_met, count_met}, Pushed.count_behind-push}
 
 -- what it was opened with
 abbrev pub set_of : Image → ImageSet

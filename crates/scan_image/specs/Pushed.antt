@@ -1,7 +1,7 @@
 -- A count that sees the events before each event, and one more event.
-use Rattle.std.{proofs.Common.{◌≡◌, ◌∙◌, ℕ, zero, suc, ◌+◌, ◌<◌, ◌≤◌, Bool, false, cond, List, [], ◌∷◌, ◌++◌, length, take, refl, ap, arith, length-append, Some, sum_by}, specs.List.{range_with_len, slice_get}, specs.Option.option_map_or, proofs.Math.Seq.take-append_seam, proofs.lemmas.List.take-append-le, proofs.lemmas.List.Sums.sum_by-cons}
-use Rattle.tally_base.{specs.declared.event.Event.Event, specs.Tally.History}
-use Rattle.scan_image.specs.ImageCounts.{count_behind}
+use Rattle.std.proofs.{Common.{◌≡◌, ◌∙◌, ℕ, zero, suc, ◌+◌, ◌<◌, ◌≤◌, Bool, false, cond, List, [], ◌∷◌, ◌++◌, length, take, refl, ap, arith, length-append, Some, sum_by}, Math.Seq.take-append_seam}
+use Rattle.std.{proofs.lemmas.List.{take-append-le, Sums.sum_by-cons}, specs.{List.{range_with_len, slice_get}, Option.option_map_or}}
+use Rattle.{tally_base.specs.{declared.event.Event.Event, Tally.History}, scan_image.specs.ImageCounts.count_behind}
 
 -- one number more
 pub sum-range-push : (f : ℕ → ℕ) (a n : ℕ) → sum_by f (range_with_len a (suc n)) ≡ sum_by f (range_with_len a n) + f (a + n)

@@ -1,8 +1,7 @@
 // The photons of a block, counted by their places.
 ghost use Rattle.std.specs.Prelude.{◌≡◌, ◌+◌, ◌≤◌, true, length};
-ghost use Rattle.tally_base.{specs.Settings.image_view, specs.Limits.record_limit, specs.Columns.{count, gathered, events_in, IsSorted}, specs.Tally.InOrder};
-ghost use Rattle.marker_map.{specs.Lines.{image_of, line_start}, specs.Strips.start_of};
-ghost use Rattle.scan_image.specs.Behind.{CountsMore, CountsOn, CountsOnStrip, IsOfSize, ComesFrom, StopsAt, HasRoom, Gained, LinesHaveRoom, LinesGoOn};
+ghost use Rattle.{tally_base.specs.{Settings.image_view, Limits.record_limit, Columns.{count, gathered, events_in, IsSorted}, Tally.InOrder}, marker_map.specs.Lines.{image_of, line_start}};
+ghost use Rattle.{marker_map.specs.Strips.start_of, scan_image.specs.Behind.{CountsMore, CountsOn, CountsOnStrip, IsOfSize, ComesFrom, StopsAt, HasRoom, Gained, LinesHaveRoom, LinesGoOn}};
 
 use crate::pixels::Pixels;
 use marker_map::{Lines, Strip, Way};

@@ -1,7 +1,6 @@
 // An image of a scan.
 ghost use Rattle.std.specs.Prelude.{◌≡◌, ◌+◌, ◌*◌, ◌<◌, ◌≤◌, vec_len, length, sum, IfOk, [], false};
-ghost use Rattle.tally_base.{specs.Settings.image_view, specs.Tally.History, specs.Limits.record_limit, specs.Settings.PartSettings.ImageSettings};
-ghost use Rattle.marker_map.specs.Lines.{image_of, markers_given, line_start};
+ghost use Rattle.{tally_base.specs.{Settings.{image_view, PartSettings.ImageSettings}, Tally.History, Limits.record_limit}, marker_map.specs.Lines.{image_of, markers_given, line_start}};
 
 use crate::count::count_block;
 use crate::pixels::{PixelCounts, Pixels, cell_of};

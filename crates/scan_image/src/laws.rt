@@ -1,7 +1,6 @@
 // Laws of the definitions, each as the contract of a function that does nothing.
 ghost use Rattle.std.specs.Prelude.{◌≡◌, ◌+◌};
-ghost use Rattle.tally_base.{specs.Settings.ImageView, specs.Tally.{History, photons_of_group}};
-ghost use Rattle.scan_image.specs.ImageCounts.{count_outside, in_all_cells};
+ghost use Rattle.{tally_base.specs.{Settings.ImageView, Tally.{History, photons_of_group}}, scan_image.specs.ImageCounts.{count_outside, in_all_cells}};
 
 /// Each photon of the group counts once, in a cell or outside the image.
 #[tactic(auto, using(crate::proofs::Totals::total))]

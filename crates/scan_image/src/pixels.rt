@@ -1,7 +1,6 @@
 // What the photons of a scan add to.
 ghost use Rattle.std.specs.Prelude.{◌≡◌, ◌+◌, ◌*◌, ◌^◌, ◌<◌, ℕ, IfSome, sum, vec_len};
-ghost use Rattle.tally_base.{specs.declared.settings.ImageSet.ImageSet, specs.Settings.image_view};
-ghost use Rattle.scan_image.specs.Behind.{Counted, HowMany, with_photon};
+ghost use Rattle.{tally_base.specs.{declared.settings.ImageSet.ImageSet, Settings.image_view}, scan_image.specs.Behind.{Counted, HowMany, with_photon}};
 
 use tally_base::ImageSet;
 

@@ -1,11 +1,15 @@
 -- One event more.
-use Rattle.std.{proofs.Common.{◌≡◌, ◌+◌, ◌-◌, ◌<◌, ◌≤◌, ℕ, suc, Some, get_or, List, [], ◌∷◌, ◌++◌, Bool, true, false, cond, length, refl, sym, ap, subst, ◌∙◌, append-nil, arith, nat_lt, slice_get, rules}, specs.List.{All, AllByRecursion, AllWithin, remove}, proofs.lemmas.List.Elements.{All-from_recursion, recursion_from_All}, specs.List.Sorted.IsNonDecreasingBy, proofs.lemmas.List.get_or_default, proofs.lemmas.Bool.{ltb-true, ltb-false}}
-use Rattle.tally_base.specs.declared.event.Event.{Event}
-use Rattle.ptu_definitions.{specs.Settled.{is_overtaken, not_overtaken, put_in, in_time, settles, IsOpen}, proofs.SettledLemmas.{length-put_in, put_in-rising}, proofs.SettlingLemmas.{each-put_in, each-weaker, is_late, is_not_late, joined-late, joined-put, joined-give, open-none, open-late, open-wait, open-emit, settled-is, settles-late, settles-more}}
-use Rattle.settle.{specs.Settling.{Precedes, IsInOrder}, specs.Standing.IsSettled}
+use Rattle.std.proofs.Common.{◌≡◌, ◌+◌, ◌-◌, ◌<◌, ◌≤◌, ℕ, suc, Some, get_or, List, [], ◌∷◌, ◌++◌, Bool, true, false, cond, length, refl, sym, ap, subst, ◌∙◌}
+use Rattle.std.proofs.{Common.{append-nil, arith, nat_lt, slice_get, rules}, lemmas.List.{Elements.{All-from_recursion, recursion_from_All}, get_or_default}}
+use Rattle.std.{proofs.lemmas.Bool.{ltb-true, ltb-false}, specs.List.{All, AllByRecursion, AllWithin, remove, Sorted.IsNonDecreasingBy}}
+use Rattle.{tally_base.specs.declared.event.Event.Event, ptu_definitions.specs.Settled.{is_overtaken, not_overtaken, put_in, in_time, settles, IsOpen}}
+use Rattle.ptu_definitions.proofs.{SettledLemmas.{length-put_in, put_in-rising}, SettlingLemmas.{each-put_in, each-weaker, is_late, is_not_late, joined-late}}
+use Rattle.ptu_definitions.proofs.SettlingLemmas.{joined-put, joined-give, open-none, open-late, open-wait, open-emit, settled-is, settles-late, settles-more}
+use Rattle.settle.specs.{Settling.{Precedes, IsInOrder}, Standing.IsSettled}
 
 -- order by time and place stays
-in_order-pick : (b : Bool) (e x : Event) (xs : List Event) (next : ℕ) → nat_lt e.time x.time ≡ b → next ≤ e.place → x.place < next → AllByRecursion (λ y. Precedes x y) xs → IsInOrder xs → IsInOrder (put_in e xs) → IsInOrder (cond b (e ∷ x ∷ xs) (x ∷ put_in e xs))
+in_order-pick : (b : Bool) (e x : Event) (xs : List Event) (next : ℕ) → nat_lt e.time x.time ≡ b → next ≤ e.place → x.place < next
+    → AllByRecursion (λ y. Precedes x y) xs → IsInOrder xs → IsInOrder (put_in e xs) → IsInOrder (cond b (e ∷ x ∷ xs) (x ∷ put_in e xs))
 in_order-pick true e x xs next is above at before up rest = search (rules, arith, ltb-true, each-weaker)
 in_order-pick false e x xs next is above at before up rest = search (rules, arith, ltb-false, each-put_in)
 
@@ -30,7 +34,8 @@ pub settled-none : (k : ℕ) (w : List Event) → w ≡ [] → IsSettled k false
 settled-none k w is = search (rules, arith, in_time-none, open-none)
 
 -- What a push leaves.
-pub settled-late : (k : ℕ) (popped : Bool) (w : List Event) (last next : ℕ) (es g : List Event) (e : Event) → IsSettled k popped w last next es g → popped ≡ false → e.time < last → next ≤ e.place → IsSettled k popped w last (e.place + 1) (es ++ e ∷ []) (g ++ [])
+pub settled-late : (k : ℕ) (popped : Bool) (w : List Event) (last next : ℕ) (es g : List Event) (e : Event) → IsSettled k popped w last next es g
+    → popped ≡ false → e.time < last → next ≤ e.place → IsSettled k popped w last (e.place + 1) (es ++ e ∷ []) (g ++ [])
 settled-late k popped w last next es g e settled still early above =
     let now : IsOpen k es g w last = settled.unpopped still in
     let late : is_overtaken k es e ≡ true = is_late k es g w last e now early in
@@ -41,7 +46,8 @@ settled-late k popped w last next es g e settled still early above =
       unpopped = λ _. open-late k es g w last e now early;
     })
 
-pub settled-wait : (k : ℕ) (popped : Bool) (w new : List Event) (last next : ℕ) (es g : List Event) (e : Event) → IsSettled k popped w last next es g → popped ≡ false → last ≤ e.time → next ≤ e.place → length w < k → new ≡ put_in e w → IsSettled k popped new last (e.place + 1) (es ++ e ∷ []) (g ++ [])
+pub settled-wait : (k : ℕ) (popped : Bool) (w new : List Event) (last next : ℕ) (es g : List Event) (e : Event) → IsSettled k popped w last next es g
+    → popped ≡ false → last ≤ e.time → next ≤ e.place → length w < k → new ≡ put_in e w → IsSettled k popped new last (e.place + 1) (es ++ e ∷ []) (g ++ [])
 settled-wait k popped w new last next es g e settled still in_time above few is =
     let now : IsOpen k es g w last = settled.unpopped still in
     let late : is_overtaken k es e ≡ false = is_not_late k es g w last e now (omega arith) in_time in
@@ -87,7 +93,8 @@ tells-none k popped w last place es g e settled still in_time few =
     (settled-is k (es ++ e ∷ []) g (put_in e w) last (open-wait k es g w last e now in_time few) (omega (arith, length-put_in e w)) (joined-put k es g w last e late now in_time settled.joined)
     ∙ sym (append-nil g))
 
-pub tells-one : (k : ℕ) (popped : Bool) (w rest : List Event) (last place : ℕ) (es g : List Event) (e x : Event) → IsSettled k popped w last place es g → popped ≡ false → last ≤ e.time → length w ≡ k → length rest ≡ length w → x ∷ rest ≡ put_in e w → settles k es e ≡ (x, false) ∷ []
+pub tells-one : (k : ℕ) (popped : Bool) (w rest : List Event) (last place : ℕ) (es g : List Event) (e x : Event) → IsSettled k popped w last place es g
+    → popped ≡ false → last ≤ e.time → length w ≡ k → length rest ≡ length w → x ∷ rest ≡ put_in e w → settles k es e ≡ (x, false) ∷ []
 tells-one k popped w rest last place es g e x settled still in_time full as_many is =
     let now : IsOpen k es g w last = settled.unpopped still in
     let late : is_overtaken k es e ≡ false = is_not_late k es g w last e now (omega arith) in_time in

@@ -1,8 +1,8 @@
 -- Events that come in order after all that are kept back.
-use Rattle.std.{specs.Prelude.{ℕ, ◌+◌, ◌≡◌, ◌<◌, ◌≤◌, ◌++◌, false, List, [], ◌∷◌, length, ◌&&◌, not, nat_lt, true, None, IfSome, is_some}, specs.List.AllByRecursion, specs.declared.option.Option.Option, specs.Option.option_to_list}
-use Rattle.tally_base.specs.declared.event.Event.{Event}
-use Rattle.ptu_definitions.{specs.Prefixes.each_after, specs.Settled.{marked_as, settles, is_overtaken, put_in}}
-use Rattle.settle.{specs.Standing.{HasSettled, kept_back, next_place, last_time, reach_of, was_popped}, specs.declared.settle.Settle.Settle, specs.Settling.{Precedes, told}, specs.declared.settle.Settled.Settled}
+use Rattle.std.specs.{Prelude.{ℕ, ◌+◌, ◌≡◌, ◌<◌, ◌≤◌, ◌++◌, false, List, [], ◌∷◌, length, ◌&&◌, not, nat_lt, true, None, IfSome, is_some}, List.AllByRecursion, declared.option.Option.Option}
+use Rattle.std.specs.Option.{option_to_list}
+use Rattle.{tally_base.specs.declared.event.Event.Event, ptu_definitions.specs.{Prefixes.each_after, Settled.{marked_as, settles, is_overtaken, put_in}}, settle.specs.Standing.{HasSettled, kept_back}}
+use Rattle.settle.specs.{Standing.{next_place, last_time, reach_of, was_popped}, declared.settle.{Settle.Settle, Settled.Settled}, Settling.{Precedes, told}}
 
 -- no place and no time falls: each place is greater than the one before it and the first no less than this, and no
 -- time is less than the one before it or than this

@@ -1,7 +1,6 @@
 -- The order of the events that are kept back.
-use Rattle.std.{specs.Prelude.{◌≡◌, ◌<◌, ◌≤◌, Bool, true, false, List, [], ◌∷◌}, specs.declared.option.Option.Option, specs.Option.option_to_list, specs.List.AllByRecursion}
-use Rattle.tally_base.specs.declared.event.Event.{Event}
-use Rattle.ptu_definitions.{specs.Kept.Marked, specs.Settled.marked_as}
+use Rattle.std.specs.{Prelude.{◌≡◌, ◌<◌, ◌≤◌, Bool, true, false, List, [], ◌∷◌}, declared.option.Option.Option, Option.option_to_list, List.AllByRecursion}
+use Rattle.{tally_base.specs.declared.event.Event.Event, ptu_definitions.specs.{Kept.Marked, Settled.marked_as}}
 
 -- One event is before another by time, and by place where the times are equal.
 pub record Precedes (x y : Event) : Type 0 where

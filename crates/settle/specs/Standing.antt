@@ -1,8 +1,6 @@
 -- What a value that settles events stands for.
-use Rattle.std.{specs.Prelude.{ℕ, ◌+◌, ◌≡◌, ◌<◌, ◌++◌, Bool, false, None, Some, List}, specs.declared.option.Option.Option, specs.List.AllByRecursion}
-use Rattle.tally_base.specs.declared.event.Event.{Event}
-use Rattle.ptu_definitions.specs.Settled.{in_time, IsOpen}
-use Rattle.settle.{specs.Settling.IsInOrder, specs.declared.settle.Settle.Settle}
+use Rattle.std.specs.{Prelude.{ℕ, ◌+◌, ◌≡◌, ◌<◌, ◌++◌, Bool, false, None, Some, List}, declared.option.Option.Option, List.AllByRecursion}
+use Rattle.{tally_base.specs.declared.event.Event.Event, ptu_definitions.specs.Settled.{in_time, IsOpen}, settle.specs.{Settling.IsInOrder, declared.settle.Settle.Settle}}
 
 -- how many events it keeps back at most
 abbrev pub reach_of : Settle → ℕ

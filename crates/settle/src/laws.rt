@@ -1,8 +1,7 @@
 // Laws of settling, each as the contract of a function that does nothing.
 ghost use Rattle.std.specs.Prelude.{◌≡◌, ◌++◌, List, false};
-ghost use Rattle.tally_base.specs.declared.event.Event.{Event};
-ghost use Rattle.ptu_definitions.specs.Settled.{in_time, last_of, without_last};
-ghost use Rattle.settle.{specs.Settling.IsInOrder, specs.Standing.{HasSettled, kept_back, reach_of, was_popped}, specs.declared.settle.Settle.Settle};
+ghost use Rattle.{tally_base.specs.declared.event.Event.Event, ptu_definitions.specs.Settled.{in_time, last_of, without_last}, settle.specs.{Settling.IsInOrder, Standing.{HasSettled, kept_back}}};
+ghost use Rattle.settle.specs.{Standing.{reach_of, was_popped}, declared.settle.Settle.Settle};
 
 /// The events emitted or popped, and then those kept back, are the kept list of the events pushed. Those
 /// kept back are in order of time and then of place. Until one is popped, what was emitted is the settled

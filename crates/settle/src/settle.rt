@@ -1,9 +1,8 @@
 // Events in order of time, of which the last few are kept back.
-ghost use Rattle.std.{specs.Prelude.{◌≡◌, ◌+◌, ◌<◌, ◌≤◌, ◌++◌, ◌∷◌, [], List, ℕ, true, false, ◌&&◌, not, nat_lt, length, IfSome, is_some}, specs.Option.option_to_list, specs.List.{All, AllByRecursion, AllWithin}, specs.List.Sorted.IsNonDecreasingBy};
-ghost use Rattle.arrayvec.specs.ArrayVec.{array_vec_len};
-ghost use Rattle.tally_base.specs.declared.event.Event.{Event};
-ghost use Rattle.ptu_definitions.specs.Settled.{put_in, is_overtaken, settles};
-ghost use Rattle.settle.specs.Settling.{Precedes, told};
+ghost use Rattle.std.specs.{Prelude.{◌≡◌, ◌+◌, ◌<◌, ◌≤◌, ◌++◌, ◌∷◌, [], List, ℕ, true, false, ◌&&◌, not, nat_lt, length, IfSome, is_some}, Option.option_to_list, List.{All, AllByRecursion}};
+ghost use Rattle.std.specs.List.{AllWithin, Sorted.IsNonDecreasingBy};
+ghost use Rattle.{arrayvec.specs.ArrayVec.array_vec_len, tally_base.specs.declared.event.Event.Event, ptu_definitions.specs.Settled.{put_in, is_overtaken, settles}, settle.specs.Settling.Precedes};
+ghost use Rattle.settle.specs.Settling.{told};
 
 use arrayvec::ArrayVec;
 use tally_base::Event;

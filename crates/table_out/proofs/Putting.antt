@@ -1,10 +1,12 @@
 -- More text is put after a text, whatever the tables stand for.
-use Rattle.std.{proofs.Common.{◌≡◌, ℕ, zero, suc, ◌+◌, ◌-◌, ◌<◌, List, [], ◌++◌, refl, sym, ap, ◌∙◌, append_assoc, append-nil, arith, ◌≤◌, ◌∷◌, take, drop, get_or, length, subst, take-append-drop, Bool, count_by, cond, fold}, proofs.lemmas.List.{take_all, take_more}, proofs.lemmas.List.Elements.{All-head, All-tail}}
-use Rattle.bench_io.{specs.Sinks.{SinkState, WroteShort, PassesOn}, proofs.Bytes.{WroteShort-same, WroteShort-more, WroteShort-passed, PassesOn-held, PassesOn-trans}}
-use Rattle.table_out.{specs.Printed.{texts, texts_of}, specs.Report.{PutsText, CutsText, Table, StandsFor, EachHolds, same_kind, part_text, table_text, parts_text, with_events}}
-use Rattle.tally_base.{specs.Settings.PartSettings, specs.Tally.History}
-use Rattle.ptu_definitions.{specs.Prefixes.each_after, proofs.PrefixLemmas.{each-push, each_after-append}}
-use Rattle.tally_engine.{specs.contracts.part.PartTally.TheImpl.ghosts, specs.declared.part.Part.Part, specs.Parts.{settings_in, AllHold}}
+use Rattle.std.proofs.Common.{◌≡◌, ℕ, zero, suc, ◌+◌, ◌-◌, ◌<◌, List, [], ◌++◌, refl, sym, ap, ◌∙◌, append_assoc, append-nil, arith, ◌≤◌, ◌∷◌, take, drop}
+use Rattle.std.proofs.{Common.{get_or, length, subst, take-append-drop, Bool, count_by, cond, fold}, lemmas.List.{take_all, take_more, Elements.All-head}}
+use Rattle.{std.proofs.lemmas.List.Elements.All-tail, bench_io.{specs.Sinks.{SinkState, WroteShort, PassesOn}, proofs.Bytes.{WroteShort-same, WroteShort-more}}}
+use Rattle.{bench_io.proofs.Bytes.{WroteShort-passed, PassesOn-held, PassesOn-trans}, table_out.specs.{Printed.{texts, texts_of}, Report.{PutsText, CutsText}}}
+use Rattle.table_out.specs.Report.{Table, StandsFor, EachHolds, same_kind, part_text, table_text, parts_text, with_events}
+use Rattle.{tally_base.specs.{Settings.PartSettings, Tally.History}, ptu_definitions.{specs.Prefixes.each_after, proofs.PrefixLemmas.each-push}}
+use Rattle.{ptu_definitions.proofs.PrefixLemmas.each_after-append, tally_engine.specs.{contracts.part.PartTally.TheImpl.ghosts, declared.part.Part.Part}}
+use Rattle.tally_engine.specs.Parts.{settings_in, AllHold}
 
 -- the texts of one place more
 texts-push : (text : ℕ → List ℕ) (n : ℕ) → texts text (n + 1) ≡ texts text n ++ text n

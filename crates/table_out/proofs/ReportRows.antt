@@ -1,8 +1,11 @@
 -- Reports of known runs.
 use Rattle.std.{proofs.Common.{◌≡◌, ℕ, List, [], ◌∷◌, ◌++◌, None, Some, refl, pos, codes, false}, specs.Fmt.digits}
-use Rattle.tally_base.{specs.declared.event.Event.Event, specs.declared.event.EventKind.TheVariants.{Photon, Marker}, specs.declared.header.Header.Header, specs.declared.header.RecordType.TheVariants.HydraHarp2T3, specs.Hexadecimal.hexadecimal, specs.Settings.PartSettings, specs.Settings.PartSettings.{HistSettings, TraceSettings, StartStopSettings, CoincidenceSettings, ImageSettings, CorrelationSettings, CubeSettings, FoldSettings}, specs.Tally.History}
-use Rattle.ptu_definitions.specs.declared.records.Summary.{Summary}
-use Rattle.table_out.{specs.Report.{head_text, parts_text, report, with_events}, specs.Histogram.histogram_printed, specs.Trace.trace_printed, specs.StartStop.startstop_printed, specs.Coincidence.coincidence_printed, specs.Image.image_printed, specs.Cube.cube_printed, specs.Fold.fold_printed, specs.Correlation.correlation_printed}
+use Rattle.tally_base.specs.declared.{event.{Event.Event, EventKind.TheVariants.{Photon, Marker}}, header.{Header.Header, RecordType.TheVariants.HydraHarp2T3}}
+use Rattle.tally_base.specs.{Hexadecimal.hexadecimal, Settings.{PartSettings, PartSettings.{HistSettings, TraceSettings, StartStopSettings}}}
+use Rattle.tally_base.specs.{Settings.PartSettings.{CoincidenceSettings, ImageSettings, CorrelationSettings, CubeSettings, FoldSettings}, Tally.History}
+use Rattle.{ptu_definitions.specs.declared.records.Summary.Summary, table_out.specs.Report.{head_text, parts_text, report, with_events}}
+use Rattle.table_out.specs.{Histogram.histogram_printed, Trace.trace_printed, StartStop.startstop_printed, Coincidence.coincidence_printed, Image.image_printed}
+use Rattle.table_out.specs.{Cube.cube_printed, Fold.fold_printed, Correlation.correlation_printed}
 
 abbrev bench_header : Header
 bench_header = record { record_type = HydraHarp2T3; count = Some (pos 9); global = Some 0x3E6AD7F29ABCAF48; resolution = Some 0x3DC19799812DEA11; version = codes "1.0.00" ++ 0 ∷ 0 ∷ [] }

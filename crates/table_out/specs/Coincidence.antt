@@ -1,8 +1,6 @@
 -- How a table of coincidences is printed.
 use Rattle.std.specs.Prelude.{◌++◌, codes, decimal, []}
-use Rattle.tally_base.specs.Settings.{CoincidenceView, coincidence_cells}
-use Rattle.coincidence.specs.Pairs.{coincidences}
-use Rattle.table_out.specs.Printed.{Printed, cell_line}
+use Rattle.{tally_base.specs.Settings.{CoincidenceView, coincidence_cells}, coincidence.specs.Pairs.coincidences, table_out.specs.Printed.{Printed, cell_line}}
 
 unfoldable pub coincidence_printed : CoincidenceView → Printed
 coincidence_printed set = record {

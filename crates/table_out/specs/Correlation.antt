@@ -1,8 +1,6 @@
 -- How a correlation is printed.
 use Rattle.std.specs.Prelude.{◌++◌, codes, decimal, [], ℕ, ◌+◌}
-use Rattle.tally_base.specs.Settings.{CorrelationView}
-use Rattle.tau_cascade.specs.Correlation.{correlation, skipped_lags, lag_count}
-use Rattle.table_out.specs.Printed.{Printed, pair_line}
+use Rattle.{tally_base.specs.Settings.CorrelationView, tau_cascade.specs.Correlation.{correlation, skipped_lags, lag_count}, table_out.specs.Printed.{Printed, pair_line}}
 
 -- a lag of a level, the first of them at place 0
 abbrev pub lag_at : CorrelationView → ℕ → ℕ → ℕ

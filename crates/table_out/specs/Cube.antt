@@ -1,9 +1,6 @@
 -- How a cube is printed.
 use Rattle.std.specs.Prelude.{ℕ, ◌*◌, ◌/◌, ◌%◌, ◌==◌, ◌++◌, List, [], codes, decimal, if◌then◌else◌}
-use Rattle.tally_base.specs.Settings.{CubeView}
-use Rattle.scan_image.specs.ImageCounts.{count_outside}
-use Rattle.flim_cube.specs.CubeCounts.{in_cell, count_over}
-use Rattle.list_out.specs.Lines.{line}
+use Rattle.{tally_base.specs.Settings.CubeView, scan_image.specs.ImageCounts.count_outside, flim_cube.specs.CubeCounts.{in_cell, count_over}, list_out.specs.Lines.line}
 use Rattle.table_out.specs.Printed.{Printed}
 
 -- the three numbers of a cell and its count. A cell that is 0 has no line.

@@ -1,8 +1,6 @@
 -- How a fold is printed.
 use Rattle.std.specs.Prelude.{◌++◌, ◌^◌, [], codes, decimal, length}
-use Rattle.tally_base.specs.Settings.{FoldView}
-use Rattle.fold_count.specs.FoldCounts.{in_set}
-use Rattle.table_out.specs.Printed.{Printed, cell_line}
+use Rattle.{tally_base.specs.Settings.FoldView, fold_count.specs.FoldCounts.in_set, table_out.specs.Printed.{Printed, cell_line}}
 
 unfoldable pub fold_printed : FoldView → Printed
 fold_printed set = record {

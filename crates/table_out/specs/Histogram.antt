@@ -1,9 +1,6 @@
 -- How a histogram is printed.
 use Rattle.std.specs.Prelude.{◌++◌, codes, decimal}
-use Rattle.tally_base.specs.Settings.{HistView}
-use Rattle.tcspc_hist.specs.HistogramCounts.{in_bin, count_over}
-use Rattle.list_out.specs.Lines.{line}
-use Rattle.table_out.specs.Printed.{Printed, cell_line}
+use Rattle.{tally_base.specs.Settings.HistView, tcspc_hist.specs.HistogramCounts.{in_bin, count_over}, list_out.specs.Lines.line, table_out.specs.Printed.{Printed, cell_line}}
 
 unfoldable pub histogram_printed : HistView → Printed
 histogram_printed set = record {

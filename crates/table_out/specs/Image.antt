@@ -1,9 +1,6 @@
 -- How an image is printed.
 use Rattle.std.specs.Prelude.{◌++◌, codes, decimal}
-use Rattle.tally_base.specs.Settings.{ImageView}
-use Rattle.scan_image.specs.ImageCounts.{in_cell, count_outside}
-use Rattle.list_out.specs.Lines.{line}
-use Rattle.table_out.specs.Printed.{Printed, pair_line}
+use Rattle.{tally_base.specs.Settings.ImageView, scan_image.specs.ImageCounts.{in_cell, count_outside}, list_out.specs.Lines.line, table_out.specs.Printed.{Printed, pair_line}}
 
 unfoldable pub image_printed : ImageView → Printed
 image_printed set = record {

@@ -1,7 +1,6 @@
 -- How a table of any kind is printed.
 use Rattle.std.specs.Prelude.{ℕ, zero, suc, ◌==◌, List, [], ◌++◌, codes, decimal, if◌then◌else◌}
-use Rattle.tally_base.specs.Tally.{History}
-use Rattle.list_out.specs.Lines.{line}
+use Rattle.{tally_base.specs.Tally.History, list_out.specs.Lines.line}
 
 -- the texts of the first places, one after the other
 abbrev pub texts : (ℕ → List ℕ) → ℕ → List ℕ

@@ -1,11 +1,11 @@
 -- What the report of a run prints.
-use Rattle.std.{specs.Str.bytes_eq, specs.Prelude.{ℕ, ◌≡◌, ◌+◌, Bool, List, [], ◌∷◌, ◌++◌, count_by, map, codes, decimal}}
-use Rattle.tally_base.{specs.declared.header.Header.Header, specs.RecordTypes.name_of, specs.Settings.PartSettings, specs.Settings.PartSettings.{HistSettings, TraceSettings, StartStopSettings, CoincidenceSettings, ImageSettings, CorrelationSettings, CubeSettings, FoldSettings}, specs.Tally.History}
-use Rattle.ptu_definitions.{specs.declared.records.Summary.Summary, specs.Prefixes.each}
-use Rattle.tally_engine.{specs.declared.part.Part.Part, specs.declared.results.Results.Results, specs.contracts.part.PartTally.TheImpl.ghosts}
-use Rattle.list_out.specs.Lines.{line, announced, bits_text, time_text}
-use Rattle.table_out.{specs.Printed.{Printed, table_lines}, specs.Histogram.histogram_printed, specs.Trace.trace_printed, specs.StartStop.startstop_printed, specs.Coincidence.coincidence_printed, specs.Image.image_printed, specs.Correlation.correlation_printed, specs.Cube.cube_printed, specs.Fold.fold_printed}
-use Rattle.bench_io.specs.Sinks.{SinkState, WroteShort, PassesOn}
+use Rattle.std.specs.{Str.bytes_eq, Prelude.{ℕ, ◌≡◌, ◌+◌, Bool, List, [], ◌∷◌, ◌++◌, count_by, map, codes, decimal}}
+use Rattle.tally_base.specs.{declared.header.Header.Header, RecordTypes.name_of, Settings.{PartSettings, PartSettings.{HistSettings, TraceSettings, StartStopSettings, CoincidenceSettings}}}
+use Rattle.{tally_base.specs.{Settings.PartSettings.{ImageSettings, CorrelationSettings, CubeSettings, FoldSettings}, Tally.History}, ptu_definitions.specs.declared.records.Summary.Summary}
+use Rattle.{ptu_definitions.specs.Prefixes.each, tally_engine.specs.{declared.{part.Part.Part, results.Results.Results}, contracts.part.PartTally.TheImpl.ghosts}, list_out.specs.Lines.line}
+use Rattle.{list_out.specs.Lines.{announced, bits_text, time_text}, table_out.specs.{Printed.{Printed, table_lines}, Histogram.histogram_printed, Trace.trace_printed, StartStop.startstop_printed}}
+use Rattle.{table_out.specs.{Coincidence.coincidence_printed, Image.image_printed, Correlation.correlation_printed, Cube.cube_printed, Fold.fold_printed}, bench_io.specs.Sinks.{SinkState, WroteShort}}
+use Rattle.bench_io.specs.Sinks.{PassesOn}
 
 -- what stands before the tables
 unfoldable pub head_text : Header → Summary → List ℕ

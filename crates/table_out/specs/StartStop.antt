@@ -1,9 +1,6 @@
 -- How a start-stop table is printed.
 use Rattle.std.specs.Prelude.{◌++◌, codes, decimal}
-use Rattle.tally_base.specs.Settings.{StartStopView}
-use Rattle.coincidence.specs.Intervals.{in_interval, count_over}
-use Rattle.list_out.specs.Lines.{line}
-use Rattle.table_out.specs.Printed.{Printed, cell_line}
+use Rattle.{tally_base.specs.Settings.StartStopView, coincidence.specs.Intervals.{in_interval, count_over}, list_out.specs.Lines.line, table_out.specs.Printed.{Printed, cell_line}}
 
 unfoldable pub startstop_printed : StartStopView → Printed
 startstop_printed set = record {

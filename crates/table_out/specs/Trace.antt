@@ -1,9 +1,6 @@
 -- How a trace is printed.
 use Rattle.std.specs.Prelude.{◌++◌, codes, decimal}
-use Rattle.tally_base.specs.Settings.{TraceView}
-use Rattle.count_trace.specs.TraceCounts.{in_trace_bin, count_before, count_beyond}
-use Rattle.list_out.specs.Lines.{line}
-use Rattle.table_out.specs.Printed.{Printed, cell_line}
+use Rattle.{tally_base.specs.Settings.TraceView, count_trace.specs.TraceCounts.{in_trace_bin, count_before, count_beyond}, list_out.specs.Lines.line, table_out.specs.Printed.{Printed, cell_line}}
 
 unfoldable pub trace_printed : TraceView → Printed
 trace_printed set = record {

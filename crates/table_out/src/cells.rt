@@ -1,9 +1,7 @@
 // The lines of a table of cells.
 ghost use Rattle.std.specs.Prelude.{◌≡◌, ◌<◌, ◌≤◌, true, length, OnOk, OnErr, codes, decimal};
-ghost use Rattle.bench_io.specs.Sinks.{CountsFault};
-ghost use Rattle.tally_base.specs.Tally.{History};
-ghost use Rattle.list_out.specs.Lines.{line};
-ghost use Rattle.table_out.{specs.Printed.{cell_line, pair_line, row_lines, cell_lines, first_line}, specs.Report.{PutsText, CutsText, printed, part_text}};
+ghost use Rattle.{bench_io.specs.Sinks.CountsFault, tally_base.specs.Tally.History, list_out.specs.Lines.line, table_out.specs.Printed.{cell_line, pair_line, row_lines, cell_lines, first_line}};
+ghost use Rattle.table_out.specs.Report.{PutsText, CutsText, printed, part_text};
 
 use arrayvec::ArrayVec;
 use bench_io::{OutBuffer, Sink};

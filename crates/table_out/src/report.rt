@@ -1,8 +1,7 @@
 // The report of a run.
 ghost use Rattle.std.specs.Prelude.{◌≡◌, ◌+◌, ◌≤◌, true, List, count_by, OnOk, OnErr, IfErr};
-ghost use Rattle.bench_io.specs.Sinks.{CountsFault, Wrote, WroteShort};
-ghost use Rattle.tally_engine.specs.Parts.{settings_in, AllClosed};
-ghost use Rattle.table_out.specs.Report.{Table, EachHolds, printed, same_kind, part_text, parts_text, report_of, PutsText, CutsText};
+ghost use Rattle.{bench_io.specs.Sinks.{CountsFault, Wrote, WroteShort}, tally_engine.specs.Parts.{settings_in, AllClosed}, table_out.specs.Report.{Table, EachHolds, printed, same_kind, part_text}};
+ghost use Rattle.table_out.specs.Report.{parts_text, report_of, PutsText, CutsText};
 
 use crate::cells::{Prints, put_table};
 use crate::report_head::report_head;

@@ -1,5 +1,5 @@
 // A ring whose entries are known, the cells of known additions, and the weights of known entries: the tests of `lag_ring`.
-ghost use Rattle.std.{specs.Prelude.{◌≡◌, ◌<◌, IfOk, length}, specs.List.{AllByRecursion}};
+ghost use Rattle.std.specs.{Prelude.{◌≡◌, ◌<◌, IfOk, length}, List.AllByRecursion};
 
 use crate::given::holds;
 use lag_ring::{Entry, LagRing, PairCells, Side, byte_lag_sums, put_side, spots_of, total_weight};

@@ -1,7 +1,10 @@
 -- One row more.
-use Rattle.std.{proofs.Common.{◌≡◌, ◌∙◌, ℕ, zero, suc, ◌+◌, ◌-◌, ◌^◌, ◌<◌, ◌≤◌, List, [], ◌∷◌, ◌++◌, length, get_or, set, take, drop, ap, refl, sym, arith, length-append, length-take-le, get_or-take, get_or-append-add, append_assoc, append-nil, ◌⊎◌, ⊎_elim, rules}, proofs.lemmas.Grind.common_steps, proofs.lemmas.List.get_or-set_same}
+use Rattle.std.proofs.Common.{◌≡◌, ◌∙◌, ℕ, zero, suc, ◌+◌, ◌-◌, ◌^◌, ◌<◌, ◌≤◌, List, [], ◌∷◌, ◌++◌, length, get_or, set, take, drop, ap, refl, sym, arith}
+use Rattle.std.proofs.Common.{length-append, length-take-le, get_or-take, get_or-append-add, append_assoc, append-nil, ◌⊎◌, ⊎_elim, rules}
+use Rattle.{std.proofs.lemmas.{Grind.common_steps, List.get_or-set_same}, tally_base.specs.declared.event.{Event.Event, EventKind.EventKind}}
+use Rattle.tally_base.specs.{declared.block.Block.Block, Codes.{code_of, dtime_of, kind_of, joined, code_in, dtime_in, IsByte}, Columns.{row, rows, event_at}}
+use Rattle.tally_base.specs.Columns.{event_by, gathered}
 use lib.ListN.{get_or-append}
-use Rattle.tally_base.{specs.declared.event.Event.Event, specs.declared.event.EventKind.EventKind, specs.Codes.{code_of, dtime_of, kind_of, joined, code_in, dtime_in, IsByte}, specs.Columns.{row, rows, event_at, event_by, gathered}, specs.declared.block.Block.Block}
 
 pub length-rows : {A : Type 0} (f : ℕ → A) (n : ℕ) → length (rows f n) ≡ n
 length-rows f zero = refl

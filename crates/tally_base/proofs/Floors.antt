@@ -1,6 +1,9 @@
 -- Events in order, one by one.
-use Rattle.std.{proofs.Common.{◌≡◌, ◌∙◌, ℕ, zero, suc, ◌+◌, ◌<◌, ◌≤◌, Bool, List, [], ◌∷◌, ◌++◌, ap, refl, arith, ◌⊎◌, ⊎_elim, IsTrue, if◌then◌else◌, rules, ◌-◌, ◌||◌, nat_lt, slice_index, max, sym, append-nil, append_assoc}, proofs.Props.props, proofs.lemmas.List.Sums.fold-append}
-use Rattle.tally_base.{specs.declared.event.Event.Event, specs.Tally.{moves_floor, floor_after, InOrder, History, greatest_time}, specs.Limits.time_limit, specs.Columns.{rows, event_at, code_at, dtime_at, gathered, events_in}, proofs.BlockRows.more_rows, specs.declared.event.EventKind.TheVariants.{Photon, Marker}, specs.Events.is_photon_kind, specs.declared.block.Block.Block}
+use Rattle.std.proofs.Common.{◌≡◌, ◌∙◌, ℕ, zero, suc, ◌+◌, ◌<◌, ◌≤◌, Bool, List, [], ◌∷◌, ◌++◌, ap, refl, arith, ◌⊎◌, ⊎_elim, IsTrue, if◌then◌else◌, rules, ◌-◌}
+use Rattle.std.proofs.{Common.{◌||◌, nat_lt, slice_index, max, sym, append-nil, append_assoc}, Props.props, lemmas.List.Sums.fold-append}
+use Rattle.tally_base.specs.{declared.{event.{Event.Event, EventKind.TheVariants.{Photon, Marker}}, block.Block.Block}, Tally.{moves_floor, floor_after}}
+use Rattle.tally_base.specs.{Tally.{InOrder, History, greatest_time}, Limits.time_limit, Columns.{rows, event_at, code_at, dtime_at, gathered, events_in}}
+use Rattle.tally_base.{specs.Events.is_photon_kind, proofs.BlockRows.more_rows}
 
 pub floor-push : (strict : Bool) (floor : ℕ) (es : List Event) (e : Event)
     → floor_after strict floor (es ++ e ∷ []) ≡ (if moves_floor strict e then e.time else floor_after strict floor es)
@@ -82,7 +85,8 @@ pub greatest-push : (strict : Bool) (h : History) (x : Event × ℕ)
     → greatest_time strict (h ++ x ∷ []) ≡ (if moves_floor strict x.0 then max (greatest_time strict h) x.0.time else greatest_time strict h)
 greatest-push strict h x = fold-append (λ t (x : Event × ℕ). if moves_floor strict x.0 then max t x.0.time else t) 0 h (x ∷ [])
 
-pub greatest-rows : (strict : Bool) (h : History) (f : ℕ → Event × ℕ) (n : ℕ) → InOrder strict (greatest_time strict h) (rows (λ i. (f i).0) n) → greatest_time strict (h ++ rows f n) ≡ floor_after strict (greatest_time strict h) (rows (λ i. (f i).0) n)
+pub greatest-rows : (strict : Bool) (h : History) (f : ℕ → Event × ℕ) (n : ℕ) → InOrder strict (greatest_time strict h) (rows (λ i. (f i).0) n)
+    → greatest_time strict (h ++ rows f n) ≡ floor_after strict (greatest_time strict h) (rows (λ i. (f i).0) n)
 greatest-rows strict h f zero all = ap (greatest_time strict) (append-nil h)
 greatest-rows strict h f (suc n) all =
     let floor = greatest_time strict h in
@@ -95,7 +99,8 @@ greatest-rows strict h f (suc n) all =
     ∙ sym (floor-push strict floor es (f n).0)
 
 -- the greatest time after a block
-pub greatest_block : (strict : Bool) (h : History) {N : ℕ} (b : Block N) (floor now : ℕ) → floor ≡ greatest_time strict h → InOrder strict floor (gathered b) → now ≡ floor_after strict floor (gathered b) → now ≡ greatest_time strict (h ++ events_in b)
+pub greatest_block : (strict : Bool) (h : History) {N : ℕ} (b : Block N) (floor now : ℕ) → floor ≡ greatest_time strict h → InOrder strict floor (gathered b)
+    → now ≡ floor_after strict floor (gathered b) → now ≡ greatest_time strict (h ++ events_in b)
 greatest_block strict h b floor now is ordered after = search (rules, arith, greatest-rows)
 
 -- Events in order after a floor are in order after a lower one.

@@ -1,6 +1,5 @@
 -- The reasons of faults.
-use Rattle.std.proofs.Common.{◌≡◌, true, false, arith, rules}
-use Rattle.tally_base.{specs.declared.slot.Slot.Slot, specs.declared.fault.Fault.Fault, specs.Faults.{is_outside, HasReason}}
+use Rattle.{std.proofs.Common.{◌≡◌, true, false, arith, rules}, tally_base.specs.{declared.{slot.Slot.Slot, fault.Fault.Fault}, Faults.{is_outside, HasReason}}}
 
 -- a fault that the bytes call for has no reason to give
 pub HasReason-inside : (opening reading : Slot → Type 0) (writing memory : Type 0) (fault : Fault)
@@ -14,5 +13,6 @@ pub HasReason-follows : (opening reading opening' reading' : Slot → Type 0) (w
 HasReason-follows opening reading opening' reading' writing memory writing' memory' fault f g p q h = search (rules, arith)
 
 -- the reason of a read, with what is known of each fault from outside
-pub HasReason-with : (opening reading : Slot → Type 0) (writing memory more : Type 0) (fault : Fault) → (is_outside fault ≡ true → more) → HasReason opening reading writing memory fault → HasReason opening (λ slot. reading slot × more) writing memory fault
+pub HasReason-with : (opening reading : Slot → Type 0) (writing memory more : Type 0) (fault : Fault) → (is_outside fault ≡ true → more)
+    → HasReason opening reading writing memory fault → HasReason opening (λ slot. reading slot × more) writing memory fault
 HasReason-with opening reading writing memory more fault known h = search (rules, arith)

@@ -1,6 +1,10 @@
 -- The definitions at known values.
-use Rattle.std.{proofs.lemmas.Bool.Decides.nat_tests, specs.Fmt.digits, proofs.Common.{◌≡◌, ℕ, arith, None, Some, length, refl, codes, ℤ, pos, negsuc, rules}}
-use Rattle.tally_base.{specs.declared.header.Mode.TheVariants.{T2, T3}, specs.declared.header.RecordType.RecordType, specs.declared.header.RecordType.TheVariants.{HydraHarp2T3}, specs.declared.part.PartKind.TheVariants.{Gate, Shift, Coincidence}, specs.declared.slot.Slot.TheVariants.{Plan, Data}, specs.declared.fault.Fault.TheVariants.{Usage, OpenFault, ReadFault, PlanRule, PlanMode, TruncatedHeader, TagType, TagLength, UnknownRecordType, TruncatedRecord, ReservedRecord, BackwardTime, RecordLimit, TimeLimit, NoGroup, PickTime}, specs.Faults.line_of, specs.Hexadecimal.hexadecimal, specs.RecordTypes.{code_of, type_of, type_with}}
+use Rattle.std.{proofs.{lemmas.Bool.Decides.nat_tests, Common.{◌≡◌, ℕ, arith, None, Some, length, refl, codes, ℤ, pos, negsuc, rules}}, specs.Fmt.digits}
+use Rattle.tally_base.specs.declared.{header.{Mode.TheVariants.{T2, T3}, RecordType.{RecordType, TheVariants.HydraHarp2T3}}, part.PartKind.TheVariants.Gate}
+use Rattle.tally_base.specs.declared.{part.PartKind.TheVariants.{Shift, Coincidence}, slot.Slot.TheVariants.{Plan, Data}, fault.Fault.TheVariants.Usage}
+use Rattle.tally_base.specs.declared.fault.Fault.TheVariants.{OpenFault, ReadFault, PlanRule, PlanMode, TruncatedHeader, TagType, TagLength, UnknownRecordType}
+use Rattle.tally_base.specs.declared.fault.Fault.TheVariants.{TruncatedRecord, ReservedRecord, BackwardTime, RecordLimit, TimeLimit, NoGroup, PickTime}
+use Rattle.tally_base.specs.{Faults.line_of, Hexadecimal.hexadecimal, RecordTypes.{code_of, type_of, type_with}}
 
 -- Each type is found by its own code.
 pub type_of-code : (record_type : RecordType) → type_of (pos (code_of record_type)) ≡ Some record_type

@@ -1,6 +1,8 @@
 -- Markers are in no group.
-use Rattle.std.{proofs.Common.{◌≡◌, ℕ, ◌+◌, ◌<◌, ◌≤◌, ◌&&◌, List, length, get_or, set, arith, ◌⊎◌, nat_lt, slice_index, rules, ◌∙◌, Bool, false, cond, [], ◌∷◌, ◌++◌, filter, append-nil, length-append, ap, sym, refl}, proofs.lemmas.Grind.common_steps, proofs.lemmas.List.get_or-set_same, specs.List.count_by, proofs.lemmas.List.Sums.sum_by_push, proofs.lemmas.List.Elements.filter-append}
-use Rattle.tally_base.{specs.Events.{is_in, is_photon}, specs.Codes.{code_in, InNoGroup}, specs.declared.event.Event.Event, specs.Tally.{History, greatest_time}, proofs.Floors.greatest-push}
+use Rattle.std.proofs.Common.{◌≡◌, ℕ, ◌+◌, ◌<◌, ◌≤◌, ◌&&◌, List, length, get_or, set, arith, ◌⊎◌, nat_lt, slice_index, rules, ◌∙◌, Bool, false, cond, [], ◌∷◌}
+use Rattle.std.proofs.{Common.{◌++◌, filter, append-nil, length-append, ap, sym, refl}, lemmas.{Grind.common_steps, List.{get_or-set_same, Sums.sum_by_push}}}
+use Rattle.{std.{proofs.lemmas.List.Elements.filter-append, specs.List.count_by}, tally_base.specs.{Events.{is_in, is_photon}, Codes.{code_in, InNoGroup}}}
+use Rattle.tally_base.{specs.{declared.event.Event.Event, Tally.{History, greatest_time}}, proofs.Floors.greatest-push}
 
 -- a group that is found is a photon's
 pub found : (groups code group : ℕ) → (256 ≤ code → groups ≡ 0) → is_in groups group ≡ (is_in groups group && nat_lt code 256)

@@ -1,5 +1,8 @@
 -- Sums over numbers, and what is counted by a number: in a range and after it is all.
-use Rattle.std.{proofs.Common.{rules, ◌≡◌, ◌∙◌, ℕ, zero, suc, ◌+◌, ◌<◌, ◌≤◌, Bool, true, false, ◌&&◌, cond, eqb, leb, List, [], ◌∷◌, refl, ap, arith, ltb, ◌++◌, length, take, drop, ◌*◌, ◌/◌, ◌%◌, sym}, specs.List.{count_by, sum_by, range_with_len}, proofs.lemmas.Grind.common_steps, proofs.lemmas.Bool.Decides.nat_tests, proofs.lemmas.List.Sums.sum_by-cons, proofs.Math.Nat.{div-eq_of_lt-le, div-add-mod, lt_of_mul-lt-mul_left, mul-le-mul_left, mul-le-mul_right, mul-lt-mul_of_pos_right, lt-mul-div-succ, mul-div-le, mod-lt}}
+use Rattle.std.proofs.Common.{rules, ◌≡◌, ◌∙◌, ℕ, zero, suc, ◌+◌, ◌<◌, ◌≤◌, Bool, true, false, ◌&&◌, cond, eqb, leb, List, [], ◌∷◌, refl, ap, arith, ltb, ◌++◌}
+use Rattle.std.proofs.{Common.{length, take, drop, ◌*◌, ◌/◌, ◌%◌, sym}, lemmas.{Grind.common_steps, Bool.Decides.nat_tests, List.Sums.sum_by-cons}}
+use Rattle.std.proofs.Math.Nat.{div-eq_of_lt-le, div-add-mod, lt_of_mul-lt-mul_left, mul-le-mul_left, mul-le-mul_right, mul-lt-mul_of_pos_right}
+use Rattle.std.{proofs.Math.Nat.{lt-mul-div-succ, mul-div-le, mod-lt}, specs.List.{count_by, sum_by, range_with_len}}
 
 pub sum_same : {X : Type 0} (f g : X → ℕ) → ((x : X) → f x ≡ g x) → (xs : List X) → sum_by f xs ≡ sum_by g xs
 sum_same f g same [] = refl

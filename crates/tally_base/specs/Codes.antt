@@ -1,6 +1,6 @@
 -- An event's kind as two numbers.
 use Rattle.std.specs.Prelude.{◌≡◌, ℕ, ◌+◌, ◌*◌, ◌/◌, ◌%◌, ◌<◌, ◌≤◌, List, nat_lt, slice_index, if◌then◌else◌}
-use Rattle.tally_base.{specs.declared.event.EventKind.EventKind, specs.declared.event.EventKind.TheVariants.{Photon, Marker}}
+use Rattle.tally_base.specs.declared.event.EventKind.{EventKind, TheVariants.{Photon, Marker}}
 
 abbrev pub code_of : EventKind → ℕ
 code_of (Photon input dtime) = input

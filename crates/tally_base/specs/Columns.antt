@@ -1,6 +1,6 @@
 -- The events of a block.
 use Rattle.std.specs.Prelude.{◌≡◌, ℕ, zero, suc, List, [], ◌∷◌, ◌++◌, slice_index}
-use Rattle.tally_base.{specs.declared.event.Event.Event, specs.Tally.History, specs.Codes.{kind_of, code_in, dtime_in}, specs.declared.block.Block.Block}
+use Rattle.tally_base.specs.{declared.{event.Event.Event, block.Block.Block}, Tally.History, Codes.{kind_of, code_in, dtime_in}}
 
 -- the event in row i of the columns
 abbrev pub row : List ℕ → List ℕ → List ℕ → ℕ → Event

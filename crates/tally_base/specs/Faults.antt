@@ -1,6 +1,9 @@
 -- Each fault's exit status and its line on standard error.
-use Rattle.std.{specs.Prelude.{ℕ, List, ◌++◌, Bool, true, false, None, Some, Result, Ok, Err, codes, decimal}, specs.declared.option.Option.Option, specs.Fmt.signed_decimal, specs.Int.{w64, cast_unsigned}}
-use Rattle.tally_base.{specs.Hexadecimal.hexadecimal, specs.declared.slot.Slot.Slot, specs.declared.slot.Slot.TheVariants.{Plan, Data}, specs.declared.header.Mode.Mode, specs.declared.header.Mode.TheVariants.{T2, T3}, specs.declared.part.PartKind.PartKind, specs.declared.part.PartKind.TheVariants.{Gate, Shift, Histogram, StartStop, Coincidence, Image, Cube, Fold}, specs.declared.fault.Fault.Fault, specs.declared.fault.Fault.TheVariants.{Usage, OpenFault, ReadFault, WriteFault, OutOfMemory, PlanTooLong, PlanSyntax, PlanRule, PlanMode, BadMagic, TruncatedHeader, TagType, TagLength, NoRecordType, UnknownRecordType, HeaderLimit, TruncatedRecord, ReservedRecord, BackwardTime, RecordLimit, TimeLimit, NoTrace, NoGroup, PickTime}}
+use Rattle.std.specs.{Prelude.{ℕ, List, ◌++◌, Bool, true, false, None, Some, Result, Ok, Err, codes, decimal}, declared.option.Option.Option, Fmt.signed_decimal, Int.{w64, cast_unsigned}}
+use Rattle.tally_base.specs.{Hexadecimal.hexadecimal, declared.{slot.Slot.{Slot, TheVariants.{Plan, Data}}, header.Mode.{Mode, TheVariants.{T2, T3}}, part.PartKind.{PartKind, TheVariants.Gate}}}
+use Rattle.tally_base.specs.declared.{part.PartKind.TheVariants.{Shift, Histogram, StartStop, Coincidence, Image, Cube, Fold}, fault.Fault.{Fault, TheVariants.{Usage, OpenFault, ReadFault}}}
+use Rattle.tally_base.specs.declared.fault.Fault.TheVariants.{WriteFault, OutOfMemory, PlanTooLong, PlanSyntax, PlanRule, PlanMode, BadMagic, TruncatedHeader, TagType, TagLength, NoRecordType}
+use Rattle.tally_base.specs.declared.fault.Fault.TheVariants.{UnknownRecordType, HeaderLimit, TruncatedRecord, ReservedRecord, BackwardTime, RecordLimit, TimeLimit, NoTrace, NoGroup, PickTime}
 
 abbrev pub status_of : Fault → ℕ
 status_of Usage = 1

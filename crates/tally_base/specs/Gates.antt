@@ -1,5 +1,5 @@
 -- What the gates of a group and the groups of a fold are.
-use Rattle.std.{specs.Prelude.{ℕ, ◌<◌, ◌≤◌, ◌&&◌, nat_le, nat_lt, if◌then◌else◌, List, [], ◌∷◌, ⊤}, specs.Coded.{Unit-prop, le_prop}}
+use Rattle.std.specs.{Prelude.{ℕ, ◌<◌, ◌≤◌, ◌&&◌, nat_le, nat_lt, if◌then◌else◌, List, [], ◌∷◌, ⊤}, Coded.{Unit-prop, le_prop}}
 
 -- ranges of dtimes, each from its first on and below its second, that rise from low on
 abbrev pub AreGates : ℕ → List (ℕ × ℕ) → Type 0

@@ -1,6 +1,7 @@
 -- The table of record types: codes, modes and names, after PicoQuant's unified TTTR format.
-use Rattle.std.{specs.Prelude.{ℕ, ℤ, pos, negsuc, ◌==◌, List, None, Some, codes, if◌then◌else◌}, specs.declared.option.Option.Option}
-use Rattle.tally_base.{specs.declared.header.Mode.Mode, specs.declared.header.Mode.TheVariants.{T2, T3}, specs.declared.header.RecordType.RecordType, specs.declared.header.RecordType.TheVariants.{PicoHarpT2, PicoHarpT3, HydraHarpT2, HydraHarpT3, HydraHarp2T2, HydraHarp2T3, TimeHarp260NT2, TimeHarp260NT3, TimeHarp260PT2, TimeHarp260PT3, MultiHarpT2, MultiHarpT3}}
+use Rattle.std.specs.{Prelude.{ℕ, ℤ, pos, negsuc, ◌==◌, List, None, Some, codes, if◌then◌else◌}, declared.option.Option.Option}
+use Rattle.tally_base.specs.declared.header.{Mode.{Mode, TheVariants.{T2, T3}}, RecordType.{RecordType, TheVariants.{PicoHarpT2, PicoHarpT3, HydraHarpT2, HydraHarpT3, HydraHarp2T2, HydraHarp2T3}}}
+use Rattle.tally_base.specs.declared.header.RecordType.TheVariants.{TimeHarp260NT2, TimeHarp260NT3, TimeHarp260PT2, TimeHarp260PT3, MultiHarpT2, MultiHarpT3}
 
 abbrev pub code_of : RecordType → ℕ
 code_of PicoHarpT2 = 0x00010203

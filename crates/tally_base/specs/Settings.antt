@@ -1,6 +1,7 @@
 -- What a contract sees of the settings of a plan: their numbers alone, so that definitions can make them.
-use Rattle.tally_base.{specs.declared.settings.Group.Group, specs.declared.settings.ShiftSet.ShiftSet, specs.declared.settings.HistSet.HistSet, specs.declared.settings.TraceSet.TraceSet, specs.declared.settings.StartStopSet.StartStopSet, specs.declared.settings.CoincidenceSet.CoincidenceSet, specs.declared.settings.ImageSet.ImageSet, specs.declared.settings.CubeSet.CubeSet, specs.declared.settings.FoldSet.FoldSet, specs.declared.settings.CorrelationSet.CorrelationSet, specs.declared.divisor.Divisor.Divisor}
-use Rattle.std.{specs.Prelude.{ℕ, ◌+◌, ◌-◌, ◌*◌, ◌/◌, ◌^◌, Bool, true, false, List, length, ◌<◌}, specs.declared.option.Option.Option}
+use Rattle.std.specs.{Prelude.{ℕ, ◌+◌, ◌-◌, ◌*◌, ◌/◌, ◌^◌, Bool, true, false, List, length, ◌<◌}, declared.option.Option.Option}
+use Rattle.tally_base.specs.declared.settings.{Group.Group, ShiftSet.ShiftSet, HistSet.HistSet, TraceSet.TraceSet, StartStopSet.StartStopSet, CoincidenceSet.CoincidenceSet, ImageSet.ImageSet}
+use Rattle.tally_base.specs.declared.{settings.{CubeSet.CubeSet, FoldSet.FoldSet, CorrelationSet.CorrelationSet}, divisor.Divisor.Divisor}
 
 pub record GroupView : Type 0 where
   -- bit n is set for the input n

@@ -1,6 +1,6 @@
 -- The events that a table was given, their greatest time, and how many of them there are.
-use Rattle.std.{specs.Prelude.{ℕ, Bool, ◌||◌, ◌&&◌, max, List, fold, sum_by, count_by, if◌then◌else◌, ◌≤◌, IsTrue, [], ◌∷◌}, specs.List.range_with_len}
-use Rattle.tally_base.{specs.declared.event.Event.Event, specs.Events.{is_photon, is_in}, specs.Limits.time_limit}
+use Rattle.std.specs.{Prelude.{ℕ, Bool, ◌||◌, ◌&&◌, max, List, fold, sum_by, count_by, if◌then◌else◌, ◌≤◌, IsTrue, [], ◌∷◌}, List.range_with_len}
+use Rattle.tally_base.specs.{declared.event.Event.Event, Events.{is_photon, is_in}, Limits.time_limit}
 
 -- events in the order in which they came, each with its groups: bit g - 1 for group g
 abbrev pub History : Type 0

@@ -1,6 +1,6 @@
 // Events in columns.
 ghost use Rattle.std.specs.Prelude.{◌≡◌, ◌≤◌, ◌≢◌, ◌+◌, ◌*◌, ◌<◌, ◌++◌, ◌∷◌, ◌&&◌, [], length, take, drop, min, ℕ, nat_lt, slice_index, slice_index_or, if◌then◌else◌};
-ghost use Rattle.tally_base.{specs.Codes.{code_of, dtime_of, kind_of, joined, code_in, dtime_in, IsByte, InNoGroup}};
+ghost use Rattle.tally_base.specs.Codes.{code_of, dtime_of, kind_of, joined, code_in, dtime_in, IsByte, InNoGroup};
 
 use crate::event::{Event, EventKind, is_in};
 use std::simd::prelude::*;

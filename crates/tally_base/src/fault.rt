@@ -1,7 +1,6 @@
 // The faults of the program, each with its exit status and its line.
 ghost use Rattle.std.specs.Prelude.{◌≡◌, ◌+◌, ◌≤◌, ◌++◌, length, codes, decimal};
-ghost use Rattle.arrayvec.specs.ArrayVec.{array_vec_len};
-ghost use Rattle.tally_base.specs.Faults.{status_of, reason_of, line_of, kind_name, mode_name, slot_name};
+ghost use Rattle.{arrayvec.specs.ArrayVec.array_vec_len, tally_base.specs.Faults.{status_of, reason_of, line_of, kind_name, mode_name, slot_name}};
 
 use crate::header::Mode;
 use crate::line::{put_decimal, put_hexadecimal, put_signed, put_text};

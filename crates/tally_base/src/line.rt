@@ -1,7 +1,6 @@
 // Lines of text in a fixed room.
-ghost use Rattle.std.{specs.Prelude.{◌≡◌, ◌+◌, ◌<◌, ◌≤◌, ◌++◌, length, decimal}, specs.Fmt.{signed_decimal}};
-ghost use Rattle.arrayvec.specs.ArrayVec.{array_vec_len};
-ghost use Rattle.tally_base.specs.Hexadecimal.{hexadecimal, digit_code, digit_at};
+ghost use Rattle.std.specs.{Prelude.{◌≡◌, ◌+◌, ◌<◌, ◌≤◌, ◌++◌, length, decimal}, Fmt.signed_decimal};
+ghost use Rattle.{arrayvec.specs.ArrayVec.array_vec_len, tally_base.specs.Hexadecimal.{hexadecimal, digit_code, digit_at}};
 
 use arrayvec::ArrayVec;
 use itoa::Buffer;

@@ -1,6 +1,6 @@
 // The settings of the groups and tables of a plan. Each has its ranges as facts of its type.
-ghost use Rattle.std.{specs.Prelude.{◌≡◌, ◌*◌, ◌%◌, ◌^◌, ◌<◌, ◌≤◌, length}, specs.Option.ForSome};
-ghost use Rattle.tally_base.{specs.Gates.{AreGates, AreGates-prop, AreGroups, AreGroups-prop}, specs.Limits.wrap_limit};
+ghost use Rattle.std.specs.{Prelude.{◌≡◌, ◌*◌, ◌%◌, ◌^◌, ◌<◌, ◌≤◌, length}, Option.ForSome};
+ghost use Rattle.tally_base.specs.{Gates.{AreGates, AreGates-prop, AreGroups, AreGroups-prop}, Limits.wrap_limit};
 
 use arrayvec::ArrayVec;
 

@@ -1,6 +1,7 @@
 // What every table is.
 ghost use Rattle.std.specs.Prelude.{◌≡◌, ℕ, Bool, true, false, ◌+◌, ◌<◌, ◌≤◌, [], ◌∷◌, ◌++◌, IsTrue, length, if◌then◌else◌};
-ghost use Rattle.tally_base.{specs.declared.event.Event.Event, specs.Settings.{PartSettings, entries, is_strict}, specs.Tally.{History, moves_floor, greatest_time, floor_after, InOrder}, specs.Limits.{record_limit, time_limit}, specs.Events.is_photon, specs.Columns.{gathered, events_in, IsSorted}};
+ghost use Rattle.tally_base.specs.{declared.event.Event.Event, Settings.{PartSettings, entries, is_strict}, Tally.{History, moves_floor, greatest_time, floor_after, InOrder}, Limits.record_limit};
+ghost use Rattle.tally_base.specs.{Limits.time_limit, Events.is_photon, Columns.{gathered, events_in, IsSorted}};
 
 use crate::block::{Block, TABLE_BLOCK};
 use crate::event::Event;

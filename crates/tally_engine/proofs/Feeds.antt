@@ -1,13 +1,14 @@
 -- What the words of a piece give to the tables.
-use Rattle.std.{proofs.Common.{◌≡◌, ◌≢◌, ℕ, false, List, [], ◌++◌, None, Some, Ok, Err, IfErr, OnOk, refl, sym, ap, subst, ◌∙◌, ⊎_elim, arith, rules, suc, ◌<◌, ◌∷◌, length, get_or, map, true, ◌≤◌, ◌+◌, ◌*◌, sum_by}, specs.declared.option.Option.Option, specs.declared.result.Result.Result}
-use Rattle.tally_base.{specs.declared.fault.Fault.Fault, specs.declared.fault.Fault.TheVariants.WriteFault, specs.Faults.{fault_in, is_outside}, specs.Settings.entries}
-use Rattle.ptu_definitions.{specs.declared.records.Summary.Summary, specs.Kept.Marked, specs.Streams.{StreamSettings, record_refusal, given, last_in}, specs.Words.words_of, proofs.StreamLemmas.given-clear, proofs.DeliveredLaws.delivered-settled, specs.Settled.not_marked}
-use Rattle.abs_time.specs.declared.clock.Clock.{Clock}
-use Rattle.record_stream.{specs.declared.taker.EventTaker.Ghosts, specs.declared.stream.RecordStream.RecordStream, specs.Feeding.{GaveOn, BrokeOn, Fed}, specs.Ending.GaveRest, specs.Standing.{Stands, HasStreamed, how_of, given_in, refused_with}, proofs.Summaries.so_far-records}
-use Rattle.settle.specs.declared.settle.Settle.{Settle}
-use Rattle.gate_plan.{specs.Shifting.Sorting, specs.Histories.{with_groups, settled_history}, proofs.Histories.with_groups-append}
-use Rattle.tally_engine.{specs.Parts.{settings_in, entries_in}, specs.declared.part.Part.Part, proofs.Tables.tables_within}
-use Rattle.tally_engine.{specs.declared.engine.Engine.Engine, specs.Engine.{held, bound}}
+use Rattle.std.proofs.Common.{◌≡◌, ◌≢◌, ℕ, false, List, [], ◌++◌, None, Some, Ok, Err, IfErr, OnOk, refl, sym, ap, subst, ◌∙◌, ⊎_elim, arith, rules, suc, ◌<◌}
+use Rattle.std.{proofs.Common.{◌∷◌, length, get_or, map, true, ◌≤◌, ◌+◌, ◌*◌, sum_by}, specs.declared.{option.Option.Option, result.Result.Result}}
+use Rattle.tally_base.specs.{declared.fault.Fault.{Fault, TheVariants.WriteFault}, Faults.{fault_in, is_outside}, Settings.entries}
+use Rattle.ptu_definitions.specs.{declared.records.Summary.Summary, Kept.Marked, Streams.{StreamSettings, record_refusal, given, last_in}, Words.words_of}
+use Rattle.ptu_definitions.{specs.Settled.not_marked, proofs.{StreamLemmas.given-clear, DeliveredLaws.delivered-settled}}
+use Rattle.{abs_time.specs.declared.clock.Clock.Clock, record_stream.specs.declared.{taker.EventTaker.Ghosts, stream.RecordStream.RecordStream}}
+use Rattle.record_stream.specs.{Feeding.{GaveOn, BrokeOn, Fed}, Ending.GaveRest, Standing.{Stands, HasStreamed, how_of, given_in, refused_with}}
+use Rattle.{record_stream.proofs.Summaries.so_far-records, settle.specs.declared.settle.Settle.Settle, gate_plan.specs.Shifting.Sorting}
+use Rattle.{gate_plan.{specs.Histories.{with_groups, settled_history}, proofs.Histories.with_groups-append}, tally_engine.specs.Parts.{settings_in, entries_in}}
+use Rattle.tally_engine.{specs.{declared.{part.Part.Part, engine.Engine.Engine}, Engine.{held, bound}}, proofs.Tables.tables_within}
 
 -- a taker that never breaks was given all that the words call for
 pub fed_whole : {T : Type 0} (g : Ghosts T) {X : Type 0} (how : StreamSettings) (old new : T) (words now : List ℕ) (r : Result X Fault)
@@ -45,7 +46,8 @@ at_same x y P h is = subst P is h
 
 -- An engine of no bytes.
 
-pub none_taken : (how : StreamSettings) (clock : Clock) (sum : Summary) (count : ℕ) (settle : Settle) (carried : List ℕ) (refused : Option Fault) → Stands how clock sum count settle carried refused [] → refused ≡ None → 4 * sum.records + length carried ≡ 0
+pub none_taken : (how : StreamSettings) (clock : Clock) (sum : Summary) (count : ℕ) (settle : Settle) (carried : List ℕ) (refused : Option Fault)
+    → Stands how clock sum count settle carried refused [] → refused ≡ None → 4 * sum.records + length carried ≡ 0
 none_taken how clock sum count settle carried refused stands none = search (rules, arith, so_far-records)
 
 -- What an engine of these tables keeps, with the carried bytes and the events kept back, is within its bound.

@@ -1,9 +1,9 @@
 -- Tables that are given something one by one.
-use Rattle.std.{proofs.Common.{◌≡◌, ◌+◌, ◌≤◌, ◌<◌, ℕ, zero, suc, List, [], ◌∷◌, refl, arith, length, get_or, set, rules, ◌++◌, take, map, append_assoc, false, flat_map}, proofs.lemmas.Grind.common_steps, proofs.lemmas.List.{get_or-set_same, map-append}, proofs.Math.Seq.take-suc, proofs.lemmas.List.Elements.All-push}
-use Rattle.gate_plan.proofs.Histories.{other, last_or}
-use Rattle.tally_base.{specs.declared.header.Mode.Mode, specs.declared.header.Mode.TheVariants.T2, specs.Settings.{is_strict, PartSettings}}
-use Rattle.tally_engine.specs.Give.{Standing}
-use Rattle.tally_engine.{specs.declared.part.Part.Part, specs.contracts.part.PartTally.TheImpl.ghosts, specs.Parts.{settings_in, IsOpened, AllOpened}, proofs.Tables.{part_taken, part_floor}}
+use Rattle.std.proofs.Common.{◌≡◌, ◌+◌, ◌≤◌, ◌<◌, ℕ, zero, suc, List, [], ◌∷◌, refl, arith, length, get_or, set, rules, ◌++◌, take, map, append_assoc, false}
+use Rattle.std.proofs.{Common.flat_map, lemmas.{Grind.common_steps, List.{get_or-set_same, map-append, Elements.All-push}}, Math.Seq.take-suc}
+use Rattle.{gate_plan.proofs.Histories.{other, last_or}, tally_base.specs.{declared.header.Mode.{Mode, TheVariants.T2}, Settings.{is_strict, PartSettings}}}
+use Rattle.tally_engine.specs.{Give.Standing, declared.part.Part.Part, contracts.part.PartTally.TheImpl.ghosts, Parts.{settings_in, IsOpened, AllOpened}}
+use Rattle.tally_engine.proofs.Tables.{part_taken, part_floor}
 
 behind : {X : Type 0} (xs : List X) (n k : ℕ) (v d : X) → n < k → get_or (set xs n v) k d ≡ get_or xs k d
 behind xs n k v d lt = grind (arith, common_steps)

@@ -1,9 +1,8 @@
 -- The tables of a plan that suits T2 are in no strict order of time.
 use Rattle.std.{proofs.Common.{◌≡◌, ◌<◌, ℕ, zero, suc, get_or, List, [], ◌∷◌, false, length, None, Result, Ok, arith, rules}, specs.List.AllByRecursion}
-use Rattle.tally_base.{specs.declared.fault.Fault.Fault, specs.declared.header.Mode.Mode, specs.declared.header.Mode.TheVariants.{T2}, specs.Settings.{is_strict, PartSettings}}
-use Rattle.toml_rules.specs.Rules.{or_next}
-use Rattle.plan_text.{specs.Fits.{fits, misfit, refusal, parts_fit}, specs.Plan.{PlanView, parts_of}, proofs.Misfits.suits_by}
-use Rattle.tally_engine.{specs.declared.part.Part.Part, specs.contracts.part.PartTally.TheImpl.ghosts, specs.Parts.settings_in}
+use Rattle.tally_base.specs.{declared.{fault.Fault.Fault, header.Mode.{Mode, TheVariants.T2}}, Settings.{is_strict, PartSettings}}
+use Rattle.{toml_rules.specs.Rules.or_next, plan_text.{specs.{Fits.{fits, misfit, refusal, parts_fit}, Plan.{PlanView, parts_of}}, proofs.Misfits.suits_by}}
+use Rattle.tally_engine.specs.{declared.part.Part.Part, contracts.part.PartTally.TheImpl.ghosts, Parts.settings_in}
 
 -- settings of a kind that isn't strict
 abbrev Loose : PartSettings → Type 0
@@ -35,5 +34,6 @@ all_at (p ∷ parts) zero d within all = all.0
 all_at (p ∷ parts) (suc k) d within all = all_at parts k d (omega (arith, within)) all.1
 
 -- The tables of a plan that suits T2 aren't strict.
-pub suits_T2 : (mode : Mode) (plan : PlanView) (parts : List Part) → fits mode plan ≡ Ok (tt {0}) → settings_in parts ≡ parts_of plan → (k : ℕ) (d : Part) → k < length parts → mode ≡ T2 → is_strict (ghosts.settings (get_or parts k d)) ≡ false
+pub suits_T2 : (mode : Mode) (plan : PlanView) (parts : List Part) → fits mode plan ≡ Ok (tt {0}) → settings_in parts ≡ parts_of plan → (k : ℕ) (d : Part)
+    → k < length parts → mode ≡ T2 → is_strict (ghosts.settings (get_or parts k d)) ≡ false
 suits_T2 mode plan parts fit are k d within is = search (rules, arith, all_at, loose_parts)

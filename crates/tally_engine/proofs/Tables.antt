@@ -1,8 +1,8 @@
 -- What holds of a table of any kind, and of the tables of a plan.
-use Rattle.std.{proofs.Common.{◌≡◌, ◌≤◌, List, [], ◌∷◌, length, arith, sum_by}, proofs.lemmas.List.Sums.sum_by-cons}
-use Rattle.tally_base.{specs.Settings.{entries, is_strict}, specs.Tally.{History, greatest_time}}
-use Rattle.tau_cascade.proofs.Work.{work_within}
-use Rattle.tally_engine.{specs.declared.part.Part.Part, specs.declared.part.Part.TheVariants.Correlation as InCorrelation, specs.contracts.part.PartTally.TheImpl.ghosts, specs.Part.laws_of, specs.Parts.{settings_in, entries_in, IsWithinWork}}
+use Rattle.{std.proofs.{Common.{◌≡◌, ◌≤◌, List, [], ◌∷◌, length, arith, sum_by}, lemmas.List.Sums.sum_by-cons}, tally_base.specs.Settings.{entries, is_strict}}
+use Rattle.{tally_base.specs.Tally.{History, greatest_time}, tau_cascade.proofs.Work.work_within, tally_engine.specs.declared.part.Part.Part}
+use Rattle.tally_engine.specs.{declared.part.Part.TheVariants.Correlation as InCorrelation, contracts.part.PartTally.TheImpl.ghosts, Part.laws_of}
+use Rattle.tally_engine.specs.Parts.{settings_in, entries_in, IsWithinWork}
 
 pub part_taken : (p : Part) (h : History) → ghosts.holds p h → ghosts.taken p ≡ length h
 part_taken p = (laws_of p).taken_is

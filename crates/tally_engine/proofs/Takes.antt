@@ -1,11 +1,11 @@
 -- Events that are given to all tables.
-use Rattle.std.{proofs.Common.{◌≡◌, ◌+◌, ◌≤◌, ◌<◌, ℕ, List, [], ◌∷◌, ◌++◌, Bool, true, false, refl, ap, ◌∙◌, append_assoc, append-nil, arith, length, length-append, IsTrue, ◌&&◌, not, sym, rules, map}, proofs.lemmas.List.{map-append, length-map}, proofs.lemmas.List.Elements.filter-append}
-use Rattle.tally_base.{specs.declared.event.Event.Event, specs.declared.header.Mode.Mode, specs.declared.header.Mode.TheVariants.T2, specs.declared.tally.Tally.Ghosts, specs.Events.is_ordered, specs.Settings.is_strict, specs.Tally.{History, floor_after, InOrder}, specs.Limits.record_limit, proofs.Floors.order-looser}
-use Rattle.ptu_definitions.{specs.Kept.Marked, specs.Settled.not_marked}
-use Rattle.abs_time.{specs.Floors.{orders_markers, moved_floor}, proofs.Floors.moved_floor-push}
-use Rattle.record_stream.{specs.Blocks.on_time, proofs.Gathering.floor_of-block}
-use Rattle.gate_plan.{specs.Shifting.{Sorting, shifted}, specs.Histories.with_groups, proofs.Histories.{with_groups-more, order-shifted, floor-shifted}}
-use Rattle.tally_engine.specs.Give.{Each, Standing, MayTake, HasTaken, Gave}
+use Rattle.std.proofs.Common.{◌≡◌, ◌+◌, ◌≤◌, ◌<◌, ℕ, List, [], ◌∷◌, ◌++◌, Bool, true, false, refl, ap, ◌∙◌, append_assoc, append-nil, arith, length}
+use Rattle.std.proofs.{Common.{length-append, IsTrue, ◌&&◌, not, sym, rules, map}, lemmas.List.{map-append, length-map, Elements.filter-append}}
+use Rattle.tally_base.specs.{declared.{event.Event.Event, header.Mode.{Mode, TheVariants.T2}, tally.Tally.Ghosts}, Events.is_ordered, Settings.is_strict}
+use Rattle.{tally_base.{specs.{Tally.{History, floor_after, InOrder}, Limits.record_limit}, proofs.Floors.order-looser}, ptu_definitions.specs.Kept.Marked}
+use Rattle.{ptu_definitions.specs.Settled.not_marked, abs_time.{specs.Floors.{orders_markers, moved_floor}, proofs.Floors.moved_floor-push}}
+use Rattle.{record_stream.{specs.Blocks.on_time, proofs.Gathering.floor_of-block}, gate_plan.specs.{Shifting.{Sorting, shifted}, Histories.with_groups}}
+use Rattle.{gate_plan.proofs.Histories.{with_groups-more, order-shifted, floor-shifted}, tally_engine.specs.Give.{Each, Standing, MayTake, HasTaken, Gave}}
 
 length-on_time : (es : List Event) → length (on_time es) ≡ length es
 length-on_time [] = refl

@@ -1,11 +1,9 @@
 -- What an engine stands for.
-use Rattle.std.{specs.Prelude.{◌≡◌, ◌<◌, ◌≤◌, ℕ, All, ◌+◌, ◌*◌, ◌++◌, IfErr, OnOk, List, length, sum_by, None, Result, Ok, Err, ◌⊎◌}, specs.declared.option.Option.Option}
-use Rattle.tally_base.{specs.declared.fault.Fault.Fault, specs.declared.header.Header.Header, specs.declared.header.Mode.Mode, specs.Settings.{PartSettings, entries}, specs.declared.fault.Fault.TheVariants.OutOfMemory, specs.Faults.fault_in, specs.Limits.record_limit}
-use Rattle.ptu_definitions.{specs.Headers.Shows, specs.Streams.{StreamSettings, record_refusal, streamed}, specs.Words.words_of}
-use Rattle.record_stream.specs.Standing.{how_of, refused_with, carried_by, kept_back_by, bytes_in, HasStreamed}
-use Rattle.plan_text.{specs.Plan.{PlanView, parts_of}, specs.Fits.fits}
-use Rattle.gate_plan.{specs.Shifting.{Sorting, sorting}, specs.Groups.sorting_of, specs.Histories.{history, settled_history, reading_by}}
-use Rattle.tally_engine.{specs.Parts.{settings_in, AllHold, AllClosed, IsWithinWork, entries_in}, specs.declared.results.Results.Results}
+use Rattle.std.specs.{Prelude.{◌≡◌, ◌<◌, ◌≤◌, ℕ, All, ◌+◌, ◌*◌, ◌++◌, IfErr, OnOk, List, length, sum_by, None, Result, Ok, Err, ◌⊎◌}, declared.option.Option.Option}
+use Rattle.tally_base.specs.{declared.{fault.Fault.{Fault, TheVariants.OutOfMemory}, header.{Header.Header, Mode.Mode}}, Settings.{PartSettings, entries}, Faults.fault_in, Limits.record_limit}
+use Rattle.{ptu_definitions.specs.{Headers.Shows, Streams.{StreamSettings, record_refusal, streamed}, Words.words_of}, record_stream.specs.Standing.{how_of, refused_with, carried_by, kept_back_by}}
+use Rattle.{record_stream.specs.Standing.{bytes_in, HasStreamed}, plan_text.specs.{Plan.{PlanView, parts_of}, Fits.fits}, gate_plan.specs.{Shifting.{Sorting, sorting}, Groups.sorting_of}}
+use Rattle.{gate_plan.specs.Histories.{history, settled_history, reading_by}, tally_engine.specs.{Parts.{settings_in, AllHold, AllClosed, IsWithinWork, entries_in}, declared.results.Results.Results}}
 use Rattle.tally_engine.specs.declared.engine.Engine.{Engine}
 
 -- ## What it was opened with

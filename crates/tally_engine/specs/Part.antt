@@ -1,22 +1,20 @@
 -- What each table is, whatever its kind.
 use Rattle.std.specs.Prelude.{◌≡◌, ℕ, ◌≤◌, false, [], ◌∷◌, ◌++◌, length}
-use Rattle.tally_base.{specs.declared.event.Event.Event, specs.declared.tally.Tally.Ghosts, specs.Events.is_photon, specs.Settings.{entries, is_strict}, specs.Tally.{History, greatest_time}}
+use Rattle.tally_base.specs.{declared.{event.Event.Event, tally.Tally.Ghosts}, Events.is_photon, Settings.{entries, is_strict}, Tally.{History, greatest_time}}
+use Rattle.{tcspc_hist.specs.contracts.hist.HistTally.TheImpl.ghosts as hist_ghosts, count_trace.specs.contracts.trace.TraceTally.TheImpl.ghosts as trace_ghosts}
+use Rattle.coincidence.specs.contracts.{start_stop.StartStopTally.TheImpl.ghosts as startstop_ghosts, coincidence.CoincidenceTally.TheImpl.ghosts as pairs_ghosts}
+use Rattle.{scan_image.specs.contracts.image.ImageTally.TheImpl.ghosts as image_ghosts, flim_cube.specs.contracts.cube.FlimCubeTally.TheImpl.ghosts as cube_ghosts}
+use Rattle.{fold_count.specs.contracts.fold.FoldTally.TheImpl.ghosts as fold_ghosts, tau_cascade.specs.contracts.cascade.CascadeTally.TheImpl.ghosts as cascade_ghosts}
+use Rattle.tally_engine.specs.declared.part.Part.{Part, TheVariants.{Hist as InHist, Trace as InTrace, StartStop as InStartStop, Coincidence as InCoincidence, Image as InImage}}
+use Rattle.tally_engine.specs.declared.part.Part.TheVariants.{Correlation as InCorrelation, Cube as InCube, Fold as InFold}
 use Rattle.tcspc_hist.specs.Hist as hist
-use Rattle.tcspc_hist.specs.contracts.hist.HistTally.TheImpl.{ghosts as hist_ghosts}
 use Rattle.count_trace.specs.Trace as trace
-use Rattle.count_trace.specs.contracts.trace.TraceTally.TheImpl.{ghosts as trace_ghosts}
 use Rattle.coincidence.specs.StartStop as startstop
-use Rattle.coincidence.{specs.contracts.start_stop.StartStopTally.TheImpl.ghosts as startstop_ghosts, specs.contracts.coincidence.CoincidenceTally.TheImpl.ghosts as pairs_ghosts}
 use Rattle.coincidence.specs.Coincidence as pairs
 use Rattle.scan_image.specs.Image as image
-use Rattle.scan_image.specs.contracts.image.ImageTally.TheImpl.{ghosts as image_ghosts}
 use Rattle.flim_cube.specs.Cube as cube
-use Rattle.flim_cube.specs.contracts.cube.FlimCubeTally.TheImpl.{ghosts as cube_ghosts}
 use Rattle.fold_count.specs.Fold as fold_laws
-use Rattle.fold_count.specs.contracts.fold.FoldTally.TheImpl.{ghosts as fold_ghosts}
 use Rattle.tau_cascade.specs.Laws as cascade
-use Rattle.tau_cascade.specs.contracts.cascade.CascadeTally.TheImpl.{ghosts as cascade_ghosts}
-use Rattle.tally_engine.{specs.declared.part.Part.Part, specs.declared.part.Part.TheVariants.{Hist as InHist, Trace as InTrace, StartStop as InStartStop, Coincidence as InCoincidence, Image as InImage, Correlation as InCorrelation, Cube as InCube, Fold as InFold}}
 
 -- what a table of any kind has
 abbrev pub by_kind {ℓ} : {X : Type ℓ} → ((T : Type 0) → Ghosts T → T → X) → Part → X

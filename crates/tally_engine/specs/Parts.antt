@@ -1,8 +1,7 @@
 -- The tables of a plan.
 use Rattle.std.specs.Prelude.{◌≡◌, ◌≤◌, ⊤, ℕ, List, [], All, map, sum_by, true, false}
-use Rattle.tally_base.{specs.Settings.{PartSettings, correlation_view}, specs.Tally.History}
-use Rattle.tau_cascade.{specs.Cascade.{set_of, spent_by}, specs.Work.work}
-use Rattle.tally_engine.{specs.declared.part.Part.Part, specs.declared.part.Part.TheVariants.Correlation as InCorrelation, specs.contracts.part.PartTally.TheImpl.ghosts}
+use Rattle.{tally_base.specs.{Settings.{PartSettings, correlation_view}, Tally.History}, tau_cascade.specs.{Cascade.{set_of, spent_by}, Work.work}, tally_engine.specs.declared.part.Part.Part}
+use Rattle.tally_engine.specs.{declared.part.Part.TheVariants.Correlation as InCorrelation, contracts.part.PartTally.TheImpl.ghosts}
 
 -- what the tables were opened with
 abbrev pub settings_in : List Part → List PartSettings

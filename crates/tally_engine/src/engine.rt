@@ -1,10 +1,8 @@
 // All tables of a plan, and the stream that feeds them.
 ghost use Rattle.std.specs.Prelude.{◌≡◌, ℕ, All, List, None, Some, false, ◌+◌, ◌*◌, ◌<◌, ◌≤◌, [], ◌++◌, length, Err, OnOk, IfOk, IfErr};
-ghost use Rattle.tally_base.{specs.declared.fault.Fault.Fault, specs.Faults.{is_outside, fault_in}, specs.RecordTypes.mode_of, specs.Limits.record_limit};
-ghost use Rattle.record_stream.specs.Standing.{how_of, given_by, greatest_of, refused_with, HasStreamed};
-ghost use Rattle.tally_engine.specs.Give.{Standing};
-ghost use Rattle.plan_text.{specs.ReadPlan.plan_view, specs.Bound.bound as plan_bound};
-ghost use Rattle.ptu_definitions.{specs.Headers.Shows, specs.Streams.{record_refusal, streamed}, specs.Words.words_of};
+ghost use Rattle.{tally_base.specs.{declared.fault.Fault.Fault, Faults.{is_outside, fault_in}, RecordTypes.mode_of, Limits.record_limit}, record_stream.specs.Standing.{how_of, given_by, greatest_of}};
+ghost use Rattle.{record_stream.specs.Standing.{refused_with, HasStreamed}, tally_engine.specs.Give.Standing, plan_text.specs.{ReadPlan.plan_view, Bound.bound as plan_bound}};
+ghost use Rattle.ptu_definitions.specs.{Headers.Shows, Streams.{record_refusal, streamed}, Words.words_of};
 
 use crate::give::close_all;
 use crate::open::open_all;

@@ -1,8 +1,7 @@
 // A block of events to every table.
 ghost use Rattle.std.specs.Prelude.{◌≡◌, All, false};
-ghost use Rattle.tally_base.specs.Columns.{sorted, gathered, events_in, IsSorted};
-ghost use Rattle.gate_plan.{specs.Groups.sorting_of, specs.Histories.with_groups};
-ghost use Rattle.tally_engine.specs.Give.{Each, Closed, MayTake, HasTaken};
+ghost use Rattle.{tally_base.specs.Columns.{sorted, gathered, events_in, IsSorted}, gate_plan.specs.{Groups.sorting_of, Histories.with_groups}, tally_engine.specs.Give.{Each, Closed, MayTake}};
+ghost use Rattle.tally_engine.specs.Give.{HasTaken};
 
 use crate::part::Part;
 use gate_plan::{Gates, sort_events};

@@ -1,8 +1,8 @@
 // The tables of a plan are opened.
 ghost use Rattle.std.specs.Prelude.{◌≡◌, ◌<◌, ◌++◌, length, map, IfOk, IfErr, OnOk};
-ghost use Rattle.tally_base.{specs.Settings.{PartSettings, hist_view, trace_view, startstop_view, coincidence_view, image_view, correlation_view, cube_view, fold_view}, specs.Settings.PartSettings.{HistSettings, TraceSettings, StartStopSettings, CoincidenceSettings, ImageSettings, CorrelationSettings, CubeSettings, FoldSettings}};
-ghost use Rattle.plan_text.{specs.Plan.parts_of, specs.ReadPlan.plan_view};
-ghost use Rattle.tally_engine.specs.Parts.{settings_in, IsOpened, AllOpened};
+ghost use Rattle.tally_base.specs.Settings.{PartSettings, hist_view, trace_view, startstop_view, coincidence_view, image_view, correlation_view, cube_view, fold_view, PartSettings.HistSettings};
+ghost use Rattle.tally_base.specs.Settings.PartSettings.{TraceSettings, StartStopSettings, CoincidenceSettings, ImageSettings, CorrelationSettings, CubeSettings, FoldSettings};
+ghost use Rattle.{plan_text.specs.{Plan.parts_of, ReadPlan.plan_view}, tally_engine.specs.Parts.{settings_in, IsOpened, AllOpened}};
 
 use crate::part::Part;
 use coincidence::{Coincidence, StartStop};

@@ -1,7 +1,6 @@
 // The taker of a stream's events that gives them to every table.
 ghost use Rattle.std.specs.Prelude.{◌≡◌, All};
-ghost use Rattle.gate_plan.specs.Groups.{sorting_of};
-ghost use Rattle.tally_engine.specs.Give.{Standing};
+ghost use Rattle.{gate_plan.specs.Groups.sorting_of, tally_engine.specs.Give.Standing};
 
 use crate::give::give;
 use crate::part::Part;

@@ -1,9 +1,15 @@
 -- What a block of events does to the photons of the two groups.
-use Rattle.std.{proofs.Common.{◌≡◌, ℕ, zero, suc, ◌+◌, ◌<◌, ◌≤◌, Bool, true, false, ◌&&◌, ◌||◌, cond, ltb, List, [], ◌∷◌, ◌++◌, length, map, take, refl, sym, ap, ◌∙◌, append-nil, arith, length-append, zero-add, slice_set, nat_lt, rules, max, fold}, specs.List.AllByRecursion, proofs.lemmas.Bool.false≢true, proofs.lemmas.Grind.common_steps, proofs.lemmas.List.{map-append, take_more_set}, proofs.lemmas.List.Elements.filter-append, proofs.Math.Nat.div-one, proofs.lemmas.List.Sums.{length-filter, count_by-le-length}}
+use Rattle.std.proofs.Common.{◌≡◌, ℕ, zero, suc, ◌+◌, ◌<◌, ◌≤◌, Bool, true, false, ◌&&◌, ◌||◌, cond, ltb, List, [], ◌∷◌, ◌++◌, length, map, take, refl, sym, ap}
+use Rattle.std.proofs.{Common.{◌∙◌, append-nil, arith, length-append, zero-add, slice_set, nat_lt, rules, max, fold}, lemmas.Bool.false≢true}
+use Rattle.std.proofs.lemmas.{Grind.common_steps, List.{map-append, take_more_set, Elements.filter-append, Sums.{length-filter, count_by-le-length}}}
+use Rattle.{std.{proofs.Math.Nat.div-one, specs.List.AllByRecursion}, tally_base.specs.declared.{settings.CorrelationSet.CorrelationSet, block.Block.Block}}
+use Rattle.tally_base.specs.{Events.{is_photon, is_in}, Settings.{CorrelationView, correlation_view}, Tally.{History, greatest_time, floor_after, InOrder}}
+use Rattle.tally_base.specs.{Tally.moves_floor, Limits.record_limit, Columns.{rows, event_at, code_at, groups_at, gathered, events_in}}
+use Rattle.{tally_base.proofs.{Floors.{moves_row, order-front, order-last, greatest-rows}, BlockRows.length-rows}, lag_ring.specs.declared.ring.Entry.Entry}
+use Rattle.{lag_ring.proofs.{Lists.{all_both, all_filter, all_passed}, Rising.all_weaker}, tau_cascade.specs.{declared.level.Level.Level, Correlation.Given}}
+use Rattle.tau_cascade.specs.{Correlation.{bin, in_first, in_second, photons_of}, StandsFor.StandsFor, Levels.Chain, Bins.{raised, bin_of, photon_bins, Come}}
+use Rattle.tau_cascade.{specs.Bins.{CanCome, CanGiveBlock}, proofs.Follows.{come_push, raised-none}}
 use mir.Val.{bool_byte}
-use Rattle.tally_base.{specs.declared.settings.CorrelationSet.CorrelationSet, specs.Events.{is_photon, is_in}, specs.Settings.{CorrelationView, correlation_view}, specs.Tally.{History, greatest_time, floor_after, InOrder, moves_floor}, specs.Limits.record_limit, specs.declared.block.Block.Block, specs.Columns.{rows, event_at, code_at, groups_at, gathered, events_in}, proofs.Floors.{moves_row, order-front, order-last, greatest-rows}, proofs.BlockRows.length-rows}
-use Rattle.lag_ring.{specs.declared.ring.Entry.Entry, proofs.Lists.{all_both, all_filter, all_passed}, proofs.Rising.all_weaker}
-use Rattle.tau_cascade.{specs.declared.level.Level.Level, specs.Correlation.{Given, bin, in_first, in_second, photons_of}, specs.StandsFor.StandsFor, specs.Levels.Chain, specs.Bins.{raised, bin_of, photon_bins, Come, CanCome, CanGiveBlock}, proofs.Follows.{come_push, raised-none}}
 
 -- What an event does to the photons of the two groups.
 
@@ -39,7 +45,8 @@ pub none_before : (set : CorrelationView) (h : History) (time : ℕ) → greates
 none_before set h time after = search (rules, arith, all_weaker, div-one, none_after)
 
 -- it may be closed
-pub may_end : (closed : Bool) → closed ≡ false → (set : CorrelationSet) (ls : List Level) (count time : ℕ) (h : History) → StandsFor closed set ls count time h → count ≤ record_limit → CanCome (correlation_view set) 0 ls [] (photons_of (correlation_view set) h) []
+pub may_end : (closed : Bool) → closed ≡ false → (set : CorrelationSet) (ls : List Level) (count time : ℕ) (h : History) → StandsFor closed set ls count time h
+    → count ≤ record_limit → CanCome (correlation_view set) 0 ls [] (photons_of (correlation_view set) h) []
 may_end closed still set ls count time h is few = search (rules, arith, false≢true, few_photons)
 
 -- the weight of an event of a block

@@ -1,7 +1,12 @@
 -- Bins that are laid close together.
-use Rattle.std.{proofs.Common.{◌≡◌, ◌∙◌, ℕ, suc, ◌+◌, ◌-◌, ◌*◌, ◌%◌, ◌<◌, ◌≤◌, eqb, cond, min, List, [], ◌∷◌, ◌++◌, length, get_or, set, map, take, drop, replicate, refl, sym, ap, arith, append_assoc, rules}, specs.List.{sum_by, AllByRecursion}, proofs.Math.Nat.mul-le-mul, proofs.lemmas.Bool.Decides.nat_tests, proofs.lemmas.List.{get_or-replicate, length-replicate, take-append-drop, take_more, drop_more, length-map, get_or-map, length-take-le, get_or_past, set-get_or}, proofs.lemmas.List.Sums.{sum_by-cons, sum_by_push, sum_by-append}}
-use Rattle.lag_ring.{specs.declared.ring.Entry.Entry, specs.declared.window.Side.TheVariants.{First, Second}, specs.Bytes.{weight_at, product_at, IsLight}, proofs.Lists.{all_back}, proofs.Rising.{all_weaker, all_push}, proofs.Sums.{part-at, sum_by-agree, sum_by-same, sum_by-zero, window-before}}
-use Rattle.tau_cascade.{specs.Levels.weight_before, specs.declared.laid.Laying.Laying, specs.Dense.{paired, laid, placed, IsLaid}, specs.Bins.{IsSpaced, raised}, proofs.Nexts.paired-append, proofs.Passes.{spaced_back, all_take, spaced_take, spaced_upto}}
+use Rattle.std.proofs.Common.{◌≡◌, ◌∙◌, ℕ, suc, ◌+◌, ◌-◌, ◌*◌, ◌%◌, ◌<◌, ◌≤◌, eqb, cond, min, List, [], ◌∷◌, ◌++◌, length, get_or, set, map, take, drop}
+use Rattle.std.proofs.{Common.{replicate, refl, sym, ap, arith, append_assoc, rules}, Math.Nat.mul-le-mul, lemmas.Bool.Decides.nat_tests}
+use Rattle.std.proofs.lemmas.List.{get_or-replicate, length-replicate, take-append-drop, take_more, drop_more, length-map, get_or-map, length-take-le}
+use Rattle.std.{proofs.lemmas.List.{get_or_past, set-get_or, Sums.{sum_by-cons, sum_by_push, sum_by-append}}, specs.List.{sum_by, AllByRecursion}}
+use Rattle.lag_ring.specs.{declared.{ring.Entry.Entry, window.Side.TheVariants.{First, Second}}, Bytes.{weight_at, product_at, IsLight}}
+use Rattle.lag_ring.proofs.{Lists.all_back, Rising.{all_weaker, all_push}, Sums.{part-at, sum_by-agree, sum_by-same, sum_by-zero, window-before}}
+use Rattle.tau_cascade.specs.{Levels.weight_before, declared.laid.Laying.Laying, Dense.{paired, laid, placed, IsLaid}, Bins.{IsSpaced, raised}}
+use Rattle.tau_cascade.proofs.{Nexts.paired-append, Passes.{spaced_back, all_take, spaced_take, spaced_upto}}
 
 abbrev pub no_bin : Entry
 no_bin = record { index = 0; a = 0; b = 0 }

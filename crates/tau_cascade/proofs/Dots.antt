@@ -1,7 +1,10 @@
 -- Sums of products by place.
-use Rattle.std.{proofs.Common.{◌≡◌, ◌∙◌, ℕ, zero, suc, ◌+◌, ◌-◌, ◌*◌, ◌<◌, ◌≤◌, ◌&&◌, leb, eqb, ltb, cond, ◌%◌, List, [], ◌∷◌, length, get_or, arith, rules, add-one}, specs.List.{sum_by, range_with_len, AllByRecursion}, proofs.lemmas.Bool.Decides.nat_tests, proofs.lemmas.Grind.common_steps, proofs.lemmas.List.Sums.{sum_by-cons, sum-map, sum_by-le}, proofs.lemmas.List.FromFn.{sum_by-map-range_with_len_more, length-range_with_len}, proofs.lemmas.Simd.{length-zip2, get_or-zip2}}
+use Rattle.std.proofs.Common.{◌≡◌, ◌∙◌, ℕ, zero, suc, ◌+◌, ◌-◌, ◌*◌, ◌<◌, ◌≤◌, ◌&&◌, leb, eqb, ltb, cond, ◌%◌, List, [], ◌∷◌, length, get_or, arith, rules}
+use Rattle.std.proofs.{Common.add-one, lemmas.{Bool.Decides.nat_tests, Grind.common_steps, List.Sums.{sum_by-cons, sum-map, sum_by-le}}}
+use Rattle.std.{proofs.lemmas.{List.FromFn.{sum_by-map-range_with_len_more, length-range_with_len}, Simd.{length-zip2, get_or-zip2}}, specs.List.sum_by}
+use Rattle.{std.specs.List.{range_with_len, AllByRecursion}, lag_ring.specs.{declared.{ring.Entry.Entry, window.Side.Side}, Bytes.{weight_of, weight_at}}}
+use Rattle.lag_ring.proofs.Sums.{sum_by-same, sum_by-plus, sum_by-agree, sum_by-times}
 use lib.Lanes.{zip2}
-use Rattle.lag_ring.{specs.declared.ring.Entry.Entry, specs.declared.window.Side.{Side}, specs.Bytes.{weight_of, weight_at}, proofs.Sums.{sum_by-same, sum_by-plus, sum_by-agree, sum_by-times}}
 
 -- one number more in a range from 0 on
 pub range_more : (f : ℕ → ℕ) (n : ℕ) → sum_by f (range_with_len 0 (n + 1)) ≡ sum_by f (range_with_len 0 n) + f n

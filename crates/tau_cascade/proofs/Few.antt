@@ -1,7 +1,10 @@
 -- How many bins are near to the one before them, and how many share it some levels up.
-use Rattle.std.{specs.List.AllByRecursion, proofs.Common.{◌≡◌, ◌≢◌, ℕ, zero, suc, ◌+◌, ◌-◌, ◌*◌, ◌/◌, ◌^◌, ◌<◌, ◌≤◌, true, false, cond, eqb, ltb, List, [], ◌∷◌, length, map, take, drop, get_or, refl, ap, add-one, zero-add, arith, rules}, proofs.lemmas.Bool.Decides.nat_tests, proofs.lemmas.Nat.{pow_pos}, proofs.Math.Seq.take-nil, proofs.Math.Nat.{div_self, div-mul-le_self, mul-le-mul_right}, proofs.lemmas.Grind.common_steps, proofs.lemmas.List.{take-take, drop-drop, length-map}}
-use Rattle.lag_ring.{specs.declared.ring.Entry.{Entry}, proofs.Rising.all_weaker}
-use Rattle.tau_cascade.{specs.declared.grid.Grid.Grid, specs.Grid.{IsGrid, counted}, specs.Bins.{raised, both_of, merged, merged_all, near, IsSpaced, AreAlike}, proofs.Passes.{shares, spaced-rising}, proofs.Near.end_one, proofs.Follows.come_merged}
+use Rattle.std.{specs.List.AllByRecursion, proofs.Common.{◌≡◌, ◌≢◌, ℕ, zero, suc, ◌+◌, ◌-◌, ◌*◌, ◌/◌, ◌^◌, ◌<◌, ◌≤◌, true, false, cond, eqb, ltb, List, []}}
+use Rattle.std.proofs.{Common.{◌∷◌, length, map, take, drop, get_or, refl, ap, add-one, zero-add, arith, rules}, lemmas.{Bool.Decides.nat_tests, Nat.pow_pos}}
+use Rattle.std.proofs.{lemmas.{Grind.common_steps, List.{take-take, drop-drop, length-map}}, Math.{Seq.take-nil, Nat.{div_self, div-mul-le_self}}}
+use Rattle.{std.proofs.Math.Nat.mul-le-mul_right, lag_ring.{specs.declared.ring.Entry.Entry, proofs.Rising.all_weaker}}
+use Rattle.tau_cascade.specs.{declared.grid.Grid.Grid, Grid.{IsGrid, counted}, Bins.{raised, both_of, merged, merged_all, near, IsSpaced, AreAlike}}
+use Rattle.tau_cascade.proofs.{Passes.{shares, spaced-rising}, Near.end_one, Follows.come_merged}
 
 -- one bin more
 pub near_more : (d i : ℕ) (es : List Entry) (none : Entry) → suc i < length es

@@ -1,18 +1,13 @@
 -- Bins that come to a level, and what they are merged into.
-use Rattle.std.{proofs.Common.{◌≡◌, ◌≢◌, ℕ, suc, ◌+◌, ◌-◌, ◌/◌, ◌^◌, ◌<◌, ◌≤◌, Bool, true, false, cond, eqb, List, [], ◌∷◌, ◌++◌, length, map, take, drop, get_or, refl, sym, Some, ap, append_assoc, append-nil, arith, slice_set, rules, length-append, add-one}, specs.List.{sum_by, count_by, AllByRecursion}, proofs.Math.Nat.{div-div-eq-div-mul, div-one}, proofs.lemmas.Bool.Decides.nat_tests, proofs.lemmas.Grind.common_steps, proofs.lemmas.List.{take_more_set, drop_more, drop-set-add, drop-set-lt}, proofs.lemmas.List.Sums.{sum_by-cons, sum_by-append}}
+use Rattle.std.proofs.Common.{◌≡◌, ◌≢◌, ℕ, suc, ◌+◌, ◌-◌, ◌/◌, ◌^◌, ◌<◌, ◌≤◌, Bool, true, false, cond, eqb, List, [], ◌∷◌, ◌++◌, length, map, take, drop}
+use Rattle.std.proofs.{Common.{get_or, refl, sym, ap, append_assoc, append-nil, arith, slice_set, rules, length-append, add-one}, Math.Nat.div-div-eq-div-mul}
+use Rattle.std.proofs.{Math.Nat.div-one, lemmas.{Bool.Decides.nat_tests, Grind.common_steps, List.{take_more_set, drop_more, drop-set-add, drop-set-lt}}}
+use Rattle.std.{proofs.lemmas.List.Sums.{sum_by-cons, sum_by-append}, specs.List.{sum_by, count_by, AllByRecursion}}
+use Rattle.{tally_base.specs.{Settings.CorrelationView, Tally.History}, lag_ring.{specs.declared.ring.Entry.Entry, proofs.Lists.{all_back, all_join, of_some}}}
+use Rattle.{lag_ring.proofs.Rising.all_weaker, tau_cascade.specs.{Correlation.{Given, bin}, Levels.{IsBin, Chain}, Bins.{raised, both_of, merged, merged_all}}}
+use Rattle.tau_cascade.specs.{Bins.{stretch, Come, Follow, CanTake, Took, CanCome}, Opens.{coming_bins, closed_bins}, declared.level.Level.Level}
+use Rattle.tau_cascade.{specs.declared.level.Coming.Coming, proofs.Passes.raised-again}
 use mir.Val.{bool_byte}
-use Rattle.tally_base.{specs.Settings.CorrelationView, specs.Tally.History}
-use Rattle.lag_ring.{specs.declared.ring.Entry.Entry, proofs.Lists.{all_back, all_join, of_some}, proofs.Rising.all_weaker}
-use Rattle.tau_cascade.{specs.Correlation.{Given, bin}, specs.Levels.{IsBin, Chain}, specs.Bins.{raised, both_of, merged, merged_all, stretch, Come, Follow, CanTake, Took, CanCome, CanShutAll}, specs.Opens.{coming_bins, closed_bins}, specs.declared.level.{Level.Level, Coming.Coming}, proofs.Passes.raised-again}
-
-module _ (set : CorrelationView) (level : ℕ) (l : Level) (e : Entry) (is : l.open ≡ Some e) (closed open' : History) (can : CanTake set level l [] closed open' []) where
-  -- the open bin has the photons that are not in closed ones
-  pub finish_open : IsBin set level e open' × AllByRecursion (λ x. bin level x < e.index) closed
-  finish_open = (rw is at can.was.opened)
-
-  -- it may be closed
-  pub finish_shut : CanShutAll set level l.ring l.cells (e ∷ []) closed open'
-  finish_shut = search (rules, arith, append-nil)
 
 -- a bin of the next level is two of this one
 pub bin-suc : (level : ℕ) (x : Given) → bin (suc level) x ≡ bin level x / 2
@@ -33,7 +28,8 @@ module _ (set : CorrelationView) (level : ℕ) where
   }
 
   -- where nothing that came is after an index that the last bin hasn't, all is before it
-  is_after : (e : Entry) (n : ℕ) (closed open' : History) → IsBin set level e open' → AllByRecursion (λ x. bin level x < e.index) closed → AllByRecursion (λ x. bin level x ≤ n) (closed ++ open') → e.index ≢ n → AllByRecursion (λ x. bin level x < n) (closed ++ open')
+  is_after : (e : Entry) (n : ℕ) (closed open' : History) → IsBin set level e open' → AllByRecursion (λ x. bin level x < e.index) closed
+      → AllByRecursion (λ x. bin level x ≤ n) (closed ++ open') → e.index ≢ n → AllByRecursion (λ x. bin level x < n) (closed ++ open')
   is_after e n closed open' is before after other =
       (let upto = of_some (bin level) e.index (λ m. m ≤ n) open' is.some is.here (all_back (λ x. bin level x ≤ n) closed open' after) in search (rules, arith, all_join, all_weaker))
 
@@ -51,7 +47,8 @@ module _ (set : CorrelationView) (level : ℕ) where
             (λ after. (run, xs, refl, is, after, rw come.2 (rest.0 come.4)), λ before. (run, xs, refl, is, before, rw come.2 (rest.1 (is_after e f.index came run is before come.4 (λ same. grind arith)))))
       ]) refl
 
-  pub merged_follow : (e : Entry) (es : List Entry) (closed open' xs : History) → IsBin set level e open' → AllByRecursion (λ x. bin level x < e.index) closed → Come set level (closed ++ open') es xs → Follow set level closed (merged e es) (open' ++ xs)
+  pub merged_follow : (e : Entry) (es : List Entry) (closed open' xs : History) → IsBin set level e open' → AllByRecursion (λ x. bin level x < e.index) closed
+      → Come set level (closed ++ open') es xs → Follow set level closed (merged e es) (open' ++ xs)
   merged_follow e es closed open' xs is before come = (merged_both e es closed open' xs is come).1 before
 
   pub come_merged : (es : List Entry) (came xs : History) → Come set level came es xs → Come set level came (merged_all es) xs
@@ -63,11 +60,6 @@ module _ (set : CorrelationView) (level : ℕ) where
   come_weigh weight mine weighs [] came xs come = rw come refl
   come_weigh weight mine weighs (e ∷ es) came xs come =
       rw (sum_by-cons weight e es, come.2, sum_by-append (λ x. cond (mine x) 1 0) come.0 come.1, come_weigh weight mine weighs es (came ++ come.0) come.1 come.5, weighs e come.0 come.3) refl
-
-  -- bins that follow come
-  pub follow_comes : (es : List Entry) (closed xs : History) → Follow set level closed es xs → Come set level closed es xs
-  follow_comes [] closed xs follow = follow
-  follow_comes (e ∷ es) closed xs follow = search (rules, arith, all_weaker, follow_comes es (closed ++ follow.0) follow.1 follow.5)
 
   -- closed bins may come to the next level
   pub goes_up : (es : List Entry) (closed xs : History) → Come set level closed es xs → Come set (suc level) closed (map (raised 1) es) xs

@@ -1,8 +1,13 @@
 -- What a ring keeps of the bins of a grid.
-use Rattle.std.{proofs.Common.{◌≡◌, ◌∙◌, ℕ, zero, suc, ◌+◌, ◌-◌, ◌*◌, ◌<◌, ◌≤◌, Bool, true, false, ◌&&◌, cond, eqb, leb, ltb, min, List, [], ◌∷◌, ◌++◌, length, map, refl, sym, arith, rules}, specs.List.{sum_by, filter, AllByRecursion, range_with_len}, proofs.lemmas.Bool.Decides.nat_tests, proofs.lemmas.List.Elements.filter-append, proofs.lemmas.List.Sums.{sum_by-cons, sum_by-append, sum_by-le-sum_by}, proofs.lemmas.Grind.common_steps}
-use Rattle.tally_base.{specs.Settings.CorrelationView, specs.Tally.History}
-use Rattle.lag_ring.{specs.declared.ring.Entry.Entry, specs.declared.window.Side.{Side, TheVariants.{First, Second}}, specs.Bytes.{weight_of, weight_at}, specs.Ring.{Ring, ring, IsRising, weight_where}, proofs.Lists.{all_front, all_back, all_join, all_passed}, proofs.Rising.{all_weaker, rising_filter}, proofs.Sums.{sum_by-agree, sum_by-plus, sum_by-zero, sum_by-filter, sum_by-same}, proofs.Between.few_kept}
-use Rattle.tau_cascade.{proofs.Dots.{below_range, range_few, range_agree, one_place, by_bins}, proofs.Follows.weigh, specs.Levels.RingIs, specs.Correlation.{bin}, specs.declared.grid.Grid.Grid, specs.Bins.{merged_all}, specs.Grid.{Stands, bin_at, bins_from, kept_and, photons, filled}}
+use Rattle.std.proofs.Common.{◌≡◌, ◌∙◌, ℕ, zero, suc, ◌+◌, ◌-◌, ◌*◌, ◌<◌, ◌≤◌, Bool, true, false, ◌&&◌, cond, eqb, leb, ltb, min, List, [], ◌∷◌, ◌++◌, length}
+use Rattle.std.proofs.{Common.{map, refl, sym, arith, rules}, lemmas.{Bool.Decides.nat_tests, List.{Elements.filter-append, Sums.{sum_by-cons, sum_by-append}}}}
+use Rattle.std.{proofs.lemmas.{List.Sums.sum_by-le-sum_by, Grind.common_steps}, specs.List.{sum_by, filter, AllByRecursion, range_with_len}}
+use Rattle.{tally_base.specs.{Settings.CorrelationView, Tally.History}, lag_ring.specs.declared.{ring.Entry.Entry, window.Side.{Side, TheVariants.First}}}
+use Rattle.lag_ring.specs.{declared.window.Side.TheVariants.Second, Bytes.{weight_of, weight_at}, Ring.{Ring, ring, IsRising, weight_where}}
+use Rattle.lag_ring.proofs.{Lists.{all_front, all_back, all_join, all_passed}, Rising.{all_weaker, rising_filter}, Sums.{sum_by-agree, sum_by-plus}}
+use Rattle.{lag_ring.proofs.{Sums.{sum_by-zero, sum_by-filter, sum_by-same}, Between.few_kept}, tau_cascade.proofs.Dots.{below_range, range_few, range_agree}}
+use Rattle.tau_cascade.{proofs.{Dots.{one_place, by_bins}, Follows.weigh}, specs.{Levels.RingIs, Correlation.bin, declared.grid.Grid.Grid, Bins.merged_all}}
+use Rattle.tau_cascade.specs.Grid.{Stands, bin_at, bins_from, kept_and, photons, filled}
 
 -- bins have at most so many places that have photons as they are
 filled_bins : (base n : ℕ) (us : List Entry) → sum_by (λ p. min 1 (weight_at First 0 base p us + weight_at Second 0 base p us)) (range_with_len 0 n) ≤ length us

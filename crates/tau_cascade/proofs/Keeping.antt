@@ -1,8 +1,9 @@
 -- What the ring of a level keeps once some bins are closed.
-use Rattle.std.{proofs.Common.{◌≡◌, ℕ, zero, suc, ◌+◌, ◌-◌, ◌<◌, ◌≤◌, leb, List, [], ◌∷◌, ◌++◌, length, take, drop, get_or, refl, append_assoc, append-nil, arith, rules}, specs.List.{filter, AllByRecursion}, proofs.lemmas.List.{drop_more}}
-use Rattle.tally_base.{specs.Settings.CorrelationView, specs.Tally.History}
-use Rattle.lag_ring.{specs.declared.ring.Entry.Entry, specs.Ring.{Ring, ring, IsRising}, proofs.Kept.kept_late, proofs.Lists.{all_front, all_back, all_join, of_some}, proofs.Rising.{rising_filter, all_weaker, filter_passed}}
-use Rattle.tau_cascade.{specs.Correlation.{bin, in_first, in_second}, specs.Levels.RingIs, specs.Bins.Follow, proofs.Paired.{ring_weights, weights_all}}
+use Rattle.std.proofs.Common.{◌≡◌, ℕ, zero, suc, ◌+◌, ◌-◌, ◌<◌, ◌≤◌, leb, List, [], ◌∷◌, ◌++◌, length, take, drop, get_or, refl, append_assoc, append-nil}
+use Rattle.{std.{proofs.{Common.{arith, rules}, lemmas.List.drop_more}, specs.List.{filter, AllByRecursion}}, tally_base.specs.Settings.CorrelationView}
+use Rattle.{tally_base.specs.Tally.History, lag_ring.{specs.{declared.ring.Entry.Entry, Ring.{Ring, ring, IsRising}}, proofs.{Kept.kept_late, Lists.all_front}}}
+use Rattle.{lag_ring.proofs.{Lists.{all_back, all_join, of_some}, Rising.{rising_filter, all_weaker, filter_passed}}, tau_cascade.specs.Correlation.bin}
+use Rattle.tau_cascade.{specs.{Correlation.{in_first, in_second}, Levels.RingIs, Bins.Follow}, proofs.Paired.{ring_weights, weights_all}}
 
 -- the index of the last of some entries, or a number where there are none
 abbrev pub last_of : ℕ → List Entry → ℕ
@@ -43,5 +44,6 @@ kept_is before (suc start) [] left kept = refl
 kept_is before (suc start) (e ∷ es) left kept = search (rules, arith, kept_is before start es left.1 kept)
 
 -- from one bin on, all are kept
-pub kept_from : (before start : ℕ) (bins : List Entry) (none : Entry) → 0 < start → start ≤ length bins → before ≤ (get_or bins (start - 1) none).index → AllByRecursion (λ e. before ≤ e.index) (drop start bins) → AllByRecursion (λ e. before ≤ e.index) (drop (start - 1) bins)
+pub kept_from : (before start : ℕ) (bins : List Entry) (none : Entry) → 0 < start → start ≤ length bins → before ≤ (get_or bins (start - 1) none).index
+    → AllByRecursion (λ e. before ≤ e.index) (drop start bins) → AllByRecursion (λ e. before ≤ e.index) (drop (start - 1) bins)
 kept_from before start bins none some inside here kept = search (rules, arith, drop_more)

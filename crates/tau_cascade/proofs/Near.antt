@@ -1,8 +1,14 @@
 -- Bins of one index that are neighbours, as they are and merged.
-use Rattle.std.{proofs.Common.{◌≡◌, ◌^◌, ◌&&◌, length-append, ◌/◌, ℕ, ◌+◌, ◌-◌, ◌<◌, ◌≤◌, Bool, true, false, cond, eqb, leb, List, [], ◌∷◌, ◌++◌, length, map, take, drop, get_or, refl, sym, ap, ◌∙◌, arith, rules}, specs.List.{sum_by, count_by, filter, AllByRecursion}, proofs.lemmas.Bool.Decides.nat_tests, proofs.Props.props, proofs.Math.Logic.∥∥₁_elim, proofs.Math.Nat.{mul-le-mul_left}, proofs.lemmas.List.{take_rest, take-append-drop, drop-map, length-drop, length-map, get_or-drop, get_or-map}, proofs.lemmas.List.Sums.{sum_by_push, count_by-le-length, length-filter}}
-use Rattle.lag_ring.{specs.declared.ring.Entry.Entry, specs.Ring.{Ring, ring, IsRising, IsInReach, weight_where}, specs.Cells.{Cells, added_at}, proofs.Lists.all_passed, proofs.Rising.{all_weaker, filter_passed, rising-prop}, proofs.Sums.sum_by-filter}
-use Rattle.tally_base.{specs.Settings.CorrelationView, specs.Tally.History}
-use Rattle.tau_cascade.{proofs.Close.no_bin, specs.Correlation.{Given, bin, skipped_lags, in_first, in_second}, specs.Levels.{weight_before, RingIs, CellsAre}, specs.Dense.{paired, paired_from}, specs.Bins.{raised, both_of, merged, merged_all, kept_of, stretch, FitCounts, IsSpaced, Follow, CanShutAll}, specs.declared.grid.Grid.Grid, specs.Grid.{Stands, kept_and}, proofs.Gridded.keeps_dense, proofs.Paired.{all_rising, cells_all}, proofs.Keeping.{last_of, follow_upto, ring_all, kept_is}}
+use Rattle.std.proofs.Common.{◌≡◌, ◌^◌, ◌&&◌, length-append, ◌/◌, ℕ, ◌+◌, ◌-◌, ◌<◌, ◌≤◌, Bool, true, false, cond, eqb, leb, List, [], ◌∷◌, ◌++◌, length, map}
+use Rattle.std.proofs.{Common.{take, drop, get_or, refl, sym, ap, ◌∙◌, arith, rules}, lemmas.{Bool.Decides.nat_tests, List.{take_rest, take-append-drop}}}
+use Rattle.std.proofs.lemmas.List.{drop-map, length-drop, length-map, get_or-drop, get_or-map, Sums.{sum_by_push, count_by-le-length, length-filter}}
+use Rattle.std.{proofs.{Props.props, Math.{Logic.∥∥₁_elim, Nat.mul-le-mul_left}}, specs.List.{sum_by, count_by, filter, AllByRecursion}}
+use Rattle.lag_ring.{specs.{declared.ring.Entry.Entry, Ring.{Ring, ring, IsRising, IsInReach, weight_where}, Cells.{Cells, added_at}}, proofs.Lists.all_passed}
+use Rattle.{lag_ring.proofs.{Rising.{all_weaker, filter_passed, rising-prop}, Sums.sum_by-filter}, tally_base.specs.{Settings.CorrelationView, Tally.History}}
+use Rattle.tau_cascade.proofs.{Close.no_bin, Gridded.keeps_dense, Paired.{all_rising, cells_all}, Keeping.{last_of, follow_upto, ring_all, kept_is}}
+use Rattle.tau_cascade.specs.{Correlation.{Given, bin, skipped_lags, in_first, in_second}, Levels.{weight_before, RingIs, CellsAre}, Dense.paired}
+use Rattle.tau_cascade.specs.{Dense.paired_from, Bins.{raised, both_of, merged, merged_all, kept_of, stretch, FitCounts, IsSpaced, Follow, CanShutAll}}
+use Rattle.tau_cascade.specs.{declared.grid.Grid.Grid, Grid.{Stands, kept_and}}
 
 -- Pairs with what is before count by its weights alone.
 paired_same : (k : ℕ) (before other es : List Entry) → ((n : ℕ) → weight_before k n before ≡ weight_before k n other) → paired k before es ≡ paired k other es

@@ -1,7 +1,9 @@
 -- The pairs of one bin more with the bins before it.
-use Rattle.lag_ring.{specs.declared.ring.Entry.Entry, proofs.Sums.sum_by-zero}
-use Rattle.tau_cascade.specs.{Levels.weight_before, Dense.{paired, paired_from}, Bins.raised}
-use Rattle.std.{proofs.Common.{length, ◌≡◌, ℕ, [], ◌∷◌, drop, refl, ◌+◌, ◌-◌, ◌*◌, ◌/◌, ◌^◌, ◌<◌, ◌≤◌, eqb, List, get_or, map, take, cond, arith, rules, ◌++◌, append_assoc, append-nil, take-add, subst}, specs.List.{AllByRecursion}, proofs.lemmas.List.{get_or-take, get_or-drop, take-map, drop-map, length-drop, get_or-map, length-map, drop_more, take-take, drop_all, length-take-le}, proofs.lemmas.List.Sums.{sum_by_more}}
+use Rattle.{lag_ring.{specs.declared.ring.Entry.Entry, proofs.Sums.sum_by-zero}, tau_cascade.specs.{Levels.weight_before, Dense.{paired, paired_from}}}
+use Rattle.{tau_cascade.specs.Bins.raised, std.proofs.Common.{length, ◌≡◌, ℕ, [], ◌∷◌, drop, refl, ◌+◌, ◌-◌, ◌*◌, ◌/◌, ◌^◌, ◌<◌, ◌≤◌, eqb, List, get_or, map}}
+use Rattle.std.proofs.{Common.{take, cond, arith, rules, ◌++◌, append_assoc, append-nil, take-add, subst}, lemmas.List.{get_or-take, get_or-drop, take-map}}
+use Rattle.std.proofs.lemmas.List.{drop-map, length-drop, get_or-map, length-map, drop_more, take-take, drop_all, length-take-le, Sums.sum_by_more}
+use Rattle.std.specs.List.{AllByRecursion}
 
 -- the pairs of one bin more with those before an index, some levels up
 pub weight_more : (bins : List Entry) (levels i : ℕ) (none : Entry) → i < length bins → (k n w : ℕ)

@@ -1,7 +1,9 @@
 -- Grids from level to level.
-use Rattle.std.{proofs.Common.{rules, ◌≡◌, ℕ, ◌+◌, ◌<◌, ◌≤◌, ◌≢◌, zero, suc, eqb, cond, List, [], ◌∷◌, ◌++◌, length, set, map, take, drop, arith}, specs.List.{sum_by, AllByRecursion}, proofs.lemmas.Bool.Decides.nat_tests, proofs.lemmas.Grind.get_or-set_at, proofs.lemmas.List.{get_or-set_other, map-append, take-append-drop, length-drop, length-map}, proofs.lemmas.List.Sums.{sum_by-append}}
-use Rattle.lag_ring.{specs.declared.ring.Entry.Entry, specs.declared.window.Side.{Side, TheVariants.{First, Second}}, specs.Bytes.{weight_of}, proofs.Lists.{all_front, all_back, all_both, of_some}, proofs.Sums.{sum_by-zero}}
-use Rattle.tau_cascade.{specs.declared.grid.Grid.Grid, specs.Bins.{raised}, specs.Grid.{HaveWeights, Stands, IsGrid, photons}}
+use Rattle.std.proofs.Common.{rules, ◌≡◌, ℕ, ◌+◌, ◌<◌, ◌≤◌, ◌≢◌, zero, suc, eqb, cond, List, [], ◌∷◌, ◌++◌, length, set, take, drop, arith}
+use Rattle.std.proofs.lemmas.{Bool.Decides.nat_tests, Grind.get_or-set_at, List.{get_or-set_other, take-append-drop, length-drop, Sums.sum_by-append}}
+use Rattle.{std.specs.List.{sum_by, AllByRecursion}, lag_ring.specs.declared.{ring.Entry.Entry, window.Side.{Side, TheVariants.{First, Second}}}}
+use Rattle.lag_ring.{specs.Bytes.weight_of, proofs.{Lists.{all_front, all_back, all_both, of_some}, Sums.sum_by-zero}}
+use Rattle.tau_cascade.specs.{declared.grid.Grid.Grid, Bins.IsCut, Grid.{HaveWeights, Stands, IsGrid, photons}}
 
 -- where a grid has no places, it stands for no bins
 pub is_grid : (g : Grid) (es : List Entry) → Stands g es → IsGrid g es
@@ -39,10 +41,7 @@ grid_some g es zero is grid = ∣ ([], grid.off is) ∣₁
 grid_some g es (suc n) is grid = ∣ (es, grid.on (omega arith)) ∣₁
 
 -- the last bins of a list have places
-pub last_inside : (g : Grid) (levels n index : ℕ) (bins : List Entry) → AllByRecursion (λ e. e.index ≡ index) (map (raised levels) (drop n bins))
-    → Stands g (map (raised levels) bins) → n < length bins → (g.base ≤ index) × (index < g.base + g.len)
-last_inside g levels n index bins here stands few =
-    let last = all_back (λ (e : Entry). (g.base ≤ e.index) × (e.index < g.base + g.len)) (map (raised levels) (take n bins)) (map (raised levels) (drop n bins))
-    (rw (← map-append, take-append-drop) stands.within) in
-    of_some (λ e. e.index) index (λ i. (g.base ≤ i) × (i < g.base + g.len)) (map (raised levels) (drop n bins))
-    (omega (arith, few, length-drop n bins, length-map (drop n bins) (raised levels))) here last
+pub last_inside : (g : Grid) (n : ℕ) (es : List Entry) (last : Entry) → IsCut es n last → Stands g es → (g.base ≤ last.index) × (last.index < g.base + g.len)
+last_inside g n es last cut stands =
+    let late = all_back (λ (e : Entry). (g.base ≤ e.index) × (e.index < g.base + g.len)) (take n es) (drop n es) (rw take-append-drop stands.within) in
+    of_some (λ e. e.index) last.index (λ i. (g.base ≤ i) × (i < g.base + g.len)) (drop n es) (omega (arith, cut.few, length-drop n es)) cut.here late

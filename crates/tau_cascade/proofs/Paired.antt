@@ -1,8 +1,11 @@
 -- What bins add to the cells, and what they stand for.
-use Rattle.std.{proofs.Common.{◌≡◌, ℕ, ◌+◌, ◌-◌, ◌*◌, ◌^◌, ◌<◌, ◌≤◌, ◌&&◌, eqb, List, [], ◌∷◌, ◌++◌, length, get_or, refl, sym, ◌∙◌, append_assoc, append-nil, arith, length-append, rules}, specs.List.{count_by, AllByRecursion}, proofs.Math.Nat.mul-le-mul}
-use Rattle.tally_base.{specs.Settings.CorrelationView, specs.Tally.History, specs.Limits.record_limit}
-use Rattle.lag_ring.{specs.declared.ring.Entry.Entry, specs.Cells.{Cells, added_at}, specs.Ring.{Ring, IsRising}, proofs.Kept.{HasWeights, weights_of, weights_on}, proofs.Rising.{all_weaker, rising_push}, proofs.Sums.{pairs-append}}
-use Rattle.tau_cascade.{specs.Correlation.{bin, in_first, in_second, correlation, skipped_lags, lag_count}, specs.Work.occupied, specs.Levels.{IsBin, RingIs, CellsAre, weight_before}, specs.Dense.paired, specs.Bins.{Follow, CanShutAll}, proofs.Work.{correlation-le, occupied-more}}
+use Rattle.std.proofs.Common.{◌≡◌, ℕ, ◌+◌, ◌-◌, ◌*◌, ◌^◌, ◌<◌, ◌≤◌, ◌&&◌, eqb, List, [], ◌∷◌, ◌++◌, length, get_or, refl, sym, ◌∙◌, append_assoc, append-nil}
+use Rattle.std.{proofs.{Common.{arith, length-append, rules}, Math.Nat.mul-le-mul}, specs.List.{count_by, AllByRecursion}}
+use Rattle.{tally_base.specs.{Settings.CorrelationView, Tally.History, Limits.record_limit}, lag_ring.specs.{declared.ring.Entry.Entry, Cells.Cells}}
+use Rattle.lag_ring.{specs.{Cells.added_at, Ring.{Ring, IsRising}}, proofs.{Kept.{HasWeights, weights_of, weights_on}, Rising.{all_weaker, rising_push}}}
+use Rattle.{lag_ring.proofs.Sums.pairs-append, tau_cascade.specs.{Correlation.{bin, in_first, in_second, correlation, skipped_lags, lag_count}, Work.occupied}}
+use Rattle.tau_cascade.{specs.{Levels.{IsBin, RingIs, CellsAre, weight_before}, Dense.paired, Bins.{Follow, CanShutAll}}, proofs.Work.correlation-le}
+use Rattle.tau_cascade.proofs.Work.{occupied-more}
 
 module _ (set : CorrelationView) (level : ℕ) where
   -- bins have the weights of photons, as those that a ring keeps
@@ -30,7 +33,8 @@ module _ (set : CorrelationView) (level : ℕ) where
       were.firsts (λ i. eqb (i + k) n) (λ i passes. all_weaker (λ y. bin level y < n) (λ y. bin level y < i + set.lags) (λ y below. let there : i + k ≡ n = grind arith in omega arith) closed under)
 
   -- what closed bins add is what their photons add
-  pub correlation_paired : (k : ℕ) → 0 < k → k ≤ set.lags → (es before : List Entry) (closed xs : History) → Weights before closed → Follow set level closed es xs → correlation set level k (closed ++ xs) ≡ correlation set level k closed + paired k before es
+  pub correlation_paired : (k : ℕ) → 0 < k → k ≤ set.lags → (es before : List Entry) (closed xs : History) → Weights before closed
+      → Follow set level closed es xs → correlation set level k (closed ++ xs) ≡ correlation set level k closed + paired k before es
   correlation_paired k some few [] before closed xs were follow = rw (follow, append-nil) (grind arith)
   correlation_paired k some few (e ∷ es) before closed xs were follow =
       let below : AllByRecursion (λ x. bin level x ≤ e.index) closed = search (rules, arith, all_weaker) in

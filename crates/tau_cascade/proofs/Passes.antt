@@ -1,7 +1,11 @@
 -- Bins that are further apart than the lags, and lists part by part.
-use Rattle.lag_ring.{specs.declared.ring.Entry.Entry, specs.Ring.{IsRising}, proofs.Rising.{all_weaker, all_push}, proofs.Lists.{all_front, all_back, all_map, all_both, each_at}}
-use Rattle.tau_cascade.{specs.Bins.{raised, IsSpaced}, specs.Dense.{paired, paired_from}, proofs.Nexts.{none_at_lag, paired-append, take_parts}}
-use Rattle.std.{proofs.Common.{◌≡◌, ℕ, suc, ◌+◌, ◌-◌, ◌/◌, ◌^◌, ◌<◌, ◌≤◌, List, [], ◌∷◌, ◌++◌, length, map, take, drop, get_or, refl, ap, ◌∙◌, subst, add-one, arith, rules, append_assoc, zero}, specs.List.AllByRecursion, proofs.Math.Nat.div-mul-le_self, proofs.lemmas.Nat.{shr-shr, le-div, pow_pos}, proofs.lemmas.List.{take-take, take-map, drop-map, get_or-take, get_or-map, length-map, length-drop, length-take-le, take-append-drop, drop-take, drop-drop}, proofs.lemmas.List.Sums.sum_by-append, proofs.lemmas.Grind.common_steps}
+use Rattle.lag_ring.{specs.{declared.ring.Entry.Entry, Ring.IsRising}, proofs.{Rising.{all_weaker, all_push}, Lists.{all_front, all_back, all_map, all_both}}}
+use Rattle.{lag_ring.proofs.Lists.each_at, tau_cascade.{specs.{Bins.{raised, IsSpaced}, Dense.{paired, paired_from}}, proofs.Nexts.none_at_lag}}
+use Rattle.{tau_cascade.proofs.Nexts.{paired-append, take_parts}, std.proofs.Common.{◌≡◌, ℕ, suc, ◌+◌, ◌-◌, ◌/◌, ◌^◌, ◌<◌, ◌≤◌, List, [], ◌∷◌, ◌++◌, length}}
+use Rattle.std.proofs.{Common.{map, take, drop, get_or, refl, ap, ◌∙◌, subst, add-one, arith, rules, append_assoc, zero}, Math.Nat.div-mul-le_self}
+use Rattle.std.proofs.lemmas.{Nat.{shr-shr, le-div, pow_pos}, List.{take-take, take-map, drop-map, get_or-take, get_or-map, length-map, length-drop}}
+use Rattle.std.proofs.lemmas.{List.{length-take-le, take-append-drop, drop-take, drop-drop, Sums.sum_by-append}, Grind.common_steps}
+use Rattle.std.specs.List.{AllByRecursion}
 
 -- a distance, some levels up
 pub shares : (i d j n : ℕ) → 0 < n → i + d ≤ j → i / n + d / n ≤ j / n
@@ -49,7 +53,8 @@ spaced_next d (suc i) (e ∷ f ∷ es) none inside spaced step =
     (let rest = spaced_next d i (f ∷ es) none (omega arith) spaced.1 step in (spaced_behind d e.index f (take (suc i) es) spaced.0.0 rest, rest))
 spaced_next d i es none inside spaced step = absurd (omega (arith, inside))
 
-pub spaced_more : (d near at' : ℕ) (bins : List Entry) (none : Entry) → 0 < at' → at' < length bins → (0 < d → IsSpaced d (take at' bins)) → near ≤ d → near ≤ (get_or bins at' none).index - (get_or bins (at' - 1) none).index → 0 < near → IsSpaced near (take (at' + 1) bins)
+pub spaced_more : (d near at' : ℕ) (bins : List Entry) (none : Entry) → 0 < at' → at' < length bins → (0 < d → IsSpaced d (take at' bins)) → near ≤ d
+    → near ≤ (get_or bins at' none).index - (get_or bins (at' - 1) none).index → 0 < near → IsSpaced near (take (at' + 1) bins)
 spaced_more d near at' bins none some inside were less here more =
     let one : suc (at' - 1) ≡ at' = omega arith in
     let was : IsSpaced near (take at' bins) = spaced_nearer d near (take at' bins) less (were (omega arith)) in

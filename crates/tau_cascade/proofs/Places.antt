@@ -1,8 +1,11 @@
 -- Bins at their places in a grid.
-use Rattle.std.{proofs.Common.{◌≡◌, ℕ, ◌+◌, ◌-◌, ◌*◌, ◌%◌, ◌/◌, ◌∙◌, sym, ◌^◌, ◌<◌, ◌≤◌, eqb, ltb, leb, cond, replicate, drop, List, [], ◌∷◌, ◌++◌, length, map, take, get_or, arith, rules}, specs.List.{sum_by, AllByRecursion}, proofs.Props.props, proofs.Math.Logic.{∥∥₁_elim}, proofs.lemmas.List.{places, get_or_past, get_or-map, length-map}, proofs.lemmas.List.Sums.{sum_by-cons, sum_by-le-sum_by}, proofs.lemmas.Grind.common_steps}
+use Rattle.std.proofs.Common.{◌≡◌, ℕ, ◌+◌, ◌-◌, ◌*◌, ◌%◌, ◌/◌, ◌∙◌, sym, ◌^◌, ◌<◌, ◌≤◌, eqb, ltb, leb, cond, replicate, drop, List, [], ◌∷◌, ◌++◌, length, map}
+use Rattle.std.proofs.{Common.{take, get_or, arith, rules}, Props.props, Math.Logic.∥∥₁_elim, lemmas.List.{places, get_or_past, get_or-map, length-map}}
+use Rattle.std.{proofs.lemmas.{List.Sums.{sum_by-cons, sum_by-le-sum_by}, Grind.common_steps}, specs.List.{sum_by, AllByRecursion}}
+use Rattle.lag_ring.{specs.{declared.{ring.Entry.Entry, window.Side.{Side, TheVariants.{First, Second}}}, Bytes.{weight_of, weight_at}}, proofs.Lists.all_map}
+use Rattle.{lag_ring.proofs.{Lists.each_at, Rising.all_weaker, Sums.{weight_at-le, sum_by-zero}}, tau_cascade.proofs.{Gridded.sum_by-map, Close.no_bin}}
+use Rattle.tau_cascade.{proofs.Close.zeros_at, specs.{declared.grid.Grid.Grid, Bins.{raised, IsSpaced}, Grid.{HaveWeights, Stands, photons, halved}}}
 use borrow.Rule.Slice.PartMut.{put_mid}
-use Rattle.lag_ring.{specs.declared.ring.Entry.Entry, specs.declared.window.Side.{Side, TheVariants.{First, Second}}, specs.Bytes.{weight_of, weight_at}, proofs.Lists.{all_map, each_at}, proofs.Rising.all_weaker, proofs.Sums.{weight_at-le, sum_by-zero}}
-use Rattle.tau_cascade.{proofs.Gridded.sum_by-map, specs.declared.grid.Grid.Grid, specs.Bins.{raised, IsSpaced}, specs.Grid.{HaveWeights, Stands, photons, halved}, proofs.Close.{no_bin, zeros_at}}
 
 -- bins have one of so many places
 abbrev pub AreIn : ℕ → ℕ → List Entry → Type 0

@@ -1,7 +1,7 @@
 -- The definitions at known events.
-use Rattle.std.proofs.Common.{◌≡◌, ℕ, [], ◌∷◌, refl, length, Some, None}
-use Rattle.tally_base.{specs.declared.event.EventKind.TheVariants.{Photon, Marker}, specs.Settings.CorrelationView, specs.Tally.History}
-use Rattle.tau_cascade.{specs.Correlation.{Given, correlation, skipped_lags, lag_count, photons_of}, specs.Opens.open_bin, specs.Work.{occupied, work}}
+use Rattle.{std.proofs.Common.{◌≡◌, ℕ, [], ◌∷◌, refl, length, Some, None}, tally_base.specs.declared.event.EventKind.TheVariants.{Photon, Marker}}
+use Rattle.{tally_base.specs.{Settings.CorrelationView, Tally.History}, tau_cascade.specs.Correlation.{Given, correlation, skipped_lags, lag_count, photons_of}}
+use Rattle.tau_cascade.specs.{Opens.open_bin, Work.{occupied, work}}
 
 abbrev pub photon : ℕ → ℕ → Given
 photon time groups = (record { place = 1; kind = Photon 1 0; time = time }, groups)

@@ -1,9 +1,17 @@
 -- Bins that come to a level and stay where they are in their list, the open bin before them.
-use Rattle.std.{proofs.Common.{rules}, proofs.Common.{◌≡◌, ◌≢◌, ℕ, zero, suc, ◌+◌, ◌-◌, ◌*◌, ◌^◌, ◌<◌, ◌≤◌, Option, Some, List, [], ◌∷◌, ◌++◌, length, map, take, drop, set, get_or, refl, sym, ap, subst, ◌∙◌, append_assoc, append-nil, length-append, arith}, specs.List.{sum_by, AllByRecursion, AllByRecursion-prop}, specs.Bool.{⊤}, proofs.Math.Seq.{take-nil, take-append-add, take-append_seam, drop-append_seam}, proofs.Math.Nat.{div-mul-le_self, mul-le-mul_right}, proofs.Props.props, proofs.Math.Logic.{∥∥₁_elim}, proofs.lemmas.Nat.shl-shr, proofs.lemmas.List.{take_more, take_more_set, map_push, drop-set-add, drop-drop, length-drop, length-map, length-take-le, take-append-drop, map-append, drop-map, take-map, take-take, drop-take}, proofs.lemmas.List.Sums.{sum_by-cons, sum_by-take-drop, count_by-le-length}}
+use Rattle.std.proofs.Common.{rules, ◌≡◌, ◌≢◌, ℕ, zero, suc, ◌+◌, ◌-◌, ◌*◌, ◌^◌, ◌<◌, ◌≤◌, Option, Some, List, [], ◌∷◌, ◌++◌, length, map, take, drop, set}
+use Rattle.std.proofs.{Common.{get_or, refl, sym, ap, subst, ◌∙◌, append_assoc, append-nil, length-append, arith}, Math.Seq.{take-nil, take-append-add}}
+use Rattle.std.proofs.{Math.{Seq.{take-append_seam, drop-append_seam}, Nat.{div-mul-le_self, mul-le-mul_right}, Logic.∥∥₁_elim}, Props.props}
+use Rattle.std.proofs.lemmas.{Nat.shl-shr, List.{take_more, take_more_set, map_push, drop-set-add, drop-drop, length-drop, length-take-le, take-append-drop}}
+use Rattle.std.proofs.lemmas.List.{map-append, drop-map, take-map, take-take, drop-take, Sums.{sum_by-cons, sum_by-take-drop, count_by-le-length}}
+use Rattle.{std.specs.{List.{sum_by, AllByRecursion, AllByRecursion-prop}, Bool.⊤}, tally_base.specs.{Settings.CorrelationView, Tally.History}}
+use Rattle.{tally_base.specs.Limits.record_limit, lag_ring.specs.{declared.ring.Entry.Entry, Pairings.{Paired, paired_by}, Ring.{Ring, IsRising}}}
+use Rattle.{lag_ring.proofs.{Lists.{all_back, all_join, of_some}, Rising.all_weaker}, tau_cascade.specs.{declared.level.Level.Level, Correlation.bin}}
+use Rattle.tau_cascade.specs.{Correlation.{in_first, in_second}, Work.occupied, Levels.{IsBin, OpenIs, RingIs, ClosedAre, PairsMore}, Bins.{raised, onto}}
+use Rattle.tau_cascade.specs.Bins.{merged_all, FitCounts, stretch, IsSpaced, IsCut, StandBefore, Come, Follow, CanShutAll, Shuts, CanTake, Took, ComeAlike}
+use Rattle.tau_cascade.{specs.Bins.near, proofs.{Paired.occupied_all, Few.near_put, Follows.{rest_at, merged_follow, come_weigh, come_merged, stretch_more}}}
+use Rattle.tau_cascade.proofs.Passes.{spaced_upto, far_place, spaced-rising, spaced_behind, spaced_take, spaced_nearer}
 use native.Mathlib.Numerals.{unary_clauses}
-use Rattle.tally_base.{specs.Settings.CorrelationView, specs.Tally.History, specs.Limits.record_limit}
-use Rattle.lag_ring.{specs.declared.ring.Entry.Entry, specs.Pairings.{Paired, paired_by}, specs.Ring.{Ring, IsRising}, proofs.Lists.{all_back, all_join, of_some}, proofs.Rising.all_weaker}
-use Rattle.tau_cascade.{specs.declared.level.Level.Level, specs.Correlation.{bin, in_first, in_second}, specs.Work.occupied, specs.Levels.{IsBin, OpenIs, RingIs, ClosedAre, PairsMore}, specs.Bins.{raised, onto, merged_all, FitCounts, stretch, IsSpaced, Come, Follow, CanShutAll, Shuts, CanTake, Took, ComeAlike, near}, proofs.Paired.occupied_all, proofs.Few.near_put, proofs.Follows.{rest_at, merged_follow, come_weigh, come_merged, stretch_more}, proofs.Passes.{spaced_upto, far_place, spaced-rising, spaced_behind, spaced_take, spaced_nearer}}
 
 -- The entries of a list before others, so many levels down.
 
@@ -13,7 +21,8 @@ same_behind xs ys at' from behind same =
     (let there : at' + (from - at') ≡ from = omega arith in rw (← there, ← drop-drop, ← drop-drop, same) refl)
 
 -- one more is put down
-pub lower_more : (levels start i : ℕ) (entries list : List Entry) (e none : Entry) → i < length entries → start + i < length list → e ≡ record { index = (get_or entries i none).index * 2 ^ levels; a = (get_or entries i none).a; b = (get_or entries i none).b }
+pub lower_more : (levels start i : ℕ) (entries list : List Entry) (e none : Entry) → i < length entries → start + i < length list
+    → e ≡ record { index = (get_or entries i none).index * 2 ^ levels; a = (get_or entries i none).a; b = (get_or entries i none).b }
     → map (raised levels) (take i (drop start list)) ≡ take i entries → map (raised levels) (take (i + 1) (drop start (set list (start + i) e))) ≡ take (i + 1) entries
 lower_more levels start i entries list e none inside room is so_far =
     let long : i < length (drop start list) = omega (arith, length-drop start list) in
@@ -25,6 +34,14 @@ pub lower_done : (levels start from : ℕ) (entries list was : List Entry) → s
     → map (raised levels) (drop start list) ≡ entries ++ map (raised levels) (drop from was)
 lower_done levels start from entries list was place front behind =
     rw (← take-append-drop (length entries) (drop start list), map-append, front, drop-drop, place, behind) refl
+
+-- entries before others, which stand before the rest
+pub stand_both : {levels from at' start : ℕ} {fs rs es was mid new : List Entry} → fs ++ rs ≡ es → StandBefore levels from rs was mid at' → StandBefore levels at' fs mid new start → StandBefore levels from es was new start
+stand_both {levels} {from} {at'} {start} {fs} {rs} {es} {was} {mid} {new} is one two = record {
+  place = omega (arith, one.place, two.place, length-append fs rs, ap length is);
+  bins = rw (two.bins, one.bins, ← is) (sym (append_assoc fs rs _));
+  behind = same_behind new mid at' from (omega (arith, one.place)) two.behind ∙ one.behind;
+}
 
 -- The last of sorted bins, and those of its index.
 
@@ -65,10 +82,6 @@ onto_few o = search (rules, arith)
 onto_front : (o : Option Entry) (es : List Entry) → onto o es ≡ onto o [] ++ es
 onto_front o es = search (rules, arith)
 
-pub spaced-prop : (es : List Entry) → IsProp (IsSpaced 0 es)
-spaced-prop [] = hlevel props
-spaced-prop (e ∷ es) = hlevel (props, AllByRecursion-prop (λ (f : Entry). e.index + 0 ≤ f.index) (λ f. hlevel props) es, spaced-prop es)
-
 -- a list that is so far apart up to one entry, and from that one on
 spaced_seam : (d i k : ℕ) (es : List Entry) → 0 < k → IsSpaced d (take (suc i) es) → IsSpaced d (take k (drop i es)) → IsSpaced d (take (k + i) es)
 spaced_seam d zero k es some upto on = simp unary_clauses on
@@ -81,38 +94,31 @@ spaced_seam d (suc i) (suc k) (e ∷ f ∷ es) some upto on =
     simp unary_clauses (rw one (spaced_behind d e.index f (take (k + i) es) upto.0.0 (rw one at rest)), rest)
 
 -- the same of a stretch of a list
-pub seam : (d least start mid n : ℕ) (list : List Entry) → least ≤ d → start ≤ mid → 0 < n → IsSpaced least (take (mid + 1 - start) (drop start list)) → IsSpaced d (take n (drop mid list)) → IsSpaced least (take (mid + n - start) (drop start list))
+pub seam : (d least start mid n : ℕ) (list : List Entry) → least ≤ d → start ≤ mid → 0 < n → IsSpaced least (take (mid + 1 - start) (drop start list))
+    → IsSpaced d (take n (drop mid list)) → IsSpaced least (take (mid + n - start) (drop start list))
 seam d least start mid n list less order some upto on =
     let one : mid + 1 - start ≡ suc (mid - start) = omega arith in
     let there : start + (mid - start) ≡ mid = omega arith in
     let size : mid + n - start ≡ n + (mid - start) = omega arith in
     rw size (spaced_seam least (mid - start) n (drop start list) some (rw one at upto) (rw (drop-drop, there) (spaced_nearer d least (take n (drop mid list)) less on)))
 
--- some bins of which the last ones, from a place on, are this one together
-pub record IsCut (es : List Entry) (n : ℕ) (last : Entry) : Type 0 where
-  pub few : n < length es
-  pub before : AllByRecursion (λ e. e.index < last.index) (take n es)
-  pub here : AllByRecursion (λ e. e.index ≡ last.index) (drop n es)
-  pub a : last.a ≡ sum_by (λ e. e.a) (drop n es)
-  pub b : last.b ≡ sum_by (λ e. e.b) (drop n es)
-
 -- The open bin of a level stands before those that came, in the same list.
 pub record IsPut (levels first count : ℕ) (l : Level) (was new : List Entry) (from : ℕ) : Type 0 where
   pub some : 0 < count
   pub inside : first + count ≤ length new
-  pub place : from + length (onto l.open []) ≡ first
-  pub bins : map (raised levels) (drop from new) ≡ onto l.open (map (raised levels) (drop first was))
-  pub same : drop first new ≡ drop first was
+  pub before : StandBefore levels first (onto l.open []) was new from
 
 module _ {levels first count : ℕ} {l : Level} {was new : List Entry} {from : ℕ} (put : IsPut levels first count l was new from) where
-  abbrev here : List Entry
+  abbrev pub here : List Entry
   here = take (first + count - from) (drop from new)
 
   abbrev all : List Entry
   all = onto l.open (stretch first count levels was)
 
   pub all_here : map (raised levels) here ≡ all
-  all_here = rw (← take-map, put.bins, onto_take l.open (map (raised levels) (drop first was)) (first + count - from) count (omega arith), take-map) refl
+  all_here =
+      let ups : List Entry = map (raised levels) (drop first was) in
+      rw (← take-map, put.before.bins, ← onto_front l.open ups, onto_take l.open ups (first + count - from) count (omega (arith, put.before.place)), take-map) refl
 
   pub long : length here ≡ first + count - from
   long = length-take-le (first + count - from) (drop from new) (omega (arith, length-drop from new, put.inside))
@@ -120,30 +126,23 @@ module _ {levels first count : ℕ} {l : Level} {was new : List Entry} {from : �
   -- those that came are after the open bin
   pub came_here : drop (first - from) here ≡ take count (drop first was)
   came_here =
-      let size : first - from + count ≡ first + count - from = omega (arith, put.place) in
-      let there : from + (first - from) ≡ first = omega (arith, put.place) in
-      subst (λ m. drop (first - from) (take m (drop from new)) ≡ take count (drop first was)) size (rw (drop-take, drop-drop, there, put.same) refl)
+      let size : first - from + count ≡ first + count - from = omega (arith, put.before.place) in
+      let there : from + (first - from) ≡ first = omega (arith, put.before.place) in
+      subst (λ m. drop (first - from) (take m (drop from new)) ≡ take count (drop first was)) size (rw (drop-take, drop-drop, there, put.before.behind) refl)
 
   -- what is cut off after them
   module _ (n : ℕ) (few : n < length here) where
     pub upto : n ≤ first + count - from
     upto = omega (arith, few, long)
 
-    pub is_cut : (last : Entry) → AllByRecursion (λ e. e.index < last.index) (map (raised levels) (take n here)) → AllByRecursion (λ e. e.index ≡ last.index) (map (raised levels) (drop n here))
-        → last.a ≡ sum_by (λ e. e.a) (map (raised levels) (drop n here)) → last.b ≡ sum_by (λ e. e.b) (map (raised levels) (drop n here)) → IsCut all n last
-    is_cut last before here' a b = search (rules, arith, all_here, length-map, take-map, here, drop-map)
-
     -- those before it
-    pub front_all : map (raised levels) (take n here) ≡ take n all
-    front_all = rw (← all_here, take-map) refl
-
     pub front_here : stretch from n levels new ≡ take n all
-    front_here = rw (← front_all, take-take n (first + count - from) (drop from new) upto) refl
+    front_here = rw (← all_here, take-map, take-take n (first + count - from) (drop from new) upto) refl
 
     -- as far apart as those that came, and the first two
     pub apart_closed : (d least : ℕ) → least ≤ d → IsSpaced d (take count (drop first was)) → IsSpaced least (take (first + 1 - from) (drop from new)) → IsSpaced least (take n (drop from new))
     apart_closed d least less came upto' =
-        let all' = seam d least from first count new less (omega (arith, put.place)) put.some upto' (rw put.same came) in
+        let all' = seam d least from first count new less (omega (arith, put.before.place)) put.some upto' (rw put.before.behind came) in
         rw (← take-take n (first + count - from) (drop from new) upto) (spaced_take least n here all')
 
     -- and near as those that came, but for one
@@ -151,12 +150,12 @@ module _ {levels first count : ℕ} {l : Level} {was new : List Entry} {from : �
     near_closed d most few' = search (rules, arith, onto_few, near_put, upto)
 
 -- The entries of a ring stand before closed bins, in the same list.
-module _ (levels from start n : ℕ) (rs list new : List Entry) (place : start + length rs ≡ from) (bins : map (raised levels) (drop start new) ≡ rs ++ map (raised levels) (drop from list)) where
+module _ {levels from start : ℕ} {rs list new : List Entry} (n : ℕ) (put : StandBefore levels from rs list new start) where
   pub ring_here : map (raised levels) (take (from + n - start) (drop start new)) ≡ rs ++ stretch from n levels list
-  ring_here = (let size : from + n - start ≡ length rs + n = omega arith in rw (← take-map, bins, size, take-append-add, take-map) refl)
+  ring_here = (let size : from + n - start ≡ length rs + n = omega (arith, put.place) in rw (← take-map, put.bins, size, take-append-add, take-map) refl)
 
   pub ring_parts : (take (from - start) (map (raised levels) (take (from + n - start) (drop start new))) ≡ rs) × (drop (from - start) (map (raised levels) (take (from + n - start) (drop start new))) ≡ stretch from n levels list)
-  ring_parts = (let size : from - start ≡ length rs = omega arith in rw (ring_here, size) (take-append_seam rs (stretch from n levels list), drop-append_seam rs (stretch from n levels list)))
+  ring_parts = (let size : from - start ≡ length rs = omega (arith, put.place) in rw (ring_here, size) (take-append_seam rs (stretch from n levels list), drop-append_seam rs (stretch from n levels list)))
 
 -- rising entries before sorted bins
 pub spaced_join : (rs : List Entry) (e : Entry) (es : List Entry) → IsRising rs → AllByRecursion (λ r. r.index < e.index) rs → IsSpaced 0 (e ∷ es) → IsSpaced 0 (rs ++ e ∷ es)
@@ -235,13 +234,13 @@ module _ (set : CorrelationView) (level : ℕ) where
 
 -- Photons come to a level in these bins.
 module _ {set : CorrelationView} {level : ℕ} {l : Level} {es : List Entry} {closed open' xs : History} (can : CanTake set level l es closed open' xs) where
-  all_come : Come set level closed (onto l.open es) (open' ++ xs)
+  pub all_come : Come set level closed (onto l.open es) (open' ++ xs)
   all_come = come_onto set level l.open es closed open' xs can.was.opened can.come
 
   behind : IsBefore set level closed (onto l.open es)
   behind = before_onto set level l.open es closed open' can.was.opened
 
-  sorted : IsSpaced 0 (l.ring.entries ++ onto l.open es)
+  pub sorted : IsSpaced 0 (l.ring.entries ++ onto l.open es)
   sorted = ring_sorted set level l.ring (onto l.open es) closed (open' ++ xs) can.was.has.ring behind all_come
 
   pub here_sorted : IsSpaced 0 (onto l.open es)
@@ -249,6 +248,18 @@ module _ {set : CorrelationView} {level : ℕ} {l : Level} {es : List Entry} {cl
 
   pub weights_fit : FitCounts (onto l.open es)
   weights_fit = come_fit set level (onto l.open es) closed (open' ++ xs) (omega (arith, can.few, length-append open' xs)) all_come
+
+  -- all of them may be closed
+  pub shut_all : CanShutAll set level l.ring l.cells (merged_all (onto l.open es)) closed (open' ++ xs)
+  shut_all = record {
+    few = omega (arith, can.few, length-append open' xs);
+    ring = can.was.has.ring;
+    cells = can.was.has.cells;
+    bins = merged_comes set level (onto l.open es) closed (open' ++ xs) behind all_come;
+  }
+
+  pub merged_fit : FitCounts (merged_all (onto l.open es))
+  merged_fit = come_fit set level (merged_all (onto l.open es)) closed (open' ++ xs) (omega (arith, can.few, length-append open' xs)) (come_merged set level (onto l.open es) closed (open' ++ xs) all_come)
 
   module _ {n : ℕ} {last : Entry} (is : IsCut (onto l.open es) n last) where
     abbrev front : List Entry

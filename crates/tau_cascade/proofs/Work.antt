@@ -1,8 +1,12 @@
 -- A level's additions are at most its lags times its occupied bins, and those at a lag at most its occupied bins.
-use Rattle.tally_base.{specs.declared.settings.CorrelationSet.CorrelationSet, specs.Settings.{CorrelationView, correlation_view}, specs.Tally.History}
-use Rattle.tau_cascade.{specs.declared.level.Level.Level, specs.declared.cascade.Cascade.Cascade, specs.Cascade.{Holds, set_of, spent_by, added_below}, specs.StandsFor.StandsFor, specs.Correlation.{bin, lag_count, correlation, photons_of}, specs.Work.{occupied, IsWithinLevelWork, IsPaired, lags_at, work_from, work, appears, distinct}, specs.Levels.{Chain, ClosedAre, spent}}
-use Rattle.std.{proofs.Common.{rules, ◌≡◌, ℕ, zero, suc, ◌+◌, ◌*◌, ◌%◌, ◌<◌, ◌≤◌, take, slice_get, Bool, true, false, List, [], ◌∷◌, ◌++◌, length, map, sym, ap, ◌∙◌, refl, append_assoc, append-nil, zero-add, add-zero, Some, None, arith, cond, ◌||◌, eqb}, proofs.Math.Nat.mul-le-mul_left, specs.Option.{option_map, option_map_or}, proofs.lemmas.Grind.common_steps, proofs.lemmas.List.{map-append, take_all, length-map}, proofs.lemmas.List.Sums.{sum_by-cons, sum_by-le, count_by-le-length}, specs.List.{AllByRecursion}}
-use Rattle.lag_ring.{proofs.Lists.{all_map}}
+use Rattle.tally_base.specs.{declared.settings.CorrelationSet.CorrelationSet, Settings.{CorrelationView, correlation_view}, Tally.History}
+use Rattle.tau_cascade.specs.{declared.{level.Level.Level, cascade.Cascade.Cascade}, Cascade.{Holds, set_of, spent_by, added_below}, StandsFor.StandsFor}
+use Rattle.tau_cascade.specs.{Correlation.{bin, lag_count, correlation, photons_of}, Work.{occupied, IsWithinLevelWork, IsPaired, lags_at, work_from, work}}
+use Rattle.{tau_cascade.specs.{Work.{appears, distinct}, Levels.{Chain, ClosedAre, spent}}, std.proofs.Common.{rules, ◌≡◌, ℕ, zero, suc, ◌+◌, ◌*◌, ◌%◌, ◌<◌}}
+use Rattle.std.proofs.Common.{◌≤◌, take, slice_get, Bool, true, false, List, [], ◌∷◌, ◌++◌, length, map, sym, ap, ◌∙◌, refl, append_assoc, append-nil, zero-add}
+use Rattle.std.proofs.{Common.{add-zero, Some, None, arith, cond, ◌||◌, eqb}, Math.Nat.mul-le-mul_left, lemmas.{Grind.common_steps, List.map-append}}
+use Rattle.std.{proofs.lemmas.List.{take_all, length-map, Sums.{sum_by-cons, sum_by-le, count_by-le-length}}, specs.Option.{option_map, option_map_or}}
+use Rattle.{std.specs.List.AllByRecursion, lag_ring.proofs.Lists.all_map}
 
 -- How many different numbers a list has.
 
@@ -62,7 +66,8 @@ reach ended set level (x ∷ ls) came chain (suc i) l read = search (rules, arit
 pub level_at : (ended : Bool) (set : CorrelationView) (ls : List Level) (came : History) → Chain ended set 0 ls came → (i : ℕ) (l : Level) → slice_get ls i ≡ Some l → Reached ended set i l came
 level_at ended set ls came chain i l read = (rw zero-add at (reach ended set 0 ls came chain i l read))
 
-pub level_within : (ended : Bool) (set : CorrelationView) (ls : List Level) (xs : History) → Chain ended set 0 ls xs → (i : ℕ) (l : Level) → slice_get ls i ≡ Some l → IsWithinLevelWork set i l.cells xs × IsPaired ended l.paired (occupied i xs)
+pub level_within : (ended : Bool) (set : CorrelationView) (ls : List Level) (xs : History) → Chain ended set 0 ls xs → (i : ℕ) (l : Level)
+    → slice_get ls i ≡ Some l → IsWithinLevelWork set i l.cells xs × IsPaired ended l.paired (occupied i xs)
 level_within ended set ls xs chain i l read =
     let at = level_at ended set ls xs chain i l read in
     let more = occupied-le i xs at.closed at.rest at.split in

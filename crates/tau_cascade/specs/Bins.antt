@@ -1,8 +1,9 @@
 -- Bins that come to a level one after the other, and those that it closes.
-use Rattle.std.{specs.Prelude.{◌≡◌, true, ℕ, ◌+◌, ◌-◌, ◌/◌, ◌^◌, ◌<◌, ◌≤◌, ◌==◌, ⊤, false, Option, None, Some, List, [], ◌∷◌, ◌++◌, map, take, drop, length, filter, nat_le, nat_lt, sum_by, if◌then◌else◌}, specs.List.{AllByRecursion}}
-use Rattle.tally_base.{specs.Settings.CorrelationView, specs.Tally.{History, greatest_time, InOrder}, specs.Limits.record_limit, specs.declared.block.Block.Block, specs.Columns.{gathered, events_in}}
-use Rattle.lag_ring.{specs.declared.ring.Entry.Entry, specs.Ring.{Ring, IsRising}, specs.Cells.Cells}
-use Rattle.tau_cascade.{specs.declared.level.Level.Level, specs.Correlation.{Given, bin, in_first, in_second, photons_of}, specs.Levels.{IsBin, LevelIs, RingIs, CellsAre, Chain, PairsMore}}
+use Rattle.std.specs.Prelude.{◌≡◌, true, ℕ, ◌+◌, ◌-◌, ◌/◌, ◌^◌, ◌<◌, ◌≤◌, ◌==◌, ⊤, false, Option, None, Some, List, [], ◌∷◌, ◌++◌, map, take, drop, length, filter, nat_le, nat_lt, sum_by}
+use Rattle.std.specs.{Prelude.if◌then◌else◌, List.{AllByRecursion, AllByRecursion-prop}, Coded.{Unit-prop, le_prop}}
+use Rattle.tally_base.specs.{Settings.CorrelationView, Tally.{History, greatest_time, InOrder}, Limits.record_limit, declared.block.Block.Block, Columns.{gathered, events_in}}
+use Rattle.{lag_ring.specs.{declared.ring.Entry.Entry, Ring.{Ring, IsRising}, Cells.Cells}, tau_cascade.specs.{declared.level.Level.Level, Correlation.{Given, bin, in_first, in_second, photons_of}}}
+use Rattle.tau_cascade.specs.Levels.{IsBin, LevelIs, RingIs, CellsAre, Chain, PairsMore}
 
 -- the bin so many levels up in which a bin lies
 abbrev pub raised : ℕ → Entry → Entry
@@ -39,6 +40,25 @@ onto (Some e) es = e ∷ es
 abbrev pub IsSpaced : ℕ → List Entry → Type 0
 IsSpaced distance [] = ⊤
 IsSpaced distance (e ∷ es) = AllByRecursion (λ f. e.index + distance ≤ f.index) es × IsSpaced distance es
+
+-- There is at most one proof of it.
+pub IsSpaced-prop : (distance : ℕ) (es : List Entry) → IsProp (IsSpaced distance es)
+IsSpaced-prop distance [] one other = Unit-prop one other
+IsSpaced-prop distance (e ∷ es) one other = λ i. (AllByRecursion-prop (λ (f : Entry). e.index + distance ≤ f.index) (λ f. le_prop) es one.0 other.0 i, IsSpaced-prop distance es one.1 other.1 i)
+
+-- some bins of which the last ones, from a place on, are this one together
+pub record IsCut (es : List Entry) (n : ℕ) (last : Entry) : Type 0 where
+  pub few : n < length es
+  pub before : AllByRecursion (λ e. e.index < last.index) (take n es)
+  pub here : AllByRecursion (λ e. e.index ≡ last.index) (drop n es)
+  pub a : last.a ≡ sum_by (λ e. e.a) (drop n es)
+  pub b : last.b ≡ sum_by (λ e. e.b) (drop n es)
+
+-- entries stand before those of a list from a place on, so many levels down, and these stay
+pub record StandBefore (levels from : ℕ) (es was new : List Entry) (start : ℕ) : Type 0 where
+  pub place : start + length es ≡ from
+  pub bins : map (raised levels) (drop start new) ≡ es ++ map (raised levels) (drop from was)
+  pub behind : drop from new ≡ drop from was
 
 -- how many bins are nearer than a distance to the one before them
 abbrev pub near : ℕ → List Entry → ℕ

@@ -1,8 +1,7 @@
 -- What a correlation shows.
-use Rattle.std.{specs.Prelude.{ℕ, ◌+◌, zero, suc, Option, slice_get}, specs.Option.{option_map, option_map_or}}
-use Rattle.tally_base.{specs.declared.settings.CorrelationSet.CorrelationSet, specs.Settings.{PartSettings, correlation_view}, specs.Settings.PartSettings.CorrelationSettings, specs.Tally.History}
-use Rattle.lag_ring.{specs.declared.ring.Entry.Entry, specs.Cells.Cells, specs.Pairings.{Paired, paired_by}, specs.Ring.Ring}
-use Rattle.tau_cascade.{specs.declared.cascade.Cascade.Cascade, specs.StandsFor.StandsFor, specs.Levels.spent}
+use Rattle.std.specs.{Prelude.{ℕ, ◌+◌, zero, suc, Option, slice_get}, Option.{option_map, option_map_or}}
+use Rattle.tally_base.specs.{declared.settings.CorrelationSet.CorrelationSet, Settings.{PartSettings, correlation_view, PartSettings.CorrelationSettings}, Tally.History}
+use Rattle.{lag_ring.specs.{declared.ring.Entry.Entry, Cells.Cells, Pairings.{Paired, paired_by}, Ring.Ring}, tau_cascade.specs.{declared.cascade.Cascade.Cascade, StandsFor.StandsFor, Levels.spent}}
 
 -- what it was opened with
 abbrev pub set_of : Cascade → CorrelationSet

@@ -1,6 +1,6 @@
 -- The correlation of two groups, as a count of pairs.
 use Rattle.std.specs.Prelude.{ℕ, ◌+◌, ◌-◌, ◌/◌, ◌^◌, Bool, ◌&&◌, ◌||◌, ◌==◌, filter, sum_by, count_by, if◌then◌else◌}
-use Rattle.tally_base.{specs.declared.event.Event.Event, specs.Events.{is_photon, is_in}, specs.Settings.CorrelationView, specs.Tally.History}
+use Rattle.tally_base.specs.{declared.event.Event.Event, Events.{is_photon, is_in}, Settings.CorrelationView, Tally.History}
 
 -- an event with its groups
 abbrev pub Given : Type 0

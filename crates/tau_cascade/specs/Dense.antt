@@ -1,17 +1,11 @@
 -- Pairs of bins with what stands in a window.
-use Rattle.std.{specs.Prelude.{ℕ, Bool, true, false, nat_le, if◌then◌else◌, ◌≡◌, ◌+◌, ◌-◌, ◌*◌, ◌^◌, ◌<◌, ◌≤◌, min, List, [], ◌∷◌, slice_index, ◌++◌, length, map, take, drop}, specs.List.{AllByRecursion}}
-use Rattle.lag_ring.{specs.declared.ring.Entry.Entry, specs.declared.window.Side.TheVariants.First, specs.Cells.{Cells, added_at}, specs.Pairings.Paired, specs.Bytes.{weight_at, IsLight}}
-use Rattle.tau_cascade.{specs.Levels.weight_before, specs.declared.laid.Laying.Laying, specs.declared.bins.{Bins.Bins, LagRange.LagRange}, specs.Bins.{raised, IsSpaced}}
+use Rattle.std.specs.{Prelude.{ℕ, Bool, true, false, nat_le, if◌then◌else◌, ◌≡◌, ◌+◌, ◌-◌, ◌*◌, ◌^◌, ◌<◌, ◌≤◌, min, List, [], ◌∷◌, slice_index, ◌++◌, length, map, take, drop}, List.AllByRecursion}
+use Rattle.{lag_ring.specs.{declared.{ring.Entry.Entry, window.Side.TheVariants.First}, Cells.{Cells, added_at}, Pairings.Paired, Bytes.{weight_at, IsLight}}, tau_cascade.specs.Levels.weight_before}
+use Rattle.tau_cascade.specs.{declared.{laid.Laying.Laying, bins.{Bins.Bins, LagRange.LagRange}}, Bins.raised}
 
 -- the bins of a list as they are meant
 abbrev pub bins_of : Bins → List Entry
 bins_of b = map (raised b.levels) b.list.now
-
--- The place of the first that is paired is in the list, and none is meant before the one in front of it.
-pub record AreBins (b : Bins) : Type 0 where
-  pub within : b.start ≤ length b.list.now
-  pub levels : b.levels < 64
-  pub sorted : IsSpaced 0 (bins_of b)
 
 -- how many of them are paired
 abbrev pub bins_paired : Bins → ℕ
@@ -32,7 +26,11 @@ paired_from start lag es = paired lag (take start es) (drop start es)
 abbrev pub ArePaired : LagRange → ℕ → List ℕ → List ℕ → List Entry → Type 0
 ArePaired range start old new es = (p : ℕ) → p < range.last - range.skipped → slice_index new p ≡ slice_index old p + paired_from start (p + range.skipped + 1) es
 
--- and stay within a cell's bound
+-- sums have the pairs of those bins alone
+abbrev pub HavePairs : LagRange → ℕ → List ℕ → List Entry → Type 0
+HavePairs range start sums es = (p : ℕ) → p < range.last - range.skipped → slice_index sums p ≡ paired_from start (p + range.skipped + 1) es
+
+-- cells that get the pairs of bins stay within a cell's bound
 abbrev pub FitPairs : LagRange → Bins → List ℕ → Type 0
 FitPairs range b old = (p : ℕ) → p < range.last - range.skipped → slice_index old p + paired_from b.start (p + range.skipped + 1) (bins_of b) ≤ 2 ^ 80
 
@@ -50,7 +48,7 @@ NotesOnce old new bins = (new.lists ≡ old.lists + bins) × (new.windows ≤ ol
 
 -- By the answer sums have the pairs of bins, and those are noted, or stay as they are; a window was begun for at most 1024 bins.
 pub record PairsIfClose (range : LagRange) (b : Bins) (old new : List ℕ) (was is : Paired) (answer : Bool) : Type 0 where
-  pub sums : answer ≡ true → ArePaired range b.start old new (bins_of b)
+  pub sums : answer ≡ true → HavePairs range b.start new (bins_of b)
   pub none : answer ≡ false → new ≡ old
   pub noted : Notes was is (if answer then bins_paired b else 0) (if nat_le (bins_paired b) 1024 then bins_paired b else 0)
 
@@ -80,6 +78,17 @@ pub record IsLaid (window : List ℕ) (reach index : ℕ) (laying : Laying) (es 
   pub next : (rest : List Entry) → laid reach index 0 (es ++ rest) ≡ laid reach index 0 es ++ laid reach laying.index laying.place rest
   pub upto : (most : ℕ) → index ≤ most → AllByRecursion (λ e. e.index ≤ most) es → laying.index ≤ most
   pub near : laying.place + index ≤ laying.index
+
+-- there are no more lags than lanes, and no more than 64 of these
+pub record FitLanes (lanes : ℕ) (range : LagRange) : Type 0 where
+  pub lags : range.last - range.skipped ≤ lanes
+  pub most : lanes ≤ 64
+
+-- There are places for so many bins, and so many lanes, from an offset after each on, are within a window of 8640 places.
+pub record HavePlaces (bins from lanes : ℕ) (places : List ℕ) : Type 0 where
+  pub all : bins ≤ length places
+  pub first : from ≤ 8640
+  pub room : (i : ℕ) → slice_index places i + from + lanes ≤ 8640
 
 -- sums in so many lanes, of which the last is that of the first lag above those skipped, have the pairs of the bins of a list from a place on more than they had
 abbrev pub HavePaired : ℕ → LagRange → List ℕ → List ℕ → ℕ → List Entry → Type 0

@@ -1,7 +1,8 @@
 -- The weights of bins by index, where bins are dense.
-use Rattle.std.{specs.Prelude.{ℕ, ◌≡◌, ◌+◌, ◌-◌, ◌*◌, ◌%◌, ◌^◌, ◌<◌, ◌≤◌, if◌then◌else◌, ◌/◌, nat_lt, nat_le, min, List, [], ◌++◌, length, map, filter, sum_by, slice_index}, specs.List.{AllByRecursion, range_with_len}}
-use Rattle.lag_ring.{specs.declared.ring.Entry.Entry, specs.declared.window.Side.{Side, TheVariants.{First, Second}}, specs.Bytes.{weight_of, weight_at}}
-use Rattle.tau_cascade.{specs.declared.grid.Grid.Grid, specs.declared.level.Coming.Coming, specs.Opens.closed_bins, specs.Bins.{merged_all, IsSpaced, FitCounts}}
+use Rattle.std.specs.{Prelude.{ℕ, ◌≡◌, ◌+◌, ◌-◌, ◌*◌, ◌%◌, ◌^◌, ◌<◌, ◌≤◌, if◌then◌else◌, ◌/◌, nat_lt, nat_le, min, List, [], ◌++◌, length, map, filter, sum_by, slice_index}, List.AllByRecursion}
+use Rattle.std.specs.List.{range_with_len}
+use Rattle.{lag_ring.specs.{declared.{ring.Entry.Entry, window.Side.{Side, TheVariants.{First, Second}}}, Bytes.{weight_of, weight_at}}, tau_cascade.specs.declared.grid.Grid.Grid}
+use Rattle.tau_cascade.specs.{declared.level.Coming.Coming, Opens.closed_bins, Bins.{merged_all, IsSpaced, FitCounts}}
 
 -- places, of which the first is that of an index, have the weights of bins on one side
 abbrev pub HaveWeights : Side → ℕ → List ℕ → List Entry → Type 0

@@ -1,7 +1,9 @@
 -- What holds of every correlation.
-use Rattle.std.{proofs.Common.{◌≡◌, ℕ, suc, ◌+◌, ◌-◌, ◌*◌, ◌/◌, ◌%◌, ◌≤◌, Bool, true, false, cond, List, [], ◌∷◌, ◌++◌, ◌&&◌, ◌||◌, ◌∙◌, ap, subst, length, arith, rules}, specs.Prelude.{is_some}, specs.List.sum_by, proofs.Math.Logic.∥∥₁_elim, proofs.Props.props, proofs.lemmas.List.Sums.sum_by-cons}
-use Rattle.tally_base.{specs.declared.event.Event.Event, specs.Events.{is_photon, is_in}, specs.declared.settings.CorrelationSet.CorrelationSet, specs.Settings.{CorrelationView, correlation_view, entries}, specs.Tally.History, proofs.Sorted.{same_length, same_greatest, same_filter}}
-use Rattle.tau_cascade.{specs.declared.cascade.Cascade.Cascade, specs.declared.level.Level.Level, specs.Cascade.{Holds, settings}, specs.Correlation.{in_first, in_second, lag_count, photons_of}, specs.StandsFor.entries_of, specs.Levels.{Chain, RingIs, CellsAre}}
+use Rattle.std.proofs.{Common.{◌≡◌, ℕ, suc, ◌+◌, ◌-◌, ◌*◌, ◌/◌, ◌%◌, ◌≤◌, Bool, true, false, cond, List, [], ◌∷◌, ◌++◌, ◌&&◌, ◌||◌, ◌∙◌, ap, subst, length, arith, rules}, Math.Logic.∥∥₁_elim}
+use Rattle.std.{proofs.{Props.props, lemmas.List.Sums.sum_by-cons}, specs.{Prelude.is_some, List.sum_by}}
+use Rattle.tally_base.specs.{declared.{event.Event.Event, settings.CorrelationSet.CorrelationSet}, Events.{is_photon, is_in}, Settings.{CorrelationView, correlation_view, entries}, Tally.History}
+use Rattle.{tally_base.proofs.Sorted.{same_length, same_greatest, same_filter}, tau_cascade.specs.{declared.{cascade.Cascade.Cascade, level.Level.Level}, Cascade.{Holds, settings}}}
+use Rattle.tau_cascade.specs.{Correlation.{in_first, in_second, lag_count, photons_of}, StandsFor.entries_of, Levels.{Chain, RingIs, CellsAre}}
 
 level_bound : (set : CorrelationView) (level : ℕ) (l : Level) (came : History) → RingIs set level l.ring came → CellsAre set level l.cells came → entries_of l ≤ set.lags + lag_count set level + 1
 level_bound set level l came ring cells = elim (is_some l.open) as (λ b. length l.ring.entries + length l.cells.cells + cond b 1 0 ≤ set.lags + lag_count set level + 1) [ true ↦ omega (arith, ring.reach, ring.keeps.within, cells.counts.count) | false ↦ omega (arith, ring.reach, ring.keeps.within, cells.counts.count) ]

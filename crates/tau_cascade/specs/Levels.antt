@@ -1,8 +1,8 @@
 -- What levels stand for: photons that came to them, in order, and how far they are paired.
-use Rattle.std.{specs.Prelude.{◌≡◌, ℕ, ◌+◌, ◌*◌, ◌≤◌, suc, ⊤, Bool, true, false, ◌==◌, sum_by, Option, None, List, [], ◌∷◌, ◌++◌}}
-use Rattle.tally_base.{specs.Settings.CorrelationView, specs.Tally.History}
-use Rattle.lag_ring.{specs.declared.ring.Entry.Entry, specs.Ring.{Ring, weight_where, Weighs}, specs.Cells.{Cells, added_at}, specs.Pairings.{Paired, paired_by}, specs.Binned.{IsOpen, KeepsReach, CellsCount}}
-use Rattle.tau_cascade.{specs.declared.level.Level.Level, specs.Correlation.{bin, in_first, in_second, correlation, skipped_lags, lag_count}, specs.Work.occupied}
+use Rattle.std.specs.Prelude.{◌≡◌, ℕ, ◌+◌, ◌*◌, ◌≤◌, suc, ⊤, Bool, true, false, ◌==◌, sum_by, Option, None, List, [], ◌∷◌, ◌++◌}
+use Rattle.{tally_base.specs.{Settings.CorrelationView, Tally.History}, lag_ring.specs.{declared.ring.Entry.Entry, Ring.{Ring, weight_where, Weighs}, Cells.{Cells, added_at}, Pairings.Paired}}
+use Rattle.{lag_ring.specs.{Pairings.paired_by, Binned.{IsOpen, KeepsReach, CellsCount}}, tau_cascade.specs.{declared.level.Level.Level, Correlation.{bin, in_first, in_second, correlation}}}
+use Rattle.tau_cascade.specs.{Correlation.{skipped_lags, lag_count}, Work.occupied}
 
 -- the first weight of the entry that stands k before the index, or 0
 abbrev pub weight_before : ℕ → ℕ → List Entry → ℕ

@@ -1,8 +1,8 @@
 -- Which bins are open, from the events alone.
-use Rattle.std.{specs.Prelude.{ℕ, ◌/◌, zero, suc, max, Bool, true, false, ◌&&◌, ◌==◌, nat_lt, Option, None, Some, unwrap_or, List, [], ◌∷◌, map, filter, count_by, ◌+◌, ◌<◌, ◌-◌, ◌≤◌, take, drop}, specs.Option.{option_map, option_and_then, option_map_or}}
-use Rattle.tally_base.{specs.Settings.CorrelationView, specs.Tally.History}
-use Rattle.lag_ring.specs.declared.ring.Entry.{Entry}
-use Rattle.tau_cascade.{specs.Correlation.{Given, bin, in_first, in_second, photons_of}, specs.declared.level.Coming.Coming, specs.Bins.{stretch, IsSpaced, near}}
+use Rattle.std.specs.Prelude.{ℕ, ◌/◌, zero, suc, max, Bool, true, false, ◌&&◌, ◌==◌, nat_lt, Option, None, Some, unwrap_or, List, [], ◌∷◌, map, filter, count_by, ◌+◌, ◌<◌, ◌-◌, ◌≤◌, take, drop}
+use Rattle.std.specs.Option.{option_map, option_and_then, option_map_or}
+use Rattle.{tally_base.specs.{Settings.CorrelationView, Tally.History}, lag_ring.specs.declared.ring.Entry.Entry, tau_cascade.specs.Correlation.{Given, bin, in_first, in_second, photons_of}}
+use Rattle.tau_cascade.specs.{declared.level.Coming.Coming, Bins.{stretch, IsSpaced, near}}
 
 -- the greatest number of a list
 abbrev pub greatest : List ℕ → Option ℕ

@@ -1,7 +1,7 @@
 -- What the fields of a correlation stand for.
 use Rattle.std.specs.Prelude.{◌≡◌, ℕ, ◌+◌, Bool, false, is_some, List, length, if◌then◌else◌}
-use Rattle.tally_base.{specs.declared.settings.CorrelationSet.CorrelationSet, specs.Settings.{CorrelationView, correlation_view}, specs.Tally.{History, greatest_time}}
-use Rattle.tau_cascade.{specs.declared.level.Level.Level, specs.Correlation.photons_of, specs.Levels.Chain}
+use Rattle.tally_base.specs.{declared.settings.CorrelationSet.CorrelationSet, Settings.{CorrelationView, correlation_view}, Tally.{History, greatest_time}}
+use Rattle.tau_cascade.specs.{declared.level.Level.Level, Correlation.photons_of, Levels.Chain}
 
 -- a correlation with these fields stands for the events: their photons went from level to level
 pub record StandsFor (closed : Bool) (set : CorrelationSet) (ls : List Level) (count time : ℕ) (h : History) : Type 0 where

@@ -1,8 +1,6 @@
 -- How many additions a correlation of these events may make.
 use Rattle.std.specs.Prelude.{◌≡◌, true, ℕ, ◌+◌, ◌*◌, ◌/◌, ◌≤◌, zero, suc, Bool, false, ◌||◌, ◌==◌, List, [], ◌∷◌, map, if◌then◌else◌}
-use Rattle.tally_base.{specs.Settings.CorrelationView, specs.Tally.History}
-use Rattle.lag_ring.specs.{Cells.{Cells, added_at}, Pairings.Paired}
-use Rattle.tau_cascade.specs.Correlation.{bin, lag_count, photons_of}
+use Rattle.{tally_base.specs.{Settings.CorrelationView, Tally.History}, lag_ring.specs.{Cells.{Cells, added_at}, Pairings.Paired}, tau_cascade.specs.Correlation.{bin, lag_count, photons_of}}
 
 -- whether a number is in a list
 abbrev pub appears : ℕ → List ℕ → Bool

@@ -1,7 +1,7 @@
 // Bins that come to a level, and those that it closes.
-ghost use Rattle.std.{specs.Prelude.{◌≡◌, ◌+◌, ◌*◌, ◌^◌, ◌<◌, ◌≤◌, false, [], ◌++◌, length, map, take, drop, sum_by, if◌then◌else◌}, specs.List.AllByRecursion};
-ghost use Rattle.tally_base.{specs.Settings.correlation_view, specs.Columns.{events_in, IsSorted}};
-ghost use Rattle.tau_cascade.{specs.Bins.{raised, onto, near, FitCounts, IsSpaced, merged_all, stretch, photon_bins}, specs.declared.bins.TheConstants.MOST_LAGS};
+ghost use Rattle.std.specs.{Prelude.{◌≡◌, ◌+◌, ◌*◌, ◌^◌, ◌<◌, ◌≤◌, false, [], ◌++◌, length, map, take, drop, sum_by, if◌then◌else◌}, List.AllByRecursion};
+ghost use Rattle.{tally_base.specs.{Settings.correlation_view, Columns.{events_in, IsSorted}}, tau_cascade.specs.Bins.{raised, onto, near, FitCounts, IsCut, IsSpaced, IsSpaced-prop, StandBefore}};
+ghost use Rattle.tau_cascade.specs.{Bins.{merged_all, stretch, photon_bins}, declared.bins.TheConstants.MOST_LAGS};
 
 use lag_ring::{Entry, LagRing};
 use tally_base::{Block, CorrelationSet, TABLE_BLOCK};
@@ -50,6 +50,10 @@ pub(crate) struct Bins<'a> {
     pub(crate) levels: u32,
     /// A distance that no two of the list fall below, as they stand in it, or 0.
     pub(crate) apart: u64,
+    ghost within: { start ≤ length list.now },
+    ghost up: { levels < 64 },
+    ghost sorted: { IsSpaced 0 (map (raised levels) list.now) } by { IsSpaced-prop 0 (map (raised levels) list.now) },
+    ghost spaced: { 0 < apart → IsSpaced apart list.now } by { Prim.hlevel IsSpaced-prop },
 }
 
 /// What is known of how near bins are to one another.
@@ -213,11 +217,8 @@ pub(crate) fn lay_out(ring: &LagRing, list: &mut [Entry]) -> usize
 #[tactic(auto, using(crate::proofs::Spread::lower_more, crate::proofs::Spread::lower_done, lag_ring::proofs::Lists::each_at, std::proofs::lemmas::List::take_all))]
 fn lower_before(entries: &[Entry], list: &mut [Entry], from: usize, levels: u32) -> usize
     requires room { (length entries.now ≤ from) × (from ≤ length list.old) × (levels < 64) }
-    requires fits { AllByRecursion (λ e. e.index * 2 ^ levels < 2 ^ 64) entries.now }
-    ensures place { result + length entries.now ≡ from }
-    ensures bins { map (raised levels) (drop result list.new)
-        ≡ entries.now ++ map (raised levels) (drop from list.old) }
-    ensures behind { drop from list.new ≡ drop from list.old }
+    requires fits { 0 < levels → AllByRecursion (λ e. e.index * 2 ^ levels < 2 ^ 64) entries.now }
+    ensures { StandBefore levels from entries.now list.old list.new result }
 {
     let start = from - entries.len();
     for i in 0..entries.len() {
@@ -236,11 +237,8 @@ fn lower_before(entries: &[Entry], list: &mut [Entry], from: usize, levels: u32)
 #[inline(always)]
 pub(crate) fn lower_open(was: &Option<Entry>, list: &mut [Entry], from: usize, levels: u32) -> usize
     requires room { (0 < from) × (from ≤ length list.old) × (levels < 64) }
-    requires fits { AllByRecursion (λ e. e.index * 2 ^ levels < 2 ^ 64) (onto was.now []) }
-    ensures place { result + length (onto was.now []) ≡ from }
-    ensures bins { map (raised levels) (drop result list.new)
-        ≡ onto was.now (map (raised levels) (drop from list.old)) }
-    ensures behind { drop from list.new ≡ drop from list.old }
+    requires fits { 0 < levels → AllByRecursion (λ e. e.index * 2 ^ levels < 2 ^ 64) (onto was.now []) }
+    ensures { StandBefore levels from (onto was.now []) list.old list.new result }
 {
     match was {
         Some(bin) => lower_before(&[*bin], list, from, levels),
@@ -251,42 +249,32 @@ pub(crate) fn lower_open(was: &Option<Entry>, list: &mut [Entry], from: usize, l
 /// Puts the entries of a ring before the bins of a list from a place on, so many levels down, and answers where they
 /// begin.
 #[inline(always)]
-#[tactic(auto, using(lag_ring::proofs::Lists::all_back, lag_ring::proofs::Lists::all_front, crate::proofs::Spread::same_behind))]
+#[tactic(auto, using(lag_ring::proofs::Lists::all_back, lag_ring::proofs::Lists::all_front))]
 pub(crate) fn lower_ring(ring: &LagRing, list: &mut [Entry], from: usize, levels: u32) -> usize
     requires room { (length ring.now.entries ≤ from) × (from ≤ length list.old) × (levels < 64) }
-    requires fits { AllByRecursion (λ e. e.index * 2 ^ levels < 2 ^ 64) ring.now.entries }
-    ensures place { result + length ring.now.entries ≡ from }
-    ensures bins { map (raised levels) (drop result list.new)
-        ≡ ring.now.entries ++ map (raised levels) (drop from list.old) }
-    ensures behind { drop from list.new ≡ drop from list.old }
+    requires fits { 0 < levels → AllByRecursion (λ e. e.index * 2 ^ levels < 2 ^ 64) ring.now.entries }
+    ensures { StandBefore levels from ring.now.entries list.old list.new result }
 {
     let (front, back) = ring.slices();
     let at = lower_before(back, list, from, levels);
     lower_before(front, list, at, levels)
 }
 
-/// The last of some bins, so many levels up, together with those before it that have its index, and how many are before
-/// them.
+/// The last of some bins, together with those before it that have its index, and how many are before them.
 #[tactic(auto, using(crate::proofs::Spread::cut_within, crate::proofs::Spread::cut_more, crate::proofs::Spread::cut_sum))]
-pub(crate) fn cut_last(bins: &[Entry], levels: u32) -> Last
-    requires some { (0 < length bins.now) × (levels < 64) }
-    requires sorted { IsSpaced 0 (map (raised levels) bins.now) }
-    requires counts { FitCounts (map (raised levels) bins.now) }
-    ensures few { result.closed < length bins.now }
-    ensures before { AllByRecursion (λ e. e.index < result.bin.index)
-        (map (raised levels) (take result.closed bins.now)) }
-    ensures here { AllByRecursion (λ e. e.index ≡ result.bin.index)
-        (map (raised levels) (drop result.closed bins.now)) }
-    ensures weights { (result.bin.a ≡ sum_by (λ e. e.a) (map (raised levels) (drop result.closed bins.now)))
-        × (result.bin.b ≡ sum_by (λ e. e.b) (map (raised levels) (drop result.closed bins.now))) }
+pub(crate) fn cut_last(bins: Bins) -> Last
+    requires some { 0 < length bins.list.now }
+    requires counts { FitCounts (map (raised bins.levels) bins.list.now) }
+    ensures { IsCut (map (raised bins.entry.levels) bins.entry.list.now) result.closed result.bin }
 {
-    let last = bins[bins.len() - 1];
+    let Bins { list, levels, .. } = bins;
+    let last = list[list.len() - 1];
     let index = last.index >> levels;
-    let mut closed = bins.len() - 1;
+    let mut closed = list.len() - 1;
     let mut a = last.a;
     let mut b = last.b;
     'back: while closed > 0 {
-        let bin = bins[closed - 1];
+        let bin = list[closed - 1];
         if bin.index >> levels != index {
             return Last {
                 closed,

@@ -1,7 +1,6 @@
 // What goes from level to level.
 ghost use Rattle.std.specs.Prelude.{◌≡◌, ◌+◌, ◌<◌, ◌≤◌, true, [], ◌∷◌, length};
-ghost use Rattle.tally_base.{specs.Settings.correlation_view, specs.Tally.History};
-ghost use Rattle.tau_cascade.{specs.Levels.{Chain, LevelIs, spent}, specs.Bins.{CanCome, Carries}, specs.Opens.coming_bins, specs.Comes.HasCome};
+ghost use Rattle.{tally_base.specs.{Settings.correlation_view, Tally.History}, tau_cascade.specs.{Levels.{Chain, LevelIs, spent}, Bins.{CanCome, Carries}, Opens.coming_bins, Comes.HasCome}};
 
 use crate::bins::{LEVELS, LIST, NO_BIN};
 use crate::level::{Coming, Level};

@@ -1,7 +1,7 @@
 // A correlation over its levels.
-ghost use Rattle.std.{specs.Prelude.{◌≡◌, ◌+◌, ◌*◌, ◌<◌, ◌≤◌, [], ◌++◌, false, length, vec_len, ◌-◌, true, IfOk, None, Some, slice_index}, specs.Option.{ForSome, option_map}};
-ghost use Rattle.tally_base.{specs.Settings.correlation_view, specs.Tally.History, specs.Limits.record_limit, specs.Columns.{events_in, IsSorted}, specs.Settings.PartSettings.CorrelationSettings};
-ghost use Rattle.tau_cascade.{specs.StandsFor.{StandsFor, HasTaken}, specs.Levels.spent, specs.Bins.CanGiveBlock, specs.declared.bins.TheConstants.LEVELS};
+ghost use Rattle.std.specs.{Prelude.{◌≡◌, ◌+◌, ◌*◌, ◌<◌, ◌≤◌, [], ◌++◌, false, length, vec_len, ◌-◌, true, IfOk, None, Some, slice_index}, Option.{ForSome, option_map}};
+ghost use Rattle.tally_base.specs.{Settings.{correlation_view, PartSettings.CorrelationSettings}, Tally.History, Limits.record_limit, Columns.{events_in, IsSorted}};
+ghost use Rattle.tau_cascade.specs.{StandsFor.{StandsFor, HasTaken}, Levels.spent, Bins.CanGiveBlock, declared.bins.TheConstants.LEVELS};
 
 use crate::bins::{FIRST_PLACE, Gaps, LIST, NO_BIN, gather, spacing};
 use crate::carry::{carry_all, end_all};
@@ -82,7 +82,7 @@ impl Cascade {
     pub fn level(&self, level: u32) -> &PairCells
         requires { level < (set_of self.now).levels }
         ensures cells { cells_at self.now level ≡ Some result.now }
-        ensures lags { (length result.now.cells ≡ lag_count (correlation_view (set_of self.now)) level)
+        ensures sizes { (length result.now.cells ≡ lag_count (correlation_view (set_of self.now)) level)
             × ForSome (ring_at self.now level) (λ r. length r.entries ≤ (set_of self.now).lags) }
         ensures spent { spent_by self.now
             ≡ added_below self.now (set_of self.now).levels }

@@ -1,11 +1,12 @@
 // The weights of bins by index, where bins are dense: places stand for indices, and two of them become one on the next
 // level.
-ghost use Rattle.std.{specs.Prelude.{◌≡◌, ℕ, ◌+◌, ◌-◌, ◌*◌, ◌/◌, ◌%◌, ◌^◌, ◌<◌, ◌≤◌, ◌==◌, true, false, List, [], ◌++◌, length, map, take, drop, nat_le, slice_index, sum_by, if◌then◌else◌}, specs.List.{AllByRecursion, range_with_len}, specs.Option.ForSome};
-ghost use Rattle.lag_ring.{specs.declared.window.Side.TheVariants.{First, Second}, specs.Bytes.weight_at};
-ghost use Rattle.tau_cascade.{specs.Bins.{raised, onto, IsSpaced, merged_all}, specs.Dense.{bins_of, bins_paired, AreBins, Notes, ArePaired, IsZero}, specs.Grid.{HaveWeights, Stands, IsEmpty, photons, IsGrid, halved, product, dots, bins_from, filled, FewFirsts, counted}};
+ghost use Rattle.std.specs.Prelude.{◌≡◌, ℕ, ◌+◌, ◌-◌, ◌*◌, ◌/◌, ◌%◌, ◌^◌, ◌<◌, ◌≤◌, ◌==◌, true, false, List, [], ◌++◌, length, map, take, drop, nat_le, slice_index, sum_by, if◌then◌else◌};
+ghost use Rattle.std.specs.{List.{AllByRecursion, range_with_len}, Option.ForSome};
+ghost use Rattle.{lag_ring.specs.{declared.window.Side.TheVariants.{First, Second}, Bytes.weight_at}, tau_cascade.specs.{Bins.{raised, onto, IsCut, IsSpaced, merged_all}, Dense.bins_of}};
+ghost use Rattle.tau_cascade.specs.{Dense.{bins_paired, Notes, HavePairs, IsZero}, Grid.{HaveWeights, Stands, IsEmpty, photons, IsGrid, halved, product, dots, bins_from, filled, FewFirsts, counted}};
 
 use crate::bins::{Bins, LIST, LagRange, Last, MOST_LAGS};
-use crate::laid::{PLACES, TOP, clear_window};
+use crate::laid::{PLACES, TOP, Window, clear_window};
 use lag_ring::{Entry, Pairings};
 use std::simd::Simd;
 
@@ -281,19 +282,17 @@ impl Grid {
 
     /// Makes one place of two, of which the first is that of the index `low`.
     #[tactic(auto, using(crate::proofs::Places::sound, crate::proofs::Places::stands_halved))]
-    fn halve(&mut self, low: u64, window: &mut [u16; PLACES])
+    fn halve(&mut self, low: u64, window: &mut Window)
         requires stands { ∥ ((es : List Entry) × Stands self.old es) ∥₁ }
         requires low { (low ≤ self.old.base / 2) × (low % 2 ≡ 0)
             × (self.old.base / 2 - low + (self.old.len + 1) / 2 ≤ SPAN) }
-        requires zeros { IsZero window.old }
         ensures halves { (es : List Entry) → Stands self.old es → Stands self.new (map (raised 1) es) }
         ensures len { self.new.len ≡ self.old.base / 2 - low + (self.old.len + 1) / 2 }
-        ensures zeros { IsZero window.new }
     {
         let half = (self.len + 1) / 2;
         let off = (self.base / 2 - low) as usize;
-        halve_at(&mut self.firsts, window, half, off);
-        halve_at(&mut self.seconds, window, half, off);
+        halve_at(&mut self.firsts, &mut window.places, half, off);
+        halve_at(&mut self.seconds, &mut window.places, half, off);
         self.base = low;
         self.len = off + half;
     }
@@ -372,21 +371,14 @@ impl Grid {
         was: &Option<Entry>,
         bins: Bins,
         last: &Last,
-        window: &mut [u16; PLACES],
+        window: &mut Window,
     )
         requires stood { IsGrid self.old (map (raised (bins.levels - 1)) (drop bins.start bins.list.now))
             × (0 < self.old.len → 0 < bins.levels) }
-        requires bins { AreBins bins × (bins_of bins
-            ≡ onto was.now (map (raised bins.levels) (drop bins.start bins.list.now))) }
-        requires few { (last.now.closed < length bins.list.now) × (length bins.list.now ≤ LIST)
-            × IsZero window.old }
-        requires before { AllByRecursion (λ e. e.index < last.now.bin.index)
-            (map (raised bins.levels) (take last.now.closed bins.list.now)) }
-        requires here { AllByRecursion (λ e. e.index ≡ last.now.bin.index)
-            (map (raised bins.levels) (drop last.now.closed bins.list.now)) }
-        ensures grid { IsGrid self.new (map (raised bins.entry.levels) (take last.now.closed bins.entry.list.now)) }
-        ensures dense { (self.new.len ≤ 8 * length (merged_all
-            (map (raised bins.entry.levels) (take last.now.closed bins.entry.list.now)))) × IsZero window.new }
+        requires bins { bins_of bins ≡ onto was.now (map (raised bins.levels) (drop bins.start bins.list.now)) }
+        requires cut { IsCut (bins_of bins) last.now.closed last.now.bin × (length bins.list.now ≤ LIST) }
+        ensures grid { IsGrid self.new (take last.now.closed (bins_of bins.entry)) }
+        ensures dense { self.new.len ≤ 8 * length (merged_all (take last.now.closed (bins_of bins.entry))) }
     {
         if self.len > 0 {
             self.raise(was, window);
@@ -403,12 +395,10 @@ impl Grid {
     /// Makes one place of two, and adds the open bin, as far back as it is. Where there is no room for it, all bins are
     /// taken out.
     #[tactic(auto, using(crate::proofs::Places::sound))]
-    fn raise(&mut self, was: &Option<Entry>, window: &mut [u16; PLACES])
+    fn raise(&mut self, was: &Option<Entry>, window: &mut Window)
         requires stands { ∥ ((es : List Entry) × Stands self.old es) ∥₁ × (0 < self.old.len) }
-        requires zeros { IsZero window.old }
-        ensures grid { (es : List Entry) → Stands self.old es
+        ensures { (es : List Entry) → Stands self.old es
             → IsGrid self.new (onto was.now (map (raised 1) es)) }
-        ensures zeros { IsZero window.new }
     {
         let base = self.base / 2;
         let first = match was {
@@ -463,26 +453,25 @@ impl Grid {
         &self,
         sums: &mut [u128; MOST_LAGS],
         paired: &mut Pairings,
-        window: &mut [u16; PLACES],
+        window: &mut Window,
         range: LagRange,
         bins: Bins,
     )
-        requires bins { AreBins bins × IsGrid self.now (drop bins.start (bins_of bins))
-            × (0 < self.now.len) × FewFirsts (take bins.start (bins_of bins)) }
-        requires zeros { IsZero window.old × ((p : ℕ) → slice_index sums.old p ≡ 0) }
-        ensures sums { ArePaired range bins.entry.start sums.old sums.new (bins_of bins.entry) }
+        requires { IsGrid self.now (drop bins.start (bins_of bins)) × (0 < self.now.len)
+            × FewFirsts (take bins.start (bins_of bins)) }
+        ensures sums { HavePairs range bins.entry.start sums.new (bins_of bins.entry) }
         ensures noted { Notes paired.old paired.new (counted self.now (bins_paired bins.entry)) 0 }
-        ensures zeros { IsZero window.new }
     {
-        window[TOP..TOP + self.len].copy_from_slice(&self.firsts[..self.len]);
+        let places = &mut window.places;
+        places[TOP..TOP + self.len].copy_from_slice(&self.firsts[..self.len]);
         put_firsts(
-            &mut window[..TOP + self.len],
+            &mut places[..TOP + self.len],
             self.base,
             &bins.list[..bins.start],
             bins.levels,
         );
-        self.put_dots(sums, paired, window, range);
-        clear_window(window, self.len as u64 - 1);
+        self.put_dots(sums, paired, places, range);
+        clear_window(places, self.len as u64 - 1);
     }
 
     /// As how many the bins of a list count, which are so many: where they are in a grid, a quarter as many as that has

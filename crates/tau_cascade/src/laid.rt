@@ -1,8 +1,8 @@
 // Pairs of bins that are laid close together: a bin further from the one before it than the lags reach is laid
 // just out of reach, so that all have places in a short window.
-ghost use Rattle.std.{specs.Prelude.{◌≡◌, ℕ, ◌+◌, ◌-◌, ◌*◌, ◌/◌, ◌%◌, ◌^◌, ◌<◌, ◌≤◌, ◌==◌, true, length, map, min, slice_index, sum_by, take, drop, ◌++◌, if◌then◌else◌}, specs.List.AllByRecursion};
-ghost use Rattle.lag_ring.{specs.declared.window.Side.TheVariants.Second, specs.Bytes.{product_at, IsLight}};
-ghost use Rattle.tau_cascade.{specs.Dense.{bins_of, AreBins, laid, placed, IsLaid, IsZero, HavePaired, AreWithin, HaveRoom}, specs.Bins.{IsSpaced, raised}};
+ghost use Rattle.std.specs.{Prelude.{◌≡◌, ℕ, ◌+◌, ◌-◌, ◌*◌, ◌/◌, ◌%◌, ◌^◌, ◌<◌, ◌≤◌, ◌==◌, true, length, map, min, slice_index, sum_by, take, drop, ◌++◌, if◌then◌else◌}, List.AllByRecursion};
+ghost use Rattle.{lag_ring.specs.{declared.window.Side.TheVariants.Second, Bytes.{product_at, IsLight}}, tau_cascade.specs.Dense.{bins_of, laid, placed, IsLaid, IsZero, FitLanes, HavePlaces}};
+ghost use Rattle.tau_cascade.specs.{Dense.{HavePaired, AreWithin, HaveRoom}, Bins.{IsSpaced, raised}};
 
 use crate::bins::{Bins, LagRange, MOST_LAGS};
 use lag_ring::Entry;
@@ -22,6 +22,13 @@ pub(crate) const TOO_HEAVY: u64 = 2048;
 
 /// How many photons of one group are too many where products are summed in 16 bits.
 const NOT_LIGHT: u64 = 32;
+
+/// Places for bins that are laid close together, or for two halves of a grid: between two uses all are empty.
+#[derive(Drop)]
+pub(crate) struct Window {
+    pub(crate) places: [u16; PLACES],
+    ghost empty: { IsZero places },
+}
 
 /// The last of bins that were laid, and what is known of all.
 #[derive(Clone, Copy)]
@@ -54,7 +61,7 @@ fn lay_one(window: &mut [u16; PLACES], was: Laying, bin: &Entry, levels: u32, re
     let index = bin.index >> levels;
     let place = was.place + (index - was.index).min(reach);
     let at = place as usize + TOP;
-    let all = u64::from(window[at]) + bin.a % (1 << 16);
+    let all = bin.a.wrapping_add(u64::from(window[at]));
     window[at] = (all % (1 << 16)) as u16;
     Laying {
         index,
@@ -63,21 +70,14 @@ fn lay_one(window: &mut [u16; PLACES], was: Laying, bin: &Entry, levels: u32, re
     }
 }
 
-/// Lays bins, so many levels up, one after the other, and puts their weights in the first group into the window. They
-/// are no further after the index `first` than the lags.
+/// Lays the bins before those that are paired, one after the other, and puts their weights in the first group into the
+/// window. They are no further after the index `first` than the lags.
 #[inline(always)]
-fn lay_before(
-    window: &mut [u16; PLACES],
-    first: u64,
-    bins: &[Entry],
-    levels: u32,
-    lags: u32,
-) -> Laying
-    requires sorted { IsSpaced 0 (map (raised levels) bins.now) }
-    requires near { AllByRecursion (λ e. first ≤ e.index) (map (raised levels) bins.now)
-        × AllByRecursion (λ e. e.index ≤ first + lags) (map (raised levels) bins.now) }
-    requires lags { (lags ≤ MOST_LAGS) × (levels < 64) × IsZero window.old }
-    ensures { IsLaid window.new (lags + 1) first result (map (raised levels) bins.now) }
+fn lay_before(window: &mut [u16; PLACES], first: u64, bins: Bins, lags: u32) -> Laying
+    requires near { AllByRecursion (λ e. first ≤ e.index) (take bins.start (bins_of bins))
+        × AllByRecursion (λ e. e.index ≤ first + lags) (take bins.start (bins_of bins)) }
+    requires lags { (lags ≤ MOST_LAGS) × IsZero window.old }
+    ensures { IsLaid window.new (lags + 1) first result (take bins.entry.start (bins_of bins.entry)) }
 {
     let reach = u64::from(lags) + 1;
     let mut laying = Laying {
@@ -85,8 +85,9 @@ fn lay_before(
         place: 0,
         heaviest: 0,
     };
-    for bin in bins {
-        laying = lay_one(window, laying, bin, levels, reach);
+    let before = &bins.list[..bins.start];
+    for bin in before {
+        laying = lay_one(window, laying, bin, bins.levels, reach);
     }
     laying
 }
@@ -101,7 +102,7 @@ fn lay_all(
     bins: Bins,
     lags: u32,
 ) -> Laying
-    requires bins { AreBins bins × (length bins.list.now ≤ bins.start + CLOSE_PART) × (lags ≤ MOST_LAGS) }
+    requires few { (length bins.list.now ≤ bins.start + CLOSE_PART) × (lags ≤ MOST_LAGS) }
     requires near { AllByRecursion (λ e. first ≤ e.index) (bins_of bins)
         × AllByRecursion (λ e. e.index ≤ first + lags) (take bins.start (bins_of bins)) }
     requires zeros { IsZero window.old × ((i : ℕ) → slice_index places.old i ≡ 0) }
@@ -113,7 +114,7 @@ fn lay_all(
         × (result.place + TOP < PLACES) }
 {
     let reach = u64::from(lags) + 1;
-    let mut laying = lay_before(window, first, &bins.list[..bins.start], bins.levels, lags);
+    let mut laying = lay_before(window, first, bins, lags);
     for i in bins.start..bins.list.len() {
         laying = lay_one(window, laying, &bins.list[i], bins.levels, reach);
         places[i - bins.start] = laying.place as u16;
@@ -170,9 +171,7 @@ fn sum_light<const N: usize>(
 ) -> [u16; N]
     requires light { ((p : ℕ) → p < PLACES → slice_index window.now p ≤ NOT_LIGHT - 1)
         × IsLight (NOT_LIGHT - 1) list.now }
-    requires few { (length list.now ≤ CLOSE_PART) × (length list.now ≤ length places.now) }
-    requires room { (from ≤ PLACES)
-        × ((i : ℕ) → slice_index places.now i + from + N ≤ PLACES) }
+    requires places { HavePlaces (length list.now) from N places.now × (length list.now ≤ CLOSE_PART) }
     ensures { (q : ℕ) → q < N → slice_index result q ≡ sum_by
         (product_at Second window.now 0 (from + q)) (placed list.now places.now) }
 {
@@ -197,9 +196,7 @@ fn sum_heavy<const N: usize>(
 )
     requires light { ((p : ℕ) → p < PLACES → slice_index window.now p ≤ TOO_HEAVY - 1)
         × IsLight (TOO_HEAVY - 1) list.now }
-    requires few { HaveRoom N (length list.now) sums.old × (length list.now ≤ length places.now) }
-    requires room { (from ≤ PLACES)
-        × ((i : ℕ) → slice_index places.now i + from + N ≤ PLACES) }
+    requires places { HavePlaces (length list.now) from N places.now × HaveRoom N (length list.now) sums.old }
     ensures { (q : ℕ) → q < N → slice_index sums.new q ≡ slice_index sums.old q
         + sum_by (product_at Second window.now 0 (from + q)) (placed list.now places.now) }
 {
@@ -222,9 +219,8 @@ fn sum_laid<const N: usize>(
 )
     requires light { (heaviest < TOO_HEAVY) × IsLight heaviest list.now
         × ((p : ℕ) → p < PLACES → slice_index window.now p ≤ heaviest) }
-    requires few { HaveRoom N (length list.now) sums.old × (length list.now ≤ CLOSE_PART)
-        × (length list.now ≤ length places.now) }
-    requires room { (i : ℕ) → slice_index places.now i + from + N ≤ PLACES }
+    requires places { HavePlaces (length list.now) from N places.now × HaveRoom N (length list.now) sums.old
+        × (length list.now ≤ CLOSE_PART) }
     ensures sums { (q : ℕ) → q < N → slice_index sums.new q ≡ slice_index sums.old q
         + sum_by (product_at Second window.now 0 (from + q)) (placed list.now places.now) }
     ensures within { AreWithin N (length list.now) sums.old sums.new }
@@ -237,13 +233,13 @@ fn sum_laid<const N: usize>(
     }
 }
 
-/// Whether no two bins, so many levels up, are in reach of one another.
+/// Whether no two bins are in reach of one another.
 #[inline(always)]
 #[tactic(auto, using(crate::proofs::Passes::spaced_one))]
-fn is_apart(list: &[Entry], levels: u32, lags: u32) -> bool
-    requires { levels < 64 }
-    ensures { result ≡ true → IsSpaced (lags + 1) (map (raised levels) list.now) }
+fn is_apart(bins: Bins, lags: u32) -> bool
+    ensures { result ≡ true → IsSpaced (lags + 1) (bins_of bins.entry) }
 {
+    let Bins { list, levels, .. } = bins;
     for at in 1..list.len() {
         let apart = (list[at].index >> levels).saturating_sub(list[at - 1].index >> levels);
         if apart <= u64::from(lags) {
@@ -263,15 +259,13 @@ pub(crate) fn sum_part<const N: usize>(
     range: LagRange,
     bins: Bins,
 ) -> bool
-    requires lags { (range.last - range.skipped ≤ N) × (N ≤ 64) }
-    requires bins { AreBins bins × (bins.start < length bins.list.now)
-        × (length bins.list.now - bins.start ≤ CLOSE_PART) }
-    requires room { IsZero window.old × HaveRoom N (length bins.list.now - bins.start) sums.old }
+    requires few { (bins.start < length bins.list.now) × (length bins.list.now - bins.start ≤ CLOSE_PART) }
+    requires room { FitLanes N range × HaveRoom N (length bins.list.now - bins.start) sums.old × IsZero window.old }
     ensures sums { result ≡ true → HavePaired N range sums.old sums.new bins.entry.start (bins_of bins.entry) }
     ensures within { AreWithin N (length bins.entry.list.now - bins.entry.start) sums.old sums.new }
-    ensures zeros { IsZero window.new }
+    ensures empty { IsZero window.new }
 {
-    if is_apart(bins.list, bins.levels, range.last) {
+    if is_apart(bins, range.last) {
         return true;
     }
     let first = bins.list[0].index >> bins.levels;

@@ -1,8 +1,8 @@
 // One level: its open bin, the ring of its last closed bins, and its cells.
-ghost use Rattle.std.{specs.Prelude.{true, false, ◌≡◌, ◌+◌, ◌-◌, ◌*◌, ◌^◌, ◌<◌, ◌≤◌, filter, length, nat_le, take, drop, [], ◌++◌, IfOk, map}, specs.List.AllByRecursion};
-ghost use Rattle.lag_ring.specs.Ring.{IsRising, ring as ring_of};
-ghost use Rattle.tally_base.{specs.Settings.correlation_view, specs.Tally.History};
-ghost use Rattle.tau_cascade.{specs.Correlation.skipped_lags, specs.Bins.{raised, merged_at, merged_all, kept_of, FitCounts, IsSpaced, AreAlike, ComeAlike}, specs.Dense.{bins_of, AreBins, IsZero}, specs.Grid.{IsEmpty, IsGrid, FewFirsts, CanClose, counted, kept_and}, specs.Opens.{IsComing, coming_bins, closed_bins}, specs.Comes.{HasCome, IsClosing}};
+ghost use Rattle.std.specs.{Prelude.{true, false, ◌≡◌, ◌+◌, ◌-◌, ◌*◌, ◌^◌, ◌<◌, ◌≤◌, filter, length, nat_le, take, drop, [], ◌++◌, IfOk, map}, List.AllByRecursion};
+ghost use Rattle.{lag_ring.specs.Ring.{IsRising, ring as ring_of}, tally_base.specs.{Settings.correlation_view, Tally.History}, tau_cascade.specs.{Correlation.skipped_lags, Bins.{raised, merged_at}}};
+ghost use Rattle.tau_cascade.specs.{Bins.{merged_all, kept_of, FitCounts, IsSpaced, AreAlike, ComeAlike}, Dense.bins_of, Grid.{IsEmpty, IsGrid, FewFirsts, CanClose, counted, kept_and}};
+ghost use Rattle.tau_cascade.specs.{Opens.{IsComing, coming_bins, closed_bins}, Comes.{HasCome, GoesOn, IsClosing}};
 
 use crate::bins::{
     Bins, FIRST_PLACE, Gaps, LEVELS, LIST, LagRange, apart_all, copy_into, cut_last, first_kept,
@@ -186,10 +186,8 @@ impl Level {
         scratch: &mut Scratch,
         steps: &mut Steps<L>,
     )
-        requires list { AreBins bins × (take bins.start (bins_of bins) ≡ self.old.ring.entries)
-            × (0 < bins.apart → IsSpaced bins.apart bins.list.now) }
-        requires room { (bins.start < length bins.list.now) × (length bins.list.now ≤ LIST)
-            × IsZero scratch.old.window }
+        requires ring { take bins.start (bins_of bins) ≡ self.old.ring.entries }
+        requires room { (bins.start < length bins.list.now) × (length bins.list.now ≤ LIST) }
         requires grid { IsGrid scratch.old.grid (drop bins.start (bins_of bins))
             × (0 < scratch.old.grid.len → FewFirsts self.old.ring.entries) }
         requires stands { ∥ ((closed : History) × (xs : History) × CanShutAll
@@ -199,7 +197,7 @@ impl Level {
             ≤ 2 * length (merged_at bins.start bins.levels bins.list.now) }
         ensures shuts { Shuts (correlation_view set.now) level self.old self.new
             (merged_at bins.entry.start bins.entry.levels bins.entry.list.now) }
-        ensures others { IsZero scratch.new.window × (scratch.new.grid ≡ scratch.old.grid)
+        ensures others { (scratch.new.grid ≡ scratch.old.grid)
             × (steps.new + self.old.cells.added ≡ steps.old + self.new.cells.added) }
     {
         let Bins { list, levels, .. } = bins;
@@ -242,8 +240,7 @@ impl Level {
             shut open' xs) ∥₁ }
         ensures follows { Takes (correlation_view set.now) came.level self.old self.new
             (coming_bins came list.old) (closed_bins result list.new) }
-        ensures comes { HasCome list.new result scratch.new × (0 < result.levels) × (result.level ≡ came.level + 1) }
-        ensures steps { steps.new + self.old.cells.added ≡ steps.old + self.new.cells.added }
+        ensures goes { GoesOn came.level self.old.cells self.new.cells steps.old steps.new list.new result scratch.new }
     {
         let levels = came.levels;
         let first = came.from;
@@ -252,16 +249,16 @@ impl Level {
         let _first = list[first].index;
         let from = lower_open(&self.open, list, first, levels);
         let apart = apart_all(&list[from..first + 1], came.apart, levels, set.lags);
-        let last = cut_last(&list[from..end], levels);
+        let bins = Bins {
+            list: &list[from..end],
+            start: first - from,
+            levels,
+            apart: 0,
+        };
+        let last = cut_last(bins);
         // Bins after a heavy ring go into no grid, so that they may be merged.
         let dense = scratch.grid.is_on() || came.level < DENSE_LEVELS;
         if dense && self.has_light_ring() {
-            let bins = Bins {
-                list: &list[from..end],
-                start: first - from,
-                levels,
-                apart,
-            };
             let window = &mut scratch.window;
             scratch.grid.follow(&self.open, bins, &last, window);
         } else {
@@ -291,9 +288,8 @@ impl Level {
         steps: &mut Steps<L>,
     ) -> Coming
         requires comes { IsClosing closing list.old × CanClose scratch.old.grid (coming_bins closing list.old) }
-        requires room { IsZero scratch.old.window
-            × (length self.old.ring.entries ≤ closing.from)
-            × AllByRecursion (λ e. e.index * 2 ^ closing.levels < 2 ^ 64) self.old.ring.entries }
+        requires room { (length self.old.ring.entries ≤ closing.from)
+            × (0 < closing.levels → AllByRecursion (λ e. e.index * 2 ^ closing.levels < 2 ^ 64) self.old.ring.entries) }
         requires bins { IsSpaced 0 (self.old.ring.entries ++ coming_bins closing list.old)
             × (0 < scratch.old.grid.len → FewFirsts self.old.ring.entries) }
         requires stands { ∥ ((shut : History) × (xs : History) × CanShutAll
@@ -301,10 +297,8 @@ impl Level {
             (merged_all (coming_bins closing list.old)) shut xs) ∥₁ }
         ensures shuts { Shuts (correlation_view set.now) closing.level self.old self.new
             (merged_all (coming_bins closing list.old)) }
-        ensures comes { HasCome list.new result scratch.new × (0 < result.levels)
-            × (result.level ≡ closing.level + 1)
-            × ComeAlike (coming_bins closing list.old) (closed_bins result list.new) }
-        ensures steps { steps.new + self.old.cells.added ≡ steps.old + self.new.cells.added }
+        ensures alike { ComeAlike (coming_bins closing list.old) (closed_bins result list.new) }
+        ensures goes { GoesOn closing.level self.old.cells self.new.cells steps.old steps.new list.new result scratch.new }
     {
         if closing.count == 0 {
             return Coming {
@@ -340,38 +334,23 @@ impl Level {
         scratch: &mut Scratch,
         steps: &mut Steps<L>,
     ) -> Coming
-        requires room { (length list.old ≡ LIST) × (level < LEVELS) × IsZero scratch.old.window × IsEmpty scratch.old.grid }
+        requires room { (length list.old ≡ LIST) × (level < LEVELS) × IsEmpty scratch.old.grid }
         requires stands { ∥ ((closed : History) × (open' : History)
             × CanTake (correlation_view set.now) level self.old [] closed open' []) ∥₁ }
         ensures follows { Ends (correlation_view set.now) level self.old self.new (closed_bins result list.new) }
-        ensures comes { HasCome list.new result scratch.new × (0 < result.levels) × (result.level ≡ level + 1) }
-        ensures steps { steps.new + self.old.cells.added ≡ steps.old + self.new.cells.added }
+        ensures goes { GoesOn level self.old.cells self.new.cells steps.old steps.new list.new result scratch.new }
     {
-        let none = Coming {
+        let from = lower_open(&self.open, list, FIRST_PLACE, 0);
+        self.open = None;
+        let one = Coming {
             level,
-            from: FIRST_PLACE,
-            count: 0,
+            from,
+            count: FIRST_PLACE - from,
             levels: 0,
             apart: 0,
             gaps: Gaps::unknown(),
-            most: 0,
+            most: heaviest_of(&list[from..FIRST_PLACE]),
         };
-        match self.open {
-            Some(last) => {
-                list[FIRST_PLACE] = last;
-                self.open = None;
-                let one = Coming {
-                    count: 1,
-                    most: last.a | last.b,
-                    ..none
-                };
-                self.close(set, list, one, scratch, steps)
-            }
-            None => Coming {
-                level: level + 1,
-                levels: 1,
-                ..none
-            },
-        }
+        self.close(set, list, one, scratch, steps)
     }
 }

@@ -1,10 +1,11 @@
 // Pairs of bins with those before them.
-ghost use Rattle.std.{specs.Prelude.{◌≡◌, true, false, ℕ, ◌+◌, ◌-◌, ◌*◌, ◌^◌, ◌<◌, ◌≤◌, length, nat_le, map, take, drop, slice_index, if◌then◌else◌}, specs.List.{AllByRecursion}};
-ghost use Rattle.lag_ring.specs.Cells.{Spends};
-ghost use Rattle.tau_cascade.{specs.Levels.weight_before, specs.Dense.{bins_of, bins_paired, AreBins, FitPairs, Notes, NotesOnce, ArePaired, PairsIfClose, AddsAtMost, IsZero, HavePaired, AreWithin, HaveRoom}, specs.Bins.{IsSpaced, raised}, specs.Grid.{IsGrid, FewFirsts, counted}};
+ghost use Rattle.std.specs.{Prelude.{◌≡◌, true, ℕ, ◌+◌, ◌-◌, ◌*◌, ◌^◌, ◌<◌, ◌≤◌, length, map, take, drop, slice_index}, List.AllByRecursion};
+ghost use Rattle.{lag_ring.specs.Cells.Spends, tau_cascade.specs.{Levels.weight_before, Dense.{bins_of, bins_paired, FitPairs, FitLanes, Notes, NotesOnce, ArePaired, HavePairs, PairsIfClose}}};
+ghost use Rattle.tau_cascade.specs.{Dense.{AddsAtMost, HavePaired}, Bins.raised, Grid.{IsGrid, FewFirsts, counted}};
 
 use crate::bins::{Bins, LagRange, MOST_LAGS, first_kept};
-use crate::laid::{CLOSE_PART, PLACES, sum_part};
+use crate::grid::Grid;
+use crate::laid::{CLOSE_PART, Window, sum_part};
 use crate::scratch::Scratch;
 use lag_ring::{Entry, PairCells, Pairings};
 use std::sync::ledger::Ledger;
@@ -13,29 +14,30 @@ use tally_base::Steps;
 /// How many bins at most have sums that fit.
 const CLOSE_LIST: usize = 1024;
 
-/// The place, at most `at`, of the first of the bins, so many levels up, that is no more than `lags` before the index.
+/// The place, at most `at`, of the first of the bins that is no more than `lags` before the index.
 #[inline(always)]
-fn first_in_reach(bins: &[Entry], at: usize, index: u64, levels: u32, lags: u32) -> usize
-    requires place { (at ≤ length bins.now) × (levels < 64) }
-    requires sorted { IsSpaced 0 (map (raised levels) bins.now) }
+fn first_in_reach(bins: Bins, at: usize, index: u64, lags: u32) -> usize
+    requires { at ≤ length bins.list.now }
     ensures place { result ≤ at }
-    ensures far { AllByRecursion (λ e. e.index + lags < index) (take result (map (raised levels) bins.now)) }
+    ensures far { AllByRecursion (λ e. e.index + lags < index) (take result (bins_of bins.entry)) }
 {
-    first_kept(&bins[..at], levels, index.saturating_sub(u64::from(lags)))
+    first_kept(
+        &bins.list[..at],
+        bins.levels,
+        index.saturating_sub(u64::from(lags)),
+    )
 }
 
 /// Adds the pairs of a list to sums, part by part, as `sum_part` does; where the range has no lags, there is nothing to do.
 fn sum_parts<const N: usize>(
     sums: &mut [u32; N],
-    window: &mut [u16; PLACES],
+    window: &mut Window,
     range: LagRange,
     bins: Bins,
 ) -> bool
-    requires lags { (range.last - range.skipped ≤ N) × (N ≤ 64) }
-    requires bins { AreBins bins × (length bins.list.now - bins.start ≤ CLOSE_LIST) }
-    requires zeros { IsZero window.old × ((q : ℕ) → q < N → slice_index sums.old q ≡ 0) }
-    ensures sums { result ≡ true → HavePaired N range sums.old sums.new bins.entry.start (bins_of bins.entry) }
-    ensures zeros { IsZero window.new }
+    requires few { length bins.list.now - bins.start ≤ CLOSE_LIST }
+    requires zeros { FitLanes N range × ((q : ℕ) → q < N → slice_index sums.old q ≡ 0) }
+    ensures { result ≡ true → HavePaired N range sums.old sums.new bins.entry.start (bins_of bins.entry) }
 {
     if range.skipped == range.last {
         return true;
@@ -44,13 +46,14 @@ fn sum_parts<const N: usize>(
     'parts: while at < bins.list.len() {
         let end = bins.list.len().min(at + CLOSE_PART);
         let index = bins.list[at].index >> bins.levels;
-        let near = first_in_reach(bins.list, at, index, bins.levels, range.last);
+        let near = first_in_reach(bins, at, index, range.last);
         let part = Bins {
             list: &bins.list[near..end],
             start: at - near,
-            ..bins
+            levels: bins.levels,
+            apart: 0,
         };
-        if !sum_part(sums, window, range, part) {
+        if !sum_part(sums, &mut window.places, range, part) {
             return false;
         }
         at = end;
@@ -78,14 +81,12 @@ fn turn(sums: &mut [u128; MOST_LAGS], at: u32, count: u32, close: &[u32])
 fn sum_close<const N: usize>(
     sums: &mut [u128; MOST_LAGS],
     paired: &mut Pairings,
-    window: &mut [u16; PLACES],
+    window: &mut Window,
     range: LagRange,
     bins: Bins,
 ) -> bool
-    requires lags { (range.last - range.skipped ≤ 2 * N) × (N ≤ 64) }
-    requires bins { AreBins bins × IsZero window.old × ((p : ℕ) → slice_index sums.old p ≡ 0) }
-    ensures sums { PairsIfClose range bins.entry sums.old sums.new paired.old paired.new result }
-    ensures zeros { IsZero window.new }
+    requires { (range.last - range.skipped ≤ 2 * N) × (N ≤ 64) }
+    ensures { PairsIfClose range bins.entry sums.old sums.new paired.old paired.new result }
 {
     let count = bins.list.len() - bins.start;
     if count > CLOSE_LIST {
@@ -128,13 +129,11 @@ fn sum_close<const N: usize>(
 fn sum_lanes(
     sums: &mut [u128; MOST_LAGS],
     paired: &mut Pairings,
-    window: &mut [u16; PLACES],
+    window: &mut Window,
     range: LagRange,
     bins: Bins,
 ) -> bool
-    requires bins { AreBins bins × IsZero window.old × ((p : ℕ) → slice_index sums.old p ≡ 0) }
-    ensures sums { PairsIfClose range bins.entry sums.old sums.new paired.old paired.new result }
-    ensures zeros { IsZero window.new }
+    ensures { PairsIfClose range bins.entry sums.old sums.new paired.old paired.new result }
 {
     match range.last - range.skipped {
         0..=8 => sum_close::<8>(sums, paired, window, range, bins),
@@ -171,7 +170,7 @@ fn sum_one(
 
 /// Adds the pairs of bins with those before them to sums as those of `sum_one`, and notes how many they are.
 fn sum_each(sums: &mut [u128; MOST_LAGS], paired: &mut Pairings, range: LagRange, bins: Bins)
-    requires bins { AreBins bins × FitPairs range bins sums.old }
+    requires { FitPairs range bins sums.old }
     ensures sums { ArePaired range bins.entry.start sums.old sums.new (bins_of bins.entry) }
     ensures noted { Notes paired.old paired.new (bins_paired bins.entry) 0 }
 {
@@ -179,7 +178,7 @@ fn sum_each(sums: &mut [u128; MOST_LAGS], paired: &mut Pairings, range: LagRange
     for at in bins.start..bins.list.len() {
         let bin = bins.list[at];
         let index = bin.index >> bins.levels;
-        let near = first_in_reach(bins.list, at, index, bins.levels, range.last);
+        let near = first_in_reach(bins, at, index, range.last);
         sum_one(sums, range, &bins.list[near..at], bins.levels, index, bin.b);
     }
 }
@@ -206,20 +205,19 @@ fn add_each<L: Ledger>(cells: &mut PairCells, count: u32, sums: &[u128], steps: 
 fn sum_all(
     sums: &mut [u128; MOST_LAGS],
     paired: &mut Pairings,
-    scratch: &mut Scratch,
+    window: &mut Window,
+    grid: &Grid,
     range: LagRange,
     bins: Bins,
 )
-    requires bins { AreBins bins × FitPairs range bins sums.old × IsZero scratch.old.window × ((p : ℕ) → slice_index sums.old p ≡ 0) }
-    requires grid { IsGrid scratch.old.grid (drop bins.start (bins_of bins))
-        × (0 < scratch.old.grid.len → FewFirsts (take bins.start (bins_of bins))) }
-    ensures sums { ArePaired range bins.entry.start sums.old sums.new (bins_of bins.entry) }
-    ensures noted { NotesOnce paired.old paired.new (counted scratch.old.grid (bins_paired bins.entry)) }
-    ensures scratch { IsZero scratch.new.window × (scratch.new.grid ≡ scratch.old.grid) }
+    requires zeros { FitPairs range bins sums.old × ((p : ℕ) → slice_index sums.old p ≡ 0) }
+    requires grid { IsGrid grid.now (drop bins.start (bins_of bins))
+        × (0 < grid.now.len → FewFirsts (take bins.start (bins_of bins))) }
+    ensures sums { HavePairs range bins.entry.start sums.new (bins_of bins.entry) }
+    ensures noted { NotesOnce paired.old paired.new (counted grid.now (bins_paired bins.entry)) }
 {
-    let window = &mut scratch.window;
-    if scratch.grid.is_on() {
-        scratch.grid.sum(sums, paired, window, range, bins);
+    if grid.is_on() {
+        grid.sum(sums, paired, window, range, bins);
         return;
     }
     if sum_lanes(sums, paired, window, range, bins) {
@@ -239,15 +237,14 @@ pub(crate) fn pair_all<L: Ledger>(
     steps: &mut Steps<L>,
 )
     requires lags { length cells.old.cells ≡ range.last - range.skipped }
-    requires bins { AreBins bins × FitPairs range bins cells.old.cells × IsZero scratch.old.window
-        × (0 < bins.apart → IsSpaced bins.apart bins.list.now) }
+    requires fits { FitPairs range bins cells.old.cells }
     requires grid { IsGrid scratch.old.grid (drop bins.start (bins_of bins))
         × (0 < scratch.old.grid.len → FewFirsts (take bins.start (bins_of bins))) }
     ensures cells { ArePaired range bins.entry.start cells.old.cells cells.new.cells (bins_of bins.entry) }
     ensures noted { NotesOnce paired.old paired.new (counted scratch.old.grid (bins_paired bins.entry)) }
     ensures spends { Spends cells.old cells.new steps.old steps.new (range.last - range.skipped)
         × AddsAtMost 1 cells.old cells.new }
-    ensures scratch { IsZero scratch.new.window × (scratch.new.grid ≡ scratch.old.grid) }
+    ensures grid { scratch.new.grid ≡ scratch.old.grid }
 {
     let Bins { apart, levels, .. } = bins;
     if apart >> levels > u64::from(range.last) {
@@ -255,6 +252,7 @@ pub(crate) fn pair_all<L: Ledger>(
         return;
     }
     let mut sums = [0; MOST_LAGS];
-    sum_all(&mut sums, paired, scratch, range, bins);
+    let window = &mut scratch.window;
+    sum_all(&mut sums, paired, window, &scratch.grid, range, bins);
     add_each(cells, range.last - range.skipped, &sums, steps);
 }

@@ -1,9 +1,9 @@
 // What the levels need of room for the bins of one call.
-ghost use Rattle.tau_cascade.specs.{Dense.IsZero, Grid.IsEmpty};
+ghost use Rattle.tau_cascade.specs.Grid.{IsEmpty};
 
 use crate::bins::{LIST, NO_BIN};
 use crate::grid::Grid;
-use crate::laid::PLACES;
+use crate::laid::{PLACES, Window};
 use lag_ring::Entry;
 
 /// Room for bins, beside their list.
@@ -11,8 +11,8 @@ use lag_ring::Entry;
 pub(crate) struct Scratch {
     /// Bins on their way into a ring.
     pub(crate) spare: [Entry; LIST],
-    /// The places of bins that are laid close together: between two uses all are empty.
-    pub(crate) window: [u16; PLACES],
+    /// Places for bins that are laid close together.
+    pub(crate) window: Window,
     /// The weights of bins by index, where they are dense.
     pub(crate) grid: Grid,
 }
@@ -21,11 +21,13 @@ impl Scratch {
     /// Room in which nothing is.
     #[inline(always)]
     pub(crate) fn empty() -> Scratch
-        ensures { IsZero result.window × IsEmpty result.grid }
+        ensures { IsEmpty result.grid }
     {
         Scratch {
             spare: [NO_BIN; LIST],
-            window: [0; PLACES],
+            window: Window {
+                places: [0; PLACES],
+            },
             grid: Grid::empty(),
         }
     }

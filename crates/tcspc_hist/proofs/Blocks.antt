@@ -1,8 +1,10 @@
 -- The counts over the rows of a block.
-use Rattle.std.{proofs.Common.{◌≡◌, ◌∙◌, ℕ, zero, suc, ◌+◌, ◌<◌, ◌≤◌, Bool, true, false, ◌&&◌, cond, ◌++◌, List, [], ◌∷◌, length, take, drop, map, filter, get_or, count_by, ap, sym, subst, refl, arith, nat_lt, if◌then◌else◌, rules}, specs.List.{range_with_len}, proofs.lemmas.Grind.{take_at_read}, proofs.Math.Seq.{take-append-add}, proofs.lemmas.List.{map-append, length-take-le, take-append-le}, proofs.lemmas.List.Sums.{sum_by-append, sum_by_push}}
-use Rattle.tally_base.{specs.declared.event.Event.Event, specs.declared.event.EventKind.TheVariants.{Photon, Marker}, specs.Events.is_in, specs.Codes.dtime_in, specs.Settings.HistView, specs.Tally.History, specs.Columns.{rows, item, mark_at, code_at, dtime_at, groups_at}, specs.declared.block.Block.Block, proofs.BlockRows.more_rows}
-use Rattle.lane_decode.proofs.Chosen.{place-more}
-use Rattle.tcspc_hist.{specs.HistogramCounts.{count_dtimes, dtime_passes}, specs.Picked.{has_photon, photon_marks}}
+use Rattle.std.proofs.Common.{◌≡◌, ◌∙◌, ℕ, zero, suc, ◌+◌, ◌<◌, ◌≤◌, Bool, true, false, ◌&&◌, cond, ◌++◌, List, [], ◌∷◌, length, take, drop, map, filter}
+use Rattle.std.proofs.{Common.{get_or, count_by, ap, sym, subst, refl, arith, nat_lt, if◌then◌else◌, rules}, lemmas.{Grind.take_at_read, List.map-append}}
+use Rattle.std.{proofs.{lemmas.List.{length-take-le, take-append-le, Sums.{sum_by-append, sum_by_push}}, Math.Seq.take-append-add}, specs.List.range_with_len}
+use Rattle.tally_base.specs.{declared.{event.{Event.Event, EventKind.TheVariants.{Photon, Marker}}, block.Block.Block}, Events.is_in, Codes.dtime_in}
+use Rattle.tally_base.{specs.{Settings.HistView, Tally.History, Columns.{rows, item, mark_at, code_at, dtime_at, groups_at}}, proofs.BlockRows.more_rows}
+use Rattle.{lane_decode.proofs.Chosen.place-more, tcspc_hist.specs.{HistogramCounts.{count_dtimes, dtime_passes}, Picked.{has_photon, photon_marks}}}
 
 none_either : (b : Bool) → ◌≡◌ {A = ℕ} 0 (if b then 0 else 0)
 none_either true = refl

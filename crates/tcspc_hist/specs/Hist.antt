@@ -1,7 +1,8 @@
 -- What a histogram stands for, and what holds of every histogram.
 use Rattle.std.{specs.Prelude.{◌≡◌, ℕ, ◌<◌, false, slice_index, length, ◌≤◌, ◌+◌, ◌/◌, Bool, true, ◌&&◌, ◌==◌, nat_le, [], ◌∷◌, ◌++◌}, proofs.Common.{rules, ◌∙◌, refl}}
-use Rattle.tally_base.{specs.declared.settings.HistSet.HistSet, specs.Settings.{PartSettings, hist_view, entries}, specs.Settings.PartSettings.HistSettings, specs.Tally.{History, greatest_time}, specs.declared.event.Event.Event, specs.declared.event.EventKind.EventKind, specs.declared.event.EventKind.TheVariants.{Photon, Marker}, specs.Events.{is_photon, is_photon_kind, is_in}, proofs.Sorted.{same_length, same_greatest, same_count}}
-use Rattle.tcspc_hist.{specs.declared.hist.Hist.Hist, specs.HistogramCounts.{in_bin, count_over, count_dtimes, dtime_passes}}
+use Rattle.tally_base.specs.{declared.{settings.HistSet.HistSet, event.{Event.Event, EventKind.{EventKind, TheVariants.{Photon, Marker}}}}, Settings.{PartSettings, hist_view, entries}}
+use Rattle.tally_base.{specs.{Settings.PartSettings.HistSettings, Tally.{History, greatest_time}, Events.{is_photon, is_photon_kind, is_in}}, proofs.Sorted.{same_length, same_greatest, same_count}}
+use Rattle.tcspc_hist.specs.{declared.hist.Hist.Hist, HistogramCounts.{in_bin, count_over, count_dtimes, dtime_passes}}
 
 -- what it was opened with
 abbrev pub set_of : Hist → HistSet

@@ -1,6 +1,6 @@
 -- The counts of a histogram over the events that it is given.
 use Rattle.std.specs.Prelude.{ℕ, Bool, false, ◌&&◌, ◌==◌, nat_le, ◌/◌, count_by}
-use Rattle.tally_base.{specs.declared.event.EventKind.EventKind, specs.declared.event.EventKind.TheVariants.{Photon, Marker}, specs.Events.is_in, specs.Settings.HistView, specs.Tally.History}
+use Rattle.tally_base.specs.{declared.event.EventKind.{EventKind, TheVariants.{Photon, Marker}}, Events.is_in, Settings.HistView, Tally.History}
 
 -- the dtime of a photon passes the test; a marker has none
 abbrev pub dtime_passes : (ℕ → Bool) → EventKind → Bool

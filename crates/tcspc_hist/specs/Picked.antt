@@ -1,6 +1,6 @@
 -- The photons of a group in a block.
-use Rattle.std.{specs.Prelude.{ℕ, Bool, List, ◌&&◌, nat_lt, map}, specs.List.{filter, range_with_len}}
-use Rattle.tally_base.{specs.Events.is_in, specs.Columns.{groups_at, code_at, mark_at}, specs.declared.block.Block.Block}
+use Rattle.std.specs.{Prelude.{ℕ, Bool, List, ◌&&◌, nat_lt, map}, List.{filter, range_with_len}}
+use Rattle.tally_base.specs.{Events.is_in, Columns.{groups_at, code_at, mark_at}, declared.block.Block.Block}
 
 -- whether the event at a place is a photon of the group
 abbrev pub has_photon : ℕ → {N : ℕ} → Block N → ℕ → Bool

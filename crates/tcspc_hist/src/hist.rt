@@ -1,6 +1,6 @@
 // A histogram of photons by their dtimes.
 ghost use Rattle.std.specs.Prelude.{◌≡◌, ◌+◌, ◌*◌, ◌/◌, ◌^◌, ◌<◌, ◌≤◌, ℕ, vec_len, sum, length, slice_index, nat_le, ◌==◌, if◌then◌else◌, IfOk, [], false, count_by};
-ghost use Rattle.tally_base.{specs.Settings.{divisor_of, hist_view}, specs.Tally.History, specs.Limits.record_limit, specs.Columns.{gathered, events_in, IsSorted}, specs.Codes.dtime_in, specs.Settings.PartSettings.HistSettings};
+ghost use Rattle.tally_base.specs.{Settings.{divisor_of, hist_view, PartSettings.HistSettings}, Tally.History, Limits.record_limit, Columns.{gathered, events_in, IsSorted}, Codes.dtime_in};
 ghost use Rattle.tcspc_hist.specs.HistogramCounts.{in_bin, count_over};
 
 use crate::picking::pick;

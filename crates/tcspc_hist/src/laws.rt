@@ -1,7 +1,6 @@
 // Laws of the definitions, each as the contract of a function that does nothing.
 ghost use Rattle.std.specs.Prelude.{◌≡◌, ◌+◌};
-ghost use Rattle.tally_base.{specs.Settings.HistView, specs.Tally.{History, in_all_bins, photons_of_group}};
-ghost use Rattle.tcspc_hist.specs.HistogramCounts.{in_bin, count_over};
+ghost use Rattle.{tally_base.specs.{Settings.HistView, Tally.{History, in_all_bins, photons_of_group}}, tcspc_hist.specs.HistogramCounts.{in_bin, count_over}};
 
 /// Each photon of the group counts once, in a bin or past the last.
 pub fn each_photon_counts_once()

@@ -1,8 +1,6 @@
 // The photons of a group, picked from a block, eight events at a time.
 ghost use Rattle.std.specs.Prelude.{◌≡◌, ◌+◌, ◌*◌, ◌<◌, ◌≤◌, ◌++◌, ℕ, length, take, drop, slice_index};
-ghost use Rattle.tally_base.{specs.Columns.sorted, specs.Events.is_in};
-ghost use Rattle.lane_decode.specs.Staying.{has_bit};
-ghost use Rattle.tcspc_hist.specs.Picked.{photon_marks};
+ghost use Rattle.{tally_base.specs.{Columns.sorted, Events.is_in}, lane_decode.specs.Staying.has_bit, tcspc_hist.specs.Picked.photon_marks};
 
 use lane_decode::close;
 use std::simd::prelude::*;

@@ -1,8 +1,8 @@
 -- The first broken rule that is met is the least, and under it the least index.
-use Rattle.std.{proofs.Common.{◌≡◌, sym, ap, refl, ◌∙◌, ℕ, ◌+◌, ◌<◌, ◌≤◌, Bool, true, false, List, [], ◌∷◌, ◌++◌, ◌⊎◌, inl, inr, ⊎_elim, Result, Ok, Err, arith, rules, map}, proofs.lemmas.Result.IfErr-at_err}
-use Rattle.tally_base.{specs.declared.fault.Fault.Fault, specs.declared.fault.Fault.TheVariants.PlanRule, specs.Faults.is_outside}
-use Rattle.toml_rules.{specs.Rules.{Rule, BreaksAt, BreaksFirst, IsBroken, IsLeast, Names, AllHold, RiseFrom, or_next, held_from, kept, all_kept}, specs.Values.list_of}
-use Rattle.toml.{specs.View.{view, items_view}, specs.declared.value.Value.Value}
+use Rattle.std.proofs.Common.{◌≡◌, sym, ap, refl, ◌∙◌, ℕ, ◌+◌, ◌<◌, ◌≤◌, Bool, true, false, List, [], ◌∷◌, ◌++◌, ◌⊎◌, inl, inr, ⊎_elim, Result, Ok, Err, arith}
+use Rattle.{std.proofs.{Common.{rules, map}, lemmas.Result.IfErr-at_err}, tally_base.specs.declared.fault.Fault.{Fault, TheVariants.PlanRule}}
+use Rattle.{tally_base.specs.Faults.is_outside, toml_rules.specs.Rules.{Rule, BreaksAt, BreaksFirst, IsBroken, IsLeast, Names, AllHold, RiseFrom, or_next}}
+use Rattle.{toml_rules.specs.{Rules.{held_from, kept, all_kept}, Values.list_of}, toml.specs.{View.{view, items_view}, declared.value.Value.Value}}
 
 -- what is broken stands at the first index or after it
 breaks_from : (first : ℕ) (tests : List Bool) (at : ℕ) → BreaksAt first tests at → first ≤ at

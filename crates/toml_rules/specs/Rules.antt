@@ -1,6 +1,6 @@
 -- Rules in their order, and the place of the first one that is broken.
 use Rattle.std.specs.Prelude.{◌≡◌, ℕ, ◌+◌, ◌<◌, ◌≤◌, Bool, true, false, List, [], ◌∷◌, map, ◌⊎◌, Result, Ok, Err}
-use Rattle.tally_base.{specs.declared.fault.Fault.Fault, specs.declared.fault.Fault.TheVariants.PlanRule}
+use Rattle.tally_base.specs.declared.fault.Fault.{Fault, TheVariants.PlanRule}
 
 -- A rule at a document: its number, the index of the first thing that it speaks of, and of each of these things whether it is as the rule says.
 pub record Rule : Type 0 where

@@ -1,5 +1,5 @@
 -- What is read in the values of a document.
-use Rattle.std.{specs.Prelude.{ℕ, pos, Bool, true, false, ◌&&◌, ◌||◌, nat_le, List, [], ◌∷◌, Option, None, Some, is_some, option_and_then, if◌then◌else◌}, specs.List.list_all, specs.Str.bytes_eq}
+use Rattle.std.specs.{Prelude.{ℕ, pos, Bool, true, false, ◌&&◌, ◌||◌, nat_le, List, [], ◌∷◌, Option, None, Some, is_some, option_and_then, if◌then◌else◌}, List.list_all, Str.bytes_eq}
 use Rattle.toml.specs.Data.{Data, integer, table, Items, no_items, item, Members, no_members, member, get, as_array, as_table, as_str, as_bool}
 
 -- the members of an array

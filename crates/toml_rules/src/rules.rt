@@ -1,7 +1,6 @@
 // Goes through rules in their order, up to the first that is broken.
 ghost use Rattle.std.specs.Prelude.{◌≡◌, Bool, ◌≤◌, map, length, true, OnOk};
-ghost use Rattle.toml.{specs.Data.{Data}, specs.View.{view}};
-ghost use Rattle.toml_rules.{specs.Rules.{held, kept, each}, specs.Values.list_at};
+ghost use Rattle.{toml.specs.{Data.Data, View.view}, toml_rules.specs.{Rules.{held, kept, each}, Values.list_at}};
 
 use crate::values::list_at;
 use tally_base::Fault;

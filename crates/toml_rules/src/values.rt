@@ -1,7 +1,7 @@
 // What is read in the values of a document.
-ghost use Rattle.std.{specs.Prelude.{◌≡◌, ◌≤◌, map, IfSome}, specs.List.{list_all}};
-ghost use Rattle.toml.{specs.Data.{get}, specs.View.{view, table_view}};
-ghost use Rattle.toml_rules.specs.Values.{list_at, is_table, may_be_tables, is_one_of, members_within, has_each, has_keys, integer_in, number_in, number_or, truth_or, second_of};
+ghost use Rattle.std.specs.{Prelude.{◌≡◌, ◌≤◌, map, IfSome}, List.list_all};
+ghost use Rattle.{toml.specs.{Data.get, View.{view, table_view}}, toml_rules.specs.Values.{list_at, is_table, may_be_tables, is_one_of, members_within, has_each, has_keys, integer_in, number_in}};
+ghost use Rattle.toml_rules.specs.Values.{number_or, truth_or, second_of};
 
 use toml::{Table, Value};
 

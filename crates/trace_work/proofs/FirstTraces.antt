@@ -1,7 +1,7 @@
 -- The first trace of a plan is the first of its traces.
 use Rattle.std.proofs.Common.{◌≡◌, ◌∙◌, ◌+◌, ◌≤◌, ◌++◌, ℕ, List, [], ◌∷◌, None, map, refl, sym, arith, flat_map, option_map, slice_get, rules}
-use Rattle.tally_base.{specs.declared.settings.TraceSet.TraceSet, specs.Settings.{PartSettings, trace_view}, specs.Settings.PartSettings.TraceSettings}
-use Rattle.plan_text.{specs.declared.plan.Plan.Plan, specs.ReadPlan.plan_view, proofs.ByKind.{kind_at, AreAt, AreByKinds, by_kinds}}
+use Rattle.tally_base.specs.{declared.settings.TraceSet.TraceSet, Settings.{PartSettings, trace_view, PartSettings.TraceSettings}}
+use Rattle.plan_text.{specs.{declared.plan.Plan.Plan, ReadPlan.plan_view}, proofs.ByKind.{kind_at, AreAt, AreByKinds, by_kinds}}
 use Rattle.trace_work.specs.TraceOutcomes.{first_trace, trace_of}
 
 -- a table of another kind is passed over

@@ -1,13 +1,14 @@
 -- What a piece, and the end of a stream, write of a trace.
-use Rattle.std.proofs.Common.{◌≡◌, ◌∙◌, ◌<◌, ℕ, List, [], ◌++◌, None, Some, Ok, Err, refl, sym, ap, subst, inl, inr, append_assoc, append-nil, Result, OnOk, OnErr}
-use Rattle.tally_base.{specs.declared.fault.Fault.Fault, specs.Faults.fault_in, specs.Settings.{TraceView, trace_view}, specs.Tally.History, specs.declared.slot.Failed.Failed}
-use Rattle.bench_io.{specs.Sinks.{SinkState, Wrote, WroteShort, PassesOn}, specs.Texts.WritesText, proofs.Bytes.{WroteShort-more, PassesOn-held}}
-use Rattle.ptu_definitions.{specs.declared.records.Summary.Summary, specs.Kept.Marked, specs.Settled.not_marked, specs.Words.{words_of, rest_of}, specs.Streams.{StreamSettings, record_refusal, last_in, streamed}, proofs.DeliveredLaws.not_marked-append}
-use Rattle.record_stream.{specs.declared.taker.EventTaker.Ghosts, specs.Feeding.{GaveOn, Fed}, specs.Ending.Ended}
-use Rattle.gate_plan.{specs.Shifting.Sorting, specs.Histories.{with_groups, history}, proofs.Histories.with_groups-more}
-use Rattle.long_trace.{specs.declared.trace.LongTrace.LongTrace, specs.LongTrace.{Holds, GivenMore, set_of}, specs.Texts.open_text, proofs.Rising.{RisesFrom, open-front}}
-use Rattle.command_work.proofs.Flushed.{PutText, PutsText, writes-flushed, writes-unflushed}
-use Rattle.trace_work.{specs.TraceOutcomes.{settled_before, words_traced}, specs.TracePieces.{text_by, both_ended}, specs.TraceTexts.{settled-adds, settled-rises, history-rest, history-rises}}
+use Rattle.std.proofs.Common.{◌≡◌, ◌∙◌, ◌<◌, ℕ, List, [], ◌++◌, None, Some, Ok, Err, refl, sym, ap, subst, inl, inr, append_assoc, append-nil, Result, OnOk}
+use Rattle.{std.proofs.Common.OnErr, tally_base.specs.{declared.{fault.Fault.Fault, slot.Failed.Failed}, Faults.fault_in, Settings.{TraceView, trace_view}}}
+use Rattle.{tally_base.specs.Tally.History, bench_io.{specs.{Sinks.{SinkState, Wrote, WroteShort, PassesOn}, Texts.WritesText}, proofs.Bytes.WroteShort-more}}
+use Rattle.{bench_io.proofs.Bytes.PassesOn-held, ptu_definitions.specs.{declared.records.Summary.Summary, Kept.Marked, Settled.not_marked, Words.words_of}}
+use Rattle.ptu_definitions.{specs.{Words.rest_of, Streams.{StreamSettings, record_refusal, last_in, streamed}}, proofs.DeliveredLaws.not_marked-append}
+use Rattle.{record_stream.specs.{declared.taker.EventTaker.Ghosts, Feeding.{GaveOn, Fed}, Ending.Ended}, gate_plan.specs.Shifting.Sorting}
+use Rattle.{gate_plan.{specs.Histories.{with_groups, history}, proofs.Histories.with_groups-more}, long_trace.specs.declared.trace.LongTrace.LongTrace}
+use Rattle.long_trace.{specs.{LongTrace.{Holds, GivenMore, set_of}, Texts.open_text}, proofs.Rising.{RisesFrom, open-front}}
+use Rattle.{command_work.proofs.Flushed.{PutText, PutsText, writes-flushed, writes-unflushed}, trace_work.specs.TraceOutcomes.{settled_before, words_traced}}
+use Rattle.trace_work.specs.{TracePieces.{text_by, both_ended}, TraceTexts.{settled-adds, settled-rises, history-rest, history-rises}}
 
 with-parts : (by : Sorting) (l m : Marked) → with_groups by (not_marked (l ++ m)) ≡ with_groups by (not_marked l) ++ with_groups by (not_marked m)
 with-parts by l m = ap (with_groups by) (not_marked-append l m) ∙ with_groups-more by (not_marked l) (not_marked m)

@@ -1,13 +1,14 @@
 -- One event more for a trace, and a block of them.
-use Rattle.std.{proofs.Common.{◌≡◌, ◌∙◌, ◌+◌, ◌≤◌, ℕ, List, [], ◌∷◌, ◌++◌, true, false, refl, ap, map, append_assoc, append-nil, arith, length, length-append, ◌&&◌, not, IsTrue, if◌then◌else◌, rules}, proofs.lemmas.List.length-map}
-use Rattle.tally_base.{specs.declared.event.Event.Event, specs.declared.event.EventKind.EventKind, specs.declared.header.Mode.Mode, specs.declared.header.Mode.TheVariants.{T2, T3}, specs.Events.{is_photon, is_photon_kind, is_ordered}, specs.Tally.{History, floor_after, InOrder}, proofs.Floors.order-looser}
-use Rattle.bench_io.{specs.Sinks.{SinkState, WroteShort, PassesOn}, proofs.Bytes.{WroteShort-passed, PassesOn-trans}}
-use Rattle.ptu_definitions.{specs.Kept.Marked, specs.Settled.not_marked, proofs.DeliveredLaws.{not_marked-append, not_marked-false}}
-use Rattle.abs_time.{specs.Floors.orders_markers, proofs.Floors.moved_floor-push}
-use Rattle.record_stream.{specs.Blocks.on_time, proofs.Steps.length-on_time, proofs.Gathering.floor_of-block}
-use Rattle.gate_plan.{specs.Shifting.{Sorting, shifted, shifted_kind}, specs.Taking.groups_in, specs.Histories.with_groups, proofs.Histories.{with_groups-more, order-shifted, floor-shifted}}
-use Rattle.long_trace.{specs.declared.trace.LongTrace.LongTrace, specs.LongTrace.GivenMore, proofs.Steps.GivenMore-trans}
-use Rattle.trace_work.specs.TraceOutcomes.{Traced, TracedShort}
+use Rattle.std.proofs.Common.{◌≡◌, ◌∙◌, ◌+◌, ◌≤◌, ℕ, List, [], ◌∷◌, ◌++◌, true, false, refl, ap, map, append_assoc, append-nil, arith, length, length-append}
+use Rattle.{std.proofs.{Common.{◌&&◌, not, IsTrue, if◌then◌else◌, rules}, lemmas.List.length-map}, tally_base.specs.declared.event.Event.Event}
+use Rattle.tally_base.specs.{declared.{event.EventKind.EventKind, header.Mode.{Mode, TheVariants.{T2, T3}}}, Events.{is_photon, is_photon_kind, is_ordered}}
+use Rattle.{tally_base.{specs.Tally.{History, floor_after, InOrder}, proofs.Floors.order-looser}, bench_io.specs.Sinks.{SinkState, WroteShort, PassesOn}}
+use Rattle.{bench_io.proofs.Bytes.{WroteShort-passed, PassesOn-trans}, ptu_definitions.specs.{Kept.Marked, Settled.not_marked}}
+use Rattle.{ptu_definitions.proofs.DeliveredLaws.{not_marked-append, not_marked-false}, abs_time.{specs.Floors.orders_markers, proofs.Floors.moved_floor-push}}
+use Rattle.{record_stream.{specs.Blocks.on_time, proofs.{Steps.length-on_time, Gathering.floor_of-block}}, gate_plan.specs.Shifting.{Sorting, shifted}}
+use Rattle.gate_plan.{specs.{Shifting.shifted_kind, Taking.groups_in, Histories.with_groups}, proofs.Histories.{with_groups-more, order-shifted, floor-shifted}}
+use Rattle.{long_trace.{specs.{declared.trace.LongTrace.LongTrace, LongTrace.GivenMore}, proofs.Steps.GivenMore-trans}, trace_work.specs.TraceOutcomes.Traced}
+use Rattle.trace_work.specs.TraceOutcomes.{TracedShort}
 
 photon_kind : (by : Sorting) (kind : EventKind) → is_photon_kind (shifted_kind by kind) ≡ is_photon_kind kind
 photon_kind by kind = search (rules, arith)
@@ -55,7 +56,8 @@ module _ (start old : LongTrace) (by by' : Sorting) (mode mode' : Mode)
 
   module _ (now : LongTrace) (c : SinkState) (held'' : List ℕ) where
     -- a sink that fails
-    short : (m : Marked) (more : History) (lines : List ℕ) → with_groups by (not_marked m) ≡ with_groups by (not_marked l) ++ more → So_far → GivenMore old now more lines → WroteShort b c (held' ++ lines) → held'' ≡ [] → TracedShort start by a c held held'' m
+    short : (m : Marked) (more : History) (lines : List ℕ) → with_groups by (not_marked m) ≡ with_groups by (not_marked l) ++ more → So_far
+        → GivenMore old now more lines → WroteShort b c (held' ++ lines) → held'' ≡ [] → TracedShort start by a c held held'' m
     short m more lines is h given cut none = record {
       lines = h.lines ++ lines;
       closed = rw is (GivenMore-trans start old now (with_groups by (not_marked l)) more h.lines lines h.given given).closed;

@@ -1,13 +1,10 @@
 -- What holds of the trace of bytes that grow.
 use Rattle.std.{proofs.Common.{◌≡◌, ◌∙◌, ℕ, List, None, Some, sym, subst}, specs.declared.option.Option.Option}
-use Rattle.tally_base.{specs.declared.settings.TraceSet.TraceSet, specs.Settings.{TraceView, trace_view}}
-use Rattle.ptu_definitions.{specs.Words.words_of, specs.Streams.{StreamSettings, record_refusal}, proofs.Firsts.{record_refusal-inside, streamed-inside}}
-use Rattle.plan_text.specs.Plan.{PlanView}
-use Rattle.gate_plan.{specs.Shifting.{Sorting, sorting}, specs.Histories.reading_by}
-use Rattle.record_stream.{specs.declared.stream.RecordStream.RecordStream, specs.Standing.how_of, proofs.Lasts.streamed-clear}
-use Rattle.long_trace.specs.declared.trace.LongTrace.{LongTrace}
-use Rattle.command_work.{specs.Behaviours.AsItReads, specs.Works.WantsNone, specs.RecordsWork.{IsText, headed_work, headed_so_far, Suits}, proofs.RestEnds.{suited-law, suits-as_it_reads}}
-use Rattle.trace_work.{specs.TraceOutcomes.{trace_of, traces, traces_by, trace_so_far, tracing}, specs.TracePieces.HasTraced, specs.TraceTexts.{text-front, refused-ends, ends-fault}}
+use Rattle.{tally_base.specs.{declared.settings.TraceSet.TraceSet, Settings.{TraceView, trace_view}}, ptu_definitions.specs.{Words.words_of, Streams.{StreamSettings, record_refusal}}}
+use Rattle.{ptu_definitions.proofs.Firsts.{record_refusal-inside, streamed-inside}, plan_text.specs.Plan.PlanView, gate_plan.specs.{Shifting.{Sorting, sorting}, Histories.reading_by}}
+use Rattle.{record_stream.{specs.{declared.stream.RecordStream.RecordStream, Standing.how_of}, proofs.Lasts.streamed-clear}, long_trace.specs.declared.trace.LongTrace.LongTrace}
+use Rattle.command_work.{specs.{Behaviours.AsItReads, Works.WantsNone, RecordsWork.{IsText, headed_work, headed_so_far, Suits}}, proofs.RestEnds.{suited-law, suits-as_it_reads}}
+use Rattle.trace_work.specs.{TraceOutcomes.{trace_of, traces, traces_by, trace_so_far, tracing}, TracePieces.HasTraced, TraceTexts.{text-front, refused-ends, ends-fault}}
 
 pub traces-law : (set : TraceSet) (by : Sorting) (how : StreamSettings) → IsText (traces (trace_view set) by how)
 traces-law set by how = record {

@@ -1,9 +1,10 @@
 -- The photons that a trace is given come in the order of their times.
-use Rattle.std.{proofs.Common.{◌≡◌, ◌∙◌, ◌≤◌, ℕ, Bool, true, false, cond, List, [], ◌∷◌, ◌++◌, max, map, refl, sym, ap, arith, IsTrue, ◌&&◌, ◌==◌, not, nat_lt, filter, if◌then◌else◌}, proofs.lemmas.Bool.Decides.nat_tests}
-use Rattle.tally_base.{specs.declared.event.Event.Event, specs.declared.event.EventKind.EventKind, specs.declared.event.EventKind.TheVariants.{Photon, Marker}, specs.declared.header.Mode.Mode, specs.declared.header.Mode.TheVariants.{T2, T3}, specs.Events.{is_photon, is_photon_kind, is_ordered}}
-use Rattle.ptu_definitions.{specs.Prefixes.each_after, specs.Kept.{mark, marked, kept, is_late, greatest, ordered_time}, specs.Settled.{in_time, not_overtaken, kept_by, not_marked, ordered, Rises}, proofs.SettledLaws.Rises-put_all, proofs.StreamLemmas.{later, greatest-push}}
-use Rattle.gate_plan.{specs.Shifting.{Sorting, shifted_kind}, specs.Histories.with_groups}
-use Rattle.long_trace.proofs.Rising.{RisesFrom}
+use Rattle.std.proofs.Common.{◌≡◌, ◌∙◌, ◌≤◌, ℕ, Bool, true, false, cond, List, [], ◌∷◌, ◌++◌, max, map, refl, sym, ap, arith, IsTrue, ◌&&◌, ◌==◌, not, nat_lt, filter, if◌then◌else◌}
+use Rattle.std.proofs.lemmas.Bool.Decides.{nat_tests}
+use Rattle.tally_base.specs.{declared.{event.{Event.Event, EventKind.{EventKind, TheVariants.{Photon, Marker}}}, header.Mode.{Mode, TheVariants.{T2, T3}}}, Events.{is_photon, is_photon_kind}}
+use Rattle.{tally_base.specs.Events.is_ordered, ptu_definitions.specs.{Prefixes.each_after, Kept.{mark, marked, kept, is_late, greatest, ordered_time}, Settled.{in_time, not_overtaken, kept_by}}}
+use Rattle.{ptu_definitions.{specs.Settled.{not_marked, ordered, Rises}, proofs.{SettledLaws.Rises-put_all, StreamLemmas.{later, greatest-push}}}, gate_plan.specs.Shifting.{Sorting, shifted_kind}}
+use Rattle.{gate_plan.specs.Histories.with_groups, long_trace.proofs.Rising.RisesFrom}
 
 -- the same of events without their groups
 abbrev Up : ℕ → List Event → Type 0

@@ -1,12 +1,12 @@
 -- What `trace` ends with over the bytes of a file.
-use Rattle.std.{specs.Prelude.{ℕ, ◌≡◌, List, [], ◌∷◌, None, Some, Result, Ok, Err, ◌+◌, max, ◌++◌, length, refl}, specs.declared.option.Option.Option, proofs.Common.{append-nil, arith}}
-use Rattle.tally_base.{specs.declared.fault.Fault.Fault, specs.declared.fault.Fault.TheVariants.NoTrace, specs.declared.header.Header.Header, specs.RecordTypes.mode_of, specs.Settings.{PartSettings, TraceView, trace_view}, specs.Settings.PartSettings.TraceSettings, specs.Tally.History, specs.declared.header.Mode.Mode}
-use Rattle.ptu_definitions.{specs.declared.records.Summary.Summary, specs.Words.words_of, specs.Streams.{StreamSettings, unrefused_after, record_refusal, streamed}, specs.Kept.{Marked, floor_of}, specs.Settled.not_marked}
-use Rattle.plan_text.{specs.Plan.{PlanView, parts_of}, specs.Fits.fits}
-use Rattle.gate_plan.{specs.Shifting.{Sorting, sorting}, specs.Histories.{history, settled_history, reading_by, with_groups}}
-use Rattle.long_trace.{specs.Texts.{open_text, whole_text}, specs.declared.trace.LongTrace.LongTrace, specs.LongTrace.{Holds, GivenMore, set_of}, proofs.Steps.GivenMore-nil}
-use Rattle.command_work.{specs.Outcomes.{Outcome, written}, specs.Behaviours.{Work, AreRead, IsHeaded}, specs.RecordsWork.{RecordsWork, if_suited, headed_work, headed_so_far}}
-use Rattle.bench_io.{specs.Sinks.{SinkState, WroteShort, PassesOn}, proofs.Bytes.PassesOn-held}
+use Rattle.std.{specs.{Prelude.{ℕ, ◌≡◌, List, [], ◌∷◌, None, Some, Result, Ok, Err, ◌+◌, max, ◌++◌, length, refl}, declared.option.Option.Option}, proofs.Common.{append-nil, arith}}
+use Rattle.tally_base.specs.{declared.{fault.Fault.{Fault, TheVariants.NoTrace}, header.{Header.Header, Mode.Mode}}, RecordTypes.mode_of, Settings.{PartSettings, TraceView, trace_view}}
+use Rattle.{tally_base.specs.{Settings.PartSettings.TraceSettings, Tally.History}, ptu_definitions.specs.{declared.records.Summary.Summary, Words.words_of, Streams.{StreamSettings, unrefused_after}}}
+use Rattle.{ptu_definitions.specs.{Streams.{record_refusal, streamed}, Kept.{Marked, floor_of}, Settled.not_marked}, plan_text.specs.{Plan.{PlanView, parts_of}, Fits.fits}}
+use Rattle.{gate_plan.specs.{Shifting.{Sorting, sorting}, Histories.{history, settled_history, reading_by, with_groups}}, long_trace.specs.Texts.{open_text, whole_text}}
+use Rattle.{long_trace.{specs.{declared.trace.LongTrace.LongTrace, LongTrace.{Holds, GivenMore, set_of}}, proofs.Steps.GivenMore-nil}, command_work.specs.Outcomes.{Outcome, written}}
+use Rattle.{command_work.specs.{Behaviours.{Work, AreRead, IsHeaded}, RecordsWork.{RecordsWork, if_suited, headed_work, headed_so_far}}, bench_io.specs.Sinks.{SinkState, WroteShort, PassesOn}}
+use Rattle.bench_io.proofs.Bytes.{PassesOn-held}
 
 -- the first trace of some tables
 abbrev pub first_trace : List PartSettings → Option TraceView

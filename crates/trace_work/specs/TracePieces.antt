@@ -1,12 +1,9 @@
 -- What the trace of words writes that come after others.
 use Rattle.std.specs.Prelude.{ℕ, ◌≡◌, ◌≤◌, List, ◌++◌, OnOk, true, None, Some, Result, Ok, Err}
-use Rattle.tally_base.{specs.declared.fault.Fault.Fault, specs.declared.fault.Fault.TheVariants.WriteFault, specs.Faults.fault_in, specs.Settings.trace_view}
-use Rattle.bench_io.{specs.declared.sink.Sink.Ghosts, specs.Texts.WritesText}
-use Rattle.ptu_definitions.{specs.declared.records.Summary.Summary, specs.Words.words_of, specs.Streams.{StreamSettings, streamed}}
-use Rattle.gate_plan.{specs.Shifting.Sorting, specs.Histories.history}
-use Rattle.record_stream.{specs.declared.stream.RecordStream.RecordStream, specs.Standing.{how_of, given_by, greatest_of, refused_with, HasStreamed}}
-use Rattle.long_trace.{specs.declared.trace.LongTrace.LongTrace, specs.LongTrace.{Holds, set_of, taken_of, floor_of, is_going}, specs.Texts.open_text}
-use Rattle.command_work.specs.RecordsWork.{WritesPiece, WritesEnd}
+use Rattle.{tally_base.specs.{declared.fault.Fault.{Fault, TheVariants.WriteFault}, Faults.fault_in, Settings.trace_view}, bench_io.specs.{declared.sink.Sink.Ghosts, Texts.WritesText}}
+use Rattle.{ptu_definitions.specs.{declared.records.Summary.Summary, Words.words_of, Streams.{StreamSettings, streamed}}, gate_plan.specs.{Shifting.Sorting, Histories.history}}
+use Rattle.{record_stream.specs.{declared.stream.RecordStream.RecordStream, Standing.{how_of, given_by, greatest_of, refused_with, HasStreamed}}, long_trace.specs.declared.trace.LongTrace.LongTrace}
+use Rattle.{long_trace.specs.{LongTrace.{Holds, set_of, taken_of, floor_of, is_going}, Texts.open_text}, command_work.specs.RecordsWork.{WritesPiece, WritesEnd}}
 use Rattle.trace_work.specs.TraceOutcomes.{settled_before, words_traced, traces}
 
 -- The trace has written its first line and refused nothing, and is no further on than the stream.

@@ -1,12 +1,12 @@
 -- The text of a trace of words, and of more of them.
-use Rattle.std.{proofs.Common.{◌≡◌, ◌∙◌, ◌<◌, ℕ, List, [], ◌++◌, None, Some, Ok, Err, map, take, drop, length, refl, sym, ap, subst, append_assoc, append-nil, take-append-drop, Result, ◌-◌}, specs.declared.option.Option.Option}
-use Rattle.tally_base.{specs.declared.fault.Fault.Fault, specs.Faults.fault_in, specs.Settings.TraceView}
-use Rattle.ptu_definitions.{specs.declared.records.Summary.Summary, specs.Words.{words_of, rest_of}, specs.Kept.Marked, specs.Settled.{kept_by, not_marked}, specs.Times.events, specs.Streams.{StreamSettings, unrefused_after, record_refusal, given, last_in, streamed, IsFirst}, proofs.DeliveredLaws.{delivered-settled, not_marked-append}, proofs.Firsts.{given-all, given-before}, proofs.StreamLemmas.{given-front, given-stays}, proofs.WordsLemmas.words_of-append}
-use Rattle.record_stream.proofs.Lasts.{streamed-shown}
-use Rattle.gate_plan.{specs.Shifting.Sorting, specs.Histories.{with_groups, history, settled_history}, proofs.Histories.{history-ends, with_groups-more}}
-use Rattle.long_trace.{specs.Texts.{open_text, whole_text}, proofs.Rising.{RisesFrom, rises-parts, open-front, whole-front}}
-use Rattle.trace_work.{specs.TraceOutcomes.{open_by, settled_before, words_traced, traced, records_traced}, specs.TraceOrder.kept-rises}
-use Rattle.photon_pick.proofs.Ends.{clear-from_ok}
+use Rattle.std.proofs.Common.{◌≡◌, ◌∙◌, ◌<◌, ℕ, List, [], ◌++◌, None, Some, Ok, Err, map, take, drop, length, refl, sym, ap, subst, append_assoc, append-nil, take-append-drop, Result, ◌-◌}
+use Rattle.std.specs.declared.option.Option.{Option}
+use Rattle.{tally_base.specs.{declared.fault.Fault.Fault, Faults.fault_in, Settings.TraceView}, ptu_definitions.specs.{declared.records.Summary.Summary, Words.{words_of, rest_of}, Kept.Marked}}
+use Rattle.ptu_definitions.specs.{Settled.{kept_by, not_marked}, Times.events, Streams.{StreamSettings, unrefused_after, record_refusal, given, last_in, streamed, IsFirst}}
+use Rattle.ptu_definitions.proofs.{DeliveredLaws.{delivered-settled, not_marked-append}, Firsts.{given-all, given-before}, StreamLemmas.{given-front, given-stays}, WordsLemmas.words_of-append}
+use Rattle.{record_stream.proofs.Lasts.streamed-shown, gate_plan.{specs.{Shifting.Sorting, Histories.{with_groups, history, settled_history}}, proofs.Histories.{history-ends, with_groups-more}}}
+use Rattle.{long_trace.{specs.Texts.{open_text, whole_text}, proofs.Rising.{RisesFrom, rises-parts, open-front, whole-front}}, trace_work.specs.TraceOutcomes.{open_by, settled_before, words_traced}}
+use Rattle.{trace_work.specs.{TraceOutcomes.{traced, records_traced}, TraceOrder.kept-rises}, photon_pick.proofs.Ends.clear-from_ok}
 
 module _ (by : Sorting) (how : StreamSettings) where
   -- what is settled is what was given and isn't marked late

@@ -1,9 +1,7 @@
 // The command `trace`.
 ghost use Rattle.std.specs.Prelude.{◌≡◌, option_map};
-ghost use Rattle.tally_base.specs.Settings.{trace_view};
-ghost use Rattle.plan_text.specs.ReadPlan.{plan_view};
-ghost use Rattle.command_work.specs.Behaviours.{AsItReads, ForPlan};
-ghost use Rattle.trace_work.specs.TraceOutcomes.{no_trace, trace_of, trace_so_far, tracing};
+ghost use Rattle.{tally_base.specs.Settings.trace_view, plan_text.specs.ReadPlan.plan_view, command_work.specs.Behaviours.{AsItReads, ForPlan}, trace_work.specs.TraceOutcomes.{no_trace, trace_of}};
+ghost use Rattle.trace_work.specs.TraceOutcomes.{trace_so_far, tracing};
 
 use crate::trace::TraceJob;
 use bench_io::{Inputs, Sink};

@@ -1,13 +1,8 @@
 // The trace of a plan, written while the file is read.
 ghost use Rattle.std.specs.Prelude.{◌≡◌, ◌<◌, ◌≤◌, ℕ, List, true, OnOk, None, Some};
-ghost use Rattle.tally_base.specs.Settings.{trace_view};
-ghost use Rattle.ptu_definitions.specs.Words.{record_limit};
-ghost use Rattle.plan_text.specs.ReadPlan.{plan_view};
-ghost use Rattle.record_stream.{specs.Standing.{how_of, refused_with, HasStreamed}, specs.Pieces.{TakesOn, StaysOpen, Begins}};
-ghost use Rattle.gate_plan.specs.Groups.{sorting_of};
-ghost use Rattle.long_trace.specs.LongTrace.{set_of, taken_of, floor_of, is_going};
-ghost use Rattle.command_work.specs.RecordsWork.{WritesEnd};
-ghost use Rattle.trace_work.{specs.TraceOutcomes.trace_of, specs.TracePieces.{IsBehindStream, TracesBytes, TracesPiece, EndsLines, EndsTrace, both_ended}};
+ghost use Rattle.{tally_base.specs.Settings.trace_view, ptu_definitions.specs.Words.record_limit, plan_text.specs.ReadPlan.plan_view, record_stream.specs.Standing.{how_of, refused_with, HasStreamed}};
+ghost use Rattle.{record_stream.specs.Pieces.{TakesOn, StaysOpen, Begins}, gate_plan.specs.Groups.sorting_of, long_trace.specs.LongTrace.{set_of, taken_of, floor_of, is_going}};
+ghost use Rattle.{command_work.specs.RecordsWork.WritesEnd, trace_work.specs.{TraceOutcomes.trace_of, TracePieces.{IsBehindStream, TracesBytes, TracesPiece, EndsLines, EndsTrace, both_ended}}};
 
 use abs_time::{moved_floor, orders_markers};
 use arrayvec::ArrayVec;

@@ -1,7 +1,5 @@
-use Rattle.std.proofs.Common.{◌≡◌, ◌≤◌, ℕ, List, None, Some, arith, rules}
-use Rattle.ptu_made.{specs.Generator.photon_limit, specs.Records.made_file}
-use Rattle.ptu_cli.{specs.Commands.{Run, Demo}, specs.Behaviours.behaviour}
-use Rattle.report_work.{specs.Demo.demo_text, proofs.Reports.{demo-plan, made-report}}
+use Rattle.{std.proofs.Common.{◌≡◌, ◌≤◌, ℕ, List, None, Some, arith, rules}, ptu_made.specs.{Generator.photon_limit, Records.made_file}}
+use Rattle.{ptu_cli.specs.{Commands.{Run, Demo}, Behaviours.behaviour}, report_work.{specs.Demo.demo_text, proofs.Reports.{demo-plan, made-report}}}
 use Rattle.command_work.specs.Endings.{outcome}
 use Rattle.command_laws.proofs.demo_is_a_run.Goals as goal
 

@@ -1,10 +1,7 @@
-use Rattle.std.{proofs.Common.{ℕ, inl, inr, arith, rules}, specs.declared.option.Option.Option}
-use Rattle.tally_base.{specs.declared.slot.Slot.Slot, specs.declared.slot.Slot.TheVariants.Plan, specs.declared.fault.Fault.Fault}
-use Rattle.bench_io.{specs.Inputs.{File, InputState}, specs.Sinks.SinkState}
-use Rattle.plan_text.specs.Plan.{PlanView}
-use Rattle.ptu_cli.specs.Commands.{Request}
-use Rattle.ptu_cli.{specs.Runs.{Around, Runs}, specs.Behaviours.behaviour}
-use Rattle.command_work.{specs.Behaviours.{Behaviour, Alone, OnFile, ByPlan}, specs.Endings.{FileOf, AreItsFiles, HasPlan, Reaches, LeavesUnread, RunsOut, Asks}, proofs.Told.reads-agree}
+use Rattle.{std.{proofs.Common.{ℕ, inl, inr, arith, rules}, specs.declared.option.Option.Option}, tally_base.specs.declared.slot.Slot.{Slot, TheVariants.Plan}}
+use Rattle.{tally_base.specs.declared.fault.Fault.Fault, bench_io.specs.{Inputs.{File, InputState}, Sinks.SinkState}, plan_text.specs.Plan.PlanView}
+use Rattle.{ptu_cli.specs.{Commands.Request, Runs.{Around, Runs}, Behaviours.behaviour}, command_work.specs.Behaviours.{Behaviour, Alone, OnFile, ByPlan}}
+use Rattle.command_work.{specs.Endings.{FileOf, AreItsFiles, HasPlan, Reaches, LeavesUnread, RunsOut, Asks}, proofs.Told.reads-agree}
 use Rattle.command_laws.specs.ToldFiles.{IsGoodPlan, OverToldFiles}
 use Rattle.command_laws.proofs.over_told_files.Goals as goal
 

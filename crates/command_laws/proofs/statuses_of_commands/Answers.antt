@@ -1,5 +1,4 @@
-use Rattle.ptu_cli.proofs.Told.{told}
-use Rattle.command_laws.proofs.Proved.{called-status}
+use Rattle.{ptu_cli.proofs.Told.told, command_laws.proofs.Proved.called-status}
 use Rattle.command_laws.proofs.statuses_of_commands.Goals as goal
 
 pub returns-clause-lines : goal.returns-clause-lines

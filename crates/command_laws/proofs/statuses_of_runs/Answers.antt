@@ -1,9 +1,8 @@
-use Rattle.std.{proofs.Common.{◌≡◌, ℕ, Some, sym, subst, inl, inr, ◌<◌, ◌≤◌, arith, ◌⊎◌, rules}, specs.declared.option.Option.Option, proofs.lemmas.Bool.{cases_lt, cases_eq}}
-use Rattle.tally_base.{specs.declared.slot.Slot.Slot, specs.declared.slot.Slot.TheVariants.{Plan, Data}}
-use Rattle.bench_io.specs.Inputs.{File}
-use Rattle.ptu_cli.{specs.Commands.Request, specs.Runs.{Around, Runs}, specs.Behaviours.behaviour, specs.Tables.HasStatus, specs.CommandCases.cases, proofs.Complete.some-files, proofs.Told.some-status}
-use Rattle.command_work.{specs.Endings.{outcome, HasPlan, Reaches, CutsShort, RunsOut}, specs.Outcomes.{status, IsIn}, specs.Behaviours.{Behaviour}}
-use Rattle.command_laws.specs.Ends.{FailsWith, MayEndWith}
+use Rattle.std.proofs.{Common.{◌≡◌, ℕ, Some, sym, subst, inl, inr, ◌<◌, ◌≤◌, arith, ◌⊎◌, rules}, lemmas.Bool.{cases_lt, cases_eq}}
+use Rattle.{std.specs.declared.option.Option.Option, tally_base.specs.declared.slot.Slot.{Slot, TheVariants.{Plan, Data}}, bench_io.specs.Inputs.File}
+use Rattle.ptu_cli.{specs.{Commands.Request, Runs.{Around, Runs}, Behaviours.behaviour, Tables.HasStatus, CommandCases.cases}, proofs.Complete.some-files}
+use Rattle.{ptu_cli.proofs.Told.some-status, command_work.specs.{Endings.{outcome, HasPlan, Reaches, CutsShort, RunsOut}, Outcomes.{status, IsIn}}}
+use Rattle.{command_work.specs.Behaviours.Behaviour, command_laws.specs.Ends.{FailsWith, MayEndWith}}
 use Rattle.command_laws.proofs.statuses_of_runs.Goals as goal
 
 -- the statuses that the runs of each command end with, by its shape

@@ -1,5 +1,6 @@
-use Rattle.std.{proofs.Common.{rules, arith, ◌≡◌, ◌∙◌, ◌++◌, ℕ, List, [], ◌∷◌, refl, sym, take, drop, length, append_assoc, append-nil}, proofs.lemmas.List.take-append-drop, proofs.lemmas.Bool.Decides.nat_tests}
-use Rattle.coincidence.{specs.declared.pairing.Bin.Bin, proofs.Together.{closes_none, closes_on, rest_may, part_may}}
+use Rattle.std.proofs.Common.{rules, arith, ◌≡◌, ◌∙◌, ◌++◌, ℕ, List, [], ◌∷◌, refl, sym, take, drop, length, append_assoc, append-nil}
+use Rattle.{std.proofs.lemmas.{List.take-append-drop, Bool.Decides.nat_tests}, coincidence.{specs.declared.pairing.Bin.Bin, proofs.Together.closes_none}}
+use Rattle.coincidence.proofs.Together.{closes_on, rest_may, part_may}
 use Rattle.coincidence.proofs.closing.close_all.Goals as goal
 
 parts : (bins done rest part behind : List Bin) (n : ℕ) → done ++ rest ≡ bins → part ≡ take n rest → behind ≡ drop n rest → bins ≡ done ++ (part ++ behind)

@@ -1,6 +1,5 @@
-use Rattle.std.proofs.Common.{◌≡◌, ◌≤◌, ◌++◌, List, length}
-use Rattle.tally_base.specs.Settings.{coincidence_view}
-use Rattle.coincidence.{specs.declared.pairing.Bin.Bin, specs.Pairing.Closes}
+use Rattle.{std.proofs.Common.{◌≡◌, ◌≤◌, ◌++◌, List, length}, tally_base.specs.Settings.coincidence_view, coincidence.specs.declared.pairing.Bin.Bin}
+use Rattle.coincidence.specs.Pairing.{Closes}
 use Rattle.coincidence.proofs.closing.close_all.Given as goal
 
 abbrev pub invariant-loop-rest : goal.invariant-loop-rest

@@ -1,6 +1,5 @@
-use Rattle.std.proofs.Common.{arith, rules}
-use Rattle.std.{proofs.Common.{◌≡◌, ◌+◌, ◌<◌, ℕ, List, [], ◌∷◌, ◌++◌, take, drop, get_or, add-one, drop-cons, length}, proofs.lemmas.List.{take_more, take-append-drop}}
-use Rattle.coincidence.{specs.declared.pairing.Bin.Bin, proofs.Together.{closes_none, closes_on, rest_may, part_may}}
+use Rattle.std.proofs.{Common.{arith, rules, ◌≡◌, ◌+◌, ◌<◌, ℕ, List, [], ◌∷◌, ◌++◌, take, drop, get_or, add-one, drop-cons, length}, lemmas.List.take_more}
+use Rattle.{std.proofs.lemmas.List.take-append-drop, coincidence.{specs.declared.pairing.Bin.Bin, proofs.Together.{closes_none, closes_on, rest_may, part_may}}}
 use Rattle.coincidence.proofs.closing.close_each.Goals as goal
 
 abbrev no_bin : Bin

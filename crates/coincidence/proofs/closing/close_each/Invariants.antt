@@ -1,6 +1,4 @@
-use Rattle.std.proofs.Common.{take}
-use Rattle.tally_base.specs.Settings.{coincidence_view}
-use Rattle.coincidence.specs.Pairing.{Closes}
+use Rattle.{std.proofs.Common.take, tally_base.specs.Settings.coincidence_view, coincidence.specs.Pairing.Closes}
 use Rattle.coincidence.proofs.closing.close_each.Given as goal
 
 abbrev pub invariant-loop-bin : goal.invariant-loop-bin

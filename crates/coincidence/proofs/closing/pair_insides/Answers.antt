@@ -1,7 +1,5 @@
-use Rattle.std.{proofs.Common.{◌≤◌, ◌*◌, [], arith}, proofs.lemmas.List.Sums.{sum_by_more, sum_by_more_le}}
-use Rattle.tally_base.specs.Settings.{coincidence_view}
-use Rattle.lag_ring.proofs.Lists.{each_at}
-use Rattle.coincidence.{specs.declared.pairing.Bin.Bin, specs.Pairing.bin_pairs, proofs.Visits.{counts_on, room_left}}
+use Rattle.{std.proofs.{Common.{◌≤◌, ◌*◌, [], arith}, lemmas.List.Sums.{sum_by_more, sum_by_more_le}}, tally_base.specs.Settings.coincidence_view}
+use Rattle.{lag_ring.proofs.Lists.each_at, coincidence.{specs.{declared.pairing.Bin.Bin, Pairing.bin_pairs}, proofs.Visits.{counts_on, room_left}}}
 use Rattle.coincidence.proofs.closing.pair_insides.Goals as goal
 
 abbrev no_bin : Bin

@@ -1,6 +1,4 @@
-use Rattle.std.{proofs.Common.{[], take}, specs.List.{sum_by}}
-use Rattle.tally_base.specs.Settings.{coincidence_view}
-use Rattle.coincidence.specs.Pairing.{bin_pairs, Counts}
+use Rattle.{std.{proofs.Common.{[], take}, specs.List.sum_by}, tally_base.specs.Settings.coincidence_view, coincidence.specs.Pairing.{bin_pairs, Counts}}
 use Rattle.coincidence.proofs.closing.pair_insides.Given as goal
 
 abbrev pub invariant-loop-bin : goal.invariant-loop-bin

@@ -1,6 +1,4 @@
-use Rattle.std.proofs.Common.{◌≡◌, ◌≤◌, take}
-use Rattle.arrayvec.specs.ArrayVec.{array_vec_len}
-use Rattle.coincidence.specs.Closing.{weights_in}
+use Rattle.{std.proofs.Common.{◌≡◌, ◌≤◌, take}, arrayvec.specs.ArrayVec.array_vec_len, coincidence.specs.Closing.weights_in}
 use Rattle.coincidence.proofs.closing.put_weights.Given as goal
 
 abbrev pub invariant-loop-bin : goal.invariant-loop-bin

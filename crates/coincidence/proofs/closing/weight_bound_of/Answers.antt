@@ -1,5 +1,5 @@
-use Rattle.std.{proofs.Common.{rules}, proofs.Common.{◌≤◌, ℕ, List, bit_or, arith}, proofs.lemmas.Nat.{le_or_l, le_or_r}}
-use Rattle.lag_ring.{specs.declared.ring.Entry.Entry, specs.Bytes.IsLight, proofs.Lists.all_join, proofs.Rising.all_weaker}
+use Rattle.{std.proofs.{Common.{rules, ◌≤◌, ℕ, List, bit_or, arith}, lemmas.Nat.{le_or_l, le_or_r}}, lag_ring.specs.{declared.ring.Entry.Entry, Bytes.IsLight}}
+use Rattle.lag_ring.proofs.{Lists.all_join, Rising.all_weaker}
 use Rattle.coincidence.proofs.closing.weight_bound_of.Goals as goal
 
 lighter : (least most : ℕ) (es : List Entry) → least ≤ most → IsLight least es → IsLight most es

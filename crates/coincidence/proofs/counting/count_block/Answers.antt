@@ -1,6 +1,7 @@
-use Rattle.std.{proofs.Common.{◌≡◌, ◌∙◌, ◌+◌, ◌++◌, true, false, length, ap, rules, arith, append_assoc, nat_lt}, proofs.lemmas.Bool.Decides.{nat_tests}}
-use Rattle.tally_base.{specs.Settings.startstop_view, specs.Tally.{moves_floor}, specs.Columns.{item, event_at, rows, code_at}, proofs.Floors.{moves_row, floor-more, order-at}, proofs.BlockRows.more_rows}
-use Rattle.coincidence.{specs.Starts.since_in, proofs.Blocks.{photon_step, marker_step, in_group, later, kept_floor}, proofs.counting.count_block.Goals.{then-code-lt256, else-code-lt256}}
+use Rattle.std.proofs.{Common.{◌≡◌, ◌∙◌, ◌+◌, ◌++◌, true, false, length, ap, rules, arith, append_assoc, nat_lt}, lemmas.Bool.Decides.nat_tests}
+use Rattle.tally_base.{specs.{Settings.startstop_view, Tally.moves_floor, Columns.{item, event_at, rows, code_at}}, proofs.Floors.{moves_row, floor-more}}
+use Rattle.{tally_base.proofs.{Floors.order-at, BlockRows.more_rows}, coincidence.{specs.Starts.since_in, proofs.Blocks.{photon_step, marker_step, in_group}}}
+use Rattle.coincidence.proofs.{Blocks.{later, kept_floor}, counting.count_block.Goals.{then-code-lt256, else-code-lt256}}
 use Rattle.coincidence.proofs.counting.count_block.Goals as goal
 
 pub overflow_sub-time : goal.overflow_sub-time

@@ -1,6 +1,5 @@
-use Rattle.std.proofs.Common.{◌≤◌, ◌+◌, ◌++◌, false, sum}
-use Rattle.tally_base.{specs.Settings.startstop_view, specs.Tally.{History, floor_after}, specs.Columns.{item, event_at, rows}}
-use Rattle.coincidence.{specs.StartStop.Counted, specs.Starts.since_in}
+use Rattle.{std.proofs.Common.{◌≤◌, ◌+◌, ◌++◌, false, sum}, tally_base.specs.{Settings.startstop_view, Tally.{History, floor_after}, Columns.{item, event_at}}}
+use Rattle.{tally_base.specs.Columns.rows, coincidence.specs.{StartStop.Counted, Starts.since_in}}
 use Rattle.coincidence.proofs.counting.count_block.Given as goal
 
 abbrev pub invariant-loop-at : goal.invariant-loop-at

@@ -1,6 +1,5 @@
-use Rattle.std.{proofs.Common.{append-nil, rules, arith}, proofs.lemmas.List.{length-take}, proofs.Math.Logic.{∥∥₁_map}}
-use Rattle.tally_base.specs.Settings.{coincidence_view}
-use Rattle.coincidence.{proofs.Picked.{may_gather, gathers_more, gathered_end}}
+use Rattle.{std.proofs.{Common.{append-nil, rules, arith}, lemmas.List.length-take, Math.Logic.∥∥₁_map}, tally_base.specs.Settings.coincidence_view}
+use Rattle.coincidence.proofs.Picked.{may_gather, gathers_more, gathered_end}
 use Rattle.coincidence.proofs.gathering.gather_block.Goals as goal
 
 pub loop-row-init : goal.loop-row-init
@@ -12,7 +11,7 @@ put_bin-requires c = record { room = search (rules, arith, length-take) }
 pub join-closed-requires : goal.join-closed-requires
 join-closed-requires c = record {
   stands = rw c.bin_in-bin.ensures (∥∥₁_map c.requires.stands
-      (λ w. (coincidence_view c.args.set.now, w.0, w.1, _, _, _, may_gather _ _ _ _ _ _ _ c.loop-row.invariant.came c.loop-row-test.true w.0 w.1 w.2 w.3)));
+      (λ w. (coincidence_view c.args.given.set, w.0, w.1, _, _, _, may_gather _ _ _ _ _ _ _ c.loop-row.invariant.came c.loop-row-test.true w.0 w.1 w.2 w.3)));
 }
 
 pub loop-row-preserved : goal.loop-row-preserved

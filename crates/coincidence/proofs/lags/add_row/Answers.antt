@@ -1,6 +1,5 @@
-use Rattle.std.{proofs.Common.{◌≡◌, ◌+◌, ◌/◌, ℕ, arith, rules, length}}
-use Rattle.tally_base.specs.Settings.{coincidence_view}
-use Rattle.coincidence.{specs.Closing.row_pairs, proofs.Visits.one_fits, proofs.LagPairs.{range-le}, proofs.CellRows.{row-inside, row-single, row-more}}
+use Rattle.{std.proofs.Common.{◌≡◌, ◌+◌, ◌/◌, ℕ, arith, rules, length}, tally_base.specs.Settings.coincidence_view, coincidence.specs.Closing.row_pairs}
+use Rattle.coincidence.proofs.{Visits.one_fits, LagPairs.range-le, CellRows.{row-inside, row-single, row-more}}
 use Rattle.coincidence.proofs.lags.add_row.Goals as goal
 
 pub add_row-requires-clause-sums : goal.add_row-requires-clause-sums

@@ -1,6 +1,4 @@
-use Rattle.std.specs.List.{sum_by, range_with_len}
-use Rattle.tally_base.specs.Settings.{coincidence_view}
-use Rattle.coincidence.specs.{Pairing.Counts, Closing.row_pairs}
+use Rattle.{std.specs.List.{sum_by, range_with_len}, tally_base.specs.Settings.coincidence_view, coincidence.specs.{Pairing.Counts, Closing.row_pairs}}
 use Rattle.coincidence.proofs.lags.add_row.Given as goal
 
 abbrev pub invariant-loop-q : goal.invariant-loop-q

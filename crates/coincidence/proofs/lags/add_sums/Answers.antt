@@ -1,6 +1,5 @@
-use Rattle.std.proofs.Common.{rules, sym}
-use Rattle.tally_base.specs.Settings.{coincidence_view}
-use Rattle.coincidence.{proofs.CellRows.{strip-forward, strip-backward}, proofs.Visits.{room_as}}
+use Rattle.{std.proofs.Common.{rules, sym}, tally_base.specs.Settings.coincidence_view, coincidence.proofs.CellRows.{strip-forward, strip-backward}}
+use Rattle.coincidence.proofs.Visits.{room_as}
 use Rattle.coincidence.proofs.lags.add_sums.Goals as goal
 
 pub add_row-requires-clause-room : goal.add_row-requires-clause-room

@@ -1,4 +1,4 @@
-use Rattle.std.{proofs.Common.{◌<◌, ◌≤◌, take}, specs.List.{AllByRecursion}}
+use Rattle.std.{proofs.Common.{◌<◌, ◌≤◌, take}, specs.List.AllByRecursion}
 use Rattle.coincidence.proofs.lags.are_near.Given as goal
 
 abbrev pub invariant-loop-entry : goal.invariant-loop-entry

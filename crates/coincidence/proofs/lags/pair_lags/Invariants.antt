@@ -1,10 +1,8 @@
-use Rattle.std.proofs.Common.{◌++◌, ◌*◌, length, min}
-use Rattle.tally_base.specs.Settings.{coincidence_view}
-use Rattle.coincidence.specs.{Pairing.Counts, Closing.both_lag_sums}
+use Rattle.{std.proofs.Common.{◌*◌, length, min}, coincidence.specs.{Pairing.Counts, Closing.both_lag_sums, Stretch.{reached, view_of}}}
 use Rattle.coincidence.proofs.lags.pair_lags.Given as goal
 
-abbrev pub invariant-loop-stretch : goal.invariant-loop-stretch
-invariant-loop-stretch g l =
-    let set = coincidence_view l.places.set in
-    let upto = min (l.stretch * 4096) set.reach in
-    Counts set l.initial.cells l.cells l.initial.steps l.steps (λ c. both_lag_sums set c 0 upto (l.ring.entries ++ l.later) l.later) (2 * (length l.later * upto))
+abbrev pub invariant-loop-turn : goal.invariant-loop-turn
+invariant-loop-turn g l =
+    let set = view_of l.stretch in
+    let upto = min (l.turn * 4096) set.reach in
+    Counts set l.initial.cells l.cells l.initial.steps l.steps (λ c. both_lag_sums set c 0 upto (reached l.stretch) l.stretch.later.now) (2 * (length l.stretch.later.now * upto))

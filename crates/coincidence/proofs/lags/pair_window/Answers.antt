@@ -1,6 +1,5 @@
-use Rattle.std.proofs.Common.{◌≡◌, ◌+◌, ◌-◌, ◌*◌, ℕ, min, arith}
-use Rattle.tally_base.specs.Settings.{coincidence_view}
-use Rattle.coincidence.{specs.Closing.{lags_of, window_pairs}, proofs.LagPairs.{range-le, range-strip, strip-window}, proofs.Visits.{counts_on, room_left}}
+use Rattle.{std.proofs.Common.{◌≡◌, ◌+◌, ◌-◌, ◌*◌, ℕ, min, arith}, tally_base.specs.Settings.coincidence_view, coincidence.specs.Closing.lags_of}
+use Rattle.coincidence.{specs.Closing.window_pairs, proofs.{LagPairs.{range-le, range-strip, strip-window}, Visits.{counts_on, room_left}}}
 use Rattle.coincidence.proofs.lags.pair_window.Goals as goal
 
 pub add_sums-requires-clause-room : goal.add_sums-requires-clause-room

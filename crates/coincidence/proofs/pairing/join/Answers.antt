@@ -1,8 +1,6 @@
-use Rattle.std.proofs.Common.{rules}
-use Rattle.std.{proofs.Props.props, proofs.Math.Logic.∥∥₁_elim, proofs.Common.{◌≡◌, ◌∙◌, ◌+◌, ◌^◌, ◌<◌, Some, List, length, ap, arith, append-nil, length-append}, proofs.lemmas.List.Sums.count_by-le-length}
-use Rattle.tally_base.{specs.Settings.CoincidenceView, specs.Tally.History}
-use Rattle.lag_ring.{specs.Cells.Cells, specs.Ring.Ring}
-use Rattle.coincidence.{specs.declared.pairing.Bin.Bin, specs.Pairing.{Gathered, CanPut}, proofs.Visits.{joins, moves}}
+use Rattle.std.proofs.{Common.{rules, ◌≡◌, ◌∙◌, ◌+◌, ◌^◌, ◌<◌, Some, List, length, ap, arith, append-nil, length-append}, Props.props, Math.Logic.∥∥₁_elim}
+use Rattle.{std.proofs.lemmas.List.Sums.count_by-le-length, tally_base.specs.{Settings.CoincidenceView, Tally.History}, lag_ring.specs.{Cells.Cells, Ring.Ring}}
+use Rattle.coincidence.{specs.{declared.pairing.Bin.Bin, Pairing.{Gathered, CanPut}}, proofs.Visits.{joins, moves}}
 use Rattle.coincidence.proofs.pairing.join.Goals as goal
 
 -- the open bin can take more photons of its tick

@@ -1,5 +1,4 @@
-use Rattle.std.proofs.Common.{rules, arith}
-use Rattle.coincidence.proofs.Visits.{no_pairs}
+use Rattle.{std.proofs.Common.{rules, arith}, coincidence.proofs.Visits.no_pairs}
 use Rattle.coincidence.proofs.pairing.pair_direction.Goals as goal
 
 pub returns-else-later-gt0 : goal.returns-else-later-gt0

@@ -1,6 +1,4 @@
-use Rattle.std.proofs.Common.{take}
-use Rattle.tally_base.specs.Settings.{coincidence_view}
-use Rattle.coincidence.specs.Pairing.{pairs_of_all, Counts}
+use Rattle.{std.proofs.Common.take, tally_base.specs.Settings.coincidence_view, coincidence.specs.Pairing.{pairs_of_all, Counts}}
 use Rattle.coincidence.proofs.pairing.pair_direction.Given as goal
 
 abbrev pub invariant-loop-earlier : goal.invariant-loop-earlier

@@ -1,5 +1,4 @@
-use Rattle.std.proofs.Common.{rules, ℕ, ◌-◌, ◌/◌, ◌<◌, ◌≤◌, arith}
-use Rattle.tally_base.specs.Settings.{coincidence_view, coincidence_cells}
+use Rattle.{std.proofs.Common.{rules, ℕ, ◌-◌, ◌/◌, ◌<◌, ◌≤◌, arith}, tally_base.specs.Settings.{coincidence_view, coincidence_cells}}
 use Rattle.coincidence.{specs.Pairing.shifted_by, proofs.Visits.{pairs_near, shifted_inside, one_fits}}
 use Rattle.coincidence.proofs.pairing.pair_earlier.Goals as goal
 

@@ -1,6 +1,4 @@
-use Rattle.std.{proofs.Common.{[], refl}, proofs.Math.Logic.{∥∥₁_map}}
-use Rattle.tally_base.specs.Settings.{coincidence_view}
-use Rattle.coincidence.proofs.Visits.{close_on}
+use Rattle.{std.proofs.{Common.{[], refl}, Math.Logic.∥∥₁_map}, tally_base.specs.Settings.coincidence_view, coincidence.proofs.Visits.close_on}
 use Rattle.coincidence.proofs.pairing.put.Goals as goal
 
 pub join-closed-requires : goal.join-closed-requires

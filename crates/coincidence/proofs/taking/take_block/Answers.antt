@@ -1,5 +1,4 @@
-use Rattle.std.{proofs.Common.{append-nil, []}, proofs.Math.Logic.{∥∥₁_map}}
-use Rattle.coincidence.{proofs.Visits.close_on}
+use Rattle.{std.proofs.{Common.{append-nil, []}, Math.Logic.∥∥₁_map}, coincidence.proofs.Visits.close_on}
 use Rattle.coincidence.proofs.taking.take_block.Goals as goal
 
 pub gather_block-open-requires-clause-stands : goal.gather_block-open-requires-clause-stands

@@ -1,21 +1,21 @@
-use Rattle.std.{proofs.Common.{◌≡◌, ◌+◌, ◌<◌, [], ◌∷◌, ◌++◌, rules, arith}, proofs.Math.Logic.{∥∥₁_map}}
-use Rattle.tally_base.{specs.Settings.coincidence_view, specs.Tally.History, specs.Columns.{item, rows, gathered}}
-use Rattle.coincidence.{specs.Pairs.photons_of_groups, specs.Pairing.{Gathered, Came}, specs.StandsFor.CanTake, proofs.Blockwise.{photons-same, put_row, photons-more}, proofs.taking.take_each.Goals.{then-first-second, else-first-second}}
+use Rattle.{std.proofs.{Common.{◌≡◌, ◌+◌, ◌<◌, [], ◌∷◌, ◌++◌, rules, arith}, Math.Logic.∥∥₁_map}, tally_base.specs.{Settings.coincidence_view, Tally.History}}
+use Rattle.{tally_base.specs.Columns.{item, rows, gathered}, coincidence.specs.{Pairs.photons_of_groups, Pairing.{Gathered, Came}, StandsFor.CanTake}}
+use Rattle.coincidence.proofs.{Blockwise.{photons-same, put_row, photons-more}, taking.take_each.Goals.{then-first-second, else-first-second}}
 use Rattle.coincidence.proofs.taking.take_each.Goals as goal
 
 pub put-open-requires : goal.put-open-requires
 put-open-requires g c =
-    let within : c.loop-at.at < c.args.block.now.len = search (rules, arith) in
+    let within : c.loop-at.at < c.args.given.block.now.len = search (rules, arith) in
     let either = rw (c.has_photon-first.ensures, c.has_photon-second.ensures) at c.if-first-second.true in
     record {
       stands = ∥∥₁_map c.requires.stands (λ w.
-          (photons_of_groups (coincidence_view c.args.set.now) (w.0 ++ rows (item c.args.block.now) c.loop-at.at), item c.args.block.now c.loop-at.at ∷ [], rw c.bin_in-bin.ensures (put_row _ c.args.block.now w.0 c.loop-at.at either _ within w.1 _ (c.loop-at.invariant.came w.0 w.1))));
+          (photons_of_groups (coincidence_view c.args.given.set) (w.0 ++ rows (item c.args.given.block.now) c.loop-at.at), item c.args.given.block.now c.loop-at.at ∷ [], rw c.bin_in-bin.ensures (put_row _ c.args.given.block.now w.0 c.loop-at.at either _ within w.1 _ (c.loop-at.invariant.came w.0 w.1))));
     }
 
 pub returns : goal.returns
 returns g c = record {
   follows = λ h can.
-      let end : c.loop-at.at ≡ c.args.block.now.len = search (rules, arith) in
+      let end : c.loop-at.at ≡ c.args.given.block.now.len = search (rules, arith) in
       rw end at (c.loop-at.invariant.came h can);
   steps = c.loop-at.invariant.steps;
 }
@@ -23,8 +23,8 @@ returns g c = record {
 pub loop-at-preserved : goal.loop-at-preserved
 loop-at-preserved g c =
     let inv = c.loop-at.invariant in
-    let b = c.args.block.now in
-    let set = coincidence_view c.args.set.now in
+    let b = c.args.given.block.now in
+    let set = coincidence_view c.args.given.set in
     let at = c.loop-at.at in
     let within : at < b.len = search (rules, arith) in
     let then = c.if-first-second in

@@ -1,8 +1,8 @@
-use Rattle.std.{proofs.Common.{arith, [], ◌++◌, Ok, Err, take, refl, sym, ap, ◌∙◌, append-nil, inr, rules}, proofs.lemmas.List.length-take, proofs.lemmas.Slice.between_is}
-use Rattle.tally_base.{specs.declared.slot.Slot.TheVariants.Data, proofs.Reasons.HasReason-inside}
-use Rattle.bench_io.proofs.States.{Consumes-nil, Consumes-kept, Consumes-trans, OnlyReads-refl}
-use Rattle.command_work.{proofs.Pieces.{IsCut-nil, some_used, stops-unread, stops-piece}, specs.Outcomes.IsCut, proofs.Told.{Decides-shown, reads-on, fails-on}, proofs.Once.{Rose-kept, quiet-none, quiet-inside, once-refl, once-read, once-unread}}
-use Rattle.ptu_definitions.specs.Headers.{header_answer}
+use Rattle.std.proofs.{Common.{arith, [], ◌++◌, Ok, Err, take, refl, sym, ap, ◌∙◌, append-nil, inr, rules}, lemmas.{List.length-take, Slice.between_is}}
+use Rattle.{tally_base.{specs.declared.slot.Slot.TheVariants.Data, proofs.Reasons.HasReason-inside}, bench_io.proofs.States.{Consumes-nil, Consumes-kept}}
+use Rattle.{bench_io.proofs.States.{Consumes-trans, OnlyReads-refl}, command_work.proofs.Pieces.{IsCut-nil, some_used, stops-unread, stops-piece}}
+use Rattle.command_work.proofs.{Told.{Decides-shown, reads-on, fails-on}, Once.{Rose-kept, quiet-none, quiet-inside, once-refl, once-read, once-unread}}
+use Rattle.{command_work.specs.Outcomes.IsCut, ptu_definitions.specs.Headers.header_answer}
 use Rattle.command_work.proofs.data.read_header.Goals as goal
 
 pub returns-then-len-eq0-clause-reason : goal.returns-then-len-eq0-clause-reason

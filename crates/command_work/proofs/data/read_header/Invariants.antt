@@ -1,8 +1,6 @@
-use Rattle.std.proofs.Common.{◌≡◌, List, ℕ, ◌-◌, ◌^◌, true, None}
-use Rattle.tally_base.specs.declared.slot.Slot.TheVariants.{Data}
-use Rattle.bench_io.{specs.Given.Consumes, specs.Inputs.OnlyReads}
-use Rattle.ptu_header.specs.ReadHeader.{HasRead, bytes_taken, is_open}
-use Rattle.command_work.specs.Outcomes.{SaysNoEnd, IsCut, InputsOnce}
+use Rattle.{std.proofs.Common.{◌≡◌, List, ℕ, ◌-◌, ◌^◌, true, None}, tally_base.specs.declared.slot.Slot.TheVariants.Data, bench_io.specs.Given.Consumes}
+use Rattle.{bench_io.specs.Inputs.OnlyReads, ptu_header.specs.ReadHeader.{HasRead, bytes_taken, is_open}, command_work.specs.Outcomes.{SaysNoEnd, IsCut}}
+use Rattle.command_work.specs.Outcomes.{InputsOnce}
 use Rattle.command_work.proofs.data.read_header.Given as goal
 
 -- the reader was given the bytes that were taken

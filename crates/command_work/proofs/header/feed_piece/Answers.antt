@@ -1,7 +1,5 @@
-use Rattle.std.proofs.Common.{subst, [], ◌++◌, take, drop, ap, sym, ◌∙◌, append-nil, arith, rules}
-use Rattle.ptu_definitions.specs.Headers.{header_answer}
-use Rattle.ptu_header.specs.ReadHeader.{HasRead}
-use Rattle.command_work.proofs.Pieces.{two-parts, whole-piece-more}
+use Rattle.{std.proofs.Common.{subst, [], ◌++◌, take, drop, ap, sym, ◌∙◌, append-nil, arith, rules}, ptu_definitions.specs.Headers.header_answer}
+use Rattle.{ptu_header.specs.ReadHeader.HasRead, command_work.proofs.Pieces.{two-parts, whole-piece-more}}
 use Rattle.command_work.proofs.header.feed_piece.Goals as goal
 
 pub steps-smaller-in-Preamble : goal.steps-smaller-in-Preamble

@@ -1,5 +1,4 @@
-use Rattle.std.proofs.Common.{◌≡◌, ◌+◌, ◌-◌, ◌≤◌, ◌++◌, List, ℕ, length, take}
-use Rattle.ptu_header.specs.ReadHeader.{HasRead, bytes_taken}
+use Rattle.{std.proofs.Common.{◌≡◌, ◌+◌, ◌-◌, ◌≤◌, ◌++◌, List, ℕ, length, take}, ptu_header.specs.ReadHeader.{HasRead, bytes_taken}}
 use Rattle.command_work.proofs.header.feed_piece.Given as goal
 
 -- the reader was given the first `used` bytes of the piece

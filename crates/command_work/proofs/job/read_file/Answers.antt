@@ -1,6 +1,7 @@
-use Rattle.std.{proofs.Common.{arith, rules, ◌≡◌, [], ◌++◌, sym, inr, length, slice_range}, proofs.lemmas.Result.err_from_is_err_and, proofs.lemmas.Slice.between_is}
-use Rattle.bench_io.{proofs.States.OnlyReads-trans, proofs.Bytes.Wrote-same}
-use Rattle.command_work.{proofs.Pieces.{few_behind, few-map, piece-length}, specs.Outcomes.IsCut, proofs.Reading.{ReadWell, cut-goes, leaves-unheaded, leaves-unopened, leaves-piece, so-given, leaves-unread, next-piece, ends-pieces}}
+use Rattle.std.proofs.{Common.{arith, rules, ◌≡◌, [], ◌++◌, sym, inr, length, slice_range}, lemmas.{Result.err_from_is_err_and, Slice.between_is}}
+use Rattle.{bench_io.proofs.{States.OnlyReads-trans, Bytes.Wrote-same}, command_work.proofs.{Pieces.{few_behind, few-map, piece-length}, Reading.ReadWell}}
+use Rattle.command_work.proofs.Reading.{cut-goes, leaves-unheaded, leaves-unopened, leaves-piece, so-given, leaves-unread, next-piece, ends-pieces}
+use Rattle.command_work.specs.Outcomes.{IsCut}
 use Rattle.command_work.proofs.job.read_file.Goals as goal
 
 pub returns-in_err-found-clause-leaves : goal.returns-in_err-found-clause-leaves

@@ -1,6 +1,4 @@
-use Rattle.std.proofs.Common.{◌≤◌, ◌+◌, ◌-◌, slice_range}
-use Rattle.tally_base.specs.declared.slot.Slot.TheVariants.{Data}
-use Rattle.bench_io.specs.Inputs.{OnlyReads}
+use Rattle.{std.proofs.Common.{◌≤◌, ◌+◌, ◌-◌, slice_range}, tally_base.specs.declared.slot.Slot.TheVariants.Data, bench_io.specs.Inputs.OnlyReads}
 use Rattle.command_work.{specs.Endings.span, proofs.Reading.InPieces}
 use Rattle.command_work.proofs.job.read_file.Given as goal
 

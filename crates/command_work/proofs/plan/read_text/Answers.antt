@@ -1,8 +1,8 @@
-use Rattle.std.{proofs.Common.{rules, refl, sym, subst, List, ℕ, length, take, ◌-◌, arith, ◌≡◌, ◌+◌, ◌≤◌, ◌++◌, ap, ◌∙◌}, proofs.lemmas.List.{take-take, length-take}, proofs.lemmas.Slice.take-put_mid, proofs.Math.Seq.take-append-add}
-use Rattle.tally_base.specs.declared.slot.Slot.TheVariants.{Plan as PlanSlot}
-use Rattle.bench_io.{specs.Given.Consumes, proofs.States.{Consumes-trans, OnlyReads-trans}}
+use Rattle.std.proofs.{Common.{rules, refl, sym, subst, List, ℕ, length, take, ◌-◌, arith, ◌≡◌, ◌+◌, ◌≤◌, ◌++◌, ap, ◌∙◌}, lemmas.List.{take-take, length-take}}
+use Rattle.{std.proofs.{lemmas.Slice.take-put_mid, Math.Seq.take-append-add}, tally_base.specs.declared.slot.Slot.TheVariants.Plan as PlanSlot}
+use Rattle.{bench_io.{specs.Given.Consumes, proofs.States.{Consumes-trans, OnlyReads-trans}}, command_work.proofs.{Told.{reads-on, fails-on}, Once.Rose-kept}}
+use Rattle.command_work.proofs.Once.{quiet-none, once-read, once-unread}
 use borrow.Rule.Slice.PartMut.{put_mid}
-use Rattle.command_work.{proofs.Told.{reads-on, fails-on}, proofs.Once.{Rose-kept, quiet-none, once-read, once-unread}}
 use Rattle.command_work.proofs.plan.read_text.Goals as goal
 
 -- a text that is read into the rest of an array

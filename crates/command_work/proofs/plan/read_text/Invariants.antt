@@ -1,7 +1,5 @@
-use Rattle.std.proofs.Common.{◌≡◌, ◌-◌, ◌≤◌, length, take, None}
-use Rattle.tally_base.specs.declared.slot.Slot.TheVariants.{Plan as PlanSlot}
-use Rattle.bench_io.{specs.Given.Consumes, specs.Inputs.OnlyReads}
-use Rattle.command_work.specs.Outcomes.{SaysNoEnd, InputsOnce}
+use Rattle.{std.proofs.Common.{◌≡◌, ◌-◌, ◌≤◌, length, take, None}, tally_base.specs.declared.slot.Slot.TheVariants.Plan as PlanSlot}
+use Rattle.{bench_io.specs.{Given.Consumes, Inputs.OnlyReads}, command_work.specs.Outcomes.{SaysNoEnd, InputsOnce}}
 use Rattle.command_work.proofs.plan.read_text.Given as goal
 
 -- the first bytes of the text are those that were taken

@@ -1,8 +1,9 @@
-use Rattle.std.{proofs.Common.{ℕ, List, refl, sym, ap, ◌∙◌, subst, inl}, specs.declared.option.Option.Option, proofs.lemmas.Result.{IfErr-weaker, err_from_is_err_and}}
-use Rattle.tally_base.specs.declared.slot.Slot.TheVariants.{Data}
-use Rattle.bench_io.{specs.Inputs.{File, IsOpened}, proofs.Bytes.Wrote-nil}
-use Rattle.plan_text.specs.ReadPlan.{plan_view}
-use Rattle.command_work.{specs.Endings.{span, HasCauses}, proofs.PlanTold.{KeepsOther-trans, has-plan, data-unasked, has-later, none-lacking, names-later, takes-later, answers-unplanned, unplanned-causes, answers-lacking, lacking-causes, plan-answers, plan-causes, plan-files}, proofs.Told.few-told, proofs.Once.{Rose-kept, quiet-inside, out-inside, out-unwritten, once-none, once-behind, once-opened, once-unopened}}
+use Rattle.std.proofs.{Common.{ℕ, List, refl, sym, ap, ◌∙◌, subst, inl}, lemmas.Result.{IfErr-weaker, err_from_is_err_and}}
+use Rattle.{std.specs.declared.option.Option.Option, tally_base.specs.declared.slot.Slot.TheVariants.Data, bench_io.specs.Inputs.{File, IsOpened}}
+use Rattle.{bench_io.proofs.Bytes.Wrote-nil, plan_text.specs.ReadPlan.plan_view, command_work.specs.Endings.{span, HasCauses}}
+use Rattle.command_work.proofs.PlanTold.{KeepsOther-trans, has-plan, data-unasked, has-later, none-lacking, names-later, takes-later, answers-unplanned}
+use Rattle.command_work.proofs.{PlanTold.{unplanned-causes, answers-lacking, lacking-causes, plan-answers, plan-causes, plan-files}, Told.few-told}
+use Rattle.command_work.proofs.Once.{Rose-kept, quiet-inside, out-inside, out-unwritten, once-none, once-behind, once-opened, once-unopened}
 use Rattle.command_work.proofs.work.by_plan.Goals as goal
 
 pub returns-in_err-plan : goal.returns-in_err-plan

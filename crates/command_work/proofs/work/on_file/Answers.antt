@@ -1,7 +1,7 @@
-use Rattle.std.{proofs.Common.{ℕ, List, None, refl, sym, ap, ◌∙◌, subst, inl}, specs.declared.option.Option.Option, proofs.lemmas.Result.IfErr-weaker}
-use Rattle.tally_base.specs.declared.slot.Slot.TheVariants.{Plan, Data}
-use Rattle.bench_io.{specs.Inputs.IsOpened, proofs.Bytes.Wrote-nil}
-use Rattle.command_work.{specs.Endings.{span, HasCauses}, proofs.Told.{read-agrees, file-answers, file-causes, few-told}, proofs.Once.{quiet-none, once-refl, once-behind, once-opened, once-unopened}}
+use Rattle.std.{proofs.{Common.{ℕ, List, None, refl, sym, ap, ◌∙◌, subst, inl}, lemmas.Result.IfErr-weaker}, specs.declared.option.Option.Option}
+use Rattle.{tally_base.specs.declared.slot.Slot.TheVariants.{Plan, Data}, bench_io.{specs.Inputs.IsOpened, proofs.Bytes.Wrote-nil}}
+use Rattle.command_work.{specs.Endings.{span, HasCauses}, proofs.{Told.{read-agrees, file-answers, file-causes, few-told}, Once.{quiet-none, once-refl}}}
+use Rattle.command_work.proofs.Once.{once-behind, once-opened, once-unopened}
 use Rattle.command_work.proofs.work.on_file.Goals as goal
 
 pub returns-in-Err : goal.returns-in-Err

@@ -1,6 +1,6 @@
 use Rattle.std.proofs.Common.{◌≡◌, ◌-◌, ◌<◌, ◌≤◌, ◌/◌, ◌&&◌, length, refl, rules, arith, nat_lt, nat_le, ◌==◌, if◌then◌else◌}
-use Rattle.tally_base.{specs.Settings.trace_view, specs.Columns.time_at}
-use Rattle.count_trace.{proofs.Blocks.{count-row, bin-row, one_at, one_at_most, early_none, early_one, late_none, late_one}, proofs.counting.count_block.Goals.{then-time-own, else-time-own}}
+use Rattle.{tally_base.specs.{Settings.trace_view, Columns.time_at}, count_trace.proofs.Blocks.{count-row, bin-row, one_at, one_at_most, early_none, early_one}}
+use Rattle.count_trace.proofs.{Blocks.{late_none, late_one}, counting.count_block.Goals.{then-time-own, else-time-own}}
 use Rattle.count_trace.proofs.counting.count_block.Goals as goal
 
 pub loop-at-preserved : goal.loop-at-preserved

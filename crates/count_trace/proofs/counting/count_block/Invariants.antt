@@ -1,5 +1,4 @@
-use Rattle.std.proofs.Common.{ℕ, ◌≡◌, ◌<◌, ◌≤◌, ◌+◌, ◌*◌, sum, slice_index}
-use Rattle.tally_base.{specs.Settings.trace_view, specs.Columns.{item, rows}}
+use Rattle.{std.proofs.Common.{ℕ, ◌≡◌, ◌<◌, ◌≤◌, ◌+◌, ◌*◌, sum, slice_index}, tally_base.specs.{Settings.trace_view, Columns.{item, rows}}}
 use Rattle.count_trace.specs.TraceCounts.{in_trace_bin, count_before, count_beyond}
 use Rattle.count_trace.proofs.counting.count_block.Given as goal
 

@@ -1,6 +1,7 @@
 use Rattle.std.{proofs.Common.{◌≡◌, ℕ, ◌+◌, ◌-◌, ◌/◌, Bool, ◌&&◌, ◌==◌, cond, nat_le, nat_lt, arith, rules}, specs.List.{count_by, range_with_len}}
-use Rattle.tally_base.{proofs.Sums.{sum_same, count_same, count_parts, parts}, specs.declared.event.Event.Event, specs.Events.{is_photon, is_in}, specs.Settings.TraceView, specs.Tally.{History, in_all_bins, photons_of_group}}
-use Rattle.count_trace.specs.TraceCounts.{count_times, in_trace_bin, count_before, count_beyond}
+use Rattle.tally_base.{proofs.Sums.{sum_same, count_same, count_parts, parts}, specs.{declared.event.Event.Event, Events.{is_photon, is_in}}}
+use Rattle.{tally_base.specs.{Settings.TraceView, Tally.{History, in_all_bins, photons_of_group}}, count_trace.specs.TraceCounts.{count_times, in_trace_bin}}
+use Rattle.count_trace.specs.TraceCounts.{count_before, count_beyond}
 use Rattle.count_trace.proofs.laws.each_photon_counts_once.Goals as goal
 
 -- each photon of the group counts once

@@ -1,5 +1,4 @@
-use Rattle.std.proofs.Common.{◌≡◌, None}
-use Rattle.record_stream.{specs.Feeding.Follows, specs.Standing.{how_of, given_by, greatest_of, refused_with}}
+use Rattle.{std.proofs.Common.{◌≡◌, None}, record_stream.specs.{Feeding.Follows, Standing.{how_of, given_by, greatest_of, refused_with}}}
 use Rattle.file_tests.proofs.settled.feed_pieces.Given as goal
 
 abbrev pub invariant-loop-piece : goal.invariant-loop-piece

@@ -1,6 +1,4 @@
-use Rattle.std.proofs.Common.{arith, rules}
-use Rattle.file_work.proofs.Ends.{ended-plain}
-use Rattle.command_work.proofs.RestEnds.{not_written}
+use Rattle.{std.proofs.Common.{arith, rules}, file_work.proofs.Ends.ended-plain, command_work.proofs.RestEnds.not_written}
 use Rattle.file_work.proofs.events.end_lines.Goals as goal
 
 pub returns-clause-answer : goal.returns-clause-answer

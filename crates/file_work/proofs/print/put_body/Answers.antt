@@ -1,7 +1,6 @@
-use Rattle.std.{proofs.Common.{◌++◌, ◌∙◌, take, append_assoc, ◌+◌, drop, sym, ap, refl}, proofs.lemmas.List.take_more, proofs.lemmas.Result.err_from_is_err_and}
-use Rattle.list_out.{specs.HeaderText.body_text, proofs.Growing.body_text-grows}
-use Rattle.command_work.proofs.Pieces.{whole-piece}
-use Rattle.file_work.proofs.Ends.{PutsMore-next, CutsMore-next}
+use Rattle.std.proofs.{Common.{◌++◌, ◌∙◌, take, append_assoc, ◌+◌, drop, sym, ap, refl}, lemmas.{List.take_more, Result.err_from_is_err_and}}
+use Rattle.{list_out.{specs.HeaderText.body_text, proofs.Growing.body_text-grows}, command_work.proofs.Pieces.whole-piece, file_work.proofs.Ends.PutsMore-next}
+use Rattle.file_work.proofs.Ends.{CutsMore-next}
 use Rattle.file_work.proofs.print.put_body.Goals as goal
 
 -- a body that is printed byte by byte

@@ -1,4 +1,4 @@
-use Rattle.std.{proofs.Common.{arith, rules}, proofs.lemmas.Nat.le-div}
+use Rattle.std.proofs.{Common.{arith, rules}, lemmas.Nat.le-div}
 use Rattle.flim_cube.proofs.count.bin_by.Goals as goal
 
 pub short_quotient-requires : goal.short_quotient-requires

@@ -1,7 +1,9 @@
-use Rattle.std.{proofs.Common.{◌≡◌, ◌∙◌, ℕ, ◌+◌, ◌/◌, Bool, true, false, ◌&&◌, cond, eqb, ltb, [], ◌∷◌, ◌++◌, refl, arith, None, Some, sum_by, nat_le, rules}, specs.declared.option.Option.Option, specs.List.range_with_len, proofs.lemmas.Grind.common_steps, proofs.lemmas.Bool.Decides.nat_tests}
-use Rattle.tally_base.{proofs.Sums.{sum_same, sum_plus, sum_none, in_range, behind_range}, specs.declared.event.Event.Event, specs.declared.event.EventKind.EventKind, specs.declared.event.EventKind.TheVariants.{Photon, Marker}, specs.Events.is_in, specs.Settings.CubeView, specs.Tally.History}
-use Rattle.marker_map.specs.Places.{place_of}
-use Rattle.scan_image.{specs.ImageCounts.{markers, is_at, in_cell, in_all_cells}, proofs.Counts.{met-photon, met-marker}, proofs.Totals.{Inside, place-inside, by-pushes, over_pixels, pixels-agree, pixels-plus, pixels-none, met-count, cells-more}}
+use Rattle.std.proofs.Common.{◌≡◌, ◌∙◌, ℕ, ◌+◌, ◌/◌, Bool, true, false, ◌&&◌, cond, eqb, ltb, [], ◌∷◌, ◌++◌, refl, arith, None, Some, sum_by, nat_le, rules}
+use Rattle.std.{proofs.lemmas.{Grind.common_steps, Bool.Decides.nat_tests}, specs.{declared.option.Option.Option, List.range_with_len}}
+use Rattle.tally_base.{proofs.Sums.{sum_same, sum_plus, sum_none, in_range, behind_range}, specs.declared.event.{Event.Event, EventKind.EventKind}}
+use Rattle.tally_base.specs.{declared.event.EventKind.TheVariants.{Photon, Marker}, Events.is_in, Settings.CubeView, Tally.History}
+use Rattle.{marker_map.specs.Places.place_of, scan_image.{specs.ImageCounts.{markers, is_at, in_cell, in_all_cells}, proofs.Counts.{met-photon, met-marker}}}
+use Rattle.scan_image.proofs.Totals.{Inside, place-inside, by-pushes, over_pixels, pixels-agree, pixels-plus, pixels-none, met-count, cells-more}
 use Rattle.flim_cube.specs.CubeCounts.{is_in_cell, is_over, count_over, in_cell as in_bin, in_pixel, in_whole_cube}
 use Rattle.flim_cube.proofs.laws.a_cube_parts_the_image.Goals as goal
 
@@ -27,7 +29,8 @@ parts set None bin more inside = omega (arith, pixels-none set.image)
 parts set (Some place) bin more inside =
     omega (arith, met-count set.image place (cond (ltb bin set.dbins) more 0) inside, met-count set.image place more inside, in-or-over set.dbins bin more)
 
-whole-more : (set : CubeView) (h later : History) (more : ℕ → ℕ → ℕ → ℕ) → ((x y b : ℕ) → in_bin set x y b later ≡ in_bin set x y b h + more x y b) → in_whole_cube set later ≡ in_whole_cube set h + over_pixels set.image (λ x y. sum_by (λ b. more x y b) (range_with_len 0 set.dbins))
+whole-more : (set : CubeView) (h later : History) (more : ℕ → ℕ → ℕ → ℕ) → ((x y b : ℕ) → in_bin set x y b later ≡ in_bin set x y b h + more x y b)
+    → in_whole_cube set later ≡ in_whole_cube set h + over_pixels set.image (λ x y. sum_by (λ b. more x y b) (range_with_len 0 set.dbins))
 whole-more set h later more is =
     pixels-agree set.image (λ x y. in_pixel set x y later) (λ x y. in_pixel set x y h + sum_by (λ b. more x y b) (range_with_len 0 set.dbins)) (λ x y. sum_same (λ b. in_bin set x y b later) (λ b. in_bin set x y b h + more x y b) (λ b. is x y b) (range_with_len 0 set.dbins) ∙ sum_plus (λ b. in_bin set x y b h) (λ b. more x y b) (range_with_len 0 set.dbins))
     ∙ pixels-plus set.image (λ x y. in_pixel set x y h) (λ x y. sum_by (λ b. more x y b) (range_with_len 0 set.dbins))

@@ -1,4 +1,4 @@
-use Rattle.std.{proofs.Common.{arith, rules}, proofs.lemmas.Bool.cases_eq, proofs.lemmas.Nat.{mod-mul-add, row_fits, same_from_place}}
+use Rattle.std.proofs.{Common.{arith, rules}, lemmas.{Bool.cases_eq, Nat.{mod-mul-add, row_fits, same_from_place}}}
 use Rattle.flim_cube.proofs.spread.put_bytes.Goals as goal
 
 pub loop-i-preserved : goal.loop-i-preserved

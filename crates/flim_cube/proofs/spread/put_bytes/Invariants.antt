@@ -1,5 +1,4 @@
-use Rattle.std.proofs.Common.{◌≡◌, ℕ, ◌+◌, ◌*◌, ◌%◌, ◌<◌, ◌≤◌, slice_index, ◌≢◌}
-use Rattle.flim_cube.specs.Bytes.{byte_in}
+use Rattle.{std.proofs.Common.{◌≡◌, ℕ, ◌+◌, ◌*◌, ◌%◌, ◌<◌, ◌≤◌, slice_index, ◌≢◌}, flim_cube.specs.Bytes.byte_in}
 use Rattle.flim_cube.proofs.spread.put_bytes.Given as goal
 
 abbrev pub invariant-loop-i : goal.invariant-loop-i

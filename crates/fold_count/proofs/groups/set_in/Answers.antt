@@ -1,5 +1,4 @@
-use Rattle.std.{proofs.Common.{rules}, proofs.Common.{◌≡◌, ◌∙◌, ◌+◌, ◌^◌, ◌*◌, cond, get_or, ap, arith}, proofs.lemmas.Grind.pow_more}
-use Rattle.tally_base.specs.Events.{is_in}
+use Rattle.{std.proofs.{Common.{rules, ◌≡◌, ◌∙◌, ◌+◌, ◌^◌, ◌*◌, cond, get_or, ap, arith}, lemmas.Grind.pow_more}, tally_base.specs.Events.is_in}
 use Rattle.fold_count.proofs.Numbers.{number_more, bit_few}
 use Rattle.fold_count.proofs.groups.set_in.Goals as goal
 

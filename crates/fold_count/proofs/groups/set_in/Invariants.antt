@@ -1,6 +1,4 @@
-use Rattle.std.proofs.Common.{◌≡◌, ◌<◌, ◌^◌, take}
-use Rattle.tally_base.specs.Events.{is_in}
-use Rattle.fold_count.specs.FoldCounts.{number_of}
+use Rattle.{std.proofs.Common.{◌≡◌, ◌<◌, ◌^◌, take}, tally_base.specs.Events.is_in, fold_count.specs.FoldCounts.number_of}
 use Rattle.fold_count.proofs.groups.set_in.Given as goal
 
 abbrev pub invariant-loop-group : goal.invariant-loop-group

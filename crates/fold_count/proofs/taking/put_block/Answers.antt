@@ -1,5 +1,5 @@
-use Rattle.std.proofs.Common.{◌<◌, ◌++◌, false, rules, arith, append_assoc}
-use Rattle.tally_base.{specs.Columns.{item, event_at, rows}, specs.Tally.floor_after, proofs.BlockRows.more_rows, proofs.Floors.{floor-more, order-at}}
+use Rattle.{std.proofs.Common.{◌<◌, ◌++◌, false, rules, arith, append_assoc}, tally_base.specs.{Columns.{item, event_at, rows}, Tally.floor_after}}
+use Rattle.tally_base.proofs.{BlockRows.more_rows, Floors.{floor-more, order-at}}
 use Rattle.fold_count.proofs.taking.put_block.Goals as goal
 
 pub put_event-last-requires-clause-in_time : goal.put_event-last-requires-clause-in_time
@@ -16,8 +16,7 @@ loop-at-preserved c =
     let inv = c.loop-at.invariant in
     let put = rw c.get-groups.ensures at c.put_event-last.ensures in
     record {
-      sound = put.sound;
-      few = omega (arith, inv.few, put.few);
+      took = record { sound = put.took.sound; few = omega (arith, inv.took.few, put.took.few) };
       begun = rw (floor-more false c.args.bin.index (event_at b) at) (put.begun (floor_after false c.args.bin.index (rows (event_at b) at)) inv.begun);
       follows = λ h is. rw (more_rows (item b) at, ← append_assoc) (put.follows (h ++ rows (item b) at) (inv.follows h is));
     }

@@ -1,5 +1,4 @@
-use Rattle.std.proofs.Common.{◌∙◌, ◌+◌, ap, sum, arith, nat_lt, ◌==◌, ◌&&◌, cond, rules, slice_index}
-use Rattle.lag_ring.specs.declared.ring.Entry.{Entry}
+use Rattle.{std.proofs.Common.{◌∙◌, ◌+◌, ap, sum, arith, nat_lt, ◌==◌, ◌&&◌, cond, rules, slice_index}, lag_ring.specs.declared.ring.Entry.Entry}
 use Rattle.fold_count.proofs.Bins.{all_before, not_before, room_for_next}
 use Rattle.fold_count.proofs.waiting.count_front.Goals as goal
 
@@ -7,10 +6,13 @@ abbrev none : Entry
 none = record { index = 0; a = 0; b = 0 }
 
 pub returns-then-bin-before-clause-cells : goal.returns-then-bin-before-clause-cells
-returns-then-bin-before-clause-cells c = λ s inside.
-    c.loop-bin.invariant.cells s inside
-    ∙ ap (λ n. slice_index c.args.cells.now s + n)
-    (all_before (λ e. cond (nat_lt e.index c.args.before && (e.b == s)) e.a 0) c.args.before c.args.bins.now c.loop-bin.bin-index none (λ e. not_before e.index c.args.before (e.b == s) e.a) c.requires.rising c.loop-bin-test.true c.if-bin-before.true)
+returns-then-bin-before-clause-cells c = record {
+  same = c.loop-bin.invariant.cells.same;
+  each = λ s inside.
+      c.loop-bin.invariant.cells.each s inside
+      ∙ ap (λ n. slice_index c.args.cells.now s + n)
+      (all_before (λ e. cond (nat_lt e.index c.args.before && (e.b == s)) e.a 0) c.args.before c.args.bins.now c.loop-bin.bin-index none (λ e. not_before e.index c.args.before (e.b == s) e.a) c.requires.rising c.loop-bin-test.true c.if-bin-before.true);
+}
 
 pub returns-then-bin-before-clause-sum : goal.returns-then-bin-before-clause-sum
 returns-then-bin-before-clause-sum c =

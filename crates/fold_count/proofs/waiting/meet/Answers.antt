@@ -1,5 +1,4 @@
-use Rattle.std.proofs.Common.{◌<◌, rules, arith}
-use Rattle.fold_count.{proofs.Nested.{join, partly_step}}
+use Rattle.{std.proofs.Common.{◌<◌, rules, arith}, fold_count.proofs.Nested.{join, partly_step}}
 use Rattle.fold_count.proofs.waiting.meet.Goals as goal
 
 pub back-preserved : goal.back-preserved

@@ -1,5 +1,4 @@
-use Rattle.std.proofs.Common.{◌≡◌, ◌≤◌, length}
-use Rattle.fold_count.proofs.Nested.{partly}
+use Rattle.{std.proofs.Common.{◌≡◌, ◌≤◌, length}, fold_count.proofs.Nested.partly}
 use Rattle.fold_count.proofs.waiting.meet.Given as goal
 
 abbrev pub invariant-back : goal.invariant-back

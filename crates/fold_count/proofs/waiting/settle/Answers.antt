@@ -1,6 +1,6 @@
-use Rattle.std.{proofs.Common.{append-nil, ◌<◌, filter, arith, nat_lt, nat_le, rules}, proofs.lemmas.List.Sums.{sum_by_push}, proofs.lemmas.List.Elements.filter-append}
-use Rattle.lag_ring.{specs.declared.ring.Entry.Entry, proofs.Lists.{all_filter, all_map}}
-use Rattle.fold_count.{specs.Folded.met_in, proofs.Bins.{where_at_most, photons_kept, room_left}, proofs.Nested.{join, photons_met_in}}
+use Rattle.std.proofs.{Common.{append-nil, ◌<◌, filter, arith, nat_lt, nat_le, rules}, lemmas.List.{Sums.sum_by_push, Elements.filter-append}}
+use Rattle.{lag_ring.{specs.declared.ring.Entry.Entry, proofs.Lists.{all_filter, all_map}}, fold_count.{specs.Folded.met_in, proofs.Bins.where_at_most}}
+use Rattle.fold_count.proofs.{Bins.{photons_kept, room_left}, Nested.{join, photons_met_in}}
 use Rattle.fold_count.proofs.waiting.settle.Goals as goal
 
 pub count_bin-requires-clause-room : goal.count_bin-requires-clause-room

@@ -1,6 +1,5 @@
-use Rattle.std.proofs.Common.{◌≡◌, ◌∙◌, rules, arith, refl, ap}
-use Rattle.tally_base.{specs.Codes.kind_of, specs.Columns.{event_at, code_at}}
-use Rattle.gate_plan.{specs.Groups.sorting_of, specs.Shifting.shifted, proofs.Histories.{shifted_rows, shifted_more, left_behind}}
+use Rattle.{std.proofs.Common.{◌≡◌, ◌∙◌, rules, arith, refl, ap}, tally_base.specs.{Codes.kind_of, Columns.{event_at, code_at}}}
+use Rattle.gate_plan.{specs.{Groups.sorting_of, Shifting.shifted}, proofs.Histories.{shifted_rows, shifted_more, left_behind}}
 use Rattle.gate_plan.proofs.blocks.shift_each.Goals as goal
 
 pub loop-at-preserved : goal.loop-at-preserved

@@ -1,6 +1,4 @@
-use Rattle.std.proofs.Common.{ℕ, ◌≡◌, ◌<◌, ◌≤◌}
-use Rattle.tally_base.specs.Columns.{count, sorted, event_at}
-use Rattle.gate_plan.{specs.Groups.sorting_of, specs.Shifting.shifted}
+use Rattle.{std.proofs.Common.{ℕ, ◌≡◌, ◌<◌, ◌≤◌}, tally_base.specs.Columns.{count, sorted, event_at}, gate_plan.specs.{Groups.sorting_of, Shifting.shifted}}
 use Rattle.gate_plan.proofs.blocks.shift_each.Given as goal
 
 abbrev pub invariant-loop-at : goal.invariant-loop-at

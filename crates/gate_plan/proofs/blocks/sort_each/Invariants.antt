@@ -1,6 +1,5 @@
-use Rattle.std.proofs.Common.{length, ℕ, ◌≡◌, ◌<◌, ◌≤◌, slice_index}
-use Rattle.tally_base.specs.Columns.{event_at, code_at}
-use Rattle.gate_plan.{specs.Groups.sorting_of, specs.Taking.groups_by}
+use Rattle.{std.proofs.Common.{length, ℕ, ◌≡◌, ◌<◌, ◌≤◌, slice_index}, tally_base.specs.Columns.{event_at, code_at}, gate_plan.specs.Groups.sorting_of}
+use Rattle.gate_plan.specs.Taking.{groups_by}
 use Rattle.gate_plan.proofs.blocks.sort_each.Given as goal
 
 abbrev pub invariant-loop-at : goal.invariant-loop-at

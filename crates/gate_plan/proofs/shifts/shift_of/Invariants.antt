@@ -1,6 +1,4 @@
-use Rattle.std.proofs.Common.{◌≡◌, map, drop}
-use Rattle.tally_base.specs.Settings.{shift_view}
-use Rattle.gate_plan.specs.Shifting.{shift_of}
+use Rattle.{std.proofs.Common.{◌≡◌, map, drop}, tally_base.specs.Settings.shift_view, gate_plan.specs.Shifting.shift_of}
 use Rattle.gate_plan.proofs.shifts.shift_of.Given as goal
 
 abbrev pub invariant-shifts : goal.invariant-shifts

@@ -1,6 +1,4 @@
-use Rattle.std.proofs.Common.{◌≡◌, ◌<◌, ℕ, map, length, get_or, None}
-use Rattle.tally_base.specs.Settings.{shift_view}
-use Rattle.gate_plan.specs.Shifting.{shift_of}
+use Rattle.{std.proofs.Common.{◌≡◌, ◌<◌, ℕ, map, length, get_or, None}, tally_base.specs.Settings.shift_view, gate_plan.specs.Shifting.shift_of}
 use Rattle.gate_plan.proofs.shifts.shift_table.Given as goal
 
 abbrev pub invariant-loop-input : goal.invariant-loop-input

@@ -1,5 +1,4 @@
-use Rattle.std.proofs.Common.{◌≡◌, ◌+◌, drop, sum_by}
-use Rattle.gate_plan.specs.Parting.{gated_bit, gated_sum}
+use Rattle.{std.proofs.Common.{◌≡◌, ◌+◌, drop, sum_by}, gate_plan.specs.Parting.{gated_bit, gated_sum}}
 use Rattle.gate_plan.proofs.table.bits_of_gated.Given as goal
 
 abbrev pub invariant-gated : goal.invariant-gated

@@ -1,5 +1,5 @@
-use Rattle.std.{proofs.Common.{◌≡◌, [], arith, length, ap, length-append}, proofs.lemmas.List.Sums.{sum_by_push}}
-use Rattle.gate_plan.{specs.Parting.{gated_bit, gated_sum}, proofs.Parts.{gated_some, gated_none, none_left, gates_some, gates_none}, proofs.table.gated_of.Goals.{then-not-is_empty, else-not-is_empty}}
+use Rattle.{std.proofs.{Common.{◌≡◌, [], arith, length, ap, length-append}, lemmas.List.Sums.sum_by_push}, gate_plan.specs.Parting.{gated_bit, gated_sum}}
+use Rattle.gate_plan.proofs.{Parts.{gated_some, gated_none, none_left, gates_some, gates_none}, table.gated_of.Goals.{then-not-is_empty, else-not-is_empty}}
 use Rattle.gate_plan.proofs.table.gated_of.Goals as goal
 
 pub groups-preserved : goal.groups-preserved
@@ -11,11 +11,11 @@ groups-preserved c =
         few = kept.few;
         room = rw w.gated-is (omega (arith, ap length w.push.ensures.items, length-append c.groups.gated.items, kept.room));
         gates = rw (w.gated-is, w.push.ensures.items)
-            (gates_some c.groups.gated.items _ c.groups.group-index c.args.groups.now c.group-item.result
+            (gates_some c.groups.gated.items _ c.groups.group-index c.as_slice-items.result.now c.group-item.result
             c.groups-test.true c.group-item.is w.gated_at.ensures.gates kept.gates);
         rest = λ input dtime.
             rw (w.gated-is, w.push.ensures.items, sum_by_push (gated_bit input dtime))
-            (gated_some input dtime (gated_sum c.groups.gated.items input dtime) c.groups.place c.groups.group-index c.args.groups.now c.group-item.result _ _ c.groups-test.true c.group-item.is (w.gated_at.ensures.bit input dtime) (kept.rest input dtime));
+            (gated_some input dtime (gated_sum c.groups.gated.items input dtime) c.groups.place c.groups.group-index c.as_slice-items.result.now c.group-item.result _ _ c.groups-test.true c.group-item.is (w.gated_at.ensures.bit input dtime) (kept.rest input dtime));
       }
       | else-not-is_empty w ↦
           let none : c.group-item.result.gates.items ≡ [] =
@@ -25,7 +25,7 @@ groups-preserved c =
             few = kept.few;
             room = rw w.gated-is (omega (arith, kept.room));
             gates = rw w.gated-is
-                (gates_none c.groups.gated.items c.groups.group-index c.args.groups.now c.group-item.result c.groups-test.true c.group-item.is none kept.gates);
-            rest = λ input dtime. rw w.gated-is (gated_none input dtime (gated_sum c.groups.gated.items input dtime) c.groups.place c.groups.group-index c.args.groups.now c.group-item.result _ c.groups-test.true c.group-item.is none (kept.rest input dtime));
+                (gates_none c.groups.gated.items c.groups.group-index c.as_slice-items.result.now c.group-item.result c.groups-test.true c.group-item.is none kept.gates);
+            rest = λ input dtime. rw w.gated-is (gated_none input dtime (gated_sum c.groups.gated.items input dtime) c.groups.place c.groups.group-index c.as_slice-items.result.now c.group-item.result _ c.groups-test.true c.group-item.is none (kept.rest input dtime));
           }
     ]

@@ -1,5 +1,4 @@
-use Rattle.std.proofs.Common.{◌≡◌, ◌<◌, ℕ, length, get_or, false}
-use Rattle.gate_plan.specs.Taking.{is_among}
+use Rattle.{std.proofs.Common.{◌≡◌, ◌<◌, ℕ, length, get_or, false}, gate_plan.specs.Taking.is_among}
 use Rattle.gate_plan.proofs.table.inputs_of.Given as goal
 
 abbrev pub invariant-loop-input : goal.invariant-loop-input

@@ -1,5 +1,6 @@
-use Rattle.std.{proofs.Common.{◌≡◌, ◌+◌, ◌*◌, ◌^◌, ◌-◌, ◌<◌, ◌∷◌, ◌&&◌, ◌||◌, ℕ, Bool, true, false, [], List, length, min, slice_index, slice_index_or, if◌then◌else◌, refl, rules, arith}, proofs.lemmas.List.nil_from_length}
-use Rattle.gate_plan.{specs.declared.gated.Gated.Gated, specs.Taking.{one_if, is_in_gate}, specs.Parting.{groups_by, on_sides}, proofs.Parts.{two_groups}}
+use Rattle.std.proofs.Common.{◌≡◌, ◌+◌, ◌*◌, ◌^◌, ◌-◌, ◌<◌, ◌∷◌, ◌&&◌, ◌||◌, ℕ, Bool, true, false, [], List, length, min, slice_index, slice_index_or}
+use Rattle.{std.proofs.{Common.{if◌then◌else◌, refl, rules, arith}, lemmas.List.nil_from_length}, gate_plan.specs.{declared.gated.Gated.Gated, Taking.one_if}}
+use Rattle.gate_plan.{specs.{Taking.is_in_gate, Parting.{groups_by, on_sides}}, proofs.Parts.two_groups}
 use Rattle.gate_plan.proofs.table.only_gate.Goals as goal
 
 single : {X : Type 0} (xs : List X) (x : X) → length xs ≡ 1 → x ≡ slice_index_or xs 0 x → xs ≡ x ∷ []

@@ -1,5 +1,4 @@
-use Rattle.std.proofs.Common.{◌≡◌, ◌||◌, drop}
-use Rattle.gate_plan.specs.Parting.{passes}
+use Rattle.{std.proofs.Common.{◌≡◌, ◌||◌, drop}, gate_plan.specs.Parting.passes}
 use Rattle.gate_plan.proofs.table.passes_some.Given as goal
 
 abbrev pub invariant-gates : goal.invariant-gates

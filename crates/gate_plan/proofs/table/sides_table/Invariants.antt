@@ -1,5 +1,4 @@
-use Rattle.std.proofs.Common.{◌≡◌, ◌<◌, ℕ, [], ◌∷◌, length, get_or}
-use Rattle.gate_plan.specs.Parting.{on_sides}
+use Rattle.{std.proofs.Common.{◌≡◌, ◌<◌, ℕ, [], ◌∷◌, length, get_or}, gate_plan.specs.Parting.on_sides}
 use Rattle.gate_plan.proofs.table.sides_table.Given as goal
 
 abbrev pub invariant-loop-input : goal.invariant-loop-input

@@ -1,5 +1,6 @@
-use Rattle.std.{proofs.Common.{◌≡◌, ◌∙◌, ◌+◌, ◌*◌, ◌/◌, ◌≤◌, ℕ, List, [], ◌++◌, length, sym, ap, arith, rules, append_assoc}, specs.List.{sum_by, AllByRecursion}, specs.Slice.Iter.chunks_rest, proofs.Math.Nat.{mul-div-le, mul-le-mul_left}, proofs.lemmas.List.get_or-replicate, proofs.lemmas.List.Sums.sum_by-append}
-use Rattle.lag_ring.{specs.Bytes.behind, proofs.Lists.{all_front, all_back}, proofs.Sums.behind-le}
+use Rattle.std.proofs.{Common.{◌≡◌, ◌∙◌, ◌+◌, ◌*◌, ◌/◌, ◌≤◌, ℕ, List, [], ◌++◌, length, sym, ap, arith, rules, append_assoc}, Math.Nat.mul-div-le}
+use Rattle.std.{proofs.{Math.Nat.mul-le-mul_left, lemmas.List.{get_or-replicate, Sums.sum_by-append}}, specs.List.{sum_by, AllByRecursion}}
+use Rattle.{std.specs.Slice.Iter.chunks_rest, lag_ring.{specs.Bytes.behind, proofs.{Lists.{all_front, all_back}, Sums.behind-le}}}
 use Rattle.lag_ring.proofs.bytes.byte_lag_sums.Goals as goal
 
 -- the sum over the spots that are done, a part, and those left

@@ -1,4 +1,4 @@
-use Rattle.std.{proofs.Common.{◌≡◌, ℕ, ◌+◌, ◌/◌, ◌<◌, List, ◌++◌, get_or}, specs.List.{sum_by}, specs.Slice.Iter.{chunks_rest, chunks_size}}
+use Rattle.std.{proofs.Common.{◌≡◌, ℕ, ◌+◌, ◌/◌, ◌<◌, List, ◌++◌, get_or}, specs.{List.sum_by, Slice.Iter.{chunks_rest, chunks_size}}}
 use Rattle.lag_ring.specs.Bytes.{behind}
 use Rattle.lag_ring.proofs.bytes.byte_lag_sums.Given as goal
 

@@ -1,5 +1,4 @@
-use Rattle.std.{proofs.Common.{rules, arith}, proofs.lemmas.List.{get_or-replicate}, proofs.lemmas.List.Sums.{sum_by_more_le}}
-use Rattle.lag_ring.{proofs.Sums.part-at}
+use Rattle.{std.proofs.{Common.{rules, arith}, lemmas.List.{get_or-replicate, Sums.sum_by_more_le}}, lag_ring.proofs.Sums.part-at}
 use Rattle.lag_ring.proofs.bytes.byte_sums.Goals as goal
 
 pub loop-spot-init : goal.loop-spot-init

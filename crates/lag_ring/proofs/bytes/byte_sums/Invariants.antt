@@ -1,5 +1,4 @@
-use Rattle.std.{proofs.Common.{◌≡◌, ℕ, ◌+◌, ◌<◌, get_or, take}, specs.List.{sum_by}}
-use Rattle.lag_ring.specs.Bytes.{behind}
+use Rattle.{std.{proofs.Common.{◌≡◌, ℕ, ◌+◌, ◌<◌, get_or, take}, specs.List.sum_by}, lag_ring.specs.Bytes.behind}
 use Rattle.lag_ring.proofs.bytes.byte_sums.Given as goal
 
 abbrev pub invariant-loop-spot : goal.invariant-loop-spot

@@ -1,5 +1,4 @@
-use Rattle.std.proofs.Common.{◌≡◌, length, take}
-use Rattle.lag_ring.specs.Bytes.{Have}
+use Rattle.{std.proofs.Common.{◌≡◌, length, take}, lag_ring.specs.Bytes.Have}
 use Rattle.lag_ring.proofs.bytes.put_side.Given as goal
 
 abbrev pub invariant-loop-entry : goal.invariant-loop-entry

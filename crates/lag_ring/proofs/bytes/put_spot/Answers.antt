@@ -1,5 +1,5 @@
-use Rattle.std.{proofs.Common.{rules}, proofs.Common.{◌≡◌, ℕ, ◌+◌, ◌≤◌, ◌++◌, ◌∷◌, [], List, take, arith}, specs.List.AllByRecursion}
-use Rattle.lag_ring.{proofs.Rising.{all_push}, proofs.bytes.put_spot.Goals.{then-times-gt1, else-times-gt1}}
+use Rattle.{std.{proofs.Common.{rules, ◌≡◌, ℕ, ◌+◌, ◌≤◌, ◌++◌, ◌∷◌, [], List, take, arith}, specs.List.AllByRecursion}, lag_ring.proofs.Rising.all_push}
+use Rattle.lag_ring.proofs.bytes.put_spot.Goals.{then-times-gt1, else-times-gt1}
 use Rattle.lag_ring.proofs.bytes.put_spot.Goals as goal
 
 -- what holds of each holds of one more, or of none

@@ -1,4 +1,4 @@
-use Rattle.std.{proofs.Common.{◌≡◌, ◌+◌, ◌*◌, ◌<◌, ◌≤◌, ℕ, length, take, arith, rules}, proofs.lemmas.List.{take_more_set}, proofs.lemmas.List.Sums.{sum_by_push}}
+use Rattle.std.proofs.{Common.{◌≡◌, ◌+◌, ◌*◌, ◌<◌, ◌≤◌, ℕ, length, take, arith, rules}, lemmas.List.{take_more_set, Sums.sum_by_push}}
 use Rattle.lag_ring.proofs.Rising.{all_push}
 use Rattle.lag_ring.proofs.bytes.put_times.Goals as goal
 

@@ -1,5 +1,5 @@
-use Rattle.std.{proofs.Common.{rules}, proofs.Math.Seq.{take-length}, proofs.Common.{refl, ◌-◌, ◌*◌, ◌≤◌, ℕ, arith}, proofs.lemmas.List.Sums.{sum_by_more, sum_by_more_le}, proofs.lemmas.Grind.common_steps}
-use Rattle.lag_ring.{specs.declared.ring.Entry.Entry, specs.Bytes.weight_of, proofs.Lists.each_at}
+use Rattle.std.proofs.{Common.{rules, refl, ◌-◌, ◌*◌, ◌≤◌, ℕ, arith}, Math.Seq.take-length, lemmas.List.Sums.{sum_by_more, sum_by_more_le}}
+use Rattle.{std.proofs.lemmas.Grind.common_steps, lag_ring.{specs.{declared.ring.Entry.Entry, Bytes.weight_of}, proofs.Lists.each_at}}
 use Rattle.lag_ring.proofs.bytes.spots_of.Goals as goal
 
 pub loop-entry-preserved : goal.loop-entry-preserved

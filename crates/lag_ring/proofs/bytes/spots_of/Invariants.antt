@@ -1,5 +1,4 @@
-use Rattle.std.{proofs.Common.{◌≡◌, ℕ, ◌-◌, ◌*◌, ◌≤◌, take}, specs.List.{sum_by, AllByRecursion}}
-use Rattle.lag_ring.specs.Bytes.{weight_of}
+use Rattle.{std.{proofs.Common.{◌≡◌, ℕ, ◌-◌, ◌*◌, ◌≤◌, take}, specs.List.{sum_by, AllByRecursion}}, lag_ring.specs.Bytes.weight_of}
 use Rattle.lag_ring.proofs.bytes.spots_of.Given as goal
 
 abbrev pub invariant-loop-entry : goal.invariant-loop-entry

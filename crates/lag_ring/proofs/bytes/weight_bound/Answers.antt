@@ -1,4 +1,4 @@
-use Rattle.std.{proofs.Common.{◌<◌, ◌≤◌, get_or, take, bit_or, ℕ, arith}, proofs.lemmas.Nat.{le_or_l, le_or_r}, proofs.lemmas.List.{take_more}}
+use Rattle.std.proofs.{Common.{◌<◌, ◌≤◌, get_or, take, bit_or, ℕ, arith}, lemmas.{Nat.{le_or_l, le_or_r}, List.take_more}}
 use Rattle.lag_ring.{specs.declared.ring.Entry.Entry, proofs.Rising.{all_push, all_weaker}}
 use Rattle.lag_ring.proofs.bytes.weight_bound.Goals as goal
 

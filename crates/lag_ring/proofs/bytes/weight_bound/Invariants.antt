@@ -1,5 +1,4 @@
-use Rattle.std.proofs.Common.{◌<◌, take}
-use Rattle.lag_ring.specs.Bytes.{IsLight}
+use Rattle.{std.proofs.Common.{◌<◌, take}, lag_ring.specs.Bytes.IsLight}
 use Rattle.lag_ring.proofs.bytes.weight_bound.Given as goal
 
 abbrev pub invariant-loop-entry : goal.invariant-loop-entry

@@ -1,5 +1,5 @@
-use Rattle.std.{proofs.Common.{◌≡◌, ◌∙◌, ◌+◌, ◌%◌, ◌^◌, ◌<◌, ℕ, bit_or, get_or, length, rules, arith}, proofs.lemmas.Nat.{le_or_l, le_or_r}}
-use Rattle.lag_ring.{specs.Cells.{without_carry, row_at}, proofs.Between.{places_more}, proofs.Carries.{no-carry, at-set}}
+use Rattle.std.proofs.{Common.{◌≡◌, ◌∙◌, ◌+◌, ◌%◌, ◌^◌, ◌<◌, ℕ, bit_or, get_or, length, rules, arith}, lemmas.Nat.{le_or_l, le_or_r}}
+use Rattle.lag_ring.{specs.Cells.{without_carry, row_at}, proofs.{Between.places_more, Carries.{no-carry, at-set}}}
 use Rattle.lag_ring.proofs.cells.add_lows.Goals as goal
 
 pub loop-q-preserved : goal.loop-q-preserved

@@ -1,5 +1,4 @@
-use Rattle.std.proofs.Common.{◌≡◌, ℕ, ◌+◌, ◌^◌, ◌<◌, ◌≤◌, ◌++◌, length, get_or}
-use Rattle.lag_ring.specs.Cells.{row_at, places_from, without_carry}
+use Rattle.{std.proofs.Common.{◌≡◌, ℕ, ◌+◌, ◌^◌, ◌<◌, ◌≤◌, ◌++◌, length, get_or}, lag_ring.specs.Cells.{row_at, places_from, without_carry}}
 use Rattle.lag_ring.proofs.cells.add_lows.Given as goal
 
 abbrev pub invariant-loop-q : goal.invariant-loop-q

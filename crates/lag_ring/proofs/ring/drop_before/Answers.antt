@@ -1,5 +1,4 @@
-use Rattle.std.proofs.Common.{sym, ◌∙◌}
-use Rattle.lag_ring.proofs.Rising.{none_before_front, none_at_all}
+use Rattle.{std.proofs.Common.{sym, ◌∙◌}, lag_ring.proofs.Rising.{none_before_front, none_at_all}}
 use Rattle.lag_ring.proofs.ring.drop_before.Goals as goal
 
 pub returns-then-e-before-clause-kept : goal.returns-then-e-before-clause-kept

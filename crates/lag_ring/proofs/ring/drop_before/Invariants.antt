@@ -1,5 +1,4 @@
-use Rattle.std.proofs.Common.{◌≡◌, ◌≤◌, filter, length, nat_le}
-use Rattle.lag_ring.specs.Ring.{IsRising}
+use Rattle.{std.proofs.Common.{◌≡◌, ◌≤◌, filter, length, nat_le}, lag_ring.specs.Ring.IsRising}
 use Rattle.lag_ring.proofs.ring.drop_before.Given as goal
 
 abbrev pub invariant-loop-e : goal.invariant-loop-e

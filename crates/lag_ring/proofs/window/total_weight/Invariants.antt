@@ -1,5 +1,4 @@
-use Rattle.std.{proofs.Common.{◌≡◌, ◌-◌, ◌^◌, ◌<◌, take}, specs.List.{sum_by}}
-use Rattle.lag_ring.specs.Bytes.{weight_of}
+use Rattle.{std.{proofs.Common.{◌≡◌, ◌-◌, ◌^◌, ◌<◌, take}, specs.List.sum_by}, lag_ring.specs.Bytes.weight_of}
 use Rattle.lag_ring.proofs.window.total_weight.Given as goal
 
 abbrev pub invariant-loop-entry : goal.invariant-loop-entry

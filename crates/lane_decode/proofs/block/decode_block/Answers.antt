@@ -1,5 +1,4 @@
-use Rattle.std.proofs.Common.{map, ap, ◌∙◌}
-use Rattle.ptu_definitions.{specs.Words.numbers, proofs.WordsLemmas.numbers-chunks}
+use Rattle.{std.proofs.Common.{map, ap, ◌∙◌}, ptu_definitions.{specs.Words.numbers, proofs.WordsLemmas.numbers-chunks}}
 use Rattle.lane_decode.proofs.block.decode_block.Goals as goal
 
 pub returns : goal.returns

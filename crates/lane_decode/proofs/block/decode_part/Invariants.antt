@@ -1,5 +1,4 @@
-use Rattle.std.proofs.Common.{◌≡◌, length, map, take}
-use Rattle.ptu_definitions.specs.Words.{numbers}
+use Rattle.{std.proofs.Common.{◌≡◌, length, map, take}, ptu_definitions.specs.Words.numbers}
 use Rattle.lane_decode.proofs.block.decode_part.Given as goal
 
 abbrev pub invariant-loop-i : goal.invariant-loop-i

@@ -1,5 +1,5 @@
-use Rattle.std.{proofs.Common.{◌≡◌, ◌++◌, ℕ, List, map, take, ap, sym, ◌∙◌, rules, arith}, proofs.lemmas.List.{map-append, append_assoc, take-append-drop}, proofs.lemmas.Slice.take-put_mid}
-use Rattle.ptu_definitions.{specs.declared.records.Raw.Raw, specs.Words.numbers}
+use Rattle.std.proofs.{Common.{◌≡◌, ◌++◌, ℕ, List, map, take, ap, sym, ◌∙◌, rules, arith}, lemmas.List.{map-append, append_assoc, take-append-drop}}
+use Rattle.{std.proofs.lemmas.Slice.take-put_mid, ptu_definitions.specs.{declared.records.Raw.Raw, Words.numbers}}
 use Rattle.lane_decode.proofs.block.decode_words.Goals as goal
 
 -- a part more of the words that are left

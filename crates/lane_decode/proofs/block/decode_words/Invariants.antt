@@ -1,5 +1,4 @@
-use Rattle.std.proofs.Common.{◌≡◌, ◌+◌, ◌++◌, length, map, take}
-use Rattle.ptu_definitions.specs.Words.{numbers}
+use Rattle.{std.proofs.Common.{◌≡◌, ◌+◌, ◌++◌, length, map, take}, ptu_definitions.specs.Words.numbers}
 use Rattle.lane_decode.proofs.block.decode_words.Given as goal
 
 abbrev pub invariant-many : goal.invariant-many

@@ -1,8 +1,8 @@
-use Rattle.std.{proofs.Common.{rules}, proofs.Common.{◌≡◌, ◌<◌, ◌==◌, ℕ, List, Bool, false, length, map, get_or, replicate, cond, ap, ◌∙◌, arith, ltb, w32}, proofs.lemmas.Nat.{and_mask}, proofs.lemmas.Simd.{bitmask_splat, bit_mask_l, mask_l-lt, length-zip2, get_or-zip2, get_or-replicate}, proofs.lemmas.List.{length-map, get_or-map}}
+use Rattle.std.proofs.Common.{rules, ◌≡◌, ◌<◌, ◌==◌, ℕ, List, Bool, false, length, map, get_or, replicate, cond, ap, ◌∙◌, arith, ltb, w32}
+use Rattle.std.proofs.lemmas.{Nat.and_mask, Simd.{bitmask_splat, bit_mask_l, mask_l-lt, length-zip2, get_or-zip2, get_or-replicate}, List.length-map}
+use Rattle.{std.proofs.lemmas.List.get_or-map, tally_base.specs.Codes.code_in, lane_decode.specs.Staying.has_bit}
 use lib.Lanes.{zip2, mask_l}
 use lib.Bits.{bit_and}
-use Rattle.tally_base.specs.Codes.{code_in}
-use Rattle.lane_decode.specs.Staying.{has_bit}
 use Rattle.lane_decode.proofs.events.bits_below.Goals as goal
 
 abbrev codes : List ℕ → List ℕ

@@ -1,8 +1,5 @@
 use Rattle.lane_decode.proofs.Prefix.{sums-are, long-sums}
 use Rattle.lane_decode.proofs.events.sums_up_to.Goals as goal
 
-pub returns-clause-lanes : goal.returns-clause-lanes
-returns-clause-lanes c = long-sums c.args.eight c.requires.lanes
-
-pub returns-clause-sums : goal.returns-clause-sums
-returns-clause-sums c = sums-are c.args.eight c.requires.lanes c.requires.few
+pub returns : goal.returns
+returns c = record { lanes = long-sums c.args.eight c.requires.0; each = sums-are c.args.eight c.requires.0 c.requires.1 }

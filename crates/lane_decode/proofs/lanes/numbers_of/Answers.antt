@@ -1,5 +1,4 @@
-use Rattle.std.{proofs.Common.{[], ap}, proofs.lemmas.Simd.{pick_l_whole}}
-use Rattle.ptu_definitions.specs.Words.{numbers}
+use Rattle.{std.proofs.{Common.{[], ap}, lemmas.Simd.pick_l_whole}, ptu_definitions.specs.Words.numbers}
 use Rattle.lane_decode.proofs.lanes.numbers_of.Goals as goal
 
 pub returns : goal.returns

@@ -1,4 +1,4 @@
-use Rattle.std.{proofs.Common.{refl, arith}, proofs.Math.ListN.{drop_of_length-le}}
+use Rattle.std.proofs.{Common.{refl, arith}, Math.ListN.drop_of_length-le}
 use Rattle.list_out.proofs.backwards.write_newline.Goals as goal
 
 pub returns-clause-written : goal.returns-clause-written

@@ -1,5 +1,4 @@
-use Rattle.std.{proofs.Common.{append-nil, arith}, proofs.Math.ListN.{drop_of_length-le}}
-use Rattle.list_out.specs.Lines.{event_text}
+use Rattle.{std.proofs.{Common.{append-nil, arith}, Math.ListN.drop_of_length-le}, list_out.specs.Lines.event_text}
 use Rattle.list_out.proofs.event.write_line.Goals as goal
 
 pub returns-clause-written : goal.returns-clause-written

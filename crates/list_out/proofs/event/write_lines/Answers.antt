@@ -1,6 +1,5 @@
-use Rattle.std.{proofs.Common.{◌≡◌, ◌+◌, ◌-◌, ◌≤◌, ap, min, ◌∙◌, append-nil, rules, arith, sym}, proofs.Math.ListN.{drop_of_length-le}}
-use Rattle.tally_base.specs.Columns.{event_at, gathered}
-use Rattle.list_out.proofs.Rows.{lines, one-before, rows-part}
+use Rattle.std.proofs.{Common.{◌≡◌, ◌+◌, ◌-◌, ◌≤◌, ap, min, ◌∙◌, append-nil, rules, arith, sym}, Math.ListN.drop_of_length-le}
+use Rattle.{tally_base.specs.Columns.{event_at, gathered}, list_out.proofs.Rows.{lines, one-before, rows-part}}
 use Rattle.list_out.proofs.event.write_lines.Goals as goal
 
 pub back-init : goal.back-init

@@ -1,5 +1,4 @@
-use Rattle.std.proofs.Common.{◌≡◌, ◌+◌, ◌-◌, ◌*◌, ◌≤◌, ◌++◌, take, drop}
-use Rattle.tally_base.specs.Columns.{event_at, rows, count, gathered}
+use Rattle.{std.proofs.Common.{◌≡◌, ◌+◌, ◌-◌, ◌*◌, ◌≤◌, ◌++◌, take, drop}, tally_base.specs.Columns.{event_at, rows, count, gathered}}
 use Rattle.list_out.proofs.Rows.{lines}
 use Rattle.list_out.proofs.event.write_lines.Given as goal
 

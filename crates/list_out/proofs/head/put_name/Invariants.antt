@@ -1,5 +1,4 @@
-use Rattle.std.{proofs.Common.{◌≡◌, ◌+◌, ◌*◌, ◌≤◌, ◌++◌, take}, specs.List.{flat_map}}
-use Rattle.arrayvec.specs.ArrayVec.{array_vec_len}
+use Rattle.{std.{proofs.Common.{◌≡◌, ◌+◌, ◌*◌, ◌≤◌, ◌++◌, take}, specs.List.flat_map}, arrayvec.specs.ArrayVec.array_vec_len}
 use Rattle.list_out.specs.HeaderText.{shown_byte}
 use Rattle.list_out.proofs.head.put_name.Given as goal
 

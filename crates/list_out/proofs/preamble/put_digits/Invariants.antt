@@ -1,5 +1,4 @@
-use Rattle.std.{proofs.Common.{◌≡◌, ◌+◌, ◌*◌, ◌++◌, take}, specs.List.{flat_map}}
-use Rattle.arrayvec.specs.ArrayVec.{array_vec_len}
+use Rattle.{std.{proofs.Common.{◌≡◌, ◌+◌, ◌*◌, ◌++◌, take}, specs.List.flat_map}, arrayvec.specs.ArrayVec.array_vec_len}
 use Rattle.tally_base.specs.Hexadecimal.{hexadecimal}
 use Rattle.list_out.proofs.preamble.put_digits.Given as goal
 

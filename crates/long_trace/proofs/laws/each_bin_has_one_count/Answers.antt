@@ -1,7 +1,7 @@
-use Rattle.std.{proofs.Common.{◌≡◌, ◌∙◌, ℕ, ◌+◌, true, nat_le, List, [], ◌∷◌, length, refl, arith}, specs.List.{count_by, sum_by, range_with_len}, proofs.lemmas.List.Sums.sum_by-cons, proofs.lemmas.List.FromFn.length-map-range_with_len}
-use Rattle.tally_base.{proofs.Sums.parts, specs.Settings.TraceView, specs.Tally.History}
-use Rattle.count_trace.specs.TraceCounts.{in_trace_bin}
-use Rattle.long_trace.specs.Texts.{frequency, frequency_limit, above, counts, span, in_all_frequencies}
+use Rattle.std.proofs.{Common.{◌≡◌, ◌∙◌, ℕ, ◌+◌, true, nat_le, List, [], ◌∷◌, length, refl, arith}, lemmas.List.Sums.sum_by-cons}
+use Rattle.{std.{proofs.lemmas.List.FromFn.length-map-range_with_len, specs.List.{count_by, sum_by, range_with_len}}, tally_base.proofs.Sums.parts}
+use Rattle.{tally_base.specs.{Settings.TraceView, Tally.History}, count_trace.specs.TraceCounts.in_trace_bin, long_trace.specs.Texts.frequency}
+use Rattle.long_trace.specs.Texts.{frequency_limit, above, counts, span, in_all_frequencies}
 use Rattle.long_trace.proofs.laws.each_bin_has_one_count.Goals as goal
 
 -- each bin has one count

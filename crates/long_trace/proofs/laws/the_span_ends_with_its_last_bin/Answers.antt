@@ -1,7 +1,7 @@
-use Rattle.std.{proofs.Common.{◌≡◌, ◌∙◌, refl, ℕ, ◌-◌, ◌<◌, ◌≤◌, true, false, [], ◌∷◌, ◌++◌, arith, rules, append-nil, append_assoc, inl, inr}, proofs.lemmas.Bool.{cases_Bool, cases_lt}}
-use Rattle.tally_base.{specs.declared.event.Event.Event, specs.Settings.TraceView, specs.Tally.History}
-use Rattle.count_trace.specs.TraceCounts.{in_trace_bin}
-use Rattle.long_trace.{specs.Texts.{is_binned, bin_at, span}, proofs.Steps.{bin-push, bin-none, bin-here, bin-other, span-push}}
+use Rattle.std.proofs.Common.{◌≡◌, ◌∙◌, refl, ℕ, ◌-◌, ◌<◌, ◌≤◌, true, false, [], ◌∷◌, ◌++◌, arith, rules, append-nil, append_assoc, inl, inr}
+use Rattle.{std.proofs.lemmas.Bool.{cases_Bool, cases_lt}, tally_base.specs.{declared.event.Event.Event, Settings.TraceView, Tally.History}}
+use Rattle.{count_trace.specs.TraceCounts.in_trace_bin, long_trace.{specs.Texts.{is_binned, bin_at, span}, proofs.Steps.{bin-push, bin-none, bin-here}}}
+use Rattle.long_trace.proofs.Steps.{bin-other, span-push}
 use Rattle.long_trace.proofs.laws.the_span_ends_with_its_last_bin.Goals as goal
 
 -- the span of a trace ends with its last bin that isn't empty

@@ -1,5 +1,7 @@
-use Rattle.std.{proofs.Common.{◌≡◌, ◌∙◌, Bool, true, false, cond, List, [], ◌∷◌, ◌++◌, refl, ap, sym, subst, append_assoc, None, option_to_list, arith, rules}, specs.List.{list_any, last_or}, proofs.lemmas.List.append-nil}
-use Rattle.marker_map.{specs.Places.{last_that, until_last, behind_last, from_last}, proofs.Lasts.{any-passing, any-failing, last_or-push, last-passing, last-failing, until-passing, until-failing, behind-passing, behind-failing, from-passing, from-failing}}
+use Rattle.std.proofs.Common.{◌≡◌, ◌∙◌, Bool, true, false, cond, List, [], ◌∷◌, ◌++◌, refl, ap, sym, subst, append_assoc, None, option_to_list, arith, rules}
+use Rattle.{std.{proofs.lemmas.List.append-nil, specs.List.{list_any, last_or}}, marker_map.specs.Places.{last_that, until_last, behind_last, from_last}}
+use Rattle.marker_map.proofs.Lasts.{any-passing, any-failing, last_or-push, last-passing, last-failing, until-passing, until-failing, behind-passing}
+use Rattle.marker_map.proofs.Lasts.{behind-failing, from-passing, from-failing}
 use Rattle.marker_map.proofs.laws.the_last_marker_parts_them.Goals as goal
 
 -- the last element that passes parts a list

@@ -1,5 +1,5 @@
-use Rattle.std.{proofs.Common.arith, proofs.lemmas.List.length-append, proofs.lemmas.List.Elements.recursion_from_All}
-use Rattle.minimal_file.{specs.ShortFiles.{bytes_in, short_header, minimal_file}, proofs.ShortHeaders.{short-answer, size, IsWord, words_of-bytes_in, rest_of-bytes_in, length-bytes_in}}
+use Rattle.{std.proofs.{Common.arith, lemmas.List.{length-append, Elements.recursion_from_All}}, minimal_file.specs.ShortFiles.{bytes_in, short_header}}
+use Rattle.minimal_file.{specs.ShortFiles.minimal_file, proofs.ShortHeaders.{short-answer, size, IsWord, words_of-bytes_in, rest_of-bytes_in, length-bytes_in}}
 use Rattle.minimal_file.proofs.laws.a_short_file_is_read.Goals as goal
 
 pub returns : goal.returns

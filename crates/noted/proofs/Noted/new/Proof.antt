@@ -14,9 +14,8 @@ use denote.Shadow.{pure_i}
 use denote.Signature.{type_at}
 use denote.Triple.Entry.{alive, Res}
 use denote.Triple.Walked.{says, Stays, walk_of, ends_at}
-use Rattle.std.proofs.raw_atomic.Walks.{proved}
+use Rattle.{std.proofs.raw_atomic.Walks.proved, noted.proofs.Noted.new.Statement.statement}
 use Rattle.noted.specs.contracts.Noted.new as f
-use Rattle.noted.proofs.Noted.new.Statement.{statement}
 use Rattle.noted.proofs.Noted.new.Code as code
 
 pub new_spec : {M : Type 1} → statement M

@@ -1,5 +1,5 @@
 -- An empty body. The borrow is opened, and closed at another ghost value.
-use Rattle.std.{proofs.Common.{◌++◌, refl}, proofs.raw_atomic.Walks.proved}
+use Rattle.{std.proofs.{Common.{◌++◌, refl}, raw_atomic.Walks.proved}, noted.{specs.contracts.Noted.the_row, proofs.Noted.note.Statement.statement}}
 use mathlib.Core.List.{[], ◌∷◌}
 use base.Fml.{ftrue, flft}
 use base.Logic.{id⊢}
@@ -17,7 +17,6 @@ use denote.Signature.{plain}
 use denote.Slice.{ShrSlice, shr_slice_vals, shr_slice_Tells}
 use denote.Steps.{nothing, opens, closes}
 use denote.Triple.Walked.{says, Stays, stay_ref, stay_none_slice, Goes-ref, Goes-none_slice, walk_of, ends_at}
-use Rattle.noted.{specs.contracts.Noted.the_row, proofs.Noted.note.Statement.statement}
 use Rattle.noted.specs.contracts.Noted.note as f
 use Rattle.noted.proofs.Noted.note.Code as code
 

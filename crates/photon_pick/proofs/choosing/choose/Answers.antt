@@ -1,7 +1,8 @@
-use Rattle.std.{proofs.Common.{◌≡◌, ◌+◌, ◌<◌, ◌≤◌, ℕ, Bool, true, false, length, sym, rules, arith, if◌then◌else◌, ◌∙◌, List, [], ◌∷◌, ◌++◌, ap, refl, get_or, set, append-nil, slice_index}, specs.List.filter, proofs.lemmas.Grind.common_steps, proofs.lemmas.List.get_or-set_same, proofs.lemmas.List.Elements.filter-append}
-use Rattle.tally_base.{specs.Columns.{event_at, rows}, specs.Events.is_in, specs.declared.event.Event.Event, specs.declared.event.EventKind.EventKind, specs.declared.event.EventKind.TheVariants.{Photon, Marker}, specs.declared.block.Block.Block, proofs.BlockRows.{same-rows, more_rows}}
-use Rattle.gate_plan.{specs.Groups.sorting_of, specs.Shifting.Sorting, specs.Taking.groups_in, proofs.Parts.of_shifted_marker}
-use Rattle.photon_pick.{specs.Chosen.is_chosen, specs.Giving.events_at}
+use Rattle.std.proofs.Common.{◌≡◌, ◌+◌, ◌<◌, ◌≤◌, ℕ, Bool, true, false, length, sym, rules, arith, if◌then◌else◌, ◌∙◌, List, [], ◌∷◌, ◌++◌, ap, refl, get_or}
+use Rattle.std.{proofs.{Common.{set, append-nil, slice_index}, lemmas.{Grind.common_steps, List.{get_or-set_same, Elements.filter-append}}}, specs.List.filter}
+use Rattle.tally_base.specs.{Columns.{event_at, rows}, Events.is_in, declared.event.{Event.Event, EventKind.{EventKind, TheVariants.{Photon, Marker}}}}
+use Rattle.{tally_base.{specs.declared.block.Block.Block, proofs.BlockRows.{same-rows, more_rows}}, gate_plan.specs.{Groups.sorting_of, Shifting.Sorting}}
+use Rattle.{gate_plan.{specs.Taking.groups_in, proofs.Parts.of_shifted_marker}, photon_pick.specs.{Chosen.is_chosen, Giving.events_at}}
 use Rattle.photon_pick.proofs.choosing.choose.Goals as goal
 
 -- a marker is in no group

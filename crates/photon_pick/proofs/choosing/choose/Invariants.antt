@@ -1,7 +1,5 @@
-use Rattle.std.proofs.Common.{◌≡◌, ◌<◌, ◌≤◌, ℕ, filter, length, slice_index}
-use Rattle.tally_base.specs.Columns.{event_at, rows}
-use Rattle.gate_plan.specs.Groups.{sorting_of}
-use Rattle.photon_pick.{specs.Chosen.is_chosen, specs.Giving.events_at}
+use Rattle.{std.proofs.Common.{◌≡◌, ◌<◌, ◌≤◌, ℕ, filter, length, slice_index}, tally_base.specs.Columns.{event_at, rows}, gate_plan.specs.Groups.sorting_of}
+use Rattle.photon_pick.specs.{Chosen.is_chosen, Giving.events_at}
 use Rattle.photon_pick.proofs.choosing.choose.Given as goal
 
 abbrev pub invariant-loop-at : goal.invariant-loop-at

@@ -1,5 +1,4 @@
-use Rattle.std.proofs.Common.{sym, arith}
-use Rattle.gate_plan.{specs.Groups.sorting_of, specs.Shifting.shifted_dtime, proofs.Parts.{of_shifted, of_shifted_marker}}
+use Rattle.{std.proofs.Common.{sym, arith}, gate_plan.{specs.{Groups.sorting_of, Shifting.shifted_dtime}, proofs.Parts.{of_shifted, of_shifted_marker}}}
 use Rattle.photon_pick.proofs.choosing.groups_of.Goals as goal
 
 pub returns-in-Photon : goal.returns-in-Photon

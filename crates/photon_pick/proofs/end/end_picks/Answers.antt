@@ -1,7 +1,5 @@
-use Rattle.std.proofs.Common.{refl}
-use Rattle.gate_plan.specs.Groups.{sorting_of}
-use Rattle.record_stream.{specs.Standing.{how_of}, proofs.Lasts.streamed-clear}
-use Rattle.photon_pick.{specs.declared.taker.Picks.Picks, specs.Chosen.is_chosen, specs.Giving.{stand, took_none}, proofs.Ends.{ends-on, ends-cut}}
+use Rattle.{std.proofs.Common.refl, gate_plan.specs.Groups.sorting_of, record_stream.{specs.Standing.how_of, proofs.Lasts.streamed-clear}}
+use Rattle.photon_pick.{specs.{declared.taker.Picks.Picks, Chosen.is_chosen, Giving.{stand, took_none}}, proofs.Ends.{ends-on, ends-cut}}
 use Rattle.photon_pick.proofs.end.end_picks.Goals as goal
 
 pub returns-in-Ok-clause-writes : goal.returns-in-Ok-clause-writes

@@ -1,8 +1,7 @@
-use Rattle.std.{proofs.Common.{◌≡◌, ◌<◌, ◌≤◌, ℕ, true, ◌∷◌, ap, sym, subst, refl, rules, arith, slice_index, ◌∙◌, ◌+◌, List, [], ◌++◌, append_assoc}, proofs.lemmas.Result.err_from_is_err_and}
-use Rattle.tally_base.{specs.declared.event.Event.Event, specs.Events.is_photon, specs.Columns.{event_at, rows}, specs.Tally.{floor_after, InOrder}, proofs.BlockRows.{more_rows, rows-split}, proofs.Floors.{order-at, floor-append, order-parts}}
-use Rattle.ptu_definitions.specs.Layouts.{KindFits}
-use Rattle.record_stream.proofs.Gathering.{all-rows}
-use Rattle.record_write.specs.Picker.{mode_of, last_by}
+use Rattle.std.proofs.Common.{◌≡◌, ◌<◌, ◌≤◌, ℕ, true, ◌∷◌, ap, sym, subst, refl, rules, arith, slice_index, ◌∙◌, ◌+◌, List, [], ◌++◌, append_assoc}
+use Rattle.{std.proofs.lemmas.Result.err_from_is_err_and, tally_base.specs.{declared.event.Event.Event, Events.is_photon, Columns.{event_at, rows}}}
+use Rattle.tally_base.{specs.Tally.{floor_after, InOrder}, proofs.{BlockRows.{more_rows, rows-split}, Floors.{order-at, floor-append, order-parts}}}
+use Rattle.{ptu_definitions.specs.Layouts.KindFits, record_stream.proofs.Gathering.all-rows, record_write.specs.Picker.{mode_of, last_by}}
 use Rattle.photon_pick.{specs.Giving.{pen_on, Gave}, proofs.Gives.{Gave-more, refuses}}
 use Rattle.photon_pick.proofs.giving.give_photons.Goals as goal
 

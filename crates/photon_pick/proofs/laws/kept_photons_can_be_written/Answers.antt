@@ -1,5 +1,4 @@
-use Rattle.std.proofs.Common.{arith, rules}
-use Rattle.photon_pick.proofs.CanBeWritten.{kept-can, written-can, settled-can}
+use Rattle.{std.proofs.Common.{arith, rules}, photon_pick.proofs.CanBeWritten.{kept-can, written-can, settled-can}}
 use Rattle.photon_pick.proofs.laws.kept_photons_can_be_written.Goals as goal
 
 pub returns : goal.returns

@@ -1,9 +1,8 @@
-use Rattle.std.{proofs.Common.{◌≡◌, ℕ, ◌+◌, List, length, None, OnOk, Result, refl, arith, rules}, specs.declared.option.Option.Option, proofs.lemmas.Result.on_ok_weaker}
-use Rattle.tally_base.{specs.declared.fault.Fault.Fault, specs.Faults.fault_in}
-use Rattle.gate_plan.specs.Groups.{sorting_of}
-use Rattle.record_stream.{specs.declared.stream.RecordStream.RecordStream, specs.Standing.{how_of, refused_with, bytes_in}}
-use Rattle.record_write.specs.declared.picker.Picker.{Picker}
-use Rattle.photon_pick.{specs.declared.taker.Picks.Picks, specs.Chosen.is_chosen, specs.Giving.{stand, took_none}, specs.Texts.answer_by, specs.Pieces.{IsNoFurther, GoesOn}, proofs.Feeds.{feeds-on, feeds-cut}}
+use Rattle.std.proofs.{Common.{◌≡◌, ℕ, ◌+◌, List, length, None, OnOk, Result, refl, arith, rules}, lemmas.Result.on_ok_weaker}
+use Rattle.{std.specs.declared.option.Option.Option, tally_base.specs.{declared.fault.Fault.Fault, Faults.fault_in}, gate_plan.specs.Groups.sorting_of}
+use Rattle.record_stream.specs.{declared.stream.RecordStream.RecordStream, Standing.{how_of, refused_with, bytes_in}}
+use Rattle.{record_write.specs.declared.picker.Picker.Picker, photon_pick.specs.{declared.taker.Picks.Picks, Chosen.is_chosen, Giving.{stand, took_none}}}
+use Rattle.photon_pick.{specs.{Texts.answer_by, Pieces.{IsNoFurther, GoesOn}}, proofs.Feeds.{feeds-on, feeds-cut}}
 use Rattle.photon_pick.proofs.piece.feed_picks.Goals as goal
 
 goes-on : (old new : RecordStream) (picker : Picker) (piece : List ℕ) (kept : Option Fault) (r : Result (Unit {0}) Fault) → refused_with new ≡ fault_in r

@@ -1,8 +1,5 @@
-use Rattle.std.proofs.Common.{◌≡◌, ◌+◌, ◌≤◌, map, drop, take, length}
-use Rattle.tally_base.specs.declared.fault.Fault.TheVariants.{PlanRule}
-use Rattle.toml.specs.View.{view}
-use Rattle.toml_rules.specs.Rules.{held_from}
-use Rattle.plan_text.specs.Document.{rule_of_lengths, AreShort}
+use Rattle.{std.proofs.Common.{◌≡◌, ◌+◌, ◌≤◌, map, drop, take, length}, tally_base.specs.declared.fault.Fault.TheVariants.PlanRule, toml.specs.View.view}
+use Rattle.{toml_rules.specs.Rules.held_from, plan_text.specs.Document.{rule_of_lengths, AreShort}}
 use Rattle.plan_text.proofs.document.have_at_most.Given as goal
 
 abbrev pub invariant-lists : goal.invariant-lists

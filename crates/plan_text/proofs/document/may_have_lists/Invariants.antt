@@ -1,8 +1,5 @@
-use Rattle.std.proofs.Common.{◌≡◌, ◌+◌, ◌≤◌, map, drop, length}
-use Rattle.tally_base.specs.declared.fault.Fault.TheVariants.{PlanRule}
-use Rattle.toml.specs.View.{view}
-use Rattle.toml_rules.specs.Rules.{held_from}
-use Rattle.plan_text.specs.Document.{rule_of_lists}
+use Rattle.{std.proofs.Common.{◌≡◌, ◌+◌, ◌≤◌, map, drop, length}, tally_base.specs.declared.fault.Fault.TheVariants.PlanRule, toml.specs.View.view}
+use Rattle.{toml_rules.specs.Rules.held_from, plan_text.specs.Document.rule_of_lists}
 use Rattle.plan_text.proofs.document.may_have_lists.Given as goal
 
 abbrev pub invariant-lists : goal.invariant-lists

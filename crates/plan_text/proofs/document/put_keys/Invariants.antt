@@ -1,4 +1,4 @@
-use Rattle.std.{proofs.Common.{◌≡◌, ◌≤◌, ◌+◌, ◌++◌, map, filter, take, length}, proofs.Math.Bool.beq}
+use Rattle.std.proofs.{Common.{◌≡◌, ◌≤◌, ◌+◌, ◌++◌, map, filter, take, length}, Math.Bool.beq}
 use Rattle.plan_text.proofs.document.put_keys.Given as goal
 
 abbrev pub invariant-lists : goal.invariant-lists

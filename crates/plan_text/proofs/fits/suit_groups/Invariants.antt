@@ -1,7 +1,5 @@
-use Rattle.std.proofs.Common.{◌≡◌, ◌+◌, ◌≤◌, map, drop, length}
-use Rattle.tally_base.{specs.declared.part.PartKind.TheVariants.Gate, specs.Settings.group_view, specs.declared.fault.Fault.TheVariants.PlanMode}
-use Rattle.toml_rules.specs.Rules.{held_from}
-use Rattle.plan_text.specs.Fits.{group_suits}
+use Rattle.{std.proofs.Common.{◌≡◌, ◌+◌, ◌≤◌, map, drop, length}, tally_base.specs.declared.{part.PartKind.TheVariants.Gate, fault.Fault.TheVariants.PlanMode}}
+use Rattle.{tally_base.specs.Settings.group_view, toml_rules.specs.Rules.held_from, plan_text.specs.Fits.group_suits}
 use Rattle.plan_text.proofs.fits.suit_groups.Given as goal
 
 abbrev pub invariant-groups : goal.invariant-groups

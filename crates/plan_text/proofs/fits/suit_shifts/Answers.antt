@@ -1,5 +1,4 @@
-use Rattle.std.proofs.Common.{sym, rules, arith}
-use Rattle.plan_text.proofs.Misfits.{shifts_refused, shifts_pass}
+use Rattle.{std.proofs.Common.{sym, rules, arith}, plan_text.proofs.Misfits.{shifts_refused, shifts_pass}}
 use Rattle.plan_text.proofs.fits.suit_shifts.Goals as goal
 
 pub returns-in-T2 : goal.returns-in-T2

@@ -1,5 +1,4 @@
-use Rattle.std.proofs.Common.{◌≤◌, [], ◌∷◌, arith, length-append}
-use Rattle.plan_text.proofs.Numbers.{numbers_further, are_groups, numbers_kept}
+use Rattle.{std.proofs.Common.{◌≤◌, [], ◌∷◌, arith, length-append}, plan_text.proofs.Numbers.{numbers_further, are_groups, numbers_kept}}
 use Rattle.plan_text.proofs.folds.numbers_from.Goals as goal
 
 pub returns-clause-rise : goal.returns-clause-rise

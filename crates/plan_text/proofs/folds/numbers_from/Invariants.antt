@@ -1,6 +1,4 @@
-use Rattle.std.proofs.Common.{◌≡◌, ◌++◌, map, drop, length, option_map}
-use Rattle.arrayvec.specs.ArrayVec.{array_vec_len}
-use Rattle.toml.specs.View.{view}
+use Rattle.{std.proofs.Common.{◌≡◌, ◌++◌, map, drop, length, option_map}, arrayvec.specs.ArrayVec.array_vec_len, toml.specs.View.view}
 use Rattle.plan_text.{specs.Folds.numbers_from, proofs.Numbers.NumbersTo}
 use Rattle.plan_text.proofs.folds.numbers_from.Given as goal
 

@@ -1,6 +1,4 @@
-use Rattle.std.proofs.Common.{◌≡◌, ◌+◌, ◌<◌, ◌≤◌, ◌^◌, map, drop, option_map}
-use Rattle.toml.specs.View.{view}
-use Rattle.plan_text.specs.Groups.{inputs_from}
+use Rattle.{std.proofs.Common.{◌≡◌, ◌+◌, ◌<◌, ◌≤◌, ◌^◌, map, drop, option_map}, toml.specs.View.view, plan_text.specs.Groups.inputs_from}
 use Rattle.plan_text.proofs.groups.inputs_from.Given as goal
 
 abbrev pub invariant-items : goal.invariant-items

@@ -1,7 +1,5 @@
-use Rattle.std.proofs.Common.{◌≡◌, ◌+◌, ◌≤◌, map, drop, length}
-use Rattle.tally_base.specs.declared.fault.Fault.TheVariants.{PlanRule}
-use Rattle.toml.specs.View.{view}
-use Rattle.toml_rules.{specs.Rules.held_from, specs.Values.has_keys}
+use Rattle.{std.proofs.Common.{◌≡◌, ◌+◌, ◌≤◌, map, drop, length}, tally_base.specs.declared.fault.Fault.TheVariants.PlanRule, toml.specs.View.view}
+use Rattle.toml_rules.specs.{Rules.held_from, Values.has_keys}
 use Rattle.plan_text.proofs.kind.each_has_keys.Given as goal
 
 abbrev pub invariant-items : goal.invariant-items

@@ -1,5 +1,4 @@
-use Rattle.std.proofs.Common.{◌∙◌, ◌<◌, sym, length, rules, arith}
-use Rattle.plan_text.proofs.Misfits.{all_fit, none_fits}
+use Rattle.{std.proofs.Common.{◌∙◌, ◌<◌, sym, length, rules, arith}, plan_text.proofs.Misfits.{all_fit, none_fits}}
 use Rattle.plan_text.proofs.kind.suit_tables.Goals as goal
 
 pub returns-in-Some : goal.returns-in-Some

@@ -1,6 +1,6 @@
 use Rattle.std.{proofs.Common.{◌≡◌, refl, sym, ap, ℕ, ◌+◌, ◌≤◌, List, [], ◌∷◌, ◌++◌, length, arith}, specs.List.{AllByRecursion, flat_map}}
-use Rattle.tally_base.specs.Settings.{PartSettings}
-use Rattle.plan_text.{specs.declared.plan.Plan.Plan, specs.Kinds.part_lists, specs.ReadPlan.HaveSameTables, proofs.ByKind.{kind_at, AreAt, AreByKinds, by_kinds}}
+use Rattle.{tally_base.specs.Settings.PartSettings, plan_text.specs.{declared.plan.Plan.Plan, Kinds.part_lists, ReadPlan.HaveSameTables}}
+use Rattle.plan_text.proofs.ByKind.{kind_at, AreAt, AreByKinds, by_kinds}
 use Rattle.plan_text.proofs.laws.same_tables_of_each_kind.Goals as goal
 
 -- equal parts are equal lists of each kind

@@ -1,8 +1,5 @@
-use Rattle.std.proofs.Common.{◌≡◌, ◌≤◌, map, filter_map, drop, length, ◌++◌}
-use Rattle.arrayvec.specs.ArrayVec.{array_vec_len}
-use Rattle.toml.specs.View.{view}
-use Rattle.tally_base.specs.Settings.{group_view}
-use Rattle.plan_text.specs.Groups.{group}
+use Rattle.{std.proofs.Common.{◌≡◌, ◌≤◌, map, filter_map, drop, length, ◌++◌}, arrayvec.specs.ArrayVec.array_vec_len, toml.specs.View.view}
+use Rattle.{tally_base.specs.Settings.group_view, plan_text.specs.Groups.group}
 use Rattle.plan_text.proofs.read.groups_of.Given as goal
 
 abbrev pub invariant-items : goal.invariant-items

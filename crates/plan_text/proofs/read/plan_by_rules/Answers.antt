@@ -1,6 +1,5 @@
-use Rattle.toml.specs.View.{view}
-use Rattle.toml_rules.proofs.Least.{names_least, all_kept_nowhere, all_kept_inside}
-use Rattle.plan_text.{specs.Plan.plan_rules, proofs.ByKind.plan_rules_rise, proofs.Whole.plan_is_whole}
+use Rattle.{toml.specs.View.view, toml_rules.proofs.Least.{names_least, all_kept_nowhere, all_kept_inside}, plan_text.specs.Plan.plan_rules}
+use Rattle.plan_text.proofs.{ByKind.plan_rules_rise, Whole.plan_is_whole}
 use Rattle.plan_text.proofs.read.plan_by_rules.Goals as goal
 
 pub returns-in-Err-clause-refused : goal.returns-in-Err-clause-refused

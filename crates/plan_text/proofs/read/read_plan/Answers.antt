@@ -1,5 +1,4 @@
-use Rattle.std.proofs.Common.{sym, arith, rules}
-use Rattle.plan_text.proofs.Called.{plan_answer_long, answer_none, answer_some}
+use Rattle.{std.proofs.Common.{sym, arith, rules}, plan_text.proofs.Called.{plan_answer_long, answer_none, answer_some}}
 use Rattle.plan_text.proofs.read.read_plan.Goals as goal
 
 pub returns-then-bytes-gt-TEXT_LIMIT-clause-answer : goal.returns-then-bytes-gt-TEXT_LIMIT-clause-answer

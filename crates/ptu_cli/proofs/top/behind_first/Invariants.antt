@@ -1,4 +1,4 @@
-use Rattle.std.{specs.Prelude.{◌≡◌, ◌++◌}, specs.Vec.Iter.{into_iter_items, into_iter_len}}
+use Rattle.std.specs.{Prelude.{◌≡◌, ◌++◌}, Vec.Iter.{into_iter_items, into_iter_len}}
 use Rattle.ptu_cli.proofs.top.behind_first.Given as goal
 
 -- the words so far and those that are left are those after the first

@@ -1,6 +1,4 @@
-use Rattle.std.proofs.Common.{refl}
-use Rattle.ptu_cli.proofs.Complete.{alone-quiet, does_as}
-use Rattle.command_work.proofs.Once.{once-refl}
+use Rattle.{std.proofs.Common.refl, ptu_cli.proofs.Complete.{alone-quiet, does_as}, command_work.proofs.Once.once-refl}
 use Rattle.ptu_cli.proofs.top.obey.Goals as goal
 
 pub returns-in-Count-clause-does : goal.returns-in-Count-clause-does

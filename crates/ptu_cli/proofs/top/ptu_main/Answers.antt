@@ -1,6 +1,4 @@
-use Rattle.std.proofs.Common.{Ok, Err, refl}
-use Rattle.bench_io.proofs.Bytes.{Wrote-nil}
-use Rattle.ptu_cli.proofs.Complete.{runs}
+use Rattle.{std.proofs.Common.{Ok, Err, refl}, bench_io.proofs.Bytes.Wrote-nil, ptu_cli.proofs.Complete.runs}
 use Rattle.ptu_cli.proofs.top.ptu_main.Goals as goal
 
 pub returns-in-Err : goal.returns-in-Err

@@ -1,4 +1,5 @@
-use Rattle.std.{proofs.Common.{arith, refl, sym, ◌∙◌}, specs.Char.is_ascii_digit, specs.Str.all_ascii_digits, proofs.lemmas.List.Recursion.{and_fails_at, and_from_places}}
+use Rattle.std.{proofs.{Common.{arith, refl, sym, ◌∙◌}, lemmas.List.Recursion.{and_fails_at, and_from_places}}, specs.Char.is_ascii_digit}
+use Rattle.std.specs.Str.{all_ascii_digits}
 use Rattle.ptu_cli.proofs.words.are_digits.Goals as goal
 
 pub returns-then-not-is_ascii_digit : goal.returns-then-not-is_ascii_digit

@@ -1,4 +1,6 @@
-use Rattle.std.{proofs.Common.{◌<◌, ◌≤◌, ◌≡◌, ◌∙◌, ◌^◌, ◌&&◌, ℕ, Bool, true, false, None, Some, Ok, Err, List, length, sym, ap, refl, arith, rules, inl, inr, nat_le, if◌then◌else◌}, specs.Str.all_ascii_digits, proofs.lemmas.Bool.Decides.nat_tests, specs.Str.Parse.{ParsesUnsigned, digits_value}, proofs.lemmas.Bool.cases_lt, proofs.lemmas.Str.Parse.{IsNumeralModel, numerals_by_value, tells_all_ascii_digits, parse_digits}}
+use Rattle.std.proofs.Common.{◌<◌, ◌≤◌, ◌≡◌, ◌∙◌, ◌^◌, ◌&&◌, ℕ, Bool, true, false, None, Some, Ok, Err, List, length, sym, ap, refl, arith, rules, inl, inr}
+use Rattle.std.proofs.{Common.{nat_le, if◌then◌else◌}, lemmas.{Bool.{Decides.nat_tests, cases_lt}, Str.Parse.{IsNumeralModel, numerals_by_value}}}
+use Rattle.std.{proofs.lemmas.Str.Parse.{tells_all_ascii_digits, parse_digits}, specs.Str.{all_ascii_digits, Parse.{ParsesUnsigned, digits_value}}}
 use Rattle.ptu_cli.specs.Commands.{is_numeral, number_in}
 use Rattle.ptu_cli.proofs.words.number.Goals as goal
 

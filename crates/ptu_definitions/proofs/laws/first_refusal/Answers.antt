@@ -1,5 +1,5 @@
-use Rattle.std.proofs.Common.{arith, rules}
-use Rattle.ptu_definitions.{proofs.Firsts.{first-refusal, refused-first, none-refused, given-before, given-all}, proofs.StreamLemmas.{refused-more, given-stays}}
+use Rattle.{std.proofs.Common.{arith, rules}, ptu_definitions.proofs.Firsts.{first-refusal, refused-first, none-refused, given-before, given-all}}
+use Rattle.ptu_definitions.proofs.StreamLemmas.{refused-more, given-stays}
 use Rattle.ptu_definitions.proofs.laws.first_refusal.Goals as goal
 
 pub returns : goal.returns

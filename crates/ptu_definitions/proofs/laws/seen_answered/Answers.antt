@@ -1,5 +1,4 @@
-use Rattle.std.proofs.Common.{arith, rules}
-use Rattle.ptu_definitions.proofs.SeenLaws.{seen-answered, seen-refused}
+use Rattle.{std.proofs.Common.{arith, rules}, ptu_definitions.proofs.SeenLaws.{seen-answered, seen-refused}}
 use Rattle.ptu_definitions.proofs.laws.seen_answered.Goals as goal
 
 pub returns-clause-answered : goal.returns-clause-answered

@@ -1,5 +1,4 @@
-use Rattle.std.proofs.Common.{arith, rules}
-use Rattle.ptu_definitions.{proofs.SeenLemmas.{seen-header, seen_preamble-header}, proofs.SeenLaws.{seen-longest, seen-none}}
+use Rattle.{std.proofs.Common.{arith, rules}, ptu_definitions.proofs.{SeenLemmas.{seen-header, seen_preamble-header}, SeenLaws.{seen-longest, seen-none}}}
 use Rattle.ptu_definitions.proofs.laws.seen_longest.Goals as goal
 
 pub returns : goal.returns

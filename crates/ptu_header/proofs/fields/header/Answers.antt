@@ -1,5 +1,5 @@
-use Rattle.std.{proofs.Common.{◌≡◌, None, refl, rules, ◌≤◌, ◌<◌, ◌-◌, ◌^◌, ◌≢◌, ℕ, suc, false, arith, nat_eq, negsuc}, specs.Int.{w64, cast_signed}, proofs.lemmas.Int.{to_z-of_z, to_z_pos}, proofs.lemmas.Bool.cases_lt, proofs.lemmas.Bool.Decides.nat_tests}
-use Rattle.tally_base.specs.RecordTypes.{type_of, type_with}
+use Rattle.std.proofs.{Common.{◌≡◌, None, refl, rules, ◌≤◌, ◌<◌, ◌-◌, ◌^◌, ◌≢◌, ℕ, suc, false, arith, nat_eq, negsuc}, lemmas.Int.{to_z-of_z, to_z_pos}}
+use Rattle.{std.{proofs.lemmas.Bool.{cases_lt, Decides.nat_tests}, specs.Int.{w64, cast_signed}}, tally_base.specs.RecordTypes.{type_of, type_with}}
 use Rattle.ptu_definitions.{specs.Fields.header_of, proofs.Walks.not_less}
 use Rattle.ptu_header.proofs.fields.header.Goals as goal
 

@@ -1,7 +1,6 @@
-use Rattle.std.{proofs.Common.{arith, rules}, proofs.lemmas.List.length-append}
-use Rattle.tally_base.specs.declared.header.Mode.TheVariants.{T2}
+use Rattle.{std.proofs.{Common.{arith, rules}, lemmas.List.length-append}, tally_base.specs.declared.header.Mode.TheVariants.T2}
 use Rattle.minimal_file.{specs.ShortFiles.{minimal_file, bytes_in}, proofs.ShortHeaders.{short-answer, size, length-bytes_in}}
-use Rattle.ptu_made.{specs.Generator.made_words, specs.Records.made_file, proofs.MadeEvents.{all-made, words-bytes, few-words}}
+use Rattle.ptu_made.{specs.{Generator.made_words, Records.made_file}, proofs.MadeEvents.{all-made, words-bytes, few-words}}
 use Rattle.ptu_made.proofs.laws.the_file_is_whole.Goals as goal
 
 pub returns : goal.returns

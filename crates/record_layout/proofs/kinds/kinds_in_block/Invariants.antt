@@ -1,5 +1,4 @@
-use Rattle.std.{proofs.Common.{◌≡◌, take, count_by}, specs.Int.{from_le_bytes, w32}}
-use Rattle.ptu_definitions.specs.Kinds.{is_photon, is_marker, is_wrap}
+use Rattle.{std.{proofs.Common.{◌≡◌, take, count_by}, specs.Int.{from_le_bytes, w32}}, ptu_definitions.specs.Kinds.{is_photon, is_marker, is_wrap}}
 use Rattle.record_layout.proofs.kinds.kinds_in_block.Given as goal
 
 abbrev pub invariant-loop-bytes : goal.invariant-loop-bytes

@@ -1,6 +1,4 @@
-use Rattle.std.proofs.Common.{◌≡◌, ◌+◌, length, map}
-use Rattle.ptu_definitions.{specs.Words.numbers, specs.Kinds.counts_of}
-use Rattle.record_layout.specs.Sums.{IsSplit, sum_of}
+use Rattle.{std.proofs.Common.{◌≡◌, ◌+◌, length, map}, ptu_definitions.specs.{Words.numbers, Kinds.counts_of}, record_layout.specs.Sums.{IsSplit, sum_of}}
 use Rattle.record_layout.proofs.kinds.kinds_of.Given as goal
 
 abbrev pub invariant-whole_blocks : goal.invariant-whole_blocks

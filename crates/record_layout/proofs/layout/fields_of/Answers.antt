@@ -1,4 +1,4 @@
-use Rattle.std.{proofs.Common.{◌<◌, ◌≤◌, ◌^◌, ◌/◌, ℕ, arith}, proofs.Math.Nat.pow-le-pow_right, proofs.lemmas.Nat.{div_below, pow_pos}}
+use Rattle.std.proofs.{Common.{◌<◌, ◌≤◌, ◌^◌, ◌/◌, ℕ, arith}, Math.Nat.pow-le-pow_right, lemmas.Nat.{div_below, pow_pos}}
 use Rattle.record_layout.proofs.layout.fields_of.Goals as goal
 
 -- the fields of a word fit

@@ -1,7 +1,6 @@
-use Rattle.std.{proofs.Common.{◌≡◌, ◌+◌, ◌*◌, ◌^◌, ◌≤◌, ap, arith, rules, slice_index}, proofs.lemmas.Bool.{lt-ltb, le-ltb}, proofs.Math.Nat.mul-le-mul_right}
-use Rattle.record_layout.specs.declared.row.Row.{Row}
-use Rattle.lane_decode.{specs.InColumns.{wraps_at, sum_to}, specs.Staying.staying, proofs.Added.sum-few}
-use Rattle.record_stream.{proofs.WholeBlocks.{product-more, none-more, first-is}}
+use Rattle.std.proofs.{Common.{◌≡◌, ◌+◌, ◌*◌, ◌^◌, ◌≤◌, ap, arith, rules, slice_index}, lemmas.Bool.{lt-ltb, le-ltb}}
+use Rattle.{record_layout.specs.declared.row.Row.Row, lane_decode.specs.{InColumns.{wraps_at, sum_to}, Staying.staying}}
+use Rattle.record_stream.proofs.WholeBlocks.{product-more, none-more, first-is}
 use Rattle.record_stream.proofs.ahead.first_event.Goals as goal
 
 pub loop-at-init : goal.loop-at-init
@@ -10,27 +9,20 @@ loop-at-init g c = search (rules, arith)
 
 pub overflow_add-before : goal.overflow_add-before
 overflow_add-before g c =
-    let unit = g.R.RecordLayout.UNIT in
     let columns = c.args.columns.now in
     let at = c.loop-at.at in
     let here : c.get-row.result.wraps ≡ wraps_at columns at = ap (λ (r : Row). r.wraps) c.get-row.ensures in
-    let more = product-more unit (wraps_at columns) at in
-    let unit_few : unit ≤ 2 ^ 28 = omega (arith, g.met.R.RecordLayout.unit_small) in
-    let product : unit * sum_to (wraps_at columns) (at + 1) ≤ 2 ^ 28 * sum_to (wraps_at columns) (at + 1) = mul-le-mul_right (sum_to (wraps_at columns) (at + 1)) unit_few in
-    let sums = sum-few (wraps_at columns) (2 ^ 25) (at + 1) (λ k lt. c.requires.few k (omega (arith, lt, c.loop-at-test.true))) in
-    rw (here, c.UNIT.ensures) (omega (arith, more, product, sums, c.loop-at-test.true, c.loop-at.invariant.before, c.requires.room))
+    let more = product-more g.R.RecordLayout.UNIT (wraps_at columns) at in
+    rw (here, c.UNIT.ensures) (omega (arith, more, c.requires at c.loop-at-test.true, c.loop-at.invariant.before))
 
 pub overflow_add-result : goal.overflow_add-result
 overflow_add-result g c =
-    let unit = g.R.RecordLayout.UNIT in
     let columns = c.args.columns.now in
     let at = c.loop-at.at in
     let here : c.get-row.result.wraps ≡ wraps_at columns at = ap (λ (r : Row). r.wraps) c.get-row.ensures in
-    let more = product-more unit (wraps_at columns) at in
-    let unit_few : unit ≤ 2 ^ 28 = omega (arith, g.met.R.RecordLayout.unit_small) in
-    let product : unit * sum_to (wraps_at columns) (at + 1) ≤ 2 ^ 28 * sum_to (wraps_at columns) (at + 1) = mul-le-mul_right (sum_to (wraps_at columns) (at + 1)) unit_few in
-    let sums = sum-few (wraps_at columns) (2 ^ 25) (at + 1) (λ k lt. c.requires.few k (omega (arith, lt, c.loop-at-test.true))) in
-    rw (here, c.UNIT.ensures) (omega (arith, more, product, sums, c.loop-at-test.true, c.loop-at.invariant.before, c.requires.room))
+    let time : c.get-row.result.time ≡ slice_index columns.times at = ap (λ (r : Row). r.time) c.get-row.ensures in
+    let more = product-more g.R.RecordLayout.UNIT (wraps_at columns) at in
+    rw (here, c.UNIT.ensures) (omega (arith, more, time, c.requires at c.loop-at-test.true, c.loop-at.invariant.before))
 
 pub returns-then-row-lt512 : goal.returns-then-row-lt512
 returns-then-row-lt512 g c = λ k ks are.

@@ -1,5 +1,4 @@
-use Rattle.std.proofs.Common.{◌≡◌, ◌+◌, ◌*◌, []}
-use Rattle.lane_decode.{specs.InColumns.{wraps_at, sum_to}, specs.Staying.staying}
+use Rattle.{std.proofs.Common.{◌≡◌, ◌+◌, ◌*◌, []}, lane_decode.specs.{InColumns.{wraps_at, sum_to}, Staying.staying}}
 use Rattle.record_stream.proofs.ahead.first_event.Given as goal
 
 abbrev pub invariant-loop-at : goal.invariant-loop-at

@@ -1,7 +1,6 @@
-use Rattle.std.{proofs.Common.{◌≡◌, ◌+◌, ◌-◌, ◌*◌, Some, true, false, refl, sym, ap, ◌∙◌, arith, slice_index}, proofs.lemmas.Bool.{lt-ltb, le-ltb}}
-use Rattle.record_layout.specs.declared.row.Row.{Row}
-use Rattle.lane_decode.specs.InColumns.{row_at, wraps_at, sum_to, time_in}
-use Rattle.record_stream.{specs.Whole.last_below, proofs.WholeBlocks.{product-more, last-step}}
+use Rattle.std.proofs.{Common.{◌≡◌, ◌+◌, ◌-◌, ◌*◌, Some, true, false, refl, sym, ap, ◌∙◌, arith, slice_index}, lemmas.Bool.{lt-ltb, le-ltb}}
+use Rattle.{record_layout.specs.declared.row.Row.Row, lane_decode.specs.InColumns.{row_at, wraps_at, sum_to, time_in}, record_stream.specs.Whole.last_below}
+use Rattle.record_stream.proofs.WholeBlocks.{product-more, last-step}
 use Rattle.record_stream.proofs.ahead.last_time.Goals as goal
 
 pub overflow_add-result : goal.overflow_add-result

@@ -1,6 +1,4 @@
-use Rattle.std.proofs.Common.{◌≡◌, ◌+◌, ◌*◌, ◌≤◌, ℕ}
-use Rattle.lane_decode.specs.InColumns.{row_at, wraps_at, sum_to, time_in}
-use Rattle.record_stream.specs.Whole.{last_below}
+use Rattle.{std.proofs.Common.{◌≡◌, ◌+◌, ◌*◌, ◌≤◌, ℕ}, lane_decode.specs.InColumns.{row_at, wraps_at, sum_to, time_in}, record_stream.specs.Whole.last_below}
 use Rattle.record_stream.proofs.ahead.last_time.Given as goal
 
 abbrev pub invariant-back : goal.invariant-back

@@ -1,6 +1,5 @@
-use Rattle.std.proofs.Common.{◌≡◌, ◌^◌, ap, arith, rules}
-use Rattle.record_layout.specs.declared.row.Row.{Row}
-use Rattle.lane_decode.{specs.InColumns.{wraps_at, sum_to}, proofs.Added.{sum-more, sum-few}}
+use Rattle.{std.proofs.Common.{◌≡◌, ◌^◌, ap, arith, rules}, record_layout.specs.declared.row.Row.Row, lane_decode.specs.InColumns.{wraps_at, sum_to}}
+use Rattle.lane_decode.proofs.Added.{sum-more, sum-few}
 use Rattle.record_stream.proofs.ahead.wraps_in.Goals as goal
 
 pub loop-at-init : goal.loop-at-init

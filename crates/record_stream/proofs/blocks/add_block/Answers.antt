@@ -1,6 +1,5 @@
 use Rattle.std.{proofs.Common.{◌≡◌, ℕ, List, [], ◌∷◌, Some, None, refl, arith, rules}, specs.declared.option.Option.Option}
-use Rattle.tally_base.specs.declared.event.Event.{Event}
-use Rattle.record_stream.{specs.OneMore.last_with}
+use Rattle.{tally_base.specs.declared.event.Event.Event, record_stream.specs.OneMore.last_with}
 use Rattle.record_stream.proofs.blocks.add_block.Goals as goal
 
 some-last : (t : ℕ) (es : List Event) → last_with (Some t) es ≡ None → ⊥

@@ -7,5 +7,5 @@ put_events-requires-clause-places g c = omega (arith, c.placed.ensures.value, c.
 pub put_events-requires-clause-times : goal.put_events-requires-clause-times
 put_events-requires-clause-times g c = rw c.base.ensures.value c.requires.reach.times
 
-pub returns-clause-more : goal.returns-clause-more
-returns-clause-more g c = rw (c.placed.ensures.value, c.base.ensures.value) at c.put_events.ensures.more
+pub returns : goal.returns
+returns g c = record { more = rw (c.placed.ensures.value, c.base.ensures.value) at c.put_events.ensures.more; unsorted = c.put_events.ensures.unsorted }

@@ -1,9 +1,13 @@
-use Rattle.std.{proofs.Common.{rules, arith}, proofs.lemmas.Result.on_err_weaker}
-use Rattle.record_stream.proofs.InBlocks.{goes_on-given, breaks-among}
+use Rattle.{std.proofs.{Common.{rules, arith}, lemmas.Result.on_err_weaker}, record_stream.proofs.InBlocks.{goes_on-given, breaks-among}}
 use Rattle.record_stream.proofs.in_blocks.give_all.Goals as goal
 
-pub returns-clause-gave : goal.returns-clause-gave
-returns-clause-gave g c = search (rules, arith, goes_on-given)
-
-pub returns-clause-broken : goal.returns-clause-broken
-returns-clause-broken g c = on_err_weaker c.take_block-given.result (breaks-among g.S.EventTaker (g.met.S.EventTaker.got_none _)) c.take_block-given.ensures.broken
+pub returns-clause-gives : goal.returns-clause-gives
+returns-clause-gives g c =
+    let s = g.S.EventTaker in
+    let take = c.take_block-given in
+    record {
+      gave = search (rules, arith, goes_on-given);
+      broken = on_err_weaker take.result (breaks-among s (g.met.S.EventTaker.got_none _)) take.ensures.broken;
+      cause = take.ensures.cause;
+      same = take.ensures.same;
+    }

@@ -1,5 +1,4 @@
-use Rattle.ptu_definitions.proofs.StreamLemmas.{refused-more}
-use Rattle.record_stream.proofs.Lasts.{streamed-shown}
+use Rattle.{ptu_definitions.proofs.StreamLemmas.refused-more, record_stream.proofs.Lasts.streamed-shown}
 use Rattle.record_stream.proofs.laws.a_refusal_stays.Goals as goal
 
 pub returns-clause-words : goal.returns-clause-words

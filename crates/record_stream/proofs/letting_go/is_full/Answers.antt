@@ -1,5 +1,4 @@
-use Rattle.std.{proofs.Common.{◌≡◌, ◌-◌, length, get_or, arith, rules}, proofs.lemmas.Bool.leb-true, proofs.lemmas.Option.get_or_from_slice_get}
-use Rattle.settle.specs.Standing.{kept_back}
+use Rattle.{std.proofs.{Common.{◌≡◌, ◌-◌, length, get_or, arith, rules}, lemmas.{Bool.leb-true, Option.get_or_from_slice_get}}, settle.specs.Standing.kept_back}
 use Rattle.record_stream.proofs.letting_go.is_full.Goals as goal
 
 pub returns-then-held-walk : goal.returns-then-held-walk

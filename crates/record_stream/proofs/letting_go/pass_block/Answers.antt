@@ -1,9 +1,9 @@
 use Rattle.std.proofs.Common.{rules, ◌≡◌, ◌+◌, ◌-◌, ◌<◌, ◌++◌, [], ℕ, List, drop, length, map, min, refl, sym, ap, ◌∙◌, arith, length-append, length-drop}
-use Rattle.tally_base.{specs.declared.event.Event.Event, specs.Columns.{event_at, gathered, rows, time_at}, specs.declared.block.Block.Block, proofs.BlockRows.length-rows}
-use Rattle.ptu_definitions.{specs.Settled.{not_marked, ordered}, specs.Streams.events_in, specs.Times.events}
-use Rattle.abs_time.specs.Placing.{placed_by}
-use Rattle.settle.{specs.Standing.{kept_back, next_place, last_time}, specs.declared.settle.Settle.Settle, specs.Passing.{next_after, place_after, time_after}}
-use Rattle.record_stream.{specs.Walking.{how_of, clock_in}, proofs.Passed.{block-joins, comes_behind, delivers_passed, lets_passed, next-behind, place-rows, stays-low, stays-rising, time-rows}}
+use Rattle.tally_base.{specs.{declared.{event.Event.Event, block.Block.Block}, Columns.{event_at, gathered, rows, time_at}}, proofs.BlockRows.length-rows}
+use Rattle.{ptu_definitions.specs.{Settled.{not_marked, ordered}, Streams.events_in, Times.events}, abs_time.specs.Placing.placed_by}
+use Rattle.settle.specs.{Standing.{kept_back, next_place, last_time}, declared.settle.Settle.Settle, Passing.{next_after, place_after, time_after}}
+use Rattle.record_stream.{specs.Walking.{how_of, clock_in}, proofs.Passed.{block-joins, comes_behind, delivers_passed, lets_passed, next-behind, place-rows}}
+use Rattle.record_stream.proofs.Passed.{stays-low, stays-rising, time-rows}
 use Rattle.record_stream.proofs.letting_go.pass_block.Goals as goal
 
 -- As many as come go, and as many as were kept back stay: the first of both together, and the last.
@@ -47,8 +47,8 @@ pub time-requires : goal.time-requires
 time-requires c =
     let some : 0 < c.args.block.now.len = omega (arith, c.if-len-eq0.false, c.len-len.ensures.count) in
     let cuts =
-    cut c.args.block.now c.clear.new.self c.push_front.new.self c.args.settle.now c.len-len.result c.held.result c.min.result _ _ _ _ _ _ _ _
-    c.clear.ensures.empty c.push_all.ensures.more c.push_front.ensures.more c.clear-2.ensures c.stay_all.ensures c.stay_back.ensures c.as_slice.ensures.value
+    cut c.args.block.now c.args.out.now c.push_front.new.self c.args.settle.now c.len-len.result c.held.result c.min.result _ _ _ _ _ _ _ _
+    c.requires.none.0 c.push_all.ensures.more c.push_front.ensures.more c.clear.ensures c.stay_all.ensures c.stay_back.ensures c.as_slice.ensures.value
     c.waiting.ensures.value c.split_at.ensures.by_index.0 c.split_at.ensures.front_len c.len-len.ensures.count c.held.ensures.value c.min.ensures in
     omega (arith, cuts.many, c.len-len.ensures.count, some)
 
@@ -56,8 +56,8 @@ pub pass-requires : goal.pass-requires
 pass-requires c =
     let some : 0 < c.args.block.now.len = omega (arith, c.if-len-eq0.false, c.len-len.ensures.count) in
     let cuts =
-    cut c.args.block.now c.clear.new.self c.push_front.new.self c.args.settle.now c.len-len.result c.held.result c.min.result _ _ _ _ _ _ _ _
-    c.clear.ensures.empty c.push_all.ensures.more c.push_front.ensures.more c.clear-2.ensures c.stay_all.ensures c.stay_back.ensures c.as_slice.ensures.value
+    cut c.args.block.now c.args.out.now c.push_front.new.self c.args.settle.now c.len-len.result c.held.result c.min.result _ _ _ _ _ _ _ _
+    c.requires.none.0 c.push_all.ensures.more c.push_front.ensures.more c.clear.ensures c.stay_all.ensures c.stay_back.ensures c.as_slice.ensures.value
     c.waiting.ensures.value c.split_at.ensures.by_index.0 c.split_at.ensures.front_len c.len-len.ensures.count c.held.ensures.value c.min.ensures in
     record {
       as_many = cuts.as_many;
@@ -75,25 +75,25 @@ returns c =
     let stay = c.as_slice.result.now in
     let some : 0 < b.len = omega (arith, c.if-len-eq0.false, c.len-len.ensures.count) in
     let cuts =
-    cut b c.clear.new.self c.push_front.new.self s c.len-len.result c.held.result c.min.result _ _ _ _ _ _ _ _
-    c.clear.ensures.empty c.push_all.ensures.more c.push_front.ensures.more c.clear-2.ensures c.stay_all.ensures c.stay_back.ensures c.as_slice.ensures.value
+    cut b c.args.out.now c.push_front.new.self s c.len-len.result c.held.result c.min.result _ _ _ _ _ _ _ _
+    c.requires.none.0 c.push_all.ensures.more c.push_front.ensures.more c.clear.ensures c.stay_all.ensures c.stay_back.ensures c.as_slice.ensures.value
     c.waiting.ensures.value c.split_at.ensures.by_index.0 c.split_at.ensures.front_len c.len-len.ensures.count c.held.ensures.value c.min.ensures in
     let time = cuts.last c.time.result some c.time.ensures in
     let stands = c.pass.ensures.stands in
-    let comes = c.requires.comes in
+    let comes = c.requires.can.comes in
     record {
       lets_go =
           let place = place_is b (placed_by (clock_in walk)) c.len-len.result c.event.result some c.len-len.ensures.count c.event.ensures in
           lets_passed walk s
-          (gathered b) went stay c.requires.settles c.requires.keeps c.requires.full comes cuts.joined c.pass.new.self c.pass.ensures.waits cuts.as_many
-          (c.pass.ensures.time ∙ time) (stands.place ∙ ap (λ n. n + 1) place) stands.same_reach (stands.same_popped ∙ c.requires.keeps.unpopped);
+          (gathered b) went stay c.requires.can.settles c.requires.can.keeps c.requires.full comes cuts.joined c.pass.new.self c.pass.ensures.waits cuts.as_many
+          (c.pass.ensures.time ∙ time) (stands.place ∙ ap (λ n. n + 1) place) stands.same_reach (stands.same_popped ∙ c.requires.can.keeps.unpopped);
       delivers = λ words h.
           let place = place_is b (placed_by (clock_in walk)) c.len-len.result c.event.result some c.len-len.ensures.count c.event.ensures in
           let next : c.event.result.place + 1 ≡ next_after (next_place s) (gathered b) = search (rules, arith, next-behind, length-rows, place) in
           let behind = comes_behind walk s
-          (gathered b) went stay c.requires.settles c.requires.keeps c.requires.full comes cuts.joined c.time.result c.event.result.place time next in
+          (gathered b) went stay c.requires.can.settles c.requires.can.keeps c.requires.full comes cuts.joined c.time.result c.event.result.place time next in
           let passed = c.pass.ensures.passed (ordered how.mode (events (map how.meaning words)))
           (not_marked (events_in how words)) (gathered b) went h.come.settled behind in
-          delivers_passed how s c.pass.new.self words (gathered b) went c.requires.settles c.requires.keeps.reach comes.ordered passed;
+          delivers_passed how s c.pass.new.self words (gathered b) went c.requires.can.settles c.requires.can.keeps.reach comes.ordered passed;
       unsorted = search rules;
     }

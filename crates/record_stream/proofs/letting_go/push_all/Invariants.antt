@@ -1,5 +1,4 @@
-use Rattle.std.proofs.Common.{◌≡◌, ◌++◌, take}
-use Rattle.tally_base.specs.Columns.{gathered, sorted}
+use Rattle.{std.proofs.Common.{◌≡◌, ◌++◌, take}, tally_base.specs.Columns.{gathered, sorted}}
 use Rattle.record_stream.proofs.letting_go.push_all.Given as goal
 
 abbrev pub invariant-loop-event : goal.invariant-loop-event

@@ -1,5 +1,5 @@
-use Rattle.std.{proofs.Common.{rules}, proofs.Common.{append_assoc, append-nil, arith, length-append, length-drop}, proofs.lemmas.List.drop-append-le, proofs.Math.ListN.drop_of_length-le}
-use Rattle.tally_base.{proofs.BlockRows.{length-rows, more_rows}}
+use Rattle.std.proofs.{Common.{rules, append_assoc, append-nil, arith, length-append, length-drop}, lemmas.List.drop-append-le, Math.ListN.drop_of_length-le}
+use Rattle.tally_base.proofs.BlockRows.{length-rows, more_rows}
 use Rattle.record_stream.proofs.letting_go.stay_back.Goals as goal
 
 pub loop-at-init : goal.loop-at-init

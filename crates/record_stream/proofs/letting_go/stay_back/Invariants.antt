@@ -1,5 +1,4 @@
-use Rattle.std.proofs.Common.{◌≡◌, ◌++◌, drop}
-use Rattle.tally_base.specs.Columns.{written}
+use Rattle.{std.proofs.Common.{◌≡◌, ◌++◌, drop}, tally_base.specs.Columns.written}
 use Rattle.record_stream.proofs.letting_go.stay_back.Given as goal
 
 abbrev pub invariant-loop-at : goal.invariant-loop-at

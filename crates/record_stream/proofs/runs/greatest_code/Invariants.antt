@@ -1,5 +1,4 @@
-use Rattle.std.proofs.Common.{◌<◌, ◌≤◌, ℕ}
-use Rattle.lane_decode.specs.InColumns.{row_at}
+use Rattle.{std.proofs.Common.{◌<◌, ◌≤◌, ℕ}, lane_decode.specs.InColumns.row_at}
 use Rattle.record_stream.proofs.runs.greatest_code.Given as goal
 
 abbrev pub invariant-loop-at : goal.invariant-loop-at

@@ -1,7 +1,6 @@
-use Rattle.std.proofs.Common.{rules}
-use Rattle.std.{proofs.Common.{arith, ◌≡◌, ◌-◌, ◌<◌, ◌≤◌, ◌⊎◌, ℕ}, proofs.lemmas.List.{length-set, get_or-set_same, get_or-set_other}}
-use Rattle.lane_decode.specs.{declared.columns.Columns.Columns, InColumns.row_at}
-use Rattle.record_stream.{specs.Runs.EndsReserved, proofs.runs.reserved_ends.Goals.{then-get-le512, else-get-le512}}
+use Rattle.std.proofs.{Common.{rules, arith, ◌≡◌, ◌-◌, ◌<◌, ◌≤◌, ◌⊎◌, ℕ}, lemmas.List.{length-set, get_or-set_same, get_or-set_other}}
+use Rattle.{lane_decode.specs.{declared.columns.Columns.Columns, InColumns.row_at}, record_stream.specs.Runs.EndsReserved}
+use Rattle.record_stream.proofs.runs.reserved_ends.Goals.{then-get-le512, else-get-le512}
 use Rattle.record_stream.proofs.runs.reserved_ends.Goals as goal
 
 first_or : (at i : ℕ) → 0 < at → at - 1 ≤ i → (i ≡ at - 1) ⊎ (at ≤ i)

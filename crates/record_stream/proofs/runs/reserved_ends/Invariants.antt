@@ -1,5 +1,4 @@
-use Rattle.std.proofs.Common.{◌≡◌, ◌≤◌, ℕ, length, slice_index}
-use Rattle.record_stream.specs.Runs.{EndsReserved}
+use Rattle.{std.proofs.Common.{◌≡◌, ◌≤◌, ℕ, length, slice_index}, record_stream.specs.Runs.EndsReserved}
 use Rattle.record_stream.proofs.runs.reserved_ends.Given as goal
 
 abbrev pub invariant-back : goal.invariant-back

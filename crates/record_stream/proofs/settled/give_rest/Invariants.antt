@@ -1,6 +1,4 @@
-use Rattle.std.proofs.Common.{length}
-use Rattle.settle.specs.Standing.{kept_back, last_time}
-use Rattle.record_stream.specs.Ending.{GaveFirst}
+use Rattle.{std.proofs.Common.length, settle.specs.Standing.{kept_back, last_time}, record_stream.specs.Ending.GaveFirst}
 use Rattle.record_stream.proofs.settled.give_rest.Given as goal
 
 abbrev pub invariant-loop-event : goal.invariant-loop-event

@@ -1,5 +1,4 @@
-use Rattle.std.{proofs.Common.{arith, rules}, proofs.lemmas.Result.err_from_is_err_and}
-use Rattle.record_write.proofs.Puts.{puts-none, puts-copy, cuts-copy}
+use Rattle.{std.proofs.{Common.{arith, rules}, lemmas.Result.err_from_is_err_and}, record_write.proofs.Puts.{puts-none, puts-copy, cuts-copy}}
 use Rattle.record_write.proofs.words.put_copies.Goals as goal
 
 pub loop-copy-init : goal.loop-copy-init

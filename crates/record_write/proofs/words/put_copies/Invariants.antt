@@ -1,5 +1,4 @@
-use Rattle.std.proofs.Common.{replicate}
-use Rattle.record_write.specs.Writing.{PutsWords}
+use Rattle.{std.proofs.Common.replicate, record_write.specs.Writing.PutsWords}
 use Rattle.record_write.proofs.words.put_copies.Given as goal
 
 abbrev pub invariant-loop-copy : goal.invariant-loop-copy

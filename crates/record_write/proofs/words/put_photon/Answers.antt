@@ -1,5 +1,5 @@
-use Rattle.std.{proofs.Common.{rules, arith}, proofs.lemmas.Result.{err_from_is_err_and, on_ok_weaker, on_err_weaker}}
-use Rattle.record_write.proofs.Puts.{puts-more, cuts-behind, cuts-front}
+use Rattle.{std.proofs.{Common.{rules, arith}, lemmas.Result.{err_from_is_err_and, on_ok_weaker, on_err_weaker}}, record_write.proofs.Puts.puts-more}
+use Rattle.record_write.proofs.Puts.{cuts-behind, cuts-front}
 use Rattle.record_write.proofs.words.put_photon.Goals as goal
 
 pub returns-in_err-put_wraps-clause-cut : goal.returns-in_err-put_wraps-clause-cut

@@ -1,5 +1,5 @@
-use Rattle.std.{proofs.Common.{refl, subst}, proofs.lemmas.Result.{err_from_is_err_and, on_ok_weaker, on_err_weaker}}
-use Rattle.record_write.{specs.Writing.{PutsWords, CutsWords}, proofs.Puts.{puts-more, cuts-behind, cuts-front, even-wraps, odd-wraps}}
+use Rattle.{std.proofs.{Common.{refl, subst}, lemmas.Result.{err_from_is_err_and, on_ok_weaker, on_err_weaker}}, record_write.specs.Writing.PutsWords}
+use Rattle.record_write.{specs.Writing.CutsWords, proofs.Puts.{puts-more, cuts-behind, cuts-front, even-wraps, odd-wraps}}
 use Rattle.record_write.proofs.words.put_wraps.Goals as goal
 
 pub returns-in_err-put_copies-clause-cut : goal.returns-in_err-put_copies-clause-cut

@@ -1,9 +1,6 @@
-use Rattle.std.{proofs.Common.{◌≡◌, refl, ap, ◌∙◌, inl}, proofs.lemmas.Result.err_from_is_err_and}
-use Rattle.tally_base.specs.declared.slot.Slot.TheVariants.{Data}
-use Rattle.bench_io.proofs.Bytes.{Wrote-nil}
-use Rattle.plan_text.specs.ReadPlan.{plan_view}
-use Rattle.report_work.{specs.Demo.demo_plan, proofs.Reports.{demo-view, plan-wanted, ends-demo, demo-causes}}
-use Rattle.command_work.{specs.Endings.HasCauses, proofs.Told.alone-answers}
+use Rattle.{std.proofs.{Common.{◌≡◌, refl, ap, ◌∙◌, inl}, lemmas.Result.err_from_is_err_and}, tally_base.specs.declared.slot.Slot.TheVariants.Data}
+use Rattle.{bench_io.proofs.Bytes.Wrote-nil, plan_text.specs.ReadPlan.plan_view, report_work.{specs.Demo.demo_plan, proofs.Reports.{demo-view, plan-wanted}}}
+use Rattle.{report_work.proofs.Reports.{ends-demo, demo-causes}, command_work.{specs.Endings.HasCauses, proofs.Told.alone-answers}}
 use Rattle.report_work.proofs.made.demo.Goals as goal
 
 pub returns-in_err-plan-clause-answer : goal.returns-in_err-plan-clause-answer

@@ -1,7 +1,8 @@
-use Rattle.std.{proofs.Common.{◌≡◌, ◌∙◌, ◌<◌, ◌≤◌, ◌%◌, [], ◌∷◌, ◌++◌, true, false, List, ap, subst, rules, arith, append_assoc, nat_lt, if◌then◌else◌, ℕ, refl}, proofs.lemmas.Bool.Decides.nat_tests, proofs.lemmas.Grind.common_steps}
-use Rattle.tally_base.{specs.declared.event.EventKind.TheVariants.{Photon, Marker}, specs.Settings.image_view, specs.Columns.{item, event_at, rows, code_at, dtime_at, time_at}, proofs.BlockRows.{length-rows, more_rows, rows-split}, proofs.Floors.{floor-more, floor-append, order-at, order-parts}, specs.declared.event.Event.Event, specs.Tally.{floor_after, InOrder}}
-use Rattle.marker_map.{specs.Lines.{Saw, line_start}, specs.Places.{Mark, mark}}
-use Rattle.scan_image.{specs.Behind.IsBehind, proofs.Counts.marker_step}
+use Rattle.std.proofs.Common.{◌≡◌, ◌∙◌, ◌<◌, ◌≤◌, ◌%◌, [], ◌∷◌, ◌++◌, true, false, List, ap, subst, rules, arith, append_assoc, nat_lt, if◌then◌else◌, ℕ, refl}
+use Rattle.{std.proofs.lemmas.{Bool.Decides.nat_tests, Grind.common_steps}, tally_base.specs.declared.event.EventKind.TheVariants.{Photon, Marker}}
+use Rattle.tally_base.specs.{declared.event.Event.Event, Settings.image_view, Columns.{item, event_at, rows, code_at, dtime_at, time_at}, Tally.floor_after}
+use Rattle.tally_base.{specs.Tally.InOrder, proofs.{BlockRows.{length-rows, more_rows, rows-split}, Floors.{floor-more, floor-append, order-at, order-parts}}}
+use Rattle.{marker_map.specs.{Lines.{Saw, line_start}, Places.{Mark, mark}}, scan_image.{specs.Behind.IsBehind, proofs.Counts.marker_step}}
 use Rattle.scan_image.proofs.count.count_block.Goals as goal
 
 -- the time so far only rises

@@ -1,7 +1,5 @@
-use Rattle.std.proofs.Common.{◌≡◌, ◌≤◌, ◌+◌, ◌-◌, ◌++◌, true}
-use Rattle.tally_base.{specs.Settings.image_view, specs.Tally.{History, floor_after}, specs.Columns.{count, item, event_at, rows}}
-use Rattle.marker_map.specs.Lines.{image_of, markers_given, line_start}
-use Rattle.scan_image.specs.Behind.{IsBehind}
+use Rattle.{std.proofs.Common.{◌≡◌, ◌≤◌, ◌+◌, ◌-◌, ◌++◌, true}, tally_base.specs.{Settings.image_view, Tally.{History, floor_after}, Columns.{count, item}}}
+use Rattle.{tally_base.specs.Columns.{event_at, rows}, marker_map.specs.Lines.{image_of, markers_given, line_start}, scan_image.specs.Behind.IsBehind}
 use Rattle.scan_image.proofs.count.count_block.Given as goal
 
 abbrev pub invariant-runs : goal.invariant-runs

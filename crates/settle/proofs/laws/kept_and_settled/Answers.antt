@@ -1,5 +1,4 @@
-use Rattle.std.proofs.Common.{sym}
-use Rattle.ptu_definitions.proofs.SettlingLemmas.{settled-is, waits-is}
+use Rattle.{std.proofs.Common.sym, ptu_definitions.proofs.SettlingLemmas.{settled-is, waits-is}}
 use Rattle.settle.proofs.laws.kept_and_settled.Goals as goal
 
 pub returns-clause-kept : goal.returns-clause-kept

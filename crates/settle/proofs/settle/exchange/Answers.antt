@@ -1,5 +1,4 @@
-use Rattle.std.proofs.Common.{arith, rules}
-use Rattle.ptu_definitions.proofs.SettledLemmas.{insert-rest, rising-tail}
+use Rattle.{std.proofs.Common.{arith, rules}, ptu_definitions.proofs.SettledLemmas.{insert-rest, rising-tail}}
 use Rattle.settle.proofs.settle.exchange.Goals as goal
 
 pub returns-clause-value : goal.returns-clause-value

@@ -1,5 +1,4 @@
-use Rattle.std.proofs.Common.{arith, rules}
-use Rattle.settle.proofs.Steps.{all_before}
+use Rattle.{std.proofs.Common.{arith, rules}, settle.proofs.Steps.all_before}
 use Rattle.settle.proofs.settle.place_of.Goals as goal
 
 pub returns-else-events-at-clause-before : goal.returns-else-events-at-clause-before

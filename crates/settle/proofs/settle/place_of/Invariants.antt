@@ -1,5 +1,4 @@
-use Rattle.std.{proofs.Common.{◌<◌, ◌≤◌, length}, specs.List.AllWithin}
-use Rattle.tally_base.specs.declared.event.Event.{Event}
+use Rattle.{std.{proofs.Common.{◌<◌, ◌≤◌, length}, specs.List.AllWithin}, tally_base.specs.declared.event.Event.Event}
 use Rattle.settle.proofs.settle.place_of.Given as goal
 
 abbrev pub invariant-loop-at : goal.invariant-loop-at

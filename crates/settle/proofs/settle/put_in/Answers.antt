@@ -1,5 +1,4 @@
-use Rattle.std.{proofs.Common.{List, subst, sym, arith, rules}, specs.List.Sorted.IsNonDecreasingBy}
-use Rattle.tally_base.specs.declared.event.Event.{Event}
+use Rattle.{std.{proofs.Common.{List, subst, sym, arith, rules}, specs.List.Sorted.IsNonDecreasingBy}, tally_base.specs.declared.event.Event.Event}
 use Rattle.ptu_definitions.proofs.SettledLemmas.{insert-put_in, put_in-rising}
 use Rattle.settle.proofs.settle.put_in.Goals as goal
 

@@ -1,6 +1,5 @@
-use Rattle.std.{proofs.Common.{rules, ◌≡◌, ◌∙◌}, proofs.lemmas.Result.err_from_is_err_and}
-use Rattle.tally_base.specs.Tally.{History}
-use Rattle.table_out.{specs.Report.printed, proofs.Putting.{puts-piece, cuts-piece, puts-next, cuts-next}}
+use Rattle.{std.proofs.{Common.{rules, ◌≡◌, ◌∙◌}, lemmas.Result.err_from_is_err_and}, tally_base.specs.Tally.History, table_out.specs.Report.printed}
+use Rattle.table_out.proofs.Putting.{puts-piece, cuts-piece, puts-next, cuts-next}
 use Rattle.table_out.proofs.cells.put_row.Goals as goal
 
 pub returns-in_err-put-clause-short : goal.returns-in_err-put-clause-short

@@ -1,5 +1,4 @@
-use Rattle.std.proofs.Common.{◌≡◌}
-use Rattle.table_out.{specs.Report.{PutsText, printed}, specs.Printed.texts_of}
+use Rattle.{std.proofs.Common.◌≡◌, table_out.specs.{Report.{PutsText, printed}, Printed.texts_of}}
 use Rattle.table_out.proofs.cells.put_row.Given as goal
 
 abbrev pub invariant-loop-column : goal.invariant-loop-column

@@ -1,6 +1,5 @@
-use Rattle.std.{proofs.Common.{rules, ◌∙◌, ℕ, List}, proofs.lemmas.Result.err_from_is_err_and}
-use Rattle.tally_base.specs.Tally.{History}
-use Rattle.table_out.{specs.Printed.texts_of, specs.Report.printed, proofs.Putting.{puts-next, cuts-next}}
+use Rattle.{std.proofs.{Common.{rules, ◌∙◌, ℕ, List}, lemmas.Result.err_from_is_err_and}, tally_base.specs.Tally.History, table_out.specs.Printed.texts_of}
+use Rattle.table_out.{specs.Report.printed, proofs.Putting.{puts-next, cuts-next}}
 use Rattle.table_out.proofs.cells.put_rows.Goals as goal
 
 pub returns-in_err-put_row-clause-short : goal.returns-in_err-put_row-clause-short

@@ -1,5 +1,4 @@
-use Rattle.std.proofs.Common.{◌≡◌}
-use Rattle.table_out.{specs.Report.{PutsText, printed}, specs.Printed.rows_of}
+use Rattle.{std.proofs.Common.◌≡◌, table_out.specs.{Report.{PutsText, printed}, Printed.rows_of}}
 use Rattle.table_out.proofs.cells.put_rows.Given as goal
 
 abbrev pub invariant-loop-row : goal.invariant-loop-row

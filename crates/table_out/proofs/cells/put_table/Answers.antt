@@ -1,6 +1,6 @@
-use Rattle.std.{proofs.Common.{◌∙◌, List, ℕ, ◌++◌, refl, append_assoc}, proofs.lemmas.Result.{err_from_is_err_and, on_ok_weaker, on_err_weaker}}
-use Rattle.tally_base.specs.Tally.{History}
-use Rattle.table_out.{specs.Printed.{rows_of, first_line, table_lines}, specs.Report.printed, proofs.Putting.{puts-piece, cuts-piece, puts-more, cuts-behind, cuts-front}}
+use Rattle.std.proofs.{Common.{◌∙◌, List, ℕ, ◌++◌, refl, append_assoc}, lemmas.Result.{err_from_is_err_and, on_ok_weaker, on_err_weaker}}
+use Rattle.{tally_base.specs.Tally.History, table_out.{specs.{Printed.{rows_of, first_line, table_lines}, Report.printed}, proofs.Putting.puts-piece}}
+use Rattle.table_out.proofs.Putting.{cuts-piece, puts-more, cuts-behind, cuts-front}
 use Rattle.table_out.proofs.cells.put_table.Goals as goal
 
 pub returns-in_err-put-clause-short : goal.returns-in_err-put-clause-short

@@ -1,5 +1,4 @@
-use Rattle.std.proofs.Common.{◌≡◌, ◌+◌, ◌≤◌, take, count_by}
-use Rattle.tally_engine.{specs.contracts.part.PartTally.TheImpl.ghosts, specs.Parts.settings_in}
+use Rattle.{std.proofs.Common.{◌≡◌, ◌+◌, ◌≤◌, take, count_by}, tally_engine.specs.{contracts.part.PartTally.TheImpl.ghosts, Parts.settings_in}}
 use Rattle.table_out.specs.Report.{same_kind}
 use Rattle.table_out.proofs.report.number_of.Given as goal
 

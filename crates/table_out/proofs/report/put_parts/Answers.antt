@@ -1,5 +1,4 @@
-use Rattle.std.{proofs.Common.{rules, ◌∙◌}, proofs.lemmas.Result.err_from_is_err_and}
-use Rattle.table_out.proofs.Putting.{first_texts-all, puts-part, cuts-part}
+use Rattle.{std.proofs.{Common.{rules, ◌∙◌}, lemmas.Result.err_from_is_err_and}, table_out.proofs.Putting.{first_texts-all, puts-part, cuts-part}}
 use Rattle.table_out.proofs.report.put_parts.Goals as goal
 
 pub returns-in_err-put_part-clause-short : goal.returns-in_err-put_part-clause-short

@@ -1,5 +1,4 @@
-use Rattle.std.proofs.Common.{◌≡◌}
-use Rattle.table_out.{specs.Report.{EachHolds, PutsText}, proofs.Putting.first_texts}
+use Rattle.{std.proofs.Common.◌≡◌, table_out.{specs.Report.{EachHolds, PutsText}, proofs.Putting.first_texts}}
 use Rattle.table_out.proofs.report.put_parts.Given as goal
 
 abbrev pub invariant-loop-place : goal.invariant-loop-place

@@ -1,8 +1,7 @@
-use Rattle.std.{proofs.Common.{ℕ, List, ◌∙◌, ◌≡◌, ◌++◌, refl}, proofs.lemmas.Result.{err_from_is_err_and, on_ok_weaker, on_err_weaker}}
-use Rattle.bench_io.proofs.Bytes.{Wrote-flushed, WroteShort-flushed}
-use Rattle.tally_base.specs.declared.header.Header.{Header}
-use Rattle.ptu_definitions.specs.declared.records.Summary.{Summary}
-use Rattle.table_out.{specs.Report.{Table, EachHolds, head_text, parts_text, report}, proofs.Putting.{puts-piece, puts-more, cuts-behind}}
+use Rattle.std.proofs.{Common.{ℕ, List, ◌∙◌, ◌≡◌, ◌++◌, refl}, lemmas.Result.{err_from_is_err_and, on_ok_weaker, on_err_weaker}}
+use Rattle.{bench_io.proofs.Bytes.{Wrote-flushed, WroteShort-flushed}, tally_base.specs.declared.header.Header.Header}
+use Rattle.{ptu_definitions.specs.declared.records.Summary.Summary, table_out.specs.Report.{Table, EachHolds, head_text, parts_text, report}}
+use Rattle.table_out.proofs.Putting.{puts-piece, puts-more, cuts-behind}
 use Rattle.table_out.proofs.report.put_report.Goals as goal
 
 -- the parts of a report

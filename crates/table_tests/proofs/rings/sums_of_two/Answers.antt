@@ -1,5 +1,5 @@
-use Rattle.std.{proofs.Common.{◌≡◌, ℕ, ◌+◌, ◌<◌, ◌≤◌, List, [], ◌∷◌, get_or, length, refl, arith}, specs.List.sum_by, proofs.lemmas.List.get_or-replicate}
-use Rattle.lag_ring.{specs.declared.ring.Entry.Entry, specs.declared.window.Side.TheVariants.First, specs.Bytes.weight_of, proofs.Rising.all_weaker, proofs.Sums.weight_at-le}
+use Rattle.std.{proofs.{Common.{◌≡◌, ℕ, ◌+◌, ◌<◌, ◌≤◌, List, [], ◌∷◌, get_or, length, refl, arith}, lemmas.List.get_or-replicate}, specs.List.sum_by}
+use Rattle.lag_ring.{specs.{declared.{ring.Entry.Entry, window.Side.TheVariants.First}, Bytes.weight_of}, proofs.{Rising.all_weaker, Sums.weight_at-le}}
 use Rattle.table_tests.proofs.rings.sums_of_two.Goals as goal
 
 abbrev earlier : List Entry

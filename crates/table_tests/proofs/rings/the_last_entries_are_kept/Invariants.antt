@@ -1,4 +1,4 @@
-use Rattle.std.{proofs.Common.{◌≡◌, ◌<◌}, specs.List.{AllByRecursion}}
+use Rattle.std.{proofs.Common.{◌≡◌, ◌<◌}, specs.List.AllByRecursion}
 use Rattle.table_tests.proofs.rings.the_last_entries_are_kept.Given as goal
 
 abbrev pub invariant-loop-before : goal.invariant-loop-before

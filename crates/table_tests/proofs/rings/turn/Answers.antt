@@ -1,5 +1,5 @@
-use Rattle.std.{proofs.Common.{◌+◌, ◌<◌, nat_le, ap, arith}, specs.List.{filter}}
-use Rattle.lag_ring.{specs.declared.ring.Entry.Entry, specs.Ring.Ring, proofs.Rising.{all_push, all_weaker}, proofs.Lists.all_filter}
+use Rattle.{std.{proofs.Common.{◌+◌, ◌<◌, nat_le, ap, arith}, specs.List.filter}, lag_ring.specs.{declared.ring.Entry.Entry, Ring.Ring}}
+use Rattle.lag_ring.proofs.{Rising.{all_push, all_weaker}, Lists.all_filter}
 use Rattle.table_tests.proofs.rings.turn.Goals as goal
 
 pub push-requires-clause-above : goal.push-requires-clause-above

@@ -1,7 +1,8 @@
-use Rattle.std.{proofs.Common.{◌≡◌, ◌-◌, ◌<◌, ◌≤◌, ℕ, List, false, length, map, get_or, replicate, cond, ltb, min, ap, ◌∙◌, rules, arith, w32}, proofs.lemmas.Nat.{and_mask}, proofs.lemmas.Simd.{tops_compared, get_or-sel_l, get_or-chunk, length-zip2, get_or-zip2, get_or-replicate}, proofs.lemmas.List.{length-take-le, length-drop}}
+use Rattle.std.proofs.Common.{◌≡◌, ◌-◌, ◌<◌, ◌≤◌, ℕ, List, false, length, map, get_or, replicate, cond, ltb, min, ap, ◌∙◌, rules, arith, w32}
+use Rattle.std.proofs.lemmas.{Nat.and_mask, Simd.{tops_compared, get_or-sel_l, get_or-chunk, length-zip2, get_or-zip2, get_or-replicate}, List.length-take-le}
+use Rattle.{std.proofs.lemmas.List.length-drop, tally_base.specs.Codes.code_in}
 use lib.Lanes.{zip2, chunk, sel_l, top}
 use lib.Bits.{bit_and}
-use Rattle.tally_base.specs.Codes.{code_in}
 use Rattle.tally_base.proofs.block.codes_from.Goals as goal
 
 -- the lesser of numbers and 256

@@ -1,5 +1,4 @@
-use Rattle.std.proofs.Common.{◌≡◌, ◌<◌, ◌≤◌, ◌+◌, ℕ, min, slice_index}
-use Rattle.tally_base.specs.Codes.{code_in}
+use Rattle.{std.proofs.Common.{◌≡◌, ◌<◌, ◌≤◌, ◌+◌, ℕ, min, slice_index}, tally_base.specs.Codes.code_in}
 use Rattle.tally_base.proofs.block.look_up_eight.Given as goal
 
 abbrev pub invariant-loop-j : goal.invariant-loop-j

@@ -1,5 +1,4 @@
-use Rattle.std.proofs.Common.{rules, arith}
-use Rattle.tally_base.proofs.Sums.{quotient_is}
+use Rattle.{std.proofs.Common.{rules, arith}, tally_base.proofs.Sums.quotient_is}
 use Rattle.tally_base.proofs.divisor.by_share.Goals as goal
 
 pub returns : goal.returns

@@ -1,4 +1,4 @@
-use Rattle.std.{proofs.Common.{◌∙◌, ◌++◌, ap, codes, decimal}, proofs.lemmas.List.append-nil}
+use Rattle.std.proofs.{Common.{◌∙◌, ◌++◌, ap, codes, decimal}, lemmas.List.append-nil}
 use Rattle.tally_base.proofs.fault.put_reason.Goals as goal
 
 pub returns-in-ReadFault-clause-items : goal.returns-in-ReadFault-clause-items

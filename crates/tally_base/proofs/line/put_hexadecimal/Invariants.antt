@@ -1,6 +1,4 @@
-use Rattle.std.proofs.Common.{◌≡◌, ◌≤◌, ◌+◌, ◌++◌}
-use Rattle.arrayvec.specs.ArrayVec.{array_vec_len}
-use Rattle.tally_base.specs.Hexadecimal.{hexadecimal}
+use Rattle.{std.proofs.Common.{◌≡◌, ◌≤◌, ◌+◌, ◌++◌}, arrayvec.specs.ArrayVec.array_vec_len, tally_base.specs.Hexadecimal.hexadecimal}
 use Rattle.tally_base.proofs.line.put_hexadecimal.Given as goal
 
 -- the digits that are left make the rest of the text

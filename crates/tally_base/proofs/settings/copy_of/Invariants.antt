@@ -1,5 +1,4 @@
-use Rattle.std.proofs.Common.{◌≡◌, ◌≤◌, take}
-use Rattle.arrayvec.specs.ArrayVec.{array_vec_len}
+use Rattle.{std.proofs.Common.{◌≡◌, ◌≤◌, take}, arrayvec.specs.ArrayVec.array_vec_len}
 use Rattle.tally_base.proofs.settings.copy_of.Given as goal
 
 abbrev pub invariant-loop-group : goal.invariant-loop-group

@@ -1,5 +1,4 @@
-use Rattle.std.proofs.Common.{rules, arith, ◌<◌, length}
-use Rattle.tally_engine.{specs.Give.Closed, proofs.OneByOne.{given_more, left_more}}
+use Rattle.{std.proofs.Common.{rules, arith, ◌<◌, length}, tally_engine.{specs.Give.Closed, proofs.OneByOne.{given_more, left_more}}}
 use Rattle.tally_engine.proofs.give.close_all.Goals as goal
 
 pub loop-part-preserved : goal.loop-part-preserved

@@ -1,6 +1,5 @@
-use Rattle.tally_base.specs.Columns.{gathered}
-use Rattle.gate_plan.specs.Groups.{sorting_of}
-use Rattle.tally_engine.{specs.contracts.part.PartTally.TheImpl.ghosts, proofs.Takes.{can_take-shifted, took-shifted}}
+use Rattle.{tally_base.specs.Columns.gathered, gate_plan.specs.Groups.sorting_of, tally_engine.specs.contracts.part.PartTally.TheImpl.ghosts}
+use Rattle.tally_engine.proofs.Takes.{can_take-shifted, took-shifted}
 use Rattle.tally_engine.proofs.give.give.Goals as goal
 
 pub give_all-requires : goal.give_all-requires

@@ -1,7 +1,5 @@
-use Rattle.std.proofs.Common.{rules, arith, ◌<◌, length}
-use Rattle.tally_base.specs.Columns.{gathered, events_in}
-use Rattle.tally_engine.specs.contracts.part.PartTally.TheImpl.{ghosts}
-use Rattle.tally_engine.{proofs.OneByOne.{given_more, left_more}, specs.Give.HasTaken}
+use Rattle.{std.proofs.Common.{rules, arith, ◌<◌, length}, tally_base.specs.Columns.{gathered, events_in}}
+use Rattle.tally_engine.{specs.{contracts.part.PartTally.TheImpl.ghosts, Give.HasTaken}, proofs.OneByOne.{given_more, left_more}}
 use Rattle.tally_engine.proofs.give.give_all.Goals as goal
 
 pub loop-part-preserved : goal.loop-part-preserved

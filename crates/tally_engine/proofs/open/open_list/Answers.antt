@@ -1,5 +1,4 @@
-use Rattle.std.proofs.Common.{rules, ◌≡◌, ◌+◌, ◌++◌, [], ◌∷◌, take}
-use Rattle.tally_engine.proofs.OneByOne.{settings_more, opened_more, take_more}
+use Rattle.{std.proofs.Common.{rules, ◌≡◌, ◌+◌, ◌++◌, [], ◌∷◌, take}, tally_engine.proofs.OneByOne.{settings_more, opened_more, take_more}}
 use Rattle.tally_engine.proofs.open.open_list.Goals as goal
 
 pub loop-set-preserved : goal.loop-set-preserved

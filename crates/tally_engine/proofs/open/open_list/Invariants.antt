@@ -1,5 +1,4 @@
-use Rattle.std.proofs.Common.{◌≡◌, ◌++◌, map, take}
-use Rattle.tally_engine.specs.Parts.{settings_in, AllOpened}
+use Rattle.{std.proofs.Common.{◌≡◌, ◌++◌, map, take}, tally_engine.specs.Parts.{settings_in, AllOpened}}
 use Rattle.tally_engine.proofs.open.open_list.Given as goal
 
 abbrev pub invariant-loop-set : goal.invariant-loop-set

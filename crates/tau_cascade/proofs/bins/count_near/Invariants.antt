@@ -1,5 +1,4 @@
-use Rattle.std.proofs.Common.{◌≡◌, ◌<◌, take}
-use Rattle.tau_cascade.specs.Bins.{near}
+use Rattle.{std.proofs.Common.{◌≡◌, ◌<◌, take}, tau_cascade.specs.Bins.near}
 use Rattle.tau_cascade.proofs.bins.count_near.Given as goal
 
 abbrev pub invariant-loop-at : goal.invariant-loop-at

@@ -1,5 +1,5 @@
-use Rattle.std.{proofs.Common.{◌≡◌, ◌-◌, suc, map, rules, arith}, proofs.lemmas.List.{get_or-map, length-map}}
-use Rattle.tau_cascade.{proofs.Close.no_bin, specs.Bins.raised, proofs.Keeping.kept_from, proofs.Spread.spaced_before}
+use Rattle.{std.proofs.{Common.{◌≡◌, ◌-◌, suc, map, rules, arith}, lemmas.List.{get_or-map, length-map}}, tau_cascade.proofs.{Close.no_bin, Keeping.kept_from}}
+use Rattle.tau_cascade.{proofs.Spread.spaced_before, specs.Bins.raised}
 use Rattle.tau_cascade.proofs.bins.first_kept.Goals as goal
 
 pub returns-then-bins-start-clause-left : goal.returns-then-bins-start-clause-left

@@ -1,6 +1,4 @@
-use Rattle.std.{proofs.Common.{◌≤◌, length, drop, map}, specs.List.{AllByRecursion}}
-use Rattle.lag_ring.specs.declared.ring.Entry.{Entry}
-use Rattle.tau_cascade.specs.Bins.{raised}
+use Rattle.{std.{proofs.Common.{◌≤◌, length, drop, map}, specs.List.AllByRecursion}, lag_ring.specs.declared.ring.Entry.Entry, tau_cascade.specs.Bins.raised}
 use Rattle.tau_cascade.proofs.bins.first_kept.Given as goal
 
 abbrev pub invariant-back : goal.invariant-back

@@ -1,6 +1,6 @@
-use Rattle.std.{proofs.Common.{◌≡◌, ◌∙◌, cond, rules, arith}, proofs.lemmas.List.{drop-set-add, length-drop}}
-use Rattle.tally_base.{specs.Settings.correlation_view, specs.Columns.{item, rows}, proofs.BlockRows.more_rows}
-use Rattle.tau_cascade.{specs.Correlation.{in_first, in_second}, proofs.Blocks.{mine, weight_row, some_weight, gather_step}, proofs.Follows.byte_small}
+use Rattle.{std.proofs.{Common.{◌≡◌, ◌∙◌, cond, rules, arith}, lemmas.List.{drop-set-add, length-drop}}, tally_base.specs.Settings.correlation_view}
+use Rattle.{tally_base.{specs.Columns.{item, rows}, proofs.BlockRows.more_rows}, tau_cascade.{specs.Correlation.{in_first, in_second}, proofs.Blocks.mine}}
+use Rattle.tau_cascade.proofs.{Blocks.{weight_row, some_weight, gather_step}, Follows.byte_small}
 use Rattle.tau_cascade.proofs.bins.gather.Goals as goal
 
 pub loop-at-preserved : goal.loop-at-preserved

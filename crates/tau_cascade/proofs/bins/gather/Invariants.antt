@@ -1,6 +1,4 @@
-use Rattle.std.proofs.Common.{◌≡◌, ◌≤◌, take, drop}
-use Rattle.tally_base.{specs.Settings.correlation_view, specs.Columns.{item, rows}}
-use Rattle.tau_cascade.specs.Bins.{photon_bins}
+use Rattle.{std.proofs.Common.{◌≡◌, ◌≤◌, take, drop}, tally_base.specs.{Settings.correlation_view, Columns.{item, rows}}, tau_cascade.specs.Bins.photon_bins}
 use Rattle.tau_cascade.proofs.bins.gather.Given as goal
 
 abbrev pub invariant-loop-at : goal.invariant-loop-at

@@ -1,5 +1,4 @@
-use Rattle.std.proofs.Common.{◌≡◌, map, take, drop}
-use Rattle.tau_cascade.specs.Bins.{raised}
+use Rattle.{std.proofs.Common.{◌≡◌, map, take, drop}, tau_cascade.specs.Bins.raised}
 use Rattle.tau_cascade.proofs.bins.lower_before.Given as goal
 
 abbrev pub invariant-loop-i : goal.invariant-loop-i

@@ -1,5 +1,5 @@
-use Rattle.std.{proofs.Common.{refl, rules, arith}, proofs.lemmas.List.{take-set-le, take_more_set, drop-set-add, length-drop}}
-use Rattle.tau_cascade.proofs.{Close.no_bin, Follows.{merge_more, byte_small}}
+use Rattle.{std.proofs.{Common.{refl, rules, arith}, lemmas.List.{take-set-le, take_more_set, drop-set-add, length-drop}}, tau_cascade.proofs.Close.no_bin}
+use Rattle.tau_cascade.proofs.Follows.{merge_more, byte_small}
 use Rattle.tau_cascade.proofs.bins.merge.Goals as goal
 
 pub loop-at-preserved : goal.loop-at-preserved

@@ -1,5 +1,4 @@
-use Rattle.std.proofs.Common.{◌≡◌, ◌+◌, ◌-◌, ◌<◌, ◌++◌, take, drop}
-use Rattle.tau_cascade.specs.Bins.{merged, merged_all, stretch}
+use Rattle.{std.proofs.Common.{◌≡◌, ◌+◌, ◌-◌, ◌<◌, ◌++◌, take, drop}, tau_cascade.specs.Bins.{merged, merged_all, stretch}}
 use Rattle.tau_cascade.proofs.bins.merge.Given as goal
 
 abbrev pub invariant-loop-at : goal.invariant-loop-at

@@ -1,5 +1,4 @@
-use Rattle.std.proofs.Common.{rules, arith}
-use Rattle.tau_cascade.proofs.Passes.{spaced_more}
+use Rattle.{std.proofs.Common.{rules, arith}, tau_cascade.proofs.Passes.spaced_more}
 use Rattle.tau_cascade.proofs.bins.spacing.Goals as goal
 
 pub loop-at-preserved : goal.loop-at-preserved

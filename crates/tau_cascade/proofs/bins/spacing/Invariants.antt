@@ -1,5 +1,4 @@
-use Rattle.std.proofs.Common.{◌<◌, take}
-use Rattle.tau_cascade.specs.Bins.{IsSpaced}
+use Rattle.{std.proofs.Common.{◌<◌, take}, tau_cascade.specs.Bins.IsSpaced}
 use Rattle.tau_cascade.proofs.bins.spacing.Given as goal
 
 abbrev pub invariant-loop-at : goal.invariant-loop-at

@@ -1,7 +1,7 @@
-use Rattle.std.{proofs.Common.{false, ℕ, ◌+◌, ◌<◌, List, ◌∷◌, ◌++◌, add-one, rules, arith}, proofs.Math.Logic.∥∥₁_map}
-use Rattle.tally_base.specs.{Settings.{CorrelationView, correlation_view}, Tally.History}
-use Rattle.lag_ring.specs.declared.ring.Entry.{Entry}
-use Rattle.tau_cascade.{specs.{declared.level.{Level.Level, Coming.Coming}, Levels.Chain, Bins.{CanCome, Takes, Carries}, Opens.{coming_bins, closed_bins}}, proofs.{Follows.{can_take, come_on, chain_took, up_one}}}
+use Rattle.{std.proofs.{Common.{false, ℕ, ◌+◌, ◌<◌, List, ◌∷◌, ◌++◌, add-one, rules, arith}, Math.Logic.∥∥₁_map}, tally_base.specs.Settings.CorrelationView}
+use Rattle.{tally_base.specs.{Settings.correlation_view, Tally.History}, lag_ring.specs.declared.ring.Entry.Entry, tau_cascade.specs.declared.level.Level.Level}
+use Rattle.tau_cascade.specs.{declared.level.Coming.Coming, Levels.Chain, Bins.{CanCome, Takes, Carries}, Opens.{coming_bins, closed_bins}}
+use Rattle.tau_cascade.proofs.Follows.{can_take, come_on, chain_took, up_one}
 use Rattle.tau_cascade.proofs.carry.+carry_all.Goals as goal
 
 module _ (set : CorrelationView) (level : ℕ) (l l' : Level) (ls : List Level) (es bins : List Entry) (coming : Coming) (some : 0 < coming.levels)
@@ -24,10 +24,10 @@ take-next-requires-clause-stands g t c = ∥∥₁_map c.requires.stands (λ w.
 pub carry_all-requires : goal.carry_all-requires
 carry_all-requires g t c κs within =
     let stands = ∥∥₁_map c.requires.stands (λ w. gone_on _ _ _ _ _ (coming_bins c.args.coming c.args.list.now) c.take-next.new.list c.take-next.result
-    c.take-next.ensures.comes.1 c.take-next.ensures.follows w.0 w.1 (rw c.in-Some.ensures.cases.0 at w.2)) in
-    rw c.take-next.ensures.comes.2 (search (rules, arith))
+    c.take-next.ensures.goes.some c.take-next.ensures.follows w.0 w.1 (rw c.in-Some.ensures.cases.0 at w.2)) in
+    rw c.take-next.ensures.goes.up (search (rules, arith))
 
 pub returns-in-Some-clause-follows : goal.returns-in-Some-clause-follows
 returns-in-Some-clause-follows g t c = λ came xs given.
     carried _ _ _ _ _ (coming_bins c.args.coming c.args.list.now) c.take-next.new.list c.take-next.result
-    c.take-next.ensures.comes.1 c.take-next.ensures.follows came xs (rw c.in-Some.ensures.cases.0 at given) _ (rw c.take-next.ensures.comes.2 at c.carry_all.ensures.follows)
+    c.take-next.ensures.goes.some c.take-next.ensures.follows came xs (rw c.in-Some.ensures.cases.0 at given) _ (rw c.take-next.ensures.goes.up at c.carry_all.ensures.follows)

@@ -1,7 +1,7 @@
-use Rattle.std.{proofs.Common.{add-one, refl, true, ℕ, ◌+◌, ◌<◌, ◌++◌, List, [], ◌∷◌, arith, rules}, proofs.Math.Logic.∥∥₁_map}
-use Rattle.tally_base.{specs.Settings.{correlation_view, CorrelationView}, specs.Tally.History}
-use Rattle.lag_ring.specs.declared.ring.Entry.{Entry}
-use Rattle.tau_cascade.{specs.declared.level.Level.Level, specs.Levels.LevelIs, specs.Bins.{Come, CanTake, CanCome}, specs.Opens.{coming_bins, closed_bins}, specs.declared.level.Coming.Coming, proofs.{Follows.{can_take, goes_up, up_one}}, proofs.carry.end_first.Goals.{After-end-next}, proofs.carry.end_first.Given.{Over}}
+use Rattle.std.proofs.{Common.{add-one, refl, true, ℕ, ◌+◌, ◌<◌, ◌++◌, List, [], ◌∷◌, arith, rules}, Math.Logic.∥∥₁_map}
+use Rattle.{tally_base.specs.{Settings.{correlation_view, CorrelationView}, Tally.History}, lag_ring.specs.declared.ring.Entry.Entry}
+use Rattle.tau_cascade.specs.{declared.level.{Level.Level, Coming.Coming}, Levels.LevelIs, Bins.{Come, CanTake, CanCome}, Opens.{coming_bins, closed_bins}}
+use Rattle.tau_cascade.proofs.{Follows.{can_take, goes_up, up_one}, carry.end_first.{Goals.After-end-next, Given.Over}}
 use Rattle.tau_cascade.proofs.carry.end_first.Goals as goal
 
 -- the open bins in the end, from level to level
@@ -16,7 +16,7 @@ module _ (set : CorrelationView) (level : ℕ) (l : Level) (ls : List Level) (ca
 
 pub end-next-requires : goal.end-next-requires
 end-next-requires g c = record {
-  room = (search (rules, arith), omega arith, c.empty-scratch.ensures.0, c.empty-scratch.ensures.1);
+  room = (search (rules, arith), omega arith, c.empty-scratch.ensures);
   stands = ∥∥₁_map c.requires.stands (λ w. (w.1.chain.0, w.1.chain.1, may (correlation_view c.args.set.now) c.args.level _ _ w.0 w.1));
 }
 
@@ -25,15 +25,15 @@ module _ (g : Over) (c : After-end-next g) (came : History) (can : CanCome (corr
   ended = c.end-next.ensures.follows can.chain.0 can.chain.1 (may (correlation_view c.args.set.now) c.args.level _ _ came can)
 
   coming : CanCome (correlation_view c.args.set.now) (c.args.level + 1) c.args.rest.now (coming_bins c.end-next.result c.end-next.new.list) can.chain.0 can.chain.1
-  coming = next_come _ _ _ _ _ can c.end-next.result c.end-next.new.list c.end-next.ensures.comes.1 ended.1
+  coming = next_come _ _ _ _ _ can c.end-next.result c.end-next.new.list c.end-next.ensures.goes.some ended.1
 
 pub carry_all-requires-clause-stands : goal.carry_all-requires-clause-stands
-carry_all-requires-clause-stands g c = rw c.end-next.ensures.comes.2 (∥∥₁_map c.requires.stands (λ w. (w.1.chain.0, w.1.chain.1, coming g (goal.at.carry_all-requires-clause-stands g c).After-end-next w.0 w.1)))
+carry_all-requires-clause-stands g c = rw c.end-next.ensures.goes.up (∥∥₁_map c.requires.stands (λ w. (w.1.chain.0, w.1.chain.1, coming g (goal.at.carry_all-requires-clause-stands g c).After-end-next w.0 w.1)))
 
 pub returns-clause-first : goal.returns-clause-first
 returns-clause-first g c = λ came can. rw can.chain.2 (ended g (goal.at.returns-clause-first g c).After-end-next came can).0
 
 pub returns-clause-rest : goal.returns-clause-rest
 returns-clause-rest g c = λ came can.
-    let up = (rw c.end-next.ensures.comes.2 at c.carry_all.ensures.follows) in
+    let up = (rw c.end-next.ensures.goes.up at c.carry_all.ensures.follows) in
     record { few = can.few; come = refl; chain = rw can.chain.2 (up can.chain.0 can.chain.1 (coming g (goal.at.returns-clause-rest g c).After-end-next came can)) }

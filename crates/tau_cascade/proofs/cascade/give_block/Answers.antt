@@ -1,6 +1,5 @@
-use Rattle.std.{proofs.Common.{arith, rules}, proofs.lemmas.List.Elements.filter-append, proofs.Math.Logic.{∥∥₁_map}}
-use Rattle.tally_base.{specs.Settings.correlation_view, specs.Columns.events_in}
-use Rattle.tau_cascade.{specs.Correlation.photons_of, proofs.Blocks.block_comes}
+use Rattle.{std.proofs.{Common.{arith, rules}, lemmas.List.Elements.filter-append, Math.Logic.∥∥₁_map}, tally_base.specs.Settings.correlation_view}
+use Rattle.{tally_base.specs.Columns.events_in, tau_cascade.{specs.Correlation.photons_of, proofs.Blocks.block_comes}}
 use Rattle.tau_cascade.proofs.cascade.give_block.Goals as goal
 
 pub carry_all-requires-clause-stands : goal.carry_all-requires-clause-stands

@@ -1,5 +1,4 @@
-use Rattle.std.{proofs.Common.{arith, rules}, proofs.lemmas.List.{get_or-take, length-take-le}, proofs.lemmas.Simd.length-zip2}
-use Rattle.tau_cascade.proofs.Dots.{lane}
+use Rattle.{std.proofs.{Common.{arith, rules}, lemmas.{List.{get_or-take, length-take-le}, Simd.length-zip2}}, tau_cascade.proofs.Dots.lane}
 use Rattle.tau_cascade.proofs.grid.add_products.Goals as goal
 
 pub returns : goal.returns

@@ -1,5 +1,4 @@
-use Rattle.std.{proofs.Common.{◌≡◌, ◌≤◌, sum_by}, specs.List.range_with_len}
-use Rattle.tau_cascade.specs.Grid.{filled}
+use Rattle.{std.{proofs.Common.{◌≡◌, ◌≤◌, sum_by}, specs.List.range_with_len}, tau_cascade.specs.Grid.filled}
 use Rattle.tau_cascade.proofs.grid.count_filled.Given as goal
 
 abbrev pub invariant-loop-at : goal.invariant-loop-at

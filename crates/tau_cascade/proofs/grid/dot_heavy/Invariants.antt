@@ -1,5 +1,4 @@
-use Rattle.std.{proofs.Common.{◌≡◌, ◌*◌, ◌≤◌, sum_by}, specs.List.range_with_len}
-use Rattle.tau_cascade.specs.Grid.{product}
+use Rattle.{std.{proofs.Common.{◌≡◌, ◌*◌, ◌≤◌, sum_by}, specs.List.range_with_len}, tau_cascade.specs.Grid.product}
 use Rattle.tau_cascade.proofs.grid.dot_heavy.Given as goal
 
 abbrev pub invariant-loop-i : goal.invariant-loop-i

@@ -1,5 +1,4 @@
-use Rattle.std.proofs.Common.{◌≡◌, ◌∙◌, arith}
-use Rattle.tau_cascade.{specs.Grid.{product}, proofs.Dots.{range_agree, by_lanes}}
+use Rattle.{std.proofs.Common.{◌≡◌, ◌∙◌, arith}, tau_cascade.{specs.Grid.product, proofs.Dots.{range_agree, by_lanes}}}
 use Rattle.tau_cascade.proofs.grid.dot_light.Goals as goal
 
 pub returns : goal.returns

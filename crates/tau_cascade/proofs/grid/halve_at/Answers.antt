@@ -1,6 +1,6 @@
-use Rattle.std.{proofs.Common.{◌≡◌, cond, ltb, get_or, ◌∙◌, ℕ, ◌+◌, ◌*◌, ◌++◌, drop, List, ◌-◌, ◌<◌, arith, rules}, proofs.lemmas.List.{places, get_or-take}}
-use borrow.Rule.Slice.PartMut.{put_mid}
+use Rattle.std.proofs.{Common.{◌≡◌, cond, ltb, get_or, ◌∙◌, ℕ, ◌+◌, ◌*◌, ◌++◌, drop, List, ◌-◌, ◌<◌, arith, rules}, lemmas.List.{places, get_or-take}}
 use Rattle.tau_cascade.proofs.Places.{front_zero, mid_put}
+use borrow.Rule.Slice.PartMut.{put_mid}
 use Rattle.tau_cascade.proofs.grid.halve_at.Goals as goal
 
 pub returns-clause-halves : goal.returns-clause-halves

@@ -1,6 +1,6 @@
-use Rattle.std.{proofs.Common.{◌≡◌, ℕ, ◌+◌, ◌-◌, ◌*◌, ◌<◌, ◌≤◌, List, take, drop, sum_by, arith, rules}, proofs.Props.{props}, proofs.Math.Logic.{∥∥₁_elim}, specs.List.{range_with_len}, proofs.Math.Nat.{mul-le-mul_right}}
-use Rattle.lag_ring.proofs.Sums.{part-at}
-use Rattle.tau_cascade.{specs.Grid.{product}, proofs.Dots.{range_more, range_few}}
+use Rattle.std.proofs.{Common.{◌≡◌, ℕ, ◌+◌, ◌-◌, ◌*◌, ◌<◌, ◌≤◌, List, take, drop, sum_by, arith, rules}, Props.props, Math.Logic.∥∥₁_elim}
+use Rattle.{std.{proofs.Math.Nat.mul-le-mul_right, specs.List.range_with_len}, lag_ring.proofs.Sums.part-at, tau_cascade.specs.Grid.product}
+use Rattle.tau_cascade.proofs.Dots.{range_more, range_few}
 use Rattle.tau_cascade.proofs.grid.lane_sums.Goals as goal
 
 -- a row more in the sum of a lane

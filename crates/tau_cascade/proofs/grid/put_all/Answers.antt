@@ -1,5 +1,5 @@
-use Rattle.std.{proofs.Common.{rules, arith}, proofs.lemmas.Nat.{le_or_l, le_or_r}, proofs.lemmas.List.Sums.{sum_by_push}}
-use Rattle.tau_cascade.{proofs.Close.{cut}, proofs.Places.{weight_few, has_place}}
+use Rattle.{std.proofs.{Common.{rules, arith}, lemmas.{Nat.{le_or_l, le_or_r}, List.Sums.sum_by_push}}, tau_cascade.proofs.{Close.cut, Places.weight_few}}
+use Rattle.tau_cascade.proofs.Places.{has_place}
 use Rattle.tau_cascade.proofs.grid.put_all.Goals as goal
 
 pub overflow_sub-at : goal.overflow_sub-at

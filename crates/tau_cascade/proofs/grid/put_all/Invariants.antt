@@ -1,6 +1,5 @@
-use Rattle.std.{proofs.Common.{◌*◌, ◌≤◌, List, map, take}, specs.List.sum_by}
-use Rattle.lag_ring.{specs.declared.ring.Entry.Entry, specs.declared.window.Side.TheVariants.{First, Second}}
-use Rattle.tau_cascade.specs.{Bins.raised, Grid.{HaveWeights, photons}}
+use Rattle.{std.{proofs.Common.{◌*◌, ◌≤◌, List, map, take}, specs.List.sum_by}, lag_ring.specs.declared.{ring.Entry.Entry, window.Side.TheVariants.First}}
+use Rattle.{lag_ring.specs.declared.window.Side.TheVariants.Second, tau_cascade.specs.{Bins.raised, Grid.{HaveWeights, photons}}}
 use Rattle.tau_cascade.proofs.grid.put_all.Given as goal
 
 abbrev pub invariant-loop-bin : goal.invariant-loop-bin

@@ -1,6 +1,6 @@
-use Rattle.std.{proofs.Common.{◌≡◌, ℕ, ◌+◌, ◌-◌, ◌<◌, ◌≤◌, eqb, cond, List, length, take, arith, rules}, proofs.lemmas.Grind.common_steps, proofs.lemmas.Bool.Decides.nat_tests, proofs.lemmas.List.Sums.{sum_by_push, sum_by-take-le}}
-use Rattle.lag_ring.{specs.declared.ring.Entry.Entry, specs.declared.window.Side.TheVariants.First, specs.Bytes.weight_at}
-use Rattle.tau_cascade.proofs.Close.{ups, here, cut}
+use Rattle.std.proofs.{Common.{◌≡◌, ℕ, ◌+◌, ◌-◌, ◌<◌, ◌≤◌, eqb, cond, List, length, take, arith, rules}, lemmas.{Grind.common_steps, Bool.Decides.nat_tests}}
+use Rattle.{std.proofs.lemmas.List.Sums.{sum_by_push, sum_by-take-le}, lag_ring.specs.declared.{ring.Entry.Entry, window.Side.TheVariants.First}}
+use Rattle.{lag_ring.specs.Bytes.weight_at, tau_cascade.proofs.Close.{ups, here, cut}}
 use Rattle.tau_cascade.proofs.grid.put_firsts.Goals as goal
 
 -- a bin more adds its weight at its place

@@ -1,5 +1,4 @@
-use Rattle.std.proofs.Common.{◌≡◌, ℕ, ◌+◌, ◌<◌, length, get_or, map, take}
-use Rattle.lag_ring.{specs.declared.window.Side.TheVariants.First, specs.Bytes.weight_at}
+use Rattle.{std.proofs.Common.{◌≡◌, ℕ, ◌+◌, ◌<◌, length, get_or, map, take}, lag_ring.specs.{declared.window.Side.TheVariants.First, Bytes.weight_at}}
 use Rattle.tau_cascade.specs.Bins.{raised}
 use Rattle.tau_cascade.proofs.grid.put_firsts.Given as goal
 

@@ -1,4 +1,4 @@
-use Rattle.std.{proofs.Common.{arith, rules}, proofs.lemmas.List.{get_or-take, length-take-le, length-replicate, get_or-replicate}, proofs.lemmas.Simd.length-zip2}
+use Rattle.std.proofs.{Common.{arith, rules}, lemmas.{List.{get_or-take, length-take-le, length-replicate, get_or-replicate}, Simd.length-zip2}}
 use Rattle.tau_cascade.proofs.Dots.{lane}
 use Rattle.tau_cascade.proofs.laid.add_lanes.Goals as goal
 

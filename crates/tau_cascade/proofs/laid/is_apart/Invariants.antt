@@ -1,5 +1,4 @@
-use Rattle.std.proofs.Common.{◌+◌, map, take}
-use Rattle.tau_cascade.specs.Bins.{IsSpaced, raised}
+use Rattle.{std.proofs.Common.{◌+◌, map, take}, tau_cascade.specs.Bins.{IsSpaced, raised}}
 use Rattle.tau_cascade.proofs.laid.is_apart.Given as goal
 
 abbrev pub invariant-loop-at : goal.invariant-loop-at

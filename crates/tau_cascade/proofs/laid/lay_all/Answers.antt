@@ -1,19 +1,18 @@
-use Rattle.std.{proofs.Common.{rules, ◌≡◌, ◌∙◌, ℕ, ◌+◌, ◌*◌, ◌-◌, ◌<◌, ◌≤◌, List, [], ◌∷◌, ◌++◌, length, get_or, map, take, drop, arith, append_assoc}, proofs.Math.Nat.mul-le-mul, proofs.lemmas.Grind.common_steps, proofs.Math.ListN.drop_of_length-le, proofs.lemmas.List.{take_more, take-map, length-take, length-take-le, length-drop, length-set, append-nil, drop-append-le}}
-use Rattle.lag_ring.specs.declared.ring.Entry.{Entry}
-use Rattle.tau_cascade.{specs.Dense.{laid, placed}, specs.Bins.raised, proofs.Close.{no_bin, laid_at, cut, behind_last, push, laid_more, placed_more}, proofs.Passes.{all_take, spaced_take}}
+use Rattle.std.proofs.Common.{rules, ◌≡◌, ◌∙◌, ℕ, ◌+◌, ◌*◌, ◌-◌, ◌<◌, ◌≤◌, List, [], ◌∷◌, ◌++◌, length, get_or, map, take, drop, arith, append_assoc}
+use Rattle.std.proofs.{Math.{Nat.mul-le-mul, ListN.drop_of_length-le}, lemmas.{Grind.common_steps, List.{take_more, take-map, length-take, length-take-le}}}
+use Rattle.{std.proofs.lemmas.List.{length-drop, length-set, append-nil, drop-append-le}, lag_ring.specs.declared.ring.Entry.Entry}
+use Rattle.tau_cascade.{specs.{Dense.{laid, placed}, Bins.raised}, proofs.Close.{no_bin, laid_at, cut, behind_last, push, laid_more, placed_more}}
+use Rattle.tau_cascade.proofs.Passes.{all_take}
 use Rattle.tau_cascade.proofs.laid.lay_all.Goals as goal
 
-pub lay_before-laying-requires-clause-sorted : goal.lay_before-laying-requires-clause-sorted
-lay_before-laying-requires-clause-sorted c = search (rules, arith, take-map, spaced_take)
-
 pub lay_before-laying-requires-clause-near : goal.lay_before-laying-requires-clause-near
-lay_before-laying-requires-clause-near c = search (rules, arith, take-map, all_take)
+lay_before-laying-requires-clause-near c = search (rules, arith, all_take)
 
 pub loop-i-init : goal.loop-i-init
 loop-i-init c =
     let are = c.lay_before-laying.ensures in
     let most : ℕ = c.args.first + c.args.lags in
-    let close = are.upto most (omega arith) (rw (← take-map (raised c.args.bins.levels) c.args.bins.start c.args.bins.list.now) c.requires.near.1) in
+    let close = are.upto most (omega arith) c.requires.near.1 in
     search (rules, arith, take-map, drop_of_length-le, length-take, append-nil)
 
 pub lay_one-laying-requires : goal.lay_one-laying-requires
@@ -22,7 +21,7 @@ lay_one-laying-requires c =
     let reach : ℕ = c.from-reach.result + 1 in
     let count : ℕ = c.loop-i.i - c.args.bins.start in
     let all : reach * (count + 1) ≤ 129 * 64 =
-    mul-le-mul {n₂ = 129} {m₂ = 64} (omega (arith, c.requires.bins.2, c.from-reach.ensures)) (omega (arith, inside, c.requires.bins.1)) in
+    mul-le-mul {n₂ = 129} {m₂ = 64} (omega (arith, c.requires.few.1, c.from-reach.ensures)) (omega (arith, inside, c.requires.few.0)) in
     search (rules, arith, behind_last)
 
 pub loop-i-preserved : goal.loop-i-preserved
@@ -36,13 +35,13 @@ loop-i-preserved c =
     let one = c.lay_one-laying.ensures in
     let reach : ℕ = c.from-reach.result + 1 in
     let place : ℕ = c.lay_one-laying.result.place in
-    let up = behind_last levels list i inside inv.are c.requires.bins.0.sorted c.requires.near.0 in
+    let up = behind_last levels list i inside inv.are c.args.bins.sorted c.requires.near.0 in
     let back : List Entry = drop start (take i list) in
     let long : length (take i list) ≡ i = length-take-le i list (omega (arith, inside)) in
     let count : length back ≡ i - start = omega (arith, long, length-drop start (take i list)) in
     let more : drop start (take (i + 1) list) ≡ back ++ get_or list i no_bin ∷ [] =
     rw (take_more list i no_bin inside) (drop-append-le start (take i list) _ (omega (arith, long))) in
-    let written = placed_more back (get_or list i no_bin) c.loop-i.places place (omega (arith, count, inv.long, inside, c.requires.bins.1)) in
+    let written = placed_more back (get_or list i no_bin) c.loop-i.places place (omega (arith, count, inv.long, inside, c.requires.few.0)) in
     let laid_here = push _ _ _ _ _ _ _ _ inv.are up one.last one.heaviest one.weights one.light in
     let ring : reach * (i - start + 1) ≡ reach * (i - start) + reach = grind arith in
     let next : i + 1 - start ≡ i - start + 1 = omega arith in

@@ -1,5 +1,5 @@
-use Rattle.std.proofs.Common.{◌≡◌, ℕ, ◌+◌, ◌*◌, ◌-◌, ◌≤◌, ◌++◌, length, get_or, map, take, drop}
-use Rattle.tau_cascade.specs.{Dense.{laid, placed, IsLaid}, Bins.raised}
+use Rattle.{std.proofs.Common.{◌≡◌, ℕ, ◌+◌, ◌*◌, ◌-◌, ◌≤◌, ◌++◌, length, get_or, map, take, drop}, tau_cascade.specs.Dense.{laid, placed, IsLaid}}
+use Rattle.tau_cascade.specs.Bins.{raised}
 use Rattle.tau_cascade.proofs.laid.lay_all.Given as goal
 
 abbrev pub invariant-loop-i : goal.invariant-loop-i

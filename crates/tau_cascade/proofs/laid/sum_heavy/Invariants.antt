@@ -1,5 +1,4 @@
-use Rattle.std.{proofs.Common.{◌≡◌, ℕ, ◌+◌, ◌<◌, get_or, take}, specs.List.sum_by}
-use Rattle.lag_ring.{specs.declared.window.Side.TheVariants.Second, specs.Bytes.product_at}
+use Rattle.{std.{proofs.Common.{◌≡◌, ℕ, ◌+◌, ◌<◌, get_or, take}, specs.List.sum_by}, lag_ring.specs.{declared.window.Side.TheVariants.Second, Bytes.product_at}}
 use Rattle.tau_cascade.specs.Dense.{placed}
 use Rattle.tau_cascade.proofs.laid.sum_heavy.Given as goal
 

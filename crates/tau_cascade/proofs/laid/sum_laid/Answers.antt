@@ -1,6 +1,6 @@
-use Rattle.std.{proofs.Common.{ℕ, ◌+◌, ◌*◌, ◌≤◌, ◌<◌, ◌≡◌, List, length, get_or, arith, rules}, specs.List.sum_by}
-use Rattle.lag_ring.{specs.declared.ring.Entry.Entry, specs.declared.window.Side.TheVariants.Second, specs.Bytes.{product_at, IsLight}, proofs.Rising.all_weaker}
-use Rattle.tau_cascade.{specs.Dense.placed, proofs.Close.{products_few, low_all}}
+use Rattle.{std.{proofs.Common.{ℕ, ◌+◌, ◌*◌, ◌≤◌, ◌<◌, ◌≡◌, List, length, get_or, arith, rules}, specs.List.sum_by}, lag_ring.specs.declared.ring.Entry.Entry}
+use Rattle.{lag_ring.{specs.{declared.window.Side.TheVariants.Second, Bytes.{product_at, IsLight}}, proofs.Rising.all_weaker}, tau_cascade.specs.Dense.placed}
+use Rattle.tau_cascade.proofs.Close.{products_few, low_all}
 use Rattle.tau_cascade.proofs.laid.sum_laid.Goals as goal
 
 -- what is no more than a number is no more than a greater one
@@ -13,23 +13,19 @@ module _ {heaviest : ℕ} (window : List ℕ) (list : List Entry)
   few_all places from long = products_few window places list most from (low_all window most long all_light.0) all_light.1
 
 pub sum_light-more-requires : goal.sum_light-more-requires
-sum_light-more-requires g c = (
-  omega (arith, c.requires.room 0),
-  (all_light _ c.args.list.now c.requires.light 31 (omega arith), ((c.requires.few.1, c.requires.few.2), (omega (arith, c.requires.room 0), c.requires.room))),
-)
+sum_light-more-requires g c =
+    (omega (arith, c.requires.places.0.room 0), (all_light _ c.args.list.now c.requires.light 31 (omega arith), (c.requires.places.0, c.requires.places.2)))
 
 pub add_laid-requires : goal.add_laid-requires
 add_laid-requires g c =
     let few = λ (q : ℕ). few_all _ c.args.list.now c.requires.light 31 (omega arith) c.args.places.now (c.args.from + q) c.told-window in (
-      omega (arith, c.requires.room 0),
-      (search (rules, arith), λ q inside. omega (arith, few q, c.sum_light-more.ensures q inside, c.requires.few.0 q inside)),
+      omega (arith, c.requires.places.0.room 0),
+      (search (rules, arith), λ q inside. omega (arith, few q, c.sum_light-more.ensures q inside, c.requires.places.1 q inside)),
     )
 
 pub sum_heavy-requires : goal.sum_heavy-requires
-sum_heavy-requires g c = (
-  omega (arith, c.requires.room 0),
-  (all_light _ c.args.list.now c.requires.light 2047 (omega arith), ((c.requires.few.0, c.requires.few.2), (omega (arith, c.requires.room 0), c.requires.room))),
-)
+sum_heavy-requires g c =
+    (omega (arith, c.requires.places.0.room 0), (all_light _ c.args.list.now c.requires.light 2047 (omega arith), (c.requires.places.0, c.requires.places.1)))
 
 pub returns-then-heaviest-lt-NOT_LIGHT-clause-within : goal.returns-then-heaviest-lt-NOT_LIGHT-clause-within
 returns-then-heaviest-lt-NOT_LIGHT-clause-within g c = λ q inside.

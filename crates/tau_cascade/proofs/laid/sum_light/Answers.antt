@@ -1,17 +1,16 @@
-use Rattle.std.proofs.Common.{ℕ, ◌+◌, ◌-◌, get_or, arith, rules}
-use Rattle.tau_cascade.proofs.Close.{row_few, low_all}
+use Rattle.{std.proofs.Common.{ℕ, ◌+◌, ◌-◌, get_or, arith, rules}, tau_cascade.proofs.Close.{row_few, low_all}}
 use Rattle.tau_cascade.proofs.laid.sum_light.Goals as goal
 
 pub add_lanes-sums-requires : goal.add_lanes-sums-requires
 add_lanes-sums-requires g c = (
-  omega (arith, c.requires.room.1 0),
+  omega (arith, c.requires.places.0.room 0),
   (
     (c.loop-i.invariant.same, search (rules, arith)),
     λ q inside.
         let i : ℕ = c.loop-i.i in
         let n : ℕ = get_or c.args.places.now i 0 + g.row.N - get_or c.args.places.now i 0 in
-        let few = row_few c.args.window.now c.args.places.now c.args.list.now i c.args.from c.loop-i-test.true c.requires.few.1 q n (8640 - c.args.from)
-        (omega (arith, inside)) (omega (arith, c.requires.room.1 i)) 31 (low_all c.args.window.now 31 c.told-window c.requires.light.0) c.requires.light.1 in
-        omega (arith, few, c.loop-i.invariant.sums q inside, c.requires.few.0, c.loop-i-test.true),
+        let few = row_few c.args.window.now c.args.places.now c.args.list.now i c.args.from c.loop-i-test.true c.requires.places.0.all q n (8640 - c.args.from)
+        (omega (arith, inside)) (omega (arith, c.requires.places.0.room i)) 31 (low_all c.args.window.now 31 c.told-window c.requires.light.0) c.requires.light.1 in
+        omega (arith, few, c.loop-i.invariant.sums q inside, c.requires.places.1, c.loop-i-test.true),
   ),
 )

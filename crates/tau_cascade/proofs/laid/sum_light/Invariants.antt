@@ -1,6 +1,5 @@
-use Rattle.std.{proofs.Common.{◌≡◌, ℕ, ◌+◌, ◌<◌, length, get_or, take}, specs.List.sum_by}
-use Rattle.lag_ring.{specs.declared.window.Side.TheVariants.Second, specs.Bytes.product_at}
-use Rattle.tau_cascade.specs.Dense.{placed}
+use Rattle.{std.{proofs.Common.{◌≡◌, ℕ, ◌+◌, ◌<◌, length, get_or, take}, specs.List.sum_by}, lag_ring.specs.declared.window.Side.TheVariants.Second}
+use Rattle.{lag_ring.specs.Bytes.product_at, tau_cascade.specs.Dense.placed}
 use Rattle.tau_cascade.proofs.laid.sum_light.Given as goal
 
 abbrev pub invariant-loop-i : goal.invariant-loop-i

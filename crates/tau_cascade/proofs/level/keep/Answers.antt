@@ -1,5 +1,4 @@
-use Rattle.std.{proofs.Common.{rules, arith}, proofs.lemmas.List.{take_rest, length-map}}
-use Rattle.tau_cascade.{proofs.Near.{kept_bins, laid_kept}}
+use Rattle.{std.proofs.{Common.{rules, arith}, lemmas.List.{take_rest, length-map}}, tau_cascade.proofs.Near.{kept_bins, laid_kept}}
 use Rattle.tau_cascade.proofs.level.keep.Goals as goal
 
 pub merge-count-requires : goal.merge-count-requires

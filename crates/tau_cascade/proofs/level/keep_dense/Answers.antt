@@ -1,5 +1,4 @@
-use Rattle.std.{proofs.Common.{rules, arith}, proofs.lemmas.List.length-take-le}
-use Rattle.tau_cascade.proofs.Near.{fewer}
+use Rattle.{std.proofs.{Common.{rules, arith}, lemmas.List.length-take-le}, tau_cascade.proofs.Near.fewer}
 use Rattle.tau_cascade.proofs.level.keep_dense.Goals as goal
 
 pub slice_bounds-refill-end-2 : goal.slice_bounds-refill-end-2

@@ -1,5 +1,5 @@
-use Rattle.std.{proofs.Common.{◌≡◌, ℕ, ◌+◌, ◌≤◌, cond, eqb, rules, arith}, proofs.lemmas.Bool.Decides.nat_tests, proofs.lemmas.List.Sums.sum_by_push}
-use Rattle.lag_ring.{specs.Cells.{added_at}}
+use Rattle.std.proofs.{Common.{◌≡◌, ℕ, ◌+◌, ◌≤◌, cond, eqb, rules, arith}, lemmas.{Bool.Decides.nat_tests, List.Sums.sum_by_push}}
+use Rattle.lag_ring.specs.Cells.{added_at}
 use Rattle.tau_cascade.proofs.pairing.add_each.Goals as goal
 
 pub loop-at-preserved : goal.loop-at-preserved

@@ -1,5 +1,4 @@
-use Rattle.std.proofs.Common.{◌≡◌, ℕ, ◌+◌, ◌<◌, ◌≤◌, length, get_or}
-use Rattle.lag_ring.specs.Cells.{added_at}
+use Rattle.{std.proofs.Common.{◌≡◌, ℕ, ◌+◌, ◌<◌, ◌≤◌, length, get_or}, lag_ring.specs.Cells.added_at}
 use Rattle.tau_cascade.proofs.pairing.add_each.Given as goal
 
 abbrev pub invariant-loop-at : goal.invariant-loop-at

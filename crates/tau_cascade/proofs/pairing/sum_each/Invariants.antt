@@ -1,5 +1,4 @@
-use Rattle.std.proofs.Common.{map, take}
-use Rattle.tau_cascade.specs.{Bins.raised, Dense.ArePaired}
+use Rattle.{std.proofs.Common.{map, take}, tau_cascade.specs.{Bins.raised, Dense.ArePaired}}
 use Rattle.tau_cascade.proofs.pairing.sum_each.Given as goal
 
 abbrev pub invariant-loop-at : goal.invariant-loop-at

@@ -1,5 +1,6 @@
-use Rattle.std.proofs.{Common.{rules, arith, ◌+◌, ◌-◌, ◌<◌}, lemmas.{Grind.common_steps}}
-use Rattle.tau_cascade.{proofs.Close.no_bin, proofs.Nexts.{weight_more}, proofs.pairing.sum_one.Goals.{then-lag-from+then-lag-from-2, else-lag-from, else-lag-from-via-then-lag-from+else-lag-from-2, else-lag-from-via-else-lag-from}}
+use Rattle.{std.proofs.{Common.{rules, arith, ◌+◌, ◌-◌, ◌<◌}, lemmas.Grind.common_steps}, tau_cascade.proofs.{Close.no_bin, Nexts.weight_more}}
+use Rattle.tau_cascade.proofs.pairing.sum_one.Goals.{then-lag-from+then-lag-from-2, else-lag-from, else-lag-from-via-then-lag-from+else-lag-from-2}
+use Rattle.tau_cascade.proofs.pairing.sum_one.Goals.{else-lag-from-via-else-lag-from}
 use Rattle.tau_cascade.proofs.pairing.sum_one.Goals as goal
 
 pub overflow_add-sums : goal.overflow_add-sums

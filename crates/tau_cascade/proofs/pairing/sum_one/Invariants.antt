@@ -1,5 +1,4 @@
-use Rattle.std.proofs.Common.{◌≡◌, ℕ, ◌+◌, ◌-◌, ◌*◌, ◌<◌, get_or, map, take}
-use Rattle.tau_cascade.specs.{Levels.weight_before, Bins.raised}
+use Rattle.{std.proofs.Common.{◌≡◌, ℕ, ◌+◌, ◌-◌, ◌*◌, ◌<◌, get_or, map, take}, tau_cascade.specs.{Levels.weight_before, Bins.raised}}
 use Rattle.tau_cascade.proofs.pairing.sum_one.Given as goal
 
 abbrev pub invariant-loop-bin : goal.invariant-loop-bin

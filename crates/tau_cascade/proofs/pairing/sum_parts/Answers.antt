@@ -1,12 +1,15 @@
-use Rattle.std.{proofs.Common.{◌+◌, ◌<◌, ◌≤◌, length, arith, rules}, proofs.lemmas.List.length-map}
-use Rattle.tau_cascade.{proofs.Close.no_bin, proofs.{Nexts.none_paired, Passes.{part_long, part_sorted, paired_between}}}
+use Rattle.{std.proofs.{Common.{◌+◌, ◌<◌, ◌≤◌, length, arith, rules}, lemmas.List.length-map}, tau_cascade.proofs.{Close.no_bin, Nexts.none_paired}}
+use Rattle.tau_cascade.proofs.Passes.{part_long, part_sorted, paired_between}
 use Rattle.tau_cascade.proofs.pairing.sum_parts.Goals as goal
 
 pub parts-init : goal.parts-init
 parts-init g c = search (rules, arith, none_paired, length-map)
 
+pub invariant_of-part : goal.invariant_of-part
+invariant_of-part g c = search (rules, arith, part_long, no_bin, part_sorted)
+
 pub sum_part-requires : goal.sum_part-requires
-sum_part-requires g c = search (rules, arith, part_long, no_bin, part_sorted)
+sum_part-requires g c = search (rules, arith, part_long, no_bin, c.parts.window.empty)
 
 pub parts-preserved : goal.parts-preserved
 parts-preserved g c =
@@ -23,10 +26,9 @@ parts-preserved g c =
     record {
       behind = omega (arith, inv.behind, more);
       within = upto;
-      zeros = e.zeros;
       few = λ q inside. omega (arith, e.within q inside, inv.few q inside, long, near.ensures.place, more, inv.behind);
       sums = λ p inside.
-          let next = paired_between a.bins.levels list near.result at end no_bin near.ensures.place more upto c.requires.bins.0.sorted
+          let next = paired_between a.bins.levels list near.result at end no_bin near.ensures.place more upto a.bins.sorted
           (p + a.range.skipped + 1) a.range.last a.bins.start (omega (arith, inside)) inv.behind near.ensures.far in
           omega (arith, next, e.sums c.if-not-sum_part.false p inside, inv.sums p inside);
     }

@@ -1,5 +1,4 @@
-use Rattle.std.proofs.Common.{◌≡◌, ℕ, ◌/◌, ◌==◌, length, get_or, refl, rules, arith, nat_le, if◌then◌else◌}
-use Rattle.tally_base.specs.Codes.{dtime_in}
+use Rattle.{std.proofs.Common.{◌≡◌, ℕ, ◌/◌, ◌==◌, length, get_or, refl, rules, arith, nat_le, if◌then◌else◌}, tally_base.specs.Codes.dtime_in}
 use Rattle.tcspc_hist.proofs.Blocks.{count-taken}
 use Rattle.tcspc_hist.proofs.hist.add_marks.Goals as goal
 

@@ -1,5 +1,4 @@
-use Rattle.std.proofs.Common.{ℕ, ◌≡◌, ◌<◌, ◌+◌, ◌/◌, ◌==◌, sum, slice_index, length, take, count_by, nat_le}
-use Rattle.tally_base.specs.Codes.{dtime_in}
+use Rattle.{std.proofs.Common.{ℕ, ◌≡◌, ◌<◌, ◌+◌, ◌/◌, ◌==◌, sum, slice_index, length, take, count_by, nat_le}, tally_base.specs.Codes.dtime_in}
 use Rattle.tcspc_hist.proofs.hist.add_marks.Given as goal
 
 abbrev pub invariant-loop-at : goal.invariant-loop-at

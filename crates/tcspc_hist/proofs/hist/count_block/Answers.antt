@@ -1,7 +1,6 @@
-use Rattle.std.{proofs.lemmas.List.length-take-le}
-use Rattle.std.proofs.Common.{ℕ, Bool, ◌*◌, ◌∙◌, ap, take, count_by, ◌≡◌, ◌<◌, ◌≤◌, ◌/◌, ◌&&◌, length, refl, rules, arith, nat_lt, nat_le, ◌==◌, if◌then◌else◌}
-use Rattle.tally_base.{specs.Events.is_in, specs.Settings.hist_view, specs.Codes.dtime_in, specs.Columns.{code_at, dtime_at, groups_at, item, rows}}
-use Rattle.tcspc_hist.proofs.Blocks.{count-picked, count-row, one_at_most}
+use Rattle.std.proofs.{lemmas.List.length-take-le, Common.{ℕ, Bool, ◌*◌, ◌∙◌, ap, take, count_by, ◌≡◌, ◌<◌, ◌≤◌, ◌/◌, ◌&&◌, length, refl, rules, arith, nat_lt}}
+use Rattle.{std.proofs.Common.{nat_le, ◌==◌, if◌then◌else◌}, tally_base.specs.{Events.is_in, Settings.hist_view, Codes.dtime_in, Columns.{code_at, dtime_at}}}
+use Rattle.{tally_base.specs.Columns.{groups_at, item, rows}, tcspc_hist.proofs.Blocks.{count-picked, count-row, one_at_most}}
 use Rattle.tcspc_hist.specs.HistogramCounts.{count_dtimes, count_over}
 use Rattle.tcspc_hist.proofs.hist.count_block.Goals as goal
 

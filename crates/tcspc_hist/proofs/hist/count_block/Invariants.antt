@@ -1,5 +1,4 @@
-use Rattle.std.proofs.Common.{ℕ, ◌≡◌, ◌<◌, ◌≤◌, ◌+◌, sum, slice_index}
-use Rattle.tally_base.{specs.Settings.hist_view, specs.Columns.{item, rows}}
+use Rattle.{std.proofs.Common.{ℕ, ◌≡◌, ◌<◌, ◌≤◌, ◌+◌, sum, slice_index}, tally_base.specs.{Settings.hist_view, Columns.{item, rows}}}
 use Rattle.tcspc_hist.specs.HistogramCounts.{in_bin, count_over}
 use Rattle.tcspc_hist.proofs.hist.count_block.Given as goal
 

@@ -1,5 +1,6 @@
 use Rattle.std.{proofs.Common.{◌≡◌, ℕ, ◌+◌, ◌/◌, Bool, ◌&&◌, ◌==◌, nat_le, arith, rules}, specs.List.{count_by, range_with_len}}
-use Rattle.tally_base.{proofs.Sums.{sum_same, count_same, parts}, specs.declared.event.Event.Event, specs.declared.event.EventKind.EventKind, specs.declared.event.EventKind.TheVariants.{Photon, Marker}, specs.Events.{is_photon, is_photon_kind, is_in}, specs.Settings.HistView, specs.Tally.{History, in_all_bins, photons_of_group}}
+use Rattle.tally_base.{proofs.Sums.{sum_same, count_same, parts}, specs.declared.event.{Event.Event, EventKind.{EventKind, TheVariants.{Photon, Marker}}}}
+use Rattle.tally_base.specs.{Events.{is_photon, is_photon_kind, is_in}, Settings.HistView, Tally.{History, in_all_bins, photons_of_group}}
 use Rattle.tcspc_hist.specs.HistogramCounts.{dtime_passes, count_dtimes, in_bin, count_over}
 use Rattle.tcspc_hist.proofs.laws.each_photon_counts_once.Goals as goal
 

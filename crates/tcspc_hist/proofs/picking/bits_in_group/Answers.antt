@@ -1,8 +1,9 @@
-use Rattle.std.{proofs.Common.{rules, ◌≡◌, ◌*◌, ◌-◌, ◌%◌, ◌^◌, ◌<◌, ◌≤◌, ◌==◌, ℕ, zero, suc, List, Bool, false, length, map, get_or, replicate, cond, ap, ◌∙◌, arith, eqb, w64}, proofs.Math.Nat.mod-eq_of_lt, proofs.lemmas.Nat.{pow_below, pow_pos}, proofs.lemmas.Nat.Bits.{and_pow, bit_at-lt}, specs.Int.{bit_at}, proofs.lemmas.Simd.{bitmask_splat, bit_mask_l, mask_l-lt, length-zip2, get_or-zip2, get_or-replicate}, proofs.lemmas.List.{length-map, get_or-map}}
+use Rattle.std.proofs.Common.{rules, ◌≡◌, ◌*◌, ◌-◌, ◌%◌, ◌^◌, ◌<◌, ◌≤◌, ◌==◌, ℕ, zero, suc, List, Bool, false, length, map, get_or, replicate, cond, ap, ◌∙◌}
+use Rattle.std.proofs.{Common.{arith, eqb, w64}, Math.Nat.mod-eq_of_lt, lemmas.{Nat.{pow_below, pow_pos, Bits.{and_pow, bit_at-lt}}, Simd.bitmask_splat}}
+use Rattle.std.{proofs.lemmas.{Simd.{bit_mask_l, mask_l-lt, length-zip2, get_or-zip2, get_or-replicate}, List.{length-map, get_or-map}}, specs.Int.bit_at}
+use Rattle.{tally_base.specs.Events.is_in, lane_decode.specs.Staying.has_bit}
 use lib.Lanes.{zip2, mask_l}
 use lib.Bits.{bit_and}
-use Rattle.tally_base.specs.Events.{is_in}
-use Rattle.lane_decode.specs.Staying.{has_bit}
 use Rattle.tcspc_hist.proofs.picking.bits_in_group.Goals as goal
 
 -- a bit that is set where it stands

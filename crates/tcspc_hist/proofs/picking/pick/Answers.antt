@@ -1,7 +1,7 @@
-use Rattle.std.{proofs.Common.{rules, ◌≡◌, ◌+◌, ◌*◌, ◌<◌, ◌≤◌, ◌++◌, ℕ, length, map, take, get_or, refl, sym, ap, ◌∙◌, arith}, specs.Prelude.{count_ones}, specs.List.{filter, range_with_len}, proofs.lemmas.Simd.{Each1-get_or, map-map}, proofs.lemmas.List.{map-append}}
-use Rattle.tally_base.{specs.Columns.{mark_at, code_at}, proofs.Sorted.{found}}
-use Rattle.lane_decode.{specs.Staying.{has_bit, bits_in}, proofs.Chosen.{few-bits, below-bits, ones-bits, stay-more}}
-use Rattle.tcspc_hist.{specs.Picked.{has_photon, photon_marks}, proofs.Blocks.{front-by, front-put}}
+use Rattle.std.proofs.{Common.{rules, ◌≡◌, ◌+◌, ◌*◌, ◌<◌, ◌≤◌, ◌++◌, ℕ, length, map, take, get_or, refl, sym, ap, ◌∙◌, arith}, lemmas.Simd.Each1-get_or}
+use Rattle.{std.{proofs.lemmas.{Simd.map-map, List.map-append}, specs.{Prelude.count_ones, List.{filter, range_with_len}}}, tally_base.specs.Columns.mark_at}
+use Rattle.{tally_base.{specs.Columns.code_at, proofs.Sorted.found}, lane_decode.{specs.Staying.{has_bit, bits_in}, proofs.Chosen.{few-bits, below-bits}}}
+use Rattle.{lane_decode.proofs.Chosen.{ones-bits, stay-more}, tcspc_hist.{specs.Picked.{has_photon, photon_marks}, proofs.Blocks.{front-by, front-put}}}
 use Rattle.tcspc_hist.proofs.picking.pick.Goals as goal
 
 pub loop-k-preserved : goal.loop-k-preserved

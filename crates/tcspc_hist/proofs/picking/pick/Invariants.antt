@@ -1,5 +1,4 @@
-use Rattle.std.proofs.Common.{◌≡◌, ◌≤◌, ◌*◌, length, take}
-use Rattle.tcspc_hist.specs.Picked.{photon_marks}
+use Rattle.{std.proofs.Common.{◌≡◌, ◌≤◌, ◌*◌, length, take}, tcspc_hist.specs.Picked.photon_marks}
 use Rattle.tcspc_hist.proofs.picking.pick.Given as goal
 
 abbrev pub invariant-loop-k : goal.invariant-loop-k

@@ -1,7 +1,5 @@
-use Rattle.record_stream.proofs.Lasts.{streamed-clear}
-use Rattle.gate_plan.specs.Groups.{sorting_of}
-use Rattle.trace_work.{specs.TraceOutcomes.traced_none, proofs.TraceFeeds.ends-both}
-use Rattle.command_work.proofs.RestEnds.{not_written}
+use Rattle.{record_stream.proofs.Lasts.streamed-clear, gate_plan.specs.Groups.sorting_of, trace_work.specs.TraceOutcomes.traced_none}
+use Rattle.{trace_work.proofs.TraceFeeds.ends-both, command_work.proofs.RestEnds.not_written}
 use Rattle.trace_work.proofs.trace.end_lines.Goals as goal
 
 pub returns-clause-writes : goal.returns-clause-writes

@@ -1,11 +1,10 @@
-use Rattle.std.{proofs.lemmas.Result.err_from_is_err_and, proofs.Common.{◌≡◌, ℕ, List, Some, Ok, Err, refl, inl, inr, Result, OnOk, OnErr, IfErr}}
-use Rattle.gate_plan.{specs.Groups.sorting_of, specs.Shifting.Sorting, specs.Histories.history}
-use Rattle.record_stream.specs.Standing.{how_of}
-use Rattle.tally_base.{specs.declared.fault.Fault.Fault, specs.declared.fault.Fault.TheVariants.WriteFault, specs.Faults.fault_in, specs.Settings.{TraceView, trace_view}, specs.Tally.History}
-use Rattle.bench_io.{specs.Sinks.SinkState, specs.Texts.WritesText, proofs.Texts.{WroteText-trans, CutText-behind, CutText-more}}
-use Rattle.ptu_definitions.{specs.declared.records.Summary.Summary, specs.Words.words_of, specs.Streams.StreamSettings}
-use Rattle.long_trace.{specs.declared.trace.LongTrace.LongTrace, specs.LongTrace.set_of, specs.Texts.{open_text, whole_text}, specs.Written.{AppendsRest, CutsRest}, proofs.Rising.whole-front}
-use Rattle.trace_work.{specs.TraceOutcomes.{words_traced, traced}, specs.TracePieces.text_by}
+use Rattle.std.proofs.{lemmas.Result.err_from_is_err_and, Common.{◌≡◌, ℕ, List, Some, Ok, Err, refl, inl, inr, Result, OnOk, OnErr, IfErr}}
+use Rattle.{gate_plan.specs.{Groups.sorting_of, Shifting.Sorting, Histories.history}, record_stream.specs.Standing.how_of}
+use Rattle.tally_base.specs.{declared.fault.Fault.{Fault, TheVariants.WriteFault}, Faults.fault_in, Settings.{TraceView, trace_view}, Tally.History}
+use Rattle.bench_io.{specs.{Sinks.SinkState, Texts.WritesText}, proofs.Texts.{WroteText-trans, CutText-behind, CutText-more}}
+use Rattle.ptu_definitions.specs.{declared.records.Summary.Summary, Words.words_of, Streams.StreamSettings}
+use Rattle.long_trace.specs.{declared.trace.LongTrace.LongTrace, LongTrace.set_of, Texts.{open_text, whole_text}, Written.{AppendsRest, CutsRest}}
+use Rattle.{long_trace.proofs.Rising.whole-front, trace_work.specs.{TraceOutcomes.{words_traced, traced}, TracePieces.text_by}}
 use Rattle.trace_work.proofs.trace.end_trace.Goals as goal
 
 module _ (by : Sorting) (how : StreamSettings) (trace : LongTrace) (bytes : List ℕ) where

@@ -1,4 +1,4 @@
-use Rattle.std.{proofs.Common.{rules, ◌≡◌, [], ◌++◌, sym, append-nil}, proofs.lemmas.Result.{err_from_is_err_and, on_ok_weaker, on_err_weaker}}
+use Rattle.std.proofs.{Common.{rules, ◌≡◌, [], ◌++◌, sym, append-nil}, lemmas.Result.{err_from_is_err_and, on_ok_weaker, on_err_weaker}}
 use Rattle.bench_io.proofs.Bytes.{Wrote-same, Wrote-trans, WroteShort-behind, WroteShort-more, WroteShort-same}
 use Rattle.bench_io.proofs.sink.OutBuffer.put.Goals as goal
 

@@ -1,7 +1,8 @@
-use Rattle.std.{proofs.Common.{◌∙◌, ap, sym, ◌≡◌, ℕ, ◌<◌, Bool, true, false, List, [], ◌∷◌, get_or, refl, arith, rules}, specs.List.{count_by, filter}, proofs.lemmas.Bool.false≢true}
-use Rattle.tally_base.{proofs.Sums.{count_none}, specs.Settings.{CoincidenceView, coincidence_cells}, specs.Tally.History}
-use Rattle.lag_ring.proofs.Sums.{sum_by-same, sum_by-filter}
-use Rattle.coincidence.{proofs.Visits.{work_within, none_left}, specs.declared.pairing.Pairing.Pairing, specs.Pairs.{is_coincidence, coincidences, before_last, photons_of_groups}, proofs.Before.closed_come, specs.StandsFor.StandsFor, proofs.Blockwise.{mine}, proofs.Hits.{pairs_in}, proofs.Mirror.pairs_apart-in}
+use Rattle.std.proofs.{Common.{◌∙◌, ap, sym, ◌≡◌, ℕ, ◌<◌, Bool, true, false, List, [], ◌∷◌, get_or, refl, arith, rules}, lemmas.Bool.false≢true}
+use Rattle.{std.specs.List.{count_by, filter}, tally_base.{proofs.Sums.count_none, specs.{Settings.{CoincidenceView, coincidence_cells}, Tally.History}}}
+use Rattle.{lag_ring.proofs.Sums.{sum_by-same, sum_by-filter}, coincidence.proofs.{Visits.{work_within, none_left}, Before.closed_come, Blockwise.mine}}
+use Rattle.coincidence.{proofs.{Hits.pairs_in, Mirror.pairs_apart-in}, specs.{declared.pairing.Pairing.Pairing, Pairs.{is_coincidence, coincidences}}}
+use Rattle.coincidence.specs.{Pairs.{before_last, photons_of_groups}, StandsFor.StandsFor}
 use Rattle.coincidence.proofs.coincidence.Coincidence.cell.Goals as goal
 
 -- the photons of the two groups make all the pairs
@@ -24,7 +25,8 @@ cell_is : (closed : Bool) → closed ≡ true → (set : CoincidenceView) (p : P
 cell_is false shut set p count time h is c inside = absurd (false≢true shut)
 cell_is true shut set p count time h is c inside = is.photons.pending.cells.pairs c inside ∙ ap (coincidences set c) (none_left set _ _ _ is.photons.pending) ∙ coincidences-photons set c h
 
-open_is : (closed : Bool) → closed ≡ false → (set : CoincidenceView) (p : Pairing) (count time : ℕ) (h : History) → StandsFor closed set p count time h → (c : ℕ) → c < coincidence_cells set → get_or p.cells.cells c 0 ≡ coincidences set c (before_last (photons_of_groups set h))
+open_is : (closed : Bool) → closed ≡ false → (set : CoincidenceView) (p : Pairing) (count time : ℕ) (h : History) → StandsFor closed set p count time h
+    → (c : ℕ) → c < coincidence_cells set → get_or p.cells.cells c 0 ≡ coincidences set c (before_last (photons_of_groups set h))
 open_is closed shut set p count time h is c inside = search (rules, arith, false≢true, none_left, closed_come)
 
 pub returns : goal.returns

@@ -1,6 +1,5 @@
-use Rattle.std.proofs.Math.Logic.{∥∥₁_map}
-use Rattle.tally_base.specs.Settings.{coincidence_view}
-use Rattle.coincidence.{specs.Pairs.photons_of_groups, proofs.Blockwise.{may_end, end_counts}}
+use Rattle.{std.proofs.Math.Logic.∥∥₁_map, tally_base.specs.Settings.coincidence_view, coincidence.{specs.Pairs.photons_of_groups, proofs.Blockwise.may_end}}
+use Rattle.coincidence.proofs.Blockwise.{end_counts}
 use Rattle.coincidence.proofs.coincidence.CoincidenceTally.close.Goals as goal
 
 pub end-requires : goal.end-requires

@@ -1,11 +1,10 @@
-use Rattle.std.{proofs.Common.{rules, ◌++◌}, proofs.Math.Logic.{∥∥₁_map}}
-use Rattle.tally_base.specs.Columns.{events_in}
-use Rattle.coincidence.proofs.Blockwise.{may_events, events_count}
+use Rattle.{std.proofs.{Common.{rules, ◌++◌}, Math.Logic.∥∥₁_map}, tally_base.specs.Columns.events_in, coincidence.proofs.Blockwise.{may_events, events_count}}
 use Rattle.coincidence.proofs.coincidence.CoincidenceTally.events.Goals as goal
 
-pub take_block-requires-clause-stands : goal.take_block-requires-clause-stands
-take_block-requires-clause-stands g c =
-    ∥∥₁_map c.args.self.now.stands (λ w. (w.0, may_events _ c.requires.open _ _ _ _ w.0 _ w.1 c.requires.room c.requires.in_order))
+pub take_block-requires : goal.take_block-requires
+take_block-requires g c = record {
+  stands = ∥∥₁_map c.args.self.now.stands (λ w. (w.0, may_events _ c.requires.open _ _ _ _ w.0 _ w.1 c.requires.room c.requires.in_order));
+}
 
 pub invariant_of-self-clause-stands : goal.invariant_of-self-clause-stands
 invariant_of-self-clause-stands g c = ∥∥₁_map c.args.self.now.stands (λ w. (

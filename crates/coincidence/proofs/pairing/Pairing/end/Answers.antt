@@ -1,5 +1,4 @@
-use Rattle.std.{proofs.Common.{refl, []}, proofs.Math.Logic.{∥∥₁_map}}
-use Rattle.coincidence.proofs.Visits.{shuts}
+use Rattle.{std.proofs.{Common.{refl, []}, Math.Logic.∥∥₁_map}, coincidence.proofs.Visits.shuts}
 use Rattle.coincidence.proofs.pairing.Pairing.end.Goals as goal
 
 pub close-requires : goal.close-requires

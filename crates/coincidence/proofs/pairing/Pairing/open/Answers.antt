@@ -1,4 +1,4 @@
-use Rattle.std.{proofs.Common.{[], refl, rules, arith}, proofs.lemmas.List.get_or-replicate, proofs.lemmas.Grind.common_steps}
+use Rattle.std.proofs.{Common.{[], refl, rules, arith}, lemmas.{List.get_or-replicate, Grind.common_steps}}
 use Rattle.coincidence.proofs.pairing.Pairing.open.Goals as goal
 
 pub returns-clause-empty : goal.returns-clause-empty

@@ -1,5 +1,5 @@
-use Rattle.std.proofs.Common.{◌≡◌, false, length, rules, arith, length-append}
-use Rattle.tally_base.{proofs.BlockRows.length-rows, proofs.Floors.{greatest_block, order-lower, floor-lower}, proofs.Sums.whole_slice}
+use Rattle.{std.proofs.Common.{◌≡◌, false, length, rules, arith, length-append}, tally_base.proofs.{BlockRows.length-rows, Floors.greatest_block}}
+use Rattle.tally_base.proofs.{Floors.{order-lower, floor-lower}, Sums.whole_slice}
 use Rattle.coincidence.proofs.start_stop.StartStopTally.events.Goals as goal
 
 pub count_block-self-requires-clause-in_order : goal.count_block-self-requires-clause-in_order

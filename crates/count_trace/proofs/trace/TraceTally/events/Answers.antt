@@ -1,5 +1,5 @@
-use Rattle.std.proofs.Common.{◌≡◌, ◌-◌, ◌/◌, ◌&&◌, false, length, rules, arith, length-append, nat_lt, nat_le, ◌==◌}
-use Rattle.tally_base.{specs.Settings.trace_view, specs.Columns.{item, events_in}, proofs.BlockRows.length-rows, proofs.Floors.greatest_block, proofs.Sums.whole_slice}
+use Rattle.{std.proofs.Common.{◌≡◌, ◌-◌, ◌/◌, ◌&&◌, false, length, rules, arith, length-append, nat_lt, nat_le, ◌==◌}, tally_base.specs.Settings.trace_view}
+use Rattle.tally_base.{specs.Columns.{item, events_in}, proofs.{BlockRows.length-rows, Floors.greatest_block, Sums.whole_slice}}
 use Rattle.count_trace.proofs.Blocks.{count-append}
 use Rattle.count_trace.proofs.trace.TraceTally.events.Goals as goal
 

@@ -1,6 +1,4 @@
-use Rattle.std.proofs.Common.{◌+◌, ◌∷◌, [], ◌∙◌, arith, length-append}
-use Rattle.ptu_definitions.specs.Kept.{Marked}
-use Rattle.abs_time.proofs.Floors.{moved_floor-push}
+use Rattle.{std.proofs.Common.{◌+◌, ◌∷◌, [], ◌∙◌, arith, length-append}, ptu_definitions.specs.Kept.Marked, abs_time.proofs.Floors.moved_floor-push}
 use Rattle.file_tests.proofs.refused.CounterEventTaker.take.Goals as goal
 
 pub returns-clause-follows : goal.returns-clause-follows

@@ -1,5 +1,4 @@
-use Rattle.std.{proofs.Common.{arith, rules}, proofs.lemmas.Result.{err_from_is_err_and}}
-use Rattle.file_work.proofs.Ends.{ends-refused, ends-written}
+use Rattle.{std.proofs.{Common.{arith, rules}, lemmas.Result.err_from_is_err_and}, file_work.proofs.Ends.{ends-refused, ends-written}}
 use Rattle.file_work.proofs.counting.CountReaderReader.end.Goals as goal
 
 pub returns-in_err-counts : goal.returns-in_err-counts

@@ -1,5 +1,4 @@
-use Rattle.std.proofs.Common.{arith, rules}
-use Rattle.file_work.proofs.Ends.{takes-piece, writes-piece}
+use Rattle.{std.proofs.Common.{arith, rules}, file_work.proofs.Ends.{takes-piece, writes-piece}}
 use Rattle.file_work.proofs.counting.CountReaderReader.piece.Goals as goal
 
 pub returns-clause-writes : goal.returns-clause-writes

@@ -1,6 +1,4 @@
-use Rattle.std.proofs.Common.{[], arith}
-use Rattle.bench_io.proofs.Texts.{WroteText-none}
-use Rattle.file_work.specs.CountLaws.{counts-clear}
+use Rattle.{std.proofs.Common.{[], arith}, bench_io.proofs.Texts.WroteText-none, file_work.specs.CountLaws.counts-clear}
 use Rattle.file_work.proofs.counting.CountingJob.open.Goals as goal
 
 pub returns-clause-opens : goal.returns-clause-opens

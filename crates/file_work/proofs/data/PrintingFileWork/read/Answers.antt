@@ -1,7 +1,7 @@
-use Rattle.std.proofs.Common.{◌≡◌, length, rules, ◌++◌, [], take, refl, sym, ap, ◌∙◌, append-nil, arith, inr, Ok, Err}
-use Rattle.bench_io.{proofs.States.{Consumes-nil, OnlyReads-refl, OnlyReads-trans}, proofs.Bytes.{Wrote-nil, Wrote-same}}
-use Rattle.list_out.{specs.HeaderText.header_text, proofs.StepTexts.header_text-nil}
-use Rattle.command_work.{proofs.Pieces.IsCut-nil, proofs.Told.{Decides-at_end, Decides-shown, reads-on}, proofs.Once.{quiet-none, once-refl, Rose-kept}, proofs.Reading.{leaves-unread, took-read, leaves-ended, leaves-cut}}
+use Rattle.{std.proofs.Common.{◌≡◌, length, rules, ◌++◌, [], take, refl, sym, ap, ◌∙◌, append-nil, arith, inr, Ok, Err}, bench_io.proofs.States.Consumes-nil}
+use Rattle.{bench_io.proofs.{States.{OnlyReads-refl, OnlyReads-trans}, Bytes.{Wrote-nil, Wrote-same}}, list_out.specs.HeaderText.header_text}
+use Rattle.{list_out.proofs.StepTexts.header_text-nil, command_work.proofs.{Pieces.IsCut-nil, Told.{Decides-at_end, Decides-shown, reads-on}, Once.quiet-none}}
+use Rattle.command_work.proofs.{Once.{once-refl, Rose-kept}, Reading.{leaves-unread, took-read, leaves-ended, leaves-cut}}
 use Rattle.file_work.{proofs.Ends.{text-appended, text-cut, outcome-done, outcome-refused, outcome-at}, specs.FileOutcomes.header_outcome}
 use Rattle.tally_base.specs.Faults.{fault_in}
 use Rattle.file_work.proofs.data.PrintingFileWork.read.Goals as goal

@@ -1,10 +1,6 @@
-use Rattle.std.proofs.Common.{◌≡◌, List, ℕ, ◌-◌, ◌^◌, true}
-use Rattle.tally_base.specs.declared.slot.Slot.TheVariants.{Data}
-use Rattle.bench_io.specs.Inputs.{OnlyReads}
-use Rattle.ptu_header.specs.ReadHeader.{bytes_taken, is_open}
-use Rattle.list_out.specs.HeaderText.{header_text}
-use Rattle.command_work.{specs.Behaviours.AsItReads, specs.Endings.span, proofs.Reading.SoFar}
-use Rattle.file_work.{specs.BodyPieces.Prints, specs.FileOutcomes.printing}
+use Rattle.{std.proofs.Common.{◌≡◌, List, ℕ, ◌-◌, ◌^◌, true}, tally_base.specs.declared.slot.Slot.TheVariants.Data, bench_io.specs.Inputs.OnlyReads}
+use Rattle.{ptu_header.specs.ReadHeader.{bytes_taken, is_open}, list_out.specs.HeaderText.header_text, command_work.specs.{Behaviours.AsItReads, Endings.span}}
+use Rattle.{command_work.proofs.Reading.SoFar, file_work.specs.{BodyPieces.Prints, FileOutcomes.printing}}
 use Rattle.file_work.proofs.data.PrintingFileWork.read.Given as goal
 
 -- the text of the bytes that were taken is written

@@ -1,5 +1,5 @@
-use Rattle.std.{proofs.Common.{◌∙◌, refl, sym, append-nil}, proofs.lemmas.Result.err_from_is_err_and}
-use Rattle.file_work.proofs.EventSteps.{Listed-more, ListedShort-more, floor-event}
+use Rattle.{std.proofs.{Common.{◌∙◌, refl, sym, append-nil}, lemmas.Result.err_from_is_err_and}, file_work.proofs.EventSteps.{Listed-more, ListedShort-more}}
+use Rattle.file_work.proofs.EventSteps.{floor-event}
 use Rattle.file_work.proofs.events.EventLinesEventTaker.take.Goals as goal
 
 pub returns-in_err-put-clause-broken : goal.returns-in_err-put-clause-broken

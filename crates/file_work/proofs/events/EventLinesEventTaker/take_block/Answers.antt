@@ -1,8 +1,7 @@
-use Rattle.std.{proofs.Common.{arith, rules, sym, append-nil, ◌≡◌, ◌+◌, ℕ, List, ◌++◌, refl, ap, subst, ◌∙◌, take, drop}, proofs.lemmas.List.{map-append, take-append-drop, take_all}, proofs.Math.Seq.take-add, proofs.lemmas.Result.err_from_is_err_and}
-use Rattle.tally_base.{specs.Columns.gathered, specs.declared.event.Event.Event}
-use Rattle.bench_io.{specs.Sinks.{WroteShort, PassesOn}, proofs.Bytes.{WroteShort-passed, PassesOn-held, PassesOn-trans}}
-use Rattle.record_stream.{specs.Blocks.on_time, proofs.Steps.length-on_time}
-use Rattle.list_out.specs.Lines.{events_text}
+use Rattle.std.proofs.{Common.{arith, rules, sym, append-nil, ◌≡◌, ◌+◌, ℕ, List, ◌++◌, refl, ap, subst, ◌∙◌, take, drop}, lemmas.List.map-append}
+use Rattle.{std.proofs.{lemmas.{List.{take-append-drop, take_all}, Result.err_from_is_err_and}, Math.Seq.take-add}, tally_base.specs.Columns.gathered}
+use Rattle.{tally_base.specs.declared.event.Event.Event, bench_io.{specs.Sinks.{WroteShort, PassesOn}, proofs.Bytes.{WroteShort-passed, PassesOn-held}}}
+use Rattle.{bench_io.proofs.Bytes.PassesOn-trans, record_stream.{specs.Blocks.on_time, proofs.Steps.length-on_time}, list_out.specs.Lines.events_text}
 use Rattle.file_work.proofs.EventSteps.{lines_more, Listed-more, ListedShort-more, floor-block}
 use Rattle.file_work.proofs.events.EventLinesEventTaker.take_block.Goals as goal
 

@@ -1,8 +1,5 @@
-use Rattle.std.proofs.Common.{◌≡◌, ◌-◌, ◌++◌, take, length}
-use Rattle.tally_base.specs.Columns.{gathered}
-use Rattle.bench_io.specs.Sinks.{PassesOn}
-use Rattle.record_stream.specs.Blocks.{on_time}
-use Rattle.list_out.specs.Lines.{events_text}
+use Rattle.{std.proofs.Common.{◌≡◌, ◌-◌, ◌++◌, take, length}, tally_base.specs.Columns.gathered, bench_io.specs.Sinks.PassesOn}
+use Rattle.{record_stream.specs.Blocks.on_time, list_out.specs.Lines.events_text}
 use Rattle.file_work.proofs.events.EventLinesEventTaker.take_block.Given as goal
 
 abbrev pub invariant-parts : goal.invariant-parts

@@ -1,7 +1,5 @@
-use Rattle.std.{proofs.Common.{Ok, sym, ap, arith, rules}, proofs.lemmas.Result.{err_from_is_err_and}}
-use Rattle.tally_base.specs.Faults.{fault_in}
-use Rattle.record_stream.specs.Standing.{how_of}
-use Rattle.file_work.proofs.Ends.{ends-listed}
+use Rattle.{std.proofs.{Common.{Ok, sym, ap, arith, rules}, lemmas.Result.err_from_is_err_and}, tally_base.specs.Faults.fault_in}
+use Rattle.{record_stream.specs.Standing.how_of, file_work.proofs.Ends.ends-listed}
 use Rattle.file_work.proofs.events.EventReaderReader.end.Goals as goal
 
 pub returns-in_err-end_lines : goal.returns-in_err-end_lines

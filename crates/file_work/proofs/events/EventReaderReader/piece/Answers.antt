@@ -1,5 +1,4 @@
-use Rattle.std.proofs.Common.{ap, sym}
-use Rattle.file_work.specs.FileOutcomes.{lists}
+use Rattle.{std.proofs.Common.{ap, sym}, file_work.specs.FileOutcomes.lists}
 use Rattle.file_work.proofs.events.EventReaderReader.piece.Goals as goal
 
 pub returns-clause-same : goal.returns-clause-same

@@ -1,6 +1,4 @@
-use Rattle.std.proofs.Common.{[], ap}
-use Rattle.bench_io.proofs.Bytes.{Wrote-nil}
-use Rattle.command_work.proofs.RestEnds.{refused-none, opens-wrote}
+use Rattle.{std.proofs.Common.{[], ap}, bench_io.proofs.Bytes.Wrote-nil, command_work.proofs.RestEnds.{refused-none, opens-wrote}}
 use Rattle.file_work.{specs.FileOutcomes.{listing, lists}, proofs.Ends.lines_of-none}
 use Rattle.file_work.proofs.events.ListingJob.open.Goals as goal
 

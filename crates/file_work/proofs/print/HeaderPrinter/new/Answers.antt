@@ -1,5 +1,4 @@
-use Rattle.std.proofs.Common.{sym, ◌∙◌}
-use Rattle.file_work.proofs.Ends.{no_items, seen-nil}
+use Rattle.{std.proofs.Common.{sym, ◌∙◌}, file_work.proofs.Ends.{no_items, seen-nil}}
 use Rattle.file_work.proofs.print.HeaderPrinter.new.Goals as goal
 
 pub returns-clause-start : goal.returns-clause-start

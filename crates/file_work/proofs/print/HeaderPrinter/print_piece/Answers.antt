@@ -1,5 +1,4 @@
-use Rattle.std.proofs.lemmas.Result.{err_from_is_err_and}
-use Rattle.bench_io.proofs.Bytes.{Wrote-flushed, WroteShort-flushed}
+use Rattle.{std.proofs.lemmas.Result.err_from_is_err_and, bench_io.proofs.Bytes.{Wrote-flushed, WroteShort-flushed}}
 use Rattle.file_work.proofs.print.HeaderPrinter.print_piece.Goals as goal
 
 pub returns-in_err-flush-clause-short : goal.returns-in_err-flush-clause-short

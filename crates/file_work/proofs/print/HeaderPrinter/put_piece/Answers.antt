@@ -1,12 +1,15 @@
-use Rattle.std.{proofs.Common.{refl, ◌≡◌, ◌^◌, ◌≤◌, ◌++◌, List, ℕ, length, take, sym, ap, ◌∙◌, subst, append_assoc, arith, length-append, ◌+◌, [], Bool, drop, take-append-drop, rules}, proofs.lemmas.List.{length-take, take_all}, proofs.lemmas.Result.err_from_is_err_and}
-use Rattle.ptu_definitions.{specs.TagList.{code_in, Item}, specs.Headers.{header_answer, seen, seen_preamble}}
-use Rattle.list_out.{specs.HeaderText.{kind_with, body_text, head_text, bare_end, preamble_lines_of, header_text}, specs.declared.body.BodyText.BodyText, specs.Lines.HasPut, proofs.Final.{header_text-grows, header_text-refused, header_text-done}, proofs.StepTexts.{header_text-same, header_text-preamble, header_text-tag, header_text-body, kind_with-is}}
-use Rattle.command_work.{specs.Outcomes.IsCut, proofs.Pieces.{two-parts, whole-piece}}
-use Rattle.tally_base.{specs.declared.fault.Fault.Fault, specs.declared.header.Header.Header}
-use Rattle.bench_io.{specs.Sinks.{SinkState, WroteShort, PassesOn}, proofs.Bytes.{WroteShort-same, WroteShort-more, WroteShort-passed, PassesOn-trans}}
-use Rattle.ptu_tag.{specs.declared.kind.TagKind.TagKind, specs.declared.head.TagHead.TagHead}
-use Rattle.ptu_header.{specs.declared.reader.HeaderReader.HeaderReader, specs.declared.step.HeaderStep.TheVariants.{More, Preamble, Tag, Body, Done, Refused}, specs.ReadHeader.{Steps, bytes_taken}}
-use Rattle.file_work.{specs.BodyPieces.{Prints, PutsHeader, CutsHeader, end_line}, specs.declared.print.HeaderPrinter.HeaderPrinter, proofs.Ends.{no_items, last_item, PutsMore-next, CutsMore-next}}
+use Rattle.std.proofs.Common.{refl, ◌≡◌, ◌^◌, ◌≤◌, ◌++◌, List, ℕ, length, take, sym, ap, ◌∙◌, subst, append_assoc, arith, length-append, ◌+◌, [], Bool, drop}
+use Rattle.std.proofs.{Common.{take-append-drop, rules}, lemmas.{List.{length-take, take_all}, Result.err_from_is_err_and}}
+use Rattle.{ptu_definitions.specs.{TagList.{code_in, Item}, Headers.{header_answer, seen, seen_preamble}}, list_out.specs.HeaderText.{kind_with, body_text}}
+use Rattle.list_out.specs.{HeaderText.{head_text, bare_end, preamble_lines_of, header_text}, declared.body.BodyText.BodyText, Lines.HasPut}
+use Rattle.list_out.proofs.{Final.{header_text-grows, header_text-refused, header_text-done}, StepTexts.{header_text-same, header_text-preamble}}
+use Rattle.{list_out.proofs.StepTexts.{header_text-tag, header_text-body, kind_with-is}, command_work.{specs.Outcomes.IsCut, proofs.Pieces.two-parts}}
+use Rattle.{command_work.proofs.Pieces.whole-piece, tally_base.specs.declared.{fault.Fault.Fault, header.Header.Header}, bench_io.specs.Sinks.SinkState}
+use Rattle.bench_io.{specs.Sinks.{WroteShort, PassesOn}, proofs.Bytes.{WroteShort-same, WroteShort-more, WroteShort-passed, PassesOn-trans}}
+use Rattle.{ptu_tag.specs.declared.{kind.TagKind.TagKind, head.TagHead.TagHead}, ptu_header.specs.declared.reader.HeaderReader.HeaderReader}
+use Rattle.ptu_header.specs.{declared.step.HeaderStep.TheVariants.{More, Preamble, Tag, Body, Done, Refused}, ReadHeader.{Steps, bytes_taken}}
+use Rattle.file_work.{specs.{BodyPieces.{Prints, PutsHeader, CutsHeader, end_line}, declared.print.HeaderPrinter.HeaderPrinter}, proofs.Ends.no_items}
+use Rattle.file_work.proofs.Ends.{last_item, PutsMore-next, CutsMore-next}
 use Rattle.file_work.proofs.print.HeaderPrinter.put_piece.Goals as goal
 
 -- what each step of a header reader does for a printer

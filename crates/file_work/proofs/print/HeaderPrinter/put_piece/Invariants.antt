@@ -1,6 +1,5 @@
-use Rattle.std.proofs.Common.{◌≡◌, ◌+◌, ◌-◌, ◌≤◌, ◌++◌, List, ℕ, length, take}
-use Rattle.ptu_header.specs.ReadHeader.{bytes_taken}
-use Rattle.file_work.specs.BodyPieces.{Prints, PutsHeader}
+use Rattle.{std.proofs.Common.{◌≡◌, ◌+◌, ◌-◌, ◌≤◌, ◌++◌, List, ℕ, length, take}, ptu_header.specs.ReadHeader.bytes_taken, file_work.specs.BodyPieces.Prints}
+use Rattle.file_work.specs.BodyPieces.{PutsHeader}
 use Rattle.file_work.proofs.print.HeaderPrinter.put_piece.Given as goal
 
 -- the text of the first `used` bytes of the piece is put

@@ -1,6 +1,6 @@
-use Rattle.std.{proofs.Common.{◌≡◌, ◌∙◌, ◌+◌, ◌*◌, ◌/◌, ◌<◌, ℕ, Bool, ◌&&◌, List, cond, eqb, ap, sym, refl, rules, arith, length, get_or, set, Some, false, nat_le}, proofs.lemmas.Bool.Decides.{nat_tests}, proofs.lemmas.Grind.{common_steps}}
-use Rattle.scan_image.proofs.Cells.{same_cell, one_raised}
-use Rattle.flim_cube.{specs.Cells.counts_of, specs.CubeCounts.is_in_cell}
+use Rattle.std.proofs.Common.{◌≡◌, ◌∙◌, ◌+◌, ◌*◌, ◌/◌, ◌<◌, ℕ, Bool, ◌&&◌, List, cond, eqb, ap, sym, refl, rules, arith, length, get_or, set, Some, false}
+use Rattle.{std.proofs.{Common.nat_le, lemmas.{Bool.Decides.nat_tests, Grind.common_steps}}, scan_image.proofs.Cells.{same_cell, one_raised}}
+use Rattle.flim_cube.specs.{Cells.counts_of, CubeCounts.is_in_cell}
 use Rattle.flim_cube.proofs.count.BinsPixels.add.Goals as goal
 
 -- one more in one cell of a cube

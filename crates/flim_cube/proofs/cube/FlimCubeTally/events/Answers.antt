@@ -1,5 +1,5 @@
-use Rattle.std.proofs.Common.{true, rules, arith, length-append}
-use Rattle.tally_base.{specs.Columns.{item, events_in}, proofs.BlockRows.length-rows, proofs.Floors.{greatest_block, order-lower, floor-lower}}
+use Rattle.{std.proofs.Common.{true, rules, arith, length-append}, tally_base.{specs.Columns.{item, events_in}, proofs.BlockRows.length-rows}}
+use Rattle.tally_base.proofs.Floors.{greatest_block, order-lower, floor-lower}
 use Rattle.flim_cube.proofs.cube.FlimCubeTally.events.Goals as goal
 
 pub count_block-requires-clause-in_order : goal.count_block-requires-clause-in_order

@@ -1,6 +1,6 @@
-use Rattle.std.{proofs.Common.{◌≡◌, ◌∙◌, ℕ, ◌+◌, ◌*◌, ◌<◌, length, slice_index, ap, sym, rules, arith, ◌≢◌}, proofs.lemmas.Nat.{mul-le, same_from_place}}
-use Rattle.tally_base.proofs.Sums.{whole_slice}
-use Rattle.flim_cube.{specs.Bytes.{byte_in, length_counts}, specs.Cells.counts_of, proofs.Bytes.{get_counts, low_byte, count_more, count_same, counts_set, first_row, row_behind, first_placed}}
+use Rattle.std.proofs.{Common.{◌≡◌, ◌∙◌, ℕ, ◌+◌, ◌*◌, ◌<◌, length, slice_index, ap, sym, rules, arith, ◌≢◌}, lemmas.Nat.{mul-le, same_from_place}}
+use Rattle.{tally_base.proofs.Sums.whole_slice, flim_cube.{specs.{Bytes.{byte_in, length_counts}, Cells.counts_of}, proofs.Bytes.{get_counts, low_byte}}}
+use Rattle.flim_cube.proofs.Bytes.{count_more, count_same, counts_set, first_row, row_behind, first_placed}
 use Rattle.flim_cube.proofs.spread.Cells.add.Goals as goal
 
 pub byte-requires : goal.byte-requires

@@ -1,5 +1,5 @@
-use Rattle.std.proofs.Common.{◌∙◌, ◌<◌, length, ap, sym, arith}
-use Rattle.flim_cube.{specs.Bytes.{byte_in, length_counts}, proofs.Bytes.{get_counts, count_low, first_placed}}
+use Rattle.{std.proofs.Common.{◌∙◌, ◌<◌, length, ap, sym, arith}, flim_cube.{specs.Bytes.{byte_in, length_counts}, proofs.Bytes.{get_counts, count_low}}}
+use Rattle.flim_cube.proofs.Bytes.{first_placed}
 use Rattle.flim_cube.proofs.spread.Cells.get.Goals as goal
 
 pub byte-requires : goal.byte-requires

@@ -1,5 +1,4 @@
-use Rattle.std.proofs.Common.{rules, arith}
-use Rattle.flim_cube.proofs.Bytes.{more_zeros, nothing_there, count_none}
+use Rattle.{std.proofs.Common.{rules, arith}, flim_cube.proofs.Bytes.{more_zeros, nothing_there, count_none}}
 use Rattle.flim_cube.proofs.spread.Cells.open.Goals as goal
 
 pub invariant_of-result : goal.invariant_of-result

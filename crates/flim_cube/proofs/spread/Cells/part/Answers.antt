@@ -1,5 +1,4 @@
-use Rattle.std.{proofs.Common.{◌<◌, length, arith, rules}, proofs.lemmas.Nat.{mul-le, row_fits}}
-use Rattle.flim_cube.{specs.Bytes.length_counts, proofs.Bytes.placed}
+use Rattle.{std.proofs.{Common.{◌<◌, length, arith, rules}, lemmas.Nat.{mul-le, row_fits}}, flim_cube.{specs.Bytes.length_counts, proofs.Bytes.placed}}
 use Rattle.flim_cube.proofs.spread.Cells.part.Goals as goal
 
 pub byte-requires : goal.byte-requires

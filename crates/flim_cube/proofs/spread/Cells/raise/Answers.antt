@@ -1,6 +1,6 @@
-use Rattle.std.{proofs.Common.{◌≡◌, ◌∙◌, ℕ, ◌+◌, ◌*◌, ◌<◌, ◌≤◌, length, slice_index, set, inl, inr, ap, sym, rules, arith, ◌≢◌}, specs.Int.{w64, from_le_bytes}, proofs.lemmas.Bool.cases_lt, proofs.lemmas.Nat.{mul-le, from_le_bytes-to_le_bytes_8}}
-use Rattle.tally_base.proofs.Sums.{whole_slice}
-use Rattle.flim_cube.{specs.Bytes.{byte_in, count_in, length_counts}, specs.Cells.counts_of, proofs.Bytes.{count_from, count_same, counts_set, other_cell}}
+use Rattle.std.proofs.{Common.{◌≡◌, ◌∙◌, ℕ, ◌+◌, ◌*◌, ◌<◌, ◌≤◌, length, slice_index, set, inl, inr, ap, sym, rules, arith, ◌≢◌}, lemmas.Bool.cases_lt}
+use Rattle.{std.{proofs.lemmas.Nat.{mul-le, from_le_bytes-to_le_bytes_8}, specs.Int.{w64, from_le_bytes}}, tally_base.proofs.Sums.whole_slice}
+use Rattle.flim_cube.{specs.{Bytes.{byte_in, count_in, length_counts}, Cells.counts_of}, proofs.Bytes.{count_from, count_same, counts_set, other_cell}}
 use Rattle.flim_cube.proofs.spread.Cells.raise.Goals as goal
 
 pub put_bytes-requires-clause-inside : goal.put_bytes-requires-clause-inside

@@ -1,5 +1,5 @@
-use Rattle.std.{proofs.Common.{◌≡◌, ◌∙◌, ℕ, ◌≤◌, length, rules, arith}, proofs.lemmas.Nat.{mul-le}}
-use Rattle.flim_cube.{specs.Bytes.byte_in, proofs.Bytes.{more_zeros, count_same, counts_same}}
+use Rattle.{std.proofs.{Common.{◌≡◌, ◌∙◌, ℕ, ◌≤◌, length, rules, arith}, lemmas.Nat.mul-le}, flim_cube.{specs.Bytes.byte_in, proofs.Bytes.more_zeros}}
+use Rattle.flim_cube.proofs.Bytes.{count_same, counts_same}
 use Rattle.flim_cube.proofs.spread.Cells.widen.Goals as goal
 
 pub returns-clause-counts : goal.returns-clause-counts

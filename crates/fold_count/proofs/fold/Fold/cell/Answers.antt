@@ -1,7 +1,7 @@
-use Rattle.std.{proofs.Common.{◌≡◌, ◌-◌, ◌∙◌, arith, ℕ, ◌^◌, ◌<◌, ◌≤◌, Bool, true, false, ◌&&◌, cond, nat_lt, ◌==◌, List, length, slice_index, rules}, proofs.lemmas.List.get_or_read, proofs.lemmas.List.Sums.sum_by-le-sum_by}
-use Rattle.tally_base.{specs.Settings.{fold_view, FoldView}, specs.Tally.History}
-use Rattle.lag_ring.{specs.declared.ring.Entry.Entry, specs.Ring.Ring}
-use Rattle.fold_count.{specs.FoldCounts.{seen_set, in_set}, specs.Folded.{Counts, photons}, proofs.Totals.in_photons}
+use Rattle.std.proofs.Common.{◌≡◌, ◌-◌, ◌∙◌, arith, ℕ, ◌^◌, ◌<◌, ◌≤◌, Bool, true, false, ◌&&◌, cond, nat_lt, ◌==◌, List, length, slice_index, rules}
+use Rattle.{std.proofs.lemmas.List.{get_or_read, Sums.sum_by-le-sum_by}, tally_base.specs.{Settings.{fold_view, FoldView}, Tally.History}}
+use Rattle.{lag_ring.specs.{declared.ring.Entry.Entry, Ring.Ring}, fold_count.specs.{FoldCounts.{seen_set, in_set}, Folded.{Counts, photons}}}
+use Rattle.fold_count.proofs.Totals.{in_photons}
 use Rattle.fold_count.proofs.fold.Fold.cell.Goals as goal
 
 -- a cell is its count, and no greater while photons wait

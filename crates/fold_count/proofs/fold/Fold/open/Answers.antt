@@ -1,7 +1,6 @@
-use Rattle.std.{proofs.Common.{◌≡◌, ◌^◌, ℕ, [], length, replicate, refl, ap, rules, arith, slice_index}, proofs.lemmas.Grind.common_steps}
-use Rattle.tally_base.specs.Settings.{fold_view}
-use Rattle.lag_ring.{specs.declared.ring.Entry.Entry, specs.Ring.Ring}
-use Rattle.fold_count.{specs.Folded.{Parted, as_met}, proofs.Pushed.parted_empty}
+use Rattle.std.proofs.{Common.{◌≡◌, ◌^◌, ℕ, [], length, replicate, refl, ap, rules, arith, slice_index}, lemmas.Grind.common_steps}
+use Rattle.{tally_base.specs.Settings.fold_view, lag_ring.specs.{declared.ring.Entry.Entry, Ring.Ring}, fold_count.specs.Folded.{Parted, as_met}}
+use Rattle.fold_count.proofs.Pushed.{parted_empty}
 use Rattle.fold_count.proofs.fold.Fold.open.Goals as goal
 
 pub returns-clause-empty : goal.returns-clause-empty

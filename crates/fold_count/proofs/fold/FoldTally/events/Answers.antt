@@ -1,6 +1,5 @@
-use Rattle.std.proofs.Common.{rules, arith, length-append}
-use Rattle.tally_base.{proofs.BlockRows.length-rows, proofs.Floors.{greatest_block, order-lower, floor-lower}, proofs.Sums.whole_slice}
-use Rattle.fold_count.proofs.Pushed.{open_follows}
+use Rattle.{std.proofs.Common.{rules, arith, length-append}, tally_base.proofs.{BlockRows.length-rows, Floors.{greatest_block, order-lower, floor-lower}}}
+use Rattle.{tally_base.proofs.Sums.whole_slice, fold_count.proofs.Pushed.open_follows}
 use Rattle.fold_count.proofs.fold.FoldTally.events.Goals as goal
 
 pub put_block-self-requires-clause-comes : goal.put_block-self-requires-clause-comes

@@ -1,5 +1,5 @@
-use Rattle.std.proofs.Common.{◌-◌, ◌∙◌, sym, map}
-use Rattle.gate_plan.{specs.Shifting.shifted, specs.Taking.takes, specs.Groups.sorting_of, proofs.Parts.{bit_is, of_shifted, of_shifted_marker}}
+use Rattle.{std.proofs.Common.{◌-◌, ◌∙◌, sym, map}, gate_plan.{specs.{Shifting.shifted, Taking.takes, Groups.sorting_of}, proofs.Parts.{bit_is, of_shifted}}}
+use Rattle.gate_plan.proofs.Parts.{of_shifted_marker}
 use Rattle.gate_plan.proofs.gates.Gates.groups.Goals as goal
 
 pub returns-in-Photon-clause-number : goal.returns-in-Photon-clause-number

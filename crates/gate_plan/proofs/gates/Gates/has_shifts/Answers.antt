@@ -1,5 +1,5 @@
 use Rattle.std.proofs.Common.{rules, arith, ◌≡◌, ◌==◌, ◌↔◌, Bool, List, [], ◌∷◌, map, length, not, false}
-use Rattle.tally_base.{specs.declared.settings.ShiftSet.ShiftSet, specs.Settings.shift_view}
+use Rattle.tally_base.specs.{declared.settings.ShiftSet.ShiftSet, Settings.shift_view}
 use Rattle.gate_plan.proofs.gates.Gates.has_shifts.Goals as goal
 
 none_viewed : (sets : List ShiftSet) (none : Bool) → none ≡ (length sets == 0) → (not none ≡ false) ↔ (map shift_view sets ≡ [])

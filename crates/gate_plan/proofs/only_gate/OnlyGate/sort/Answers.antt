@@ -1,6 +1,6 @@
 use Rattle.std.proofs.Common.{◌≡◌, ◌∷◌, ℕ, Bool, true, false, [], List, min, slice_index, slice_index_or, if◌then◌else◌, refl, arith, rules}
-use Rattle.tally_base.{specs.declared.event.Event.Event, specs.Settings.GroupView, specs.Codes.kind_of}
-use Rattle.gate_plan.{specs.Taking.{groups_by, one_if, is_in_gate}, specs.Parting.TellsGroups, specs.declared.only_gate.OnlyGate.OnlyGate, proofs.Parts.by_code, proofs.Histories.sorted_rows}
+use Rattle.{tally_base.specs.{declared.event.Event.Event, Settings.GroupView, Codes.kind_of}, gate_plan.specs.Taking.{groups_by, one_if, is_in_gate}}
+use Rattle.gate_plan.{specs.{Parting.TellsGroups, declared.only_gate.OnlyGate.OnlyGate}, proofs.{Parts.by_code, Histories.sorted_rows}}
 use Rattle.gate_plan.proofs.only_gate.OnlyGate.sort.Goals as goal
 
 as_one : (b : Bool) → (if b then 1 else 0) ≡ one_if b
@@ -19,5 +19,5 @@ looked_up groups only code dtime e is tells =
     by_code groups (λ code. slice_index (slice_index_or only.groups code []) (if inside then 1 else 0)) code dtime e is
     (λ low. rw (as_one inside) (tells code dtime low)) (rw (as_one inside, only.markers) (none_at inside))
 
-pub returns-clause-sorted : goal.returns-clause-sorted
-returns-clause-sorted c = search (rules, arith, sorted_rows, looked_up)
+pub returns-clause-found : goal.returns-clause-found
+returns-clause-found c = λ groups tells. search (rules, arith, sorted_rows, looked_up)

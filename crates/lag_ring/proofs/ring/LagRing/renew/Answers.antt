@@ -1,5 +1,6 @@
-use Rattle.std.{proofs.Common.{arith, rules, ◌≡◌, ◌-◌, ◌≤◌, ◌++◌, length, get_or, slice_get, List, Some, refl}, specs.List.AllByRecursion, proofs.lemmas.Option.{slice_get-get_or}, proofs.lemmas.List.{length-drop}}
-use Rattle.lag_ring.{specs.declared.ring.Entry.Entry, specs.Ring.kept_or, proofs.Lists.all_filter, proofs.Rising.{upto_join, rising_drop}, proofs.Between.cut_front}
+use Rattle.std.proofs.{Common.{arith, rules, ◌≡◌, ◌-◌, ◌≤◌, ◌++◌, length, get_or, slice_get, List, Some, refl}, lemmas.Option.slice_get-get_or}
+use Rattle.{std.{proofs.lemmas.List.length-drop, specs.List.AllByRecursion}, lag_ring.specs.{declared.ring.Entry.Entry, Ring.kept_or}}
+use Rattle.lag_ring.proofs.{Lists.all_filter, Rising.{upto_join, rising_drop}, Between.cut_front}
 use Rattle.lag_ring.proofs.ring.LagRing.renew.Goals as goal
 
 pub drop_before-requires : goal.drop_before-requires

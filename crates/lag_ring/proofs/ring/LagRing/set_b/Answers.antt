@@ -1,5 +1,5 @@
-use Rattle.std.{proofs.Common.{arith, rules, ◌≡◌, slice_get, Some}, proofs.lemmas.List.{length-set}}
-use Rattle.lag_ring.{specs.Ring.kept_or, proofs.Rising.{all_at, all_set, rising_set}, proofs.ring.LagRing.set_b.Goals.{in-Some, in_default}}
+use Rattle.{std.proofs.{Common.{arith, rules, ◌≡◌, slice_get, Some}, lemmas.List.length-set}, lag_ring.{specs.Ring.kept_or, proofs.Rising.{all_at, all_set}}}
+use Rattle.lag_ring.proofs.{Rising.rising_set, ring.LagRing.set_b.Goals.{in-Some, in_default}}
 use Rattle.lag_ring.proofs.ring.LagRing.set_b.Goals as goal
 
 pub invariant_of-self : goal.invariant_of-self

@@ -1,6 +1,4 @@
-use Rattle.std.proofs.Common.{ap, ◌∙◌}
-use Rattle.ptu_definitions.specs.Times.{amount}
-use Rattle.lane_decode.proofs.Filled.{rows-more}
+use Rattle.{std.proofs.Common.{ap, ◌∙◌}, ptu_definitions.specs.Times.amount, lane_decode.proofs.Filled.rows-more}
 use Rattle.lane_decode.proofs.columns.Columns.fill.Goals as goal
 
 pub loop-i-preserved : goal.loop-i-preserved

@@ -1,5 +1,4 @@
-use Rattle.std.proofs.Common.{◌*◌}
-use Rattle.lane_decode.specs.InColumns.{HasRowsTo}
+use Rattle.{std.proofs.Common.◌*◌, lane_decode.specs.InColumns.HasRowsTo}
 use Rattle.lane_decode.proofs.columns.Columns.fill.Given as goal
 
 abbrev pub invariant-loop-k : goal.invariant-loop-k

@@ -1,6 +1,5 @@
-use Rattle.std.{proofs.Common.{◌≡◌, ◌+◌, ◌-◌, [], get_or, take, drop, ap, subst, ◌∙◌, arith, rules}, specs.Int.{from_le_bytes, w32}, proofs.lemmas.List.{get_or-map, get_or-take, get_or-drop}}
-use Rattle.ptu_definitions.specs.Times.{amount}
-use Rattle.lane_decode.{specs.InColumns.HasRowsTo, proofs.Filled.rows-more}
+use Rattle.std.proofs.{Common.{◌≡◌, ◌+◌, ◌-◌, [], get_or, take, drop, ap, subst, ◌∙◌, arith, rules}, lemmas.List.{get_or-map, get_or-take, get_or-drop}}
+use Rattle.{std.specs.Int.{from_le_bytes, w32}, ptu_definitions.specs.Times.amount, lane_decode.{specs.InColumns.HasRowsTo, proofs.Filled.rows-more}}
 use Rattle.lane_decode.proofs.columns.Columns.fill_eight.Goals as goal
 
 pub loop-j-preserved : goal.loop-j-preserved

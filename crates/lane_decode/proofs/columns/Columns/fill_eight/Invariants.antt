@@ -1,5 +1,4 @@
-use Rattle.std.proofs.Common.{◌+◌}
-use Rattle.lane_decode.specs.InColumns.{HasRowsTo}
+use Rattle.{std.proofs.Common.◌+◌, lane_decode.specs.InColumns.HasRowsTo}
 use Rattle.lane_decode.proofs.columns.Columns.fill_eight.Given as goal
 
 abbrev pub invariant-loop-j : goal.invariant-loop-j

@@ -1,5 +1,4 @@
-use Rattle.std.{proofs.Common.{rules}, proofs.Common.{arith}, proofs.lemmas.List.{take_all}}
-use Rattle.record_layout.proofs.KindLemmas.{others-fit, counts_of-three}
+use Rattle.{std.proofs.{Common.{rules, arith}, lemmas.List.take_all}, record_layout.proofs.KindLemmas.{others-fit, counts_of-three}}
 use Rattle.lane_decode.proofs.columns.Columns.kinds.Goals as goal
 
 pub overflow_sub-result : goal.overflow_sub-result

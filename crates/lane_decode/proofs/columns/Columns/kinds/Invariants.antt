@@ -1,5 +1,4 @@
-use Rattle.std.{proofs.Common.{◌≡◌, ◌≤◌, take, count_by}, specs.Int.{from_le_bytes, w32}}
-use Rattle.ptu_definitions.specs.Kinds.{is_photon, is_marker, is_wrap}
+use Rattle.{std.{proofs.Common.{◌≡◌, ◌≤◌, take, count_by}, specs.Int.{from_le_bytes, w32}}, ptu_definitions.specs.Kinds.{is_photon, is_marker, is_wrap}}
 use Rattle.lane_decode.proofs.columns.Columns.kinds.Given as goal
 
 abbrev pub invariant-loop-i : goal.invariant-loop-i

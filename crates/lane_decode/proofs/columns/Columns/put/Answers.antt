@@ -1,6 +1,6 @@
-use Rattle.std.{proofs.Common.{◌≡◌, ◌<◌, ◌^◌, ℕ, List, get_or, set, refl, arith, rules}, specs.Prelude.{nat_lt, if◌then◌else◌}, proofs.lemmas.Grind.common_steps, proofs.lemmas.Bool.Decides.nat_tests, proofs.lemmas.List.get_or-set_same}
-use Rattle.tally_base.specs.Codes.{joined, code_in, dtime_in}
-use Rattle.record_layout.{specs.declared.row.Row.Row, specs.Rowed.raw_of}
+use Rattle.std.proofs.{Common.{◌≡◌, ◌<◌, ◌^◌, ℕ, List, get_or, set, refl, arith, rules}, lemmas.{Grind.common_steps, Bool.Decides.nat_tests}}
+use Rattle.{std.{proofs.lemmas.List.get_or-set_same, specs.Prelude.{nat_lt, if◌then◌else◌}}, tally_base.specs.Codes.{joined, code_in, dtime_in}}
+use Rattle.record_layout.specs.{declared.row.Row.Row, Rowed.raw_of}
 use Rattle.lane_decode.proofs.columns.Columns.put.Goals as goal
 
 other : (xs : List ℕ) (n i v : ℕ) → i < n → get_or (set xs n v) i 0 ≡ get_or xs i 0

@@ -1,7 +1,11 @@
-use Rattle.std.{proofs.Common.{◌≡◌, ◌+◌, ◌*◌, ◌^◌, ◌<◌, ◌≤◌, ◌++◌, ℕ, List, length, map, get_or, replicate, refl, sym, ap, ◌∙◌, arith, rules, append-nil, append_assoc, zero, suc, [], ◌∷◌}, specs.Prelude.{count_ones, nat_lt}, proofs.lemmas.Simd.{get_or-chunk, get_or-replicate, Each1-get_or, map-map}, proofs.lemmas.List.{length-map, length-append, map-append}, proofs.lemmas.List.FromFn.map-range_with_len_more, specs.List.{filter, range_with_len}}
+use Rattle.std.proofs.Common.{◌≡◌, ◌+◌, ◌*◌, ◌^◌, ◌<◌, ◌≤◌, ◌++◌, ℕ, List, length, map, get_or, replicate, refl, sym, ap, ◌∙◌, arith, rules, append-nil}
+use Rattle.std.proofs.{Common.{append_assoc, zero, suc, [], ◌∷◌}, lemmas.{Simd.{get_or-chunk, get_or-replicate, Each1-get_or, map-map}, List.length-map}}
+use Rattle.std.{proofs.lemmas.List.{length-append, map-append, FromFn.map-range_with_len_more}, specs.{Prelude.{count_ones, nat_lt}, List.filter}}
+use Rattle.{std.specs.List.range_with_len, tally_base.{specs.{Codes.code_in, Columns.{event_at, rows, row, gathered}}, proofs.BlockRows.length-rows}}
+use Rattle.lane_decode.specs.{Staying.{has_bit, bits_in, stays, staying, event_in}, InColumns.{wraps_at, sum_to, time_in}, declared.columns.Columns.Columns}
+use Rattle.lane_decode.proofs.{Added.sum-few, Prefix.{plus, length-plus, plus-at, lasts, last-of, sum-behind}, Chosen.{few-staying, few-bits, below-bits}}
+use Rattle.lane_decode.proofs.Chosen.{ones-bits, stay-more, map-places}
 use lib.Lanes.{chunk}
-use Rattle.tally_base.{specs.Codes.{code_in}, specs.Columns.{event_at, rows, row, gathered}, proofs.BlockRows.length-rows}
-use Rattle.lane_decode.{specs.Staying.{has_bit, bits_in, stays, staying, event_in}, specs.InColumns.{wraps_at, sum_to, time_in}, proofs.Added.sum-few, proofs.Prefix.{plus, length-plus, plus-at, lasts, last-of, sum-behind}, proofs.Chosen.{few-staying, few-bits, below-bits, ones-bits, stay-more, map-places}, specs.declared.columns.Columns.Columns}
 use Rattle.lane_decode.proofs.columns.Columns.put_events.Goals as goal
 
 few_rows : (below : ℕ) (columns : Columns) (n : ℕ) → length (staying below columns n) ≤ n
@@ -35,10 +39,13 @@ pub loop-k-init : goal.loop-k-init
 unfolding staying sum_to
 loop-k-init g c = record { events = sym (append-nil _); unsorted = refl; long = refl; last = refl }
 
-pub sums_up_to-more-requires-clause-few : goal.sums_up_to-more-requires-clause-few
-sums_up_to-more-requires-clause-few g c = λ i lt.
-    let is = chunk-at c.args.self.now.wraps c.eight_at.result (8 * c.loop-k.k) i c.eight_at.ensures lt in
-    omega (arith, is, c.requires.few (8 * c.loop-k.k + i) (omega (arith, c.loop-k-test.true, lt)))
+pub sums_up_to-more-requires : goal.sums_up_to-more-requires
+sums_up_to-more-requires g c = (
+  search rules,
+  λ i lt.
+      let is = chunk-at c.args.self.now.wraps c.eight_at.result (8 * c.loop-k.k) i c.eight_at.ensures lt in
+      omega (arith, is, c.requires.few (8 * c.loop-k.k + i) (omega (arith, c.loop-k-test.true, lt))),
+)
 
 pub put_eight-requires : goal.put_eight-requires
 put_eight-requires g c =
@@ -75,7 +82,7 @@ loop-k-preserved g c =
     let same : (i : ℕ) → i < 8 → has_bit bits i ≡ f (at + i) = λ i less.
     c.bits_below-bits.ensures.bits i less ∙ ap (λ x. nat_lt (code_in x) below) (chunk-at columns.marks c.eight_at-marks.result at i c.eight_at-marks.ensures less) in
     let sum = sum-in (wraps_at columns) c.requires.few k lt c.eight_at.result (λ j less. chunk-at columns.wraps c.eight_at.result at j c.eight_at.ensures less)
-    c.loop-k.sums inv.long inv.last c.sums_up_to-more.result c.sums_up_to-more.ensures.lanes c.sums_up_to-more.ensures.sums in
+    c.loop-k.sums inv.long inv.last c.sums_up_to-more.result c.sums_up_to-more.ensures.lanes c.sums_up_to-more.ensures.each in
     let row_is : (j : ℕ) → j < length ks → row c.places_from-places.result c.times_from-times.result c.close-close_marks.result j ≡ event (at + get_or ks j 0) = λ j less.
     let here = get_or ks j 0 in
     let inside : here < 8 = Each1-get_or (λ i. i < 8) ks j 0 less (below-bits bits small) in
@@ -84,8 +91,8 @@ loop-k-preserved g c =
     let tick = c.close-close_ticks.ensures.close j less ∙ chunk-at columns.times c.eight_at-ticks.result at here c.eight_at-ticks.ensures inside in
     let wraps = c.close-close_sums.ensures.close j less ∙ sum here inside in
     let fits = c.requires.times (at + here) (omega (arith, lt, inside)) in
-    let time : get_or c.times_from-times.result j 0 ≡ time_in c.args.base unit columns (at + here) = c.times_from-times.ensures.times j lane ∙ rw (wraps, tick) (omega (arith, fits)) in
-    let place : get_or c.places_from-places.result j 0 ≡ c.args.placed + (at + here) + 1 = c.places_from-places.ensures.places j less ∙ omega (arith, c.requires.places, inside, lt) in
+    let time : get_or c.times_from-times.result j 0 ≡ time_in c.args.base unit columns (at + here) = c.times_from-times.ensures.each j lane ∙ rw (wraps, tick) (omega (arith, fits)) in
+    let place : get_or c.places_from-places.result j 0 ≡ c.args.placed + (at + here) + 1 = c.places_from-places.ensures.close j less ∙ omega (arith, c.requires.places, inside, lt) in
     rw (mark, time, place) refl in
     let eight = rows-are (row c.places_from-places.result c.times_from-times.result c.close-close_marks.result) (length ks) ∙ map-places (row c.places_from-places.result c.times_from-times.result c.close-close_marks.result) (λ i. event (at + i)) ks 0 (λ j less. ap (row c.places_from-places.result c.times_from-times.result c.close-close_marks.result) (omega arith) ∙ row_is j less) in
     record {

@@ -1,6 +1,5 @@
-use Rattle.std.proofs.Common.{◌≡◌, ◌*◌, ◌++◌, length, map, get_or}
-use Rattle.tally_base.specs.Columns.{sorted, gathered}
-use Rattle.lane_decode.specs.{Staying.{staying, event_in}, InColumns.{wraps_at, sum_to}}
+use Rattle.{std.proofs.Common.{◌≡◌, ◌*◌, ◌++◌, length, map, get_or}, tally_base.specs.Columns.{sorted, gathered}, lane_decode.specs.Staying.{staying, event_in}}
+use Rattle.lane_decode.specs.InColumns.{wraps_at, sum_to}
 use Rattle.lane_decode.proofs.columns.Columns.put_events.Given as goal
 
 abbrev pub invariant-loop-k : goal.invariant-loop-k

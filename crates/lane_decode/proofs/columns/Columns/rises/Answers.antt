@@ -1,6 +1,7 @@
-use Rattle.std.{proofs.Common.{◌≡◌, ◌+◌, ◌*◌, ◌^◌, ◌<◌, ◌≤◌, ◌⊎◌, ⊎_elim, ℕ, get_or, refl, arith, rules, bit_or, ltb}, proofs.lemmas.Nat.{le_or_l, le_or_r}, proofs.lemmas.Bool.{cases_Bool, ltb-false}}
+use Rattle.std.proofs.{Common.{◌≡◌, ◌+◌, ◌*◌, ◌^◌, ◌<◌, ◌≤◌, ◌⊎◌, ⊎_elim, ℕ, get_or, refl, arith, rules, bit_or, ltb}, lemmas.Nat.{le_or_l, le_or_r}}
+use Rattle.{std.proofs.lemmas.Bool.{cases_Bool, ltb-false}, lane_decode.{specs.InColumns.{wraps_at, sum_to, before, time_in}, proofs.Added.sum-more}}
+use Rattle.lane_decode.proofs.columns.Columns.rises.Goals.{then-self-i-eq0, else-self-i-eq0}
 use mir.Val.{bool_byte}
-use Rattle.lane_decode.{specs.InColumns.{wraps_at, sum_to, before, time_in}, proofs.Added.sum-more, proofs.columns.Columns.rises.Goals.{then-self-i-eq0, else-self-i-eq0}}
 use Rattle.lane_decode.proofs.columns.Columns.rises.Goals as goal
 
 last_or : (i n : ℕ) → i < n + 1 → (i ≡ n) ⊎ (i < n)

@@ -1,5 +1,4 @@
-use Rattle.std.proofs.Common.{◌≡◌, ◌+◌, ◌*◌, ◌^◌, ◌<◌, ◌≤◌, ℕ, slice_index}
-use Rattle.lane_decode.specs.InColumns.{wraps_at, sum_to, time_in, before, Rises}
+use Rattle.{std.proofs.Common.{◌≡◌, ◌+◌, ◌*◌, ◌^◌, ◌<◌, ◌≤◌, ℕ, slice_index}, lane_decode.specs.InColumns.{wraps_at, sum_to, time_in, before, Rises}}
 use Rattle.lane_decode.proofs.columns.Columns.rises.Given as goal
 
 abbrev pub invariant-loop-i : goal.invariant-loop-i

@@ -1,4 +1,6 @@
-use Rattle.std.{proofs.Common.{◌≡◌, ◌<◌, ◌^◌, slice_index, length, sym, ap, ◌∙◌, rules, arith, ◌≤◌, ◌/◌, ℕ, List, get_or, replicate, bit_and}, specs.Simd.Lanes.zip2, proofs.Math.Nat.pow-le-pow_right, proofs.lemmas.Nat.{div_below, pow_pos, and_le_r}, proofs.lemmas.List.get_or-map, proofs.lemmas.Simd.{zip2_splat, length-zip2}}
+use Rattle.std.proofs.Common.{◌≡◌, ◌<◌, ◌^◌, slice_index, length, sym, ap, ◌∙◌, rules, arith, ◌≤◌, ◌/◌, ℕ, List, get_or, replicate, bit_and}
+use Rattle.std.proofs.{Math.Nat.pow-le-pow_right, lemmas.{Nat.{div_below, pow_pos, and_le_r}, List.get_or-map, Simd.{zip2_splat, length-zip2}}}
+use Rattle.std.specs.Simd.Lanes.{zip2}
 use Rattle.lane_decode.proofs.lanes.FieldLanes.of.Goals as goal
 
 -- what a shift and a mask give in each lane

@@ -1,5 +1,4 @@
-use Rattle.std.proofs.Common.{append-nil, arith, rules}
-use Rattle.list_out.{proofs.Bodies.{body_text-digits, body_text-passed, body_text-ended}}
+use Rattle.{std.proofs.Common.{append-nil, arith, rules}, list_out.proofs.Bodies.{body_text-digits, body_text-passed, body_text-ended}}
 use Rattle.list_out.proofs.body.BodyText.put.Goals as goal
 
 pub returns-in-Digits-clause-text : goal.returns-in-Digits-clause-text

@@ -1,6 +1,5 @@
-use Rattle.std.proofs.Common.{◌≡◌, ◌∙◌, ◌<◌, ◌≤◌, ◌-◌, ◌/◌, ap, arith}
-use Rattle.tally_base.specs.Settings.{trace_view}
-use Rattle.long_trace.{specs.States.state_of, proofs.Steps.of_group, proofs.BinSteps.{binned-early, binned-not, none-group, same_bin, CountsOn-none, CountsOn-in}}
+use Rattle.{std.proofs.Common.{◌≡◌, ◌∙◌, ◌<◌, ◌≤◌, ◌-◌, ◌/◌, ap, arith}, tally_base.specs.Settings.trace_view, long_trace.specs.States.state_of}
+use Rattle.long_trace.proofs.{Steps.of_group, BinSteps.{binned-early, binned-not, none-group, same_bin, CountsOn-none, CountsOn-in}}
 use Rattle.long_trace.proofs.counting.Counting.count_at.Goals as goal
 
 pub returns-then-time-self-clause-counts : goal.returns-then-time-self-clause-counts

@@ -1,6 +1,6 @@
-use Rattle.std.proofs.Common.{◌≡◌, ◌∙◌, ◌<◌, ◌≤◌, [], ◌∷◌, false, max, refl, sym, ap, rules, arith, nat_lt, if◌then◌else◌}
-use Rattle.tally_base.{specs.Events.{is_photon, is_in}, specs.Settings.trace_view, specs.Columns.{item, event_at, groups_at, code_at, time_at, rows}, proofs.Floors.{moves_row, order-at, floor-more}, proofs.BlockRows.{length-rows, more_rows}}
-use Rattle.count_trace.proofs.Blocks.{count-row, one_at, one_at_most}
+use Rattle.{std.proofs.Common.{◌≡◌, ◌∙◌, ◌<◌, ◌≤◌, [], ◌∷◌, false, max, refl, sym, ap, rules, arith, nat_lt, if◌then◌else◌}, tally_base.specs.Events.is_photon}
+use Rattle.tally_base.{specs.{Events.is_in, Settings.trace_view, Columns.{item, event_at, groups_at, code_at, time_at, rows}}, proofs.Floors.moves_row}
+use Rattle.{tally_base.proofs.{Floors.{order-at, floor-more}, BlockRows.{length-rows, more_rows}}, count_trace.proofs.Blocks.{count-row, one_at, one_at_most}}
 use Rattle.long_trace.{specs.States.CanCount, proofs.BinSteps.{some-photon, other-way, low-next, CountsOn-trans}}
 use Rattle.long_trace.proofs.counting.Counting.count_block.Goals as goal
 

@@ -1,6 +1,4 @@
-use Rattle.std.proofs.Common.{◌≤◌, ◌*◌, false}
-use Rattle.arrayvec.specs.ArrayVec.{array_vec_len}
-use Rattle.tally_base.{specs.Columns.{item, event_at, rows}, specs.Tally.floor_after}
+use Rattle.{std.proofs.Common.{◌≤◌, ◌*◌, false}, arrayvec.specs.ArrayVec.array_vec_len, tally_base.specs.{Columns.{item, event_at, rows}, Tally.floor_after}}
 use Rattle.long_trace.specs.States.{IsUpTo, CountsAll}
 use Rattle.long_trace.proofs.counting.Counting.count_block.Given as goal
 

@@ -1,7 +1,5 @@
-use Rattle.std.proofs.Common.{◌≡◌, ◌∷◌, [], refl, arith, ◌+◌}
-use Rattle.tally_base.specs.Settings.{trace_view}
-use Rattle.count_trace.specs.TraceCounts.{count_before}
-use Rattle.long_trace.{proofs.BinSteps.before-push, proofs.Steps.{GivenMore-counts, floor-one}}
+use Rattle.{std.proofs.Common.{◌≡◌, ◌∷◌, [], refl, arith, ◌+◌}, tally_base.specs.Settings.trace_view, count_trace.specs.TraceCounts.count_before}
+use Rattle.long_trace.proofs.{BinSteps.before-push, Steps.{GivenMore-counts, floor-one}}
 use Rattle.long_trace.proofs.trace.LongTrace.take.Goals as goal
 
 pub returns-clause-given : goal.returns-clause-given

@@ -1,6 +1,5 @@
-use Rattle.std.proofs.Common.{◌∙◌, false, refl, sym, ap, arith, rules}
-use Rattle.tally_base.{specs.Columns.{item, gathered, events_in}, specs.Tally.{floor_after, InOrder, greatest_time}, proofs.Floors.greatest-rows, proofs.BlockRows.length-rows}
-use Rattle.long_trace.proofs.Steps.{GivenMore-counts}
+use Rattle.{std.proofs.Common.{◌∙◌, false, refl, sym, ap, arith, rules}, tally_base.specs.{Columns.{item, gathered, events_in}, Tally.{floor_after, InOrder}}}
+use Rattle.{tally_base.{specs.Tally.greatest_time, proofs.{Floors.greatest-rows, BlockRows.length-rows}}, long_trace.proofs.Steps.GivenMore-counts}
 use Rattle.long_trace.proofs.trace.LongTrace.take_block.Goals as goal
 
 pub returns-clause-given : goal.returns-clause-given

@@ -1,6 +1,10 @@
-use Rattle.std.{proofs.Common.{rules, ◌≡◌, ◌∙◌, ◌<◌, true, ap, sym, cond, Some, arith, option_map, ◌≤◌, ℕ, Bool, max, List, [], ◌∷◌, ◌++◌, Option, None, if◌then◌else◌, ◌+◌, ◌-◌, ◌%◌, false, ◌&&◌, eqb, refl, is_none}, proofs.lemmas.Grind.common_steps, proofs.Math.Numerals.add-one, proofs.lemmas.Nat.mod_below, proofs.Math.Nat.{suc-mod, mod_self, mod-eq_of_lt}, proofs.lemmas.List.Sums.sum_by_push}
-use Rattle.tally_base.specs.Settings.{image_view, ImageView}
-use Rattle.marker_map.{specs.Places.{mark, Mark, greatest_time, has_named_bit, behind_last, is_line, is_stop, line_of, lines_in, row_at, row_of}, specs.Strips.{line_at, row_after, open_line, next_row, next_row_by}, specs.Lines.start_or_none, specs.declared.lines.Line.Line, proofs.Lasts.{any-passing, any-failing, last-passing, last-failing, until-passing, until-failing, behind-passing, behind-failing, from-passing, from-failing}}
+use Rattle.std.proofs.Common.{rules, ◌≡◌, ◌∙◌, ◌<◌, true, ap, sym, cond, Some, arith, option_map, ◌≤◌, ℕ, Bool, max, List, [], ◌∷◌, ◌++◌, Option, None}
+use Rattle.std.proofs.{Common.{if◌then◌else◌, ◌+◌, ◌-◌, ◌%◌, false, ◌&&◌, eqb, refl, is_none}, lemmas.{Grind.common_steps, Nat.mod_below}}
+use Rattle.{std.proofs.{lemmas.List.Sums.sum_by_push, Math.{Numerals.add-one, Nat.{suc-mod, mod_self, mod-eq_of_lt}}}, tally_base.specs.Settings.image_view}
+use Rattle.{tally_base.specs.Settings.ImageView, marker_map.specs.Places.{mark, Mark, greatest_time, has_named_bit, behind_last, is_line, is_stop, line_of}}
+use Rattle.marker_map.specs.{Places.{lines_in, row_at, row_of}, Strips.{line_at, row_after, open_line, next_row, next_row_by}, Lines.start_or_none}
+use Rattle.marker_map.{specs.declared.lines.Line.Line, proofs.Lasts.{any-passing, any-failing, last-passing, last-failing, until-passing, until-failing}}
+use Rattle.marker_map.proofs.Lasts.{behind-passing, behind-failing, from-passing, from-failing}
 use Rattle.marker_map.proofs.lines.Lines.marker.Goals as goal
 
 -- one more marker, and the line and the rows
@@ -29,7 +33,8 @@ row-here (Some frame) set ms m true begins is = search (rules, arith, any-passin
 row-here (Some frame) set ms m false begins is = grind (arith, common_steps, any-failing, from-failing)
 
 -- A line that begins is the open one, where it has a row.
-open-begins : (set : ImageView) (ms : List Mark) (m : Mark) (frames : Bool) → is_line set m ≡ true → has_named_bit set.frame m.bits ≡ frames → open_line set (ms ++ m ∷ []) ≡ option_map (line_at m.time) (cond frames (Some 0) (next_row set ms))
+open-begins : (set : ImageView) (ms : List Mark) (m : Mark) (frames : Bool) → is_line set m ≡ true → has_named_bit set.frame m.bits ≡ frames
+    → open_line set (ms ++ m ∷ []) ≡ option_map (line_at m.time) (cond frames (Some 0) (next_row set ms))
 open-begins set ms m frames begins is = cc (line-begins set ms m begins, until-passing (is_line set) ms m begins, row-here set.frame set ms m frames begins is)
 
 -- Another marker leaves the open line, or stops it.
@@ -51,10 +56,12 @@ next-begins-by (Some frame) set ms m true some begins is = search (rules, arith,
 next-begins-by (Some frame) set ms m false some begins is = grind (arith, common_steps, any-failing, from-failing)
 
 -- After a line comes the next row.
-next-begins : (set : ImageView) (ms : List Mark) (m : Mark) (frames : Bool) → 0 < set.height → is_line set m ≡ true → has_named_bit set.frame m.bits ≡ frames → next_row set (ms ++ m ∷ []) ≡ option_map (row_after set) (cond frames (Some 0) (next_row set ms))
+next-begins : (set : ImageView) (ms : List Mark) (m : Mark) (frames : Bool) → 0 < set.height → is_line set m ≡ true → has_named_bit set.frame m.bits ≡ frames
+    → next_row set (ms ++ m ∷ []) ≡ option_map (row_after set) (cond frames (Some 0) (next_row set ms))
 next-begins set ms m frames some begins is = next-begins-by set.frame set ms m frames some begins is
 
-next-passes-by : (frame : Option ℕ) (set : ImageView) (ms : List Mark) (m : Mark) (frames : Bool) → is_line set m ≡ false → has_named_bit frame m.bits ≡ frames → next_row_by frame set (ms ++ m ∷ []) ≡ cond frames (Some 0) (next_row_by frame set ms)
+next-passes-by : (frame : Option ℕ) (set : ImageView) (ms : List Mark) (m : Mark) (frames : Bool) → is_line set m ≡ false → has_named_bit frame m.bits ≡ frames
+    → next_row_by frame set (ms ++ m ∷ []) ≡ cond frames (Some 0) (next_row_by frame set ms)
 next-passes-by None set ms m true passes is = cc
 next-passes-by None set ms m false passes is = ap (λ n. Some (n % set.height)) (let more = lines_in-push set ms m false passes in omega (arith, more))
 next-passes-by (Some frame) set ms m true passes is = search (rules, arith, any-passing, from-passing, lines_in-push)

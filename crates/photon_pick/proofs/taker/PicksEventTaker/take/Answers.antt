@@ -1,9 +1,8 @@
-use Rattle.std.{proofs.Common.{◌≡◌, ◌∙◌, Bool, true, false, sym, ap, refl, rules, arith, ◌≤◌, ℕ, [], ◌∷◌, ◌++◌, max, ◌&&◌, not, append-nil, IsTrue, if◌then◌else◌}, specs.List.filter}
-use Rattle.tally_base.{specs.declared.event.Event.Event, specs.Events.is_ordered}
-use Rattle.ptu_definitions.{specs.Kept.{Marked, floor_of}, specs.Settled.not_marked}
-use Rattle.record_write.proofs.Puts.{puts-none}
-use Rattle.abs_time.{specs.Floors.moved_floor, proofs.Floors.moved_floor-push}
-use Rattle.photon_pick.{specs.Giving.{pen_on, Stand, TookPhotons}, proofs.Gives.{Gave-none, Gave-more, refuses}, proofs.Takes.{TookPhotons-more, Refused-more}}
+use Rattle.std.proofs.Common.{◌≡◌, ◌∙◌, Bool, true, false, sym, ap, refl, rules, arith, ◌≤◌, ℕ, [], ◌∷◌, ◌++◌, max, ◌&&◌, not, append-nil, IsTrue}
+use Rattle.{std.{proofs.Common.if◌then◌else◌, specs.List.filter}, tally_base.specs.{declared.event.Event.Event, Events.is_ordered}}
+use Rattle.{ptu_definitions.specs.{Kept.{Marked, floor_of}, Settled.not_marked}, record_write.proofs.Puts.puts-none, abs_time.specs.Floors.moved_floor}
+use Rattle.{abs_time.proofs.Floors.moved_floor-push, photon_pick.{specs.Giving.{pen_on, Stand, TookPhotons}, proofs.Gives.{Gave-none, Gave-more, refuses}}}
+use Rattle.photon_pick.proofs.Takes.{TookPhotons-more, Refused-more}
 use Rattle.photon_pick.proofs.taker.PicksEventTaker.take.Goals as goal
 
 -- which events are wanted

@@ -1,11 +1,9 @@
-use Rattle.std.{proofs.Common.{◌≡◌, ◌∙◌, true, All, filter, rules, ap, sym, subst, refl, arith}, proofs.lemmas.List.Elements.{All-weaker, All-filter, filter_passes}}
-use Rattle.tally_base.{specs.Events.is_photon, specs.Columns.gathered}
-use Rattle.ptu_definitions.{specs.Layouts.KindFits, proofs.DeliveredLaws.not_marked-false}
-use Rattle.gate_plan.specs.Groups.{sorting_of}
-use Rattle.abs_time.specs.Floors.{orders_markers}
-use Rattle.record_stream.{specs.Blocks.on_time, proofs.Steps.length-on_time, proofs.Gathering.floor_of-block}
-use Rattle.record_write.specs.Picker.{mode_of, last_by}
-use Rattle.photon_pick.{specs.Chosen.is_chosen, specs.Giving.{pen_on, CanBeGiven, Gave, Stopped}, proofs.Ends.chosen-photon, proofs.Takes.{order-chosen, last-chosen, up_to, TookPhotons-more, Refused-more}}
+use Rattle.std.proofs.{Common.{◌≡◌, ◌∙◌, true, All, filter, rules, ap, sym, subst, refl, arith}, lemmas.List.Elements.{All-weaker, All-filter, filter_passes}}
+use Rattle.{tally_base.specs.{Events.is_photon, Columns.gathered}, ptu_definitions.{specs.Layouts.KindFits, proofs.DeliveredLaws.not_marked-false}}
+use Rattle.{gate_plan.specs.Groups.sorting_of, abs_time.specs.Floors.orders_markers, record_stream.{specs.Blocks.on_time, proofs.Steps.length-on_time}}
+use Rattle.{record_stream.proofs.Gathering.floor_of-block, record_write.specs.Picker.{mode_of, last_by}, photon_pick.specs.{Chosen.is_chosen, Giving.pen_on}}
+use Rattle.photon_pick.{specs.Giving.{CanBeGiven, Gave, Stopped}, proofs.{Ends.chosen-photon, Takes.{order-chosen, last-chosen, up_to, TookPhotons-more}}}
+use Rattle.photon_pick.proofs.Takes.{Refused-more}
 use Rattle.photon_pick.proofs.taker.PicksEventTaker.take_block.Goals as goal
 
 pub give_photons-given-requires-clause-can : goal.give_photons-given-requires-clause-can

@@ -1,11 +1,7 @@
-use Rattle.std.{proofs.Common.{◌∙◌, sym, ap, arith, rules}, proofs.lemmas.Result.{err_from_is_err_and}}
-use Rattle.ptu_definitions.specs.Streams.{StreamSettings}
-use Rattle.plan_text.specs.ReadPlan.{plan_view}
-use Rattle.gate_plan.{specs.Histories.reading_by, specs.Groups.sorting_of}
-use Rattle.record_stream.specs.Standing.{how_of}
-use Rattle.photon_pick.proofs.Stays.{has-none}
-use Rattle.command_work.proofs.RestEnds.{opens-misfit, opens-wrote, opens-cut}
-use Rattle.pick_work.{specs.PickOutcomes.{chosen_by, picks}, proofs.Picked.{picks-start, picks-none, picks-same}}
+use Rattle.{std.proofs.{Common.{◌∙◌, sym, ap, arith, rules}, lemmas.Result.err_from_is_err_and}, ptu_definitions.specs.Streams.StreamSettings}
+use Rattle.{plan_text.specs.ReadPlan.plan_view, gate_plan.specs.{Histories.reading_by, Groups.sorting_of}, record_stream.specs.Standing.how_of}
+use Rattle.{photon_pick.proofs.Stays.has-none, command_work.proofs.RestEnds.{opens-misfit, opens-wrote, opens-cut}, pick_work.specs.PickOutcomes.chosen_by}
+use Rattle.pick_work.{specs.PickOutcomes.picks, proofs.Picked.{picks-start, picks-none, picks-same}}
 use Rattle.pick_work.proofs.pick.PickJobJob.open.Goals as goal
 
 pub returns-in_err-fits-clause-opens : goal.returns-in_err-fits-clause-opens

@@ -1,5 +1,4 @@
-use Rattle.std.proofs.Common.{arith, rules}
-use Rattle.pick_work.{proofs.Picked.writes-headed}
+use Rattle.{std.proofs.Common.{arith, rules}, pick_work.proofs.Picked.writes-headed}
 use Rattle.pick_work.proofs.pick.PickReaderReader.piece.Goals as goal
 
 pub returns-clause-same : goal.returns-clause-same

@@ -1,7 +1,8 @@
-use Rattle.std.{proofs.Common.{Err, refl, sym, ap, subst, ◌∙◌, arith, ◌≡◌, ◌≤◌, ◌<◌, ◌^◌, ◌+◌, ◌-◌, ◌++◌, [], ◌∷◌, ℕ, List, min, true, false, length, take, append-nil, length-append, nat_eq}, proofs.lemmas.Bool.Decides.nat_tests, proofs.lemmas.List.length-take}
-use Rattle.ptu_header.{specs.Phases.phase_after, specs.ReadHeader.{goes_on, HasRead}, proofs.ReadHeader.{is_not, nothing-stays, reads-of, reads-open, steps-refused, limit-shown, more-clause, after-reads, body-more, body-ends, reads-join}}
-use Rattle.tally_base.specs.declared.fault.Fault.TheVariants.{HeaderLimit}
-use Rattle.ptu_definitions.{specs.Headers.header_answer, proofs.AnswerLemmas.Shows-append}
+use Rattle.std.proofs.Common.{Err, refl, sym, ap, subst, ◌∙◌, arith, ◌≡◌, ◌≤◌, ◌<◌, ◌^◌, ◌+◌, ◌-◌, ◌++◌, [], ◌∷◌, ℕ, List, min, true, false, length, take}
+use Rattle.{std.proofs.{Common.{append-nil, length-append, nat_eq}, lemmas.{Bool.Decides.nat_tests, List.length-take}}, ptu_header.specs.Phases.phase_after}
+use Rattle.ptu_header.{specs.ReadHeader.{goes_on, HasRead}, proofs.ReadHeader.{is_not, nothing-stays, reads-of, reads-open, steps-refused, limit-shown}}
+use Rattle.ptu_header.proofs.ReadHeader.{more-clause, after-reads, body-more, body-ends, reads-join}
+use Rattle.{tally_base.specs.declared.fault.Fault.TheVariants.HeaderLimit, ptu_definitions.{specs.Headers.header_answer, proofs.AnswerLemmas.Shows-append}}
 use Rattle.ptu_header.specs.declared.reader.Phase.TheVariants as Phases
 use Rattle.ptu_header.proofs.reader.HeaderReader.body.Goals as goal
 

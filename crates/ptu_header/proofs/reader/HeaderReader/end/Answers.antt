@@ -1,7 +1,7 @@
-use Rattle.std.proofs.Common.{Ok, Err, [], refl, arith, take}
-use Rattle.ptu_definitions.{specs.Headers.header_answer, proofs.AnswerLemmas.Shows-append}
+use Rattle.{std.proofs.Common.{Ok, Err, [], refl, arith, take}, ptu_definitions.{specs.Headers.header_answer, proofs.AnswerLemmas.Shows-append}}
+use Rattle.ptu_header.{specs.declared.step.HeaderStep.TheVariants.Done, proofs.ReadHeader.{end-answer, done-due, refused-due, nothing-stays, reads-of}}
+use Rattle.ptu_header.proofs.ReadHeader.{steps-refused}
 use Rattle.ptu_header.specs.declared.reader.Phase.TheVariants as Phases
-use Rattle.ptu_header.{specs.declared.step.HeaderStep.TheVariants.Done, proofs.ReadHeader.{end-answer, done-due, refused-due, nothing-stays, reads-of, steps-refused}}
 use Rattle.ptu_header.proofs.reader.HeaderReader.end.Goals as goal
 
 pub returns-in-Ok-clause-step : goal.returns-in-Ok-clause-step

@@ -1,6 +1,6 @@
-use Rattle.std.proofs.Common.{length, ap, refl}
+use Rattle.{std.proofs.Common.{length, ap, refl}, ptu_header.specs.{declared.step.HeaderStep.TheVariants.Refused, ReadHeader.goes_on}}
+use Rattle.ptu_header.proofs.ReadHeader.{going-due, refused-due, shown-front, reads-of, steps-again}
 use Rattle.ptu_header.specs.declared.reader.Phase.TheVariants as Phases
-use Rattle.ptu_header.{specs.declared.step.HeaderStep.TheVariants.Refused, specs.ReadHeader.goes_on, proofs.ReadHeader.{going-due, refused-due, shown-front, reads-of, steps-again}}
 use Rattle.ptu_header.proofs.reader.HeaderReader.feed.Goals as goal
 
 pub returns-in-End-clause-room : goal.returns-in-End-clause-room

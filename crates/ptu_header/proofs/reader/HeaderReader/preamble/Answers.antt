@@ -1,8 +1,8 @@
 use Rattle.std.proofs.Common.{Err, refl, sym, ap, subst, ◌∙◌, arith, ◌≡◌, ◌≤◌, ◌<◌, ◌^◌, ◌+◌, ◌++◌, [], true, ◌&&◌, length, take, drop, codes, nat_lt}
-use Rattle.ptu_definitions.{specs.Fields.version_in, specs.Headers.header_answer}
-use Rattle.tally_base.specs.declared.fault.Fault.TheVariants.{BadMagic, TruncatedHeader}
+use Rattle.{ptu_definitions.specs.{Fields.version_in, Headers.header_answer}, tally_base.specs.declared.fault.Fault.TheVariants.{BadMagic, TruncatedHeader}}
+use Rattle.ptu_header.{specs.ReadHeader.{goes_on, Reads, InPreamble}, proofs.ReadHeader.{preamble-shows, whole_piece, short-stays, other-stays, reads-at}}
+use Rattle.ptu_header.proofs.ReadHeader.{reads-of, steps-refused, more-clause, preamble-more, preamble-whole, reads-join, preamble-other}
 use Rattle.ptu_header.specs.declared.reader.Phase.TheVariants as Phases
-use Rattle.ptu_header.{specs.ReadHeader.{goes_on, Reads, InPreamble}, proofs.ReadHeader.{preamble-shows, whole_piece, short-stays, other-stays, reads-at, reads-of, steps-refused, more-clause, preamble-more, preamble-whole, reads-join, preamble-other}}
 use Rattle.ptu_header.proofs.reader.HeaderReader.preamble.Goals as goal
 
 pub returns-then-is_other-clause-step : goal.returns-then-is_other-clause-step

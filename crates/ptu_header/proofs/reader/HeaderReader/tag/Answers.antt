@@ -1,8 +1,8 @@
-use Rattle.std.{proofs.Common.{Err, refl, ap, subst, ◌∙◌, arith, ◌≡◌, ◌≤◌, ◌<◌, ◌^◌, ◌+◌, ◌++◌, ◌&&◌, true, length, take, length-append, nat_lt}, proofs.lemmas.List.{length-take, take_all}}
-use Rattle.tally_base.specs.declared.fault.Fault.TheVariants.{HeaderLimit, TruncatedHeader}
-use Rattle.ptu_definitions.specs.Headers.{header_answer}
+use Rattle.std.proofs.Common.{Err, refl, ap, subst, ◌∙◌, arith, ◌≡◌, ◌≤◌, ◌<◌, ◌^◌, ◌+◌, ◌++◌, ◌&&◌, true, length, take, length-append, nat_lt}
+use Rattle.{std.proofs.lemmas.List.{length-take, take_all}, tally_base.specs.declared.fault.Fault.TheVariants.{HeaderLimit, TruncatedHeader}}
+use Rattle.{ptu_definitions.specs.Headers.header_answer, ptu_header.{specs.ReadHeader.{goes_on, Reads, InTag}, proofs.ReadHeader.{is_not, takes-whole}}}
+use Rattle.ptu_header.proofs.ReadHeader.{whole_piece, tag-stays, reads-at, reads-of, steps-refused, steps-whole, more-clause, tag-more, limit-shown}
 use Rattle.ptu_header.specs.declared.reader.Phase.TheVariants as Phases
-use Rattle.ptu_header.{specs.ReadHeader.{goes_on, Reads, InTag}, proofs.ReadHeader.{is_not, takes-whole, whole_piece, tag-stays, reads-at, reads-of, steps-refused, steps-whole, more-clause, tag-more, limit-shown}}
 use Rattle.ptu_header.proofs.reader.HeaderReader.tag.Goals as goal
 
 pub returns-then-len-eq48-clause-step : goal.returns-then-len-eq48-clause-step

@@ -1,8 +1,9 @@
-use Rattle.std.{proofs.Common.{refl, sym, ap, subst, ◌∙◌, arith, ◌≡◌, ◌+◌, true, false, [], codes}, specs.Str.bytes_eq, specs.Int.{w64, cast_signed, cast_unsigned}, proofs.lemmas.Int.of_z-to_z, proofs.lemmas.Bool.{false_from_ne_true, false≢true}}
-use Rattle.tally_base.specs.declared.fault.Fault.TheVariants.{TagType, TagLength}
-use Rattle.ptu_definitions.specs.TagList.{code_in, value_in, is_known, is_negative, body_size, is_end}
-use Rattle.ptu_tag.specs.Kinds.{IsHead, code_of}
-use Rattle.ptu_header.{specs.Phases.phase_after, proofs.Tags.{same_test, name_is, size-negative, size-positive}, proofs.ReadHeader.{whole-refused, tag-bad_type, tag-bad_length, tag-whole, tag-ends, tag-adds, unknown-nothing, negative-nothing, after-reads, reads-join}}
+use Rattle.std.proofs.{Common.{refl, sym, ap, subst, ◌∙◌, arith, ◌≡◌, ◌+◌, true, false, [], codes}, lemmas.{Int.of_z-to_z, Bool.false_from_ne_true}}
+use Rattle.std.{proofs.lemmas.Bool.false≢true, specs.{Str.bytes_eq, Int.{w64, cast_signed, cast_unsigned}}}
+use Rattle.{tally_base.specs.declared.fault.Fault.TheVariants.{TagType, TagLength}, ptu_definitions.specs.TagList.{code_in, value_in, is_known, is_negative}}
+use Rattle.{ptu_definitions.specs.TagList.{body_size, is_end}, ptu_tag.specs.Kinds.{IsHead, code_of}, ptu_header.specs.Phases.phase_after}
+use Rattle.ptu_header.proofs.{Tags.{same_test, name_is, size-negative, size-positive}, ReadHeader.{whole-refused, tag-bad_type, tag-bad_length, tag-whole}}
+use Rattle.ptu_header.proofs.ReadHeader.{tag-ends, tag-adds, unknown-nothing, negative-nothing, after-reads, reads-join}
 use Rattle.ptu_header.proofs.reader.HeaderReader.whole.Goals as goal
 
 pub returns-in_default-clause-step : goal.returns-in_default-clause-step

@@ -1,5 +1,4 @@
-use Rattle.std.proofs.Common.{arith, rules}
-use Rattle.ptu_made.{proofs.Behind.{states-none, states-some, words_behind-cons}}
+use Rattle.{std.proofs.Common.{arith, rules}, ptu_made.proofs.Behind.{states-none, states-some, words_behind-cons}}
 use Rattle.ptu_made.proofs.photons.Photons.next.Goals as goal
 
 pub returns-then-self-eq0-clause-words : goal.returns-then-self-eq0-clause-words

@@ -1,6 +1,5 @@
-use Rattle.std.{proofs.Common.{◌≡◌, ◌+◌, ◌++◌, ◌≤◌, length, drop, take, arith, sym, ap, ◌∙◌, append_assoc, slice_range}, proofs.lemmas.List.{take_at, length-take}}
-use Rattle.ptu_made.{proofs.Behind.held-split, specs.Unread.words_left}
-use Rattle.minimal_file.specs.ShortFiles.{bytes_in}
+use Rattle.std.proofs.{Common.{◌≡◌, ◌+◌, ◌++◌, ◌≤◌, length, drop, take, arith, sym, ap, ◌∙◌, append_assoc, slice_range}, lemmas.List.{take_at, length-take}}
+use Rattle.{ptu_made.{proofs.Behind.held-split, specs.Unread.words_left}, minimal_file.specs.ShortFiles.bytes_in}
 use Rattle.ptu_made.proofs.unread.Unread.copy_held.Goals as goal
 
 pub returns-clause-bytes : goal.returns-clause-bytes

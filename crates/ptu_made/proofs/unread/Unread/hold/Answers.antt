@@ -1,5 +1,4 @@
-use Rattle.std.proofs.Common.{arith, rules}
-use Rattle.ptu_made.proofs.Behind.{held-more}
+use Rattle.{std.proofs.Common.{arith, rules}, ptu_made.proofs.Behind.held-more}
 use Rattle.ptu_made.proofs.unread.Unread.hold.Goals as goal
 
 pub returns-clause-bytes : goal.returns-clause-bytes

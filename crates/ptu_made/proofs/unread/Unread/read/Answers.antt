@@ -1,5 +1,5 @@
-use Rattle.std.{proofs.Common.{◌-◌, length, arith}, proofs.lemmas.Grind.common_steps}
-use Rattle.ptu_made.{specs.Unread.bytes_left, proofs.Behind.given_behind, proofs.unread.Unread.read.Goals.{then-filled-into-via-then-filled-into, then-filled-into-via-else-filled-into+then-not-hold_next}}
+use Rattle.{std.proofs.{Common.{◌-◌, length, arith}, lemmas.Grind.common_steps}, ptu_made.{specs.Unread.bytes_left, proofs.Behind.given_behind}}
+use Rattle.ptu_made.proofs.unread.Unread.read.Goals.{then-filled-into-via-then-filled-into, then-filled-into-via-else-filled-into+then-not-hold_next}
 use Rattle.ptu_made.proofs.unread.Unread.read.Goals as goal
 
 pub returns-then-filled-into-clause-bytes : goal.returns-then-filled-into-clause-bytes

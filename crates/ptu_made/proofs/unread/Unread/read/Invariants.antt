@@ -1,5 +1,4 @@
-use Rattle.std.proofs.Common.{◌≡◌, ◌≤◌, ◌++◌, length, take}
-use Rattle.ptu_made.specs.Unread.{bytes_left}
+use Rattle.{std.proofs.Common.{◌≡◌, ◌≤◌, ◌++◌, length, take}, ptu_made.specs.Unread.bytes_left}
 use Rattle.ptu_made.proofs.unread.Unread.read.Given as goal
 
 abbrev pub invariant-photons : goal.invariant-photons

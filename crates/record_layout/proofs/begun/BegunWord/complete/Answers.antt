@@ -1,6 +1,4 @@
-use Rattle.std.proofs.Common.{arith, rules}
-use Rattle.ptu_definitions.{proofs.WordsLemmas.numbers-chunks}
-use Rattle.record_layout.{proofs.Growing.only-word}
+use Rattle.{std.proofs.Common.{arith, rules}, ptu_definitions.proofs.WordsLemmas.numbers-chunks, record_layout.proofs.Growing.only-word}
 use Rattle.record_layout.proofs.begun.BegunWord.complete.Goals as goal
 
 pub returns-clause-word : goal.returns-clause-word

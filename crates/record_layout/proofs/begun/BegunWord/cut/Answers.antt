@@ -1,5 +1,4 @@
-use Rattle.std.proofs.Common.{ap, ◌∙◌}
-use Rattle.ptu_definitions.{specs.Words.numbers, proofs.WordsLemmas.{numbers-chunks, drop-chunks}}
+use Rattle.{std.proofs.Common.{ap, ◌∙◌}, ptu_definitions.{specs.Words.numbers, proofs.WordsLemmas.{numbers-chunks, drop-chunks}}}
 use Rattle.record_layout.proofs.begun.BegunWord.cut.Goals as goal
 
 pub returns-clause-words : goal.returns-clause-words

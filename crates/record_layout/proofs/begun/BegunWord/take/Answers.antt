@@ -1,6 +1,6 @@
-use Rattle.std.proofs.Common.{◌≡◌, ◌-◌, ◌++◌, ◌∙◌, take, length, ap, sym, refl, arith, length-append, rules}
-use Rattle.ptu_definitions.{specs.Words.rest_of, proofs.WordsLemmas.{words_of-few, rest_of-few}}
-use Rattle.record_layout.{specs.Counting.begun_in, proofs.Growing.{none_of, words-completed, rest-completed}}
+use Rattle.{std.proofs.Common.{◌≡◌, ◌-◌, ◌++◌, ◌∙◌, take, length, ap, sym, refl, arith, length-append, rules}, ptu_definitions.specs.Words.rest_of}
+use Rattle.{ptu_definitions.proofs.WordsLemmas.{words_of-few, rest_of-few}, record_layout.{specs.Counting.begun_in, proofs.Growing.{none_of, words-completed}}}
+use Rattle.record_layout.proofs.Growing.{rest-completed}
 use Rattle.record_layout.proofs.begun.BegunWord.take.Goals as goal
 
 pub returns-then-begun-eq0-clause-words : goal.returns-then-begun-eq0-clause-words

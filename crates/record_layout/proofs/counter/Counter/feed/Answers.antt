@@ -1,5 +1,4 @@
-use Rattle.std.proofs.Common.{refl, arith, rules}
-use Rattle.record_layout.{proofs.Growing.{words-more, words-pass, counted-shows}}
+use Rattle.{std.proofs.Common.{refl, arith, rules}, record_layout.proofs.Growing.{words-more, words-pass, counted-shows}}
 use Rattle.record_layout.proofs.counter.Counter.feed.Goals as goal
 
 pub returns-then-self-clause-taken : goal.returns-then-self-clause-taken

@@ -1,5 +1,4 @@
-use Rattle.std.proofs.Common.{arith}
-use Rattle.record_layout.{specs.Counting.begun_in, proofs.Growing.{counted-limit, counted-whole, counted-cut}}
+use Rattle.{std.proofs.Common.arith, record_layout.{specs.Counting.begun_in, proofs.Growing.{counted-limit, counted-whole, counted-cut}}}
 use Rattle.record_layout.proofs.counter.Counter.finish.Goals as goal
 
 pub returns-then-self-clause-answer : goal.returns-then-self-clause-answer

@@ -1,5 +1,4 @@
-use Rattle.std.proofs.Common.{refl}
-use Rattle.record_layout.proofs.Growing.{AreCounts-none}
+use Rattle.{std.proofs.Common.refl, record_layout.proofs.Growing.AreCounts-none}
 use Rattle.record_layout.proofs.counter.Counter.new.Goals as goal
 
 pub returns-clause-start : goal.returns-clause-start

@@ -1,5 +1,4 @@
-use Rattle.ptu_definitions.specs.Prefixes.{listed}
-use Rattle.record_layout.{specs.Counting.begun_in, proofs.Growing.{slice-listed, AreCounts-append, counts_of-both}}
+use Rattle.{ptu_definitions.specs.Prefixes.listed, record_layout.{specs.Counting.begun_in, proofs.Growing.{slice-listed, AreCounts-append, counts_of-both}}}
 use Rattle.record_layout.proofs.counter.Counter.take.Goals as goal
 
 pub returns-clause-taken : goal.returns-clause-taken

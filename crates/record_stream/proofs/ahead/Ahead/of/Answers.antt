@@ -1,7 +1,8 @@
-use Rattle.std.{proofs.Common.{◌≡◌, ◌+◌, ◌*◌, ◌^◌, ◌<◌, ◌≤◌, ℕ, [], true, get_or, refl, sym, ap, ◌∙◌, arith, rules, slice_index}, specs.Int.{from_le_bytes, w32}, proofs.lemmas.List.length-map, proofs.Math.Nat.mul-le-mul_right}
-use Rattle.abs_time.specs.Placing.{placed_by, base_of}
-use Rattle.lane_decode.{specs.InColumns.{wraps_at, sum_to, time_in, Rises}, specs.Staying.{staying, event_in}, proofs.Added.sum-few}
-use Rattle.record_stream.{specs.Whole.{last_time, InReach}, specs.Rows.ordered_below, specs.Walking.{how_of, greatest_of, clock_in, LetsPass}, proofs.WholeBlocks.{gathers-whole, many-events}}
+use Rattle.std.proofs.{Common.{◌≡◌, ◌+◌, ◌*◌, ◌^◌, ◌<◌, ◌≤◌, ℕ, [], true, get_or, refl, sym, ap, ◌∙◌, arith, rules, slice_index}, lemmas.List.length-map}
+use Rattle.{std.{proofs.Math.Nat.mul-le-mul_right, specs.Int.{from_le_bytes, w32}}, abs_time.specs.Placing.{placed_by, base_of}}
+use Rattle.lane_decode.{specs.{InColumns.{wraps_at, sum_to, time_in, Rises}, Staying.{staying, event_in}}, proofs.Added.sum-few}
+use Rattle.record_stream.specs.{Whole.{last_time, InReach}, Rows.ordered_below, Walking.{how_of, greatest_of, clock_in, LetsPass}}
+use Rattle.record_stream.proofs.WholeBlocks.{gathers-whole, many-events}
 use Rattle.record_stream.proofs.ahead.Ahead.of.Goals as goal
 
 pub wraps_in-wraps-requires : goal.wraps_in-wraps-requires

@@ -1,5 +1,4 @@
-use Rattle.std.proofs.Common.{refl}
-use Rattle.record_stream.proofs.Settles.{becomes_plain}
+use Rattle.{std.proofs.Common.refl, record_stream.proofs.Settles.becomes_plain}
 use Rattle.record_stream.proofs.blocks.FileOrderSettlesEvents.settle_event.Goals as goal
 
 pub returns-then-late : goal.returns-then-late

@@ -1,7 +1,7 @@
-use Rattle.std.{proofs.Common.{length, length-append, append-nil, [], subst, sym, ap, arith}, proofs.lemmas.Result.{on_ok_weaker, on_err_weaker}}
-use Rattle.tally_base.{specs.declared.header.Mode.Mode, specs.Columns.{event_at, gathered}, specs.Tally.InOrder, proofs.BlockRows.length-rows}
-use Rattle.abs_time.specs.Floors.{orders_markers}
-use Rattle.record_stream.{specs.Blocks.AllFit, specs.InBlocks.floor_with, specs.Whole.events_below, proofs.InBlocks.{Fits, goes_on-trans, goes_on-last, goes_on-push, breaks-behind, breaks-last, waits-push}}
+use Rattle.std.proofs.{Common.{length, length-append, append-nil, [], subst, sym, ap, Ok, Err, OnErr, arith}, lemmas.Result.{on_ok_weaker, on_err_weaker}}
+use Rattle.{std.specs.declared.result.Result.Result, tally_base.specs.{declared.header.Mode.Mode, Columns.{event_at, gathered}, Tally.InOrder}}
+use Rattle.{tally_base.proofs.BlockRows.length-rows, abs_time.specs.Floors.orders_markers, record_stream.specs.{Blocks.AllFit, InBlocks.floor_with}}
+use Rattle.record_stream.{specs.Whole.events_below, proofs.InBlocks.{Fits, goes_on-trans, goes_on-last, goes_on-push, breaks-behind, breaks-last, waits-push}}
 use Rattle.record_stream.proofs.in_blocks.InBlocksTakesColumns.take_columns.Goals as goal
 
 pub put_events-requires-clause-room : goal.put_events-requires-clause-room
@@ -31,7 +31,11 @@ returns-clause-given g c =
     on_ok_weaker c.make_room.result (λ gave. record {
       follows = λ start l on. goes_on-trans s on (goes_on-last s push gave);
       same_mode = gave.same_mode;
-    }) c.make_room.ensures.gave
+    }) c.make_room.ensures.gives.gave
+
+both-err : {X E : Type 0} (P Q : Type 0) (r : Result X E) → OnErr r P → OnErr r Q → OnErr r (P × Q)
+both-err P Q (Ok x) p q = tt
+both-err P Q (Err e) p q = (p, q)
 
 pub returns-clause-broken : goal.returns-clause-broken
 returns-clause-broken g c =
@@ -47,4 +51,4 @@ returns-clause-broken g c =
       some = omega (arith, broke.1, self.room, ap length c.put_events.ensures.more, length-append (gathered self.block) es);
       are = sym (append-nil es);
       broken = λ start l on. breaks-behind s on (breaks-last s push broke.0);
-    }) c.make_room.ensures.broken
+    }) (both-err _ _ c.make_room.result c.make_room.ensures.gives.broken c.make_room.ensures.crowded)

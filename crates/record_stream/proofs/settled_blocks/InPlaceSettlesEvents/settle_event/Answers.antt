@@ -1,5 +1,4 @@
-use Rattle.std.proofs.Common.{refl, true}
-use Rattle.record_stream.proofs.Settles.{by_clock, becomes_pushed}
+use Rattle.{std.proofs.Common.{refl, true}, record_stream.proofs.Settles.{by_clock, becomes_pushed}}
 use Rattle.record_stream.proofs.settled_blocks.InPlaceSettlesEvents.settle_event.Goals as goal
 
 pub returns : goal.returns

@@ -1,4 +1,4 @@
-use Rattle.record_stream.{proofs.Wraps.refused-bytes, proofs.Lasts.{streamed-shown, fed-shown}}
+use Rattle.record_stream.proofs.{Wraps.refused-bytes, Lasts.{streamed-shown, fed-shown}}
 use Rattle.record_stream.proofs.stream.RecordStream.feed.Goals as goal
 
 pub returns-in-Some-clause-taken : goal.returns-in-Some-clause-taken

@@ -1,5 +1,4 @@
-use Rattle.std.proofs.Common.{refl, rules, arith}
-use Rattle.record_stream.{proofs.Wraps.refused-bytes, proofs.Lasts.{streamed-shown, fed-shown}}
+use Rattle.{std.proofs.Common.{refl, rules, arith}, record_stream.proofs.{Wraps.refused-bytes, Lasts.{streamed-shown, fed-shown}}}
 use Rattle.record_stream.proofs.stream.RecordStream.pass.Goals as goal
 
 pub returns-in-Some-clause-takes : goal.returns-in-Some-clause-takes

@@ -1,7 +1,6 @@
-use Rattle.std.{proofs.Common.{◌+◌, ◌∙◌, arith, rules}, proofs.lemmas.Result.err_from_is_err_and}
-use Rattle.ptu_definitions.specs.Layouts.{KindFits}
-use Rattle.tally_base.{specs.Columns.{event_at, rows}, proofs.Floors.order-at, proofs.BlockRows.{length-rows, rows-split}}
-use Rattle.record_stream.proofs.Gathering.{all-rows, on_time-rows, ordered-moves, floor-step}
+use Rattle.{std.proofs.{Common.{◌+◌, ◌∙◌, arith, rules}, lemmas.Result.err_from_is_err_and}, ptu_definitions.specs.Layouts.KindFits}
+use Rattle.{tally_base.{specs.Columns.{event_at, rows}, proofs.{Floors.order-at, BlockRows.{length-rows, rows-split}}}, record_stream.proofs.Gathering.all-rows}
+use Rattle.record_stream.proofs.Gathering.{on_time-rows, ordered-moves, floor-step}
 use Rattle.record_stream.proofs.taker.EventTaker.take_block.Goals as goal
 
 pub take-requires-clause-in_time : goal.take-requires-clause-in_time

@@ -1,8 +1,5 @@
-use Rattle.std.proofs.Common.{◌≡◌, ◌+◌, ◌++◌}
-use Rattle.ptu_definitions.specs.Kept.{Marked}
-use Rattle.tally_base.{specs.Columns.{event_at, rows}, specs.Tally.floor_after}
-use Rattle.abs_time.specs.Floors.{orders_markers}
-use Rattle.record_stream.specs.Blocks.{on_time}
+use Rattle.{std.proofs.Common.{◌≡◌, ◌+◌, ◌++◌}, ptu_definitions.specs.Kept.Marked, tally_base.specs.{Columns.{event_at, rows}, Tally.floor_after}}
+use Rattle.{abs_time.specs.Floors.orders_markers, record_stream.specs.Blocks.on_time}
 use Rattle.record_stream.proofs.taker.EventTaker.take_block.Given as goal
 
 abbrev pub invariant-loop-at : goal.invariant-loop-at

@@ -1,5 +1,4 @@
-use Rattle.std.proofs.Common.{rules, arith}
-use Rattle.record_stream.proofs.Counted.{counted-one}
+use Rattle.{std.proofs.Common.{rules, arith}, record_stream.proofs.Counted.counted-one}
 use Rattle.record_stream.proofs.unwritten.UnwrittenEventTaker.take.Goals as goal
 
 pub returns-then-not-late-clause-follows : goal.returns-then-not-late-clause-follows

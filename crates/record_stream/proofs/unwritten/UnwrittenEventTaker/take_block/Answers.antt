@@ -1,6 +1,4 @@
-use Rattle.std.proofs.Common.{rules, arith}
-use Rattle.tally_base.specs.Columns.{gathered}
-use Rattle.record_stream.proofs.Counted.{counted-block}
+use Rattle.{std.proofs.Common.{rules, arith}, tally_base.specs.Columns.gathered, record_stream.proofs.Counted.counted-block}
 use Rattle.record_stream.proofs.unwritten.UnwrittenEventTaker.take_block.Goals as goal
 
 pub returns-clause-follows : goal.returns-clause-follows

@@ -1,7 +1,6 @@
-use Rattle.std.proofs.Common.{refl, subst, sym, ap, ◌∙◌, unwrap_or, arith}
-use Rattle.tally_base.{specs.declared.header.Mode.Mode, specs.Tally.{floor_after, InOrder}}
-use Rattle.abs_time.specs.{Floors.orders_markers, Placing.{mode_of, placed_by, base_of}}
-use Rattle.record_stream.{specs.Whole.events_below, proofs.Counted.counted-block, proofs.WholeBlocks.floor-is}
+use Rattle.{std.proofs.Common.{refl, subst, sym, ap, ◌∙◌, unwrap_or, arith}, tally_base.specs.{declared.header.Mode.Mode, Tally.{floor_after, InOrder}}}
+use Rattle.{abs_time.specs.{Floors.orders_markers, Placing.{mode_of, placed_by, base_of}}, record_stream.specs.Whole.events_below}
+use Rattle.record_stream.proofs.{Counted.counted-block, WholeBlocks.floor-is}
 use Rattle.record_stream.proofs.unwritten.UnwrittenTakesColumns.take_columns.Goals as goal
 
 pub returns-clause-given : goal.returns-clause-given

@@ -1,6 +1,5 @@
-use Rattle.std.proofs.Common.{ap, sym, ◌∙◌, arith, rules}
-use Rattle.ptu_definitions.{specs.Layouts.Fits, proofs.WordsLemmas.meaning-fits}
-use Rattle.record_stream.{specs.Walking.how_of, proofs.Placed.{refusal-limit, refusal-reserved}, proofs.Steps.{records-is, word_refused, word_placed}}
+use Rattle.{std.proofs.Common.{ap, sym, ◌∙◌, arith, rules}, ptu_definitions.{specs.Layouts.Fits, proofs.WordsLemmas.meaning-fits}}
+use Rattle.record_stream.{specs.Walking.how_of, proofs.{Placed.{refusal-limit, refusal-reserved}, Steps.{records-is, word_refused, word_placed}}}
 use Rattle.record_stream.proofs.walk.Walk.place_next.Goals as goal
 
 pub returns-then-self-clause-refused : goal.returns-then-self-clause-refused

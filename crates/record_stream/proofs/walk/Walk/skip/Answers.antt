@@ -1,5 +1,4 @@
-use Rattle.std.proofs.Common.{◌∙◌, [], refl, arith, replicate}
-use Rattle.ptu_definitions.specs.declared.records.Raw.TheVariants.{Reserved}
+use Rattle.{std.proofs.Common.{◌∙◌, [], refl, arith, replicate}, ptu_definitions.specs.declared.records.Raw.TheVariants.Reserved}
 use Rattle.record_stream.{proofs.Skipped.leads-reserved, specs.Walking.clock_in}
 use Rattle.record_stream.proofs.walk.Walk.skip.Goals as goal
 

@@ -1,10 +1,12 @@
-use Rattle.std.proofs.Common.{arith, rules}
-use Rattle.std.{proofs.Common.{refl, ◌≡◌, ℕ, List, [], ◌∷◌, ◌++◌, Bool, true, false, Ok, Err, OnOk, map, subst, sym, ◌∙◌, inl, inr, append-nil}, proofs.lemmas.Result.err_from_is_err_and, specs.declared.result.Result.Result}
-use Rattle.abs_time.{specs.declared.clock.Placed.Placed}
-use Rattle.tally_base.{specs.declared.event.Event.Event, specs.declared.fault.Fault.Fault}
-use Rattle.ptu_definitions.{specs.Kept.{Marked, is_late}, specs.Streams.{StreamSettings, refusal, events_in}, specs.Times.events, proofs.StreamLemmas.fresh}
-use Rattle.settle.specs.declared.settle.Settle.{Settle}
-use Rattle.record_stream.{specs.Walking.{how_of, given_by, KeepsPlace}, proofs.Feeds.delivers-both, proofs.Placed.{skipped-event, event_in, top_in, comes, refused-placed, fresh-placed, skipped-fresh}, proofs.Steps.{refused_fed, word_at, word_gave, word_broke, skipped_word}, specs.Feeding.Fed, specs.Keeping.{Comes, Settles, tells, refused_for}, specs.Rows.IsPlaced, specs.Settling.{HasTaken, Tells, TellsAfterAny, Untold}, specs.declared.taker.EventTaker.Ghosts, specs.declared.walk.Walk.Walk, proofs.Settles.come_word}
+use Rattle.std.proofs.Common.{arith, rules, ap, length, refl, ◌≡◌, ℕ, List, [], ◌∷◌, ◌++◌, Bool, true, false, Ok, Err, OnOk, map, subst, sym, ◌∙◌, inl, inr}
+use Rattle.std.{proofs.{Common.append-nil, lemmas.{Grind.common_steps, Result.{err_from_is_err_and, on_ok_weaker}}}, specs.declared.result.Result.Result}
+use Rattle.{abs_time.specs.declared.clock.Placed.Placed, tally_base.specs.declared.{event.Event.Event, fault.Fault.Fault}, ptu_definitions.specs.Kept.Marked}
+use Rattle.ptu_definitions.{specs.{Kept.is_late, Streams.{StreamSettings, refusal, events_in}, Times.events}, proofs.StreamLemmas.fresh}
+use Rattle.{settle.specs.declared.settle.Settle.Settle, record_stream.specs.{Walking.{how_of, given_by, KeepsPlace, WalksOn}, Feeding.{Fed, Follows}}}
+use Rattle.record_stream.specs.{Keeping.{Comes, IsKeeping, Settles, tells, refused_for}, Rows.{CountsOne, IsPlaced, KeepsGiven}, Settling.{floor_in, HasTaken}}
+use Rattle.record_stream.specs.{Settling.{StaysKept, Tells, TellsAfterAny, Untold}, declared.{taker.EventTaker.Ghosts, walk.Walk.Walk}}
+use Rattle.record_stream.proofs.{Feeds.delivers-both, Placed.{skipped-event, event_in, top_in, comes, refused-placed, fresh-placed, skipped-fresh}}
+use Rattle.record_stream.proofs.{Steps.{refused_fed, word_at, word_gave, word_broke, skipped_word}, Settles.{come_word, kept_on}}
 use Rattle.record_stream.proofs.walk.Walk.step.Goals as goal
 
 -- the events of these words
@@ -65,32 +67,81 @@ module _ {T : Type 0} (g : Ghosts T) {old mid : Walk} {ws : List ℕ} {w : ℕ} 
       let come = come_word how settle ws w [] [] came (skipped-fresh how ws (how.meaning w) p placed.answer none) (rw (append-nil (came_in how ws), append-nil (events_in how ws)) b.settles) in
       (record { at = skipped.0; settles = subst (λ h. Settles h settle (ws ++ w ∷ [])) (sym same_how) come }, skipped.1)
 
-pub returns-in_err-event-clause-delivers : goal.returns-in_err-event-clause-delivers
-returns-in_err-event-clause-delivers g c = delivers-both g.S.EventTaker (λ words h.
+-- what is kept back after a record that is counted and placed
+keeps-placed : {old mid : Walk} {settle : Settle} → KeepsGiven old mid → IsKeeping old settle → IsKeeping mid settle
+keeps-placed {old = old} {mid = mid} {settle = settle} k keeps =
+    kept_on old mid settle settle keeps k.same_how refl keeps.unpopped keeps.fit (omega (arith, keeps.behind, k.more_placed)) (omega (arith, keeps.room, k.same_given, k.more_records))
+
+module _ {T : Type 0} (g : Ghosts T) where
+  none-kept : {old mid : Walk} {settle : Settle} {t : T} → KeepsGiven old mid → g.same t t → IsKeeping old settle → StaysKept g old mid settle t t
+  none-kept k none keeps = record { stays = record { same_how = k.same_how; later = omega arith; same = none }; keeps = keeps-placed k keeps }
+
+  then-kept : {old mid new : Walk} {settle : Settle} {t u : T} → KeepsGiven old mid → StaysKept g mid new settle t u → StaysKept g old new settle t u
+  then-kept k s = record { stays = record { same_how = s.stays.same_how ∙ k.same_how; later = s.stays.later; same = s.stays.same }; keeps = s.keeps }
+
+  then-on : {X : Type 0} {old mid new : Walk} {p : Placed} (settle : Settle) (u : T) (w : ℕ) (r : Result X Fault) → KeepsGiven old mid → CountsOne old mid p → KeepsPlace mid new
+      → OnOk r (Follows g (how_of mid).mode (given_by new) (floor_in new settle) u) → OnOk r (WalksOn g old new (floor_in new settle) u (length (w ∷ [])))
+  then-on {mid = mid} {new = new} settle u w r k counts place on = on_ok_weaker r (λ (f : Follows g (how_of mid).mode (given_by new) (floor_in new settle) u). record {
+    follows = record { mode_is = f.mode_is ∙ ap (λ (x : StreamSettings). x.mode) k.same_how; few = f.few; before = f.before };
+    counted = omega (arith, counts.counted, place.same_records);
+  }) on
+
+pub returns-in_err-event : goal.returns-in_err-event
+returns-in_err-event g c =
+    let s = g.S.EventTaker in
     let p = err_from_is_err_and c.from_residual.result c.from_residual.ensures.1 in
-    rw (p.1, p.2) (tt, refused_fed g.S.EventTaker (Unit {0}) _ _ words _ _ h.at.clear (c.in_err-event.ensures.refused words h.at)))
+    rw (p.1, p.2) (record {
+      delivers = delivers-both s (λ words h. (tt, refused_fed s (Unit {0}) _ _ words _ _ h.at.clear (c.in_err-event.ensures.refused words h.at)));
+      goes_on = tt;
+      stays = none-kept s c.place_next.ensures.keeps (g.met.S.EventTaker.same_none _) c.requires.ready.keeps;
+    })
 
-pub returns-in-Event-clause-delivers : goal.returns-in-Event-clause-delivers
-returns-in-Event-clause-delivers g c = delivers-both g.S.EventTaker (λ words h.
+pub returns-in-Event : goal.returns-in-Event
+returns-in-Event g c =
+    let s = g.S.EventTaker in
     let keeps = c.place_next.ensures.keeps in
-    let placed = rw c.in-Event.is at (c.in_ok-event.ensures.placed words h.at) in
-    told_word g.S.EventTaker c.args.settle.now _ _ placed keeps.same_how keeps.same_given h _ _ c.in-Event.event refl
-    c.take_event.ensures.place false c.take_event.result (comes _ _ _ _ placed.answer).1 c.take_event.ensures.tells)
+    record {
+      delivers = delivers-both s (λ words h.
+          let placed = rw c.in-Event.is at (c.in_ok-event.ensures.placed words h.at) in
+          told_word s c.args.settle.now _ _ placed keeps.same_how keeps.same_given h _ _ c.in-Event.event refl
+          c.take_event.ensures.place false c.take_event.result (comes _ _ _ _ placed.answer).1 c.take_event.ensures.tells);
+      goes_on = then-on s c.take_event.new.settle c.take_event.new.taker c.args.word c.take_event.result keeps c.in_ok-event.ensures.counts c.take_event.ensures.place c.take_event.ensures.goes_on;
+      stays = then-kept s keeps c.take_event.ensures.stays;
+    }
 
-pub returns-in-Late-clause-delivers : goal.returns-in-Late-clause-delivers
-returns-in-Late-clause-delivers g c = delivers-both g.S.EventTaker (λ words h.
+pub returns-in-Late : goal.returns-in-Late
+returns-in-Late g c =
+    let s = g.S.EventTaker in
     let keeps = c.place_next.ensures.keeps in
-    let placed = rw c.in-Late.is at (c.in_ok-event.ensures.placed words h.at) in
-    told_word g.S.EventTaker c.args.settle.now _ _ placed keeps.same_how keeps.same_given h _ _ c.in-Late.event refl
-    c.take_event-in-Late.ensures.place true c.take_event-in-Late.result (comes _ _ _ _ placed.answer).1.0 c.take_event-in-Late.ensures.tells)
+    let take = c.take_event-in-Late in
+    record {
+      delivers = delivers-both s (λ words h.
+          let placed = rw c.in-Late.is at (c.in_ok-event.ensures.placed words h.at) in
+          told_word s c.args.settle.now _ _ placed keeps.same_how keeps.same_given h _ _ c.in-Late.event refl
+          take.ensures.place true take.result (comes _ _ _ _ placed.answer).1.0 take.ensures.tells);
+      goes_on = then-on s take.new.settle take.new.taker c.args.word take.result keeps c.in_ok-event.ensures.counts take.ensures.place take.ensures.goes_on;
+      stays = then-kept s keeps take.ensures.stays;
+    }
 
-pub returns-in-Wrap-clause-delivers : goal.returns-in-Wrap-clause-delivers
-returns-in-Wrap-clause-delivers g c = delivers-both g.S.EventTaker (λ words h.
-    skip_word g.S.EventTaker c.args.settle.now c.args.settle.now c.args.taker.now (c.in_ok-event.ensures.placed words h.at)
-    c.place_next.ensures.keeps.same_how c.place_next.ensures.keeps.same_given h (skipped-event _ c.in-Wrap.is))
+pub returns-in-Wrap : goal.returns-in-Wrap
+returns-in-Wrap g c = record {
+  delivers = delivers-both g.S.EventTaker (λ words h.
+      skip_word g.S.EventTaker c.args.settle.now c.args.settle.now c.args.taker.now (c.in_ok-event.ensures.placed words h.at)
+      c.place_next.ensures.keeps.same_how c.place_next.ensures.keeps.same_given h (skipped-event _ c.in-Wrap.is));
+  goes_on = first_of (search (rules, arith), grind (arith, common_steps));
+  stays = none-kept g.S.EventTaker c.place_next.ensures.keeps (g.met.S.EventTaker.same_none _) c.requires.ready.keeps;
+}
 
-pub take_event-requires-clause-is_for : goal.take_event-requires-clause-is_for
-take_event-requires-clause-is_for g c = search (rules, arith)
+pub take_event-requires-clause-ready : goal.take_event-requires-clause-ready
+take_event-requires-clause-ready g c = record {
+  is_for = search (rules, arith);
+  keeps = keeps-placed c.place_next.ensures.keeps c.requires.ready.keeps;
+  follows = first_of (search (rules, arith), grind (arith, common_steps));
+}
 
-pub take_event-requires-in-Late-clause-is_for : goal.take_event-requires-in-Late-clause-is_for
-take_event-requires-in-Late-clause-is_for g c = search (rules, arith)
+pub take_event-requires-in-Late-clause-ready : goal.take_event-requires-in-Late-clause-ready
+take_event-requires-in-Late-clause-ready g c = record {
+  is_for = search (rules, arith);
+  keeps = keeps-placed c.place_next.ensures.keeps c.requires.ready.keeps;
+  follows = first_of (search (rules, arith), grind (arith, common_steps));
+}

@@ -1,5 +1,4 @@
-use Rattle.std.proofs.Common.{arith, rules}
-use Rattle.record_write.proofs.Puts.{last_time-push, short-flushed}
+use Rattle.{std.proofs.Common.{arith, rules}, record_write.proofs.Puts.{last_time-push, short-flushed}}
 use Rattle.record_write.proofs.picker.Picker.photon.Goals as goal
 
 pub returns-in-Ok-flush-clause-picks : goal.returns-in-Ok-flush-clause-picks

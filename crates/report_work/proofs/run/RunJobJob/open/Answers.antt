@@ -1,8 +1,5 @@
-use Rattle.std.proofs.lemmas.Result.{err_from_is_err_and}
-use Rattle.plan_text.specs.ReadPlan.{plan_view}
-use Rattle.bench_io.proofs.Texts.{WroteText-none}
-use Rattle.command_work.proofs.RestEnds.{refused-none}
-use Rattle.report_work.proofs.Reports.{for-own, reports-same, opens-unopened}
+use Rattle.{std.proofs.lemmas.Result.err_from_is_err_and, plan_text.specs.ReadPlan.plan_view, bench_io.proofs.Texts.WroteText-none}
+use Rattle.{command_work.proofs.RestEnds.refused-none, report_work.proofs.Reports.{for-own, reports-same, opens-unopened}}
 use Rattle.report_work.proofs.run.RunJobJob.open.Goals as goal
 
 pub returns-in_err-engine-clause-opens : goal.returns-in_err-engine-clause-opens

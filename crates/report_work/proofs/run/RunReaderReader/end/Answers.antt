@@ -1,6 +1,4 @@
-use Rattle.std.proofs.lemmas.Result.{err_from_is_err_and}
-use Rattle.plan_text.specs.ReadPlan.{plan_view}
-use Rattle.report_work.proofs.Reports.{ends-refused, ends-reported}
+use Rattle.{std.proofs.lemmas.Result.err_from_is_err_and, plan_text.specs.ReadPlan.plan_view, report_work.proofs.Reports.{ends-refused, ends-reported}}
 use Rattle.report_work.proofs.run.RunReaderReader.end.Goals as goal
 
 pub returns-in_err-results : goal.returns-in_err-results

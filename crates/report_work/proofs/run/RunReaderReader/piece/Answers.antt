@@ -1,6 +1,4 @@
-use Rattle.std.proofs.Common.{ap}
-use Rattle.plan_text.specs.ReadPlan.{plan_view}
-use Rattle.report_work.{specs.Reports.reports, proofs.Reports.{writes-fed, takes-fed}}
+use Rattle.{std.proofs.Common.ap, plan_text.specs.ReadPlan.plan_view, report_work.{specs.Reports.reports, proofs.Reports.{writes-fed, takes-fed}}}
 use Rattle.report_work.proofs.run.RunReaderReader.piece.Goals as goal
 
 pub returns-clause-same : goal.returns-clause-same

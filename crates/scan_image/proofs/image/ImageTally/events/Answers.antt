@@ -1,5 +1,4 @@
-use Rattle.std.proofs.Common.{rules, arith, length-append}
-use Rattle.tally_base.{proofs.BlockRows.length-rows, proofs.Floors.{greatest_block, order-lower, floor-lower}}
+use Rattle.{std.proofs.Common.{rules, arith, length-append}, tally_base.proofs.{BlockRows.length-rows, Floors.{greatest_block, order-lower, floor-lower}}}
 use Rattle.scan_image.proofs.image.ImageTally.events.Goals as goal
 
 pub count_block-requires-clause-in_order : goal.count_block-requires-clause-in_order

@@ -1,5 +1,5 @@
-use Rattle.std.{proofs.Common.{◌+◌, ℕ, cond, refl, rules, arith, Some}, proofs.lemmas.Grind.common_steps}
-use Rattle.scan_image.{specs.ImageCounts.is_at, proofs.Cells.raised_at}
+use Rattle.{std.proofs.{Common.{◌+◌, ℕ, cond, refl, rules, arith, Some}, lemmas.Grind.common_steps}, scan_image.specs.ImageCounts.is_at}
+use Rattle.scan_image.proofs.Cells.{raised_at}
 use Rattle.scan_image.proofs.pixels.ImageSetPixels.add.Goals as goal
 
 pub returns-in-Some-clause-follows : goal.returns-in-Some-clause-follows

@@ -1,8 +1,8 @@
-use Rattle.std.{proofs.Common.{◌≡◌, ◌∙◌, length, ap, refl, subst, ◌+◌, ◌<◌, ◌≤◌, ℕ, List, [], ◌∷◌, ◌++◌, false, take, drop, sym, append_assoc, append-nil, arith, length-append, rules}, specs.List.{refill, AllByRecursion}, proofs.Math.Seq.take-append_seam}
-use Rattle.arrayvec.specs.ArrayVec.{array_vec_len}
-use Rattle.tally_base.specs.declared.event.Event.{Event}
-use Rattle.ptu_definitions.{specs.Prefixes.each_after, specs.Settled.{marked_as, put_in, settles}, proofs.SettledLemmas.put_in-append, proofs.SettlingLemmas.{all-push, each-weaker}}
-use Rattle.settle.{specs.Standing.{IsSettled, next_place}, specs.Passing.{ComesOn, next_after, time_after}, proofs.Steps.{settled-emit, tells-one}}
+use Rattle.std.proofs.Common.{◌≡◌, ◌∙◌, length, ap, refl, subst, ◌+◌, ◌<◌, ◌≤◌, ℕ, List, [], ◌∷◌, ◌++◌, false, take, drop, sym, append_assoc, append-nil, arith}
+use Rattle.{std.{proofs.{Common.{length-append, rules}, Math.Seq.take-append_seam}, specs.List.{refill, AllByRecursion}}, arrayvec.specs.ArrayVec.array_vec_len}
+use Rattle.{tally_base.specs.declared.event.Event.Event, ptu_definitions.specs.{Prefixes.each_after, Settled.{marked_as, put_in, settles}}}
+use Rattle.{ptu_definitions.proofs.{SettledLemmas.put_in-append, SettlingLemmas.{all-push, each-weaker}}, settle.specs.Standing.{IsSettled, next_place}}
+use Rattle.settle.{specs.Passing.{ComesOn, next_after, time_after}, proofs.Steps.{settled-emit, tells-one}}
 use Rattle.settle.proofs.settle.Settle.pass.Goals as goal
 
 -- events that come in order after all that are kept back

@@ -1,5 +1,5 @@
-use Rattle.std.proofs.Common.{arith, rules}
-use Rattle.settle.proofs.Steps.{settled-late, settled-wait, settled-emit, answers-late, answers-in_time, tells-late, tells-none, tells-one, least_one, low-put_in, low-rest}
+use Rattle.{std.proofs.Common.{arith, rules}, settle.proofs.Steps.{settled-late, settled-wait, settled-emit, answers-late, answers-in_time, tells-late}}
+use Rattle.settle.proofs.Steps.{tells-none, tells-one, least_one, low-put_in, low-rest}
 use Rattle.settle.proofs.settle.Settle.push.Goals as goal
 
 pub returns-then-event-self-clause-pushed : goal.returns-then-event-self-clause-pushed

@@ -1,5 +1,6 @@
-use Rattle.std.proofs.Common.{◌≡◌, ◌∙◌, true, false, sym, ap, arith, if◌then◌else◌, ℕ, ◌≤◌, [], ◌∷◌, length, get_or, rules}
-use Rattle.tally_base.{specs.Events.is_photon, proofs.block.Block+TABLE_BLOCK.of_one.Goals.{then-is_photon, else-is_photon}, specs.declared.event.Event.Event, specs.declared.block.Block.Block, specs.Columns.{rows, item, event_at, code_at, groups_at, gathered, events_in}, proofs.Floors.moves_row, proofs.BlockRows.length-rows}
+use Rattle.{std.proofs.Common.{◌≡◌, ◌∙◌, true, false, sym, ap, arith, if◌then◌else◌, ℕ, ◌≤◌, [], ◌∷◌, length, get_or, rules}, tally_base.specs.Events.is_photon}
+use Rattle.tally_base.specs.{declared.{event.Event.Event, block.Block.Block}, Columns.{rows, item, event_at, code_at, groups_at, gathered, events_in}}
+use Rattle.tally_base.proofs.{block.Block+TABLE_BLOCK.of_one.Goals.{then-is_photon, else-is_photon}, Floors.moves_row, BlockRows.length-rows}
 use Rattle.tally_base.proofs.block.Block+TABLE_BLOCK.of_one.Goals as goal
 
 -- a block of one event

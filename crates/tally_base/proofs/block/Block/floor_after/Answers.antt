@@ -1,5 +1,5 @@
-use Rattle.std.proofs.Common.{◌≡◌, ◌∙◌, ◌-◌, ◌<◌, ◌≤◌, ◌||◌, true, false, sym, rules, arith, nat_lt}
-use Rattle.tally_base.{specs.Columns.{code_at, count}, proofs.Floors.back_step}
+use Rattle.{std.proofs.Common.{◌≡◌, ◌∙◌, ◌-◌, ◌<◌, ◌≤◌, ◌||◌, true, false, sym, rules, arith, nat_lt}, tally_base.specs.Columns.{code_at, count}}
+use Rattle.tally_base.proofs.Floors.{back_step}
 use Rattle.tally_base.proofs.block.Block.floor_after.Goals as goal
 
 pub returns-then-moves : goal.returns-then-moves

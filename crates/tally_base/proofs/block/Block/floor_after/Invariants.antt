@@ -1,5 +1,4 @@
-use Rattle.std.proofs.Common.{◌≡◌, ◌≤◌}
-use Rattle.tally_base.{specs.Columns.{event_at, rows, count, gathered}, specs.Tally.floor_after}
+use Rattle.{std.proofs.Common.{◌≡◌, ◌≤◌}, tally_base.specs.{Columns.{event_at, rows, count, gathered}, Tally.floor_after}}
 use Rattle.tally_base.proofs.block.Block.floor_after.Given as goal
 
 abbrev pub invariant-back : goal.invariant-back

@@ -1,4 +1,4 @@
-use Rattle.std.{proofs.Common.{◌∙◌, ◌+◌, arith}, proofs.lemmas.Simd.get_or-chunk}
+use Rattle.std.proofs.{Common.{◌∙◌, ◌+◌, arith}, lemmas.Simd.get_or-chunk}
 use Rattle.tally_base.proofs.block.Block.groups_from.Goals as goal
 
 pub returns-clause-groups : goal.returns-clause-groups

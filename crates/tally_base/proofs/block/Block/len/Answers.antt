@@ -1,5 +1,4 @@
-use Rattle.std.proofs.Common.{sym}
-use Rattle.tally_base.{specs.Columns.row, proofs.BlockRows.length-rows}
+use Rattle.{std.proofs.Common.sym, tally_base.{specs.Columns.row, proofs.BlockRows.length-rows}}
 use Rattle.tally_base.proofs.block.Block.len.Goals as goal
 
 pub returns-clause-value : goal.returns-clause-value

@@ -1,4 +1,4 @@
-use Rattle.std.{proofs.lemmas.Simd.get_or-chunk}
+use Rattle.std.proofs.lemmas.Simd.{get_or-chunk}
 use Rattle.tally_base.proofs.block.Block.marks_from.Goals as goal
 
 pub returns-clause-marks : goal.returns-clause-marks

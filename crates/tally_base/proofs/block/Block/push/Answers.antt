@@ -1,5 +1,5 @@
-use Rattle.std.proofs.Common.{◌∙◌, ◌++◌, ◌∷◌, [], ap, refl, arith, rules}
-use Rattle.tally_base.{specs.Columns.{row, rows}, proofs.BlockRows.rows-push, proofs.Sorted.none-push}
+use Rattle.{std.proofs.Common.{◌∙◌, ◌++◌, ◌∷◌, [], ap, refl, arith, rules}, tally_base.{specs.Columns.{row, rows}, proofs.BlockRows.rows-push}}
+use Rattle.tally_base.proofs.Sorted.{none-push}
 use Rattle.tally_base.proofs.block.Block.push.Goals as goal
 
 pub returns-clause-more : goal.returns-clause-more

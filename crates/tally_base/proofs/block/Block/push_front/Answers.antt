@@ -1,5 +1,4 @@
-use Rattle.std.proofs.Common.{◌∙◌, ap, rules, arith, ◌++◌}
-use Rattle.tally_base.{specs.Columns.{event_at, rows}, proofs.BlockRows.rows-copied}
+use Rattle.{std.proofs.Common.{◌∙◌, ap, rules, arith, ◌++◌}, tally_base.{specs.Columns.{event_at, rows}, proofs.BlockRows.rows-copied}}
 use Rattle.tally_base.proofs.block.Block.push_front.Goals as goal
 
 pub returns-clause-more : goal.returns-clause-more

@@ -1,5 +1,4 @@
-use Rattle.std.proofs.Common.{◌<◌, length, rules, arith}
-use Rattle.tally_base.proofs.Sorted.{none-put}
+use Rattle.{std.proofs.Common.{◌<◌, length, rules, arith}, tally_base.proofs.Sorted.none-put}
 use Rattle.tally_base.proofs.block.Block.put.Goals as goal
 
 pub invariant_of-self-clause-markers : goal.invariant_of-self-clause-markers

@@ -1,5 +1,4 @@
-use Rattle.std.proofs.Common.{◌≡◌, ◌<◌, ℕ, min, slice_index}
-use Rattle.tally_base.specs.Columns.{code_at, groups_at, sorted}
+use Rattle.{std.proofs.Common.{◌≡◌, ◌<◌, ℕ, min, slice_index}, tally_base.specs.Columns.{code_at, groups_at, sorted}}
 use Rattle.tally_base.proofs.block.Block.sort_by.Given as goal
 
 abbrev pub invariant-loop-at : goal.invariant-loop-at

@@ -1,5 +1,5 @@
-use Rattle.std.proofs.Common.{◌≡◌, ◌<◌, ℕ, [], min, slice_index, slice_index_or}
-use Rattle.tally_base.{specs.Gates.side_of, specs.Columns.{code_at, dtime_at, groups_at, sorted}}
+use Rattle.{std.proofs.Common.{◌≡◌, ◌<◌, ℕ, [], min, slice_index, slice_index_or}, tally_base.specs.{Gates.side_of, Columns.{code_at, dtime_at, groups_at}}}
+use Rattle.tally_base.specs.Columns.{sorted}
 use Rattle.tally_base.proofs.block.Block.sort_by_gate.Given as goal
 
 abbrev pub invariant-loop-at : goal.invariant-loop-at

@@ -1,9 +1,8 @@
-use Rattle.std.{proofs.Common.{rules, arith, ◌≤◌, ◌≡◌, ◌++◌, ap, sym, ◌∙◌, length, ℕ, List}, proofs.Math.Logic.{∥∥₁_map, ∥∥₁_elim}, proofs.Props.props}
-use Rattle.tally_base.specs.RecordTypes.{mode_of}
-use Rattle.ptu_definitions.{specs.Words.words_of, specs.Streams.StreamSettings, proofs.Firsts.record_refusal-inside}
-use Rattle.record_stream.{specs.Standing.{carried_by, HasStreamed}}
-use Rattle.gate_plan.specs.Groups.{sorting_of}
-use Rattle.tally_engine.{specs.contracts.part.PartTally.TheImpl.ghosts, specs.Give.gave_none, proofs.Feeds.{same_map, settled-fed, fed_whole, no_write, where_taken, of_faults, kept_within}, proofs.Takes.standing_on}
+use Rattle.std.proofs.{Common.{rules, arith, ◌≤◌, ◌≡◌, ◌++◌, ap, sym, ◌∙◌, length, ℕ, List}, Math.Logic.{∥∥₁_map, ∥∥₁_elim}, Props.props}
+use Rattle.{tally_base.specs.RecordTypes.mode_of, ptu_definitions.{specs.{Words.words_of, Streams.StreamSettings}, proofs.Firsts.record_refusal-inside}}
+use Rattle.{record_stream.specs.Standing.{carried_by, HasStreamed}, gate_plan.specs.Groups.sorting_of}
+use Rattle.tally_engine.{specs.{contracts.part.PartTally.TheImpl.ghosts, Give.gave_none}, proofs.Feeds.{same_map, settled-fed, fed_whole, no_write}}
+use Rattle.tally_engine.proofs.{Feeds.{where_taken, of_faults, kept_within}, Takes.standing_on}
 use Rattle.tally_engine.proofs.engine.Engine.count.Goals as goal
 
 pub invariant_of-self-clause-streams : goal.invariant_of-self-clause-streams

@@ -1,6 +1,5 @@
-use Rattle.std.proofs.Common.{◌≡◌, ◌++◌, ◌∙◌, None, Some, sym}
-use Rattle.record_stream.{specs.Standing.refused_with, proofs.Wraps.refused-bytes, proofs.Lasts.streamed-shown}
-use Rattle.tally_engine.proofs.Feeds.{no_write, engine_within}
+use Rattle.{std.proofs.Common.{◌≡◌, ◌++◌, ◌∙◌, None, Some, sym}, record_stream.{specs.Standing.refused_with, proofs.Wraps.refused-bytes}}
+use Rattle.{record_stream.proofs.Lasts.streamed-shown, tally_engine.proofs.Feeds.{no_write, engine_within}}
 use Rattle.tally_engine.proofs.engine.Engine.feed.Goals as goal
 
 pub returns-in-Some-clause-taken : goal.returns-in-Some-clause-taken

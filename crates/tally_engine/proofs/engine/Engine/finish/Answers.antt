@@ -1,8 +1,7 @@
-use Rattle.std.proofs.Common.{rules, ◌≡◌, All, false, refl, sym, ◌∙◌, length, None, Some}
-use Rattle.tally_base.proofs.Sums.{whole_slice}
-use Rattle.record_stream.{specs.Standing.refused_with, proofs.Lasts.streamed-refused}
-use Rattle.tally_engine.{specs.contracts.part.PartTally.TheImpl.ghosts, proofs.Tables.part_worked, specs.Give.{gave_none}, specs.Engine.{engine_sorting, reading_of}, specs.Parts.AllHold, proofs.Feeds.{same_map, no_write, not_written, at_same, rest_got}}
-use Rattle.gate_plan.{specs.Histories.history, proofs.Histories.history-ends}
+use Rattle.{std.proofs.Common.{rules, ◌≡◌, All, false, refl, sym, ◌∙◌, length, None, Some}, tally_base.proofs.Sums.whole_slice}
+use Rattle.{record_stream.{specs.Standing.refused_with, proofs.Lasts.streamed-refused}, tally_engine.specs.contracts.part.PartTally.TheImpl.ghosts}
+use Rattle.tally_engine.{specs.{Give.gave_none, Engine.{engine_sorting, reading_of}, Parts.AllHold}, proofs.{Tables.part_worked, Feeds.{same_map, no_write}}}
+use Rattle.{tally_engine.proofs.Feeds.{not_written, at_same, rest_got}, gate_plan.{specs.Histories.history, proofs.Histories.history-ends}}
 use Rattle.ptu_definitions.specs.Words.{words_of}
 use Rattle.tally_engine.proofs.engine.Engine.finish.Goals as goal
 

@@ -1,10 +1,6 @@
-use Rattle.std.proofs.Common.{[], ◌≡◌, Ok, ◌≤◌, length, rules, arith}
-use Rattle.tally_base.specs.RecordTypes.{mode_of}
-use Rattle.plan_text.{specs.Fits.fits, specs.ReadPlan.plan_view}
-use Rattle.record_stream.specs.Standing.{carried_by}
-use Rattle.tally_engine.proofs.Feeds.{kept_within, none_taken}
+use Rattle.{std.proofs.Common.{[], ◌≡◌, Ok, ◌≤◌, length, rules, arith}, tally_base.specs.RecordTypes.mode_of, plan_text.specs.{Fits.fits, ReadPlan.plan_view}}
+use Rattle.{record_stream.specs.Standing.carried_by, tally_engine.proofs.{Feeds.{kept_within, none_taken}, OneByOne.standing_first, Suits.suits_T2}}
 use Rattle.gate_plan.proofs.Histories.{history-none}
-use Rattle.tally_engine.{proofs.OneByOne.standing_first, proofs.Suits.suits_T2}
 use Rattle.tally_engine.proofs.engine.Engine.open.Goals as goal
 
 pub invariant_of-result-clause-standing : goal.invariant_of-result-clause-standing

@@ -1,6 +1,5 @@
-use Rattle.std.{proofs.Common.{rules, arith, ◌≤◌, ◌++◌, sym, ◌∙◌, refl, length}, proofs.lemmas.List.length-map, proofs.Math.Logic.{∥∥₁_map, ∥∥₁_elim}, proofs.Props.props}
-use Rattle.ptu_definitions.{specs.Words.words_of, proofs.Firsts.record_refusal-inside}
-use Rattle.record_stream.specs.Standing.{carried_by}
+use Rattle.std.proofs.{Common.{rules, arith, ◌≤◌, ◌++◌, sym, ◌∙◌, refl, length}, lemmas.List.length-map, Math.Logic.{∥∥₁_map, ∥∥₁_elim}, Props.props}
+use Rattle.{ptu_definitions.{specs.Words.words_of, proofs.Firsts.record_refusal-inside}, record_stream.specs.Standing.carried_by}
 use Rattle.tally_engine.{specs.contracts.part.PartTally.TheImpl.ghosts, proofs.Feeds.{no_write, of_faults, kept_within}}
 use Rattle.tally_engine.proofs.engine.Engine.pass.Goals as goal
 

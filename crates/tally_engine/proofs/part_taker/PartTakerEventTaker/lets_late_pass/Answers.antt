@@ -1,4 +1,4 @@
-use Rattle.tally_engine.{specs.contracts.part.PartTally.TheImpl.ghosts, specs.Give.gave_alike}
+use Rattle.tally_engine.specs.{contracts.part.PartTally.TheImpl.ghosts, Give.gave_alike}
 use Rattle.tally_engine.proofs.part_taker.PartTakerEventTaker.lets_late_pass.Goals as goal
 
 pub returns : goal.returns

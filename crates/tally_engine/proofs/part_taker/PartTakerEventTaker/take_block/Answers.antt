@@ -1,5 +1,4 @@
-use Rattle.std.proofs.Common.{rules, arith, ◌≡◌, ◌<◌, length}
-use Rattle.tally_base.{specs.Columns.gathered, proofs.Sums.whole_slice}
+use Rattle.{std.proofs.Common.{rules, arith, ◌≡◌, ◌<◌, length}, tally_base.{specs.Columns.gathered, proofs.Sums.whole_slice}}
 use Rattle.tally_engine.{specs.contracts.part.PartTally.TheImpl.ghosts, proofs.Takes.{can_take, standing_took, gave_block}}
 use Rattle.tally_engine.proofs.part_taker.PartTakerEventTaker.take_block.Goals as goal
 

@@ -1,6 +1,4 @@
-use Rattle.std.proofs.Common.{rules, ◌<◌, ◌∙◌, length}
-use Rattle.tally_base.specs.Settings.{correlation_view}
-use Rattle.tau_cascade.proofs.Shown.{shown_cells, cell_is}
+use Rattle.{std.proofs.Common.{rules, ◌<◌, ◌∙◌, length}, tally_base.specs.Settings.correlation_view, tau_cascade.proofs.Shown.{shown_cells, cell_is}}
 use Rattle.tau_cascade.proofs.cascade.Cascade.cell.Goals as goal
 
 pub returns-clause-pairs : goal.returns-clause-pairs

@@ -1,10 +1,9 @@
-use Rattle.std.{proofs.Common.{rules}, proofs.Props.props, proofs.Math.Logic.∥∥₁_elim, proofs.lemmas.Option.slice_get_read}
-use Rattle.tally_base.specs.Settings.{correlation_view}
-use Rattle.tau_cascade.{proofs.Shown.shown_ring, proofs.Work.{level_within, level_at}, specs.Correlation.photons_of}
+use Rattle.{std.proofs.{Common.rules, Props.props, Math.Logic.∥∥₁_elim, lemmas.Option.slice_get_read}, tally_base.specs.Settings.correlation_view}
+use Rattle.tau_cascade.{proofs.{Shown.shown_ring, Work.{level_within, level_at}}, specs.Correlation.photons_of}
 use Rattle.tau_cascade.proofs.cascade.Cascade.level.Goals as goal
 
-pub returns-clause-lags : goal.returns-clause-lags
-returns-clause-lags c =
+pub returns-clause-sizes : goal.returns-clause-sizes
+returns-clause-sizes c =
     let t = c.args.self.now in
     let at = slice_get_read t.levels.items t.set.levels c.args.level c.index.result.now (search rules) c.requires c.index.ensures in (
       ∥∥₁_elim t.stands (hlevel props) (λ w. (level_at t.closed (correlation_view t.set) t.levels.items _ w.1.through c.args.level c.index.result.now at).has.cells.counts.count),

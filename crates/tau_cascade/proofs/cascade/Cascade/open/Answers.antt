@@ -1,6 +1,5 @@
-use Rattle.std.{proofs.Common.{false, arith, zero-add, rules, ◌≡◌, ℕ, suc, ◌+◌, List, [], ◌∷◌, ◌++◌, length, refl, add-zero}, proofs.lemmas.List.Sums.sum_by_push}
-use Rattle.tally_base.specs.Settings.{CorrelationView}
-use Rattle.tau_cascade.{specs.declared.level.Level.Level, specs.Levels.{LevelIs, Chain}}
+use Rattle.std.proofs.{Common.{false, arith, zero-add, rules, ◌≡◌, ℕ, suc, ◌+◌, List, [], ◌∷◌, ◌++◌, length, refl, add-zero}, lemmas.List.Sums.sum_by_push}
+use Rattle.{tally_base.specs.Settings.CorrelationView, tau_cascade.specs.{declared.level.Level.Level, Levels.{LevelIs, Chain}}}
 use Rattle.tau_cascade.proofs.cascade.Cascade.open.Goals as goal
 
 -- levels to which nothing came

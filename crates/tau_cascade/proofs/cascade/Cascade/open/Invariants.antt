@@ -1,6 +1,4 @@
-use Rattle.std.proofs.Common.{false, ◌≡◌, [], length}
-use Rattle.tally_base.specs.Settings.{correlation_view}
-use Rattle.tau_cascade.specs.Levels.{Chain, spent}
+use Rattle.{std.proofs.Common.{false, ◌≡◌, [], length}, tally_base.specs.Settings.correlation_view, tau_cascade.specs.Levels.{Chain, spent}}
 use Rattle.tau_cascade.proofs.cascade.Cascade.open.Given as goal
 
 abbrev pub invariant-loop-level : goal.invariant-loop-level

@@ -1,6 +1,6 @@
-use Rattle.std.{proofs.Common.{rules, true, length, take, drop, ◌++◌}, proofs.Math.Logic.{∥∥₁_map}}
-use Rattle.tally_base.{proofs.Sums.whole_slice, specs.Settings.correlation_view, specs.Tally.History}
-use Rattle.tau_cascade.{specs.{Correlation.photons_of, StandsFor.StandsFor}, proofs.cascade.CascadeTally.close.{Given.Over, Goals.After-end_all}, proofs.Blocks.may_end}
+use Rattle.{std.proofs.{Common.{rules, true, length, take, drop, ◌++◌}, Math.Logic.∥∥₁_map}, tally_base.proofs.Sums.whole_slice}
+use Rattle.{tally_base.specs.{Settings.correlation_view, Tally.History}, tau_cascade.specs.{Correlation.photons_of, StandsFor.StandsFor}}
+use Rattle.tau_cascade.proofs.{cascade.CascadeTally.close.{Given.Over, Goals.After-end_all}, Blocks.may_end}
 use Rattle.tau_cascade.proofs.cascade.CascadeTally.close.Goals as goal
 
 pub end_all-requires-clause-stands : goal.end_all-requires-clause-stands

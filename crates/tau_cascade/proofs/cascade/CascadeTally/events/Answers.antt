@@ -1,6 +1,6 @@
-use Rattle.std.{proofs.Common.{rules, length, take, drop, ◌+◌, ◌++◌}, proofs.Math.Logic.{∥∥₁_map}}
-use Rattle.tally_base.{proofs.Sums.whole_slice, specs.Columns.events_in, specs.Tally.History}
-use Rattle.tau_cascade.{specs.StandsFor.StandsFor, proofs.cascade.CascadeTally.events.{Given.Over, Goals.After-give_block}, proofs.Blocks.{may_give_block, block_counts}}
+use Rattle.{std.proofs.{Common.{rules, length, take, drop, ◌+◌, ◌++◌}, Math.Logic.∥∥₁_map}, tally_base.{proofs.Sums.whole_slice, specs.Columns.events_in}}
+use Rattle.{tally_base.specs.Tally.History, tau_cascade.{specs.StandsFor.StandsFor, proofs.cascade.CascadeTally.events.{Given.Over, Goals.After-give_block}}}
+use Rattle.tau_cascade.proofs.Blocks.{may_give_block, block_counts}
 use Rattle.tau_cascade.proofs.cascade.CascadeTally.events.Goals as goal
 
 pub give_block-requires-clause-stands : goal.give_block-requires-clause-stands

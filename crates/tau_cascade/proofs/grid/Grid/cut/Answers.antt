@@ -1,5 +1,4 @@
-use Rattle.std.proofs.Common.{rules, arith}
-use Rattle.tau_cascade.proofs.{Places.sound, Onward.{stands_cut, is_grid}}
+use Rattle.{std.proofs.Common.{rules, arith}, tau_cascade.proofs.{Places.sound, Onward.{stands_cut, is_grid}}}
 use Rattle.tau_cascade.proofs.grid.Grid.cut.Goals as goal
 
 pub returns : goal.returns

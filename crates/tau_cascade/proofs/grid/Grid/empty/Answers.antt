@@ -1,5 +1,4 @@
-use Rattle.std.proofs.Common.{rules, arith}
-use Rattle.tau_cascade.{proofs.Close.zeros_at}
+use Rattle.{std.proofs.Common.{rules, arith}, tau_cascade.proofs.Close.zeros_at}
 use Rattle.tau_cascade.proofs.grid.Grid.empty.Goals as goal
 
 pub returns : goal.returns

@@ -1,6 +1,6 @@
-use Rattle.std.{proofs.Common.{◌≡◌, ℕ, ◌+◌, ◌*◌, ◌-◌, ◌≤◌, List, length, take, drop, rules, arith}, specs.List.{sum_by, range_with_len}, proofs.lemmas.List.{length-take-le, length-drop}}
-use Rattle.lag_ring.proofs.Sums.{part-at}
-use Rattle.tau_cascade.{specs.Grid.filled, proofs.{Dots.{range_parts, range_agree}, Gridded.filled_few}}
+use Rattle.std.proofs.{Common.{◌≡◌, ℕ, ◌+◌, ◌*◌, ◌-◌, ◌≤◌, List, length, take, drop, rules, arith}, lemmas.List.{length-take-le, length-drop}}
+use Rattle.{std.specs.List.{sum_by, range_with_len}, lag_ring.proofs.Sums.part-at, tau_cascade.{specs.Grid.filled, proofs.Dots.{range_parts, range_agree}}}
+use Rattle.tau_cascade.proofs.Gridded.{filled_few}
 use Rattle.tau_cascade.proofs.grid.Grid.is_dense.Goals as goal
 
 -- the places of one row more

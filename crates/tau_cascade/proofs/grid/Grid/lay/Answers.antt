@@ -1,5 +1,4 @@
-use Rattle.std.proofs.Common.{arith, ◌-◌, length}
-use Rattle.tau_cascade.{proofs.Close.{from_first, over}}
+use Rattle.{std.proofs.Common.{arith, ◌-◌, length}, tau_cascade.proofs.Close.{from_first, over}}
 use Rattle.tau_cascade.proofs.grid.Grid.lay.Goals as goal
 
 pub overflow_sub-span-2 : goal.overflow_sub-span-2

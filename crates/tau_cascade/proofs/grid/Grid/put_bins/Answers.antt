@@ -1,5 +1,5 @@
-use Rattle.std.{proofs.Common.{◌≡◌, ℕ, ◌+◌, ◌-◌, ◌<◌, Bool, cond, ltb, List, [], ◌∷◌, ◌++◌, length, set, take, append_assoc, arith, rules}, proofs.lemmas.List.{take_more_set, take-set-le, append-nil}, proofs.lemmas.List.FromFn.filter_of_map_range_with_len_more}
-use Rattle.lag_ring.specs.declared.ring.Entry.{Entry}
+use Rattle.std.proofs.Common.{◌≡◌, ℕ, ◌+◌, ◌-◌, ◌<◌, Bool, cond, ltb, List, [], ◌∷◌, ◌++◌, length, set, take, append_assoc, arith, rules}
+use Rattle.{std.proofs.lemmas.List.{take_more_set, take-set-le, append-nil, FromFn.filter_of_map_range_with_len_more}, lag_ring.specs.declared.ring.Entry.Entry}
 use Rattle.tau_cascade.specs.Grid.{bin_at, photons}
 use Rattle.tau_cascade.proofs.grid.Grid.put_bins.Goals as goal
 

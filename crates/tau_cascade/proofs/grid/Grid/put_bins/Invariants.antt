@@ -1,5 +1,4 @@
-use Rattle.std.{proofs.Common.{◌≡◌, ◌+◌, ◌-◌, ◌≤◌, ltb, ◌++◌, map, take}, specs.List.{range_with_len, filter}}
-use Rattle.tau_cascade.specs.Grid.{bin_at, photons}
+use Rattle.{std.{proofs.Common.{◌≡◌, ◌+◌, ◌-◌, ◌≤◌, ltb, ◌++◌, map, take}, specs.List.{range_with_len, filter}}, tau_cascade.specs.Grid.{bin_at, photons}}
 use Rattle.tau_cascade.proofs.grid.Grid.put_bins.Given as goal
 
 abbrev pub invariant-loop-place : goal.invariant-loop-place

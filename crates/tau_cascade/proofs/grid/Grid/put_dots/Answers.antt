@@ -1,6 +1,6 @@
-use Rattle.std.{proofs.Common.{rules, ◌≡◌, ℕ, ◌+◌, ◌-◌, ◌*◌, ◌/◌, ◌≤◌, List, length, refl, get_or, take, drop, arith}, specs.List.{sum_by, range_with_len}, proofs.Math.Nat.mul-le-mul, proofs.lemmas.List.{get_or_past, length-take, length-take-le, length-drop, get_or-take}, proofs.lemmas.List.Edits.fill_by_more}
-use Rattle.lag_ring.proofs.Sums.{part-at}
-use Rattle.tau_cascade.{specs.Grid.{product, dots}, proofs.Dots.range_agree}
+use Rattle.std.proofs.{Common.{rules, ◌≡◌, ℕ, ◌+◌, ◌-◌, ◌*◌, ◌/◌, ◌≤◌, List, length, refl, get_or, take, drop, arith}, Math.Nat.mul-le-mul}
+use Rattle.std.{proofs.lemmas.List.{get_or_past, length-take, length-take-le, length-drop, get_or-take, Edits.fill_by_more}, specs.List.sum_by}
+use Rattle.{std.specs.List.range_with_len, lag_ring.proofs.Sums.part-at, tau_cascade.{specs.Grid.{product, dots}, proofs.Dots.range_agree}}
 use Rattle.tau_cascade.proofs.grid.Grid.put_dots.Goals as goal
 
 -- no place of a part has more than those of a part around it

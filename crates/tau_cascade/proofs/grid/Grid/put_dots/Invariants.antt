@@ -1,5 +1,4 @@
-use Rattle.std.proofs.Common.{◌≡◌, ℕ, ◌+◌, ◌-◌, ◌*◌, ◌/◌, ◌<◌, get_or}
-use Rattle.tau_cascade.specs.Grid.{dots}
+use Rattle.{std.proofs.Common.{◌≡◌, ℕ, ◌+◌, ◌-◌, ◌*◌, ◌/◌, ◌<◌, get_or}, tau_cascade.specs.Grid.dots}
 use Rattle.tau_cascade.proofs.grid.Grid.put_dots.Given as goal
 
 abbrev pub invariant-loop-p : goal.invariant-loop-p

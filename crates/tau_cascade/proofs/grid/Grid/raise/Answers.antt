@@ -1,5 +1,4 @@
-use Rattle.std.{proofs.Common.{map, arith}, proofs.Math.Logic.∥∥₁_map}
-use Rattle.tau_cascade.specs.Bins.{raised}
+use Rattle.{std.proofs.{Common.{map, arith}, Math.Logic.∥∥₁_map}, tau_cascade.specs.Bins.raised}
 use Rattle.tau_cascade.proofs.grid.Grid.raise.Goals as goal
 
 pub put_open-requires : goal.put_open-requires

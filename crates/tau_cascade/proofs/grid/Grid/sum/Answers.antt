@@ -1,6 +1,10 @@
-use Rattle.std.{proofs.Common.{◌≡◌, ◌∙◌, ℕ, ◌+◌, ◌-◌, ◌*◌, ◌/◌, ◌<◌, ◌≤◌, ◌&&◌, leb, ltb, true, eqb, cond, List, ◌++◌, length, get_or, map, take, drop, sym, arith, rules}, specs.List.{sum_by, range_with_len}, proofs.lemmas.Bool.Decides.nat_tests, proofs.lemmas.List.{places, get_or_append_left, get_or-append_right, get_or-take, get_or-drop, length-take-le, take-append-drop, take-map}, proofs.lemmas.List.Sums.{sum_by-append, sum_by-le-sum_by}}
-use Rattle.lag_ring.{specs.declared.ring.Entry.Entry, specs.declared.window.Side.TheVariants.{First, Second}, specs.Bytes.{weight_of, weight_at}, proofs.Sums.{sum_by-agree, sum_by-same, sum_by-zero, window-before, weight_at-le}}
-use Rattle.tau_cascade.{proofs.Places.mid_put, specs.declared.grid.Grid.Grid, specs.Levels.weight_before, specs.Dense.paired, specs.Bins.{raised, IsSpaced}, specs.Grid.{photons, Stands}, proofs.Close.paired-all, proofs.Passes.spaced_back, proofs.Dots.{range_agree, by_bins}}
+use Rattle.std.proofs.Common.{◌≡◌, ◌∙◌, ℕ, ◌+◌, ◌-◌, ◌*◌, ◌/◌, ◌<◌, ◌≤◌, ◌&&◌, leb, ltb, true, eqb, cond, List, ◌++◌, length, get_or, map, take, drop, sym}
+use Rattle.std.proofs.{Common.{arith, rules}, lemmas.{Bool.Decides.nat_tests, List.{places, get_or_append_left, get_or-append_right, get_or-take, get_or-drop}}}
+use Rattle.std.{proofs.lemmas.List.{length-take-le, take-append-drop, take-map, Sums.{sum_by-append, sum_by-le-sum_by}}, specs.List.{sum_by, range_with_len}}
+use Rattle.lag_ring.{specs.{declared.{ring.Entry.Entry, window.Side.TheVariants.{First, Second}}, Bytes.{weight_of, weight_at}}, proofs.Sums.sum_by-agree}
+use Rattle.{lag_ring.proofs.Sums.{sum_by-same, sum_by-zero, window-before, weight_at-le}, tau_cascade.proofs.{Places.mid_put, Close.paired-all}}
+use Rattle.tau_cascade.{proofs.{Passes.spaced_back, Dots.{range_agree, by_bins}}, specs.{declared.grid.Grid.Grid, Levels.weight_before, Dense.paired}}
+use Rattle.tau_cascade.specs.{Bins.{raised, IsSpaced}, Grid.{photons, Stands}}
 use borrow.Rule.Slice.PartMut.{put_mid, post_of, same_len_mid, mid_len}
 use Rattle.tau_cascade.proofs.grid.Grid.sum.Goals as goal
 
@@ -77,20 +81,20 @@ module _ (g : Grid) (es : List Entry) (stands : Stands g es) (window part : List
 
 pub put_firsts-requires-clause-fit : goal.put_firsts-requires-clause-fit
 put_firsts-requires-clause-fit c =
-    room c.args.self.now _ (c.requires.bins.1.on c.requires.bins.2) c.args.window.now _ (c.told-window, search (rules, arith))
-    c.copy_from_slice.ensures.after c.requires.zeros.0 (map (raised c.args.bins.levels) (take c.args.bins.start c.args.bins.list.now))
-    (rw (← take-map) c.requires.bins.3)
+    room c.args.self.now _ (c.requires.0.on c.requires.1) c.args.window.now.places _ (search (rules, arith), search (rules, arith))
+    c.copy_from_slice.ensures.after c.args.window.now.empty (map (raised c.args.bins.levels) (take c.args.bins.start c.args.bins.list.now))
+    (rw (← take-map) c.requires.2)
 
 pub clear_window-requires-clause-behind : goal.clear_window-requires-clause-behind
 clear_window-requires-clause-behind c = λ p from upto.
-    clear c.args.self.now _ (c.requires.bins.1.on c.requires.bins.2) c.args.window.now _ (c.told-window, search (rules, arith))
-    c.copy_from_slice.ensures.after c.requires.zeros.0 _ _ (split c.args.bins.levels c.args.bins.start c.args.bins.list.now) _ c.put_firsts.ensures.same
-    c.put_firsts.ensures.have p (omega (arith, from, c.requires.bins.2)) upto
+    clear c.args.self.now _ (c.requires.0.on c.requires.1) c.args.window.now.places _ (search (rules, arith), search (rules, arith))
+    c.copy_from_slice.ensures.after c.args.window.now.empty _ _ (split c.args.bins.levels c.args.bins.start c.args.bins.list.now) _ c.put_firsts.ensures.same
+    c.put_firsts.ensures.have p (omega (arith, from, c.requires.1)) upto
 
 pub returns-clause-sums : goal.returns-clause-sums
 returns-clause-sums c = λ p inside.
-    let on = c.requires.bins.1.on c.requires.bins.2 in
-    let found = pairs c.args.self.now _ on c.args.window.now _ (c.told-window, search (rules, arith)) c.copy_from_slice.ensures.after c.requires.zeros.0
+    let on = c.requires.0.on c.requires.1 in
+    let found = pairs c.args.self.now _ on c.args.window.now.places _ (search (rules, arith), search (rules, arith)) c.copy_from_slice.ensures.after c.args.window.now.empty
     _ _ (split c.args.bins.levels c.args.bins.start c.args.bins.list.now) _ c.put_firsts.ensures.same c.put_firsts.ensures.have ((c.args.self.now.len + 16 - 1) / 16)
-    (p + c.args.range.skipped + 1) (omega arith) (omega (arith, on.few)) (omega arith) (omega (arith, inside, c.args.range.within)) c.requires.bins.0.sorted in
-    rw (take-map (raised c.args.bins.levels) c.args.bins.start c.args.bins.list.now) (omega (arith, c.put_dots.ensures.sums p inside ∙ found, c.requires.zeros.1 p))
+    (p + c.args.range.skipped + 1) (omega arith) (omega (arith, on.few)) (omega arith) (omega (arith, inside, c.args.range.within)) c.args.bins.sorted in
+    rw (take-map (raised c.args.bins.levels) c.args.bins.start c.args.bins.list.now) (c.put_dots.ensures.sums p inside ∙ found)

@@ -1,26 +1,22 @@
-use Rattle.std.{proofs.lemmas.List.{length-drop, length-map}, proofs.Common.{◌≡◌, ◌+◌, ◌-◌, length, map, drop, refl, arith, rules}, proofs.Props.props, proofs.Math.Logic.∥∥₁_elim, proofs.lemmas.Grind.common_steps}
-use Rattle.tally_base.specs.Settings.{correlation_view}
-use Rattle.tau_cascade.{specs.Bins.{raised, merged_all}, specs.Levels.PairsMore, proofs.Few.counts_all, proofs.Passes.spaced_drop, proofs.Paired.all_fit, proofs.Near.{Standing, paired_merged, cells_near, keeps_near, dense_near, keeps_stand, dense_stands}, proofs.level.Level.shut.Given.{Over}, proofs.level.Level.shut.Goals.{in-Some, in-None, After-saturating_sub-before}}
+use Rattle.std.proofs.{lemmas.{List.{length-drop, length-map}, Grind.common_steps}, Common.{◌≡◌, ◌+◌, ◌-◌, length, map, drop, refl, arith, rules}, Props.props}
+use Rattle.{std.proofs.Math.Logic.∥∥₁_elim, tally_base.specs.Settings.correlation_view, tau_cascade.specs.{Bins.{raised, merged_all}, Levels.PairsMore}}
+use Rattle.tau_cascade.proofs.{Few.counts_all, Passes.spaced_drop, Paired.all_fit, Near.{Standing, paired_merged, cells_near, keeps_near, dense_near}}
+use Rattle.tau_cascade.proofs.{Near.{keeps_stand, dense_stands}, level.Level.shut.{Given.Over, Goals.{in-Some, in-None, After-saturating_sub-before}}}
 use Rattle.tau_cascade.proofs.level.Level.shut.Goals as goal
 
 standing : (g : Over) (c : After-saturating_sub-before g) → Standing (correlation_view c.args.set.now) c.args.level c.skipped_lags-skipped.result c.args.self.now.ring c.args.bins.levels c.args.bins.start c.args.bins.list.now c.saturating_sub-before.result
 standing g c = search (rules, arith)
 
-pub pair_all-requires-clause-bins : goal.pair_all-requires-clause-bins
-pair_all-requires-clause-bins g c = (
-  c.requires.list.0,
-  λ p inside.
-      rw (c.requires.list.1, ← paired_merged (p + c.skipped_lags-skipped.result + 1) (omega arith) c.args.self.now.ring.entries) (∥∥₁_elim c.requires.stands (hlevel props) (λ w.
-      all_fit _ _ _ c.skipped_lags-skipped.ensures.skipped _ _ _ _ _ w.2 p inside)),
-  c.requires.room.2,
-  c.requires.list.2,
-)
+pub pair_all-requires-clause-fits : goal.pair_all-requires-clause-fits
+pair_all-requires-clause-fits g c = λ p inside.
+    rw (c.requires.ring, ← paired_merged (p + c.skipped_lags-skipped.result + 1) (omega arith) c.args.self.now.ring.entries)
+    (∥∥₁_elim c.requires.stands (hlevel props) (λ w. all_fit _ _ _ c.skipped_lags-skipped.ensures.skipped _ _ _ _ _ w.2 p inside))
 
 pub keep_dense-self-requires : goal.keep_dense-self-requires
 keep_dense-self-requires g c =
     let at = c.place_from.ensures c.in-Some.place c.in-Some.is in
     let here = standing g (goal.at.keep_dense-self-requires g c).After-saturating_sub-before in
-    let grid = (rw (← c.pair_all.ensures.scratch.1) at c.requires.grid.0) in
+    let grid = (rw (← c.pair_all.ensures.grid) at c.requires.grid.0) in
     let kept = dense_stands here _ c.requires.stands c.pair_all.new.scratch.grid c.in-Some.place (grid.on at.0) at.1 in
     record { grid = search (rules, arith); spare = search (rules, arith, at.2, kept.2); rising = kept.0; room = kept.1 }
 
@@ -33,10 +29,10 @@ pub returns-clause-shuts : goal.returns-clause-shuts
 returns-clause-shuts g c =
     let here = standing g (goal.at.returns-clause-shuts g c).After-saturating_sub-before in
     let spent = c.pair_all.ensures.spends in
-    let grid = (rw (← c.pair_all.ensures.scratch.1) at c.requires.grid.0) in
+    let grid = (rw (← c.pair_all.ensures.grid) at c.requires.grid.0) in
     let es = drop c.args.bins.start (map (raised c.args.bins.levels) c.args.bins.list.now) in
     let long : length es ≡ length c.args.bins.list.now - c.args.bins.start = omega (arith, length-drop c.args.bins.start (map (raised c.args.bins.levels) c.args.bins.list.now), length-map c.args.bins.list.now (raised c.args.bins.levels)) in
-    let all = (rw long at (counts_all c.args.scratch.now.grid es c.requires.grid.0 (spaced_drop 0 c.args.bins.start _ c.requires.list.0.sorted))) in
+    let all = (rw long at (counts_all c.args.scratch.now.grid es c.requires.grid.0 (spaced_drop 0 c.args.bins.start _ c.args.bins.sorted))) in
     let more : PairsMore c.args.self.now.paired c.pair_all.new.paired (length (merged_all es)) = omega (arith, c.pair_all.ensures.noted, c.requires.few, all) in
     elim c.match-place_from.branch [
       | in-Some w ↦

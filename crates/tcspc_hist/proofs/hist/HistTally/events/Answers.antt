@@ -1,5 +1,5 @@
-use Rattle.std.proofs.Common.{◌≡◌, ◌/◌, false, length, rules, arith, length-append, nat_le, ◌==◌}
-use Rattle.tally_base.{specs.Settings.hist_view, specs.Columns.{item, events_in}, proofs.BlockRows.length-rows, proofs.Floors.greatest_block, proofs.Sums.whole_slice}
+use Rattle.{std.proofs.Common.{◌≡◌, ◌/◌, false, length, rules, arith, length-append, nat_le, ◌==◌}, tally_base.specs.{Settings.hist_view, Columns.item}}
+use Rattle.tally_base.{specs.Columns.events_in, proofs.{BlockRows.length-rows, Floors.greatest_block, Sums.whole_slice}}
 use Rattle.tcspc_hist.proofs.Blocks.{count-append}
 use Rattle.tcspc_hist.proofs.hist.HistTally.events.Goals as goal
 

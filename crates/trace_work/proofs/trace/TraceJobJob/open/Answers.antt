@@ -1,12 +1,9 @@
-use Rattle.std.{proofs.Common.{◌∙◌, ◌≡◌, sym, ap, arith, rules, [], Some, Ok, append-nil}, proofs.lemmas.Result.err_from_is_err_and}
-use Rattle.tally_base.{specs.declared.settings.TraceSet.TraceSet, specs.Settings.{trace_view, TraceView}, specs.declared.header.Header.Header, specs.RecordTypes.mode_of}
-use Rattle.plan_text.{specs.ReadPlan.plan_view, specs.Plan.PlanView, specs.Fits.fits}
-use Rattle.gate_plan.{specs.Groups.sorting_of, specs.Shifting.{sorting, Sorting}, specs.Histories.reading_by, proofs.Histories.history-none}
-use Rattle.record_stream.specs.Standing.{how_of}
-use Rattle.long_trace.{specs.LongTrace.set_of, specs.Texts.{first_line, open_text}}
-use Rattle.command_work.proofs.RestEnds.{refused-none, opens-misfit, opens-wrote, opens-cut}
-use Rattle.ptu_definitions.{specs.Words.words_of, specs.Streams.StreamSettings}
-use Rattle.trace_work.specs.TraceOutcomes.{settled_before, words_traced, traces, traces_by}
+use Rattle.std.proofs.{Common.{◌∙◌, ◌≡◌, sym, ap, arith, rules, [], Some, Ok, append-nil}, lemmas.Result.err_from_is_err_and}
+use Rattle.tally_base.specs.{declared.{settings.TraceSet.TraceSet, header.Header.Header}, Settings.{trace_view, TraceView}, RecordTypes.mode_of}
+use Rattle.{plan_text.specs.{ReadPlan.plan_view, Plan.PlanView, Fits.fits}, gate_plan.specs.{Groups.sorting_of, Shifting.{sorting, Sorting}}}
+use Rattle.{gate_plan.{specs.Histories.reading_by, proofs.Histories.history-none}, record_stream.specs.Standing.how_of, long_trace.specs.LongTrace.set_of}
+use Rattle.{long_trace.specs.Texts.{first_line, open_text}, command_work.proofs.RestEnds.{refused-none, opens-misfit, opens-wrote, opens-cut}}
+use Rattle.{ptu_definitions.specs.{Words.words_of, Streams.StreamSettings}, trace_work.specs.TraceOutcomes.{settled_before, words_traced, traces, traces_by}}
 use Rattle.trace_work.proofs.trace.TraceJobJob.open.Goals as goal
 
 -- the trace of no bytes
@@ -19,7 +16,8 @@ text-none : (set : TraceView) (by : Sorting) (how : StreamSettings) → words_tr
 text-none set by how = ap (open_text set) (settled-none by how) ∙ append-nil (first_line set)
 
 -- a reader of a plan that suits is told of as the plan is
-traces-same : (set set' : TraceView) (plan : PlanView) (header : Header) (by : Sorting) (how : StreamSettings) → fits (mode_of header.record_type) plan ≡ Ok tt → set' ≡ set → by ≡ sorting plan → how ≡ reading_by plan header → traces set' by how ≡ traces_by (Some set) plan header
+traces-same : (set set' : TraceView) (plan : PlanView) (header : Header) (by : Sorting) (how : StreamSettings) → fits (mode_of header.record_type) plan ≡ Ok tt
+    → set' ≡ set → by ≡ sorting plan → how ≡ reading_by plan header → traces set' by how ≡ traces_by (Some set) plan header
 traces-same set set' plan header by how suits same_set same_sorting same_how = search (rules, arith)
 
 pub returns-in_err-fits-clause-opens : goal.returns-in_err-fits-clause-opens

@@ -1,5 +1,4 @@
-use Rattle.std.proofs.lemmas.Result.{err_from_is_err_and}
-use Rattle.trace_work.proofs.TraceSteps.{Traced-late, Traced-one, TracedShort-one}
+use Rattle.{std.proofs.lemmas.Result.err_from_is_err_and, trace_work.proofs.TraceSteps.{Traced-late, Traced-one, TracedShort-one}}
 use Rattle.trace_work.proofs.trace.TraceLinesEventTaker.take.Goals as goal
 
 pub returns-then-late-clause-follows : goal.returns-then-late-clause-follows

@@ -1,5 +1,4 @@
-use Rattle.std.{proofs.Common.{◌<◌, [], length, arith, rules, sym, append-nil}, proofs.lemmas.Result.{err_from_is_err_and}}
-use Rattle.tally_base.specs.Columns.{gathered}
+use Rattle.{std.proofs.{Common.{◌<◌, [], length, arith, rules, sym, append-nil}, lemmas.Result.err_from_is_err_and}, tally_base.specs.Columns.gathered}
 use Rattle.trace_work.proofs.TraceSteps.{Traced-block, TracedShort-block, block-in_order, block-below, block-length}
 use Rattle.trace_work.proofs.trace.TraceLinesEventTaker.take_block.Goals as goal
 
