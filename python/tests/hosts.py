@@ -37,6 +37,13 @@ for line in sys.stdin:
 """
 signal.signal(signal.SIGINT, signal.default_int_handler)  # for what is started here, where a shell let it be ignored
 QUIET: dict[str, Any] = {"stdout": subprocess.DEVNULL, "stderr": subprocess.DEVNULL, "stdin": subprocess.DEVNULL}
+CALM = {  # dask's looks at itself, which take a fifth of a processor where a scheduler and three workers wait
+    "DASK_DISTRIBUTED__ADMIN__SYSTEM_MONITOR__INTERVAL": "10s",
+    "DASK_DISTRIBUTED__ADMIN__TICK__INTERVAL": "2s",
+    "DASK_DISTRIBUTED__WORKER__MEMORY__MONITOR_INTERVAL": "1s",
+    "DASK_DISTRIBUTED__WORKER__PROFILE__CYCLE": "100s",
+    "DASK_DISTRIBUTED__WORKER__PROFILE__INTERVAL": "10s",
+}
 
 
 def why_not() -> str:
@@ -160,7 +167,7 @@ def is_alive(process: int) -> bool:
 
 def surroundings(**more: str) -> dict[str, str]:
     """The environment of a command: a connection that is down for eleven seconds, which is the least, is given up."""
-    return os.environ | {"PYTHONPATH": PACKAGE, "DASK_DISTRIBUTED__COMM__TIMEOUTS__TCP": "11s"} | more
+    return os.environ | CALM | {"PYTHONPATH": PACKAGE, "DASK_DISTRIBUTED__COMM__TIMEOUTS__TCP": "11s"} | more
 
 
 class Network:

@@ -34,16 +34,16 @@ import pytest
 
 ROOT = Path(__file__).resolve().parents[2]
 MODULES = {  # with the tests of each
-    "fits": ["test_fits.py", "test_steered.py"],
-    "_fitting": ["test_fitting.py", "test_steered.py", "test_fits.py"],
+    "fits": ["test_fits.py", "test_steered.py", "test_axes.py"],
+    "_fitting": ["test_fitting.py", "test_steered.py", "test_fits.py", "test_axes.py"],
     "segments": ["test_segments.py", "test_edges.py"],
     "fcs": ["test_fcs.py"],
-    "pixels": ["test_pixels.py"],
-    "antibunching": ["test_fitting.py", "test_antibunching.py", "test_edges.py", "test_fits.py", "test_segments.py", "test_steered.py"],
+    "pixels": ["test_pixels.py", "test_axes.py"],
+    "antibunching": ["test_fitting.py", "test_antibunching.py", "test_edges.py", "test_fits.py", "test_segments.py", "test_steered.py", "test_axes.py"],
     "intensity": ["test_intensity.py"],
     "phasors": ["test_fits.py", "test_edges.py", "test_pixels.py"],
     "scans": ["test_scans.py", "test_edges.py"],
-    "bursts": ["test_bursts.py", "test_smfret.py", "test_edges.py"],
+    "bursts": ["test_bursts.py", "test_smfret.py", "test_edges.py", "test_axes.py"],
     "smfret": ["test_smfret.py"],
     "photon_hdf5": ["test_photon_hdf5.py"],
     "events": ["test_events.py", "test_cut.py", "test_edges.py"],

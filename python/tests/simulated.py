@@ -135,12 +135,13 @@ def picture(path: Path) -> Path:
     return made.write(path, "HydraHarp2T3", events, tick=1e-6)
 
 
-def told_over_scatter(found: Any, known: dict[str, float], variances: Any = None) -> dict[str, float]:
+def told_over_scatter(found: Any, known: dict[str, float], variances: Any = None, away: Any = None) -> dict[str, float]:
     """The errors that fits tell of these parameters over the fits' scatter, which some forty fits so tell to 2 %.
 
     Beside each fit is the best estimate that is straight in the same data, whose scatter is known: what these estimates scatter more
     or less by chance is taken off the fits' scatter, and off the errors that segments tell (control variates). ``variances``: of the
-    points, where their law doesn't tell.
+    points, where their law doesn't tell; ``away``: how far each fit's points are from the truth, shape (fits, points), where its own data
+    don't tell.
     """
     problem, whole = found[0].problem, {**found[0].values, **known}
     spread = np.sqrt(problem.law.variances(problem.curve(whole)) if variances is None else variances)
@@ -148,7 +149,8 @@ def told_over_scatter(found: Any, known: dict[str, float], variances: Any = None
     straight = np.linalg.pinv((np.array(slopes) / spread).T) / spread
     exact = np.linalg.norm(straight * spread, axis=1)
     values, errors = (np.array([[getattr(fit, what)[name] for name in known] for fit in found]) for what in ("values", "errors"))
-    scatter = values.std(axis=0) * exact / np.std([straight @ (fit.data - fit.problem.curve(whole)) for fit in found], axis=0)
+    left = np.array([fit.data - fit.problem.curve(whole) for fit in found]) if away is None else np.asarray(away)
+    scatter = values.std(axis=0) * exact / np.std(left @ straight.T, axis=0)
     told = np.sqrt(np.nanmean(errors**2, axis=0))
     if problem.parts is not None:
         parts = np.array([fit.problem.parts for fit in found])

@@ -386,7 +386,7 @@ def test_a_look_by_keys_alone(window: Window) -> None:
     from selenium.webdriver.common.keys import Keys
 
     def press(*keys: str) -> None:
-        ActionChains(window.driver).send_keys(*keys).perform()  # type: ignore[no-untyped-call]
+        ActionChains(window.driver).send_keys(*keys).perform()
 
     def to(what: str) -> None:
         for _ in range(80):

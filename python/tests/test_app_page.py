@@ -217,7 +217,7 @@ def test_another_result_and_the_keys_of_undo(window: Window) -> None:
     second = window.run()
     assert first != second
     window.js("document.getElementById('result-title').focus()")
-    ActionChains(window.driver).key_down(Keys.CONTROL).send_keys("z").key_up(Keys.CONTROL).perform()  # type: ignore[no-untyped-call]
+    ActionChains(window.driver).key_down(Keys.CONTROL).send_keys("z").key_up(Keys.CONTROL).perform()
     window.until(lambda: window.text("#numbers") == first, "the first result")
     window.click("#redo")
     window.until(lambda: window.text("#numbers") == second, "the second one")

@@ -33,7 +33,7 @@ def browser() -> Iterator[Any]:
     options = Options()
     options.binary_location = str(BROWSER)
     for word in ("--headless", "--no-sandbox", "--disable-gpu", "--disable-dev-shm-usage", "--hide-scrollbars", "--window-size=1000,1400"):
-        options.add_argument(word)  # type: ignore[no-untyped-call]
+        options.add_argument(word)
     driver = webdriver.Chrome(service=Service(str(DRIVER)), options=options)
     driver.set_page_load_timeout(SECONDS)
     yield driver

@@ -57,6 +57,13 @@ def test_fused_bursts_are_apart(times: Any, gap: int, rate: float) -> None:
     assert fused(bursts, gap).tolist() == expected
 
 
+def test_bursts_that_touch_are_one_and_those_a_tick_apart_are_two() -> None:
+    times = np.array([0, 1, 2, 3, 4, 5])
+    for second in (2, 3):
+        found = np.concatenate([find_bursts(some, 1.0, minimum=2, m=2) for some in (times[:3], times[second:])])
+        assert fused(found)[["start", "stop"]].tolist() == ([(0, 5)] if second == 2 else [(0, 2), (3, 5)])
+
+
 def molecules(seed: int = 3) -> Any:
     """Two kinds of molecules on a background, of T3: E of 0.2 and 0.7, S of a half; the ticks 0 to 99 excite the donor."""
     draws = np.random.default_rng(seed)
@@ -160,13 +167,15 @@ def test_the_tail_of_a_background_by_hand() -> None:
     for tail, why in ((4.0, "9 waits of its 12 from 4"), (100.0, "0 waits")):
         with pytest.raises(ptulab.NotKnownError, match=why):
             background(times, seconds=100, tail=tail)
-    with pytest.raises(ptulab.NotKnownError, match="1 photons"):
-        background(times[:1])
+    for many, why in ((1, "1 photons"), (2, "waits of its 1 from")):
+        with pytest.raises(ptulab.NotKnownError, match=why):
+            background(times[:many])
     with pytest.raises(ptulab.NotKnownError, match="39 waits of its 39"):
         background(np.arange(40), tail=1.0, seconds=100)  # all waits are of a tick
+    assert background(np.cumsum([0, *[1] * 9, 2]), tail=1.0).rates == pytest.approx([np.log(1 + 9)])  # one of them is a tick longer
     wrong: list[dict[str, Any]] = [{"seconds": 0.0}, {"F": 0.0}, {"tail": 0.0}]
     for words in wrong:
-        with pytest.raises(ValueError):
+        with pytest.raises(ValueError, match="windows of"):
             background(times, **words)
 
 

@@ -312,9 +312,9 @@ def of_period(lifetime: float, width: float, period: float, photons: float, back
     return photons * decay + background * np.diff(edges) / width
 
 
-def tell_their_scatter(found: Any, known: dict[str, float], variances: Any = None, few: float = 0.0, tolerance: float = 0.1) -> None:
-    """Errors are as the scatter, by default within a tenth, and means as the truth within four of their errors, and ``few`` of the scatter."""
-    assert told_over_scatter(found, known, variances) == pytest.approx(dict.fromkeys(known, 1.0), abs=tolerance)
+def tell_their_scatter(found: Any, known: dict[str, float], variances: Any = None, few: float = 0.0, away: Any = None) -> None:
+    """Errors are as the scatter, within a tenth, and means as the truth within four of their errors, and ``few`` of the scatter."""
+    assert told_over_scatter(found, known, variances, away) == pytest.approx(dict.fromkeys(known, 1.0), abs=0.1)
     for name, value in known.items():
         values = np.array([fit.values[name] for fit in found])
         assert values.mean() == pytest.approx(value, abs=(4 / np.sqrt(len(found)) + few) * values.std())
@@ -361,42 +361,58 @@ TWO = {"amplitude_1": 3e4, "lifetime_1": 0.6, "amplitude_2": 3e4, "lifetime_2": 
 SCATTERED = {"amplitude_1": 1.8e4, "lifetime_1": 2.6, "background": 10.0, "shift": 0.15, "scatter": 2e3}
 
 
-@pytest.mark.parametrize(("known", "longer"), [(TWO, 20), (SCATTERED, 20), (SCATTERED, 1)])
-def test_told_errors_over_a_measured_background_are_their_scatter(known: dict[str, float], longer: int) -> None:
+def counted_over(draws: Any, light: Any, dark: Any, longer: float, many: int) -> Any:
+    """So many measurements of light over a background, and of the background, which was measured so many times longer; how far each point
+    is from what is expected, and the variances of this."""
+    counts, measured = draws.poisson(light + dark, (many, len(light))), draws.poisson(longer * dark, (many, len(light)))
+    return counts, measured, counts - light - measured / longer, light + dark + dark / longer
+
+
+@pytest.mark.parametrize(("known", "longer"), [(TWO, 3), (TWO, 1), (SCATTERED, 0.3), (SCATTERED, 20)])
+def test_told_errors_over_a_measured_background_are_their_scatter(known: dict[str, float], longer: float) -> None:
     """Of two terms, and of one with scattered light; the background rises like a ramp and was measured so many times longer."""
-    draws, ramp = np.random.default_rng(longer), np.linspace(1, 5, 63) / 3
+    draws, ramp = np.random.default_rng(20), np.linspace(1, 5, 63) / 3
     pulse = np.histogram(draws.normal(2.0, 0.25, 1_000_000), 63 * 4, (0, 25.2))[0]
     shape, terms = fits.Convolved(pulse.astype(float), 4, 0.4, PERIOD), 1 + ("lifetime_2" in known)
     parts = [known[f"amplitude_{n}"] * shape.decay(known[f"lifetime_{n}"], 0.15) for n in range(1, terms + 1)]
-    exact = 10 * ramp + sum(parts) + known.get("scatter", 0) * shape.decay(1e-4, 0.15)
-    found = [
-        fits.fit_reconvolution(
-            draws.poisson(exact), pulse, 0.4, period=PERIOD, terms=terms, scatter="scatter" in known, background=draws.poisson(longer * 10 * ramp)
-        )
-        for _ in range(40)
-    ]
-    tell_their_scatter(found, known, tolerance=0.1 if longer > 1 else 0.25)  # 40 fits over a background of which little is known tell it to 5 %
-    assert np.mean([fit.reduced for fit in found]) == pytest.approx(1, abs=0.15)
+    light = sum(parts) + known.get("scatter", 0) * shape.decay(1e-4, 0.15)
+    counts, measured, away, variances = counted_over(draws, light, 10 * ramp, longer, 40)
+    more: Any = {"period": PERIOD, "terms": terms, "scatter": "scatter" in known}
+    found = [fits.fit_reconvolution(one, pulse, 0.4, background=other, **more) for one, other in zip(counts, measured)]
+    tell_their_scatter(found, known, variances, away=away)
+    assert np.mean([fit.reduced for fit in found]) == pytest.approx(1, abs=0.1)
 
 
-@pytest.mark.parametrize("longer", [1, 0.3])
-def test_tails_over_a_background_of_few_counts_are_right(longer: float) -> None:
-    """Of 10 and of 3 counts a bin, which scatter more than those of the sample do."""
-    draws, axis, decay = np.random.default_rng(7), np.arange(200) * 0.1, np.exp(-np.arange(200) * 0.1 / 2.5)
-    found = [fits.fit_tail(draws.poisson(10 + 500 * decay), axis, 0.0, background=draws.poisson(10 * longer, 200)) for _ in range(60)]
-    for name, value in {"lifetime_1": 2.5, "amplitude_1": 500.0, "background": 10.0}.items():
-        values, errors = np.array([(fit.values[name], fit.errors[name]) for fit in found]).T
-        assert abs(values.mean() - value) < 0.6 * errors.mean()  # of which 0.4 are three errors of the mean
-        assert np.sqrt((errors**2).mean()) == pytest.approx(values.std(), rel=0.3)  # known to 9 %, and not half as large
+@pytest.mark.parametrize(("longer", "dark"), [(0.1, 10.0), (0.25, 100.0), (0.3, 3.0), (1, 1.0), (3, 10.0)])
+def test_told_errors_of_tails_over_a_measured_background_are_their_scatter(longer: float, dark: float) -> None:
+    """Of so many counts a bin in the mean, also where only one was measured, which rise like a ramp."""
+    draws, axis, ramp = np.random.default_rng(21), np.arange(200) * 0.1, np.linspace(1, 3, 200) / 2
+    counts, measured, away, variances = counted_over(draws, 50 * dark * np.exp(-axis / 2.5), dark * ramp, longer, 60)
+    found = [fits.fit_tail(one, axis, 0.0, background=other) for one, other in zip(counts, measured)]
+    tell_their_scatter(found, {"lifetime_1": 2.5, "amplitude_1": 50 * dark, "background": dark}, variances, away=away)
     assert np.mean([fit.reduced for fit in found]) == pytest.approx(1, abs=0.05)
     assert found[0].lmfit.chisqr == pytest.approx((found[0].residuals ** 2).sum())
+
+
+def test_fits_together_over_measured_backgrounds() -> None:
+    """With a lifetime that is the mean of both by their errors; what each has alone is told as well as before, or better."""
+    draws, axis, both = np.random.default_rng(22), np.arange(100) * 0.2, []
+    for height, dark, longer in ((400, 8.0, 0.25), (150, 4.0, 1.0)):
+        counts, measured, _, _ = counted_over(draws, height * np.exp(-axis / 2.5), np.full(100, dark), longer, 1)
+        both.append(fits.fit_tail(counts[0], axis, 0.0, background=measured[0]))
+    times, errors = np.array([(fit.values["lifetime_1"], fit.errors["lifetime_1"]) for fit in both]).T
+    found, error = fits.fit_together(both, ["lifetime_1"]), 1 / np.sqrt((errors**-2).sum())
+    for fit, alone in zip(found, both):
+        assert fit.values["lifetime_1"] == pytest.approx((times / errors**2).sum() * error**2, abs=0.3 * error)
+        assert fit.errors["lifetime_1"] == pytest.approx(error, rel=0.05)
+        assert 0.8 * alone.errors["background"] < fit.errors["background"] < 1.02 * alone.errors["background"]
 
 
 def test_a_background_of_too_few_counts_is_refused() -> None:
     """Where it matters: one that was measured long enough beside the sample may have few counts."""
     draws, axis, decay = np.random.default_rng(8), np.arange(200) * 0.1, np.exp(-np.arange(200) * 0.1 / 2.5)
     with pytest.raises(ptulab.FitError, match=r"background of \S+ counts a bin .* measure it longer, .* wider bins"):
-        fits.fit_tail(draws.poisson(10 + 500 * decay), axis, 0.0, background=draws.poisson(1.0, 200))
+        fits.fit_tail(draws.poisson(10 + 500 * decay), axis, 0.0, background=draws.poisson(0.3, 200))
     fit = fits.fit_tail(draws.poisson(0.1 + 500 * decay), axis, 0.0, background=draws.poisson(1.0, 200))
     assert within(fit, "lifetime_1", 2.5) and fit.errors["lifetime_1"] < 0.04
 
@@ -412,7 +428,7 @@ def test_a_flat_background_of_any_height_is_exact() -> None:
             [plain.values["lifetime_1"], plain.errors["lifetime_1"], plain.reduced], rel=1e-3
         )
     exact, counted = (fits.fit_tail(counts, axis, 0.5, background=one) for one in (measured / 3, measured))
-    assert exact.errors["background"] < 0.9 * counted.errors["background"]
+    assert exact.errors["lifetime_1"] < 0.95 * counted.errors["lifetime_1"]
 
 
 def test_a_background_without_counts_where_bins_are_fitted_is_refused() -> None:

@@ -1,7 +1,9 @@
 """What every fit does, exactly: straight models, whose best fit and errors are known in closed form, and the laws of counts."""
 
+from dataclasses import replace
 from typing import Any
 
+import lmfit
 import numpy as np
 import pytest
 
@@ -156,12 +158,25 @@ def test_counts_over_what_is_expected_of_them() -> None:
     assert law.variances(curve) == pytest.approx([6 * 2 / 9]) and law.squares(curve) == pytest.approx(_fitting.mean_deviance(np.array([6.0])))
 
 
-def test_counts_over_a_counted_background() -> None:
-    """With the variance of what is taken for the background, and a deviance of both in the mean."""
-    law, curve, level = _fitting.poisson_over(np.array([9.0]), np.array([4.0]), 0.5), np.array([8.0]), np.array([4.0])
-    own, other = (float(_fitting.mean_deviance(one)[0]) for one in (curve, level))
-    assert law.variances(curve) == pytest.approx([8 + 0.25 * 4]) and law.squares(curve) == pytest.approx([(8 * own + 1 * other) / 9])
-    assert law.residuals(curve) == pytest.approx([np.sqrt(2 * (8 - 9 + 9 * np.log(9 / 8)))])
+def test_counts_beside_others() -> None:
+    """Where 4 more are expected, and were counted: as many as of 9 where 12 are."""
+    law, curve = _fitting.poisson(np.array([5.0]), beside=4.0), np.array([8.0])
+    assert law.residuals(curve) == pytest.approx([-np.sqrt(2 * (12 - 9 + 9 * np.log(9 / 12)))])
+    assert law.variances(curve) == pytest.approx([12]) and law.squares(curve) == pytest.approx(_fitting.mean_deviance(np.array([12.0])))
+
+
+@pytest.mark.parametrize("height", [0.2, 1.0, 4.0])
+def test_counts_over_a_counted_background(height: float) -> None:
+    """Their law has the mean and the scatter of counts and background, less the one than the other as may be, and its slope is
+    (counts - signal - height * background) over the variance, so that in the mean it is 0."""
+    draws, signal, level = np.random.default_rng(5), np.full(100_000, 3.0), np.full(100_000, 1.5)
+    curve = signal + height * level
+    counts, background = draws.poisson(curve) + 0.0, draws.poisson(level) + 0.0
+    law, variance = _fitting.poisson_over(counts, background, level, height, curve), curve + height**2 * level
+    assert law.variances(curve) == pytest.approx(variance)
+    slope = (law.residuals(curve + 1e-4) ** 2 - law.residuals(curve - 1e-4) ** 2) / -4e-4
+    assert slope == pytest.approx((counts - signal - height * background) / variance, abs=1e-5)
+    assert np.mean(law.residuals(curve) ** 2) == pytest.approx(float(law.squares(curve)[0]), rel=0.05)
 
 
 @pytest.mark.parametrize("height", [0.01, 0.5, 3.0])
@@ -174,12 +189,51 @@ def test_the_most_likely_background_has_no_slope(height: float) -> None:
     assert none == pytest.approx([0, 0, max(8 / (1 + height) - 1 / height, 0)])
 
 
-@pytest.mark.parametrize(("mean", "wide"), [(40.0, 1), (12.5, 1), (12.0, 3), (6.2, 3), (3.0, 9), (0.5, 9)])
+@pytest.mark.parametrize(("mean", "wide"), [(40.0, 1), (12.5, 1), (12.0, 3), (6.2, 3), (3.0, 9), (1.0, 25), (0.1, 25)])
 def test_backgrounds_of_few_counts_are_those_of_their_neighbours(mean: float, wide: int) -> None:
-    """With so many bins as have some 25 counts, at most four on either side; at the ends with those that are there."""
-    level, side = np.arange(20.0), wide // 2
-    level *= mean / level.mean()
-    assert _fitting.smoothed(level) == pytest.approx([level[max(at - side, 0) : at + side + 1].mean() for at in range(20)])
+    """With so many bins as have some 25 counts, at most twelve on either side; at the ends with those that are there."""
+    level, side = np.arange(30.0), wide // 2
+    assert _fitting.smoothed(level, mean) == pytest.approx([level[max(at - side, 0) : at + side + 1].mean() for at in range(30)])
+
+
+def test_a_law_that_goes_by_what_is_found_settles() -> None:
+    """At a level that is 6 less half of it, whose points scatter like its root; and at one beside other points with a mean of 6."""
+    data, begin = np.array([3.0, 4.0, 8.0, 9.0]), lmfit.Parameters()
+    begin.add("level", value=2.0)
+    start = _fitting.Problem(AXIS[:4], data, lambda at, now: now["level"] + 0 * at, _fitting.normal(data, np.ones(4)), begin)
+
+    def anew(now: Any, part: float = 0.5) -> Any:
+        return replace(start, law=_fitting.normal(data - part * now["level"], np.full(4, np.sqrt(abs(now["level"])))), anew=anew)
+
+    found = _fitting.settled(replace(start, anew=anew))
+    assert [found.values["level"], found.errors["level"]] == pytest.approx([4, 1], rel=0.02)
+    other = fits.fit_model(constant, AXIS[:4], data, {"level": 5.0}, errors=np.ones(4))
+    level = (18 + np.sqrt(18**2 + 16 * 24)) / 8  # (6 - level / 2) / level + 6 is level * (1 / level + 1)
+    both = fits.fit_together([found, other], ["level"])[0]
+    assert [both.values["level"], both.errors["level"]] == pytest.approx([level, 1 / np.sqrt(4 / level + 4)], rel=0.01)
+    with pytest.raises(ptulab.FitError, match="found no end: each of 30 rounds"):
+        _fitting.settled(replace(start, anew=lambda now: anew(now, 2.0)))
+
+
+def test_what_a_unit_scatters_is_no_error() -> None:
+    begin = lmfit.Parameters()
+    begin.add("level", value=2.0)
+    problem = _fitting.Problem(AXIS[:4], AXIS[:4], lambda at, now: now["level"] + 0 * at, _fitting.normal(AXIS[:4], np.ones(4)), begin)
+    errors = [_fitting.solved(replace(problem, units=units)).errors["level"] for units in ({}, {"level": 0.02}, {"level": 1.0})]
+    assert errors[:2] == pytest.approx([0.5, np.sqrt(0.25 - 0.02 * 2.5**2)]) and np.isnan(errors[2])
+
+
+def test_intervals_are_without_what_a_unit_scatters() -> None:
+    """Of a line they are as wide as the errors, whatever part of the scatter is that of a unit."""
+    begin = lmfit.Parameters()
+    begin.add_many(("level", 20.0), ("slope", 4.0))
+    data = line(AXIS, 30.0, 5.0) + DRAWS.normal(0, 1, len(AXIS))
+    problem = _fitting.Problem(AXIS, data, lambda at, now: np.asarray(line(at, **now)), _fitting.normal(data, np.ones(len(AXIS))), begin)
+    plain, less = (_fitting.solved(replace(problem, units=units)) for units in ({}, {"level": 2e-4}))
+    assert less.errors["level"] < 0.9 * plain.errors["level"] and less.errors["slope"] == plain.errors["slope"]
+    for fit in (plain, less):
+        for name, one in fit.intervals(sigmas=[1]).items():
+            assert [at for _, at in one] == pytest.approx([fit.values[name] + sign * fit.errors[name] for sign in (-1, 0, 1)], abs=0.01 * fit.errors[name])
 
 
 def test_g2_without_its_background() -> None:

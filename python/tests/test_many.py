@@ -19,7 +19,7 @@ import pytest
 import made
 import ptulab
 from conftest import EXAMPLES
-from hosts import end_of, seconds, until
+from hosts import CALM, end_of, seconds, until
 from plain_sum import cube_report, plain_sum, report_of
 from hypothesis import given
 from hypothesis import strategies as st
@@ -42,6 +42,13 @@ startstop = [{ start = 1, stop = 2, width = 4, bins = 3 }]
 coincidence = [{ first = 1, second = 2, reach = 4, width = 3 }]
 correlation = [{ first = 1, second = 2, lags = 4, levels = 2 }]
 """
+
+
+@pytest.fixture(autouse=True)
+def two_at_a_time(request: pytest.FixtureRequest, monkeypatch: pytest.MonkeyPatch) -> None:
+    """Two processes where a test doesn't say how many: each takes half a second to begin."""
+    if "processes" not in request.fixturenames:
+        monkeypatch.setattr("ptulab.many.processors", lambda: 2)
 
 
 @pytest.fixture
@@ -95,7 +102,7 @@ def test_files_by_processes(folder: Path, program: str, processes: Any) -> None:
 def test_files_by_dask_with_a_scheduler_and_three_workers(folder: Path, program: str) -> None:
     distributed = pytest.importorskip("distributed", reason="python3-distributed isn't on this machine")
     place = folder / "scheduler.json"
-    quiet = {"stdout": subprocess.DEVNULL, "stderr": subprocess.DEVNULL, "env": made_environment()}
+    quiet = {"stdout": subprocess.DEVNULL, "stderr": subprocess.DEVNULL, "env": made_environment() | CALM}
     words = [sys.executable, "-m", "distributed.cli.dask_scheduler", "--host", "127.0.0.1", "--port", "0", "--no-dashboard"]
     started = [subprocess.Popen([*words, "--scheduler-file", str(place)], cwd=folder, **quiet)]
     words = [sys.executable, "-m", "distributed.cli.dask_worker", "--host", "127.0.0.1", "--no-dashboard", "--nthreads", "1", "--no-nanny"]
@@ -165,7 +172,7 @@ def test_a_plan_that_changes_meanwhile_is_read_once(folder: Path, program: str) 
     for number in range(3):
         slow = script(folder, program, f"sleep 0.0{number}")
         (folder / "plan.toml").write_text(PLAN)
-        words = [sys.executable, "-m", "ptulab", "count", folder / "plan.toml", *files_of(folder), "--program", slow, "-o", folder / "sum.txt"]
+        words = [sys.executable, "-m", "ptulab", "count", folder / "plan.toml", *files_of(folder), "--processes", 2, "--program", slow, "-o", folder / "sum.txt"]
         running = subprocess.Popen(list(map(str, words)), env=made_environment(), stderr=subprocess.DEVNULL)
         until((folder / "sum.txt.jsonl").exists, "the plan to be read")
         while running.poll() is None:
@@ -194,7 +201,7 @@ def test_a_file_that_ends_its_process_is_left_with_how(folder: Path, program: st
 @pytest.mark.parametrize("number", [signal.SIGKILL, signal.SIGTERM, signal.SIGINT])
 def test_an_end_ends_all_that_runs_and_the_next_goes_on(folder: Path, program: str, number: Any) -> None:
     waits = script(folder, program, f'case $path in *7.ptu) echo $$ > {folder}/there; exec sleep 1000 ;; esac')
-    words = [sys.executable, "-m", "ptulab", "count", folder / "plan.toml", *files_of(folder), "--program", waits, "-o", folder / "sum.txt"]
+    words = [sys.executable, "-m", "ptulab", "count", folder / "plan.toml", *files_of(folder), "--processes", 2, "--program", waits, "-o", folder / "sum.txt"]
     running = subprocess.Popen(list(map(str, words)), env=made_environment(), stderr=subprocess.PIPE, start_new_session=True)
     until(lambda: (folder / "there").exists() and (folder / "there").read_text().endswith("\n"), "the last file")
     running.send_signal(number)
@@ -202,7 +209,7 @@ def test_an_end_ends_all_that_runs_and_the_next_goes_on(folder: Path, program: s
     assert running.returncode == {signal.SIGKILL: -9, signal.SIGTERM: 143, signal.SIGINT: 130}[number]
     until(lambda: not Path(f"/proc/{int((folder / 'there').read_text())}").exists(), "the end of the run", 2)
     (folder / "7.ptu").unlink()
-    assert command("count", folder / "plan.toml", *files_of(folder), "--program", waits, "-o", folder / "sum.txt").returncode == 3
+    assert command("count", folder / "plan.toml", *files_of(folder), "--processes", 2, "--program", waits, "-o", folder / "sum.txt").returncode == 3
     assert (folder / "sum.txt").read_text() == plain(folder, program, [0, 1, 2, 4, 6])
 
 

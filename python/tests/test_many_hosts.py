@@ -10,7 +10,7 @@ from collections.abc import Iterator
 from pathlib import Path
 
 import pytest
-from hosts import PACKAGE, cluster, end_of, until, why_not
+from hosts import CALM, PACKAGE, cluster, end_of, until, why_not
 from trials import FILES, Trial
 
 pytest.importorskip("distributed", reason="python3-distributed isn't on this machine")
@@ -160,7 +160,7 @@ def test_a_slow_host_and_a_late_one(trial: Trial) -> None:
 
 def links_are_down_for_a_minute(folder: Path, program: str) -> None:
     """Those of a worker and of one of two commands, by dask's own times, after which a connection is given up."""
-    with cluster(folder, os.environ | {"PYTHONPATH": PACKAGE}) as hosts:
+    with cluster(folder, os.environ | CALM | {"PYTHONPATH": PACKAGE}) as hosts:
         until(hosts.is_ready, "three workers")
         trials, running = [], []
         for name in ("client", "far"):

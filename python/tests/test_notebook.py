@@ -37,6 +37,6 @@ def test_the_notebook_runs_and_is_rendered_as_it_stands(program: str, monkeypatc
 def test_the_notebook_is_kept_without_outputs() -> None:
     import nbformat
 
-    notebook = nbformat.read(DOCS / "notebook.ipynb", as_version=4)  # type: ignore[no-untyped-call]
+    notebook = nbformat.read(DOCS / "notebook.ipynb", as_version=4)
     nbformat.validate(notebook)
     assert all(cell.cell_type == "markdown" or (cell.outputs, cell.execution_count) == ([], None) for cell in notebook.cells)

@@ -8,6 +8,7 @@ from typing import Any
 import lmfit
 import numpy as np
 import pytest
+from simulated import told_over_scatter
 
 import ptulab
 from ptulab import antibunching, fits
@@ -100,16 +101,19 @@ def test_residuals_of_a_wrong_model_are_like_their_neighbours() -> None:
 
 
 def test_shared_lifetimes_are_told_better() -> None:
-    """Errors of a shared lifetime are those of their weighted mean, and in 200 pairs of decays as their scatter."""
-    found, alone = [], []
-    for seed in range(200):
+    """Errors of a shared lifetime are those of their weighted mean, and in 40 pairs of decays as their scatter, which these tell to 2 %."""
+    found: list[Any] = []
+    alone = []
+    for seed in range(40):
         each = [fits.fit_tail(tail(2 * seed + n, 2.5, height), AXIS, 0.0) for n, height in enumerate((100.0, 300.0))]
         one, other = fits.fit_together(each, ["lifetime_1"])
         assert one.values["lifetime_1"] == other.values["lifetime_1"] and one.errors["lifetime_1"] == other.errors["lifetime_1"]
-        found.append((one.values["lifetime_1"], one.errors["lifetime_1"]))
+        found.append(one.whole)
         alone.append([fit.errors["lifetime_1"] for fit in each])
-    values, errors = np.transpose(found)
-    assert np.mean(errors) == pytest.approx(values.std(), rel=0.1) and values.mean() == pytest.approx(2.5, rel=0.02)
+    known = {"lifetime_1": 2.5, "amplitude_1_of_1": 100.0, "background_of_1": 3.0, "amplitude_1_of_2": 300.0, "background_of_2": 3.0}
+    values, errors = np.transpose([(fit.values["lifetime_1"], fit.errors["lifetime_1"]) for fit in found])
+    assert told_over_scatter(found, known) == pytest.approx(dict.fromkeys(known, 1.0), abs=0.1) and values.mean() == pytest.approx(2.5, rel=0.02)
+    assert one.errors["lifetime_1"] == errors[-1]
     assert np.mean(errors) == pytest.approx(float(np.mean((np.array(alone) ** -2.0).sum(axis=1) ** -0.5)), rel=0.03)
     assert one.values["amplitude_1"] == pytest.approx(100, rel=0.1) and other.values["amplitude_1"] == pytest.approx(300, rel=0.1)
     assert set(one.lmfit.params) == {"lifetime_1", *(f"{name}_of_{n}" for name in ("amplitude_1", "background") for n in (1, 2))}
@@ -260,17 +264,18 @@ def pairs_of(seed: int, pairs: float, **known: float) -> Coincidences:
     return Coincidences(np.random.default_rng(seed).poisson(exact), 50_000, 250, photons, photons, 10**14, 1e-12)
 
 
-@pytest.mark.parametrize("bunching", [False, True])
-def test_a_dip_is_found_and_its_errors_are_its_scatter(bunching: bool) -> None:
+@pytest.mark.parametrize(("bunching", "many"), [(False, 40), (True, 80)])
+def test_a_dip_is_found_and_its_errors_are_its_scatter(bunching: bool, many: int) -> None:
     """Two emitters in nine tenths of the light, a cable that is 12.3 ns longer, and detectors of 300 ps."""
     known = {"depth": 0.5, "lifetime": 3e-9, "centre": 12.3e-9, "signal": 0.9, "jitter": 3e-10}
     known |= {"bunching": 0.6, "bunching_time": 2e-8} if bunching else {}
     held = {"signal": 0.9, "jitter": 3e-10}
-    found = [antibunching.fit_g2(pairs_of(seed, 1000, **known), bunching=bunching, fixed=held) for seed in range(200)]
-    for name in known.keys() - held.keys():
-        values, errors = (np.array([getattr(fit, what)[name] for fit in found]) for what in ("values", "errors"))
-        assert values.mean() == pytest.approx(known[name], abs=5 * values.std() / np.sqrt(200))
-        assert np.sqrt((errors**2).mean()) == pytest.approx(values.std(), rel=0.1)
+    found = [antibunching.fit_g2(pairs_of(seed, 1000, **known), bunching=bunching, fixed=held) for seed in range(many)]
+    free = {name: value for name, value in known.items() if name not in held} | {"baseline": 1.0}
+    assert told_over_scatter(found, free) == pytest.approx(dict.fromkeys(free, 1.0), abs=0.1)
+    for name, value in free.items():
+        values = np.array([fit.values[name] for fit in found])
+        assert values.mean() == pytest.approx(value, abs=5 * values.std() / np.sqrt(many))
     assert np.mean([fit.reduced for fit in found]) == pytest.approx(1, abs=0.05)
 
 

@@ -26,7 +26,7 @@ def browser(saved: Path) -> Any:
     options = Options()
     options.binary_location = str(BROWSER)
     for word in WORDS:
-        options.add_argument(word)  # type: ignore[no-untyped-call]
+        options.add_argument(word)
     driver = webdriver.Chrome(service=Service(str(DRIVER)), options=options)
     driver.set_page_load_timeout(SECONDS)
     driver.set_script_timeout(SECONDS)

@@ -20,6 +20,7 @@ Model = Callable[[Numbers, Mapping[str, float]], Numbers]  # of an axis and of p
 Values = Mapping[str, float] | None
 Bounds = Mapping[str, tuple[float, float]] | None
 NO_NEARER = (6, 7, 8)  # of MINPACK's lmdif: the best fit is told as closely as numbers can tell it
+ROUNDS = 30  # in which a law that goes by what is found must settle
 AWAY = 1000.0  # errors that lie between 0 and the best fit where intervals are looked for, so that lmfit steps by errors
 
 
@@ -33,27 +34,37 @@ class Law:
     squares: Callable[[Numbers], Numbers]
 
 
-def poisson(counts: Numbers, scale: Numbers | float = 1.0, doubled: Numbers | float = 1.0) -> Law:
-    """That of counts where ``scale`` times the curve is expected, with variances that are ``doubled`` times it."""
+def poisson(counts: Numbers, scale: Numbers | float = 1.0, doubled: Numbers | float = 1.0, beside: Numbers | float = 0.0) -> Law:
+    """That of counts where ``scale`` times the curve is expected, which scatter like those of Poisson's law with so many ``beside``
+    them, in variances that are ``doubled``."""
 
     def expected(curve: Numbers) -> Numbers:
-        return np.maximum(curve * scale, 1e-12)
+        return np.maximum(curve * scale + beside, 1e-12)
 
     return Law(
-        lambda curve: np.asarray(deviance(counts, expected(curve)) / np.sqrt(doubled)),
+        lambda curve: np.asarray(deviance(counts + beside, expected(curve)) / np.sqrt(doubled)),
         lambda curve: np.asarray(expected(curve) * doubled / np.square(scale)),
         lambda curve: mean_deviance(expected(curve)),
     )
 
 
-def poisson_over(counts: Numbers, level: Numbers, height: float) -> Law:
-    """That of counts over ``height`` times a background, which was counted itself where ``level`` is expected."""
-    plain, more = poisson(counts), height**2 * level
-    return Law(
-        plain.residuals,
-        lambda curve: plain.variances(curve) + more,
-        lambda curve: np.asarray((curve * plain.squares(curve) + more * mean_deviance(level)) / np.maximum(curve + more, 1e-12)),
-    )
+def poisson_over(counts: Numbers, background: Numbers, level: Numbers, height: float, curve: Numbers) -> Law:
+    """That of counts over ``height`` times what a ``background`` is, which was counted itself, where about ``level`` is expected of it and
+    ``curve`` of the counts.
+
+    The scatter of the background is taken off the counts, which are then right in the mean, however few, and scatter as much as those
+    of Poisson's law with height^2 * level beside them (Yavuz and Fessler, Medical Image Analysis 2, 369, 1998): the fit is
+    by quasi-likelihood (Wedderburn, Biometrika 61, 439, 1974), of which no level is a parameter that biases the others.
+    """
+    own, more = counts - height * (background - level), height**2 * level
+    beside = np.maximum(more, -own)  # in the place of less than no counts
+    law = poisson(own, doubled=(curve + more) / np.maximum(curve + beside, 1e-12), beside=beside)
+
+    def squares(curve: Numbers) -> Numbers:  # with what the third moment, of more to the one side, adds to them
+        both = np.maximum(curve + more, 1e-12)
+        return np.asarray(mean_deviance(both) + more * (1 + height) / (3 * both * (1 + both)))
+
+    return replace(law, squares=squares)
 
 
 def best_level(counts: Numbers, signal: Numbers, height: float, background: Numbers) -> Numbers:
@@ -67,9 +78,10 @@ def best_level(counts: Numbers, signal: Numbers, height: float, background: Numb
     return np.asarray(np.where(linear > 0, below, above))
 
 
-def smoothed(level: Numbers) -> Numbers:
-    """The same in the mean with neighbours, where bins have few counts: with so many as have some 25, at most four on either side."""
-    near = np.ones(min(2 * min(NEAR, int(12 / max(float(level.mean()), 0.1))) + 1, len(level)))
+def smoothed(level: Numbers, mean: float) -> Numbers:
+    """The same in the mean with neighbours, where bins have few counts: with so many as have some 25 of so many in the mean, at most
+    twelve on either side."""
+    near = np.ones(min(2 * int(12 / max(mean, 1.0)) + 1, len(level)))
     sums, cells = (np.convolve(one, near, "same") for one in (level, np.ones(len(level))))
     return np.asarray(sums / cells)
 
@@ -83,7 +95,8 @@ class Problem:
     """What is fitted where, by which model, how it scatters, and lmfit's parameters as the fit begins.
 
     ``parts``: the curves of segments, shape (segments, points), whose scatter tells errors; ``scaled``: whether the
-    scatter of the points tells them. ``own``: residuals of parameters, where the law needs more than the curve.
+    scatter of the points tells them. ``anew``: the same problem of parameters that were found, where the law goes by these.
+    ``units``: of parameters whose unit was measured, its relative variance, which the slopes have and the parameter doesn't.
     """
 
     axis: Numbers
@@ -93,13 +106,14 @@ class Problem:
     begin: Any
     parts: Numbers | None = None
     scaled: bool = False
-    own: Callable[[Mapping[str, float]], Numbers] | None = None
+    anew: "Callable[[Mapping[str, float]], Problem] | None" = None
+    units: Mapping[str, float] = field(default_factory=dict)
 
     def curve(self, values: Mapping[str, float]) -> Numbers:
         return self.model(self.axis, values)
 
     def residuals(self, values: Mapping[str, float]) -> Numbers:
-        return self.law.residuals(self.curve(values)) if self.own is None else self.own(values)
+        return self.law.residuals(self.curve(values))
 
     def left(self, parameters: Any) -> Numbers:
         return self.residuals(parameters.valuesdict())
@@ -202,7 +216,12 @@ class Fit(Compared):
 
         minimizer = lmfit.Minimizer(left, result.params, scale_covar=False)
         found = lmfit.conf_interval(minimizer, result, list(names) or free, list(sigmas), prob_func=within)
-        return {name: [(p, offset[name] + self.errors[name] * at) for p, at in one] for name, one in found.items()}
+        return {name: [(p, self._place(name, at - AWAY)) for p, at in one] for name, one in found.items()}
+
+    def _place(self, name: str, errors: float) -> float:
+        """So many errors from the best fit, less what the unit of the parameter scatters, which is in the squares."""
+        best, error = self.values[name], self.errors[name]
+        return best + errors * error * error / math.hypot(error, math.sqrt(self.problem.units.get(name, 0.0)) * best)
 
 
 def _in_errors(parameters: Any, errors: Mapping[str, float], offset: Mapping[str, float]) -> Any:
@@ -270,6 +289,19 @@ def solved(problem: Problem) -> Fit:
     return Fit(values, errors, problem.axis, problem.data, curve, left, reduced, result, problem)
 
 
+def settled(problem: Problem) -> Fit:
+    """The fit of a problem whose law goes by what is found: again until no parameter moves by more than a fiftieth of its error."""
+    found = solved(problem)
+    if problem.anew is None:
+        return found
+    for _ in range(ROUNDS):
+        begin, last = steered(found.parameters, None, None, None), found.values
+        found = solved(replace(problem.anew(last), begin=begin))
+        if all(abs(found.values[name] - last[name]) < error / 50 for name, error in found.errors.items() if error > 0):
+            return found
+    raise FitError(f"the fit found no end: each of {ROUNDS} rounds moves it")
+
+
 def fit_model(
     model: Callable[..., Numbers],
     axis: NDArray[Any],
@@ -330,7 +362,7 @@ def fit_together(
         for name, one in steered(fit.parameters, *told).items():
             if by[name] not in begin:
                 begin.add(by[name], value=one.value, vary=one.vary, min=one.min, max=one.max, brute_step=one.brute_step)
-    whole = solved(_joined([fit.problem for fit in fits], names, begin))
+    whole = settled(_joined([fit.problem for fit in fits], names, begin))
     ends = np.cumsum([len(fit.data) for fit in fits])[:-1]
     pieces = zip(fits, names, np.split(whole.curve, ends), np.split(whole.residuals, ends), strict=True)
     return [
@@ -357,9 +389,11 @@ def _joined(problems: Sequence[Problem], names: Sequence[Mapping[str, str]], beg
     if len({one.scaled for one in problems}) > 1:
         raise ValueError("fits together need errors of all curves, or of none")
 
-    def of_each(what: str, now: Mapping[str, float]) -> Numbers:
-        values = [{name: now[it] for name, it in by.items()} for by in names]
-        return np.concatenate([getattr(one, what)(by) for one, by in zip(problems, values, strict=True)])
+    def of_each(now: Mapping[str, float]) -> list[tuple[Problem, Mapping[str, float]]]:
+        return [(one, {name: now[it] for name, it in by.items()}) for one, by in zip(problems, names, strict=True)]
+
+    def anew(now: Mapping[str, float]) -> Problem:
+        return _joined([one if one.anew is None else one.anew(own) for one, own in of_each(now)], names, begin)
 
     def each(what: str) -> Callable[[Numbers], Numbers]:
         calls = [getattr(one.law, what) for one in problems]
@@ -368,8 +402,10 @@ def _joined(problems: Sequence[Problem], names: Sequence[Mapping[str, str]], beg
     axis, data = (np.concatenate([getattr(one, what) for one in problems]) for what in ("axis", "data"))
     law = Law(each("residuals"), each("variances"), each("squares"))
     whole = np.concatenate(parts, axis=1) if parts else None
-    model: Model = lambda _, now: of_each("curve", now)
-    return Problem(axis, data, model, law, begin, whole, problems[0].scaled, lambda now: of_each("residuals", now))
+    model: Model = lambda _, now: np.concatenate([one.curve(own) for one, own in of_each(now)])
+    goes_on = any(one.anew is not None for one in problems)
+    units = {by[name]: part for one, by in zip(problems, names, strict=True) for name, part in one.units.items() if by[name] != name}
+    return Problem(axis, data, model, law, begin, whole, problems[0].scaled, anew if goes_on else None, units)
 
 
 def _errors(problem: Problem, parameters: Any) -> dict[str, float]:
@@ -388,6 +424,7 @@ def _errors(problem: Problem, parameters: Any) -> dict[str, float]:
         variances = np.diagonal(np.linalg.inv(columns @ columns.T)) / sizes**2
     except np.linalg.LinAlgError:
         return errors
+    variances = variances - [problem.units.get(name, 0.0) * parameters[name].value ** 2 for name in free]
     return errors | {name: math.sqrt(one) if one > 0 else float("nan") for name, one in zip(free, variances, strict=True)}
 
 
@@ -420,7 +457,7 @@ def deviance(counts: Numbers, expected: Numbers) -> Numbers:
     likely = np.maximum(expected, 1e-12)
     some = np.where(counts > 0, counts, 1.0)
     x = np.where(counts > 0, likely, 1.0) / some - 1
-    y = np.clip(x, -0.01, 0.01)
+    y = np.minimum(np.maximum(x, -0.01), 0.01)  # clip is slower
     near = -y * np.sqrt(some * (1 - y * (2 / 3 - y * (1 / 2 - y * 2 / 5))))  # where the logarithm would lose digits
     far = -np.sign(x) * np.sqrt(2 * some * np.maximum(x - np.log1p(x), 0.0))
     return np.asarray(np.where(counts > 0, np.where(np.abs(x) < 0.01, near, far), -np.sqrt(2 * likely)))

@@ -13,6 +13,7 @@ Every fit is steered in one way: ``fixed={name: value}`` holds parameters, ``sta
 it. ``fit_together`` shares parameters between fits.
 """
 
+import functools
 import math
 from collections.abc import Callable, Mapping
 from dataclasses import replace
@@ -24,8 +25,8 @@ from numpy.typing import NDArray
 
 from .errors import FitError
 from ._fitting import (
-    Bounds, Fit, Model, Numbers, Problem, Values, best_level, deviance, errors_of_cells, fit_model, fit_together, normal, parts_of,
-    poisson, poisson_over, smoothed, solved, steered
+    Bounds, Fit, Model, Numbers, Problem, Values, best_level, errors_of_cells, fit_model, fit_together, normal, parts_of,
+    poisson, poisson_over, settled, smoothed, solved, steered
 )
 from ._optional import want
 
@@ -40,9 +41,10 @@ __all__ = [
     "mean_lifetime",
 ]
 
-FEWEST = 2  # counts a bin of a measured background, unless it was measured five times as long; of less errors are too small
+FEWEST = 0.5  # counts a bin of a measured background, unless it was measured five times as long; of less errors are too small
 LEAST_PULSE = 0.01  # part of a pulse that must be in the span where scattered light is fitted
 TRIED = 24  # lifetimes with which a fit of a decay may begin
+SOME = 8  # decays of a pulse that are kept: two, and scattered light, as they were and as they are with one parameter changed
 
 
 def _names(terms: int) -> list[tuple[str, str]]:
@@ -99,10 +101,11 @@ def fit_tail(
     ``counts``: shape (bins,), a histogram; ``axis``: shape (bins,), where its bins begin, evenly spaced, in seconds or
     ticks. ``span``: t0, from which on bins are fitted, or t0 and the time before which they are; the pulse must be over by
     t0. Amplitudes and ``background`` are counts a bin, lifetimes in the unit of the axis. ``background``: shape (bins,), one
-    that was measured, of any height: its mean is taken as 1. In whole numbers that aren't all alike it is counts, and what is
-    expected of them in each bin is fitted too; any other, as one that is flat, scaled or smoothed, is taken as exact. Where it has
-    only 2 or 3 counts a bin, errors of lifetimes come out up to a tenth too small. Raises
-    ``FitError`` and ``ValueError`` where there are no such bins, or they have no counts, or one is less than 0, and where a
+    that was measured, of any height: its mean is taken as 1. In whole numbers that aren't all alike it is counts, whose scatter
+    adds to the errors; any other, as one that is flat, scaled or smoothed, is taken as exact. Over counts the fit is by the
+    quasi-likelihood of the counts less so many times the background, by their mean and their variance (Wedderburn, Biometrika 61,
+    439, 1974; ``residuals`` are of counts with that variance): a level of each bin as a parameter, as in the W statistic of X-ray
+    astronomy, would make lifetimes too long and errors too small where bins have few counts. Raises ``FitError`` and ``ValueError`` where there are no such bins, or they have no counts, or one is less than 0, and where a
     background that matters has so few counts that errors would be too small.
     """
     axis, counts = np.asarray(axis, dtype=np.float64), np.asarray(counts, dtype=np.float64)
@@ -127,31 +130,26 @@ def fit_tail(
 
 
 def _solved(problem: Problem, over: Callable[[Numbers], Model], background: NDArray[Any] | None, inside: NDArray[np.bool_]) -> Fit:
-    """The fit of a decay. ``over``: its model over a background; where that was counted, what is expected of it in each bin
-    is a parameter too, for which the most likely is taken."""
-    found, level = solved(problem), np.zeros(0) if background is None else np.asarray(background, dtype=np.float64)[inside]
+    """The fit of a decay. ``over``: its model over a background; where that was counted, variances go by what is most likely of
+    it in each bin, with its neighbours where that are few counts."""
+    level = np.zeros(0) if background is None else np.asarray(background, dtype=np.float64)[inside]
     if background is None or np.any(level % 1) or np.all(level == level[0]):
-        return found
-    mean = float(np.mean(background))
+        return solved(problem)
+    mean, own_mean, units = float(np.mean(background)), float(level.mean()), {"background": 1 / float(np.sum(background))}
 
-    def most_likely(now: Mapping[str, float]) -> tuple[Numbers, Numbers, float]:
+    def anew(now: Mapping[str, float]) -> Problem:
         signal, height = problem.curve({**now, "background": 0.0}), now["background"] / mean
-        return best_level(problem.data, signal, height, level), signal, height
+        best = smoothed(best_level(problem.data, signal, height, level), own_mean)
+        law = poisson_over(problem.data, level, best, height, signal + height * best)
+        return replace(problem, model=over(best / mean), law=law, anew=anew, units=units)
 
-    def residuals(now: Mapping[str, float]) -> Numbers:
-        best, signal, height = most_likely(now)
-        of_both = deviance(problem.data, signal + height * best), deviance(level, best)
-        return np.asarray(np.copysign(np.hypot(*of_both), of_both[0]))
-
-    best, _, height = most_likely(solved(replace(problem, own=residuals)).values)
-    if height > 0.2 and level.mean() < FEWEST:
+    found = settled(replace(problem, anew=anew))
+    if found.values["background"] / mean > 0.2 and own_mean < FEWEST:
         raise FitError(
-            f"a measured background of {level.mean():.2g} counts a bin tells too little, as there must be {FEWEST}: "
+            f"a measured background of {own_mean:.2g} counts a bin tells too little, as there must be {FEWEST}: "
             "measure it longer, take wider bins, or give its curve, if that is known, in numbers that aren't whole"
         )
-    best = smoothed(best)
-    law = poisson_over(problem.data, best, height)
-    return solved(replace(problem, model=over(best / mean), law=law, own=residuals))
+    return found
 
 
 def _level(background: NDArray[Any] | None, inside: NDArray[np.bool_]) -> Numbers:
@@ -182,7 +180,7 @@ def decay_of_bins(delays: Numbers, lifetime: float, width: float, period: float 
 
 def _of_one_pulse(delays: Numbers, lifetime: float, width: float) -> Numbers:
     d, t = width / lifetime, delays / lifetime
-    ahead, near, behind = np.clip(t, -d, 0.0) + d, np.clip(t, 0.0, d), np.maximum(t - d, 0.0)
+    ahead, near, behind = np.minimum(np.maximum(t, -d), 0.0) + d, np.minimum(np.maximum(t, 0.0), d), np.maximum(t - d, 0.0)  # clip is slower
     late = np.exp(-behind) * math.expm1(-d) ** 2
     own = d - near + np.exp(-near - d) + 1 - 2 * np.exp(-near)
     return np.asarray(np.where(t >= d, late, np.where(t >= 0, own, ahead + np.expm1(-ahead))) / d)
@@ -281,14 +279,16 @@ class Convolved:
         self.parts = np.ones(bins)  # of each bin that lies before the period ends
         if period is not None:
             self.parts[-1] = min(period / width - (bins - 1), 1.0)
+        self.decay = functools.lru_cache(SOME)(self._decay)  # as a fit changes one parameter after the other
 
-    def decay(self, lifetime: float, shift: float) -> Numbers:
+    def _decay(self, lifetime: float, shift: float) -> Numbers:
         """What part of the photons of a decay each bin has."""
         late = decay_of_bins(self.delays - shift, lifetime, self.width, self.period)
         both = np.fft.irfft(self.pulse * np.fft.rfft(late, self.size), self.size)
         bins = np.maximum(both[len(late) // 2 : len(late)], 0.0).reshape(-1, self.finer).sum(axis=1)
         if self.parts[-1] < 1:
             bins[-1] = max(1 - float(bins[:-1].sum()), 0.0)
+        bins.setflags(write=False)
         return np.asarray(bins)
 
 

@@ -8,7 +8,7 @@ trace's counts. Fits are those of ``fits``: errors of one standard deviation by 
 import math
 from collections.abc import Callable, Mapping
 from dataclasses import dataclass
-from functools import cache
+from functools import cache, lru_cache
 from itertools import product
 from typing import Any, Literal
 
@@ -62,6 +62,7 @@ def pch(
     return np.asarray(np.maximum(law[:counts], 0.0))
 
 
+@lru_cache(32)  # as a fit changes one parameter after the other, and the grid where it begins has few brightnesses
 def _rates(peak: float, dimensions: int) -> Numbers:
     """How often k photons come of one molecule, for k = 0, 1, ..: by r with r^2 = 2 (x^2 + y^2) / w^2 + 2 z^2 / z0^2, of
     which the volume has 4 r^2 / sqrt(pi) in units of that of the profile, and a plane 2 r, whose integral is known for k > 0."""
