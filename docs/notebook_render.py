@@ -21,7 +21,7 @@ SECONDS = 600  # for a cell, at most
 
 def rendered() -> Any:
     """The text of the notebook with what its cells print, and its pictures by their names."""
-    notebook = nbformat.read(DOCS / "notebook.ipynb", as_version=4)  # type: ignore[no-untyped-call]
+    notebook = nbformat.read(DOCS / "notebook.ipynb", as_version=4)
     ExecutePreprocessor(timeout=SECONDS, kernel_name="python3").preprocess(notebook, {"metadata": {"path": str(DOCS)}})
     text, more = MarkdownExporter().from_notebook_node(notebook, {"unique_key": "notebook", "output_files_dir": "notebook_files"})
     return readable(text), more["outputs"]
