@@ -34,10 +34,11 @@ def laboratory(program: str, tmp_path_factory: pytest.TempPathFactory) -> Iterat
 
 
 @pytest.fixture
-def window(laboratory: Window) -> Window:
-    """The window, opened anew, so that nothing is chosen."""
+def window(laboratory: Window) -> Iterator[Window]:
+    """The window, opened anew, so that nothing is chosen; what a test does may make no error in it."""
     laboratory.open()
-    return laboratory
+    yield laboratory
+    assert laboratory.complaints() == []
 
 
 LEFT = (0.05, 0.05), (0.25, 0.05), (0.45, 0.05), (0.45, 0.5), (0.45, 0.95), (0.05, 0.95), (0.05, 0.06)  # of a scan
@@ -134,9 +135,9 @@ def test_a_window_of_microseconds_over_ticks_of_markers(window: Window) -> None:
     captions = window.js("return [...document.querySelectorAll('#figure-look-trace caption')].map((one) => one.textContent)")
     assert captions[-3:] == [f"marker bit {bit}: every value" for bit in (1, 2, 3)]
     for keys, said in ((["Home", "PageUp"], "marker bit 3: 0 µs"), (["PageUp", "End", "PageUp"], "marker bit 1: 380 µs"), (["Home"], "marker bit 1: 5 µs")):
-        for key in keys:
-            window.js("document.getElementById('figure-look-trace-plot').dispatchEvent(new KeyboardEvent('keydown', {key: arguments[0]}))", key)
-        assert window.text("#figure-look-trace .said") == said
+        window.js("for (const key of arguments[0]) document.getElementById('figure-look-trace-plot').dispatchEvent(new KeyboardEvent('keydown', {key}))", keys)
+        labels = window.js("return [...document.querySelectorAll('#figure-look-trace-plot .hovertext')].map((one) => one.textContent)")
+        assert [window.text("#figure-look-trace .said"), *labels] == [said] * 2  # however fast the keys come
     lasts = window.js("return document.getElementById('figure-look-trace-plot')._fullLayout.xaxis.range")
     window.plot("look-trace", (0.25, 1.1), (0.4, 1.1), (0.5, 1.1))  # over the ticks, which a window may not fade
     window.until(lambda: float(window.js("return document.getElementById('setting-to_seconds').value")) > 0, "a window")

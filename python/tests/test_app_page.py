@@ -39,10 +39,11 @@ def page(program: str, tmp_path_factory: pytest.TempPathFactory) -> Iterator[Win
 
 
 @pytest.fixture
-def window(page: Window) -> Window:
-    """The page, opened anew, so that nothing is chosen."""
+def window(page: Window) -> Iterator[Window]:
+    """The page, opened anew, so that nothing is chosen; what a test does may make no error in it."""
     page.open()
-    return page
+    yield page
+    assert page.complaints() == []
 
 
 PLAN = "return document.getElementById('text').value"

@@ -69,6 +69,10 @@ class Window:
     def text(self, selector: str) -> str:
         return str(self.js("return document.querySelector(arguments[0])?.textContent ?? ''", selector))
 
+    def complaints(self) -> list[str]:
+        """What went wrong in the page since this was asked last; an answer that refuses isn't of these."""
+        return [line["message"] for line in self.driver.get_log("browser") if line["level"] == "SEVERE" and line["source"] != "network"]
+
     def choose(self, file: str, question: str) -> None:
         """Opens a file and a question of it."""
         self.click(f'#files button[data-name="{file}"]')

@@ -174,7 +174,8 @@ function walk(event, plot, shape, said) {
   const point = shape.columns ? [Math.floor(at / shape.columns), at % shape.columns] : at;
   said.ariaLive = "polite"; // but "off" for what the pointer hovers over, which changes all the time
   said.textContent = shape.told(curve, point);
-  try { Plotly.Fx.hover(plot, [{ curveNumber: curve, pointNumber: point }]); } catch { /* a point that isn't drawn is said all the same */ }
+  Plotly.Fx.unhover(plot); // and so without waiting, as Plotly would between two hovers
+  Plotly.Fx.hover(plot, [{ curveNumber: curve, pointNumber: point }], `x${/** @type {any} */ (plot).data[curve].yaxis ?? "y"}`);
 }
 
 /** @param {HTMLElement} controls @param {string} words @param {boolean} checked */
