@@ -164,7 +164,8 @@ def here(folder: Path, hosts: Cluster, program: str, number: int) -> None:
     began = time.monotonic()
     most: dict[int, int] = {}
     used: dict[int, float] = {}
-    with subprocess.Popen(list(map(str, words)), env=os.environ | {"PYTHONPATH": PACKAGE}) as running:
+    environment = os.environ | {"PYTHONPATH": PACKAGE}
+    with subprocess.Popen(list(map(str, words)), env=environment) as running:
         while running.poll() is None:
             for process in [running.pid, *children_of(running.pid)]:
                 most[process] = max(most.get(process, 0), memory(process, "VmHWM"))

@@ -50,7 +50,8 @@ rising = events(0.0, 0.0).map(lambda these: [(0, 1)] + [(time, number + 1) for t
 
 def _times(many: Any, seed: int) -> Any:
     draws = np.random.default_rng(seed)
-    return np.cumsum(draws.integers(0, np.where(draws.random(many) < 0.9, 4, 41)), dtype=np.int64)
+    most = np.where(draws.random(many) < 0.9, 4, 41)
+    return np.cumsum(draws.integers(0, most), dtype=np.int64)
 
 
 times = st.builds(_times, st.integers(0, 255), SEEDS)

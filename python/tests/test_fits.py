@@ -468,7 +468,8 @@ def test_told_errors_by_ten_segments_are_their_scatter(together: float) -> None:
     times, draws, pairs, found = ticks * 1e-6, np.random.default_rng(4), 400.0 * 2.0**level, []
     for _ in range(300):
         heights = 1 + together * draws.normal(size=(10, 1))
-        parts = draws.poisson(pairs * (1 + heights * (fits.fcs_model(times, 2.5, 4e-4) - 1))) / pairs
+        expected = pairs * (1 + heights * (fits.fcs_model(times, 2.5, 4e-4) - 1))
+        parts = draws.poisson(expected) / pairs
         found.append(fits.fit_fcs(times, parts.mean(axis=0), segments=parts, dimensions=2))
     for name, known in (("number", 2.5), ("diffusion", 4e-4), ("baseline", 1.0)):
         values, said = (np.array([getattr(fit, what)[name] for fit in found]) for what in ("values", "errors"))

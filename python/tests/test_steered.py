@@ -304,7 +304,8 @@ def test_a_dip_is_that_of_the_formula() -> None:
     wide = antibunching.g2_model(at, 0.8, 3.0, jitter=0.7, width=0.5)
     steps = np.arange(-600, 601) * 0.01
     normal = np.exp(-((steps / 0.7) ** 2) / 2)
-    whole = np.convolve(1 - 0.8 * np.exp(-np.abs(np.arange(-3000, 3001) * 0.01) / 3), normal / normal.sum(), "same")
+    dip = np.exp(-np.abs(np.arange(-3000, 3001)) * 0.01 / 3)
+    whole = np.convolve(1 - 0.8 * dip, normal / normal.sum(), "same")
     whole = np.convolve(whole, np.r_[0.5, np.ones(49), 0.5] / 50, "same")
     assert wide == pytest.approx(whole[1000:5001], abs=1e-4)
 

@@ -62,7 +62,8 @@ def poisson_over(counts: Numbers, background: Numbers, level: Numbers, height: f
 
     def squares(curve: Numbers) -> Numbers:  # with what the third moment, of more to the one side, adds to them
         both = np.maximum(curve + more, 1e-12)
-        return np.asarray(mean_deviance(both) + more * (1 + height) / (3 * both * (1 + both)))
+        third: Numbers = more * (1 + height) / (3 * both * (1 + both))
+        return mean_deviance(both) + third
 
     return replace(law, squares=squares)
 
@@ -475,7 +476,8 @@ def mean_deviance(expected: Numbers) -> Numbers:
     for n in range(1, 120):
         chance = chance * few / n
         mean += 2 * chance * n * (math.log(n) - np.log(few))
-    return np.asarray(np.where(likely < 30, mean, 1 + 1 / (6 * likely) + 1 / (6 * likely**2)))
+    many: Numbers = 1 + 1 / (6 * likely) + 1 / (6 * likely**2)
+    return np.where(likely < 30, mean, many)
 
 
 NEAR = 4  # neighbours on either side with which the scatter of segments at a delay is taken together
@@ -499,4 +501,5 @@ def errors_of_cells(values: Numbers, errors: NDArray[Any] | None, parts: Numbers
     known = np.isfinite(squares)
     near = np.ones(min(2 * NEAR + 1, len(squares)))
     sums, cells = (np.convolve(one, near, "same") for one in (np.where(known, squares, 0.0), known))
-    return np.asarray(np.where(known, np.sqrt(sums / np.maximum(cells, 1.0)), np.nan))
+    scatter: Numbers = np.sqrt(sums / np.maximum(cells, 1.0))
+    return np.where(known, scatter, np.nan)

@@ -124,7 +124,9 @@ class Coincidences(Compared):
         begin, end = self._edges[:-1], self._edges[1:] - 1
         mirrored = np.where((begin <= 0) & (end >= 0), 2 * np.minimum(-begin, end) + 1, 0)
         part = float(self.both_photons) ** 2 / max(float(self.first_photons) * float(self.second_photons), 1.0)
-        return np.asarray(np.maximum(self.counts.astype(np.float64), 1.0) * (1 + part * mirrored / self.widths))
+        twice: Numbers = 1 + part * mirrored / self.widths
+        counts: Numbers = np.maximum(self.counts.astype(np.float64), 1.0)
+        return np.asarray(counts * twice)
 
     def central_ratio(
         self, *, delay: float = 0.0, neighbours: int | None = None, period: float | None = None
@@ -177,7 +179,8 @@ class Coincidences(Compared):
             raise NotKnownError(f"a reach of {self.reach} has no {max(peaks, 1)} whole peaks on either side of {delay:g}")
         edges = delay + period * (np.arange(-peaks, peaks + 2) - 0.5)
         cells = self._edges - 0.5
-        off = np.abs(edges - cells[np.searchsorted((cells[1:] + cells[:-1]) / 2, edges)]).max()  # from the nearest cell's
+        nearest = np.searchsorted((cells[1:] + cells[:-1]) / 2, edges)
+        off = np.abs(edges - cells[nearest]).max()
         if 8 * self.width > period and (off > 0.5 or self.width > period):
             raise NotKnownError(f"cells of {self.width} don't begin where peaks with a period of {period:g} do: take finer ones")
         return np.asarray(edges)
@@ -392,7 +395,8 @@ def _correlated(one: NDArray[np.float64], two: NDArray[np.float64]) -> NDArray[n
         return np.asarray(np.correlate(two.astype(np.int64), one.astype(np.int64), "valid").astype(np.int64))
     rounding = 2.0**-50 * size.bit_length() * float(np.linalg.norm(one)) * float(np.linalg.norm(two))
     if size - len(one) <= SHORT or rounding > 0.1:
-        return np.asarray(np.rint(np.correlate(two, one, "valid")).astype(np.int64))
+        sums: NDArray[np.float64] = np.correlate(two, one, "valid")
+        return np.rint(sums).astype(np.int64)
     turned = np.fft.rfft(two) * np.conj(np.fft.rfft(one, size))
     return np.asarray(np.rint(np.fft.irfft(turned, size)[: size - len(one) + 1]).astype(np.int64))
 
@@ -538,7 +542,8 @@ def _under_dip(at: Numbers, time: float, jitter: float) -> Numbers:
         return np.asarray(-np.sign(at) * time * np.expm1(-np.abs(at) / time))
     special = want("scipy.special", "fits of g2")
     wide, x, half = jitter / time, at / jitter, jitter**2 / (2 * time**2)
-    later, sooner = (np.exp(np.minimum(half + sign * at / time + special.log_ndtr(-sign * x - wide), 700)) for sign in (1, -1))
+    powers = [half + sign * at / time + special.log_ndtr(-sign * x - wide) for sign in (1, -1)]
+    later, sooner = (np.exp(np.minimum(power, 700)) for power in powers)
     return np.asarray(time * (later - sooner + 2 * special.ndtr(x) - 1))
 
 
@@ -563,7 +568,9 @@ def fit_g2(
     ``FitError``.
     """
     expected, variances = _normal(pairs, first_photons, second_photons)
-    unit = 1.0 if pairs.seconds is None else float(np.ptp(pairs.seconds) / np.ptp(pairs.ticks))
+    unit = 1.0
+    if pairs.seconds is not None:
+        unit = float(np.ptp(pairs.seconds)) / float(np.ptp(pairs.ticks))
     axis, width = pairs.ticks * unit, (pairs.settings["width"] if isinstance(pairs, Table) else pairs.width) * unit
     kept = (expected > 0) & (axis >= span[0]) & (axis <= span[1])
     counts, axis, expected, variances = pairs.counts[kept].astype(np.float64), axis[kept], expected[kept], variances[kept]
@@ -586,7 +593,8 @@ def _begin_g2(axis: Numbers, values: Numbers, bars: Numbers, width: float, bunch
     best: tuple[float, Any] = (math.inf, None)
     for time in np.geomspace(max(width / 2, reach / 1000), reach / 4, 16):
         kernel = np.exp(-np.abs(np.arange(-((len(times) - 1) // 2), (len(times) - 1) // 2 + 1)) * width * step / time)
-        found = np.convolve(missing, kernel, "same") / np.sqrt(np.convolve(weights, kernel**2, "same"))
+        scatter: Numbers = np.sqrt(np.convolve(weights, kernel**2, "same"))
+        found = np.convolve(missing, kernel, "same") / scatter
         centre = float(times[int(np.argmax(found))])
         for long in np.geomspace(3 * time, max(reach, 4 * time), 6) if bunching else np.zeros(1):
             shapes = [-np.exp(-np.abs(times - centre) / time), *([np.exp(-np.abs(times - centre) / long)] if long else [])]

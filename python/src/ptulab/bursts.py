@@ -175,7 +175,8 @@ def fused(bursts: NDArray[np.void], gap: int = 0) -> NDArray[np.void]:
     """
     if not len(bursts):
         return np.array(bursts)
-    begin = np.concatenate(([True], bursts["start"][1:] - bursts["stop"][:-1] > gap))
+    apart = bursts["start"][1:] - bursts["stop"][:-1] > gap
+    begin = np.append(True, apart)
     result = np.array(bursts[begin])
     ends = np.append(np.flatnonzero(begin)[1:] - 1, len(bursts) - 1)
     result["last"], result["stop"] = bursts["last"][ends], bursts["stop"][ends]
@@ -194,9 +195,11 @@ def and_gate(bursts: NDArray[np.void], others: NDArray[np.void], photons: Timed,
     begin = np.searchsorted(other["stop"], one["start"])
     many = np.maximum(np.searchsorted(other["start"], one["stop"], side="right") - begin, 0)
     mine = np.repeat(np.arange(len(one)), many)
-    theirs = np.arange(many.sum()) + np.repeat(begin - np.cumsum(many) + many, many)
+    earlier = begin - np.cumsum(many) + many
+    theirs = np.arange(many.sum()) + np.repeat(earlier, many)
     first = np.searchsorted(times, np.maximum(one["start"][mine], other["start"][theirs]))
-    last = np.searchsorted(times, np.minimum(one["stop"][mine], other["stop"][theirs]), side="right") - 1
+    until = np.minimum(one["stop"][mine], other["stop"][theirs])
+    last = np.searchsorted(times, until, side="right") - 1
     kept = last - first + 1 >= minimum
     return _bursts(times, first[kept], last[kept])
 

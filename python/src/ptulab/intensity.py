@@ -279,7 +279,8 @@ def fit_two_states(
     begin = want("lmfit", "fits").Parameters()
     begin.add("dark", value=max(dark, 1e-3), min=0, max=float(axis[-1]))
     begin.add("bright", value=bright, min=0, max=float(axis[-1]))
-    begin.add("part", value=float(np.clip(seen[axis > parted].sum() / seen.sum(), 0.01, 0.99)), min=0, max=1)
+    part = float(seen[axis > parted].sum() / seen.sum())
+    begin.add("part", value=float(np.clip(part, 0.01, 0.99)), min=0, max=1)
 
     def law(counts: int, now: Mapping[str, float]) -> Numbers:
         at = np.arange(counts)
@@ -358,4 +359,7 @@ def _cells(durations: Numbers, span: tuple[float, float], width: float, decade: 
     least = max(span[0], float(durations.min()))
     most = min(span[1], float(durations.max()) * (1 + 1e-9) + width)
     edges = np.geomspace(least, most, max(4, math.ceil(decade * math.log10(most / least)) + 1))
-    return np.asarray(np.unique(np.rint(edges / width) - 0.5) * width) if width else edges
+    if not width:
+        return edges
+    between = np.rint(edges / width) - 0.5
+    return np.asarray(np.unique(between) * width)

@@ -106,7 +106,8 @@ def fit_pixels(
     curves = _Curves(Convolved(pulse, len(pulse) // bins, width, period), shift, bins, photons.max(initial=0) < MANY)
     begin, amplitudes = np.log(np.asarray(lifetimes, dtype=np.float64)), _begun(photons, level, terms)
     if kind == "free":
-        found = _fitted(pixels, level, curves, np.stack([amplitudes, np.repeat(begin[:, None], len(pixels), axis=1)]), kept)
+        logarithms = np.repeat(begin[:, None], len(pixels), axis=1)
+        found = _fitted(pixels, level, curves, np.stack([amplitudes, logarithms]), kept)
     else:
         found, many = np.full((3, terms, len(pixels)), np.nan), -(-len(kept) * bins // TOGETHER)
         blocks = [kept[at::many] for at in range(many)]  # each from all over the picture
@@ -243,7 +244,8 @@ def _turned(
     if (again := none & (step[:terms] < 0)).any():
         held[:terms] |= again
         step, inverse = _step(slope, inform, held, curves.ridge)
-    errors[:, some] = np.where(none | outward, np.nan, np.sqrt(np.maximum(inverse[range(terms, 2 * terms), range(terms, 2 * terms)], 0.0)))
+    variances = np.maximum(inverse[range(terms, 2 * terms), range(terms, 2 * terms)], 0.0)
+    errors[:, some] = np.where(none | outward, np.nan, np.sqrt(variances))
     back, bent = likely < best - WORSE, rise - (ahead * slope).sum(axis=0)
     part = np.clip(np.divide(part * rise, bent, out=np.full(len(some), np.inf), where=bent > 0), *PARTS)
     room = np.concatenate((np.where(step[:terms] < 0, now[:terms] - least, np.inf), np.full(none.shape, 0.7)))
@@ -251,7 +253,8 @@ def _turned(
     moves = np.where(back, -0.5 * ahead, part * step)
     ahead = np.where(back, 0.5 * ahead, moves)
     rise, part = np.where(back, 0.5 * rise, (moves * slope).sum(axis=0)), np.where(back, 0.5 * state[-2, some], part)
-    now = np.concatenate((np.maximum(now[:terms] + moves[:terms], least), np.clip(now[terms:] + moves[terms:], first, last)))
+    amplitudes, places = now[:terms] + moves[:terms], now[terms:] + moves[terms:]
+    now = np.concatenate((np.maximum(amplitudes, least), np.clip(places, first, last)))
     state[:, some] = np.concatenate((now, ahead, [np.where(back, best, likely), part, rise]))
     return np.asarray(some[back | ((slope * step).sum(axis=0) > NEAR)])
 
@@ -264,7 +267,8 @@ def _held(counts: Numbers, level: Numbers, curves: _Curves, parts: Numbers, ampl
         slope, inform = _linear(counts, level, parts, now)
         step, _ = _step(slope, inform, (now <= least) & (slope < 0), curves.ridge)
         part = 1.0 if turn % 2 == 0 else 0.5  # by whole steps a lone photon before the pulse moves some pixels to and fro for ever
-        found[:, going] = np.maximum(now + np.clip(part * step, -0.9 * now - least, photons), least)
+        moves = np.clip(part * step, -0.9 * now - least, photons)
+        found[:, going] = np.maximum(now + moves, least)
         more = (slope * step).sum(axis=0) > NEAR
         counts, level, photons, going = counts[more], level[more], photons[more], going[more]
         if not len(going):

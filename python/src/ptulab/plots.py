@@ -281,7 +281,8 @@ def plot_coloured(values: NDArray[Any], brightness: NDArray[Any], label: str, *,
     axes, pyplot = _axes(axes), want("matplotlib.pyplot", "plots")
     known = values[np.isfinite(values)]
     norm = pyplot.Normalize(*(np.percentile(known, (2, 98)) if len(known) else (0, 1)))
-    light = np.clip(brightness / max(float(np.percentile(brightness, 99)), 1e-300), 0, 1)[..., None]
+    brightest = max(float(np.percentile(brightness, 99)), 1e-300)
+    light = np.clip(brightness / brightest, 0, 1)[..., None]
     colours = np.where(np.isfinite(values)[..., None], pyplot.get_cmap(cmap)(norm(np.nan_to_num(values)))[..., :3], 0.5)
     axes.imshow(colours * light, interpolation="nearest")
     axes.figure.colorbar(pyplot.cm.ScalarMappable(norm, cmap), ax=axes, label=label)

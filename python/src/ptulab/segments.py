@@ -4,6 +4,8 @@ The cells are those of a plan's correlation (``docs/correlation.md``), after Wah
 Express 11, 3583 (2003).
 """
 
+import math
+
 from collections.abc import Iterator, Sequence
 from dataclasses import dataclass, replace
 from typing import Any
@@ -188,7 +190,8 @@ def together(curves: Sequence[Curve]) -> Curve:
     if any(one.unit_seconds != curves[0].unit_seconds or not np.array_equal(one.ticks[:many], ticks) for one in curves):
         raise UnlikeError("correlations with other lags or another unit of time aren't taken together")
     photons = [one.length * np.array(one.rates) for one in curves]
-    counts = np.concatenate([np.full(len(one.segments), np.sqrt(np.prod(some)) / len(one.segments)) for one, some in zip(curves, photons)] or [np.zeros(1)])
+    means = [math.sqrt(np.prod(some)) / len(one.segments) for one, some in zip(curves, photons)]
+    counts = np.concatenate([np.full(len(one.segments), mean) for one, mean in zip(curves, means)] or [np.zeros(1)])
     if not counts.sum() > 0:
         raise ValueError("no photons to correlate")
     rows = np.concatenate([one.segments[:, :many] for one in curves])

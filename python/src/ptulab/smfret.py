@@ -209,7 +209,8 @@ class BurstVariance(Compared):
 
     def expected(self, E: NDArray[np.float64]) -> NDArray[np.float64]:
         """The deviation that counting alone gives: sqrt(E * (1 - E) / n)."""
-        return np.asarray(np.sqrt(E * (1 - E) / self.n))
+        variances: NDArray[np.float64] = E * (1 - E) / self.n
+        return np.sqrt(variances)
 
     def to_pandas(self) -> Any:
         """The bursts as a ``pandas.DataFrame``: ``E``, ``deviation`` and ``pieces``. Raises ``MissingLibraryError`` without pandas."""

@@ -214,7 +214,8 @@ def _delays(settings: Settings) -> NDArray[Any]:
 def _differences(settings: Settings) -> NDArray[np.float64]:
     reach, width = settings["reach"], settings["width"]
     least = width * np.arange(2 * reach // width + 1) - reach
-    return np.asarray((least + np.minimum(least + width - 1, reach)) / 2)
+    most = np.minimum(least + width - 1, reach)
+    return np.asarray((least + most) / 2)
 
 
 def _first(settings: Settings, lines: NDArray[np.int64]) -> NDArray[np.int64]:

@@ -254,7 +254,8 @@ def start_of(values: Floats, errors: Floats) -> int:
     """
     away = np.abs(values - 1)
     seen = np.isfinite(away) & (away > SIGNIFICANT * errors)
-    bound = max(0.02, 0.25 * float(np.median(np.sort(away[seen])[-STEADY:]))) if seen.any() else 0.1
+    greatest = np.sort(away[seen])[-STEADY:]
+    bound = max(0.02, 0.25 * float(np.median(greatest))) if seen.any() else 0.1
     small = errors <= bound
     steady = [cell for cell in range(len(small)) if small[cell : cell + STEADY].all()]
     return steady[0] if steady else 0
