@@ -140,7 +140,8 @@ NEITHER = {"Head", "Header", "Input", "LeftFile", "Report"}  # lines of one, and
 
 def test_results_with_axes_and_lists() -> None:
     """Each result of the package, which is compared by its values, or of many files, is among these."""
-    names = [(module, name) for module in vars(ptulab).values() if inspect.ismodule(module) for name in getattr(module, "__all__", ())]
+    modules = [one for one in (getattr(ptulab, name) for name in ptulab.__all__) if inspect.ismodule(one)]
+    names = [(module, name) for module in modules for name in module.__all__]
     classes = {one for module, name in names if inspect.isclass(one := getattr(module, name))}
     results = {one for one in classes if issubclass(one, Compared) or one in (SummedFiles, LeftFile, ptulab.Head)}
     assert {one.__name__ for one in results} == AXES | LISTS | NEITHER

@@ -46,6 +46,20 @@ def test_every_module_comes_with_the_package() -> None:
     assert {name.partition(".")[2] for name in MODULES} <= {*ptulab.__all__}
 
 
+def test_a_process_that_counts_reads_few_modules() -> None:
+    """Each name of the package is read when it is asked for: what one file wants of it begins in half the time."""
+    words = [sys.executable, "-c", "import sys, ptulab._worker; print(*sys.modules)"]
+    read = {*subprocess.run(words, capture_output=True, text=True, check=True).stdout.split()}
+    assert "ptulab.report" in read and not {"asyncio", "ptulab.app", "ptulab.fits", "ptulab.many", "ptulab.page"} & read
+
+
+def test_names_of_the_package() -> None:
+    found = [getattr(ptulab, name) for name in ptulab.__all__]
+    assert ptulab.run in found and ptulab.program.run is ptulab.run and {*ptulab.__all__} <= {*dir(ptulab)}
+    with pytest.raises(AttributeError, match="'ptulab' has no attribute 'nothing'"):
+        getattr(ptulab, "nothing")
+
+
 IMPORTS = """
 import importlib, importlib.abc, pkgutil, sys
 

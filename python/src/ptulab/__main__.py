@@ -13,18 +13,15 @@ from collections.abc import Callable, Iterable, Iterator, Sequence
 from contextlib import ExitStack, contextmanager
 from typing import Any
 
+import ptulab
+
 from ._advice import explained, of_other_file
 from ._optional import want
 from ._refusals import rule_of
 from ._whole import written_whole
 from ._command_line import command_line
-from .app import serve
 from .errors import BadFileError, PtulabError, RefusalError
-from .exports import write_csv, write_json, write_npz
-from .first_look import info as look_at
 from .many import SummedFiles, count_files, sum_files
-from .page import write_page
-from .plans import check_plan, plan_for
 from .program import run as count_file
 from .report import Report, read_report
 from .texts import report_lines
@@ -37,13 +34,13 @@ Given = argparse.Namespace
 
 def info(given: Given) -> int:
     with _bytes_read(given) as progress:
-        seen = look_at(given.file, program=given.program, progress=progress)
+        seen = ptulab.info(given.file, program=given.program, progress=progress)
     print(seen.json() if given.json else seen)
     return 0
 
 
 def plan(given: Given) -> int:
-    text = str(plan_for(given.file))
+    text = str(ptulab.plan_for(given.file))
     if given.out is None:
         sys.stdout.write(text)
     else:
@@ -54,7 +51,7 @@ def plan(given: Given) -> int:
 
 def check(given: Given) -> int:
     try:
-        found = check_plan(given.plan, given.file, program=given.program)
+        found = ptulab.check_plan(given.plan, given.file, program=given.program)
     except BadFileError as error:
         _say([str(error), *(of_other_file(given.file) if error.status == 10 else ())])
         return 1
@@ -93,7 +90,7 @@ def page(given: Given) -> int:
     if given.report == "-" and given.out is None:
         given.parser.error("say where the page of standard input goes: -o OUT")
     out = given.out or f"{given.report.removesuffix('.txt')}.html"
-    write_page(_report(given), out, file=given.file, plan=given.plan, program=given.program)
+    ptulab.write_page(_report(given), out, file=given.file, plan=given.plan, program=given.program)
     return 0
 
 
@@ -103,16 +100,16 @@ def export(given: Given) -> int:
     report = _report(given)
     tables = [report.table(kind, _number(given, number)) for kind, number in given.table] or list(report.tables)
     if given.csv:
-        write_csv(tables, given.csv)
+        ptulab.exports.write_csv(tables, given.csv)
     if given.json:
-        write_json(report, given.json, tables)
+        ptulab.exports.write_json(report, given.json, tables)
     if given.npz:
-        write_npz(Report(report.head, tuple(tables)), given.npz)
+        ptulab.exports.write_npz(Report(report.head, tuple(tables)), given.npz)
     return 0
 
 
 def app(given: Given) -> int:
-    serve(given.folder, port=given.port, browser=not given.no_browser, program=given.program)
+    ptulab.app.serve(given.folder, port=given.port, browser=not given.no_browser, program=given.program)
     return 0
 
 

@@ -21,7 +21,6 @@ import time
 from collections.abc import Callable, Iterator, Sequence
 from contextlib import contextmanager, suppress
 from dataclasses import dataclass, field, replace
-from importlib import metadata
 from pathlib import Path
 
 from ._documents import read_plan
@@ -56,6 +55,8 @@ def sha256(content: bytes) -> str:
 @functools.cache
 def version() -> str:
     """The version of this package, and the first digits of the sha256 of its sources: what is the same works alike."""
+    from importlib import metadata  # which most processes don't need
+
     told = hashlib.sha256()
     for path in sorted(Path(__file__).parent.glob("*.py")):
         told.update(path.read_bytes())

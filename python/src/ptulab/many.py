@@ -13,7 +13,6 @@ from contextlib import ExitStack, suppress
 from dataclasses import dataclass
 from typing import Any, NamedTuple
 
-from ._dask import Dask
 from ._documents import LONGEST, PlanLike, is_path, name_of, plan_bytes, read_plan
 from ._made_plans import Plan, Ticked
 from ._hand_out import Engine, HandOut
@@ -108,7 +107,7 @@ def count_files(
 
     def engine() -> Engine:
         if client is not None:
-            return Dask(work, these[1], client, patience)
+            return _by_dask(work, these[1], client, patience)
         check(work, these[1], None)
         return Processes(work, these[1], max(1, min(processes or processors(), len(paths))))
 
@@ -139,7 +138,7 @@ def sum_files(
 
     def engine() -> Engine:
         if client is not None:
-            return Dask(work, None, client, patience)
+            return _by_dask(work, None, client, patience)
         if processes == 1:
             return Here(work, None)
         return Processes(work, None, max(1, min(processes, len(paths))))
@@ -155,6 +154,12 @@ def _content(plan: PlanLike, read: Callable[[PathLike], Ticked], paths: Iterable
         with suppress(PtulabError, OSError):
             return plan_bytes(plan, read(path))
     return plan_bytes(plan)
+
+
+def _by_dask(work: Work, program: bytes | None, client: Any, patience: float) -> Engine:
+    from ._dask import Dask  # and asyncio with it
+
+    return Dask(work, program, client, patience)
 
 
 class _Wishes(NamedTuple):
