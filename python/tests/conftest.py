@@ -31,6 +31,8 @@ PARTS = {"test_many": 3, "test_fits": 2, "test_app_browser": 2, "test_app_page":
 # Whose coverage isn't measured, which would take a third of their time: what they reach in the package others reach too.
 UNCOVERED = "test_many_hosts test_many_hosts_sums test_app_browser test_app_page test_browser".split()
 STATISTICS = re.compile("(their|its)_scatter")  # in the names of tests that fit again and again
+# What processes do is covered by the tests whose names have such words: to measure it takes half as long again as what they do.
+PROCESSES = {"test_many": "files_by"}
 
 
 def pytest_configure(config: pytest.Config) -> None:
@@ -59,13 +61,26 @@ def pytest_sessionfinish(session: pytest.Session) -> None:
         session.exitstatus = pytest.ExitCode.TESTS_FAILED
 
 
+def start_uncovered(patched: pytest.MonkeyPatch) -> None:
+    """Processes that are started from now on measure no coverage."""
+    for name in [name for name in os.environ if name.startswith("COV_CORE_")]:
+        patched.delenv(name)
+
+
 @pytest.fixture(scope="module", autouse=True)
 def uncovered(request: pytest.FixtureRequest) -> Iterator[None]:
     """What is started for a file of tests without coverage has none either."""
     with pytest.MonkeyPatch.context() as patched:
-        for name in [name for name in os.environ if name.startswith("COV_CORE_") and request.path.stem in UNCOVERED]:
-            patched.delenv(name)
+        if request.path.stem in UNCOVERED:
+            start_uncovered(patched)
         yield
+
+
+@pytest.fixture(autouse=True)
+def processes_uncovered(request: pytest.FixtureRequest, monkeypatch: pytest.MonkeyPatch) -> None:
+    """Nor has what is started by a test that isn't among those of its file which cover processes."""
+    if PROCESSES.get(request.path.stem, "") not in request.node.name:
+        start_uncovered(monkeypatch)
 
 
 @pytest.fixture(scope="session")

@@ -24,6 +24,7 @@ from plain_sum import cube_report, plain_sum, report_of
 from hypothesis import given
 from hypothesis import strategies as st
 from ptulab import _progress
+from ptulab.__main__ import main
 from ptulab._dask import Dask
 from ptulab._digits import lines_of
 from ptulab._hand_out import HandOut
@@ -747,15 +748,14 @@ def test_the_command_count(folder: Path, program: str) -> None:
     (folder / "list").write_text("".join(f"{path}\n" for path in files_of(folder)))
     ways: list[list[Any]] = [["--from", folder / "list", "--share", "1/4"], [*files_of(folder)[1::4]]]
     for words in ways:
-        assert command("count", folder / "plan.toml", *words, "--program", program, "-o", folder / "out").returncode == 3
+        assert main(["count", str(folder / "plan.toml"), *map(str, words), "--program", program, "-o", str(folder / "out")]) == 3
         assert (folder / "out").read_text() == plain(folder, program, [1])
-    assert command("count", folder / "plan.toml").returncode == 2
-    assert command("count", folder / "plan.toml", folder / "0.ptu", "--share", "2/2").returncode == 2
+    for wrong in ([], [str(folder / "0.ptu"), "--share", "2/2"]):
+        with pytest.raises(SystemExit, match="2"):
+            main(["count", str(folder / "plan.toml"), *wrong])
 
 
 def test_the_other_commands_in_this_process(folder: Path, program: str, capsys: pytest.CaptureFixture[str], monkeypatch: pytest.MonkeyPatch) -> None:
-    from ptulab.__main__ import main
-
     monkeypatch.setenv("PTU", program)
     scan, plan = EXAMPLES / "scan.ptu", EXAMPLES / "scan.toml"
     report = ptulab.run(plan, scan, program=program)
@@ -780,8 +780,6 @@ def test_the_other_commands_in_this_process(folder: Path, program: str, capsys: 
 
 
 def test_words_that_are_no_command(capsys: pytest.CaptureFixture[str]) -> None:
-    from ptulab.__main__ import main
-
     assert main([]) == 2 and main(["paint"]) == 2 and main(["--help"]) == 0
     assert "\n    export " in capsys.readouterr().out
     with pytest.raises(SystemExit):
