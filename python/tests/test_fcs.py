@@ -197,7 +197,7 @@ def test_a_focus_is_calibrated_and_converts() -> None:
     """By a dye of 430 um^2 a second in a focus of 0.25 um: errors of what is converted are as their scatter, within a tenth."""
     known, draws, times = fcs.Focus(0.25e-6, 0.0, 5.0), np.random.default_rng(7), delays(8, 20)[0] * 1e-6
     found = []
-    for _ in range(200):
+    for _ in range(100):
         fitted = []
         for number, constant in ((3.0, 430e-12), (1.5, 60e-12)):
             exact = fits.fcs_model(times, number, known.radius**2 / 4 / constant, structure=5.0)

@@ -69,7 +69,7 @@ def test_made_light_has_that_law() -> None:
 def test_number_and_brightness_and_their_errors() -> None:
     draws = np.random.default_rng(14)
     law = intensity.pch(80, 2.0, 1.5)
-    scatter([intensity.fit_pch(draws.multinomial(5_000, law)) for _ in range(200)], number=2.0, brightness=1.5)
+    scatter([intensity.fit_pch(draws.multinomial(5_000, law)) for _ in range(100)], number=2.0, brightness=1.5)
     fit = intensity.fit_pch(bins(draws, 100_000, 0.5, 3.0, 0.3), fixed={"background": 0.3})
     assert fit.values["number"] == pytest.approx(0.5, rel=0.03) and fit.values["brightness"] == pytest.approx(3, rel=0.03)
     assert fit.reduced == pytest.approx(1, abs=0.5) and math.isnan(fit.errors["background"])
@@ -103,7 +103,7 @@ def test_two_species() -> None:
     """Two species that differ five times in brightness: each as its law tells, and as one species the fit is bad."""
     draws = np.random.default_rng(3)
     law = intensity.pch(150, 0.5, 5.0, number_2=3.0, brightness_2=1.0)
-    some = [draws.multinomial(200_000, law) for _ in range(200)]
+    some = [draws.multinomial(200_000, law) for _ in range(100)]
     found = [intensity.fit_pch(one, species=2) for one in some[:2]]
     more = [intensity.fit_pch(one, species=2, start=found[0].values) for one in some[2:]]
     scatter([*found, *more], number=0.5, brightness=5.0, number_2=3.0, brightness_2=1.0)
@@ -185,7 +185,7 @@ def test_photons_of_one_tick_and_few_photons() -> None:
 
 def test_two_states_and_their_threshold() -> None:
     draws = np.random.default_rng(8)
-    fits = [intensity.fit_two_states(np.bincount(draws.poisson(np.where(draws.random(2000) < 0.4, 20.0, 4.0)))) for _ in range(200)]
+    fits = [intensity.fit_two_states(np.bincount(draws.poisson(np.where(draws.random(2000) < 0.4, 20.0, 4.0)))) for _ in range(100)]
     scatter(fits, dark=4.0, bright=20.0, part=0.4)
     at = intensity.threshold(fits[0])
     dark, bright, part = (fits[0].values[name] for name in ("dark", "bright", "part"))
@@ -206,14 +206,14 @@ def test_times_on_and_off_by_hand() -> None:
 
 def test_exponential_times_and_their_errors() -> None:
     draws = np.random.default_rng(9)
-    fits = [intensity.fit_durations(draws.exponential(0.2, draws.poisson(300)), span=(0.02, math.inf)) for _ in range(200)]
+    fits = [intensity.fit_durations(draws.exponential(0.2, draws.poisson(300)), span=(0.02, math.inf)) for _ in range(100)]
     scatter(fits, time=0.2, number=300 * math.exp(-0.1))
     assert np.mean([fit.reduced for fit in fits]) == pytest.approx(1, abs=0.1)
 
 
 def test_a_power_of_time_and_its_error() -> None:
     draws = np.random.default_rng(10)
-    fits = [intensity.fit_durations(0.01 * draws.random(300) ** (-1 / 0.6), "power") for _ in range(200)]
+    fits = [intensity.fit_durations(0.01 * draws.random(300) ** (-1 / 0.6), "power") for _ in range(100)]
     scatter(fits, exponent=1.6)
     alone = intensity.fit_durations(0.01 * draws.random(300) ** (-1 / 0.6), "power", span=(0.05, 10.0))
     assert alone.axis.min() > 0.05 and alone.axis.max() < 10 and abs(alone.values["exponent"] - 1.6) < 4 * alone.errors["exponent"]
@@ -223,7 +223,7 @@ def test_a_power_of_time_and_its_error() -> None:
 def test_times_in_whole_bins() -> None:
     """An exponential that is seen in bins of half its time keeps it; a power keeps its exponent from some bins on."""
     draws = np.random.default_rng(11)
-    fits = [intensity.fit_durations(0.1 * np.ceil(draws.exponential(0.2, 400) / 0.1), width=0.1) for _ in range(200)]
+    fits = [intensity.fit_durations(0.1 * np.ceil(draws.exponential(0.2, 400) / 0.1), width=0.1) for _ in range(100)]
     scatter(fits, time=0.2)
     long = np.rint(0.01 * draws.random(200_000) ** (-1 / 0.6) / 1e-3) * 1e-3
     fit = intensity.fit_durations(long, "power", span=(0.02, 50.0), width=1e-3)
