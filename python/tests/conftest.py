@@ -30,7 +30,8 @@ LONG = (
 PARTS = {"test_many": 3, "test_fits": 2, "test_app_browser": 2, "test_app_page": 2}  # files whose tests share nothing, in so many parts
 # Whose coverage isn't measured, which would take a third of their time: what they reach in the package others reach too.
 UNCOVERED = "test_many_hosts test_many_hosts_sums test_app_browser test_app_page test_browser".split()
-STATISTICS = re.compile("(their|its)_scatter")  # in the names of tests that fit again and again
+# In the names of tests that fit again and again.
+STATISTICS = re.compile("(their|its)_(scatter|errors?|threshold)|counted_background")
 # What processes do is covered by the tests whose names have such words: to measure it takes half as long again as what they do.
 PROCESSES = {"test_many": "files_by"}
 

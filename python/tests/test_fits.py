@@ -301,7 +301,7 @@ def test_fits_that_cannot_be() -> None:
             call()
 
 
-# Told errors beside the scatter of measurements, which 40 to 100 fits tell to 2.5 % beside estimates that are straight in the same data
+# Told errors beside the scatter of measurements, which 40 to 60 fits tell to 2.5 % beside estimates that are straight in the same data
 # (by drawing from them again), so that by chance one in 10,000 such tests would fail.
 
 
@@ -329,7 +329,7 @@ def beside(background: float) -> dict[str, float]:
 def test_told_errors_of_tails_are_their_scatter(photons: int, background: float) -> None:
     draws, axis = np.random.default_rng(photons), np.arange(125) * 0.2
     curve = of_period(2.6, 0.2, 25.0, photons, background)
-    found = [fits.fit_tail(draws.poisson(curve), axis, 0.0) for _ in range(100)]
+    found = [fits.fit_tail(draws.poisson(curve), axis, 0.0) for _ in range(60)]
     tell_their_scatter(found, {"lifetime_1": 2.6, "amplitude_1": curve[0] - background} | beside(background), few=0.0 if background else 0.3)
     assert np.mean([fit.reduced for fit in found]) == pytest.approx(1, abs=0.05)
 
