@@ -1,5 +1,6 @@
 """Fixtures of all tests: the program, and small files."""
 
+import gc
 import itertools
 import os
 import re
@@ -38,6 +39,15 @@ PROCESSES = {"test_many": "files_by"}
 
 def pytest_configure(config: pytest.Config) -> None:
     config.addinivalue_line("markers", "no_cover: a test whose coverage isn't measured; pytest-cov knows it too")
+
+
+@pytest.hookimpl(hookwrapper=True)  # type: ignore[misc]
+def pytest_collection() -> Iterator[None]:
+    """What is read for the tests is no garbage: nothing looks through it, neither meanwhile nor later."""
+    gc.disable()
+    yield
+    gc.freeze()
+    gc.enable()
 
 
 @pytest.hookimpl(tryfirst=True)  # type: ignore[misc]
