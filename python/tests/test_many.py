@@ -750,9 +750,9 @@ def test_the_command_count(folder: Path, program: str) -> None:
     for words in ways:
         assert main(["count", str(folder / "plan.toml"), *map(str, words), "--program", program, "-o", str(folder / "out")]) == 3
         assert (folder / "out").read_text() == plain(folder, program, [1])
-    for wrong in ([], [str(folder / "0.ptu"), "--share", "2/2"]):
+    for wrong in ("", f"{folder}/0.ptu --share 2/2"):
         with pytest.raises(SystemExit, match="2"):
-            main(["count", str(folder / "plan.toml"), *wrong])
+            main(["count", str(folder / "plan.toml"), *wrong.split()])
 
 
 def test_the_other_commands_in_this_process(folder: Path, program: str, capsys: pytest.CaptureFixture[str], monkeypatch: pytest.MonkeyPatch) -> None:
