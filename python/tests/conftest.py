@@ -14,6 +14,7 @@ import pytest
 from hosts import Cluster, cluster, until
 from hypothesis import HealthCheck, settings
 from trials import Trial
+from window import browser
 
 import ptulab
 
@@ -28,7 +29,7 @@ LONG = (
     "test_many_hosts test_many_hosts_sums test_many test_app_browser test_app_page test_app test_app_results test_browser test_fits "
     "test_notebook test_smfret test_steered test_intensity test_rows test_plots test_page"
 ).split()
-PARTS = {"test_many": 3, "test_fits": 2, "test_app_browser": 2, "test_app_page": 2}  # files whose tests share nothing, in so many parts
+PARTS = {"test_many": 3, "test_fits": 2, "test_app_browser": 2, "test_app_page": 2, "test_app": 2}  # files whose tests share nothing, in so many parts
 # Whose coverage isn't measured, which would take a third of their time: what they reach in the package others reach too.
 UNCOVERED = "test_many_hosts test_many_hosts_sums test_app_browser test_app_page test_browser".split()
 # In the names of tests that fit again and again.
@@ -132,6 +133,20 @@ def make_plan(tmp_path: Path) -> Callable[..., Path]:
 def record_type(request: pytest.FixtureRequest) -> str:
     """Each of the twelve record types."""
     return str(request.param)
+
+
+@pytest.fixture(scope="session")
+def saved(tmp_path_factory: pytest.TempPathFactory) -> Path:
+    """Where the browser puts what it saves."""
+    return tmp_path_factory.mktemp("saved")
+
+
+@pytest.fixture(scope="session")
+def chromium(saved: Path) -> Iterator[Any]:
+    """A browser, which takes as long to start as several tests."""
+    driver = browser(saved)
+    yield driver
+    driver.quit()
 
 
 @pytest.fixture(scope="module")

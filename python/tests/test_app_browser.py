@@ -13,23 +13,22 @@ import numpy as np
 import pytest
 import simulated
 from test_app import Served, begun, gone
-from window import BROWSER, DRIVER, Window, browser
+from window import BROWSER, DRIVER, VIEWS, Window
 
 selenium = pytest.importorskip("selenium", reason="python3-selenium isn't on this machine")
 pytestmark = pytest.mark.skipif(not (BROWSER and DRIVER), reason="chromium and its driver aren't on this machine")
 
 
 @pytest.fixture(scope="module")
-def laboratory(program: str, tmp_path_factory: pytest.TempPathFactory) -> Iterator[Window]:
-    """A browser, and the server of a folder of simulated files."""
-    folder, saved = tmp_path_factory.mktemp("laboratory"), tmp_path_factory.mktemp("saved")
+def laboratory(program: str, chromium: Any, saved: Path, tmp_path_factory: pytest.TempPathFactory) -> Iterator[Window]:
+    """The browser, and the server of a folder of simulated files."""
+    folder = tmp_path_factory.mktemp("laboratory")
     for name in ("scan", "diffusion", "emitter", "bursts", "lasers"):
         getattr(simulated, name)(folder / f"{name}.ptu")
     simulated.emitter(folder / "emitter 2.ptu", 33)
-    driver = browser(saved)
     served = Served(folder, tmp_path_factory.mktemp("work") / "results", program)
-    yield Window(driver, f"{served.origin}/?token=right", saved, served)
-    driver.quit()
+    yield Window(chromium, f"{served.origin}/?token=right", saved, served)
+    chromium.get("about:blank")
     served.end()
 
 
@@ -371,14 +370,13 @@ return faults;
 """
 
 
-@pytest.mark.parametrize(("dark", "width"), [(False, 1100), (True, 390)])
-def test_rules_that_axe_checks(dark: bool, width: int, window: Window) -> None:
-    """Names, references, focus, heads, lists and contrasts, over the page with all its parts."""
-    window.open(dark, width)
+def test_rules_that_axe_checks(window: Window) -> None:
+    """Names, references, focus, heads, lists and contrasts, over the page with all its parts, which begins dark and narrow."""
+    window.open(*VIEWS[0])
     window.choose("scan.ptu", "image")
     window.run()
     window.js("for (const one of document.querySelectorAll('details')) one.open = true")
-    assert window.js(FAULTS) == []
+    assert window.faults(FAULTS) == {}
     assert [line["message"] for line in window.driver.get_log("browser") if line["level"] == "SEVERE"] == []
 
 

@@ -12,7 +12,7 @@ import pytest
 import simulated
 from test_app import Served, begun, gone, jobs_of
 from test_app_browser import FAULTS
-from window import BROWSER, DRIVER, Window, browser
+from window import BROWSER, DRIVER, VIEWS, Window
 
 import ptulab
 from ptulab._plan_rules import SHAPES
@@ -26,15 +26,14 @@ pytestmark = pytest.mark.skipif(not (BROWSER and DRIVER), reason="chromium and i
 
 
 @pytest.fixture(scope="module")
-def page(program: str, tmp_path_factory: pytest.TempPathFactory) -> Iterator[Window]:
-    """A browser, and the server of a folder with a scan, a dye, a pulse, and an emitter."""
-    folder, saved = tmp_path_factory.mktemp("page"), tmp_path_factory.mktemp("saved")
+def page(program: str, chromium: Any, saved: Path, tmp_path_factory: pytest.TempPathFactory) -> Iterator[Window]:
+    """The browser, and the server of a folder with a scan, a dye, a pulse, and an emitter."""
+    folder = tmp_path_factory.mktemp("page")
     for name in ("scan", "dye", "pulse", "emitter"):
         getattr(simulated, name)(folder / f"{name}.ptu")
-    driver = browser(saved)
     served = Served(folder, tmp_path_factory.mktemp("work") / "results", program)
-    yield Window(driver, f"{served.origin}/?token=right", saved, served)
-    driver.quit()
+    yield Window(chromium, f"{served.origin}/?token=right", saved, served)
+    chromium.get("about:blank")
     served.end()
 
 
@@ -432,11 +431,10 @@ def test_values_of_a_fit_stand_in_the_table(window: Window) -> None:
     assert len(known) > 20 and known[:, 1] == pytest.approx(np.interp(known[:, 0], *fit), rel=1e-4)
 
 
-@pytest.mark.parametrize(("dark", "width"), [(False, 1100), (True, 1100), (False, 390), (True, 390)])
-def test_rules_that_axe_checks_over_each_view(dark: bool, width: int, window: Window) -> None:
+def test_rules_that_axe_checks_over_each_view(window: Window) -> None:
     """The first page, a file, a wrong plan with gates, what can be taken back, and an error; test_app_browser has a result."""
-    window.open(dark, width)
-    assert window.js(FAULTS) == []
+    assert window.faults(FAULTS) == {}
+    window.open(*VIEWS[0])
     window.choose("scan.ptu", "decay")
     window.js("for (const one of document.querySelectorAll('details')) one.open = true")
     window.click("#group-1-add")
@@ -447,7 +445,7 @@ def test_rules_that_axe_checks_over_each_view(dark: bool, width: int, window: Wi
     window.click("#tick-none")
     window.click("#run-many")
     window.until(lambda: window.text("#trouble"))
-    assert window.js(FAULTS) == []
+    assert window.faults(FAULTS) == {}
 
 
 # ## A reference for phasors

@@ -2,9 +2,7 @@
 
 import csv
 import json
-import os
 import re
-import subprocess
 import sys
 from collections.abc import Iterator
 from pathlib import Path
@@ -13,9 +11,8 @@ from typing import Any
 import numpy as np
 import pytest
 import simulated
+from alone import output_of
 from test_app import done_here
-
-import ptulab
 
 pytest.importorskip("plotly", reason="python3-plotly isn't on this machine")
 LASERS = "".join(f"[[group]]\ninputs = [{number}]\ngates = [[{begin}, {begin + 500}]]\n\n" for number, begin in ((1, 0), (2, 0), (2, 500)))
@@ -44,14 +41,6 @@ def columns(path: Path) -> dict[str, Any]:
     with open(path, encoding="utf-8", newline="") as lines:
         head, *rows = csv.reader(lines)
     return {name: np.array([row[at] if name == "file" else float(row[at]) for row in rows]) for at, name in enumerate(head)}
-
-
-def by_itself(script: Path) -> str:
-    """What a script prints in a process of its own."""
-    source = str(Path(ptulab.__file__).resolve().parents[1])
-    done = subprocess.run([sys.executable, script], capture_output=True, text=True, check=False, env=os.environ | {"PYTHONPATH": source})
-    assert done.returncode == 0, done.stderr
-    return done.stdout
 
 
 # ## Against what was simulated
@@ -142,7 +131,7 @@ def sums(folder: Path, tmp_path_factory: pytest.TempPathFactory) -> Iterator[Any
             done_here("run", Path(file), place, **asked)
         rows = told["numbers"].split("== the sum of")[0]
         assert rows == "".join(f"== {Path(file).name}\n{(place / 'numbers.txt').read_text('utf-8')}" for file, place in zip(files, places[1:]))
-        assert told["numbers"] == f"{rows}== the sum of {len(files)} files\n{by_itself(places[0] / 'sum.py')}"
+        assert told["numbers"] == f"{rows}== the sum of {len(files)} files\n{output_of(places[0] / 'sum.py')}"
         assert told["figures"] and [row[0] for row in told["table"]["rows"]] == [Path(file).name for file in files]
         return told, places[0], places[1:]
 

@@ -1,14 +1,13 @@
 """The page in Chromium: it draws, the pointer and the keys read its values, and it goes on without scripts."""
 
 import re
-import shutil
 import time
-from collections.abc import Iterator
 from pathlib import Path
 from typing import Any
 
 import numpy as np
 import pytest
+from window import BROWSER, DRIVER, SECONDS, saves_into
 
 import ptulab
 from conftest import EXAMPLES
@@ -18,26 +17,15 @@ from ptulab.report import Head, Report
 from ptulab.tables import empty_table
 
 selenium = pytest.importorskip("selenium", reason="python3-selenium isn't on this machine")
-BROWSER, DRIVER = shutil.which("chromium"), shutil.which("chromedriver")
 pytestmark = pytest.mark.skipif(not (BROWSER and DRIVER), reason="chromium and its driver aren't on this machine")
 HOSTILE = "<img src=x onerror=document.title='bad'><svg onload=document.title='bad'><script>document.title='bad'\"'.ptu"
-SECONDS = 180  # for whatever the browser does, on a machine with other work
 
 
-@pytest.fixture(scope="module")
-def browser() -> Iterator[Any]:
-    from selenium import webdriver
-    from selenium.webdriver.chrome.options import Options
-    from selenium.webdriver.chrome.service import Service
-
-    options = Options()
-    options.binary_location = str(BROWSER)
-    for word in ("--headless", "--no-sandbox", "--disable-gpu", "--disable-dev-shm-usage", "--hide-scrollbars", "--window-size=1000,1400"):
-        options.add_argument(word)
-    driver = webdriver.Chrome(service=Service(str(DRIVER)), options=options)
-    driver.set_page_load_timeout(SECONDS)
-    yield driver
-    driver.quit()
+@pytest.fixture
+def browser(chromium: Any) -> Any:
+    """The browser, whose console has nothing of another test."""
+    chromium.get_log("browser")
+    return chromium
 
 
 @pytest.fixture(scope="module")
@@ -198,15 +186,16 @@ def test_the_zoom_stays(browser: Any, pages: Any) -> None:
     assert ranges(browser, "cube-1-decay")[0] == decay[0] and ranges(browser, "cube-1-decay")[1] != decay[1]
 
 
-def test_a_plot_is_downloaded_as_png(browser: Any, pages: Any, tmp_path: Path) -> None:
+def test_a_plot_is_downloaded_as_png(browser: Any, saved: Path, pages: Any, tmp_path: Path) -> None:
     opened(browser, pages["scan"][0])
-    browser.execute_cdp_cmd("Browser.setDownloadBehavior", {"behavior": "allow", "downloadPath": str(tmp_path)})
+    saves_into(browser, tmp_path)
     for name in ("histogram-1", "image-1"):
         browser.execute_script("document.querySelector(`#${arguments[0]}-plot .modebar-btn[data-title*=png]`).click()", name)
         until(lambda: any(path.suffix == ".png" and path.stat().st_size > 1000 for path in tmp_path.iterdir()))
         (path,) = tmp_path.iterdir()
         assert path.read_bytes().startswith(b"\x89PNG")
         path.unlink()
+    saves_into(browser, saved)
     assert [line["message"] for line in browser.get_log("browser") if line["level"] == "SEVERE"] == []
 
 

@@ -1,19 +1,17 @@
 """The window of ``ptulab app`` in headless Chromium, for tests and for the pictures of the documents."""
 
-import os
 import re
 import shutil
-import subprocess
-import sys
 import time
 from collections.abc import Callable
 from pathlib import Path
 from typing import Any
 
-import ptulab
+from alone import output_of
 
 BROWSER, DRIVER = shutil.which("chromium"), shutil.which("chromedriver")
 SECONDS = 240  # for whatever the browser does, on a machine with other work
+VIEWS = ((True, 390), (True, 1100), (False, 390), (False, 1100))  # themes, of which one is dark, and widths
 WORDS = ("--headless=new", "--no-sandbox", "--disable-gpu", "--disable-dev-shm-usage", "--hide-scrollbars", "--window-size=1100,1400")
 
 
@@ -30,8 +28,12 @@ def browser(saved: Path) -> Any:
     driver = webdriver.Chrome(service=Service(str(DRIVER)), options=options)
     driver.set_page_load_timeout(SECONDS)
     driver.set_script_timeout(SECONDS)
-    driver.execute_cdp_cmd("Browser.setDownloadBehavior", {"behavior": "allow", "downloadPath": str(saved)})
+    saves_into(driver, saved)
     return driver
+
+
+def saves_into(driver: Any, folder: Path) -> None:
+    driver.execute_cdp_cmd("Browser.setDownloadBehavior", {"behavior": "allow", "downloadPath": str(folder)})
 
 
 class Window:
@@ -51,6 +53,15 @@ class Window:
         self.driver.execute_cdp_cmd("Emulation.setEmulatedMedia", {"features": scheme})
         told = {"width": width, "height": 1400, "deviceScaleFactor": 1, "mobile": width < 500}
         self.driver.execute_cdp_cmd("Emulation.setDeviceMetricsOverride", told)
+
+    def faults(self, rules: str) -> dict[tuple[bool, int], list[str]]:
+        """What a script finds in the page as it stands, in each theme and width where it finds something."""
+        found = {}
+        for view in VIEWS:
+            self.shown_as(*view)
+            self.until(lambda: self.js("return document.documentElement.scrollWidth <= innerWidth + 1"), "plots as wide as the page")
+            found[view] = self.js(rules)
+        return {view: faults for view, faults in found.items() if faults}
 
     def js(self, words: str, *more: Any) -> Any:
         return self.driver.execute_script(words, *more)
@@ -130,13 +141,13 @@ class Window:
         """The script that is handed out, run in a folder of its own, prints the numbers that are shown."""
         for name in ("analysis.py", "plan.toml"):
             (folder / name).write_bytes(self.file(name))
-        source = str(Path(ptulab.__file__).resolve().parents[1])
-        done = subprocess.run([sys.executable, "analysis.py"], cwd=folder, capture_output=True, text=True, check=False, env=os.environ | {"PYTHONPATH": source})
-        assert (done.stdout, done.returncode) == (self.text("#numbers"), 0) and done.stdout, done.stderr
+        told = output_of(folder / "analysis.py")
+        assert told and told == self.text("#numbers")
 
     def pictured(self, name: str, kind: str) -> bytes:
         """A picture that is saved of a plot."""
-        self.js("document.querySelector(`#figure-${arguments[0]} [aria-label$='as ${arguments[1]}']`).click()", name, kind.upper())
         path = self.saved / f"{name}.{kind}"
+        path.unlink(missing_ok=True)
+        self.js("document.querySelector(`#figure-${arguments[0]} [aria-label$='as ${arguments[1]}']`).click()", name, kind.upper())
         self.until(lambda: path.exists() and path.stat().st_size > 0, str(path))
         return path.read_bytes()
