@@ -111,8 +111,10 @@ def test_gates_and_windows_of_time_by_dragging(window: Window) -> None:
     window.plot("look-decay", (0.2, 0.5), (0.3, 0.5), (0.4, 0.5))
     gates = window.until(lambda: re.search(r"gates = \[\[(\d+), (\d+)\]\]", window.js("return document.getElementById('text').value")), "a gate")
     assert 100 < int(gates[1]) < int(gates[2]) < 600
+    window.js("window.drawn = 0; document.getElementById('figure-look-decay-plot').on('plotly_afterplot', () => { window.drawn += 1; })")
     window.js("const one = document.getElementById('text'); one.value = one.value.replace('bins = ', 'bins = 0 #'); one.dispatchEvent(new Event('input'))")
     window.until(lambda: window.text("#lines b") and window.text("#findings"))
+    assert window.js("return window.drawn") == 0  # since the gates are the same
     assert f"line {window.text('#lines b')}: histogram 1: bins = 0" in window.text("#findings")
     window.choose("bursts.ptu", "trace")
     window.dragging("look-trace")

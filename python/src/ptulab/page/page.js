@@ -7,7 +7,8 @@
   const narrow = window.matchMedia("(max-width: 30rem)");
   const colour = (name) => getComputedStyle(document.documentElement).getPropertyValue("--" + name).trim();
   const plain = (text) => String(text).replace(/&/g, "&amp;").replace(/</g, "&lt;").replace(/>/g, "&gt;");
-  const number = (value) => Number(value).toLocaleString("en", { maximumSignificantDigits: 6 });
+  const sixDigits = new Intl.NumberFormat("en", { maximumSignificantDigits: 6 }); // made once, which takes longer than to format
+  const number = (value) => sixDigits.format(Number(value));
   const times = [[1, "s"], [1e-3, "ms"], [1e-6, "\u00b5s"], [1e-9, "ns"], [1e-12, "ps"]];
   const element = (figure, part) => document.getElementById(figure.name + "-" + part);
   const checked = (figure, part) => { const box = element(figure, part); return Boolean(box && box.checked); };

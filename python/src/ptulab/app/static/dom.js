@@ -29,9 +29,11 @@ export function table(caption, heads, rows) {
     make("table", {}, make("caption", { text: caption }), make("thead", {}, head), make("tbody", {}, ...body)));
 }
 
+const sixDigits = new Intl.NumberFormat("en", { maximumSignificantDigits: 6 }); // made once, which takes longer than to format
+
 /** A number in short.
  * @param {number | null} value */
-export const short = (value) => value === null ? "not told" : Number(value).toLocaleString("en", { maximumSignificantDigits: 6 });
+export const short = (value) => value === null ? "not told" : sixDigits.format(Number(value));
 
 /** Says something at a place, which a screen reader reads only where it is new.
  * @param {HTMLElement} place @param {string} words */

@@ -35,7 +35,11 @@ const over = { gates: /** @type {number[][]} */ ([]), time: /** @type {number[] 
  * @param {(figure: any) => boolean} of */
 const anew = (of) => { for (const [place, { figure, again }] of drawn) if (!place.isConnected) drawn.delete(place); else if (of(figure)) again(); };
 const hasRegions = (/** @type {any} */ figure) => figure.kind !== "curves";
-document.addEventListener("gates", (heard) => { over.gates = /** @type {CustomEvent} */ (heard).detail; anew((figure) => figure.drag === "gate"); });
+document.addEventListener("gates", (heard) => {
+  const gates = /** @type {number[][]} */ (/** @type {CustomEvent} */ (heard).detail).map((ends) => [...ends]), was = String(over.gates);
+  over.gates = gates;
+  if (String(gates) !== was) anew((figure) => figure.drag === "gate");
+});
 document.addEventListener("looked", () => Object.assign(over, { gates: [], time: null, regions: { picture: [], plane: [] }, paint: null }));
 document.addEventListener("window", (heard) => { over.time = /** @type {CustomEvent} */ (heard).detail; anew((figure) => figure.drag === "time"); });
 document.addEventListener("regions", (heard) => { over.regions = /** @type {CustomEvent} */ (heard).detail; anew(hasRegions); });
