@@ -27,7 +27,7 @@ EXAMPLES = ROOT / "examples"
 
 LONG = (
     "test_many_hosts test_many_hosts_sums test_many test_app_browser test_app_page test_app test_app_results test_browser test_fits "
-    "test_notebook test_smfret test_steered test_intensity test_rows test_plots test_page"
+    "test_notebook test_pixels test_fcs test_steered test_intensity test_rows test_plots test_page"
 ).split()
 PARTS = {"test_many": 3, "test_fits": 2, "test_app_browser": 2, "test_app_page": 2, "test_app": 2}  # files whose tests share nothing, in so many parts
 # Whose coverage isn't measured, which would take a third of their time: what they reach in the package others reach too.
