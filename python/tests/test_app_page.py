@@ -178,6 +178,33 @@ def test_gates_are_typed_in_nanoseconds_and_the_focus_stays_near(window: Window)
     assert window.js(FOCUS) == "redo" and window.js("return document.getElementById('undo').hidden")
 
 
+LATE = """const usual = window.fetch; window.letOn = null; window.fetch = async (name, asked) => {
+  const answer = await usual(name, asked);
+  if (name === "/api/groups" && !window.letOn) await new Promise((done) => { window.letOn = done; });
+  return answer;
+}"""  # answers to changes of groups wait, till the page lets one on
+
+
+def meanwhile(window: Window, button: str, name: str, words: str) -> None:
+    """Types into a field between a click that changes the groups and the server's answer, which comes at once then."""
+    window.js(LATE)
+    window.click(button)
+    window.until(lambda: window.js("return window.letOn !== null"), "an answer")
+    window.js("const one = document.getElementById(arguments[0]); one.value = arguments[1]; for (const name of ['input', 'change']) one.dispatchEvent(new Event(name, {bubbles: true})); window.letOn()", name, words)
+
+
+def test_what_is_changed_before_an_answer_comes_is_kept(window: Window) -> None:
+    """A gate, which is in the plan then, and the text of the plan itself."""
+    window.choose("scan.ptu", "decay")
+    window.js("document.getElementById('plan').open = true")
+    meanwhile(window, "#group-1-add", "group-1-gate-1-to", "600 ticks")
+    window.until(lambda: "gates = [[0, 600]]" in window.js(PLAN), "the gate as it was typed")
+    by_hand = window.js(PLAN) + "# by hand\n"
+    meanwhile(window, "#add-group", "text", by_hand)
+    window.until(lambda: window.js("return document.querySelectorAll('#groups fieldset').length") == window.js(PLAN).count("[[group]]"), "the groups of the text")
+    assert window.js(PLAN) == by_hand
+
+
 # ## What is lost by a click
 
 

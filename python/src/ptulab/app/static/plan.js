@@ -51,6 +51,14 @@ function put(written, words) {
   settled = text.value = written;
 }
 
+/** Does something when nothing has changed for a while. Answers to what was asked before are out of date.
+ * @param {() => void} what */
+function soon(what) {
+  asked += 1;
+  clearTimeout(timer);
+  timer = window.setTimeout(what, 300);
+}
+
 /** The text leads: its groups are shown, and what is wrong. */
 async function follow() {
   const mine = ++asked, told = await ask("plan", { plan: text.value });
@@ -177,7 +185,7 @@ const table = (focus) => renew(byId("groups"), (groups || []).map(fields), focus
 /** The fields of a group.
  * @param {Group} group @param {number} at */
 function fields(group, at) {
-  const label = `group ${at + 1}`, id = `group-${at + 1}`, change = () => { clearTimeout(timer); timer = window.setTimeout(() => write(`${capital(label)} was changed.`), 300); };
+  const label = `group ${at + 1}`, id = `group-${at + 1}`, change = () => soon(() => write(`${capital(label)} was changed.`));
   const name = make("input", { type: "text", id: `${id}-name`, value: group.name, maxlength: "60", size: "14", on: { input: (/** @type {any} */ event) => { group.name = event.target.value; change(); } } });
   const ticks = [...new Set([...of.inputs, ...group.inputs])].sort((one, other) => one - other).map((number) => {
     const box = /** @type {HTMLInputElement} */ (make("input", { type: "checkbox", id: `${id}-input-${number}` }));
@@ -243,8 +251,7 @@ text.addEventListener("input", () => {
   const was = settled;
   if (!typing) did("The text of the plan was changed.", () => { put(was, "The text of the plan was changed."); follow().catch((error) => trouble(error.message)); });
   typing = true;
-  clearTimeout(timer);
-  timer = window.setTimeout(() => follow().catch((error) => trouble(error.message)), 300);
+  soon(() => follow().catch((error) => trouble(error.message)));
 });
 text.addEventListener("blur", () => { typing = false; settled = text.value; });
 byId("add-group").addEventListener("click", () => { groups?.push({ name: "", inputs: of.inputs.slice(0, 1), gates: [] }); again(`Group ${groups?.length} was added.`, `group-${groups?.length}-name`); });
