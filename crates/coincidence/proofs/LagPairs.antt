@@ -1,14 +1,14 @@
 -- Pairs summed lag by lag.
-use Rattle.{tally_base.{specs.Settings.CoincidenceView, proofs.Sums.sum_none}, lag_ring.specs.{declared.{ring.Entry.Entry, window.Side.Side}, Bytes.weight_of}}
-use Rattle.lag_ring.{specs.{Bytes.{weight_before, Have, behind}, Ring.IsRising}, proofs.{Lists.{all_both, all_filter, all_join, each_at}, Rising.all_weaker}}
-use Rattle.lag_ring.proofs.{Rising.{all_push, filter_passed, rising_filter}, Sums.{sum_by-same, sum_by-agree, sum_by-plus, sum_by-times, sum_by-zero}}
-use Rattle.{lag_ring.proofs.Sums.window-before, coincidence.specs.{Pairing.{shifted_by, other_side, lag_pair, pairs_at, pairs_of_all}, Closing.lag_pairs}}
-use Rattle.coincidence.{specs.Closing.{each_lag_pair, lag_sum, lags_of, placed, strip_pairs, window_pairs, window_sum}, proofs.Shut.filter_none}
-use Rattle.{coincidence.proofs.Visits.{pairs_near, pairs_far}, std.proofs.Common.{◌≡◌, ◌≢◌, ◌∙◌, ℕ, zero, suc, ◌+◌, ◌-◌, ◌*◌, ◌/◌, ◌^◌, ◌<◌, ◌≤◌, Bool, true}}
-use Rattle.std.proofs.Common.{false, ◌&&◌, leb, ltb, eqb, cond, List, [], ◌∷◌, ◌++◌, refl, sym, ap, arith, take, drop, nat_le, nat_lt, append_assoc, rules}
-use Rattle.std.proofs.{Common.{length, get_or, replicate}, Math.Nat.mul-le-mul_right, lemmas.{Grind.common_steps, Bool.Decides.nat_tests}}
-use Rattle.std.{proofs.lemmas.List.{get_or-replicate, Elements.filter-append, Sums.{sum_by-cons, sum_by-append}}, specs.List.{sum_by, filter, range_with_len}}
-use Rattle.std.specs.List.{AllByRecursion, Sorted.IsNonDecreasingBy}
+use Rattle.{tally_base.{specs.Settings.CoincidenceView, proofs.Sums.sum_none}, lag_ring.specs.declared.{ring.Entry.Entry, window.Side.Side}}
+use Rattle.lag_ring.specs.{declared.window.Side.TheVariants.{First, Second}, Bytes.{weight_of, weight_before, Have, behind}, Ring.IsRising}
+use Rattle.lag_ring.proofs.{Lists.{all_both, all_filter, all_join, each_at}, Rising.{all_weaker, all_push, filter_passed, rising_filter}, Sums.sum_by-same}
+use Rattle.{lag_ring.proofs.Sums.{sum_by-agree, sum_by-plus, sum_by-times, sum_by-zero, window-before}, coincidence.specs.Pairing.{shifted_by, other_side}}
+use Rattle.coincidence.specs.{Pairing.{lag_pair, pairs_at}, Closing.{lag_pairs, each_lag_pair, lag_sum, both_lag_sums, lags_of, placed, strip_pairs}}
+use Rattle.{coincidence.{specs.Closing.{window_pairs, window_sum}, proofs.Shut.filter_none}, std.proofs.Common.{◌≡◌, ◌≢◌, ◌∙◌, ℕ, zero, suc, ◌+◌, ◌-◌, ◌*◌}}
+use Rattle.std.proofs.Common.{◌/◌, ◌^◌, ◌<◌, ◌≤◌, Bool, true, false, ◌&&◌, leb, ltb, eqb, cond, List, [], ◌∷◌, ◌++◌, refl, sym, ap, arith, take, drop, nat_le}
+use Rattle.std.proofs.{Common.{nat_lt, append_assoc, rules, length, get_or, replicate}, Math.Nat.mul-le-mul_right, lemmas.Grind.common_steps}
+use Rattle.std.{proofs.lemmas.{Bool.Decides.nat_tests, List.{get_or-replicate, Elements.filter-append, Sums.{sum_by-cons, sum_by-append}}}, specs.List.sum_by}
+use Rattle.std.specs.List.{filter, range_with_len, AllByRecursion, Sorted.IsNonDecreasingBy}
 
 -- sums over two lists in either order
 swapped : {X Y : Type 0} (f : X → Y → ℕ) (xs : List X) (ys : List Y) → sum_by (λ x. sum_by (f x) ys) xs ≡ sum_by (λ y. sum_by (λ x. f x y) xs) ys
@@ -34,7 +34,7 @@ module _ (d : Side) (set : CoincidenceView) (c base count : ℕ) (l : Entry) whe
   elsewhere : (e : Entry) (lag : ℕ) → lag ≢ l.index - e.index → at_lag d set c l.index later e lag ≡ 0
   elsewhere e lag other = search (rules, arith)
 
-  by_lags : (e : Entry) → sum_by (at_lag d set c l.index later e) (range_with_len (base + 1) count) ≡ lag_pair d set c base count l e
+  by_lags : (e : Entry) → sum_by (at_lag d set c l.index later e) (range_with_len (base + 1) count) ≡ lag_pair d set c (base + 1) count l e
   by_lags e =
       let one = at_one (at_lag d set c l.index later e) (l.index - e.index) (base + 1) count (λ lag from below. elsewhere e lag) in
       grind (arith, common_steps, nat_tests)
@@ -49,7 +49,7 @@ cell-sum' b f x xs = search (rules, arith, sum_by-cons)
 -- the pairs of all entries, lag by lag
 all_lags : (d : Side) (set : CoincidenceView) (c base count : ℕ) (l : Entry) (es : List Entry)
     → sum_by (λ lag. cond (eqb (shifted_by d set.reach lag / set.width) c) (weight_before d lag l.index es * weight_of (other_side d) l) 0)
-    (range_with_len (base + 1) count) ≡ sum_by (lag_pair d set c base count l) es
+    (range_with_len (base + 1) count) ≡ sum_by (lag_pair d set c (base + 1) count l) es
 all_lags d set c base count l es =
     let later : ℕ = weight_of (other_side d) l in
     sum_by-same (λ lag. cond (eqb (shifted_by d set.reach lag / set.width) c) (weight_before d lag l.index es * later) 0)
@@ -57,12 +57,7 @@ all_lags d set c base count l es =
     (λ lag. cell-sum (eqb (shifted_by d set.reach lag / set.width) c)
     (λ (e : Entry). cond (eqb (e.index + lag) l.index) (weight_of d e) 0) later es)
     ∙ swapped (λ lag (e : Entry). at_lag d set c l.index later e lag) (range_with_len (base + 1) count) es
-    ∙ sum_by-same (λ e. sum_by (at_lag d set c l.index later e) (range_with_len (base + 1) count)) (lag_pair d set c base count l) es (by_lags d set c base count l)
-
--- those that are before, at all lags in reach
-pub lags_before : (d : Side) (set : CoincidenceView) (c : ℕ) (l : Entry) (es : List Entry) → AllByRecursion (λ e. e.index < l.index) es
-    → sum_by (lag_pair d set c 0 set.reach l) es ≡ pairs_of_all d set c l.index (weight_of (other_side d) l) es
-lags_before d set c l es before = search (rules, arith, sum_by-agree, pairs_near, pairs_far)
+    ∙ sum_by-same (λ e. sum_by (at_lag d set c l.index later e) (range_with_len (base + 1) count)) (lag_pair d set c (base + 1) count l) es (by_lags d set c base count l)
 
 pub range-within : (a n : ℕ) → AllByRecursion (λ i. (a ≤ i) × (i < a + n)) (range_with_len a n)
 range-within a zero = tt
@@ -70,36 +65,34 @@ range-within a (suc n) = search (rules, arith, all_weaker, range-within (a + 1) 
 
 -- the pairs of each of some entries with others, at so many lags after others
 pub lags_of_each : (d : Side) (set : CoincidenceView) (c base count : ℕ) (es ls : List Entry)
-    → sum_by (lag_pairs d set c es ls) (range_with_len (base + 1) count) ≡ sum_by (λ l. sum_by (lag_pair d set c base count l) es) ls
+    → sum_by (lag_pairs d set c es ls) (range_with_len (base + 1) count) ≡ sum_by (λ l. sum_by (lag_pair d set c (base + 1) count l) es) ls
 lags_of_each d set c base count es [] = grind (arith, common_steps, sum_none (range_with_len (base + 1) count))
 lags_of_each d set c base count es (l ∷ ls) =
     let cell : ℕ → Bool = λ lag. eqb (shifted_by d set.reach lag / set.width) c in
     let mine : ℕ → ℕ = λ lag. cond (cell lag) (weight_before d lag l.index es * weight_of (other_side d) l) 0 in
     sum_by-same _ (λ lag. mine lag + lag_pairs d set c es ls lag) (range_with_len (base + 1) count) (λ lag. cell-sum' (cell lag) (λ (e : Entry). weight_before d lag e.index es * weight_of (other_side d) e) l ls)
     ∙ sum_by-plus mine (lag_pairs d set c es ls) (range_with_len (base + 1) count)
-    ∙ rw (all_lags d set c base count l es, lags_of_each d set c base count es ls, sum_by-cons (λ k. sum_by (lag_pair d set c base count k) es) l ls) refl
+    ∙ rw (all_lags d set c base count l es, lags_of_each d set c base count es ls, sum_by-cons (λ k. sum_by (lag_pair d set c (base + 1) count k) es) l ls) refl
 
 -- the pairs of each of some entries with those before it, in one direction
 abbrev pub in_turn : Side → CoincidenceView → ℕ → List Entry → List Entry → ℕ
 in_turn d set c es [] = 0
-in_turn d set c es (l ∷ ls) = pairs_of_all d set c l.index (weight_of (other_side d) l) es + in_turn d set c (es ++ l ∷ []) ls
+in_turn d set c es (l ∷ ls) = pairs_at d set c l es + in_turn d set c (es ++ l ∷ []) ls
 
 -- entries that aren't before make no pair
 only_before : (d : Side) (set : CoincidenceView) (c : ℕ) (l : Entry) (es fs : List Entry) → AllByRecursion (λ e. e.index < l.index) es → AllByRecursion (λ e. l.index ≤ e.index) fs
-    → pairs_at d set c 0 set.reach l (es ++ fs) ≡ pairs_of_all d set c l.index (weight_of (other_side d) l) es
-only_before d set c l es fs before after = omega (
-  arith,
-  sum_by-append (lag_pair d set c 0 set.reach l) es fs,
-  lags_before d set c l es before,
-  sum_by-zero (λ e. l.index ≤ e.index) (lag_pair d set c 0 set.reach l) fs after (λ e from. grind (arith, nat_tests)),
-)
+    → sum_by (lag_pair d set c 1 set.reach l) (es ++ fs) ≡ pairs_at d set c l es
+only_before d set c l es fs before after =
+    let same = sum_by-agree (λ e. e.index < l.index) (lag_pair d set c 1 set.reach l) (lag_pair d set c 0 (set.reach + 1) l) es before (λ e lt. grind (arith, nat_tests)) in
+    let none = sum_by-zero (λ e. l.index ≤ e.index) (lag_pair d set c 1 set.reach l) fs after (λ e from. grind (arith, nat_tests)) in
+    omega (arith, sum_by-append (lag_pair d set c 1 set.reach l) es fs, same, none)
 
 each_in_turn : (d : Side) (set : CoincidenceView) (c : ℕ) (es ls : List Entry) → IsRising ls → AllByRecursion (λ l. AllByRecursion (λ e. e.index < l.index) es) ls
-    → sum_by (λ l. pairs_at d set c 0 set.reach l (es ++ ls)) ls ≡ in_turn d set c es ls
+    → sum_by (λ l. sum_by (lag_pair d set c 1 set.reach l) (es ++ ls)) ls ≡ in_turn d set c es ls
 each_in_turn d set c es [] rising below = refl
 each_in_turn d set c es (l ∷ ls) rising below =
-    rw (sum_by-cons (λ k. pairs_at d set c 0 set.reach k (es ++ l ∷ ls)) l ls, only_before d set c l es (l ∷ ls) below.0 (search (rules, arith, all_weaker)), ← append_assoc es (l ∷ []) ls)
-    (ap (λ n. pairs_of_all d set c l.index (weight_of (other_side d) l) es + n) (each_in_turn d set c (es ++ l ∷ []) ls rising.1 (search (rules, arith, all_both, all_push))))
+    rw (sum_by-cons (λ k. sum_by (lag_pair d set c 1 set.reach k) (es ++ l ∷ ls)) l ls, only_before d set c l es (l ∷ ls) below.0 (search (rules, arith, all_weaker)), ← append_assoc es (l ∷ []) ls)
+    (ap (λ n. pairs_at d set c l es + n) (each_in_turn d set c (es ++ l ∷ []) ls rising.1 (search (rules, arith, all_both, all_push))))
 
 pub lags_in_turn : (d : Side) (set : CoincidenceView) (c : ℕ) (es ls : List Entry) → IsRising ls → AllByRecursion (λ l. AllByRecursion (λ e. e.index < l.index) es) ls → sum_by (lag_pairs d set c (es ++ ls) ls) (range_with_len 1 set.reach) ≡ in_turn d set c es ls
 lags_in_turn d set c es ls rising below = lags_of_each d set c 0 set.reach (es ++ ls) ls ∙ each_in_turn d set c es ls rising below
@@ -174,11 +167,11 @@ three_sums f front back own = search (rules, arith, sum_by-append)
 
 -- the pairs with each of three lists, one by one
 pub lags_parts : (d : Side) (set : CoincidenceView) (c base count : ℕ) (front back own later : List Entry)
-    → lag_sum d set c base count (front ++ back ++ own) later ≡ each_lag_pair d set c base count front later + each_lag_pair d set c base count back later + each_lag_pair d set c base count own later
+    → lag_sum d set c base count (front ++ back ++ own) later ≡ each_lag_pair d set c (base + 1) count front later + each_lag_pair d set c (base + 1) count back later + each_lag_pair d set c (base + 1) count own later
 lags_parts d set c base count front back own later =
     lags_of_each d set c base count (front ++ back ++ own) later
-    ∙ swapped (lag_pair d set c base count) later (front ++ back ++ own)
-    ∙ three_sums (λ e. sum_by (λ l. lag_pair d set c base count l e) later) front back own
+    ∙ swapped (lag_pair d set c (base + 1) count) later (front ++ back ++ own)
+    ∙ three_sums (λ e. sum_by (λ l. lag_pair d set c (base + 1) count l e) later) front back own
 
 -- entries after others rise with them
 pub rising_join : (es later : List Entry) → IsRising es → IsRising later
@@ -215,11 +208,11 @@ pub early-enough : (base : ℕ) (es : List Entry) → base ≤ 2 ^ 20 → AllByR
 early-enough base es few early = search (rules, arith, all_weaker)
 
 placed-pairs : (d : Side) (set : CoincidenceView) (c base low high : ℕ) (l : Entry) (es : List Entry) → (low ≤ l.index) × (l.index < high)
-    → sum_by (lag_pair d set c base (lags_of set base) l) (placed base low high es) ≡ sum_by (lag_pair d set c base (lags_of set base) l) es
+    → sum_by (lag_pair d set c (base + 1) (lags_of set base) l) (placed base low high es) ≡ sum_by (lag_pair d set c (base + 1) (lags_of set base) l) es
 placed-pairs d set c base low high l es at = search (rules, arith, placed-sum)
 
 -- the pairs at the lags are those with these
-pub lags-placed : (d : Side) (set : CoincidenceView) (c base low high : ℕ) (later : List Entry) → AllByRecursion (λ e. (low ≤ e.index) × (e.index < high)) later
+lags-placed : (d : Side) (set : CoincidenceView) (c base low high : ℕ) (later : List Entry) → AllByRecursion (λ e. (low ≤ e.index) × (e.index < high)) later
     → (es : List Entry) → lag_sum d set c base (lags_of set base) (placed base low high es) later ≡ lag_sum d set c base (lags_of set base) es later
 lags-placed d set c base low high later near es = search (rules, arith, lags_of_each, sum_by-agree, placed-pairs)
 
@@ -227,16 +220,22 @@ pub near-low : (low high : ℕ) (later : List Entry) → high ≤ low + 4096 →
 near-low low high later short near = search (rules, arith, all_weaker)
 
 -- no photons of the earlier entry, no pairs
-pub no_lag_pairs : (d : Side) (set : CoincidenceView) (c base count : ℕ) (e : Entry) → weight_of d e ≡ 0 → (ls : List Entry) → sum_by (λ l. lag_pair d set c base count l e) ls ≡ 0
-no_lag_pairs d set c base count e none [] = refl
-no_lag_pairs d set c base count e none (l ∷ ls) = search (rules, arith, sum_by-cons, no_lag_pairs d set c base count e none ls)
+pub no_lag_pairs : (d : Side) (set : CoincidenceView) (c from count : ℕ) (e : Entry) → weight_of d e ≡ 0 → (ls : List Entry) → sum_by (λ l. lag_pair d set c from count l e) ls ≡ 0
+no_lag_pairs d set c from count e none [] = refl
+no_lag_pairs d set c from count e none (l ∷ ls) = search (rules, arith, sum_by-cons, no_lag_pairs d set c from count e none ls)
 
 -- lags after others
-pub lags-on : (d : Side) (set : CoincidenceView) (c base count : ℕ) (es later : List Entry) → lag_sum d set c 0 (base + count) es later ≡ lag_sum d set c 0 base es later + lag_sum d set c base count es later
+lags-on : (d : Side) (set : CoincidenceView) (c base count : ℕ) (es later : List Entry) → lag_sum d set c 0 (base + count) es later ≡ lag_sum d set c 0 base es later + lag_sum d set c base count es later
 lags-on d set c base count es later = let start : 0 + base ≡ base = omega arith in rw start at (range-strip (lag_pairs d set c es later) 0 base count)
 
-pub lags-le : (d : Side) (set : CoincidenceView) (c i n : ℕ) (es later : List Entry) → i ≤ n → lag_sum d set c 0 i es later ≤ lag_sum d set c 0 n es later
-lags-le d set c i n es later upto = range-le (lag_pairs d set c es later) 1 i n upto
+-- those of one window more, with the entries that later ones may reach at them
+pub window-on : (set : CoincidenceView) (c base low high : ℕ) (later : List Entry) → AllByRecursion (λ e. (low ≤ e.index) × (e.index < high)) later → (es : List Entry)
+    → both_lag_sums set c 0 (base + lags_of set base) es later ≡ both_lag_sums set c 0 base es later + both_lag_sums set c base (lags_of set base) (placed base low high es) later
+window-on set c base low high later near es =
+    omega (arith, lags-on First set c base (lags_of set base) es later, lags-on Second set c base (lags_of set base) es later, lags-placed First set c base low high later near es, lags-placed Second set c base low high later near es)
+
+pub both-le : (set : CoincidenceView) (c i n : ℕ) (es later : List Entry) → i ≤ n → both_lag_sums set c 0 i es later ≤ both_lag_sums set c 0 n es later
+both-le set c i n es later upto = omega (arith, range-le (lag_pairs First set c es later) 1 i n upto, range-le (lag_pairs Second set c es later) 1 i n upto)
 
 -- the indices of rising entries never fall
 pub never-falls : (es : List Entry) → IsRising es → IsNonDecreasingBy (λ (e : Entry). e.index) es

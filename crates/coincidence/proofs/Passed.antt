@@ -3,7 +3,7 @@ use Rattle.std.proofs.Common.{◌≡◌, ℕ, zero, suc, ◌+◌, ◌-◌, ◌*�
 use Rattle.tally_base.specs.{Settings.CoincidenceView, Tally.History, declared.block.Block.Block, Columns.{rows, item, time_at, gathered}}
 use Rattle.{lag_ring.specs.{Cells.Cells, Ring.{Ring, ring}}, coincidence.specs.{declared.pairing.{Bin.Bin, Pairing.Pairing}, Pairs.photons_of_groups}}
 use Rattle.coincidence.{specs.{Pairing.{bin_pairs, Gathered}, StandsFor.CanTake, Lone.{has_photon, bin_at, IsAlone, IsLone}}, proofs.Blockwise.put_row}
-use Rattle.coincidence.proofs.{Blockwise.photons-more, Shut.{keep, closes, cells_alone, ring_alone}, Visits.{moves, close_on}}
+use Rattle.coincidence.proofs.{Blockwise.photons-more, Shut.{closes, cells_alone}, Together.ring_alone, Visits.{moves, close_on}}
 
 no_pairs : (set : CoincidenceView) (c : ℕ) (bin : Bin) → bin.both ≡ bin.weights.a * bin.weights.b → bin_pairs set c bin [] ≡ 0
 no_pairs set c bin is = search (rules, arith)
@@ -24,8 +24,8 @@ module _ {N : ℕ} (set : CoincidenceView) (Before : History → Type 0) (b : Bl
       let moved = moves set r cells [] _ bin (bin_at set b at) _ (put_row set b h at either Before inside can _ came) (omega (arith, early)) in
       let old : Pairing = record { «open» = None; ring = r; cells = cells } in
       let done = closes set old (bin ∷ []) (record { «open» = None; ring = ring (bin.weights ∷ []) r.reach; cells = cells }) 0 0 (λ closed xs may. (
-        ring_alone set r bin closed xs (keep set old bin closed xs may) alone.1 some,
-        cells_alone set old bin closed xs may alone.1 cells 0 0 (record { cells = λ c in_range. omega (arith, no_pairs set c bin alone.0); spends = record { same = refl; added = omega arith; steps = refl } }),
+        ring_alone set old bin closed xs may some alone.1,
+        cells_alone set old bin closed xs may cells 0 0 alone.1 (record { cells = λ c in_range. omega (arith, no_pairs set c bin alone.0); spends = record { same = refl; added = omega arith; steps = refl } }),
       )) refl in
       rw (is, photons-more set b h at either) (close_on set r cells (bin ∷ []) _ _ _ _ [] moved (done.follows [] moved.shut moved.pending))
 

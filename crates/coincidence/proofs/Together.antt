@@ -1,12 +1,12 @@
 -- Bins that are closed one after another, or together.
-use Rattle.std.proofs.Common.{◌≡◌, ℕ, ◌+◌, ◌<◌, List, [], ◌∷◌, ◌++◌, length, arith, append_assoc, length-append, append-nil, rules, ◌-◌, ◌*◌, ◌≤◌, leb, refl}
-use Rattle.std.{proofs.{Common.{Some, slice_get}, Math.{Logic.∥∥₁_map, Nat.mul-le-mul_right}, lemmas.List.{length-map, Sums.sum_by-cons}}, specs.List.sum_by}
-use Rattle.{std.specs.List.{filter, AllByRecursion}, tally_base.specs.{Settings.CoincidenceView, Tally.History}}
+use Rattle.std.proofs.Common.{Bool, true, ◌∙◌, ◌≡◌, ℕ, ◌+◌, ◌<◌, List, [], ◌∷◌, ◌++◌, length, arith, append_assoc, length-append, append-nil, rules, ◌-◌, ◌*◌}
+use Rattle.std.proofs.{Common.{◌≤◌, leb, refl, Some, slice_get}, Math.{Logic.∥∥₁_map, Nat.mul-le-mul_right}, lemmas.List.{length-map, Elements.filter-append}}
+use Rattle.{std.{proofs.lemmas.List.Sums.sum_by-cons, specs.List.{sum_by, filter, AllByRecursion}}, tally_base.specs.{Settings.CoincidenceView, Tally.History}}
 use Rattle.lag_ring.specs.{declared.{window.Side.TheVariants.{First, Second}, ring.Entry.Entry}, Cells.Cells, Ring.{Ring, ring, IsRising}}
 use Rattle.lag_ring.proofs.{Lists.{all_front, all_back, of_some}, Kept.{weights_on, kept_late}, Rising.{all_weaker, all_at, upto_join, rising_filter}}
 use Rattle.coincidence.specs.{declared.pairing.{Bin.Bin, Pairing.Pairing}, Pairing.{bin_pairs, RingIs, CellsAre, MayClose, Closes, BinsAre, HasRoom, Counts}}
 use Rattle.coincidence.{specs.{Closing.{weights_in, both_lag_sums}, Pairs.{in_first, in_second, coincidences}}, proofs.LagPairs.{lags_in_turn, in_turn}}
-use Rattle.coincidence.proofs.{LagPairs.rising_join, Shut.{CanClose, Weights, ring_weights, grown_by, bin_both, sums_fit}}
+use Rattle.coincidence.proofs.{LagPairs.rising_join, Shut.{CanClose, filter_none, Weights, ring_weights, grown_by, bin_both, sums_fit}}
 
 -- Bins that are closed together bring what they bring one by one.
 
@@ -103,6 +103,26 @@ module _ (set : CoincidenceView) where
         let work : new.added ≤ (2 * set.reach + 1) * length (closed ++ xs) = rw (length-append closed xs)
         (more_for_all set.reach (length closed) (length xs) (length bins) p.cells.added new.added (few_bins bins closed xs can.are) can.cells.work (rw (is, length-map) at counts.spends.added)) in
         search (rules, arith, all_grown, work)
+
+-- One bin that is put after the closed ones.
+
+module _ (set : CoincidenceView) (p : Pairing) (bin : Bin) (closed xs : History) (can : CanClose set p (bin ∷ []) closed xs) (some : 0 < set.reach) where
+  abbrev stays : Entry → Bool
+  stays f = leb (bin.weights.index - (set.reach - 1)) f.index
+
+  -- a ring that let go what is further back than the reach has room for it, and keeps it
+  pub ring_shut : RingIs set (ring (filter stays p.ring.entries ++ bin.weights ∷ []) p.ring.reach) (closed ++ xs)
+  ring_shut =
+      let stay : stays bin.weights ≡ true = search (rules, arith) in
+      let split : filter stays (p.ring.entries ++ bin.weights ∷ []) ≡ filter stays p.ring.entries ++ bin.weights ∷ [] = filter-append stays p.ring.entries (bin.weights ∷ []) ∙ rw stay refl in
+      rw split at (all_kept set p (bin ∷ []) closed xs can (bin.weights ∷ []) refl some bin.weights refl)
+
+  pub place_left : length (filter stays p.ring.entries) < p.ring.reach
+  place_left = omega (arith, ring_shut.keeps.within, length-append (filter stays p.ring.entries) (bin.weights ∷ []))
+
+  -- and has it alone where no entry is in reach
+  pub ring_alone : AllByRecursion (λ e. e.index + set.reach < bin.weights.index) p.ring.entries → RingIs set (ring (bin.weights ∷ []) p.ring.reach) (closed ++ xs)
+  ring_alone far = search (rules, arith, filter_none, all_weaker, ring_shut)
 
 -- Bins that are closed part by part.
 

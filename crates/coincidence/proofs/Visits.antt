@@ -1,28 +1,23 @@
 -- One entry more in the loops over a ring.
 use Rattle.{tally_base.specs.{Settings.{CoincidenceView, coincidence_cells}, Tally.History, Limits.record_limit}, lag_ring.specs.declared.window.Side.Side}
-use Rattle.lag_ring.{specs.{declared.ring.Entry.Entry, Bytes.weight_of, Cells.Cells, Ring.Ring}, proofs.{Rising.all_weaker, Lists.{all_back, all_join}}}
-use Rattle.{lag_ring.proofs.Lists.of_some, coincidence.specs.{Pairs.is_in_cell, Pairing.{shifted_by, pairs_of, pairs_of_all, joined, BinIs, BinsAre, Pending}}}
-use Rattle.coincidence.specs.{Pairing.{Gathered, CanPut, HasRoom, Counts}, declared.pairing.{Pairing.Pairing, Bin.Bin}, StandsFor.HasPhotons}
-use Rattle.std.proofs.Common.{◌≡◌, ℕ, ◌+◌, ◌-◌, ◌*◌, ◌/◌, ◌<◌, ◌≤◌, eqb, cond, List, [], ◌∷◌, refl, arith, rules, ◌≢◌, ◌∙◌, Some, Option, ◌++◌, length, sym}
-use Rattle.std.proofs.{Common.{length-append, append_assoc, append-nil, ap, Bool, true, false}, lemmas.{Grind.common_steps, List.Sums.sum_by-cons}}
-use Rattle.std.{proofs.{lemmas.List.Sums.sum_by-append, Math.Nat.mul-le-mul_left}, specs.List.AllByRecursion}
+use Rattle.lag_ring.specs.{declared.{window.Side.TheVariants.{First, Second}, ring.Entry.Entry}, Bytes.weight_of, Cells.Cells, Ring.Ring}
+use Rattle.{lag_ring.proofs.{Rising.all_weaker, Lists.{all_back, all_join, of_some}}, coincidence.specs.{Pairs.is_in_cell, Pairing.{shifted_by, other_side}}}
+use Rattle.coincidence.specs.Pairing.{lag_pair, pairs_at, joined, BinIs, BinsAre, Pending, Gathered, CanPut, HasRoom, Counts}
+use Rattle.{coincidence.specs.{declared.pairing.{Pairing.Pairing, Bin.Bin}, StandsFor.HasPhotons}, std.proofs.Common.{◌≡◌, ℕ, ◌+◌, ◌*◌, ◌/◌, ◌<◌, ◌≤◌, eqb}}
+use Rattle.std.proofs.Common.{cond, List, [], ◌∷◌, refl, arith, rules, ◌≢◌, ◌∙◌, Some, Option, ◌++◌, length, sym, length-append, append_assoc, append-nil, ap}
+use Rattle.std.proofs.{Common.{Bool, true, false}, lemmas.{Grind.common_steps, List.Sums.{sum_by-cons, sum_by-append}}, Math.Nat.mul-le-mul_left}
+use Rattle.std.specs.List.{AllByRecursion}
 
-module _ (set : CoincidenceView) (index : ℕ) (earlier : Entry) (after : earlier.index < index) (near : index - earlier.index ≤ set.reach) where
-  in_forward : (c : ℕ) → is_in_cell set c earlier.index index ≡ eqb ((set.reach + (index - earlier.index)) / set.width) c
-  in_forward c = search (rules, arith)
+-- whether the cell counts the pairs of an earlier tick and a later one
+abbrev pub counts_ticks : Side → CoincidenceView → ℕ → ℕ → ℕ → Bool
+counts_ticks First set c earlier later = is_in_cell set c earlier later
+counts_ticks Second set c earlier later = is_in_cell set c later earlier
 
-  in_backward : (c : ℕ) → is_in_cell set c index earlier.index ≡ eqb ((set.reach - (index - earlier.index)) / set.width) c
-  in_backward c = search (rules, arith)
-
-  -- the cells of an entry in reach
-  pub pairs_near : (d : Side) (later c : ℕ)
-      → pairs_of d set c index later earlier ≡ cond (eqb (shifted_by d set.reach (index - earlier.index) / set.width) c) (weight_of d earlier * later) 0
-  pairs_near d later c = search (rules, arith, in_forward, in_backward)
-
--- no cell counts an entry that is out of reach
-pub pairs_far : (set : CoincidenceView) (index : ℕ) (earlier : Entry) → set.reach < index - earlier.index
-    → (d : Side) (later c : ℕ) → pairs_of d set c index later earlier ≡ 0
-pairs_far set index earlier far d later c = search (rules, arith)
+-- the pairs with an entry that is before
+pub pair_before : (d : Side) (set : CoincidenceView) (c : ℕ) (l e : Entry) → e.index < l.index
+    → lag_pair d set c 0 (set.reach + 1) l e ≡ cond (counts_ticks d set c e.index l.index) (weight_of d e) 0 * weight_of (other_side d) l
+pair_before First set c l e before = search (rules, arith)
+pair_before Second set c l e before = search (rules, arith)
 
 -- a difference in reach has a cell
 pub shifted_inside : (d : Side) (reach apart width : ℕ) → 0 < width → apart ≤ reach → shifted_by d reach apart / width < 2 * reach / width + 1
@@ -47,10 +42,10 @@ module _ (set : CoincidenceView) (old mid : Cells) (before then' : ℕ) (f g h :
 pub one_fits : (x p most k : ℕ) → x + cond (eqb k k) p 0 ≤ most → x + p ≤ most
 one_fits x p most k fits = grind (arith, common_steps, fits)
 
--- no photons of the later tick, no pairs
-pub no_pairs : (d : Side) (set : CoincidenceView) (c index later : ℕ) → later ≡ 0 → (es : List Entry) → pairs_of_all d set c index later es ≡ 0
-no_pairs d set c index later none [] = refl
-no_pairs d set c index later none (e ∷ es) = search (rules, arith, sum_by-cons, no_pairs d set c index later none es)
+-- no photons of the later entry, no pairs
+pub no_pairs : (d : Side) (set : CoincidenceView) (c : ℕ) (l : Entry) → weight_of (other_side d) l ≡ 0 → (es : List Entry) → pairs_at d set c l es ≡ 0
+no_pairs d set c l none [] = refl
+no_pairs d set c l none (e ∷ es) = search (rules, arith, sum_by-cons, no_pairs d set c l none es)
 
 -- The additions of a table are within its work.
 

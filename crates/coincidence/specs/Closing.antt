@@ -1,9 +1,9 @@
 -- Bins that are closed together.
-use Rattle.std.specs.{Prelude.{ℕ, ◌+◌, ◌-◌, ◌^◌, ◌<◌, ◌≤◌, ◌==◌, ◌/◌, ◌*◌, nat_lt, nat_le, min, slice_index, List, filter, ◌++◌, length, map, sum_by, if◌then◌else◌}, List.AllByRecursion}
-use Rattle.std.{specs.List.range_with_len, proofs.Props.props}
+use Rattle.std.specs.{Prelude.{ℕ, ◌+◌, ◌-◌, ◌^◌, ◌<◌, ◌≤◌, ◌==◌, ◌/◌, ◌*◌, nat_lt, nat_le, min, slice_index, List, filter, length, map, sum_by, if◌then◌else◌}, List.{AllByRecursion, range_with_len}}
+use Rattle.std.proofs.Props.{props}
 use Rattle.{tally_base.specs.Settings.{CoincidenceView, coincidence_view}, lag_ring.specs.{Cells.Cells, declared.{ring.Entry.Entry, window.Side.{Side, TheVariants.{First, Second}}}, Bytes.weight_of}}
 use Rattle.{lag_ring.{specs.{Bytes.{weight_before, IsLight, behind}, Ring.IsRising}, proofs.Rising.rising-prop}, coincidence.specs.declared.{pairing.Bin.Bin, places.{Lags.Lags, Places.Places}}}
-use Rattle.coincidence.specs.Pairing.{HasRoom, Counts, lag_pair, other_side, shifted_by}
+use Rattle.coincidence.specs.Pairing.{Counts, lag_pair, other_side, shifted_by}
 
 -- the entries of bins
 abbrev pub weights_in : List Bin → List Entry
@@ -53,7 +53,7 @@ both_lag_sums set c base count es later = lag_sum First set c base count es late
 
 -- those in one direction, one by one
 abbrev pub each_lag_pair : Side → CoincidenceView → ℕ → ℕ → ℕ → List Entry → List Entry → ℕ
-each_lag_pair direction set c base count es later = sum_by (λ e. sum_by (λ l. lag_pair direction set c base count l e) later) es
+each_lag_pair direction set c from count es later = sum_by (λ e. sum_by (λ l. lag_pair direction set c from count l e) later) es
 
 -- the entries that later ones below an index, and not below another, may reach at the lags of a window
 abbrev pub placed : ℕ → ℕ → ℕ → List Entry → List Entry
@@ -80,11 +80,11 @@ pub HasWindow-prop : (places : Places) (es later : List Entry) → IsProp (HasWi
 HasWindow-prop places es later = hlevel (props, rising-prop)
 
 -- cells count the pairs with one earlier entry at some lags, one by one
-abbrev pub CountsEarlier : Lags → Side → Cells → Cells → ℕ → ℕ → Entry → List Entry → Type 0
-CountsEarlier lags direction old new before now earlier later =
-    let set = coincidence_view lags.set in Counts set old new before now (λ c. sum_by (λ l. lag_pair direction set c lags.base lags.count l earlier) later) (length later)
+abbrev pub CountsEarlier : Lags → Cells → Cells → ℕ → ℕ → Entry → List Entry → Type 0
+CountsEarlier lags old new before now earlier later = let set = coincidence_view lags.set in
+    Counts set old new before now (λ c. sum_by (λ l. lag_pair lags.direction set c lags.from lags.count l earlier) later) (length later)
 
 -- and with each of some entries
-abbrev pub CountsEach : Lags → Side → Cells → Cells → ℕ → ℕ → List Entry → List Entry → Type 0
-CountsEach lags direction old new before now es later =
-    let set = coincidence_view lags.set in Counts set old new before now (λ c. each_lag_pair direction set c lags.base lags.count es later) (length es * length later)
+abbrev pub CountsEach : Lags → Cells → Cells → ℕ → ℕ → List Entry → List Entry → Type 0
+CountsEach lags old new before now es later = let set = coincidence_view lags.set in
+    Counts set old new before now (λ c. each_lag_pair lags.direction set c lags.from lags.count es later) (length es * length later)

@@ -3,7 +3,7 @@ use Rattle.std.specs.Prelude.{◌≡◌, ℕ, ◌+◌, ◌-◌, ◌*◌, ◌/◌
 use Rattle.std.specs.{Prelude.if◌then◌else◌, List.AllByRecursion}
 use Rattle.{tally_base.specs.{Settings.{CoincidenceView, coincidence_cells}, Tally.History, Limits.record_limit}, lag_ring.specs.declared.{ring.Entry.Entry, window.Side.{Side, TheVariants.First}}}
 use Rattle.lag_ring.specs.{declared.window.Side.TheVariants.Second, Cells.{Cells, Spends}, Ring.{Ring, Weighs}, Bytes.weight_of, Binned.{IsOpen, KeepsReach, CellsCount}}
-use Rattle.coincidence.specs.{declared.pairing.{Bin.Bin, Pairing.Pairing}, Pairs.{in_first, in_second, is_in_cell, coincidences}}
+use Rattle.coincidence.specs.{declared.pairing.{Bin.Bin, Pairing.Pairing}, Pairs.{in_first, in_second, coincidences}}
 
 -- A direction is told by the side of the earlier photon of a pair: the difference is positive where it is of the first group.
 
@@ -17,30 +17,19 @@ abbrev pub shifted_by : Side → ℕ → ℕ → ℕ
 shifted_by First reach apart = reach + apart
 shifted_by Second reach apart = reach - apart
 
--- the pairs of an earlier entry's photons with a later one's that the cell counts, where they are so many ticks apart as one of some lags
+-- the pairs of an earlier entry's photons with a later one's that the cell counts, where they are so many ticks apart as one of so many lags from one on
 abbrev pub lag_pair : Side → CoincidenceView → ℕ → ℕ → ℕ → Entry → Entry → ℕ
-lag_pair direction set c base count later earlier =
-    if (nat_lt base (later.index - earlier.index) && nat_le (later.index - earlier.index) (base + count)) && shifted_by direction set.reach (later.index - earlier.index) / set.width == c
+lag_pair direction set c from count later earlier =
+    if (nat_le from (later.index - earlier.index) && nat_lt (later.index - earlier.index) (from + count)) && shifted_by direction set.reach (later.index - earlier.index) / set.width == c
     then weight_of direction earlier * weight_of (other_side direction) later else 0
 
--- the same for all entries of a list
-abbrev pub pairs_at : Side → CoincidenceView → ℕ → ℕ → ℕ → Entry → List Entry → ℕ
-pairs_at direction set c base count later es = sum_by (lag_pair direction set c base count later) es
+-- the pairs with all entries of a list that are in reach, where these are before the later one
+abbrev pub pairs_at : Side → CoincidenceView → ℕ → Entry → List Entry → ℕ
+pairs_at direction set c later es = sum_by (lag_pair direction set c 0 (set.reach + 1) later) es
 
--- the pairs of an earlier entry's photons with so many at a later tick, that the cell counts
-abbrev pub pairs_of : Side → CoincidenceView → ℕ → ℕ → ℕ → Entry → ℕ
-pairs_of First set c index later earlier = if is_in_cell set c earlier.index index then earlier.a * later else 0
-pairs_of Second set c index later earlier = if is_in_cell set c index earlier.index then earlier.b * later else 0
-
--- the same for all entries of a list
-abbrev pub pairs_of_all : Side → CoincidenceView → ℕ → ℕ → ℕ → List Entry → ℕ
-pairs_of_all direction set c index later es = sum_by (pairs_of direction set c index later) es
-
--- the pairs of a later entry's photons with those of all entries of a list, that the cell counts
+-- the same in both directions
 abbrev pub pairs_with : CoincidenceView → ℕ → Entry → List Entry → ℕ
-pairs_with set c later es =
-    pairs_of_all First set c later.index later.b es
-    + pairs_of_all Second set c later.index later.a es
+pairs_with set c later es = pairs_at First set c later es + pairs_at Second set c later es
 
 -- those entries that a photon after the later one's tick may reach
 abbrev pub kept_for : ℕ → Entry → List Entry → List Entry

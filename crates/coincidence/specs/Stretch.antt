@@ -1,7 +1,7 @@
 -- The pairs of later entries with those before them, at the lags of windows.
 use Rattle.std.specs.Prelude.{ℕ, ◌+◌, ◌*◌, List, ◌++◌}
 use Rattle.{tally_base.specs.Settings.{CoincidenceView, coincidence_view}, lag_ring.specs.{Cells.Cells, declared.{ring.Entry.Entry, window.Side.{Side, TheVariants.{First, Second}}}}}
-use Rattle.coincidence.specs.{declared.stretch.Stretch.Stretch, Pairing.{HasRoom, Counts}, Closing.{lag_sum, lags_of, both_lag_sums}}
+use Rattle.coincidence.specs.{declared.stretch.Stretch.Stretch, Pairing.Counts, Closing.{lag_sum, lags_of, both_lag_sums}}
 
 -- the entries that the later ones may reach
 abbrev pub reached : Stretch → List Entry

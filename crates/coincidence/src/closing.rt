@@ -1,7 +1,7 @@
 // Bins that are closed together.
-ghost use Rattle.std.specs.{Prelude.{◌≡◌, ℕ, ◌+◌, ◌-◌, ◌*◌, ◌^◌, ◌<◌, ◌≤◌, ◌++◌, [], IsTrue, length, slice_index, sum_by}, List.AllByRecursion};
-ghost use Rattle.{tally_base.specs.{Settings.coincidence_view, Tally.History}, lag_ring.specs.Bytes.{weight_of, IsLight}, arrayvec.specs.ArrayVec.array_vec_len, coincidence.specs.Pairing.bin_pairs};
-ghost use Rattle.coincidence.specs.{Pairing.{MayClose, Closes, HasRoom, Counts}, Closing.{weights_in, FitsWindow}};
+ghost use Rattle.std.specs.{Prelude.{◌≡◌, ◌-◌, ◌*◌, ◌<◌, ◌≤◌, ◌++◌, [], IsTrue, length, sum_by}, List.AllByRecursion};
+ghost use Rattle.{tally_base.specs.Settings.coincidence_view, lag_ring.specs.Bytes.{weight_of, IsLight}, arrayvec.specs.ArrayVec.array_vec_len, coincidence.specs.Pairing.{bin_pairs, MayClose}};
+ghost use Rattle.coincidence.specs.{Pairing.{Closes, HasRoom, Counts}, Closing.{weights_in, FitsWindow}};
 
 use crate::lags::{are_near, pair_lags};
 use crate::pairing::{Bin, Pairing, close, least_kept, pair_inside};
@@ -24,8 +24,7 @@ const END: u64 = 1 << 63;
 /// Puts the entries of bins into an empty list.
 #[inline(always)]
 fn put_weights(entries: &mut ArrayVec<Entry, TABLE_BLOCK>, bins: &[Bin])
-    requires few { length bins.now ≤ TABLE_BLOCK }
-    requires empty { (entries.old.items ≡ []) × (array_vec_len entries.old ≡ 0) }
+    requires empty { (entries.old.items ≡ []) × (array_vec_len entries.old ≡ 0) × (length bins.now ≤ TABLE_BLOCK) }
     ensures { entries.new.items ≡ weights_in bins.now }
 {
     for bin in bins {
@@ -117,22 +116,8 @@ fn close_together<L: Ledger>(
     ring.renew(later, least_kept(&places.set, last));
 }
 
-/// Pairs bins one by one, and puts them among the closed ones.
-fn close_each<L: Ledger>(
-    pairing: &mut Pairing,
-    set: &CoincidenceSet,
-    bins: &[Bin],
-    steps: &mut Steps<L>,
-)
-    requires stands { MayClose (coincidence_view set.now) pairing.old bins.now }
-    ensures { Closes (coincidence_view set.now) pairing.old pairing.new bins.now steps.old steps.new }
-{
-    for bin in bins {
-        close(pairing, set, bin, steps);
-    }
-}
-
-/// Pairs bins, over windows where they fit these and many are in reach, and puts them among the closed ones.
+/// Pairs bins, over windows where they fit these and many are in reach, and else one by one, and puts them among the closed
+/// ones.
 fn close_part<L: Ledger>(
     pairing: &mut Pairing,
     set: &CoincidenceSet,
@@ -161,7 +146,9 @@ fn close_part<L: Ledger>(
             return;
         }
     }
-    close_each(pairing, set, bins, steps);
+    for bin in bins {
+        close(pairing, set, bin, steps);
+    }
 }
 
 /// How many bins there are before the first for which a window from the first one on has no place, or too many photons.

@@ -1,5 +1,5 @@
 // The intervals that the photons of a block end.
-ghost use Rattle.std.specs.Prelude.{◌≡◌, ◌+◌, ◌/◌, ◌^◌, ◌<◌, ◌≤◌, ◌++◌, ◌==◌, ℕ, false, length, nat_le, slice_index, sum, if◌then◌else◌};
+ghost use Rattle.std.specs.Prelude.{◌≡◌, ◌+◌, ◌/◌, ◌^◌, ◌<◌, ◌≤◌, ◌==◌, ℕ, false, length, nat_le, slice_index, sum, if◌then◌else◌};
 ghost use Rattle.tally_base.specs.{Settings.{divisor_of, startstop_view}, Limits.record_limit, Columns.{gathered, events_in, IsSorted}, Tally.{floor_after, InOrder}};
 ghost use Rattle.coincidence.specs.{StartStop.CountsMore, Starts.since_in};
 

@@ -1,5 +1,5 @@
 // Pairs of many bins at once, lag by lag.
-ghost use Rattle.std.specs.{Prelude.{◌≡◌, ℕ, ◌+◌, ◌-◌, ◌*◌, ◌^◌, ◌<◌, ◌≤◌, ◌++◌, IsTrue, length, min, sum_by}, List.AllByRecursion};
+ghost use Rattle.std.specs.{Prelude.{◌≡◌, ◌+◌, ◌-◌, ◌*◌, ◌<◌, ◌≤◌, IsTrue, length, min, sum_by}, List.AllByRecursion};
 ghost use Rattle.{tally_base.specs.Settings.coincidence_view, lag_ring.specs.Bytes.{Fit, Have, ServesSpots}, coincidence.specs.{Pairing.{HasRoom, Counts, lag_pair}, Closing.{row_sum, strip_sum}}};
 ghost use Rattle.coincidence.specs.{Closing.{window_sum, each_lag_pair, lags_of, CountsEarlier, CountsEach}, Stretch.{reached, view_of, lags_in, at_lags, both_at_lags, reach_sums, CountsLags}};
 
@@ -144,18 +144,18 @@ fn pair_side<L: Ledger>(cells: &mut PairCells, stretch: Stretch, side: Side, ste
 fn pair_with_later<L: Ledger>(
     cells: &mut PairCells,
     lags: Lags,
-    direction: Side,
     later: &[Entry],
     earlier: &Entry,
     steps: &mut Steps<L>,
 )
     requires { let set = coincidence_view lags.set in HasRoom set cells.old
-        (λ c. sum_by (λ l. lag_pair direction set c lags.base lags.count l earlier.now) later.now) }
-    ensures { CountsEarlier lags direction cells.old cells.new steps.old steps.new earlier.now later.now }
+        (λ c. sum_by (λ l. lag_pair lags.direction set c lags.from lags.count l earlier.now) later.now) }
+    ensures { CountsEarlier lags cells.old cells.new steps.old steps.new earlier.now later.now }
 {
-    if direction.weight(earlier) > 0 {
+    if lags.direction.weight(earlier) > 0 {
         for entry in later {
-            pair_one(cells, lags, direction, entry, earlier, steps);
+            let apart = entry.index.saturating_sub(earlier.index);
+            pair_one(cells, lags, apart, entry, earlier, steps);
         }
     }
 }
@@ -165,17 +165,16 @@ fn pair_with_later<L: Ledger>(
 fn pair_each<L: Ledger>(
     cells: &mut PairCells,
     lags: Lags,
-    direction: Side,
     entries: &[Entry],
     later: &[Entry],
     steps: &mut Steps<L>,
 )
     requires { let set = coincidence_view lags.set in HasRoom set cells.old
-        (λ c. each_lag_pair direction set c lags.base lags.count entries.now later.now) }
-    ensures { CountsEach lags direction cells.old cells.new steps.old steps.new entries.now later.now }
+        (λ c. each_lag_pair lags.direction set c lags.from lags.count entries.now later.now) }
+    ensures { CountsEach lags cells.old cells.new steps.old steps.new entries.now later.now }
 {
     for earlier in entries {
-        pair_with_later(cells, lags, direction, later, earlier, steps);
+        pair_with_later(cells, lags, later, earlier, steps);
     }
 }
 
@@ -187,10 +186,15 @@ fn pair_few<L: Ledger>(cells: &mut PairCells, stretch: Stretch, side: Side, step
 {
     let Places { set, base, .. } = stretch.places;
     let count = stretch.places.lags();
-    let lags = Lags { set, base, count };
-    pair_each(cells, lags, side, stretch.front, stretch.later, steps);
-    pair_each(cells, lags, side, stretch.back, stretch.later, steps);
-    pair_each(cells, lags, side, stretch.own, stretch.later, steps);
+    let lags = Lags {
+        set,
+        direction: side,
+        from: base + 1,
+        count,
+    };
+    pair_each(cells, lags, stretch.front, stretch.later, steps);
+    pair_each(cells, lags, stretch.back, stretch.later, steps);
+    pair_each(cells, lags, stretch.own, stretch.later, steps);
 }
 
 /// How many pairs of entries take as long, one by one, as windows for later ones.

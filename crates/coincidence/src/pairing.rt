@@ -1,8 +1,7 @@
 // The bins of a table of coincidences, the ring of the last closed ones, and the cells.
 ghost use Rattle.std.specs.{Prelude.{◌≡◌, ℕ, ◌+◌, ◌-◌, ◌*◌, ◌/◌, ◌^◌, ◌<◌, ◌≤◌, [], ◌∷◌, ◌++◌, length, slice_index, if◌then◌else◌, ◌==◌, IfOk, None, Some, List}, List.AllByRecursion};
-ghost use Rattle.{tally_base.specs.{Settings.{CoincidenceView, coincidence_view, coincidence_cells}, Tally.History}, lag_ring.specs.{Cells.{Cells, Spends}, Ring.{Ring, ring as ring_of}}};
-ghost use Rattle.coincidence.specs.Pairing.{other_side, shifted_by, lag_pair, pairs_of, pairs_of_all, pairs_with, kept_for, bin_pairs, closed_bin, MayClose, Closes, Pays, Gathered, CanPut, MayJoin};
-ghost use Rattle.coincidence.specs.Pairing.{Joins, Puts, HasRoom, Counts};
+ghost use Rattle.{tally_base.specs.{Settings.{coincidence_view, coincidence_cells}, Tally.History}, lag_ring.specs.{Cells.{Cells, Spends}, Ring.ring as ring_of}, coincidence.specs.Pairing.MayJoin};
+ghost use Rattle.coincidence.specs.Pairing.{other_side, shifted_by, lag_pair, pairs_at, pairs_with, kept_for, bin_pairs, MayClose, Closes, Pays, Gathered, CanPut, Joins, Puts, HasRoom, Counts};
 
 use crate::places::Lags;
 use lag_ring::{Entry, LagRing, PairCells, Side};
@@ -121,81 +120,59 @@ pub(crate) fn add_pairs<L: Ledger>(
     cells.add(cell_of(set, shifted), pairs, steps);
 }
 
-/// Pairs the photons of a later entry with those of an earlier one, where it is as far from it as one of some lags.
+/// Pairs the photons of a later entry with those of an earlier one that is so many ticks before it, or not before it at 0,
+/// where that is one of some lags.
 #[inline(always)]
 pub(crate) fn pair_one<L: Ledger>(
     cells: &mut PairCells,
     lags: Lags,
-    direction: Side,
+    apart: u64,
     later: &Entry,
     earlier: &Entry,
     steps: &mut Steps<L>,
 )
-    requires { let set = coincidence_view lags.set in HasRoom set cells.old
-        (λ c. lag_pair direction set c lags.base lags.count later.now earlier.now) }
+    requires apart { apart ≡ later.now.index - earlier.now.index }
+    requires room { let set = coincidence_view lags.set in HasRoom set cells.old
+        (λ c. lag_pair lags.direction set c lags.from lags.count later.now earlier.now) }
     ensures { let set = coincidence_view lags.set in Counts set cells.old cells.new steps.old steps.new
-        (λ c. lag_pair direction set c lags.base lags.count later.now earlier.now) 1 }
+        (λ c. lag_pair lags.direction set c lags.from lags.count later.now earlier.now) 1 }
 {
-    let apart = later.index.saturating_sub(earlier.index);
-    if apart > u64::from(lags.base) && apart <= u64::from(lags.base + lags.count) {
-        let shifted = shifted_by(direction, lags.set, apart);
-        let weight = direction.weight(earlier);
-        let photons = later_side(direction).weight(later);
+    // One test: fewer ticks than the least lag wrap round.
+    if apart.wrapping_sub(u64::from(lags.from)) < u64::from(lags.count) {
+        let shifted = shifted_by(lags.direction, lags.set, apart);
+        let weight = lags.direction.weight(earlier);
+        let photons = later_side(lags.direction).weight(later);
         add_pairs(cells, lags.set, shifted, weight, photons, steps);
     }
 }
 
-/// Photons of one group at one tick.
-#[derive(Clone, Copy)]
-struct Photons {
-    index: u64,
-    count: u64,
-}
-
-/// Pairs the photons of an earlier entry with later ones, where the two ticks are in reach of one another.
-#[inline(always)]
-#[tactic(auto, using(crate::proofs::Visits::pairs_near, crate::proofs::Visits::pairs_far, crate::proofs::Visits::shifted_inside))]
-fn pair_earlier<L: Ledger>(
-    cells: &mut PairCells,
-    set: CoincidenceSet,
-    direction: Side,
-    later: Photons,
-    earlier: &Entry,
-    steps: &mut Steps<L>,
-)
-    requires after { earlier.now.index < later.index }
-    requires room { HasRoom (coincidence_view set) cells.old (λ c. pairs_of direction (coincidence_view set) c later.index later.count earlier.now) }
-    ensures { Counts (coincidence_view set) cells.old cells.new steps.old steps.new
-        (λ c. pairs_of direction (coincidence_view set) c later.index later.count earlier.now) 1 }
-{
-    let apart = later.index - earlier.index;
-    if apart <= u64::from(set.reach) {
-        let shifted = shifted_by(direction, set, apart);
-        let weight = direction.weight(earlier);
-        add_pairs(cells, set, shifted, weight, later.count, steps);
-    }
-}
-
-/// Pairs the photons of earlier entries with later ones.
+/// Pairs the photons of an entry with those of earlier ones, in one direction.
 #[inline(always)]
 #[tactic(auto, using(std::proofs::lemmas::List::Sums::sum_by_more_le))]
 fn pair_direction<L: Ledger>(
     cells: &mut PairCells,
     set: CoincidenceSet,
     direction: Side,
-    later: Photons,
+    later: Entry,
     entries: &[Entry],
     steps: &mut Steps<L>,
 )
     requires after { AllByRecursion (λ e. e.index < later.index) entries.now }
-    requires room { HasRoom (coincidence_view set) cells.old
-        (λ c. pairs_of_all direction (coincidence_view set) c later.index later.count entries.now) }
+    requires room { HasRoom (coincidence_view set) cells.old (λ c. pairs_at direction (coincidence_view set) c later entries.now) }
     ensures { Counts (coincidence_view set) cells.old cells.new steps.old steps.new
-        (λ c. pairs_of_all direction (coincidence_view set) c later.index later.count entries.now) (length entries.now) }
+        (λ c. pairs_at direction (coincidence_view set) c later entries.now) (length entries.now) }
 {
-    if later.count > 0 {
+    let (from, count) = (0, set.reach + 1);
+    let lags = Lags {
+        set,
+        direction,
+        from,
+        count,
+    };
+    if later_side(direction).weight(&later) > 0 {
         for earlier in entries {
-            pair_earlier(cells, set, direction, later, earlier, steps);
+            let apart = later.index - earlier.index;
+            pair_one(cells, lags, apart, &later, earlier, steps);
         }
     }
 }
@@ -213,12 +190,10 @@ fn pair_entries<L: Ledger>(
     ensures { Counts (coincidence_view set.now) cells.old cells.new steps.old steps.new
         (λ c. pairs_with (coincidence_view set.now) c later.now entries.now) (2 * length entries.now) }
 {
-    // A copy, so that no field is read again for each entry.
+    // Copies, so that no field is read again for each entry.
     let own = *set;
-    let Entry { index, a, b } = *later;
-    let (firsts, seconds) = (Photons { index, count: a }, Photons { index, count: b });
-    pair_direction(cells, own, Side::First, seconds, entries, steps);
-    pair_direction(cells, own, Side::Second, firsts, entries, steps);
+    pair_direction(cells, own, Side::First, *later, entries, steps);
+    pair_direction(cells, own, Side::Second, *later, entries, steps);
 }
 
 /// Pairs the photons of a bin with one another, and none with itself.

@@ -1,21 +1,24 @@
 // Lags in reach, and windows over some of them.
 ghost use Rattle.std.specs.Prelude.{◌+◌, ◌≤◌};
 
+use lag_ring::Side;
 use tally_base::CoincidenceSet;
 
 /// How many lags a window serves at most, and how many places after them it has for later bins.
 pub(crate) const MOST_LAGS: u32 = 4096;
 
-/// Some of the lags in reach.
+/// Some of the lags in reach, in one direction.
 #[derive(Clone, Copy)]
 pub(crate) struct Lags {
     /// What the table was opened with.
     pub(crate) set: CoincidenceSet,
-    /// How many lags come before them.
-    pub(crate) base: u32,
+    /// The side of the earlier photons.
+    pub(crate) direction: Side,
+    /// The least of them.
+    pub(crate) from: u32,
     /// How many they are.
     pub(crate) count: u32,
-    ghost within: { base + count ≤ set.reach },
+    ghost within: { from + count ≤ set.reach + 1 },
 }
 
 /// Windows in which later entries, and all that stand before them by some of the lags in reach, have their places.

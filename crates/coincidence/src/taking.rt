@@ -9,8 +9,8 @@ use arrayvec::ArrayVec;
 use std::sync::ledger::Ledger;
 use tally_base::Steps;
 
-/// Gives the photons of a block to the bins, and leaves out those of other groups. Where many bins are
-/// in reach, those that it closes are paired together.
+/// Gives the photons of a block to the bins, and leaves out those of other groups. Where many bins are in reach, those
+/// that it closes are paired together, and else one by one, but for photons that are alone in their reach.
 pub(crate) fn take_block<L: Ledger>(pairing: &mut Pairing, given: Given, steps: &mut Steps<L>)
     requires stands { MayTake (coincidence_view given.set) pairing.old given.block.now }
     ensures { Takes (coincidence_view given.entry.set) pairing.old pairing.new given.entry.block.now steps.old steps.new }
@@ -20,16 +20,8 @@ pub(crate) fn take_block<L: Ledger>(pairing: &mut Pairing, given: Given, steps: 
         let open = gather_block(given, pairing.open, &mut bins);
         close_all(pairing, &given.set, &bins, steps);
         pairing.open = open;
-    } else {
-        take_each(pairing, given, steps);
+        return;
     }
-}
-
-/// Gives the photons of a block to the bins, one by one, but for those that are alone in their reach.
-fn take_each<L: Ledger>(pairing: &mut Pairing, given: Given, steps: &mut Steps<L>)
-    requires stands { MayTake (coincidence_view given.set) pairing.old given.block.now }
-    ensures { Takes (coincidence_view given.entry.set) pairing.old pairing.new given.entry.block.now steps.old steps.new }
-{
     let mut open = pairing.open;
     let mut at = 0;
     while at < given.block.len() {

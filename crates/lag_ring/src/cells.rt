@@ -2,11 +2,10 @@
 ghost use Rattle.std.specs.Prelude.{◌≡◌, ℕ, ◌+◌, ◌%◌, ◌^◌, ◌<◌, ◌≤◌, [], ◌∷◌, ◌++◌, IfOk, length, replicate, slice_index, slice_set};
 ghost use Rattle.lag_ring.specs.Cells.{row_at, places_from, without_carry, carry_of};
 
-use noted::Noted;
 use std::alloc::{AllocError, Global};
 use std::marker::Model;
 use std::sync::ledger::Ledger;
-use tally_base::Steps;
+use tally_base::{Noted, Steps};
 
 /// Counts of pairs of photons, at most 2^80 each.
 ///

@@ -2,9 +2,9 @@
 ghost use Rattle.std.specs.Prelude.{◌≡◌, ◌+◌};
 ghost use Rattle.lag_ring.specs.Pairings.{paired_by};
 
-use noted::Noted;
 use std::alloc::Global;
 use std::marker::Model;
+use tally_base::Noted;
 
 /// How many bins the lists had that were paired. It takes no memory.
 ///

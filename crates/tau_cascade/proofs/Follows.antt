@@ -96,23 +96,23 @@ weigh weight adds e [] = search (rules, arith, sum_by-cons)
 weigh weight adds e (f ∷ fs) = search (rules, arith, adds, sum_by-cons, nat_tests, weigh weight adds (both_of e f) fs, weigh weight adds f fs)
 
 -- What is merged so far, and what is left, are together what all is merged into.
-module _ (levels from at' count closed : ℕ) (list : List Entry) (own none : Entry) (whole : List Entry) (more : at' < count) (inside : from + count ≤ length list)
-    (so_far : take closed (drop from list) ++ merged own (stretch (from + at') (count - at') levels list) ≡ whole) where
+module _ (levels at' closed : ℕ) (list : List Entry) (own none : Entry) (whole : List Entry) (inside : at' < length list)
+    (so_far : take closed list ++ merged own (map (raised levels) (drop at' list)) ≡ whole) where
   abbrev next : Entry
-  next = raised levels (get_or list (from + at') none)
+  next = raised levels (get_or list at' none)
 
-  with_next : take closed (drop from list) ++ merged own (next ∷ stretch (from + (at' + 1)) (count - (at' + 1)) levels list) ≡ whole
-  with_next = search (rules, arith, stretch_more (from + at') (count - at') levels list none)
+  with_next : take closed list ++ merged own (next ∷ map (raised levels) (drop (at' + 1) list)) ≡ whole
+  with_next = (rw (rest_at levels list at' none inside) at so_far)
 
   pub next_fits : (weight : Entry → ℕ) → ((e f : Entry) → weight (both_of e f) ≡ weight e + weight f) → weight own + weight next ≤ sum_by weight whole
   next_fits weight adds = rw (← with_next, sum_by-append weight _ _, weigh weight (λ e f same. adds e f), sum_by-cons weight) (omega arith)
 
   -- one bin more is merged
   pub merge_more : closed < at' → (same : Bool) → eqb own.index next.index ≡ same
-      → take (closed + cond same 0 1) (drop from (slice_set list (from + closed) own))
-      ++ merged (cond same (both_of own next) next) (stretch (from + (at' + 1)) (count - (at' + 1)) levels (slice_set list (from + closed) own)) ≡ whole
+      → take (closed + cond same 0 1) (slice_set list closed own)
+      ++ merged (cond same (both_of own next) next) (map (raised levels) (drop (at' + 1) (slice_set list closed own))) ≡ whole
   merge_more few same one =
-      rw (drop-set-add from list closed own, drop-set-lt (from + (at' + 1)) list (from + closed) own (omega arith)) (grind (arith, common_steps, with_next, take_more_set, append_assoc))
+      rw (drop-set-lt (at' + 1) list closed own (omega arith)) (grind (arith, common_steps, with_next, take_more_set, append_assoc))
 
 -- What bins that come do to a level and those above it.
 

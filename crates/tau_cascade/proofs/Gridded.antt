@@ -1,9 +1,9 @@
 -- What a ring keeps of the bins of a grid.
 use Rattle.std.proofs.Common.{◌≡◌, ◌∙◌, ℕ, zero, suc, ◌+◌, ◌-◌, ◌*◌, ◌<◌, ◌≤◌, Bool, true, false, ◌&&◌, cond, eqb, leb, ltb, min, List, [], ◌∷◌, ◌++◌, length}
-use Rattle.std.proofs.{Common.{map, refl, sym, arith, rules}, lemmas.{Bool.Decides.nat_tests, List.{Elements.filter-append, Sums.{sum_by-cons, sum_by-append}}}}
-use Rattle.std.{proofs.lemmas.{List.Sums.sum_by-le-sum_by, Grind.common_steps}, specs.List.{sum_by, filter, AllByRecursion, range_with_len}}
-use Rattle.{tally_base.specs.{Settings.CorrelationView, Tally.History}, lag_ring.specs.declared.{ring.Entry.Entry, window.Side.{Side, TheVariants.First}}}
-use Rattle.lag_ring.specs.{declared.window.Side.TheVariants.Second, Bytes.{weight_of, weight_at}, Ring.{Ring, ring, IsRising, weight_where}}
+use Rattle.std.proofs.{Common.{map, take, refl, sym, arith, rules}, lemmas.{Bool.Decides.nat_tests, List.{get_or-take, Elements.filter-append}}}
+use Rattle.std.{proofs.lemmas.{List.Sums.{sum_by-cons, sum_by-append, sum_by-le-sum_by}, Grind.common_steps}, specs.List.{sum_by, filter, AllByRecursion}}
+use Rattle.{std.specs.List.range_with_len, tally_base.specs.{Settings.CorrelationView, Tally.History}, lag_ring.specs.declared.ring.Entry.Entry}
+use Rattle.lag_ring.specs.{declared.window.Side.{Side, TheVariants.{First, Second}}, Bytes.{weight_of, weight_at}, Ring.{Ring, ring, IsRising, weight_where}}
 use Rattle.lag_ring.proofs.{Lists.{all_front, all_back, all_join, all_passed}, Rising.{all_weaker, rising_filter}, Sums.{sum_by-agree, sum_by-plus}}
 use Rattle.{lag_ring.proofs.{Sums.{sum_by-zero, sum_by-filter, sum_by-same}, Between.few_kept}, tau_cascade.proofs.Dots.{below_range, range_few, range_agree}}
 use Rattle.tau_cascade.{proofs.{Dots.{one_place, by_bins}, Follows.weigh}, specs.{Levels.RingIs, Correlation.bin, declared.grid.Grid.Grid, Bins.merged_all}}
@@ -26,11 +26,11 @@ merged_weight_all side test (e ∷ es) =
     weigh h (λ f g same. rw (← same) (search (rules, arith))) e es ∙ sym (sum_by-cons h e es)
 
 -- a grid has no more places with photons than it stands for bins
-pub filled_few : (g : Grid) (es : List Entry) (n : ℕ) → n ≤ 4096 → Stands g es → sum_by (filled g.firsts g.seconds) (range_with_len 0 n) ≤ length (merged_all es)
+pub filled_few : (g : Grid) (es : List Entry) (n : ℕ) → n ≤ 4096 → Stands g es → sum_by (filled (take n g.firsts) (take n g.seconds)) (range_with_len 0 n) ≤ length (merged_all es)
 filled_few g es n within stands =
     let weight = λ (side : Side) (p : ℕ). merged_weight_all side (λ i. eqb (i + 0) (g.base + p)) es in
-    let same = range_agree (filled g.firsts g.seconds) (λ p. min 1 (weight_at First 0 g.base p (merged_all es) + weight_at Second 0 g.base p (merged_all es))) n
-    (λ p inside. rw (stands.firsts p (omega arith), stands.seconds p (omega arith), weight First p, weight Second p) refl) in
+    let same = range_agree (filled (take n g.firsts) (take n g.seconds)) (λ p. min 1 (weight_at First 0 g.base p (merged_all es) + weight_at Second 0 g.base p (merged_all es))) n
+    (λ p inside. rw (get_or-take n g.firsts p 0 inside, get_or-take n g.seconds p 0 inside, stands.firsts p (omega arith), stands.seconds p (omega arith), weight First p, weight Second p) refl) in
     rw same (filled_bins g.base n (merged_all es))
 
 -- bins that have photons, and nothing where a test passes, are all where it doesn't

@@ -1,14 +1,14 @@
 -- Bins of one index that are neighbours, as they are and merged.
 use Rattle.std.proofs.Common.{◌≡◌, ◌^◌, ◌&&◌, length-append, ◌/◌, ℕ, ◌+◌, ◌-◌, ◌<◌, ◌≤◌, Bool, true, false, cond, eqb, leb, List, [], ◌∷◌, ◌++◌, length, map}
 use Rattle.std.proofs.{Common.{take, drop, get_or, refl, sym, ap, ◌∙◌, arith, rules}, lemmas.{Bool.Decides.nat_tests, List.{take_rest, take-append-drop}}}
-use Rattle.std.proofs.lemmas.List.{drop-map, length-drop, length-map, get_or-drop, get_or-map, Sums.{sum_by_push, count_by-le-length, length-filter}}
-use Rattle.std.{proofs.{Props.props, Math.{Logic.∥∥₁_elim, Nat.mul-le-mul_left}}, specs.List.{sum_by, count_by, filter, AllByRecursion}}
-use Rattle.lag_ring.{specs.{declared.ring.Entry.Entry, Ring.{Ring, ring, IsRising, IsInReach, weight_where}, Cells.{Cells, added_at}}, proofs.Lists.all_passed}
-use Rattle.{lag_ring.proofs.{Rising.{all_weaker, filter_passed, rising-prop}, Sums.sum_by-filter}, tally_base.specs.{Settings.CorrelationView, Tally.History}}
-use Rattle.tau_cascade.proofs.{Close.no_bin, Gridded.keeps_dense, Paired.{all_rising, cells_all}, Keeping.{last_of, follow_upto, ring_all, kept_is}}
-use Rattle.tau_cascade.specs.{Correlation.{Given, bin, skipped_lags, in_first, in_second}, Levels.{weight_before, RingIs, CellsAre}, Dense.paired}
-use Rattle.tau_cascade.specs.{Dense.paired_from, Bins.{raised, both_of, merged, merged_all, kept_of, stretch, FitCounts, IsSpaced, Follow, CanShutAll}}
-use Rattle.tau_cascade.specs.{declared.grid.Grid.Grid, Grid.{Stands, kept_and}}
+use Rattle.std.proofs.lemmas.List.{take-append-le, drop-map, length-drop, length-map, get_or-drop, get_or-map, Sums.{sum_by_push, count_by-le-length}}
+use Rattle.std.{proofs.{lemmas.List.Sums.length-filter, Props.props, Math.{Logic.∥∥₁_elim, Nat.mul-le-mul_left}}, specs.List.{sum_by, count_by, filter}}
+use Rattle.{std.specs.List.AllByRecursion, lag_ring.specs.{declared.ring.Entry.Entry, Ring.{Ring, ring, IsRising, IsInReach, weight_where}, Cells.Cells}}
+use Rattle.lag_ring.{specs.Cells.added_at, proofs.{Lists.all_passed, Rising.{all_weaker, filter_passed, rising-prop}, Sums.sum_by-filter}}
+use Rattle.{tally_base.specs.{Settings.CorrelationView, Tally.History}, tau_cascade.proofs.{Close.no_bin, Gridded.keeps_dense, Paired.{all_rising, cells_all}}}
+use Rattle.tau_cascade.{proofs.Keeping.{last_of, follow_upto, ring_all, kept_is}, specs.Correlation.{Given, bin, skipped_lags, in_first, in_second}}
+use Rattle.tau_cascade.specs.{Levels.{weight_before, RingIs, CellsAre}, Dense.{paired, paired_from}, Bins.{raised, both_of, merged, merged_all, kept_of}}
+use Rattle.tau_cascade.specs.{Bins.{stretch, FitCounts, IsSpaced, Follow, CanShutAll}, declared.grid.Grid.Grid, Grid.{Stands, kept_and}}
 
 -- Pairs with what is before count by its weights alone.
 paired_same : (k : ℕ) (before other es : List Entry) → ((n : ℕ) → weight_before k n before ≡ weight_before k n other) → paired k before es ≡ paired k other es
@@ -65,8 +65,12 @@ module _ (before levels n : ℕ) (bins : List Entry) (spaced : IsSpaced 0 (map (
   kept_bins = kept_is before n up left kept ∙ drop-map (raised levels) n bins
 
   -- they are laid in a list, to be merged there: those of all merged ones that are not before it
-  pub laid_kept : (was : List Entry) (end' : ℕ) → take end' was ≡ take (length bins - n) (drop n bins) → merged_all (stretch 0 end' levels was) ≡ filter from (merged_all up)
+  pub laid_kept : (was : List Entry) (end' : ℕ) → take end' was ≡ take (length bins - n) (drop n bins) → merged_all (map (raised levels) (take end' was)) ≡ filter from (merged_all up)
   laid_kept was end' laid = search (rules, arith, laid, take_rest, up, kept_one, kept_bins)
+
+-- what stands at the front of a list that was written there
+pub take_front : (n : ℕ) (new rest : List Entry) → n ≤ length new → take n (new ++ rest) ≡ take n new
+take_front n new rest few = take-append-le n new rest few
 
 last_read : (e : Entry) (es : List Entry) → (get_or (e ∷ es) (length es) no_bin).index ≡ last_of e.index es
 last_read e [] = refl

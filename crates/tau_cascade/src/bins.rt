@@ -1,7 +1,7 @@
 // Bins that come to a level, and those that it closes.
-ghost use Rattle.std.specs.{Prelude.{◌≡◌, ◌+◌, ◌*◌, ◌^◌, ◌<◌, ◌≤◌, false, [], ◌++◌, length, map, take, drop, sum_by, if◌then◌else◌}, List.AllByRecursion};
+ghost use Rattle.std.specs.{Prelude.{◌≡◌, ◌+◌, ◌*◌, ◌^◌, ◌<◌, ◌≤◌, false, [], ◌++◌, length, map, take, drop, if◌then◌else◌}, List.AllByRecursion};
 ghost use Rattle.{tally_base.specs.{Settings.correlation_view, Columns.{events_in, IsSorted}}, tau_cascade.specs.Bins.{raised, onto, near, FitCounts, IsCut, IsSpaced, IsSpaced-prop, StandBefore}};
-ghost use Rattle.tau_cascade.specs.{Bins.{merged_all, stretch, photon_bins}, declared.bins.TheConstants.MOST_LAGS};
+ghost use Rattle.tau_cascade.specs.{Bins.{merged_all, photon_bins}, declared.bins.TheConstants.MOST_LAGS};
 
 use lag_ring::{Entry, LagRing};
 use tally_base::{Block, CorrelationSet, TABLE_BLOCK};
@@ -156,35 +156,41 @@ fn joined(apart: bool, was: u64, more: u64) -> u64
     was * u64::from(!apart) + more
 }
 
-/// Merges neighbours of one index, of so many bins of a list from a place on, so many levels up, and answers how many they
-/// are then. They begin at the same place.
-#[tactic(auto, using(crate::proofs::Follows::stretch_more, crate::proofs::Follows::next_fits))]
-pub(crate) fn merge(list: &mut [Entry], from: usize, count: usize, levels: u32) -> usize
-    requires places { (0 < count) × (from + count ≤ length list.old) }
-    requires levels { levels < 64 }
-    requires counts { FitCounts (merged_all (stretch from count levels list.old)) }
-    ensures bins { take result (drop from list.new)
-        ≡ merged_all (stretch from count levels list.old) }
-    ensures before { take from list.new ≡ take from list.old }
-    ensures few { (0 < result) × (result ≤ count) }
+/// A bin so many levels up.
+#[inline(always)]
+fn raised_bin(bin: &Entry, levels: u32) -> Entry
+    requires { levels < 64 }
+    ensures { result ≡ raised levels bin.now }
 {
-    let first = list[from];
-    let mut closed = 0;
-    let mut index = first.index >> levels;
-    let mut a = first.a;
-    let mut b = first.b;
-    for at in 1..count {
-        // No branch on whether they are one bin.
-        let bin = list[from + at];
-        let next = bin.index >> levels;
-        list[from + closed] = Entry { index, a, b };
-        let apart = index != next;
-        a = joined(apart, a, bin.a);
-        b = joined(apart, b, bin.b);
-        closed += usize::from(apart);
-        index = next;
+    Entry {
+        index: bin.index >> levels,
+        ..*bin
     }
-    list[from + closed] = Entry { index, a, b };
+}
+
+/// Merges neighbours of one index of some bins, so many levels up, and answers how many they are then.
+#[tactic(auto, using(crate::proofs::Follows::next_fits))]
+pub(crate) fn merge(bins: &mut [Entry], levels: u32) -> usize
+    requires some { (0 < length bins.old) × (levels < 64) }
+    requires counts { FitCounts (merged_all (map (raised levels) bins.old)) }
+    ensures bins { take result bins.new ≡ merged_all (map (raised levels) bins.old) }
+    ensures few { (0 < result) × (result ≤ length bins.old) }
+{
+    let mut closed = 0;
+    let mut open = raised_bin(&bins[0], levels);
+    for at in 1..bins.len() {
+        // No branch on whether they are one bin.
+        let bin = raised_bin(&bins[at], levels);
+        bins[closed] = open;
+        let apart = open.index != bin.index;
+        closed += usize::from(apart);
+        open = Entry {
+            index: bin.index,
+            a: joined(apart, open.a, bin.a),
+            b: joined(apart, open.b, bin.b),
+        };
+    }
+    bins[closed] = open;
     closed + 1
 }
 

@@ -33,7 +33,8 @@ pub struct Cascade {
 }
 
 impl Cascade {
-    ghost use Rattle.tau_cascade.{specs.Cascade.{Holds, paired_at, cells_at, ring_at, open_at, set_of, spent_by, added_below}, specs.Correlation.{correlation, lag_count, skipped_lags, photons_of}, specs.Opens.open_bin, specs.Work.{work, occupied, IsWithinLevelWork, IsPaired}};
+    ghost use Rattle.tau_cascade.specs.{Cascade.{Holds, paired_at, cells_at, ring_at, open_at, set_of, spent_by, added_below}, Correlation.{correlation, lag_count, skipped_lags, photons_of}};
+    ghost use Rattle.tau_cascade.specs.{Opens.open_bin, Work.{work, occupied, IsWithinLevelWork, IsPaired}};
 
     /// A correlation of no events, with all the memory that it ever takes, or `AllocError` where there is
     /// not enough.

@@ -22,9 +22,6 @@ const NOT_FEW: u64 = 8;
 /// How many places are multiplied at once.
 const LANES: usize = 16;
 
-/// How many places are counted at once.
-const ROW: usize = 128;
-
 /// The weights of bins by index.
 #[derive(Clone, Copy)]
 pub(crate) struct Grid {
@@ -123,51 +120,34 @@ fn halve_at(places: &mut [u16; SPAN], window: &mut [u16; PLACES], half: usize, o
     window[..off + half].fill(0);
 }
 
-/// Adds the products of so many places.
+/// The sum of so many numbers.
 #[inline(always)]
-fn add_products(sums: Simd<u16, LANES>, a: &[u16], b: &[u16]) -> Simd<u16, LANES>
-    requires all { (length sums ≡ LANES) × (length a.now ≡ LANES) × (length b.now ≡ LANES) }
-    requires fits { (q : ℕ) → q < LANES
-        → slice_index sums q + product a.now b.now q < 2 ^ 16 }
-    ensures same { length result ≡ LANES }
-    ensures sums { (q : ℕ) → q < LANES
-        → slice_index result q ≡ slice_index sums q + product a.now b.now q }
+#[tactic(auto, using(crate::proofs::Dots::range_more))]
+fn sum_of(lanes: [u16; LANES]) -> u64
+    ensures { result ≡ sum_by (slice_index lanes) (range_with_len 0 LANES) }
 {
-    sums + Simd::<u16, LANES>::from_slice(a) * Simd::<u16, LANES>::from_slice(b)
-}
-
-/// Sums of the products of two parts by place: sum `q` has those of the places `LANES * r + q`.
-#[inline(always)]
-fn lane_sums(a: &[u16], b: &[u16], rows: usize) -> [u16; LANES]
-    requires sized { (length a.now ≡ LANES * rows) × (length b.now ≡ LANES * rows) × (rows ≤ SPAN) }
-    requires light { ∥ ((most : ℕ) × (most * rows < 2 ^ 16)
-        × ((i : ℕ) → product a.now b.now i ≤ most)) ∥₁ }
-    ensures { (q : ℕ) → q < LANES → slice_index result q
-        ≡ sum_by (λ r. product a.now b.now (LANES * r + q)) (range_with_len 0 rows) }
-{
-    let mut sums = Simd::<u16, LANES>::splat(0);
-    for row in 0..rows {
-        let at = LANES * row;
-        sums = add_products(sums, &a[at..at + LANES], &b[at..at + LANES]);
+    let mut sum = 0;
+    for q in 0..LANES {
+        sum += u64::from(lanes[q]);
     }
-    sums.to_array()
+    sum
 }
 
 /// The sum of the products of two parts by place, where that of each lane has 16 bits.
 #[inline(always)]
-#[tactic(auto, using(crate::proofs::Dots::range_more))]
 fn dot_light(a: &[u16], b: &[u16], rows: usize) -> u64
     requires sized { (length a.now ≡ LANES * rows) × (length b.now ≡ LANES * rows) × (rows ≤ SPAN) }
     requires light { ∥ ((most : ℕ) × (most * rows < 2 ^ 16)
         × ((i : ℕ) → product a.now b.now i ≤ most)) ∥₁ }
     ensures { result ≡ sum_by (product a.now b.now) (range_with_len 0 (LANES * rows)) }
 {
-    let sums = lane_sums(a, b, rows);
-    let mut sum = 0;
-    for q in 0..LANES {
-        sum += u64::from(sums[q]);
+    let mut sums = Simd::<u16, LANES>::splat(0);
+    for row in 0..rows {
+        let at = LANES * row;
+        let part = Simd::<u16, LANES>::from_slice(&a[at..at + LANES]);
+        sums = sums + part * Simd::<u16, LANES>::from_slice(&b[at..at + LANES]);
     }
-    sum
+    sum_of(sums.to_array())
 }
 
 /// The same in 64 bits.
@@ -332,24 +312,6 @@ impl Grid {
         self.len = at;
     }
 
-    /// Whether at least one place in eight has photons.
-    fn is_dense(&self) -> bool
-        requires { self.now.len ≤ SPAN }
-        ensures { result ≡ true → (es : List Entry) → Stands self.now es
-            → self.now.len ≤ 8 * length (merged_all es) }
-    {
-        let mut count = 0;
-        for row in 0..(self.len + ROW - 1) / ROW {
-            let at = ROW * row;
-            let more = count_filled(&self.firsts[at..at + ROW], &self.seconds[at..at + ROW]);
-            count += usize::from(more);
-            if self.len <= 8 * count {
-                return true;
-            }
-        }
-        false
-    }
-
     /// Takes all bins out where fewer than one place in eight has photons.
     #[tactic(auto, using(crate::proofs::Places::sound))]
     fn clear_sparse(&mut self)
@@ -358,7 +320,8 @@ impl Grid {
         ensures dense { (es : List Entry) → IsGrid self.new es
             → self.new.len ≤ 8 * length (merged_all es) }
     {
-        if !self.is_dense() {
+        let count = count_filled(&self.firsts[..self.len], &self.seconds[..self.len]);
+        if self.len > 8 * usize::from(count) {
             self.clear();
         }
     }

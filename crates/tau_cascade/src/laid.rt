@@ -1,15 +1,15 @@
 // Pairs of bins that are laid close together: a bin further from the one before it than the lags reach is laid
 // just out of reach, so that all have places in a short window.
-ghost use Rattle.std.specs.{Prelude.{◌≡◌, ℕ, ◌+◌, ◌-◌, ◌*◌, ◌/◌, ◌%◌, ◌^◌, ◌<◌, ◌≤◌, ◌==◌, true, length, map, min, slice_index, sum_by, take, drop, ◌++◌, if◌then◌else◌}, List.AllByRecursion};
+ghost use Rattle.std.specs.{Prelude.{◌≡◌, ℕ, ◌+◌, ◌-◌, ◌*◌, ◌/◌, ◌%◌, ◌^◌, ◌<◌, ◌≤◌, ◌==◌, true, length, min, slice_index, sum_by, take, drop, ◌++◌, if◌then◌else◌}, List.AllByRecursion};
 ghost use Rattle.{lag_ring.specs.{declared.window.Side.TheVariants.Second, Bytes.{product_at, IsLight}}, tau_cascade.specs.Dense.{bins_of, laid, placed, IsLaid, IsZero, FitLanes, HavePlaces}};
-ghost use Rattle.tau_cascade.specs.{Dense.{HavePaired, AreWithin, HaveRoom}, Bins.{IsSpaced, raised}};
+ghost use Rattle.tau_cascade.specs.{Dense.{HavePaired, AreWithin, HaveRoom}, Bins.IsSpaced};
 
 use crate::bins::{Bins, LagRange, MOST_LAGS};
 use lag_ring::Entry;
 use std::simd::Simd;
 
 /// How many bins are paired over a window at most.
-pub(crate) const CLOSE_PART: usize = 64;
+pub(crate) const CLOSE_PART: usize = 250;
 
 /// How many places a window has before that of the first bin: no fewer than it has lanes and lags are skipped.
 pub(crate) const TOP: usize = 192;
@@ -19,9 +19,6 @@ pub(crate) const PLACES: usize = 8640;
 
 /// How many photons of one group are too many for a bin that is laid.
 pub(crate) const TOO_HEAVY: u64 = 2048;
-
-/// How many photons of one group are too many where products are summed in 16 bits.
-const NOT_LIGHT: u64 = 32;
 
 /// Places for bins that are laid close together, or for two halves of a grid: between two uses all are empty.
 #[derive(Drop)]
@@ -103,6 +100,7 @@ fn lay_all(
     lags: u32,
 ) -> Laying
     requires few { (length bins.list.now ≤ bins.start + CLOSE_PART) × (lags ≤ MOST_LAGS) }
+    requires fits { (lags + 1) * (length bins.list.now - bins.start) ≤ PLACES - 2 * TOP }
     requires near { AllByRecursion (λ e. first ≤ e.index) (bins_of bins)
         × AllByRecursion (λ e. e.index ≤ first + lags) (take bins.start (bins_of bins)) }
     requires zeros { IsZero window.old × ((i : ℕ) → slice_index places.old i ≡ 0) }
@@ -169,9 +167,9 @@ fn sum_light<const N: usize>(
     list: &[Entry],
     from: usize,
 ) -> [u16; N]
-    requires light { ((p : ℕ) → p < PLACES → slice_index window.now p ≤ NOT_LIGHT - 1)
-        × IsLight (NOT_LIGHT - 1) list.now }
-    requires places { HavePlaces (length list.now) from N places.now × (length list.now ≤ CLOSE_PART) }
+    requires light { ∥ ((most : ℕ) × (most < 2 ^ 16) × (most * most * length list.now < 2 ^ 16)
+        × ((p : ℕ) → p < PLACES → slice_index window.now p ≤ most) × IsLight most list.now) ∥₁ }
+    requires places { HavePlaces (length list.now) from N places.now }
     ensures { (q : ℕ) → q < N → slice_index result q ≡ sum_by
         (product_at Second window.now 0 (from + q)) (placed list.now places.now) }
 {
@@ -225,7 +223,8 @@ fn sum_laid<const N: usize>(
         + sum_by (product_at Second window.now 0 (from + q)) (placed list.now places.now) }
     ensures within { AreWithin N (length list.now) sums.old sums.new }
 {
-    if heaviest < NOT_LIGHT {
+    let light = heaviest * heaviest * (list.len() as u64) < 1 << 16;
+    if light {
         let more = sum_light::<N>(window, places, list, from);
         add_laid(sums, &more, 1);
     } else {
@@ -240,11 +239,16 @@ fn is_apart(bins: Bins, lags: u32) -> bool
     ensures { result ≡ true → IsSpaced (lags + 1) (bins_of bins.entry) }
 {
     let Bins { list, levels, .. } = bins;
+    if list.is_empty() {
+        return true;
+    }
+    let mut was = list[0].index >> levels;
     for at in 1..list.len() {
-        let apart = (list[at].index >> levels).saturating_sub(list[at - 1].index >> levels);
-        if apart <= u64::from(lags) {
+        let index = list[at].index >> levels;
+        if index.saturating_sub(was) <= u64::from(lags) {
             return false;
         }
+        was = index;
     }
     true
 }
@@ -259,7 +263,8 @@ pub(crate) fn sum_part<const N: usize>(
     range: LagRange,
     bins: Bins,
 ) -> bool
-    requires few { (bins.start < length bins.list.now) × (length bins.list.now - bins.start ≤ CLOSE_PART) }
+    requires few { (bins.start < length bins.list.now) × (length bins.list.now - bins.start ≤ CLOSE_PART)
+        × ((range.last + 1) * (length bins.list.now - bins.start) ≤ PLACES - 2 * TOP) }
     requires room { FitLanes N range × HaveRoom N (length bins.list.now - bins.start) sums.old × IsZero window.old }
     ensures sums { result ≡ true → HavePaired N range sums.old sums.new bins.entry.start (bins_of bins.entry) }
     ensures within { AreWithin N (length bins.entry.list.now - bins.entry.start) sums.old sums.new }

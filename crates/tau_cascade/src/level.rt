@@ -65,7 +65,7 @@ pub(crate) fn skipped_lags(set: &CorrelationSet, level: u32) -> u32
 /// Puts those bins of a list, so many levels up and merged, that are not before an index into a ring, in place of what it
 /// has. Answers a number of photons that none of them has more of. What is in `spare` is lost.
 #[inline(always)]
-#[tactic(auto, using(crate::proofs::Near::laid_kept, crate::proofs::Near::kept_bins))]
+#[tactic(auto, using(crate::proofs::Near::laid_kept, crate::proofs::Near::kept_bins, crate::proofs::Near::take_front))]
 fn keep(ring: &mut LagRing, list: &[Entry], levels: u32, before: u64, spare: &mut [Entry]) -> u64
     requires list { (levels < 64) × IsSpaced 0 (map (raised levels) list.now) }
     requires some { 0 < length (filter (λ e. nat_le before e.index)
@@ -78,7 +78,7 @@ fn keep(ring: &mut LagRing, list: &[Entry], levels: u32, before: u64, spare: &mu
 {
     let first = first_kept(list, levels, before);
     let end = copy_into(&list[first..], spare, 0);
-    let count = merge(spare, 0, end, levels);
+    let count = merge(&mut spare[..end], levels);
     ring.refill(&spare[..count]);
     heaviest_of(&spare[..count])
 }
@@ -137,7 +137,7 @@ fn merge_many(list: &mut [Entry], closing: Coming, grid: &Grid, heaviest: u64) -
     if light && gaps.usual >> levels > 0 && gaps.nearer <= count / 2 {
         return Coming { gaps, ..closing };
     }
-    let count = merge(list, from, count, levels);
+    let count = merge(&mut list[from..from + count], levels);
     Coming {
         level: closing.level,
         from,

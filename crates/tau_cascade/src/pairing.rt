@@ -5,7 +5,7 @@ ghost use Rattle.tau_cascade.specs.{Dense.{AddsAtMost, HavePaired}, Bins.raised,
 
 use crate::bins::{Bins, LagRange, MOST_LAGS, first_kept};
 use crate::grid::Grid;
-use crate::laid::{CLOSE_PART, Window, sum_part};
+use crate::laid::{CLOSE_PART, PLACES, TOP, Window, sum_part};
 use crate::scratch::Scratch;
 use lag_ring::{Entry, PairCells, Pairings};
 use std::sync::ledger::Ledger;
@@ -13,6 +13,12 @@ use tally_base::Steps;
 
 /// How many bins at most have sums that fit.
 const CLOSE_LIST: usize = 1024;
+
+/// How many lags a window has room for with as many bins as are paired over it at most.
+const FEW_LAGS: u32 = 32;
+
+/// How many bins it has room for with any lags.
+const FEW_BINS: usize = 64;
 
 /// The place, at most `at`, of the first of the bins that is no more than `lags` before the index.
 #[inline(always)]
@@ -26,6 +32,20 @@ fn first_in_reach(bins: Bins, at: usize, index: u64, lags: u32) -> usize
         bins.levels,
         index.saturating_sub(u64::from(lags)),
     )
+}
+
+/// How many bins are paired over one window at most: it has room for them, each just out of reach of the one before it.
+#[inline(always)]
+fn part_size(lags: u32) -> usize
+    requires { lags ≤ MOST_LAGS }
+    ensures some { (0 < result) × (result ≤ CLOSE_PART) }
+    ensures fits { (lags + 1) * result ≤ PLACES - 2 * TOP }
+{
+    if lags <= FEW_LAGS {
+        CLOSE_PART
+    } else {
+        FEW_BINS
+    }
 }
 
 /// Adds the pairs of a list to sums, part by part, as `sum_part` does; where the range has no lags, there is nothing to do.
@@ -42,9 +62,10 @@ fn sum_parts<const N: usize>(
     if range.skipped == range.last {
         return true;
     }
+    let most = part_size(range.last);
     let mut at = bins.start;
     'parts: while at < bins.list.len() {
-        let end = bins.list.len().min(at + CLOSE_PART);
+        let end = bins.list.len().min(at + most);
         let index = bins.list[at].index >> bins.levels;
         let near = first_in_reach(bins, at, index, range.last);
         let part = Bins {

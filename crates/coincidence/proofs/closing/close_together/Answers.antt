@@ -1,8 +1,8 @@
 use Rattle.{tally_base.specs.Settings.CoincidenceView, std.proofs.Common.{◌≡◌, ℕ, ◌*◌, ◌+◌, ◌++◌, refl, ◌-◌, ◌<◌, ◌≤◌, List, length, get_or, slice_get, Some}}
-use Rattle.std.proofs.{Common.{arith, rules}, Props.props, Math.Logic.∥∥₁_elim, lemmas.{Option.slice_get-get_or, List.length-map}}
-use Rattle.{std.specs.List.AllByRecursion-prop, lag_ring.{specs.{Cells.Cells, declared.ring.Entry.Entry}, proofs.Rising.rising-prop}}
-use Rattle.coincidence.{specs.{declared.pairing.Bin.Bin, Closing.both_lag_sums, Pairing.{HasRoom, Counts}}, proofs.Visits.{counts_on, room_left}}
-use Rattle.coincidence.proofs.{Shut.{can_close, closes}, Together.{all_fit, all_cells, all_kept, all_near, bins_both, joined_rising}}
+use Rattle.std.{proofs.{Common.arith, Props.props, Math.Logic.∥∥₁_elim, lemmas.Option.slice_get-get_or}, specs.List.AllByRecursion-prop}
+use Rattle.{lag_ring.{specs.{Cells.Cells, declared.ring.Entry.Entry}, proofs.Rising.rising-prop}, coincidence.specs.declared.pairing.Bin.Bin}
+use Rattle.coincidence.{specs.{Closing.both_lag_sums, Pairing.{HasRoom, Counts}}, proofs.{Visits.{counts_on, room_left}, Shut.{can_close, closes}}}
+use Rattle.coincidence.proofs.Together.{all_fit, all_cells, all_kept, all_near, bins_both, joined_rising}
 use Rattle.coincidence.proofs.closing.close_together.Goals as goal
 
 abbrev last_of : List Entry → Entry

@@ -20,8 +20,9 @@ lay_one-laying-requires c =
     let inside = c.loop-i-test.true in
     let reach : ℕ = c.from-reach.result + 1 in
     let count : ℕ = c.loop-i.i - c.args.bins.start in
-    let all : reach * (count + 1) ≤ 129 * 64 =
-    mul-le-mul {n₂ = 129} {m₂ = 64} (omega (arith, c.requires.few.1, c.from-reach.ensures)) (omega (arith, inside, c.requires.few.0)) in
+    let most : reach * (count + 1) ≤ (c.args.lags + 1) * (length c.args.bins.list.now - c.args.bins.start) =
+    mul-le-mul {n₂ = c.args.lags + 1} {m₂ = length c.args.bins.list.now - c.args.bins.start} (omega (arith, c.from-reach.ensures)) (search (rules, arith)) in
+    let all : reach * (count + 1) ≤ 8256 = omega (arith, most, c.requires.fits) in
     search (rules, arith, behind_last)
 
 pub loop-i-preserved : goal.loop-i-preserved

@@ -9,5 +9,5 @@ invariant-loop-i l = record {
       ≡ laid l.reach l.first 0 (take l.bins.start (map (raised l.bins.levels) l.bins.list.now)) ++ placed (drop l.bins.start (take l.i l.bins.list.now)) l.places;
   near : (k : ℕ) → get_or l.places k 0 ≤ l.laying.place;
   place : l.laying.place ≤ l.lags + l.reach * (l.i - l.bins.start);
-  long : length l.places ≡ 64;
+  long : length l.places ≡ 250;
 }

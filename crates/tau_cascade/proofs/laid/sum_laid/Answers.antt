@@ -14,11 +14,11 @@ module _ {heaviest : ℕ} (window : List ℕ) (list : List Entry)
 
 pub sum_light-more-requires : goal.sum_light-more-requires
 sum_light-more-requires g c =
-    (omega (arith, c.requires.places.0.room 0), (all_light _ c.args.list.now c.requires.light 31 (omega arith), (c.requires.places.0, c.requires.places.2)))
+    (omega (arith, c.requires.places.0.room 0), (∣ (c.args.heaviest, omega (arith, c.requires.light.0), c.if-light.true, c.requires.light.2, c.requires.light.1) ∣₁, c.requires.places.0))
 
 pub add_laid-requires : goal.add_laid-requires
 add_laid-requires g c =
-    let few = λ (q : ℕ). few_all _ c.args.list.now c.requires.light 31 (omega arith) c.args.places.now (c.args.from + q) c.told-window in (
+    let few = λ (q : ℕ). few_all _ c.args.list.now c.requires.light 2047 (omega (arith, c.requires.light.0)) c.args.places.now (c.args.from + q) c.told-window in (
       omega (arith, c.requires.places.0.room 0),
       (search (rules, arith), λ q inside. omega (arith, few q, c.sum_light-more.ensures q inside, c.requires.places.1 q inside)),
     )
@@ -27,12 +27,12 @@ pub sum_heavy-requires : goal.sum_heavy-requires
 sum_heavy-requires g c =
     (omega (arith, c.requires.places.0.room 0), (all_light _ c.args.list.now c.requires.light 2047 (omega arith), (c.requires.places.0, c.requires.places.1)))
 
-pub returns-then-heaviest-lt-NOT_LIGHT-clause-within : goal.returns-then-heaviest-lt-NOT_LIGHT-clause-within
-returns-then-heaviest-lt-NOT_LIGHT-clause-within g c = λ q inside.
+pub returns-then-light-clause-within : goal.returns-then-light-clause-within
+returns-then-light-clause-within g c = λ q inside.
     let few = few_all _ c.args.list.now c.requires.light 2047 (omega (arith, c.requires.light.0)) c.args.places.now (c.args.from + q) c.told-window in
     omega (arith, few, c.sum_light-more.ensures q inside, c.add_laid.ensures q inside)
 
-pub returns-else-heaviest-lt-NOT_LIGHT-clause-within : goal.returns-else-heaviest-lt-NOT_LIGHT-clause-within
-returns-else-heaviest-lt-NOT_LIGHT-clause-within g c = λ q inside.
+pub returns-else-light-clause-within : goal.returns-else-light-clause-within
+returns-else-light-clause-within g c = λ q inside.
     let few = few_all _ c.args.list.now c.requires.light 2047 (omega (arith, c.requires.light.0)) c.args.places.now (c.args.from + q) c.told-window in
     omega (arith, few, c.sum_heavy.ensures q inside)

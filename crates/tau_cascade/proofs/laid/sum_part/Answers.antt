@@ -8,7 +8,7 @@ pub lay_all-laying-requires-clause-near : goal.lay_all-laying-requires-clause-ne
 lay_all-laying-requires-clause-near g c = search (rules, arith, from_first, no_bin, over, all_weaker, under)
 
 pub lay_all-laying-requires-clause-zeros : goal.lay_all-laying-requires-clause-zeros
-lay_all-laying-requires-clause-zeros g c = (c.requires.room.2, λ i. zeros_at 64 i)
+lay_all-laying-requires-clause-zeros g c = (c.requires.room.2, λ i. zeros_at 250 i)
 
 pub sum_laid-requires : goal.sum_laid-requires
 sum_laid-requires g c =

@@ -21,7 +21,8 @@ coincidences-photons set c h =
     ∙ pairs_in-filter (mine set) (is_coincidence set c) (λ x y is. grind (arith, is)) (λ x y is. grind (arith, is)) h
     ∙ sym (pairs_apart-in (is_coincidence set c) h)
 
-cell_is : (closed : Bool) → closed ≡ true → (set : CoincidenceView) (p : Pairing) (count time : ℕ) (h : History) → StandsFor closed set p count time h → (c : ℕ) → c < coincidence_cells set → get_or p.cells.cells c 0 ≡ coincidences set c h
+cell_is : (closed : Bool) → closed ≡ true → (set : CoincidenceView) (p : Pairing) (count time : ℕ) (h : History) → StandsFor closed set p count time h
+    → (c : ℕ) → c < coincidence_cells set → get_or p.cells.cells c 0 ≡ coincidences set c h
 cell_is false shut set p count time h is c inside = absurd (false≢true shut)
 cell_is true shut set p count time h is c inside = is.photons.pending.cells.pairs c inside ∙ ap (coincidences set c) (none_left set _ _ _ is.photons.pending) ∙ coincidences-photons set c h
 

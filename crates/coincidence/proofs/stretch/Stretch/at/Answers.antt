@@ -1,5 +1,5 @@
-use Rattle.{std.proofs.Common.{◌++◌, ◌<◌, ◌≤◌, ◌^◌}, lag_ring.specs.declared.ring.Entry.Entry, coincidence.specs.Stretch.reached}
-use Rattle.coincidence.proofs.LagPairs.{placed_parts, placed-all, placed-rising}
+use Rattle.{std.proofs.Common.{◌<◌, ◌≤◌, ◌^◌}, lag_ring.specs.declared.ring.Entry.Entry, coincidence.{specs.Stretch.reached, proofs.LagPairs.placed_parts}}
+use Rattle.coincidence.proofs.LagPairs.{placed-all, placed-rising}
 use Rattle.coincidence.proofs.stretch.Stretch.at.Goals as goal
 
 pub invariant_of-result : goal.invariant_of-result
