@@ -4,4 +4,3 @@ pub mod Pieces
 pub mod PlanTold
 pub mod RestEnds
 pub mod Reading
-pub mod Flushed

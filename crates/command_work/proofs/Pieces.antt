@@ -1,6 +1,6 @@
 -- A piece that is fed in two parts, and what the bytes taken call for.
-use Rattle.std.proofs.Common.{slice_range, ◌≡◌, ◌+◌, ◌≤◌, ℕ, ◌-◌, List, [], ◌++◌, Ok, length, arith, take, drop, refl, sym, ap, ◌∙◌, append_assoc, append-nil}
-use Rattle.std.proofs.{Common.{take-append-drop, ◌<◌, rules, true, false, Err, Result, IfOk, IfErr}, Math.Seq.take-add, lemmas.List.length-drop}
+use Rattle.std.proofs.Common.{subst, slice_range, ◌≡◌, ◌+◌, ◌≤◌, ℕ, ◌-◌, List, [], ◌++◌, Ok, length, arith, take, drop, refl, sym, ap, ◌∙◌, append_assoc}
+use Rattle.std.proofs.{Common.{append-nil, take-append-drop, ◌<◌, rules, true, false, Err, Result, IfOk, IfErr}, Math.Seq.take-add, lemmas.List.length-drop}
 use Rattle.{std.proofs.lemmas.List.{length-take-le, length-take}, tally_base.specs.{declared.{header.Header.Header, fault.Fault.Fault}, Faults.is_outside}}
 use Rattle.{ptu_definitions.specs.{Endings.ending, Headers.header_answer}, command_work.specs.{Outcomes.{IsCut, SaysNoEnd}, Behaviours.piece_limit}}
 use Rattle.{command_work.specs.{Works.TakesFew, Pieces.StopsSoon}, bench_io.{specs.Given.{Given, Consumes, GivesCount}, proofs.States.Consumes-trans}}
@@ -17,6 +17,23 @@ whole-piece bytes piece part used e =
 pub whole-piece-more : (bytes piece more : List ℕ) (used : ℕ) → (bytes ++ take used piece) ++ (drop used piece ++ more) ≡ (bytes ++ piece) ++ more
 whole-piece-more bytes piece more used =
     sym (append_assoc (bytes ++ take used piece) (drop used piece) more) ∙ ap (λ l. l ++ more) (whole-piece bytes piece (drop used piece) used refl)
+
+-- The first `used` bytes of a piece were given to a reader, which stands for them after those before.
+pub record Walked {R : Type 0} (stands : R → List ℕ → Type 0) (taken_by : R → ℕ) (old new : R) (piece : List ℕ) (used : ℕ) : Type 0 where
+  pub fits : used ≤ length piece
+  pub started : (bytes : List ℕ) × stands new bytes
+  pub stood : (bytes : List ℕ) → stands old bytes → stands new (bytes ++ take used piece)
+  pub taken : taken_by new ≡ taken_by old + used
+
+-- and a part of what is left
+pub Walked-next : {R : Type 0} (stands : R → List ℕ → Type 0) (taken_by : R → ℕ) (old mid new : R) (piece left : List ℕ) (used more : ℕ) → Walked stands taken_by old mid piece used → left ≡ drop used piece
+    → more ≤ length left → taken_by new ≡ taken_by mid + more → ((front : List ℕ) → stands mid front → stands new (front ++ take more left)) → Walked stands taken_by old new piece (used + more)
+Walked-next stands taken_by old mid new piece left used more h is fits took goes = record {
+  fits = omega (arith, fits, ap length is, length-drop used piece, h.fits);
+  started = (h.started.0 ++ take more left, goes h.started.0 h.started.1);
+  stood = λ bytes s. subst (stands new) (two-parts bytes piece left used more is) (goes (bytes ++ take used piece) (h.stood bytes s));
+  taken = omega (arith, took, h.taken);
+}
 
 -- no bytes are the front of each header
 pub IsCut-nil : IsCut []
@@ -57,7 +74,8 @@ none-unread P (Ok value) inside = tt
 none-unread P (Err fault) inside = search (rules, arith)
 
 -- a read failed
-pub stops-unread : {A : Type 0} (goes_on : List ℕ → Type 0) (front : List ℕ) (before after : Given) (fault : Fault) → Consumes before after front → goes_on front → SaysNoEnd before after → StopsSoon {A = A} goes_on before after (Err fault)
+pub stops-unread : {A : Type 0} (goes_on : List ℕ → Type 0) (front : List ℕ) (before after : Given) (fault : Fault) → Consumes before after front
+    → goes_on front → SaysNoEnd before after → StopsSoon {A = A} goes_on before after (Err fault)
 stops-unread goes_on front before after fault took goes on = search (rules, arith, few-none)
 
 -- a piece was read after bytes that go on so, and it ended the work

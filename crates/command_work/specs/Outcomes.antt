@@ -22,9 +22,6 @@ status (Some fault) = status_of fault
 abbrev pub IsIn : ℕ → ℕ → ℕ → Type 0
 IsIn low high n = (low ≤ n) × (n ≤ high)
 
-abbrev pub StatusIn : ℕ → ℕ → Fault → Type 0
-StatusIn low high fault = IsIn low high (status_of fault)
-
 -- The data end too early. More bytes may do away with such a fault.
 abbrev pub ends_early : Fault → Bool
 ends_early (TruncatedHeader bytes) = true

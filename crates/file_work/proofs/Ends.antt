@@ -1,38 +1,16 @@
 -- How printing the header of a file ends.
-use Rattle.std.proofs.Common.{◌≡◌, ℕ, List, [], ◌++◌, None, Some, refl, sym, ap, Ok, Err, ◌<◌, ◌==◌, Bool, length, map, arith, ◌∙◌, inl, inr, length-append}
-use Rattle.std.proofs.{Common.{append_assoc, Result, if◌then◌else◌, rules, ◌≤◌, ◌↔◌, OnOk, OnErr, IfErr, IsErr, ◌∷◌}, lemmas.Bool.cases_lt}
-use Rattle.{std.specs.declared.option.Option.Option, tally_base.specs.declared.fault.Fault.{Fault, TheVariants.{RecordLimit, WriteFault}}}
-use Rattle.{tally_base.specs.{declared.header.{Header.Header, Mode.Mode, RecordType.RecordType}, Faults.fault_in}, bench_io.specs.Sinks.{SinkState, Wrote}}
-use Rattle.bench_io.{specs.Sinks.{WroteShort, PassesOn}, proofs.Bytes.{Wrote-trans, Wrote-same, WroteShort-same, WroteShort-behind, WroteShort-more}}
-use Rattle.{bench_io.proofs.{Bytes.{WroteShort-passed, PassesOn-trans}, Texts.WroteText-none}, ptu_definitions.specs.Headers.{header_answer, Shows, seen}}
+use Rattle.std.proofs.Common.{◌≡◌, ℕ, List, [], ◌++◌, None, Some, refl, sym, ap, Ok, Err, ◌<◌, ◌==◌, Bool, length, arith, ◌∙◌, inl, inr, length-append, Result}
+use Rattle.std.{proofs.{Common.{if◌then◌else◌, rules, ◌≤◌, ◌↔◌, OnOk, OnErr, IfErr, IsErr, ◌∷◌}, lemmas.Bool.cases_lt}, specs.declared.option.Option.Option}
+use Rattle.tally_base.specs.declared.{fault.Fault.{Fault, TheVariants.{RecordLimit, WriteFault}}, header.{Header.Header, Mode.Mode, RecordType.RecordType}}
+use Rattle.{tally_base.specs.Faults.fault_in, bench_io.{specs.Sinks.{SinkState, Wrote, WroteShort}, proofs.Bytes.{Wrote-trans, Wrote-same, WroteShort-same}}}
+use Rattle.{bench_io.proofs.{Bytes.{WroteShort-behind, WroteShort-more}, Texts.WroteText-none}, ptu_definitions.specs.Headers.{header_answer, Shows, seen}}
 use Rattle.ptu_definitions.specs.{declared.records.{Summary.Summary, KindCounts.KindCounts}, Words.{words_of, counted, record_limit}, Kept.{Marked, marked}}
-use Rattle.ptu_definitions.specs.{Prefixes.each, Settled.{ordered, settles, delivered}, Times.events, Streams.{StreamSettings, given, last_in, streamed}}
-use Rattle.{ptu_definitions.{specs.TagList.Item, proofs.DeliveredLaws.delivered_last-0}, list_out.specs.{HeaderText.header_text, Lines.{events_text, lines_of}}}
-use Rattle.{list_out.proofs.Final.{header_text-grows, header_text-refused, header_text-done}, file_work.specs.FileOutcomes.{header_outcome, counts_text}}
-use Rattle.file_work.specs.{FileOutcomes.{counted_end, counts, lists}, BodyPieces.{PutsMore, CutsMore, AppendsHeader, CutsHeader}, CountPieces.CountsBytes}
-use Rattle.{file_work.specs.CountLaws.counts-clear, command_work.specs.RecordsWork.{WritesEnd, WritesPiece}}
-use Rattle.{record_stream.specs.{declared.taker.EventTaker.Ghosts, Ending.Ended}, record_layout.specs.{declared.counter.Counter.Counter, Counting.HasCounted}}
-
--- ## A text that grows on
-
--- more of it is put
-pub PutsMore-next : (shown grown further text : List ℕ) (a b c : SinkState) (held now later : List ℕ) → PutsMore shown grown a b held now → further ≡ grown ++ text → PassesOn b c (now ++ text) later → PutsMore shown further a c held later
-PutsMore-next shown grown further text a b c held now later h more put = record {
-  added = h.added ++ text;
-  text = more ∙ ap (λ l. l ++ text) h.text ∙ append_assoc shown h.added text;
-  put = rw (← append_assoc held h.added text) (PassesOn-trans a b c (held ++ h.added) now text later h.put put);
-}
-
--- more of it is cut, and the rest is missing
-pub CutsMore-next : (shown grown further whole text rest : List ℕ) (a b c : SinkState) (held now : List ℕ) → PutsMore shown grown a b held now
-    → further ≡ grown ++ text → whole ≡ further ++ rest → WroteShort b c (now ++ text) → CutsMore shown whole a c held
-CutsMore-next shown grown further whole text rest a b c held now h more all cut = record {
-  added = (h.added ++ text) ++ rest;
-  text = all ∙ ap (λ l. l ++ rest) (more ∙ ap (λ l. l ++ text) h.text ∙ append_assoc shown h.added text) ∙ append_assoc shown (h.added ++ text) rest;
-  cut = WroteShort-same a c _ _ (append_assoc held (h.added ++ text) rest)
-      (WroteShort-more a c (held ++ (h.added ++ text)) rest
-      (WroteShort-same a c _ _ (append_assoc held h.added text) (WroteShort-passed a b c (held ++ h.added) now text h.put cut)));
-}
+use Rattle.ptu_definitions.specs.{Prefixes.each, Settled.{ordered, settles, delivered}, Times.events, Streams.{StreamSettings, given, streamed}, TagList.Item}
+use Rattle.{record_stream.{proofs.Rests.none-is, specs.{declared.taker.EventTaker.Ghosts, Ending.Ended}}, list_out.specs.HeaderText.header_text}
+use Rattle.list_out.{specs.Lines.{events_text, lines_of}, proofs.Final.{header_text-grows, header_text-refused, header_text-done}}
+use Rattle.file_work.specs.{FileOutcomes.{header_outcome, counts_text, counted_end, counts, lists}, BodyPieces.{AppendsHeader, CutsHeader}}
+use Rattle.{file_work.specs.{CountPieces.CountsBytes, CountLaws.counts-clear}, command_work.specs.RecordsWork.{WritesEnd, WritesPiece}}
+use Rattle.record_layout.specs.{declared.counter.Counter.Counter, Counting.HasCounted}
 
 pub outcome-at : (file text : List ℕ) (fault : Option Fault) → header_text file ≡ text
     → fault_in (header_answer file) ≡ fault → header_outcome file ≡ record { text = text; fault = fault }
@@ -48,7 +26,7 @@ pub text-cut : (bytes piece more : List ℕ) (a b c : SinkState) → Wrote a b (
 text-cut bytes piece more a b c p q =
     let behind = header_text-grows (bytes ++ piece) more in
     WroteShort-same a c _ _ (sym behind.1) (WroteShort-more a c (header_text (bytes ++ piece)) behind.0
-    (WroteShort-same a c _ _ (sym q.text) (WroteShort-behind a b c (header_text bytes) q.added p q.cut)))
+    (WroteShort-same a c _ _ (sym q.adds) (WroteShort-behind a b c (header_text bytes) q.more p q.cut)))
 
 pub outcome-done : (bytes more behind : List ℕ) (header : Header) → ((more : List ℕ) → header_answer (bytes ++ more) ≡ Ok (header, behind ++ more))
     → header_outcome (bytes ++ more) ≡ record { text = header_text bytes; fault = None }
@@ -61,9 +39,6 @@ outcome-refused bytes more fault h = outcome-at (bytes ++ more) (header_text byt
 
 -- The end of a stream that keeps nothing back.
 
-last-none : (how : StreamSettings) (words : List ℕ) → how.policy.settle ≡ 0 → last_in how words ≡ []
-last-none how words zero = rw zero (delivered_last-0 how.mode (events (map how.meaning words)))
-
 none-broken : (front back : Marked) → 0 < length front → [] ≡ front ++ back → ⊥
 none-broken front back some adds = omega (arith, some, ap length adds, length-append front back)
 
@@ -72,7 +47,7 @@ pub ended-plain : {T : Type 0} (g : Ghosts T) (how : StreamSettings) (old new : 
 ended-plain g how old new bytes (Ok summary) zero e = sym e.streams
 ended-plain g how old new bytes (Err fault) zero (inl e) = sym e.0
 ended-plain g how old new bytes (Err fault) zero (inr e) =
-    absurd (none-broken e.1.front e.1.back e.1.some (sym (last-none how (words_of bytes) zero) ∙ e.1.adds))
+    absurd (none-broken e.1.front e.1.back e.1.some (sym (none-is how (words_of bytes) zero) ∙ e.1.adds))
 
 -- its answer, where no line is left to write
 pub ends-listed : (how : StreamSettings) (bytes : List ℕ) (a : SinkState) (r : Result Summary Fault) (done : Result (Unit {0}) Fault) → r ≡ streamed how bytes → fault_in done ≡ fault_in r → WritesEnd (lists how) bytes a a done

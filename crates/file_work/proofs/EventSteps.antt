@@ -2,10 +2,10 @@
 use Rattle.std.proofs.Common.{◌≡◌, ◌+◌, ◌≤◌, ℕ, List, [], ◌∷◌, ◌++◌, Bool, Ok, Err, refl, sym, ap, subst, ◌∙◌, inl, inr, append_assoc, arith, length, max}
 use Rattle.std.{proofs.Common.{length-append, ◌&&◌, not, IsTrue, if◌then◌else◌}, specs.declared.result.Result.Result}
 use Rattle.tally_base.specs.{declared.{event.Event.Event, header.Mode.Mode, fault.Fault.Fault}, Events.is_ordered, Tally.{floor_after, InOrder}}
-use Rattle.bench_io.{specs.Sinks.{SinkState, WroteShort, PassesOn}, proofs.Bytes.{WroteShort-more, WroteShort-passed, PassesOn-trans}}
-use Rattle.{ptu_definitions.specs.{Kept.{Marked, floor_of}, Streams.{StreamSettings, record_refusal, given}}, list_out.specs.Lines.{events_text, lines_of}}
-use Rattle.record_stream.{specs.{declared.taker.EventTaker.Ghosts, Feeding.{GaveOn, Fed}, Blocks.on_time}, proofs.Gathering.floor_of-block}
-use Rattle.{abs_time.{specs.Floors.orders_markers, proofs.Floors.moved_floor-push}, command_work.proofs.Flushed.{PutText, PutsText}}
+use Rattle.bench_io.{specs.{Sinks.{SinkState, WroteShort, PassesOn}, Texts.PutText}, proofs.Bytes.{WroteShort-more, WroteShort-passed, PassesOn-trans}}
+use Rattle.{bench_io.proofs.Texts.PutsText, ptu_definitions.specs.{Kept.{Marked, floor_of}, Streams.{StreamSettings, record_refusal, given}}}
+use Rattle.{list_out.specs.Lines.{events_text, lines_of}, record_stream.specs.{declared.taker.EventTaker.Ghosts, Feeding.{GaveOn, Fed}, Blocks.on_time}}
+use Rattle.{record_stream.proofs.Gathering.floor_of-block, abs_time.{specs.Floors.orders_markers, proofs.Floors.moved_floor-push}}
 use Rattle.file_work.specs.{EventLines.{Listed, ListedShort}, EventLaws.events_text-append}
 
 -- the lines of more events
@@ -47,7 +47,7 @@ lines-add how words now more adds = ap events_text adds ∙ events_text-append (
 module _ {T : Type 0} (g : Ghosts T) (told : T → SinkState) (held : T → List ℕ) (how : StreamSettings) (a b : T) (words now : List ℕ)
     (none : g.got a a []) (gets : (l : Marked) → g.got a b l → PassesOn (told a) (told b) (events_text l) (held b))
     (breaks : (l : Marked) → g.broke a b l → WroteShort (told a) (told b) (events_text l) × (held b ≡ [])) where
-  gave : GaveOn g how a b words now → PutText (lines_of how words) (lines_of how now) (told a) (told b) (held b)
+  gave : GaveOn g how a b words now → PutText (lines_of how words) (lines_of how now) (told a) (told b) [] (held b)
   gave r = record { more = events_text r.more; adds = lines-add how words now r.more r.adds; put = gets r.more (r.follows a [] none) }
 
   pub puts-lines : {X : Type 0} (r : Result X Fault) → Fed g how a b words now r → PutsText (lines_of how words) (lines_of how now) (record_refusal how now) (told a) (told b) (held b) r

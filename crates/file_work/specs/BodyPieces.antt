@@ -1,32 +1,18 @@
 -- What printing the body of a tag in pieces leaves.
 use Rattle.std.specs.Prelude.{ℕ, ◌≡◌, List, [], ◌++◌, codes, Bool, if◌then◌else◌, ◌+◌, ◌∷◌, length, true, false, Ok, Err}
-use Rattle.{bench_io.specs.{Sinks.{SinkState, WroteShort, PassesOn}, Texts.WroteText}, ptu_tag.specs.declared.kind.TagKind.TagKind, list_out.specs.HeaderText.{body_text, kind_with, header_text}}
-use Rattle.{list_out.specs.Lines.HasPut, tally_base.specs.{declared.header.Header.Header, Faults.is_outside}, ptu_definitions.specs.{TagList.{code_in, Item}, Headers.{header_answer, Shows, seen}}}
-use Rattle.{ptu_header.specs.ReadHeader.{HasRead, bytes_taken, is_open}, command_work.specs.Outcomes.IsCut, file_work.specs.declared.print.{HeaderPrinter.HeaderPrinter, Printed.Printed}}
-use Rattle.file_work.specs.declared.print.Printed.TheVariants.{More, Done, Refused}
-
--- ## A text that has grown
-
--- What the text has grown by was put after what a block holds.
-pub record PutsMore (shown grown : List ℕ) (old new : SinkState) (held now : List ℕ) : Type 0 where
-  pub added : List ℕ
-  pub text : grown ≡ shown ++ added
-  pub put : PassesOn old new (held ++ added) now
-
--- It was cut short, after what a block held.
-pub record CutsMore (shown grown : List ℕ) (old new : SinkState) (held : List ℕ) : Type 0 where
-  pub added : List ℕ
-  pub text : grown ≡ shown ++ added
-  pub cut : WroteShort old new (held ++ added)
+use Rattle.{bench_io.specs.{Sinks.SinkState, Texts.{WroteText, PutText, LostText}}, ptu_header.specs.{declared.kind.TagKind.TagKind, ReadHeader.{HasRead, bytes_taken, is_open}}}
+use Rattle.{list_out.specs.{HeaderText.{body_text, kind_with, header_text}, Lines.HasPut}, tally_base.specs.{declared.header.Header.Header, Faults.is_outside}, ptu_definitions.specs.TagList.code_in}
+use Rattle.{ptu_definitions.specs.{TagList.Item, Headers.{header_answer, Shows, seen}}, command_work.specs.Outcomes.IsCut, file_work.specs.declared.print.HeaderPrinter.HeaderPrinter}
+use Rattle.file_work.specs.declared.print.Printed.{Printed, TheVariants.{More, Done, Refused}}
 
 -- ## The text of a body
 
 -- What bytes add to the text of a body was put after what a block holds; was cut short.
 abbrev pub PutsBody : TagKind → List ℕ → List ℕ → SinkState → SinkState → List ℕ → List ℕ → Type 0
-PutsBody kind part bytes = PutsMore (body_text kind part) (body_text kind (part ++ bytes))
+PutsBody kind part bytes = PutText (body_text kind part) (body_text kind (part ++ bytes))
 
 abbrev pub CutsBody : TagKind → List ℕ → List ℕ → SinkState → SinkState → List ℕ → Type 0
-CutsBody kind part bytes = CutsMore (body_text kind part) (body_text kind (part ++ bytes))
+CutsBody kind part bytes = LostText (body_text kind part) (body_text kind (part ++ bytes))
 
 -- the end of the line of a body, where the body is whole
 abbrev pub end_line : Bool → List ℕ
@@ -48,13 +34,13 @@ Leaves bytes piece printer (Refused fault) = Shows header_answer (bytes ++ piece
 
 -- What a piece after some bytes adds to the text of the header was put after what a block holds; was written; was cut short.
 abbrev pub PutsHeader : List ℕ → List ℕ → SinkState → SinkState → List ℕ → List ℕ → Type 0
-PutsHeader bytes piece = PutsMore (header_text bytes) (header_text (bytes ++ piece))
+PutsHeader bytes piece = PutText (header_text bytes) (header_text (bytes ++ piece))
 
 abbrev pub AppendsHeader : List ℕ → List ℕ → SinkState → SinkState → Type 0
 AppendsHeader bytes piece = WroteText (header_text bytes) (header_text (bytes ++ piece))
 
 abbrev pub CutsHeader : List ℕ → List ℕ → SinkState → SinkState → List ℕ → Type 0
-CutsHeader bytes piece = CutsMore (header_text bytes) (header_text (bytes ++ piece))
+CutsHeader bytes piece = LostText (header_text bytes) (header_text (bytes ++ piece))
 
 -- A printer that goes on has taken the whole piece. A refusal is one that the bytes call for.
 abbrev pub EndsPiece : HeaderPrinter → HeaderPrinter → List ℕ → Printed → Type 0

@@ -1,8 +1,8 @@
 -- What holds of the counts of bytes that grow.
-use Rattle.std.proofs.Common.{◌≡◌, ◌∙◌, ◌+◌, ◌<◌, ◌≤◌, ◌==◌, ℕ, List, [], ◌++◌, Bool, true, false, length, length-append, arith, refl, sym, ap, None, Some, Ok, Err, nat_lt, if◌then◌else◌, Result, inl}
-use Rattle.std.proofs.{Common.inr, lemmas.Bool.Decides.nat_tests}
+use Rattle.std.proofs.Common.{◌≡◌, ◌∙◌, ◌<◌, ◌≤◌, ◌==◌, ℕ, List, [], ◌++◌, Bool, true, false, length, arith, refl, sym, ap, None, Some, Ok, Err, nat_lt, if◌then◌else◌, Result, inl, inr}
+use Rattle.std.proofs.lemmas.Bool.Decides.{nat_tests}
 use Rattle.tally_base.specs.{declared.{fault.Fault.{Fault, TheVariants.{RecordLimit, TruncatedRecord}}, header.{Header.Header, RecordType.RecordType}}, Faults.{is_outside, fault_in}}
-use Rattle.ptu_definitions.{specs.{declared.records.KindCounts.KindCounts, Words.{words_of, rest_of, counted, records_of, record_limit}, Kinds.counts_of}, proofs.WordsLemmas.words_of-append}
+use Rattle.{ptu_definitions.specs.{declared.records.KindCounts.KindCounts, Words.{words_of, rest_of, counted, records_of, record_limit}, Kinds.counts_of}, record_layout.proofs.Growing.words-more}
 use Rattle.{command_work.{specs.{Behaviours.AtEnd, Works.WantsNone, RecordsWork.{IsText, IsAllOrNothing, Suits}}, proofs.RestEnds.{end_with, suits-at_end}}, file_work.specs.FileOutcomes.counted_end}
 use Rattle.file_work.specs.FileOutcomes.{too_many, counts, counting}
 
@@ -10,9 +10,6 @@ use Rattle.file_work.specs.FileOutcomes.{too_many, counts, counting}
 
 pub counts-clear : (bytes : List ℕ) → length (words_of bytes) ≤ record_limit → too_many bytes ≡ None
 counts-clear bytes few = let within : nat_lt record_limit (length (words_of bytes)) ≡ false = grind (arith, nat_tests) in rw within refl
-
-pub counts-many : (bytes : List ℕ) → record_limit < length (words_of bytes) → too_many bytes ≡ Some (RecordLimit record_limit)
-counts-many bytes many = let over : nat_lt record_limit (length (words_of bytes)) ≡ true = grind (arith, nat_tests) in rw over refl
 
 -- what is refused has too many
 many-from : (bytes : List ℕ) (fault : Fault) → too_many bytes ≡ Some fault → (record_limit < length (words_of bytes)) × (RecordLimit record_limit ≡ fault)
@@ -25,11 +22,6 @@ many-from bytes fault h = by (nat_lt record_limit (length (words_of bytes))) ref
 counted-limit : (record_type : RecordType) (bytes : List ℕ) → record_limit < length (words_of bytes) → counted record_type bytes ≡ Err (RecordLimit record_limit)
 unfolding counted
 counted-limit record_type bytes many = let over : nat_lt record_limit (length (words_of bytes)) ≡ true = grind (arith, nat_tests) in rw over refl
-
-many-more : (bytes more : List ℕ) → record_limit < length (words_of bytes) → record_limit < length (words_of (bytes ++ more))
-many-more bytes more many =
-    let count : length (words_of (bytes ++ more)) ≡ length (words_of bytes) + length (words_of (rest_of bytes ++ more)) = ap length (words_of-append bytes more) ∙ length-append (words_of bytes) (words_of (rest_of bytes ++ more)) in
-    omega arith
 
 -- ## Their end
 
@@ -51,7 +43,7 @@ module _ (header : Header) where
   counts-law = record {
     refused = λ bytes more fault h.
         let many = many-from bytes fault h in
-        ap (counted_end header) (counted-limit header.record_type (bytes ++ more) (many-more bytes more many.0)) ∙ ap (λ (f : Fault). end_with [] (Some f)) many.1;
+        ap (counted_end header) (counted-limit header.record_type (bytes ++ more) (words-more bytes more many.0)) ∙ ap (λ (f : Fault). end_with [] (Some f)) many.1;
     front = λ bytes more. (((counts header).ends (bytes ++ more)).text, refl);
     inside = λ bytes fault h. rw (← (many-from bytes fault h).1) refl;
     end_inside = λ bytes fault h. counted-inside header.record_type bytes fault (sym (ends-fault (counted header.record_type bytes)) ∙ h);

@@ -1,14 +1,13 @@
 // Prints a header while it is read.
 ghost use Rattle.std.specs.Prelude.{◌≡◌, ◌≤◌, ◌^◌, ◌++◌, [], List, ℕ, true, false, IfOk, OnOk, OnErr, Err};
 ghost use Rattle.{tally_base.specs.Faults.is_outside, ptu_definitions.specs.{Headers.header_answer, TagList.code_in}, bench_io.specs.Sinks.{CountsFault, WroteShort, PassesOn}};
-ghost use Rattle.{ptu_tag.specs.{declared.kind.TagKind.TagKind, Kinds.{IsHead, code_of}}, ptu_header.specs.ReadHeader.{bytes_taken, is_open}, list_out.specs.HeaderText.{head_text, bare_end}};
-ghost use Rattle.{list_out.specs.Lines.HasPut, file_work.specs.BodyPieces.{PutsBody, CutsBody, end_line}};
+ghost use Rattle.{ptu_header.specs.{declared.kind.TagKind.TagKind, Kinds.{IsHead, code_of}, ReadHeader.{bytes_taken, is_open}}, list_out.specs.{HeaderText.{head_text, bare_end}, Lines.HasPut}};
+ghost use Rattle.file_work.specs.BodyPieces.{PutsBody, CutsBody, end_line};
 
 use arrayvec::ArrayVec;
 use bench_io::{OutBuffer, Sink};
 use list_out::{BodyText, header_line, preamble_lines};
-use ptu_header::{HeaderReader, HeaderStep};
-use ptu_tag::{TagHead, TagKind};
+use ptu_header::{HeaderReader, HeaderStep, TagHead, TagKind};
 use tally_base::{Failed, Fault};
 
 /// A header that is printed as far as it was read.

@@ -64,7 +64,8 @@ one-unbinned set h x time e below =
 floor-up : (set : TraceView) (p : Bool) (floor time : ℕ) → 0 < set.width → (IsTrue p → floor ≤ time) → bin_at set floor ≤ bin_at set (if p then time else floor)
 floor-up set p floor time some up = search (rules, arith, bin-later)
 
-one-goes : (set : TraceView) (h : History) (x : Event × ℕ) (floor : ℕ) → 0 < set.width → (IsTrue (is_photon x.0) → floor ≤ x.0.time) → span set h ≤ bin_at set floor + 1 → Goes set h (h ++ x ∷ []) (if is_photon x.0 then x.0.time else floor)
+one-goes : (set : TraceView) (h : History) (x : Event × ℕ) (floor : ℕ) → 0 < set.width → (IsTrue (is_photon x.0) → floor ≤ x.0.time)
+    → span set h ≤ bin_at set floor + 1 → Goes set h (h ++ x ∷ []) (if is_photon x.0 then x.0.time else floor)
 one-goes set h x floor some up below = by (is_binned set x) refl
   where
     by : (b : Bool) → is_binned set x ≡ b → Goes set h (h ++ x ∷ []) (if is_photon x.0 then x.0.time else floor)

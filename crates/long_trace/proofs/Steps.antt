@@ -189,5 +189,6 @@ later : (b : Bool) (floor time : ℕ) → (IsTrue b → floor ≤ time) → (if 
 later b floor time order = search (rules, arith)
 
 -- the greatest time of one event more
-pub floor-one : (h : History) (e : Event) (groups floor now : ℕ) → (IsTrue (is_photon e) → floor ≤ e.time) → now ≡ (if is_photon e then e.time else floor) → floor ≡ greatest_time false h → now ≡ greatest_time false (h ++ (e, groups) ∷ [])
+pub floor-one : (h : History) (e : Event) (groups floor now : ℕ) → (IsTrue (is_photon e) → floor ≤ e.time) → now ≡ (if is_photon e then e.time else floor)
+    → floor ≡ greatest_time false h → now ≡ greatest_time false (h ++ (e, groups) ∷ [])
 floor-one h e groups floor now order moved is = search (rules, arith, later, greatest-push)

@@ -1,5 +1,4 @@
 pub mod Texts
 pub mod Bins
 pub mod States
-pub mod Written
 pub mod LongTrace

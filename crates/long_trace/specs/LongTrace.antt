@@ -1,6 +1,7 @@
 -- What a trace without end stands for.
-use Rattle.std.specs.Prelude.{◌≡◌, ℕ, ◌+◌, ◌<◌, ◌≤◌, Bool, List, [], ◌∷◌, ◌++◌, true, false, length, Result, is_ok, IsTrue, if◌then◌else◌}
-use Rattle.tally_base.specs.{declared.{fault.Fault.Fault, event.Event.Event, settings.TraceSet.TraceSet}, Events.is_photon, Limits.record_limit, Settings.trace_view, Tally.{History, greatest_time}}
+use Rattle.std.specs.Prelude.{◌≡◌, ℕ, ◌+◌, ◌<◌, ◌≤◌, Bool, List, [], ◌∷◌, ◌++◌, true, false, length, Result, is_ok, IfErr, IsTrue, if◌then◌else◌}
+use Rattle.tally_base.specs.{declared.{fault.Fault.{Fault, TheVariants.WriteFault}, event.Event.Event, settings.TraceSet.TraceSet, block.Block.Block}, Events.is_photon, Limits.record_limit}
+use Rattle.{tally_base.specs.{Settings.trace_view, Tally.{History, greatest_time, InOrder}, Columns.{gathered, IsSorted}}, bench_io.specs.Sinks.{SinkState, CountsFault}}
 use Rattle.{count_trace.specs.TraceCounts.count_before, long_trace.specs.{declared.trace.LongTrace.LongTrace, Bins.CountsBins, States.state_of, Texts.open_text}}
 
 -- what it was made with
@@ -46,6 +47,18 @@ pub record CanTake (t : LongTrace) (e : Event) : Type 0 where
   pub going : is_going t ≡ true
   pub room : taken_of t < record_limit
   pub in_order : IsTrue (is_photon e) → floor_of t ≤ e.time
+
+-- It goes on, a block has no more events than may come, in the groups that it has, and no photon comes at a smaller time than one before it.
+pub record CanTakeBlock {N : ℕ} (t : LongTrace) (block : Block N) : Type 0 where
+  pub going : is_going t ≡ true
+  pub sorted : IsSorted block
+  pub room : taken_of t + length (gathered block) ≤ record_limit
+  pub in_order : InOrder false (floor_of t) (gathered block)
+
+-- A call fails only where a write does, and says so.
+pub record RefusesWrite {X : Type 0} (old new : SinkState) (result : Result X Fault) : Type 0 where
+  pub fault : IfErr result (λ fault. fault ≡ WriteFault)
+  pub cause : CountsFault old new result
 
 -- It took an event, and goes on where its line was written.
 pub record GoesOn (old new : LongTrace) (e : Event) (groups : ℕ) (result : Result (Unit {0}) Fault) : Type 0 where

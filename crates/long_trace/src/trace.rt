@@ -1,16 +1,16 @@
 // A trace without end.
-ghost use Rattle.std.specs.Prelude.{◌≡◌, ◌+◌, ◌*◌, ◌<◌, ◌≤◌, ◌&&◌, if◌then◌else◌, IfErr, OnOk, OnErr, max, slice_index, sum, ◌++◌, ◌∷◌, [], IsTrue, true, false, is_ok, length};
-ghost use Rattle.{bench_io.specs.Sinks.{CountsFault, Wrote, WroteShort}, tally_base.specs.{Events.{is_photon, is_in}, Columns.{gathered, events_in, IsSorted}, Tally.{floor_after, InOrder, History}}};
-ghost use Rattle.{tally_base.specs.{Limits.record_limit, Settings.trace_view}, long_trace.specs.States.IsUpTo};
+ghost use Rattle.std.specs.Prelude.{◌≡◌, ◌+◌, ◌*◌, ◌<◌, ◌≤◌, ◌&&◌, if◌then◌else◌, OnOk, OnErr, slice_index, ◌++◌, ◌∷◌, [], true, false, is_ok, length};
+ghost use Rattle.{bench_io.specs.{Sinks.{Wrote, WroteShort}, Texts.{WroteText, CutText}}, tally_base.specs.{Events.{is_photon, is_in}, Columns.{gathered, events_in}, Tally.{floor_after, History}}};
+ghost use Rattle.{tally_base.specs.Settings.trace_view, long_trace.specs.States.IsUpTo};
 
 use crate::closed::Closed;
 use crate::counting::{Counting, OpenBin, closed_with};
-use crate::ending::end_lines;
+use crate::ending::{end_lines, write_or_refuse};
 use crate::lines::{LINE_SIZE, LINES_SIZE, first_line};
 use arrayvec::ArrayVec;
-use bench_io::{Sink, write_all};
+use bench_io::Sink;
 use count_trace::Bin;
-use tally_base::{Block, Event, Failed, Fault, TABLE_BLOCK, TraceSet, floor_behind, is_in};
+use tally_base::{Block, Event, Fault, TABLE_BLOCK, TraceSet, floor_behind, is_in};
 
 /// Counts the photons of a group by their times, in bins without end, in ticks in T2 and sync periods in T3.
 ///
@@ -37,7 +37,8 @@ pub struct LongTrace {
 }
 
 impl LongTrace {
-    ghost use Rattle.long_trace.{specs.Texts.{first_line, whole_text}, specs.Written.{AppendsRest, CutsRest}, specs.LongTrace.{Holds, GivenMore, GoesOn, CanTake, Starts, set_of, taken_of, floor_of, was_begun, is_going, printed_by}};
+    ghost use Rattle.long_trace.specs.{Texts.{first_line, whole_text}, LongTrace.{Holds, GivenMore, GoesOn, CanTake, CanTakeBlock, RefusesWrite, Starts, set_of, taken_of, floor_of, was_begun}};
+    ghost use Rattle.long_trace.specs.LongTrace.{is_going, printed_by};
 
     /// A trace of no events. It doesn't look at the number of bins.
     pub fn new(set: &TraceSet) -> LongTrace
@@ -72,7 +73,7 @@ impl LongTrace {
         ensures text { OnOk result (Wrote (O.state out.old) (O.state out.new) (first_line (trace_view (set_of self.old)))) }
         ensures short { OnErr result (WroteShort (O.state out.old) (O.state out.new)
             (first_line (trace_view (set_of self.old)))) }
-        ensures fault { IfErr result (λ fault. fault ≡ Fault.WriteFault) }
+        ensures refuses { RefusesWrite (O.state out.old) (O.state out.new) result }
         ensures starts { Starts self.old self.new result }
     {
         self.begun = true;
@@ -86,9 +87,7 @@ impl LongTrace {
     /// before it.
     #[inline(always)]
     pub fn take(&mut self, e: &Event, groups: u64) -> ArrayVec<u8, LINE_SIZE>
-        requires going { is_going self.old ≡ true }
-        requires room { taken_of self.old < record_limit }
-        requires in_order { IsTrue (is_photon e.now) → floor_of self.old ≤ e.now.time }
+        requires can { CanTake self.old e.now }
         ensures given { GivenMore self.old self.new ((e.now, groups) ∷ []) result.items }
         ensures one_more { taken_of self.new ≡ taken_of self.old + 1 }
         ensures moved { floor_of self.new ≡ (if is_photon e.now then e.now.time else floor_of self.old) }
@@ -105,10 +104,7 @@ impl LongTrace {
     /// Takes the events of a block, as `take` does one by one, and puts the lines of the bins that they close
     /// into a buffer, in place of its own.
     pub fn take_block(&mut self, block: &Block<TABLE_BLOCK>, lines: &mut ArrayVec<u8, LINES_SIZE>)
-        requires going { is_going self.old ≡ true }
-        requires sorted { IsSorted block.now }
-        requires room { taken_of self.old + length (gathered block.now) ≤ record_limit }
-        requires in_order { InOrder false (floor_of self.old) (gathered block.now) }
+        requires can { CanTakeBlock self.old block.now }
         ensures given { GivenMore self.old self.new (events_in block.now) lines.new.items }
         ensures more { taken_of self.new ≡ taken_of self.old + length (gathered block.now) }
         ensures moved { floor_of self.new ≡ floor_after false (floor_of self.old) (gathered block.now) }
@@ -127,14 +123,11 @@ impl LongTrace {
     #[tactic(auto, using(std::proofs::lemmas::Result::on_ok_weaker, std::proofs::lemmas::Result::on_err_weaker))]
     pub fn event<O: Sink>(&mut self, e: &Event, groups: u64, out: &mut O) -> Result<(), Fault>
         requires can { CanTake self.old e.now }
-        ensures text { (h : History) → Holds self.old h → OnOk result (AppendsRest
-            (O.state out.old) (O.state out.new) (printed_by self.old h)
-            (printed_by self.old (h ++ (e.now, groups) ∷ []))) }
-        ensures short { (h : History) → Holds self.old h → OnErr result (CutsRest
-            (O.state out.old) (O.state out.new) (printed_by self.old h)
-            (printed_by self.old (h ++ (e.now, groups) ∷ []))) }
-        ensures fault { IfErr result (λ fault. fault ≡ Fault.WriteFault) }
-        ensures cause { CountsFault (O.state out.old) (O.state out.new) result }
+        ensures text { (h : History) → Holds self.old h → OnOk result (WroteText (printed_by self.old h)
+            (printed_by self.old (h ++ (e.now, groups) ∷ [])) (O.state out.old) (O.state out.new)) }
+        ensures short { (h : History) → Holds self.old h → OnErr result (CutText (printed_by self.old h)
+            (printed_by self.old (h ++ (e.now, groups) ∷ [])) (O.state out.old) (O.state out.new)) }
+        ensures refuses { RefusesWrite (O.state out.old) (O.state out.new) result }
         ensures follows { GoesOn self.old self.new e.now groups result }
     {
         let line = self.take(e, groups);
@@ -150,14 +143,11 @@ impl LongTrace {
     /// written.
     pub fn finish<O: Sink>(self, out: &mut O) -> Result<(), Fault>
         requires going { is_going self ≡ true }
-        ensures text { (h : History) → Holds self h → OnOk result (AppendsRest
-            (O.state out.old) (O.state out.new) (printed_by self h)
-            (whole_text (trace_view (set_of self)) h)) }
-        ensures short { (h : History) → Holds self h → OnErr result (CutsRest
-            (O.state out.old) (O.state out.new) (printed_by self h)
-            (whole_text (trace_view (set_of self)) h)) }
-        ensures fault { IfErr result (λ fault. fault ≡ Fault.WriteFault) }
-        ensures cause { CountsFault (O.state out.old) (O.state out.new) result }
+        ensures text { (h : History) → Holds self h → OnOk result (WroteText (printed_by self h)
+            (whole_text (trace_view (set_of self)) h) (O.state out.old) (O.state out.new)) }
+        ensures short { (h : History) → Holds self h → OnErr result (CutText (printed_by self h)
+            (whole_text (trace_view (set_of self)) h) (O.state out.old) (O.state out.new)) }
+        ensures refuses { RefusesWrite (O.state out.old) (O.state out.new) result }
     {
         let closed = closed_with(&self.counting.newest, self.closed);
         write_or_refuse(out, end_lines(&self.counting, &closed).as_slice())
@@ -171,16 +161,4 @@ fn photons_in(e: &Event, groups: u64, group: u8) -> u64
     ensures { result ≡ (if is_photon e.now && is_in groups group then 1 else 0) }
 {
     u64::from(e.is_photon() && is_in(groups, group))
-}
-
-/// Writes all the bytes.
-fn write_or_refuse<O: Sink>(out: &mut O, bytes: &[u8]) -> Result<(), Fault>
-    ensures text { OnOk result (Wrote (O.state out.old) (O.state out.new) bytes.now) }
-    ensures short { OnErr result (WroteShort (O.state out.old) (O.state out.new) bytes.now) }
-    ensures fault { IfErr result (λ fault. fault ≡ Fault.WriteFault) }
-{
-    match write_all(out, bytes) {
-        Ok(()) => Ok(()),
-        Err(Failed) => Err(Fault::WriteFault),
-    }
 }

@@ -11,7 +11,7 @@ use Rattle.ptu_definitions.{specs.{Streams.{given, streamed}, Times.{event_of, e
 use Rattle.ptu_definitions.proofs.{DeliveredLaws.delivered-settled, WordsLemmas.meaning-fits, SettledLaws.{in_time-permutation, in_time-rises}}
 use Rattle.{ptu_definitions.proofs.SettledLemmas.{Rises-lower, IsNonDecreasingBy-Rises}, gate_plan.specs.Shifting.Sorting}
 use Rattle.{record_write.specs.Picked.{is_too_late, IsPhotonOf, CanBePicked}, photon_pick.specs.{Chosen.is_chosen, Late.{too_late, writable, AreBeforeLate}}}
-use Rattle.photon_pick.{specs.{Texts.photons_in, Ends.{photons_kept, photons_by, photons_of}}, proofs.{Parts.writable-all, Ends.chosen-photon}}
+use Rattle.photon_pick.{specs.{Texts.photons_in, Ends.{photons_kept, photons_by, photons_of}}, proofs.Parts.{writable-all, chosen-photon}}
 
 -- ## Events fit the mode of their records
 

@@ -1,88 +1,45 @@
--- What a piece writes of the photons of a group.
-use Rattle.std.proofs.Common.{◌≡◌, ◌∙◌, ℕ, List, [], ◌++◌, Bool, None, Some, Ok, Err, refl, ap, inl, inr, ⊎_elim, Result, OnOk, arith, rules}
-use Rattle.{std.specs.{List.filter, declared.option.Option.Option}, tally_base.specs.declared.{event.Event.Event, fault.Fault.{Fault, TheVariants.WriteFault}}}
-use Rattle.{bench_io.specs.{Sinks.{SinkState, Wrote, WroteShort}, Texts.{WroteText, CutText, WritesText}}, ptu_definitions.specs.Kept.Marked}
+-- What a piece puts of the photons of a group.
+use Rattle.std.{proofs.Common.{◌≡◌, ◌∙◌, ℕ, List, [], ◌++◌, Bool, None, Ok, Err, ap, inl, inr, Result, OnOk}, specs.List.filter}
+use Rattle.{tally_base.specs.declared.{event.Event.Event, fault.Fault.Fault}, bench_io.proofs.Texts.PutsText, ptu_definitions.specs.Kept.Marked}
 use Rattle.{ptu_definitions.specs.{Settled.not_marked, Streams.{StreamSettings, record_refusal, given}}, record_stream.specs.declared.taker.EventTaker.Ghosts}
-use Rattle.{record_stream.specs.Feeding.{GaveOn, BrokeOn, Fed}, photon_pick.specs.{Giving.{Stand, TookPhotons, Refused}, Texts.{photons_in, text_in}}}
-use Rattle.photon_pick.{specs.Texts.{refusal_in, answer_by, HasPickedIn}, proofs.Parts.{chosen-more, took-clear, took-picked, took-wrote, took-cut}}
-use Rattle.photon_pick.proofs.Parts.{refused-wrote, refused-cut}
+use Rattle.{record_stream.specs.Feeding.Fed, record_write.specs.Picker.mode_of, photon_pick.specs.{Giving.{Stand, TookPhotons, Refused}, Texts.photons_in}}
+use Rattle.photon_pick.{specs.Texts.{text_in, refusal_in, answer_by, HasPickedIn}, proofs.Parts.{chosen-more, took-puts, took-stands, broke-puts}}
 
 pub photons-more : (chooses : Event → Bool) (how : StreamSettings) (words now : List ℕ) (more : Marked) → given how now ≡ given how words ++ more
     → photons_in chooses how now ≡ photons_in chooses how words ++ filter chooses (not_marked more)
 photons-more chooses how words now more adds = ap (λ l. filter chooses (not_marked l)) adds ∙ chosen-more chooses (given how words) more
 
-module _ {T : Type 0} (g : Ghosts T) (a b : T) (at : T → Stand) (chooses : Event → Bool) (how : StreamSettings) (same_choice : (at a).chooses ≡ chooses) (same_mode : (at a).mode ≡ how.mode) (empty : (at a).held ≡ []) (c : SinkState)
+module _ {T : Type 0} (g : Ghosts T) (a b : T) (at : T → Stand) (chooses : Event → Bool) (how : StreamSettings) (same_choice : (at a).chooses ≡ chooses) (same_mode : mode_of (at a).pen.picker ≡ how.mode) (empty : (at a).pen.held ≡ [])
     (none : g.got a a []) (gets : (l : Marked) → g.got a b l → TookPhotons (at a) (at b) l) (breaks : (l : Marked) → g.broke a b l
-    → Refused (at a) (at b) l) (words now : List ℕ) (has : HasPickedIn chooses how (at a).picker words) where
+    → Refused (at a) (at b) l) (words now : List ℕ) (has : HasPickedIn chooses how (at a).pen.picker words) (free : (at a).fault ≡ None) where
   abbrev s : Stand
   s = at a
 
   abbrev t : Stand
   t = at b
 
-  abbrev before : List Event
-  before = photons_in chooses how words
+  abbrev Puts : Result (Unit {0}) Fault → Type 0
+  Puts r = PutsText (text_in chooses how words) (text_in chooses how now) (refusal_in chooses how now) s.pen.sink t.pen.sink t.pen.held (answer_by t.fault r)
+      × OnOk (answer_by t.fault r) (HasPickedIn chooses how t.pen.picker now)
 
-  abbrev total : List Event
-  total = photons_in chooses how now
-
-  -- what was given
-  gave : (h : GaveOn g how a b words now) → TookPhotons s t h.more
-  gave h = gets h.more (h.follows a [] none)
-
-  gave-are : (h : GaveOn g how a b words now) → total ≡ before ++ filter chooses (not_marked h.more)
-  gave-are h = photons-more chooses how words now h.more h.adds
-
-  gave-wrote : (h : GaveOn g how a b words now) → Wrote t.sink c t.held → WroteText (text_in chooses how words) (text_in chooses how now) s.sink c
-  gave-wrote h flushed = search (rules, arith, took-wrote, s, t, before, total, gave, gave-are)
-
-  gave-clear : (h : GaveOn g how a b words now) (answer : Option Fault) → record_refusal how now ≡ answer → refusal_in chooses how now ≡ answer
-  gave-clear h answer is = rw (took-clear s t chooses how.mode same_choice same_mode empty before total has.in_time has.picked h.more (gave h) (gave-are h)) is
-
-  gave-stands : GaveOn g how a b words now → HasPickedIn chooses how t.picker now
-  gave-stands h = record {
-    picked = took-picked s t chooses how.mode same_choice same_mode empty before total has.in_time has.picked h.more (gave h) (gave-are h);
-    in_time = took-clear s t chooses how.mode same_choice same_mode empty before total has.in_time has.picked h.more (gave h) (gave-are h);
-  }
-
-  gave-cut : (h : GaveOn g how a b words now) → WroteShort t.sink c t.held → CutText (text_in chooses how words) (text_in chooses how now) s.sink c
-  gave-cut h short = took-cut s t chooses how.mode same_choice same_mode empty before total has.in_time has.picked h.more (gave h) (gave-are h) c short
-
-  -- a photon of the group was refused
-  broke : (h : BrokeOn g how a b words now) → Refused s t h.front
-  broke h = breaks h.front (h.broken a [] none)
-
-  broke-are : (h : BrokeOn g how a b words now) → total ≡ before ++ filter chooses (not_marked (h.front ++ h.back))
-  broke-are h = photons-more chooses how words now (h.front ++ h.back) h.adds
-
-  -- What a piece wrote, where the block was flushed.
-  pub feeds-on : (r : Result (Unit {0}) Fault) → s.fault ≡ None → Wrote t.sink c t.held → Fed g how a b words now r
-      → WritesText (text_in chooses how words) (text_in chooses how now) (refusal_in chooses how now) s.sink c
-      (answer_by t.fault r) × OnOk (answer_by t.fault r) (HasPickedIn chooses how t.picker now)
-  feeds-on (Ok done) free flushed fed = search (rules, arith, gave, gave-clear, gave-wrote, gave-stands)
-  feeds-on (Err fault) free flushed fed =
-      ⊎_elim
-      (λ (r : (record_refusal how now ≡ Some fault) × GaveOn g how a b words now).
-      let kept : t.fault ≡ None = (gave r.1).same_fault ∙ free in
-      rw kept (inl (gave-clear r.1 (Some fault) r.0, gave-wrote r.1 flushed), tt))
-      (λ (r : (fault ≡ WriteFault) × BrokeOn g how a b words now).
-      let it =
-      refused-wrote s t chooses how.mode same_choice same_mode empty before total has.in_time has.picked r.1.front r.1.back (broke r.1) (broke-are r.1) c
-      (record_refusal how now) flushed in
-      rw it.1 (it.2, tt))
-      fed
-
-  -- What it wrote where the flush failed.
-  pub feeds-cut : (r : Result (Unit {0}) Fault) → WroteShort t.sink c t.held → Fed g how a b words now r
-      → WritesText {X = Unit {0}} (text_in chooses how words) (text_in chooses how now) (refusal_in chooses how now) s.sink c (Err WriteFault)
-  feeds-cut (Ok done) short fed = inr (refl, gave-cut fed.1 short)
-  feeds-cut (Err fault) short fed =
-      ⊎_elim
-      (λ (r : (record_refusal how now ≡ Some fault) × GaveOn g how a b words now). inr (refl, gave-cut r.1 short))
-      (λ (r : (fault ≡ WriteFault) × BrokeOn g how a b words now).
-      inr (
-        refl,
-        refused-cut s t chooses how.mode same_choice same_mode empty before total has.in_time has.picked r.1.front r.1.back (broke r.1)
-            (broke-are r.1) c short,
-      ))
-      fed
+  pub feeds-on : (r : Result (Unit {0}) Fault) → Fed g how a b words now r → Puts r
+  feeds-on (Ok done) fed =
+      let took = gets fed.1.more (fed.1.follows a [] none) in
+      let are = photons-more chooses how words now fed.1.more fed.1.adds in
+      let stands = took-stands s t chooses how.mode same_choice same_mode empty (photons_in chooses how words) (photons_in chooses how now) has.in_time has.picked fed.1.more took are in
+      rw (fed.0, took.same_fault ∙ free) (
+        rw (took.same_fault ∙ free) at (took-puts s t chooses how.mode same_choice same_mode empty (photons_in chooses how words) (photons_in chooses how now) has.in_time has.picked fed.1.more (Ok done) took are free),
+        record { picked = stands.1; in_time = stands.0 },
+      )
+  feeds-on (Err fault) (inl fed) =
+      let took = gets fed.1.more (fed.1.follows a [] none) in
+      let are = photons-more chooses how words now fed.1.more fed.1.adds in
+      rw (fed.0, took.same_fault ∙ free) (
+        rw (took.same_fault ∙ free) at (took-puts s t chooses how.mode same_choice same_mode empty (photons_in chooses how words) (photons_in chooses how now) has.in_time has.picked {X = Unit {0}} fed.1.more (Err fault) took are free),
+        tt,
+      )
+  feeds-on (Err fault) (inr fed) =
+      let broke = breaks fed.1.front (fed.1.broken a [] none) in
+      let puts = broke-puts s t chooses how.mode same_choice same_mode empty (photons_in chooses how words) (photons_in chooses how now) has.in_time has.picked {X = Unit {0}} fed.1.front fed.1.back (Err fault) (record_refusal how now) broke
+      (photons-more chooses how words now (fed.1.front ++ fed.1.back) fed.1.adds) in
+      rw broke.told (rw broke.told at puts, tt)

@@ -1,10 +1,78 @@
--- What one photon more, given to a picker, leaves by what `put` says.
-use Rattle.std.proofs.Common.{◌≡◌, ◌∙◌, ◌⊎◌, ◌↔◌, Bool, true, false, List, [], ◌∷◌, ◌++◌, Result, Ok, Err, ap, sym, subst, refl, rules, arith, ⊎_elim}
-use Rattle.{std.proofs.{Common.{append_assoc, append-nil, inl, inr}, lemmas.List.Elements.filter-append}, tally_base.specs.declared.event.Event.Event}
-use Rattle.tally_base.{specs.{declared.fault.Fault.{Fault, TheVariants.{PickTime, WriteFault}}, FaultCounts.Rose}, proofs.Floors.floor-push}
-use Rattle.{ptu_definitions.proofs.PrefixLemmas.each_after-append, record_write.specs.{Picked.{is_too_late, photon_words}, Picker.{mode_of, last_by, is_going}}}
-use Rattle.record_write.{specs.{Picker.{HasPicked, Picks, OnWordsOf}, Writing.{PutsWords, CutsWords, PutsOrCuts, PickCause}}, proofs.Puts.puts-none}
-use Rattle.{record_write.proofs.Puts.{puts-more, cuts-behind}, photon_pick.specs.{Giving.{Gave, Pen, TooLate, WriteFailed, words_behind}, Late.too_late}}
+-- Photons given to a picker one after another.
+use Rattle.std.proofs.Common.{◌≡◌, ◌∙◌, ◌↔◌, Bool, true, false, List, [], ◌∷◌, ◌++◌, Result, Ok, Err, ap, sym, subst, refl, rules, arith, ⊎_elim, append_assoc}
+use Rattle.{std.proofs.{Common.{append-nil, inl, inr}, lemmas.List.Elements.filter-append}, tally_base.specs.declared.{event.Event.Event, fault.Fault.Fault}}
+use Rattle.tally_base.specs.{declared.{fault.Fault.TheVariants.{PickTime, WriteFault}, header.Mode.Mode}, FaultCounts.Rose}
+use Rattle.{ptu_definitions.{specs.Prefixes.each_after, proofs.PrefixLemmas.each_after-append}, record_write.specs.Picked.{is_too_late, photon_words}}
+use Rattle.record_write.{specs.{Picker.{mode_of, HasPicked, Picks, OnWordsOf}, Writing.{PutsWords, CutsWords, PutsOrCuts, PickCause}}, proofs.Puts.puts-none}
+use Rattle.{record_write.proofs.Puts.{puts-more, cuts-behind}, photon_pick.specs.Giving.{Gave, Pen, Stopped, TooLate, WriteFailed, words_behind}}
+use Rattle.photon_pick.specs.Late.{too_late}
+
+pub too_late-both : (mode : Mode) (ps qs : List Event) → too_late mode ps ≡ [] → too_late mode qs ≡ [] → too_late mode (ps ++ qs) ≡ []
+too_late-both mode ps qs p q = filter-append (λ e. is_too_late mode e.time) ps qs ∙ rw (p, q) refl
+
+-- ## Photons after others
+
+module _ (p q r : Pen) (xs : List Event) (gave : Gave p q xs) where
+  -- what was put of them
+  puts : (ys : List Event) → ((behind : List Event) → HasPicked q.picker behind → PutsWords q.sink r.sink q.held r.held (words_behind q behind ys))
+      → (behind : List Event) → HasPicked p.picker behind → PutsWords p.sink r.sink p.held r.held (words_behind p behind (xs ++ ys))
+  puts ys text behind has =
+      subst (λ l. PutsWords p.sink r.sink p.held r.held l) (sym (each_after-append (photon_words (mode_of p.picker)) behind xs ys))
+      (puts-more p.sink q.sink r.sink p.held q.held r.held (words_behind p behind xs) (words_behind p (behind ++ xs) ys) (gave.text behind has)
+      (subst (λ m. PutsWords q.sink r.sink q.held r.held (each_after (photon_words m) (behind ++ xs) ys)) gave.same_mode (text (behind ++ xs) (gave.picked behind has))))
+
+  -- what was cut
+  cuts : (ys : List Event) → ((behind : List Event) → HasPicked q.picker behind → CutsWords q.sink r.sink q.held r.held (words_behind q behind ys))
+      → (behind : List Event) → HasPicked p.picker behind → CutsWords p.sink r.sink p.held r.held (words_behind p behind (xs ++ ys))
+  cuts ys text behind has =
+      subst (λ l. CutsWords p.sink r.sink p.held r.held l) (sym (each_after-append (photon_words (mode_of p.picker)) behind xs ys))
+      (cuts-behind p.sink q.sink r.sink p.held q.held r.held (words_behind p behind xs) (words_behind p (behind ++ xs) ys) (gave.text behind has)
+      (subst (λ m. CutsWords q.sink r.sink q.held r.held (each_after (photon_words m) (behind ++ xs) ys)) gave.same_mode (text (behind ++ xs) (gave.picked behind has))))
+
+  in-time : (ys : List Event) → too_late (mode_of q.picker) ys ≡ [] → too_late (mode_of p.picker) (xs ++ ys) ≡ []
+  in-time ys none = too_late-both (mode_of p.picker) xs ys gave.in_time (subst (λ m. too_late m ys ≡ []) gave.same_mode none)
+
+  pub Gave-trans : (ys : List Event) → Gave q r ys → Gave p r (xs ++ ys)
+  Gave-trans ys more = record {
+    in_time = in-time ys more.in_time;
+    picked = λ behind has. rw (← append_assoc behind xs ys) (more.picked (behind ++ xs) (gave.picked behind has));
+    text = puts ys more.text;
+    same_mode = more.same_mode ∙ gave.same_mode;
+  }
+
+  pub Stopped-behind : (ys : List Event) (fault : Fault) → Stopped q r ys fault → Stopped p r (xs ++ ys) fault
+  Stopped-behind ys fault stop = record {
+    front = xs ++ stop.front;
+    e = stop.e;
+    back = stop.back;
+    are = ap (λ l. xs ++ l) stop.are ∙ sym (append_assoc xs stop.front (stop.e ∷ stop.back));
+    in_time = in-time stop.front stop.in_time;
+    why = ⊎_elim
+        (λ (late : TooLate q r stop.front stop.e fault). inl (record {
+          late = subst (λ m. is_too_late m stop.e.time ≡ true) gave.same_mode late.late;
+          is = late.is;
+          text = puts stop.front late.text;
+        }))
+        (λ (cut : WriteFailed q r stop.front stop.e fault). inr (record {
+          soon = subst (λ m. is_too_late m stop.e.time ≡ false) gave.same_mode cut.soon;
+          is = cut.is;
+          text = λ behind has. rw (append_assoc xs stop.front (stop.e ∷ [])) (cuts (stop.front ++ stop.e ∷ []) cut.text behind has);
+        }))
+        stop.why;
+  }
+
+-- and of more photons the same was refused
+pub Stopped-more : (p q : Pen) (xs ys : List Event) (fault : Fault) → Stopped p q xs fault → Stopped p q (xs ++ ys) fault
+Stopped-more p q xs ys fault stop = record {
+  front = stop.front;
+  e = stop.e;
+  back = stop.back ++ ys;
+  are = ap (λ l. l ++ ys) stop.are ∙ append_assoc stop.front (stop.e ∷ stop.back) ys;
+  in_time = stop.in_time;
+  why = stop.why;
+}
+
+-- ## One photon, by what `put` says
 
 abbrev Answer : Type 0
 Answer = Result (Unit {0}) Fault
@@ -12,70 +80,47 @@ Answer = Result (Unit {0}) Fault
 abbrev IsPickTime : Answer → Event → Type 0
 IsPickTime answer e = answer ≡ Err (PickTime e.place)
 
-abbrev TellsLate : Answer → Pen → Event → Type 0
-TellsLate answer q e = IsPickTime answer e ↔ (is_too_late (mode_of q.picker) e.time ≡ true)
-
-abbrev Puts : Answer → Pen → Pen → Event → Type 0
-Puts answer q r e = OnWordsOf q.picker e (λ words. PutsOrCuts q.sink r.sink q.held r.held words answer)
-
 is-false : (b : Bool) → (b ≡ true → ⊥) → b ≡ false
 is-false b h = search (rules, arith)
 
--- the words of one photon more
-words-more : (p : Pen) (behind ps : List Event) (e : Event)
-    → words_behind p behind (ps ++ e ∷ []) ≡ words_behind p behind ps ++ photon_words (mode_of p.picker) (behind ++ ps) e
-words-more p behind ps e = search (rules, arith, each_after-append, append-nil)
+module _ (p q : Pen) (e : Event) where
+  abbrev TellsLate : Answer → Type 0
+  TellsLate answer = IsPickTime answer e ↔ (is_too_late (mode_of p.picker) e.time ≡ true)
 
-pub Gave-none : (p : Pen) → is_going p.picker ≡ true → Gave p p []
-Gave-none p going = record {
-  in_time = refl;
-  picked = λ behind h. rw append-nil h;
-  text = λ behind h. puts-none p.sink p.held;
-  same_mode = refl;
-  going = going;
-  last = refl;
-}
+  abbrev Puts : Answer → Type 0
+  Puts answer = OnWordsOf p.picker e (λ words. PutsOrCuts p.sink q.sink p.held q.held words answer)
 
-module _ (p q : Pen) (ps : List Event) (e : Event) (gave : Gave p q ps) (r : Pen) where
-  soon-by : (answer : Answer) → TellsLate answer q e → (IsPickTime answer e → ⊥) → is_too_late (mode_of p.picker) e.time ≡ false
-  soon-by answer late other = subst (λ m. is_too_late m e.time ≡ false) gave.same_mode (is-false _ (λ is. other (late.1 is)))
+  soon-by : (answer : Answer) → TellsLate answer → (IsPickTime answer e → ⊥) → is_too_late (mode_of p.picker) e.time ≡ false
+  soon-by answer late other = is-false _ (λ is. other (late.1 is))
 
   -- It was picked.
-  pub Gave-more : (done : Unit {0}) → TellsLate (Ok done) q e → Picks q.picker r.picker e → Puts (Ok done) q r e → Gave p r (ps ++ e ∷ [])
-  Gave-more done late picks puts = record {
-    in_time =
-        let here : too_late (mode_of p.picker) (e ∷ []) ≡ [] = rw (soon-by (Ok done) late (λ is. cc)) refl in
-        filter-append (λ x. is_too_late (mode_of p.picker) x.time) ps (e ∷ []) ∙ rw (gave.in_time, here) refl;
-    picked = λ behind h. subst (λ l. HasPicked r.picker l) (append_assoc behind ps (e ∷ [])) (picks.picked (behind ++ ps) (gave.picked behind h));
-    text = λ behind h.
-        subst (λ l. PutsWords p.sink r.sink p.held r.held l) (sym (words-more p behind ps e))
-        (puts-more p.sink q.sink r.sink p.held q.held r.held (words_behind p behind ps) (photon_words (mode_of p.picker) (behind ++ ps) e) (gave.text behind h)
-        (subst (λ m. PutsWords q.sink r.sink q.held r.held (photon_words m (behind ++ ps) e)) gave.same_mode (puts (behind ++ ps) (gave.picked behind h)).puts));
-    same_mode = picks.same_mode ∙ gave.same_mode;
-    going = picks.going;
-    last = picks.last ∙ sym (floor-push true (last_by p.picker) ps e);
+  pub Gave-one : (done : Unit {0}) → TellsLate (Ok done) → Picks p.picker q.picker e → Puts (Ok done) → Gave p q (e ∷ [])
+  Gave-one done late picks put = record {
+    in_time = rw (soon-by (Ok done) late (λ is. cc)) refl;
+    picked = picks.picked;
+    text = λ behind has. rw append-nil (put behind has).puts;
+    same_mode = picks.same_mode;
   }
 
   -- It was refused.
-  pub refuses : (fault : Fault) → TellsLate (Err fault) q e → (IsPickTime (Err fault) e → (r.sink ≡ q.sink) × (r.held ≡ q.held))
-      → Puts (Err fault) q r e → PickCause {T = Unit {0}} e.place q.sink r.sink (Err fault) → TooLate p r ps e fault ⊎ WriteFailed p r ps e fault
-  refuses fault late untouched puts cause =
-      ⊎_elim
-      (λ (is : (fault ≡ PickTime e.place) × (r.sink.faults ≡ q.sink.faults)).
-      let told : IsPickTime (Err fault) e = ap Err is.0 in
-      let same = untouched told in
-      inl (record {
-        late = subst (λ m. is_too_late m e.time ≡ true) gave.same_mode (late.0 told);
-        is = is.0;
-        text = λ behind h. rw (same.0, same.1) (gave.text behind h);
-      }))
-      (λ (is : (fault ≡ WriteFault) × Rose q.sink.faults r.sink.faults).
-      inr (record {
-        soon = soon-by (Err fault) late (λ other. let cut = is.0 in cc);
-        is = is.0;
-        text = λ behind h.
-            subst (λ l. CutsWords p.sink r.sink p.held r.held l) (sym (words-more p behind ps e))
-            (cuts-behind p.sink q.sink r.sink p.held q.held r.held (words_behind p behind ps) (photon_words (mode_of p.picker) (behind ++ ps) e) (gave.text behind h)
-            (subst (λ m. CutsWords q.sink r.sink q.held r.held (photon_words m (behind ++ ps) e)) gave.same_mode ((puts (behind ++ ps) (gave.picked behind h)).cuts (ap Err is.0))));
-      }))
-      cause.failed
+  pub Stopped-one : (fault : Fault) → TellsLate (Err fault) → (IsPickTime (Err fault) e → (q.sink ≡ p.sink) × (q.held ≡ p.held))
+      → Puts (Err fault) → PickCause {T = Unit {0}} e.place p.sink q.sink (Err fault) → Stopped p q (e ∷ []) fault
+  Stopped-one fault late untouched put cause = record {
+    front = [];
+    e = e;
+    back = [];
+    are = refl;
+    in_time = refl;
+    why = ⊎_elim
+        (λ (is : (fault ≡ PickTime e.place) × (q.sink.faults ≡ p.sink.faults)).
+        let told : IsPickTime (Err fault) e = ap Err is.0 in
+        let same = untouched told in
+        inl (record { late = late.0 told; is = is.0; text = λ behind has. rw (same.0, same.1) (puts-none p.sink p.held) }))
+        (λ (is : (fault ≡ WriteFault) × Rose p.sink.faults q.sink.faults).
+        inr (record {
+          soon = soon-by (Err fault) late (λ other. let cut = is.0 in cc);
+          is = is.0;
+          text = λ behind has. rw append-nil ((put behind has).cuts (ap Err is.0));
+        }))
+        cause.failed;
+  }

@@ -1,13 +1,13 @@
 -- What was put of photons after others, and what is left of them.
-use Rattle.std.proofs.Common.{◌≡◌, ◌∙◌, ℕ, List, [], ◌∷◌, ◌++◌, Bool, true, false, Some, cond, refl, sym, ap, subst, append_assoc, append-nil, arith, rules}
-use Rattle.std.{proofs.{Common.{inl, inr, ⊎_elim, Err}, lemmas.List.Elements.filter-append}, specs.{List.filter, declared.option.Option.Option}}
-use Rattle.tally_base.specs.declared.{event.Event.Event, header.Mode.Mode, fault.Fault.{Fault, TheVariants.{PickTime, WriteFault}}}
-use Rattle.bench_io.{specs.{Sinks.{SinkState, Wrote, WroteShort, PassesOn}, Texts.{WroteText, CutText, WritesText}}, proofs.Bytes.Wrote-flushed}
-use Rattle.{bench_io.proofs.Bytes.{WroteShort-none, WroteShort-more, WroteShort-kept, WroteShort-flushed}, ptu_definitions.specs.Kept.Marked}
+use Rattle.std.proofs.Common.{◌≡◌, ◌∙◌, ℕ, List, [], ◌∷◌, ◌++◌, Bool, true, false, None, Some, Ok, cond, refl, sym, ap, subst, append_assoc, append-nil, arith}
+use Rattle.std.{proofs.{Common.{rules, inl, inr, ⊎_elim, Err, Result}, lemmas.List.Elements.filter-append}, specs.{List.filter, declared.option.Option.Option}}
+use Rattle.tally_base.specs.{declared.{event.Event.Event, header.Mode.Mode, fault.Fault.Fault}, Faults.fault_in, Events.is_photon}
+use Rattle.{bench_io.{specs.{Sinks.{WroteShort, PassesOn}, Texts.PutText}, proofs.{Texts.PutsText, Bytes.WroteShort-more}}, ptu_definitions.specs.Kept.Marked}
 use Rattle.ptu_definitions.{specs.{Prefixes.{each_after, first}, Settled.not_marked}, proofs.{DeliveredLaws.not_marked-append, PrefixLemmas.each_after-append}}
 use Rattle.{minimal_file.{specs.ShortFiles.bytes_in, proofs.ShortHeaders.bytes_in-append}, record_write.specs.Picked.{is_too_late, photon_words, picked_words}}
-use Rattle.{record_write.specs.Picker.HasPicked, photon_pick.specs.{Late.{too_late, writable}, Giving.{Stand, TookPhotons, Refused, RefusedLate, RefusedCut}}}
-use Rattle.photon_pick.specs.{Giving.PutsPhotons, Texts.late_or}
+use Rattle.{record_write.specs.{Picker.{mode_of, HasPicked}, Writing.{PutsWords, CutsWords}}, gate_plan.specs.Shifting.Sorting}
+use Rattle.photon_pick.specs.{Chosen.is_chosen, Late.{too_late, writable}, Giving.{Pen, words_behind, Gave, Stopped, TooLate, WriteFailed, Stand, TookPhotons}}
+use Rattle.photon_pick.{specs.{Giving.Refused, Texts.{late_or, answer_by}}, proofs.Gives.too_late-both}
 
 -- ## Photons that are too late
 
@@ -24,23 +24,12 @@ writable-clear mode (p ∷ ps) qs none =
 pub writable-all : (mode : Mode) (ps : List Event) → too_late mode ps ≡ [] → writable mode ps ≡ ps
 writable-all mode ps none = ap (writable mode) (sym (append-nil ps)) ∙ writable-clear mode ps [] none ∙ append-nil ps
 
-too_late-both : (mode : Mode) (ps qs : List Event) → too_late mode ps ≡ [] → too_late mode qs ≡ [] → too_late mode (ps ++ qs) ≡ []
-too_late-both mode ps qs p q = filter-append (λ e. is_too_late mode e.time) ps qs ∙ rw (p, q) refl
-
-first-late : (mode : Mode) (ps back : List Event) (e : Event) → too_late mode ps ≡ []
+pub first-late : (mode : Mode) (ps back : List Event) (e : Event) → too_late mode ps ≡ []
     → is_too_late mode e.time ≡ true → first (too_late mode (ps ++ e ∷ back)) ≡ Some e
 first-late mode ps back e p late = ap first (filter-append (λ x. is_too_late mode x.time) ps (e ∷ back)) ∙ rw (p, late) refl
 
-writable-late : (mode : Mode) (ps back : List Event) (e : Event) → too_late mode ps ≡ [] → is_too_late mode e.time ≡ true → writable mode (ps ++ e ∷ back) ≡ ps
+pub writable-late : (mode : Mode) (ps back : List Event) (e : Event) → too_late mode ps ≡ [] → is_too_late mode e.time ≡ true → writable mode (ps ++ e ∷ back) ≡ ps
 writable-late mode ps back e p late = writable-clear mode ps (e ∷ back) p ∙ rw late (append-nil ps)
-
--- the same in an equal mode
-move-time : (m n : Mode) (time : ℕ) (b : Bool) → m ≡ n → is_too_late m time ≡ b → is_too_late n time ≡ b
-move-time m n time b same h = subst (λ x. is_too_late x time ≡ b) same h
-
-move-cut : (m n : Mode) (a b : SinkState) (held : List ℕ) (behind photons : List Event) → m ≡ n → held ≡ []
-    → WroteShort a b (held ++ bytes_in (each_after (photon_words m) behind photons)) → WroteShort a b (bytes_in (each_after (photon_words n) behind photons))
-move-cut m n a b held behind photons same none h = search (rules, arith)
 
 -- ## Texts
 
@@ -59,116 +48,122 @@ chosen-more chooses l m = ap (filter chooses) (not_marked-append l m) ∙ filter
 abbrev pub bytes_of : Mode → List Event → List ℕ
 bytes_of mode photons = bytes_in (picked_words mode (writable mode photons))
 
-module _ (s t : Stand) (chooses : Event → Bool) (mode : Mode) (same_choice : s.chooses ≡ chooses) (same_mode : s.mode ≡ mode) (empty : s.held ≡ []) (before total : List Event) (clear : too_late mode before ≡ []) (picked : HasPicked s.picker before) where
-  bytes-before : bytes_of mode before ≡ bytes_in (picked_words mode before)
-  bytes-before = ap (λ ps. bytes_in (picked_words mode ps)) (writable-all mode before clear)
+pub chosen-photon : (by : Sorting) (group : ℕ) (e : Event) → is_chosen by group e ≡ true → is_photon e ≡ true
+chosen-photon by group e is = search (rules, arith)
+
+-- ## What was put of photons after others, into a block that held nothing
+
+module _ (p q : Pen) (mode : Mode) (same_mode : mode_of p.picker ≡ mode) (empty : p.held ≡ []) (before total : List Event) (clear : too_late mode before ≡ []) (picked : HasPicked p.picker before) where
+  abbrev words : List Event → List ℕ
+  words qs = bytes_in (each_after (photon_words mode) before qs)
 
   -- the bytes where these photons come after those before
-  bytes-now : (qs : List Event) → writable mode total ≡ before ++ qs
-      → bytes_of mode total ≡ bytes_of mode before ++ bytes_in (each_after (photon_words mode) before qs)
-  bytes-now qs is = search (rules, arith, words-more, bytes-before)
+  bytes-now : (qs : List Event) → writable mode total ≡ before ++ qs → bytes_of mode total ≡ bytes_of mode before ++ words qs
+  bytes-now qs is =
+      ap (λ ps. bytes_in (picked_words mode ps)) is ∙ words-more mode before qs
+      ∙ ap (λ ps. bytes_in (picked_words mode ps) ++ words qs) (sym (writable-all mode before clear))
 
-  -- what was put, from a block that held nothing
-  put-in : (qs : List Event) → ((behind : List Event) → HasPicked s.picker behind → PutsPhotons s t behind qs)
-      → PassesOn s.sink t.sink (bytes_in (each_after (photon_words mode) before qs)) t.held
-  put-in qs puts = rw (same_mode, empty) at (puts before picked)
+  clear-after : (qs : List Event) → too_late (mode_of p.picker) qs ≡ [] → too_late mode (before ++ qs) ≡ []
+  clear-after qs none = too_late-both mode before qs clear (subst (λ m. too_late m qs ≡ []) same_mode none)
 
+  put-in : (qs : List Event) → PutsWords p.sink q.sink p.held q.held (words_behind p before qs) → PassesOn p.sink q.sink (words qs) q.held
+  put-in qs put = rw (same_mode, empty) at put
+
+  cut-in : (qs : List Event) → CutsWords p.sink q.sink p.held q.held (words_behind p before qs) → WroteShort p.sink q.sink (words qs)
+  cut-in qs cut = rw (same_mode, empty) at cut.short
+
+  -- All were given.
+  module _ (ps : List Event) (gave : Gave p q ps) (are : total ≡ before ++ ps) where
+    pub gave-clear : too_late mode total ≡ []
+    gave-clear = rw are (clear-after ps gave.in_time)
+
+    pub gave-put : PutText (bytes_of mode before) (bytes_of mode total) p.sink q.sink [] q.held
+    gave-put = record { more = words ps; adds = bytes-now ps (writable-all mode total gave-clear ∙ are); put = put-in ps (gave.text before picked) }
+
+    pub gave-picked : HasPicked q.picker total
+    gave-picked = rw are (gave.picked before picked)
+
+  -- One was refused: that is told, where no refusal comes before.
+  pub stopped-puts : (ps more : List Event) (fault : Fault) (other : Option Fault) → Stopped p q ps fault → total ≡ before ++ (ps ++ more)
+      → PutsText {X = Unit {0}} (bytes_of mode before) (bytes_of mode total) (late_or (first (too_late mode total)) other) p.sink q.sink q.held (Err fault)
+  stopped-puts ps more fault other stop are =
+      ⊎_elim
+      (λ (late : TooLate p q f e fault).
+      let too : is_too_late mode e.time ≡ true = subst (λ m. is_too_late m e.time ≡ true) same_mode late.late in
+      inl (
+        rw parts (rw (first-late mode (before ++ f) back e front too) (ap Some (sym late.is))),
+        record { more = words f; adds = bytes-now f (ap (writable mode) parts ∙ writable-late mode (before ++ f) back e front too); put = put-in f (late.text before picked) },
+      ))
+      (λ (cut : WriteFailed p q f e fault).
+      let soon : too_late (mode_of p.picker) (f ++ e ∷ []) ≡ [] = too_late-both (mode_of p.picker) f (e ∷ []) stop.in_time (rw cut.soon refl) in
+      let written : writable mode total ≡ before ++ ((f ++ e ∷ []) ++ writable mode back) =
+      ap (writable mode) (are ∙ ap (λ l. before ++ l) split ∙ sym (append_assoc before (f ++ e ∷ []) back))
+      ∙ writable-clear mode (before ++ (f ++ e ∷ [])) back (clear-after (f ++ e ∷ []) soon) ∙ append_assoc before (f ++ e ∷ []) (writable mode back) in
+      let gone = cut.text before picked in
+      inr (
+        cut.is,
+        record {
+          more = words ((f ++ e ∷ []) ++ writable mode back);
+          adds = bytes-now ((f ++ e ∷ []) ++ writable mode back) written;
+          cut = subst (WroteShort p.sink q.sink) (sym (words-append (f ++ e ∷ []) (writable mode back))) (WroteShort-more p.sink q.sink (words (f ++ e ∷ [])) _ (cut-in (f ++ e ∷ []) gone));
+        },
+        gone.empty,
+      ))
+      stop.why
+    where
+      f : List Event
+      f = stop.front
+
+      e : Event
+      e = stop.e
+
+      back : List Event
+      back = stop.back ++ more
+
+      split : ps ++ more ≡ (f ++ e ∷ []) ++ back
+      split = ap (λ l. l ++ more) stop.are ∙ append_assoc f (e ∷ stop.back) more ∙ sym (append_assoc f (e ∷ []) back)
+
+      parts : total ≡ (before ++ f) ++ e ∷ back
+      parts = are ∙ ap (λ l. before ++ l) (split ∙ append_assoc f (e ∷ []) back) ∙ sym (append_assoc before f (e ∷ back))
+
+      front : too_late mode (before ++ f) ≡ []
+      front = clear-after f stop.in_time
+
+      words-append : (xs ys : List Event) → words (xs ++ ys) ≡ words xs ++ bytes_in (each_after (photon_words mode) (before ++ xs) ys)
+      words-append xs ys = ap bytes_in (each_after-append (photon_words mode) before xs ys) ∙ bytes_in-append _ _
+
+-- ## What a taker put
+
+module _ (s t : Stand) (chooses : Event → Bool) (mode : Mode) (same_choice : s.chooses ≡ chooses) (same_mode : mode_of s.pen.picker ≡ mode) (empty : s.pen.held ≡ []) (before total : List Event) (clear : too_late mode before ≡ []) (picked : HasPicked s.pen.picker before) where
   chosen-is : (l : Marked) → filter s.chooses (not_marked l) ≡ filter chooses (not_marked l)
   chosen-is l = rw same_choice refl
 
-  module _ (more : Marked) (took : TookPhotons s t more) (are : total ≡ before ++ filter chooses (not_marked more)) where
-    -- All photons that are chosen were put.
-    pub took-clear : too_late mode total ≡ []
-    took-clear = search (rules, arith, too_late-both)
+  -- the photons of these events, or the refusal that is called for
+  pub took-puts : {X : Type 0} (more : Marked) (r : Result X Fault) → TookPhotons s t more → total ≡ before ++ filter chooses (not_marked more) → s.fault ≡ None
+      → PutsText (bytes_of mode before) (bytes_of mode total) (late_or (first (too_late mode total)) (fault_in r)) s.pen.sink t.pen.sink t.pen.held (answer_by t.fault r)
+  took-puts {X = X} more r took are free = by r
+    where
+      gave : Gave s.pen t.pen (filter chooses (not_marked more))
+      gave = rw chosen-is at took.gave
 
-    took-bytes : bytes_of mode total ≡ bytes_of mode before ++ bytes_in (each_after (photon_words mode) before (filter chooses (not_marked more)))
-    took-bytes = bytes-now (filter chooses (not_marked more)) (writable-all mode total took-clear ∙ are)
+      none : (other : Option Fault) → late_or (first (too_late mode total)) other ≡ other
+      none other = rw (gave-clear s.pen t.pen mode same_mode empty before total clear picked _ gave are) refl
 
-    took-put : PassesOn s.sink t.sink (bytes_in (each_after (photon_words mode) before (filter chooses (not_marked more)))) t.held
-    took-put = rw (chosen-is more) at (put-in (filter s.chooses (not_marked more)) took.text)
+      put : PutText (bytes_of mode before) (bytes_of mode total) s.pen.sink t.pen.sink [] t.pen.held
+      put = gave-put s.pen t.pen mode same_mode empty before total clear picked _ gave are
 
-    -- what is written of them, where the block was flushed, and where that failed
-    pub took-wrote : (c : SinkState) → Wrote t.sink c t.held → WroteText (bytes_of mode before) (bytes_of mode total) s.sink c
-    took-wrote c flushed = record { more = _; adds = took-bytes; wrote = Wrote-flushed s.sink t.sink c _ t.held took-put flushed }
+      by : (r : Result X Fault) → PutsText (bytes_of mode before) (bytes_of mode total) (late_or (first (too_late mode total)) (fault_in r)) s.pen.sink t.pen.sink t.pen.held (answer_by t.fault r)
+      by (Ok x) = rw (took.same_fault ∙ free) (none None, put)
+      by (Err fault) = rw (took.same_fault ∙ free) (inl (none (Some fault), put))
 
-    pub took-cut : (c : SinkState) → WroteShort t.sink c t.held → CutText (bytes_of mode before) (bytes_of mode total) s.sink c
-    took-cut c short = record { more = _; adds = took-bytes; cut = WroteShort-flushed s.sink t.sink c _ t.held took-put short }
+  pub took-stands : (more : Marked) → TookPhotons s t more → total ≡ before ++ filter chooses (not_marked more) → (too_late mode total ≡ []) × HasPicked t.pen.picker total
+  took-stands more took are =
+      let gave : Gave s.pen t.pen (filter chooses (not_marked more)) = rw chosen-is at took.gave in
+      (gave-clear s.pen t.pen mode same_mode empty before total clear picked _ gave are, gave-picked s.pen t.pen mode same_mode empty before total clear picked _ gave are)
 
-    pub took-picked : HasPicked t.picker total
-    took-picked = let it = took.picked before picked in rw (are, ← chosen-is more) it
-
-  module _ (first_ones back : Marked) (r : Refused s t first_ones) (are : total ≡ before ++ filter chooses (not_marked (first_ones ++ back))) where
-    -- A photon was refused.
-    refused-are : total ≡ (before ++ r.front) ++ r.e ∷ filter chooses (not_marked back)
-    refused-are =
-        let front : filter chooses (not_marked first_ones) ≡ r.front ++ r.e ∷ [] = sym (chosen-is first_ones) ∙ r.photons in
-        are ∙ ap (λ l. before ++ l) (chosen-more chooses first_ones back ∙ ap (λ l. l ++ filter chooses (not_marked back)) front
-        ∙ append_assoc r.front (r.e ∷ []) (filter chooses (not_marked back))) ∙ sym (append_assoc before r.front (r.e ∷ filter chooses (not_marked back)))
-
-    refused-clear : too_late mode (before ++ r.front) ≡ []
-    refused-clear = too_late-both mode before r.front clear (subst (λ m. too_late m r.front ≡ []) same_mode r.in_time)
-
-    -- it was too late
-    module _ (late : RefusedLate s t r.front r.e) where
-      late-first : first (too_late mode total) ≡ Some r.e
-      late-first = search (rules, arith, refused-are, first-late, refused-clear, move-time)
-
-      late-bytes : bytes_of mode total ≡ bytes_of mode before ++ bytes_in (each_after (photon_words mode) before r.front)
-      late-bytes = search (rules, arith, bytes-now, refused-are, writable-late, refused-clear, move-time)
-
-      late-put : PassesOn s.sink t.sink (bytes_in (each_after (photon_words mode) before r.front)) t.held
-      late-put = put-in r.front late.text
-
-    -- a write failed at it
-    module _ (cut : RefusedCut s t r.front r.e) where
-      cut-bytes : (tail : List ℕ)
-          × (bytes_of mode total ≡ bytes_of mode before ++ (bytes_in (each_after (photon_words mode) before (r.front ++ r.e ∷ [])) ++ tail))
-      cut-bytes =
-          let f = r.front in
-          let e = r.e in
-          let last = filter chooses (not_marked back) in
-          let soon : too_late mode (e ∷ []) ≡ [] = rw (move-time s.mode mode e.time false same_mode cut.soon) refl in
-          let more = writable mode last in
-          let parts : total ≡ (before ++ (f ++ e ∷ [])) ++ last = refused-are ∙ append_assoc before f (e ∷ last)
-          ∙ ap (λ l. before ++ l) (sym (append_assoc f (e ∷ []) last)) ∙ sym (append_assoc before (f ++ e ∷ []) last) in
-          let all : too_late mode (before ++ (f ++ e ∷ [])) ≡ [] =
-          ap (too_late mode) (sym (append_assoc before f (e ∷ []))) ∙ too_late-both mode (before ++ f) (e ∷ []) refused-clear soon in
-          let is : writable mode total ≡ before ++ ((f ++ e ∷ []) ++ more) =
-          ap (writable mode) parts ∙ writable-clear mode (before ++ (f ++ e ∷ [])) last all ∙ append_assoc before (f ++ e ∷ []) more in (
-            bytes_in (each_after (photon_words mode) (before ++ (f ++ e ∷ [])) more),
-            bytes-now ((f ++ e ∷ []) ++ more) is
-                ∙ ap (λ l. bytes_of mode before ++ l) (ap bytes_in (each_after-append (photon_words mode) before (f ++ e ∷ []) more) ∙ bytes_in-append (each_after (photon_words mode) before (f ++ e ∷ [])) (each_after (photon_words mode) (before ++ (f ++ e ∷ [])) more)),
-          )
-
-      cut-short : WroteShort s.sink t.sink (bytes_in (each_after (photon_words mode) before (r.front ++ r.e ∷ []))) × (t.held ≡ [])
-      cut-short = search (rules, arith, move-cut)
-
-    -- what is written of them, where the block was flushed, and where that failed
-    pub refused-wrote : (c : SinkState) (other : Option Fault) → Wrote t.sink c t.held
-        → (fault : Fault) × (t.fault ≡ Some fault) × WritesText {X = Unit {0}} (bytes_of mode before) (bytes_of mode total)
-        (late_or (first (too_late mode total)) other) s.sink c (Err fault)
-    refused-wrote c other flushed =
-        ⊎_elim
-        (λ (late : RefusedLate s t r.front r.e). (
-          PickTime r.e.place,
-          late.fault,
-          inl (
-            rw (late-first late) refl,
-            record { more = _; adds = late-bytes late; wrote = Wrote-flushed s.sink t.sink c _ t.held (late-put late) flushed },
-          ),
-        ))
-        (λ (cut : RefusedCut s t r.front r.e).
-        let it = cut-bytes cut in
-        let gone = cut-short cut in
-        let short =
-        WroteShort-more s.sink c _ it.0 (WroteShort-kept s.sink t.sink c _ gone.0 (rw gone.1 at flushed)) in
-        (WriteFault, cut.fault, inr (refl, record { more = _; adds = it.1; cut = short })))
-        r.why
-
-    pub refused-cut : (c : SinkState) → WroteShort t.sink c t.held → CutText (bytes_of mode before) (bytes_of mode total) s.sink c
-    refused-cut c short =
-        ⊎_elim
-        (λ (late : RefusedLate s t r.front r.e).
-        record { more = _; adds = late-bytes late; cut = WroteShort-flushed s.sink t.sink c _ t.held (late-put late) short })
-        (λ (cut : RefusedCut s t r.front r.e). let gone = cut-short cut in absurd (WroteShort-none t.sink c (rw (gone.1) at short)))
-        r.why
+  -- One of them was refused.
+  pub broke-puts : {X : Type 0} (front back : Marked) (r : Result X Fault) (other : Option Fault) → Refused s t front → total ≡ before ++ filter chooses (not_marked (front ++ back))
+      → PutsText (bytes_of mode before) (bytes_of mode total) (late_or (first (too_late mode total)) other) s.pen.sink t.pen.sink t.pen.held (answer_by t.fault r)
+  broke-puts front back r other broke are =
+      rw broke.told (stopped-puts s.pen t.pen mode same_mode empty before total clear picked (filter chooses (not_marked front)) (filter chooses (not_marked back)) broke.fault other
+      (rw chosen-is at broke.stopped) (are ∙ ap (λ l. before ++ l) (chosen-more chooses front back)))

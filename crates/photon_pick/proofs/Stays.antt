@@ -63,12 +63,12 @@ module _ (chooses : Event → Bool) (how : StreamSettings) where
 
   -- ## More words
 
-  photons-front : (words more : List ℕ) → (tail : List Event) × (photons_in chooses how (words ++ more) ≡ photons_in chooses how words ++ tail)
+  pub photons-front : (words more : List ℕ) → (tail : List Event) × (photons_in chooses how (words ++ more) ≡ photons_in chooses how words ++ tail)
   photons-front words more = let front =
       given-front how words more in (filter chooses (not_marked front.0), photons-more chooses how words (words ++ more) front.0 front.1)
 
   -- what the end of the bytes adds
-  end-adds : (bytes : List ℕ) → (tail : List Event) × (photons_of chooses how bytes ≡ photons_in chooses how (words_of bytes) ++ tail)
+  pub end-adds : (bytes : List ℕ) → (tail : List Event) × (photons_of chooses how bytes ≡ photons_in chooses how (words_of bytes) ++ tail)
   end-adds bytes = by (streamed how bytes) refl
     where
       by : (r : Result Summary Fault) → streamed how bytes ≡ r

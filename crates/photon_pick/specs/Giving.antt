@@ -1,8 +1,8 @@
 -- What giving photons to a picker writes.
 use Rattle.std.specs.{Prelude.{ℕ, ◌≡◌, ◌<◌, ◌≤◌, ◌⊎◌, All, slice_index, true, false, List, [], ◌∷◌, ◌++◌, ◌+◌, max, Bool, Some, length, refl}, declared.option.Option.Option, List.filter}
 use Rattle.std.proofs.Common.{append-nil, arith}
-use Rattle.tally_base.specs.{declared.{event.Event.Event, fault.Fault.{Fault, TheVariants.{PickTime, WriteFault}}, block.Block.Block, header.Mode.Mode}, Tally.{floor_after, InOrder}, Events.is_photon}
-use Rattle.{tally_base.specs.Columns.{count, event_at, rows}, record_stream.specs.Blocks.AllFit, bench_io.{specs.{declared.sink.Sink.Ghosts, Sinks.SinkState}, proofs.Bytes.PassesOn-held}}
+use Rattle.tally_base.specs.{declared.{event.Event.Event, fault.Fault.{Fault, TheVariants.{PickTime, WriteFault}}, block.Block.Block, header.Mode.Mode}, Tally.InOrder, Events.is_photon, Columns.count}
+use Rattle.{tally_base.specs.Columns.{event_at, rows}, record_stream.specs.Blocks.AllFit, bench_io.{specs.{declared.sink.Sink.Ghosts, Sinks.SinkState}, proofs.Bytes.PassesOn-held}}
 use Rattle.{ptu_definitions.specs.{Prefixes.each_after, Kept.{Marked, floor_of}, Settled.not_marked}, record_write.specs.{declared.picker.Picker.Picker, Picked.{is_too_late, photon_words}}}
 use Rattle.{record_write.specs.{Picker.{mode_of, last_by, is_going, HasPicked}, Writing.{PutsWords, CutsWords}}, photon_pick.specs.Late.too_late}
 
@@ -37,8 +37,14 @@ pub record Gave (p q : Pen) (photons : List Event) : Type 0 where
   pub picked : (behind : List Event) → HasPicked p.picker behind → HasPicked q.picker (behind ++ photons)
   pub text : (behind : List Event) → HasPicked p.picker behind → PutsWords p.sink q.sink p.held q.held (words_behind p behind photons)
   pub same_mode : mode_of q.picker ≡ mode_of p.picker
-  pub going : is_going q.picker ≡ true
-  pub last : last_by q.picker ≡ floor_after true (last_by p.picker) photons
+
+pub Gave-none : (p : Pen) → Gave p p []
+Gave-none p = record {
+  in_time = refl;
+  picked = λ behind h. rw (append-nil behind) h;
+  text = λ behind h. rw (append-nil p.held) (PassesOn-held p.sink p.held);
+  same_mode = refl;
+}
 
 -- A photon was too late: those before it were put.
 pub record TooLate (p q : Pen) (front : List Event) (e : Event) (fault : Fault) : Type 0 where
@@ -77,35 +83,27 @@ events_at b places n = rows (λ k. event_at b (slice_index places k)) n
 pub record Stand : Type 0 where
   -- which events it gives
   pub chooses : Event → Bool
-  pub picker : Picker
+  -- the picker, what the sink tells, and the bytes that the block holds
+  pub pen : Pen
   pub mode : Mode
   pub taken : ℕ
   pub floor : ℕ
-  -- what the sink tells, and the bytes that the block holds
-  pub sink : SinkState
-  pub held : List ℕ
   -- why the last photon was refused
   pub fault : Option Fault
 
-abbrev pub stand : (Event → Bool) → Picker → Mode → ℕ → ℕ → SinkState → List ℕ → Option Fault → Stand
-stand chooses picker mode taken floor sink held fault = record {
+abbrev pub stand : (Event → Bool) → Pen → Mode → ℕ → ℕ → Option Fault → Stand
+stand chooses pen mode taken floor fault = record {
   chooses = chooses;
-  picker = picker;
+  pen = pen;
   mode = mode;
   taken = taken;
   floor = floor;
-  sink = sink;
-  held = held;
   fault = fault;
 }
 
 -- the events that it chooses among these, but for the late ones
 abbrev pub chosen_of : Stand → Marked → List Event
 chosen_of s l = filter s.chooses (not_marked l)
-
--- The words of these photons after others were put.
-abbrev pub PutsPhotons : Stand → Stand → List Event → List Event → Type 0
-PutsPhotons s t behind photons = PutsWords s.sink t.sink s.held t.held (each_after (photon_words s.mode) behind photons)
 
 -- The photons that are chosen among these were given to the picker, which refused none.
 pub record TookPhotons (s t : Stand) (l : Marked) : Type 0 where
@@ -114,28 +112,13 @@ pub record TookPhotons (s t : Stand) (l : Marked) : Type 0 where
   pub counted : t.taken ≡ s.taken + length l
   pub moved : t.floor ≡ max s.floor (floor_of s.mode l)
   pub same_fault : t.fault ≡ s.fault
-  pub in_time : too_late s.mode (chosen_of s l) ≡ []
-  pub picked : (behind : List Event) → HasPicked s.picker behind → HasPicked t.picker (behind ++ chosen_of s l)
-  pub text : (behind : List Event) → HasPicked s.picker behind → PutsPhotons s t behind (chosen_of s l)
+  pub gave : Gave s.pen t.pen (chosen_of s l)
 
--- The last photon that is chosen among these was refused, since it is too late: those before it were put.
-pub record RefusedLate (s t : Stand) (front : List Event) (e : Event) : Type 0 where
-  pub late : is_too_late s.mode e.time ≡ true
-  pub fault : t.fault ≡ Some (PickTime e.place)
-  pub text : (behind : List Event) → HasPicked s.picker behind → PutsPhotons s t behind front
-
--- It was refused, since a write failed: of the bytes with its words a front was written that is not the whole.
-pub record RefusedCut (s t : Stand) (front : List Event) (e : Event) : Type 0 where
-  pub soon : is_too_late s.mode e.time ≡ false
-  pub fault : t.fault ≡ Some WriteFault
-  pub text : (behind : List Event) → HasPicked s.picker behind → CutsWords s.sink t.sink s.held t.held (each_after (photon_words s.mode) behind (front ++ e ∷ []))
-
+-- The picker refused one of them.
 pub record Refused (s t : Stand) (l : Marked) : Type 0 where
-  pub front : List Event
-  pub e : Event
-  pub photons : chosen_of s l ≡ front ++ e ∷ []
-  pub in_time : too_late s.mode front ≡ []
-  pub why : RefusedLate s t front e ⊎ RefusedCut s t front e
+  pub fault : Fault
+  pub told : t.fault ≡ Some fault
+  pub stopped : Stopped s.pen t.pen (chosen_of s l) fault
 
 pub took_none : (s : Stand) → TookPhotons s s []
 took_none s = record {
@@ -144,7 +127,5 @@ took_none s = record {
   counted = omega arith;
   moved = omega arith;
   same_fault = refl;
-  in_time = refl;
-  picked = λ behind h. rw (append-nil behind) h;
-  text = λ behind h. rw (append-nil s.held) (PassesOn-held s.sink s.held);
+  gave = Gave-none s.pen;
 }

@@ -1,7 +1,7 @@
 // Photons of a block, given to a picker.
 ghost use Rattle.std.specs.Prelude.{◌≡◌, ◌≤◌, true, OnOk, IfErr};
-ghost use Rattle.{tally_base.specs.{Columns.gathered, Tally.floor_after}, record_write.specs.Picker.{mode_of, last_by}, photon_pick.specs.Giving.{events_at, pen_on, ArePlaces, CanBeGiven, Gave}};
-ghost use Rattle.photon_pick.specs.Giving.{Stopped};
+ghost use Rattle.{tally_base.specs.{Columns.gathered, Tally.floor_after}, record_write.specs.Picker.{mode_of, last_by, is_going}, photon_pick.specs.Giving.{events_at, pen_on, ArePlaces, CanBeGiven}};
+ghost use Rattle.photon_pick.specs.Giving.{Gave, Stopped};
 
 use bench_io::{OutBuffer, Sink};
 use record_write::Picker;
@@ -24,6 +24,8 @@ pub(crate) fn give_photons<O: Sink>(
     ensures stopped { IfErr result (Stopped
         (pen_on O.Sink picker.old out.old block.old) (pen_on O.Sink picker.new out.new block.new)
         (events_at events.now places.now many)) }
+    ensures goes_on { OnOk result ((is_going picker.new ≡ true)
+        × (last_by picker.new ≡ floor_after true (last_by picker.old) (events_at events.now places.now many))) }
     ensures same_mode { mode_of picker.new ≡ mode_of picker.old }
     ensures last { last_by picker.new ≤ floor_after true (last_by picker.old) (events_at events.now places.now many) }
 {

@@ -44,17 +44,18 @@ pub(crate) struct Picks<'g, 'p, 'o, O: Sink> {
 
 impl<'g, 'p, 'o, O: Sink> EventTaker for Picks<'g, 'p, 'o, O> {
     ghost use Rattle.std.{specs.Prelude.{refl}, proofs.Common.{◌∙◌}};
-    ghost use Rattle.photon_pick.specs.Giving.{TookPhotons, Refused, took_none, stand};
+    ghost use Rattle.photon_pick.specs.Giving.{TookPhotons, Refused, took_none, stand, pen_on};
 
-    ghost got = { λ s t l. TookPhotons (stand (is_chosen (sorting_of s.gates.now) s.group) s.picker.now s.mode s.taken s.floor
-        (O.state s.out.now) s.block s.fault)
-        (stand (is_chosen (sorting_of t.gates.now) t.group) t.picker.now t.mode t.taken t.floor
-        (O.state t.out.now) t.block t.fault) l };
+    ghost got = { λ s t l. TookPhotons (stand (is_chosen (sorting_of s.gates.now) s.group)
+        (pen_on O.Sink s.picker.now s.out.now s.block) s.mode s.taken s.floor s.fault)
+        (stand (is_chosen (sorting_of t.gates.now) t.group)
+        (pen_on O.Sink t.picker.now t.out.now t.block) t.mode t.taken t.floor t.fault) l };
 
-    ghost broke = { λ s t l. s.fault ≡ None → Refused (stand (is_chosen (sorting_of s.gates.now) s.group) s.picker.now s.mode s.taken s.floor
-        (O.state s.out.now) s.block s.fault)
-        (stand (is_chosen (sorting_of t.gates.now) t.group) t.picker.now t.mode t.taken t.floor
-        (O.state t.out.now) t.block t.fault) l };
+    // It failed at one of these.
+    ghost broke = { λ s t l. s.fault ≡ None → Refused (stand (is_chosen (sorting_of s.gates.now) s.group)
+        (pen_on O.Sink s.picker.now s.out.now s.block) s.mode s.taken s.floor s.fault)
+        (stand (is_chosen (sorting_of t.gates.now) t.group)
+        (pen_on O.Sink t.picker.now t.out.now t.block) t.mode t.taken t.floor t.fault) l };
 
     ghost same = { λ s t. (t.out.ghost_name ≡ s.out.ghost_name)
         × (t.picker.ghost_name ≡ s.picker.ghost_name) × (t.mode ≡ s.mode) };

@@ -2,11 +2,14 @@
 use Rattle.std.proofs.Common.{◌≡◌, ℕ, List, [], Bool, true, None, Some, Ok, Err, subst, arith, rules, ◌≢◌, ◌≤◌, ◌==◌, Result, length, if◌then◌else◌}
 use Rattle.{std.specs.declared.option.Option.Option, tally_base.specs.declared.fault.Fault.{Fault, TheVariants.{HeaderLimit, TruncatedHeader, RecordLimit}}}
 use Rattle.tally_base.specs.declared.{fault.Fault.TheVariants.{ReservedRecord, TimeLimit, OutOfMemory}, header.{Header.Header, RecordType.RecordType}}
-use Rattle.tally_base.specs.{declared.{header.Mode.Mode, event.Event.Event}, Events.{stops_late, stops_reserved}}
+use Rattle.tally_base.specs.{declared.{header.Mode.Mode, event.Event.Event}, Events.{stops_late, stops_reserved}, Faults.status_of}
 use Rattle.ptu_definitions.specs.{declared.found.Found.Found, Words.words_of, Endings.{Ending, OtherFile, BadType, BadLength, Whole, Open}, Fields.found_in}
 use Rattle.ptu_definitions.specs.{Fields.{header_of, version_in, with_type, with_value}, Headers.{head_of, answer_as, with_rest, header_limit}, Streams.IsFirst}
-use Rattle.{ptu_definitions.specs.Streams.{StreamSettings, late_refusal, refusal}, command_work.specs.Outcomes.StatusIn, plan_text.specs.Plan.PlanView}
+use Rattle.{ptu_definitions.specs.Streams.{StreamSettings, late_refusal, refusal}, command_work.specs.Outcomes.IsIn, plan_text.specs.Plan.PlanView}
 use Rattle.plan_text.{specs.{ReadPlan.IsCalledFor, Fits.IsMisfit}, proofs.Misfits.names_part}
+
+abbrev pub StatusIn : ℕ → ℕ → Fault → Type 0
+StatusIn low high fault = IsIn low high (status_of fault)
 
 -- what an answer of a header says of its fault
 abbrev pub InHeader : {A : Type 0} → Result A Fault → Type 0

@@ -12,12 +12,6 @@ lt-true a b h = grind (arith, nat_tests)
 pub lt-false : (a b : ℕ) → nat_lt a b ≡ false → b ≤ a
 lt-false a b h = grind (arith, nat_tests)
 
-pub true-lt : (a b : ℕ) → a < b → nat_lt a b ≡ true
-true-lt a b h = grind (arith, nat_tests)
-
-pub false-lt : (a b : ℕ) → b ≤ a → nat_lt a b ≡ false
-false-lt a b h = grind (arith, nat_tests)
-
 pub empty-true : (xs : List ℕ) → (length xs == 0) ≡ true → xs ≡ []
 empty-true [] h = refl
 empty-true (x ∷ xs) h = let some : (length (x ∷ xs) == 0) ≡ false = grind (arith, nat_tests) in cc

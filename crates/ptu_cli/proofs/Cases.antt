@@ -5,18 +5,19 @@ use Rattle.tally_base.specs.{declared.{fault.Fault.{Fault, TheVariants.{RecordLi
 use Rattle.{tally_base.specs.{Settings.{PartSettings, StartStopView, TraceView}, Tally.History}, bench_io.specs.Inputs.File}
 use Rattle.ptu_definitions.specs.{declared.records.Summary.Summary, Words.{words_of, rest_of, record_limit, records_of, counted}, Layouts.meaning_of}
 use Rattle.ptu_definitions.specs.{Kinds.counts_of, Prefixes.each_after, Streams.{IsFirst, StreamSettings, record_refusal, summary, summary_of, streamed}}
-use Rattle.ptu_definitions.{specs.Times.events, proofs.Firsts.{first-refusal, refused-first, none-refused, given-before, given-all}}
-use Rattle.{record_stream.proofs.Lasts.streamed-refused, plan_text.specs.Plan.{PlanView, parts_of}, coincidence.proofs.Intervals.intervals_are_pairs}
-use Rattle.{gate_plan.specs.{Shifting.sorting, Histories.{history, reading_by}}, list_out.specs.Lines.{events_text, lines_of}, table_out.specs.Printed.texts}
-use Rattle.table_out.specs.{Printed.table_lines, StartStop.startstop_printed, Report.{head_text, printed, Table, table_text, report, with_events}}
-use Rattle.{ptu_made.specs.{Generator.made_words, Records.made_header}, long_trace.specs.Texts.open_text, report_work.specs.Reports.{reported, reports}}
-use Rattle.{report_work.specs.Demo.{demo_plan, demo_report}, file_work.specs.FileOutcomes.{counts_text, counted_end, counts, listing, lists_by}}
-use Rattle.trace_work.specs.{TraceOutcomes.{trace_of, no_trace, traced, records_traced, traces_with}, TraceTexts.{settled-whole, settled-first}}
-use Rattle.{command_work.{specs.Outcomes.{Outcome, refused, written, StatusIn}, proofs.RestEnds.{end_with, same-end}}, ptu_cli.proofs.ByteFaults.least-status}
-use Rattle.ptu_cli.proofs.{ByteFaults.{OfSome, refusal-in}, Tables.{Meets, in_range, as-status, in-within, of-within, within-sound}, CaseSteps.lt-true}
-use Rattle.ptu_cli.proofs.CaseSteps.{lt-false, true-lt, false-lt, empty-true, empty-false, true-empty, false-empty, whole_answer, streamed-clear}
-use Rattle.ptu_cli.specs.{Tables.{Lines, Applies}, Cases.{count_lines, stream_lines, list_text, startstop_by_places, by_places, placed_text, report_by_places}}
-use Rattle.ptu_cli.specs.{Cases.{words_report, trace_text, whole_trace, HasTrace, traced_lines, trace_lines}, CommandCases.{NeedsNothing, Has}}
+use Rattle.ptu_definitions.{specs.Times.events, proofs.{Firsts.{first-refusal, refused-first, none-refused, given-before, given-all}, Walks.is_less}}
+use Rattle.{ptu_definitions.proofs.Walks.not_less, record_stream.proofs.Lasts.streamed-refused, plan_text.specs.Plan.{PlanView, parts_of}}
+use Rattle.{coincidence.proofs.Intervals.intervals_are_pairs, gate_plan.specs.{Shifting.sorting, Histories.{history, reading_by}}}
+use Rattle.{list_out.specs.Lines.{events_text, lines_of}, table_out.specs.{Printed.{texts, table_lines}, StartStop.startstop_printed, Report.head_text}}
+use Rattle.{table_out.specs.Report.{printed, Table, table_text, report, with_events}, ptu_made.specs.{Generator.made_words, Records.made_header}}
+use Rattle.{long_trace.specs.Texts.open_text, report_work.specs.{Reports.{reported, reports}, Demo.{demo_plan, demo_report}}}
+use Rattle.{file_work.specs.FileOutcomes.{counts_text, counted_end, counts, listing, lists_by}, trace_work.specs.TraceOutcomes.{trace_of, no_trace, traced}}
+use Rattle.{trace_work.specs.{TraceOutcomes.{records_traced, traces_with}, TraceTexts.{settled-whole, settled-first}}, command_work.specs.Outcomes.Outcome}
+use Rattle.{command_work.{specs.Outcomes.{refused, written}, proofs.RestEnds.{end_with, same-end}}, ptu_cli.proofs.ByteFaults.{least-status, StatusIn, OfSome}}
+use Rattle.ptu_cli.proofs.{ByteFaults.refusal-in, Tables.{Meets, in_range, as-status, in-within, of-within, within-sound}, CaseSteps.{lt-true, lt-false}}
+use Rattle.ptu_cli.{proofs.CaseSteps.{empty-true, empty-false, true-empty, false-empty, whole_answer, streamed-clear}, specs.Tables.{Lines, Applies}}
+use Rattle.ptu_cli.specs.Cases.{count_lines, stream_lines, list_text, startstop_by_places, by_places, placed_text, report_by_places, words_report, trace_text}
+use Rattle.ptu_cli.specs.{Cases.{whole_trace, HasTrace, traced_lines, trace_lines}, CommandCases.{NeedsNothing, Has}}
 
 -- ## A report by places
 
@@ -69,7 +70,7 @@ count-by known header behind many whole m w = search (rules, arith, lt-true, lt-
 
 count-only : {K : Type 0} (known : K) (header : Header) (behind : List ℕ) (end : Outcome) → Applies count_lines known (header, behind) end
     → count_end header behind (nat_lt record_limit (length (words_of behind))) (length (rest_of behind) == 0) ≡ end
-count-only known header behind end h = search (rules, arith, count_end, true-lt, false-lt, false-empty, true-empty)
+count-only known header behind end h = search (rules, arith, count_end, is_less, not_less, false-empty, true-empty)
 
 pub count-meets : Meets {K = File} (λ known. Unit {0}) count_lines (λ known found. (counts found.0).ends found.1)
 count-meets = record {

@@ -1,30 +1,18 @@
 -- The photons that `pick` writes, and the first of them that is too late.
-use Rattle.std.proofs.Common.{◌≡◌, ◌∙◌, ℕ, List, [], ◌∷◌, ◌++◌, Bool, true, false, cond, None, Some, Ok, Err, map, refl, sym, ap, inl, inr, append_assoc}
-use Rattle.std.{proofs.{Common.{append-nil, ◌⊎◌, Result, arith, rules}, lemmas.List.Elements.filter-append}, specs.{List.filter, declared.option.Option.Option}}
-use Rattle.tally_base.specs.{declared.{event.Event.Event, fault.Fault.{Fault, TheVariants.PickTime}, header.Mode.Mode}, Faults.fault_in}
-use Rattle.ptu_definitions.specs.{declared.records.Summary.Summary, Streams.{IsFirst, StreamSettings, record_refusal, given, last_in, streamed}, Prefixes.first}
+use Rattle.std.proofs.Common.{◌≡◌, ◌∙◌, ℕ, List, [], ◌∷◌, ◌++◌, Bool, true, false, cond, None, Some, map, refl, sym, ap, inl, inr, append_assoc, append-nil}
+use Rattle.{std.{proofs.Common.{◌⊎◌, Result, arith, rules}, specs.{List.filter, declared.option.Option.Option}}, tally_base.specs.declared.event.Event.Event}
+use Rattle.tally_base.specs.{declared.{fault.Fault.{Fault, TheVariants.PickTime}, header.Mode.Mode}, Faults.fault_in}
+use Rattle.ptu_definitions.specs.{declared.records.Summary.Summary, Streams.{IsFirst, StreamSettings, record_refusal, streamed}, Prefixes.first}
 use Rattle.ptu_definitions.{specs.{Settled.{not_marked, settled_by}, Times.events, Words.words_of}, proofs.DeliveredLaws.{delivered-settled, delivered-none}}
-use Rattle.{ptu_definitions.proofs.{Firsts.{given-all, given-before}, StreamLemmas.{given-front, refused-more}}, minimal_file.specs.ShortFiles.short_header}
-use Rattle.{minimal_file.specs.ShortFiles.{minimal_file, bytes_in}, record_write.specs.Picked.{is_too_late, picked_words, picked_file}}
-use Rattle.photon_pick.specs.{Late.{too_late, writable}, Texts.{photons_in, late_or}, Ends.{photons_by, photons_of, end_text, end_fault}}
-use Rattle.{photon_pick.proofs.{Parts.chosen-more, Ends.{kept-are, clear-from_ok}}, command_work.specs.Outcomes.Outcome, ptu_cli.specs.Cases.FirstLate}
+use Rattle.{ptu_definitions.proofs.{Firsts.{given-all, given-before}, StreamLemmas.refused-more}, minimal_file.specs.ShortFiles.{short_header, minimal_file}}
+use Rattle.{minimal_file.specs.ShortFiles.bytes_in, record_write.specs.Picked.{is_too_late, picked_words, picked_file}, photon_pick.specs.Late.too_late}
+use Rattle.photon_pick.{specs.{Late.writable, Texts.{photons_in, late_or}, Ends.{photons_by, photons_of, end_text, end_fault}}, proofs.Parts.writable-all}
+use Rattle.{photon_pick.proofs.{Parts.{first-late, writable-late}, Stays.{photons-front, end-adds}}, command_work.specs.Outcomes.Outcome}
+use Rattle.ptu_cli.specs.Cases.{FirstLate}
 
 -- ## The first that is too late
 
 module _ (mode : Mode) where
-  late-clear : (ps qs : List Event) → too_late mode ps ≡ [] → too_late mode (ps ++ qs) ≡ too_late mode qs
-  late-clear ps qs none = filter-append (λ (e : Event). is_too_late mode e.time) ps qs ∙ ap (λ l. l ++ too_late mode qs) none
-
-  split-late : (b : Bool) (e : Event) (late : List Event) → cond b (e ∷ late) late ≡ [] → (b ≡ false) × (late ≡ [])
-  split-late b e late none = search (rules, arith)
-
-  writable-clear : (ps qs : List Event) → too_late mode ps ≡ [] → writable mode (ps ++ qs) ≡ ps ++ writable mode qs
-  writable-clear [] qs none = refl
-  writable-clear (p ∷ ps) qs none = search (rules, arith, writable-clear ps qs (split-late (is_too_late mode p.time) p (too_late mode ps) none).1)
-
-  all-writable : (ps : List Event) → too_late mode ps ≡ [] → writable mode ps ≡ ps
-  all-writable ps none = ap (writable mode) (sym (append-nil ps)) ∙ writable-clear ps [] none ∙ append-nil ps
-
   pub none-or-late : (ps : List Event) → (too_late mode ps ≡ []) ⊎ FirstLate mode ps
   none-or-late [] = inl refl
   none-or-late (p ∷ ps) = by (is_too_late mode p.time) refl (none-or-late ps)
@@ -47,11 +35,11 @@ module _ (mode : Mode) where
     late = h.late;
   }
 
-  first-late : (ps : List Event) (h : FirstLate mode ps) → first (too_late mode ps) ≡ Some h.photon
-  first-late ps h = ap (λ l. first (too_late mode l)) h.parts ∙ ap first (late-clear h.before (h.photon ∷ h.behind) h.none_before) ∙ rw (h.late) refl
+  first-is : (ps : List Event) (h : FirstLate mode ps) → first (too_late mode ps) ≡ Some h.photon
+  first-is ps h = ap (λ l. first (too_late mode l)) h.parts ∙ first-late mode h.before h.behind h.photon h.none_before h.late
 
   late-writable : (ps : List Event) (h : FirstLate mode ps) → writable mode ps ≡ h.before
-  late-writable ps h = ap (writable mode) h.parts ∙ writable-clear h.before (h.photon ∷ h.behind) h.none_before ∙ rw (h.late) (append-nil h.before)
+  late-writable ps h = ap (writable mode) h.parts ∙ writable-late mode h.before h.behind h.photon h.none_before h.late
 
   -- what these photons and another fault end with
   abbrev pub picked_end : List Event → Option Fault → Outcome
@@ -63,12 +51,12 @@ module _ (mode : Mode) where
   pub end-late : (ps : List Event) (fault : Option Fault) (h : FirstLate mode ps)
       → picked_end ps fault ≡ record { text = picked_file mode h.before; fault = Some (PickTime h.photon.place) }
   unfolding minimal_file
-  end-late ps fault h = rw (first-late ps h, late-writable ps h) refl
+  end-late ps fault h = rw (first-is ps h, late-writable ps h) refl
 
   pub end-in_time : (ps : List Event) (fault : Option Fault) → too_late mode ps ≡ []
       → picked_end ps fault ≡ record { text = picked_file mode ps; fault = fault }
   unfolding minimal_file
-  end-in_time ps fault none = rw (all-writable ps none, none) refl
+  end-in_time ps fault none = rw (writable-all mode ps none, none) refl
 
 -- ## The photons that are chosen
 
@@ -84,28 +72,15 @@ module _ (chooses : Event → Bool) (how : StreamSettings) where
   in-before words fault least = ap (λ l. filter chooses (not_marked l)) (given-before how words fault least)
       ∙ ap (filter chooses) (delivered-settled how.policy.settle how.mode (events (map how.meaning least.front)))
 
-  in-more : (words more now : List ℕ) → now ≡ words ++ more → (tail : List Event) × (photons_in chooses how now ≡ photons_in chooses how words ++ tail)
-  in-more words more now parts =
-      let front = given-front how words more in
-      (filter chooses (not_marked front.0), ap (photons_in chooses how) parts ∙ ap (λ l. filter chooses (not_marked l)) front.1 ∙ chosen-more chooses (given how words) front.0)
-
   -- those of some words are in front of those of all bytes after a header that begin with them
   pub front-of : (words more bytes : List ℕ) → words_of bytes ≡ words ++ more
       → (tail : List Event) × (photons_of chooses how bytes ≡ photons_in chooses how words ++ tail)
-  front-of words more bytes parts = by (streamed how bytes) refl
-    where
-      given_front : (tail : List Event) × (photons_in chooses how (words_of bytes) ≡ photons_in chooses how words ++ tail)
-      given_front = in-more words more (words_of bytes) parts
-
-      by : (r : Result Summary Fault) → streamed how bytes ≡ r
-          → (tail : List Event) × (photons_by chooses how (words_of bytes) r ≡ photons_in chooses how words ++ tail)
-      by (Err fault) is = given_front
-      by (Ok summary) is =
-          let rest = filter chooses (not_marked (last_in how (words_of bytes))) in (
-            given_front.0 ++ rest,
-            kept-are chooses how (words_of bytes) (clear-from_ok how bytes summary is)
-                ∙ ap (λ l. l ++ rest) given_front.1 ∙ append_assoc (photons_in chooses how words) given_front.0 rest,
-          )
+  front-of words more bytes parts =
+      let front = photons-front chooses how words more in
+      let end = end-adds chooses how bytes in (
+        front.0 ++ end.0,
+        end.1 ∙ ap (λ l. l ++ end.0) (ap (photons_in chooses how) parts ∙ front.1) ∙ append_assoc (photons_in chooses how words) front.0 end.0,
+      )
 
   -- of no words
   settled-none : settled_chosen [] ≡ []
@@ -125,7 +100,7 @@ module _ (chooses : Event → Bool) (how : StreamSettings) where
       → too_late how.mode (settled_chosen front) ≡ [] → FirstLate how.mode (settled_chosen words) → Least words
   least_behind front [] words parts none h =
       let whole : settled_chosen words ≡ settled_chosen front = ap settled_chosen (parts ∙ append-nil front) in
-      let late : first (too_late how.mode (settled_chosen words)) ≡ Some h.photon = first-late how.mode (settled_chosen words) h in
+      let late : first (too_late how.mode (settled_chosen words)) ≡ Some h.photon = first-is how.mode (settled_chosen words) h in
       let soon : first (too_late how.mode (settled_chosen words)) ≡ None = ap (λ l. first (too_late how.mode l)) whole ∙ ap first none in
       cc
   least_behind front (word ∷ rest) words parts none h =

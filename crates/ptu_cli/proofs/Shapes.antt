@@ -4,11 +4,11 @@ use Rattle.{std.specs.declared.option.Option.Option, toml.specs.Data.table, tall
 use Rattle.tally_base.specs.{declared.{fault.Fault.TheVariants.OpenFault, header.Header.Header}, Faults.{status_of, fault_in}, RecordTypes.mode_of}
 use Rattle.{bench_io.specs.Inputs.File, ptu_definitions.{specs.Headers.{header_answer, HasAnswer}, proofs.Sound.one_answer}, plan_text.specs.Plan.PlanView}
 use Rattle.plan_text.{specs.{Plan.plan, ReadPlan.plan_answer, Fits.fits}, proofs.{Called.{called, valid, answers, plans}, Misfits.{misfit_named, is_first}}}
-use Rattle.command_work.specs.{Outcomes.{Outcome, refused, status, IsIn, StatusIn}, Behaviours.{Work, Writing, Memory, ByPlan}, Endings.{on_file, unless}}
-use Rattle.command_work.specs.{Endings.{by_plan, outcome}, RecordsWork.{RecordsWork, unless_declined, if_suited, headed_end, headed_work}}
-use Rattle.ptu_cli.proofs.{ByteFaults.{InHeader, answer_as-in, called-status, misfit-status}, Tables.{Meets, as-status, in-within, of-within, within-sound}}
-use Rattle.ptu_cli.specs.{Tables.{Phase, InPhase, Lines, NoLine, Line, within, Applies, Sound}, CommandCases.{IsValidPlan, Need, NeedsNothing, Needs, Has}}
-use Rattle.ptu_cli.specs.CommandCases.{Suits, file_lines, header_lines, suited_lines, need_lines, plan_lines, planned_lines}
+use Rattle.command_work.specs.{Outcomes.{Outcome, refused, status, IsIn}, Behaviours.{Work, Writing, Memory, ByPlan}, Endings.{on_file, unless, by_plan}}
+use Rattle.command_work.specs.{Endings.outcome, RecordsWork.{RecordsWork, unless_declined, if_suited, headed_end, headed_work}}
+use Rattle.ptu_cli.proofs.{ByteFaults.{StatusIn, InHeader, answer_as-in, called-status, misfit-status}, Tables.{Meets, as-status, in-within, of-within}}
+use Rattle.ptu_cli.{proofs.Tables.within-sound, specs.{Tables.{Phase, InPhase, Lines, NoLine, Line, within, Applies, Sound}, CommandCases.{IsValidPlan, Need}}}
+use Rattle.ptu_cli.specs.CommandCases.{NeedsNothing, Needs, Has, Suits, file_lines, header_lines, suited_lines, need_lines, plan_lines, planned_lines}
 
 abbrev pub Answer : Type 0
 Answer = Result (Header × List ℕ) Fault

@@ -1,5 +1,5 @@
 -- What the words of a command ask for.
-use Rattle.std.specs.{Prelude.{◌≤◌, None, Some}, declared.option.Option.Option}
+use Rattle.std.specs.{Prelude.{◌≡◌, ◌≤◌, None, Some, IfSome}, declared.option.Option.Option}
 use Rattle.{ptu_made.specs.Generator.photon_limit, ptu_cli.specs.Commands.{Request, Count as CountOf, Header as HeaderOf, Events as EventsOf, Run as RunOf, Trace as TraceOf, Pick as PickOf}}
 use Rattle.ptu_cli.specs.{Commands.Demo as DemoOf, declared.words.Command.{Command, TheVariants.{Count, Header, Events, Run, Trace, Pick, Demo}}}
 
@@ -17,3 +17,8 @@ asked_for (Some (Demo seed count)) = Some (DemoOf seed count)
 abbrev pub AsksFew : Command → Type 0
 AsksFew (Demo seed count) = count ≤ photon_limit
 AsksFew other = Unit {0}
+
+-- Words are read as what they ask for.
+pub record ReadAs (command : Option Command) (asked : Option Request) : Type 0 where
+  pub request : asked_for command ≡ asked
+  pub few : IfSome command AsksFew

@@ -1,6 +1,6 @@
 // The words of the command line.
 ghost use Rattle.std.specs.{Prelude.{◌≡◌, ◌≤◌, ◌-◌, ◌^◌, [], ◌∷◌, map, string_bytes, IfSome}, Str.all_ascii_digits};
-ghost use Rattle.{ptu_made.specs.Generator.photon_limit, ptu_cli.specs.{Commands.{demo_of, is_numeral, number_in, pick_of, request_of}, Requests.{asked_for, AsksFew}}};
+ghost use Rattle.{ptu_made.specs.Generator.photon_limit, ptu_cli.specs.{Commands.{demo_of, is_numeral, number_in, pick_of, request_of}, Requests.ReadAs}};
 
 use ptu_made::PHOTON_LIMIT;
 
@@ -78,9 +78,8 @@ fn number(word: &str, most: u64) -> Option<u64>
 
 /// The words after `demo`.
 fn demo_words(seed: &str, count: &str) -> Option<Command<'static>>
-    ensures request { asked_for result
-        ≡ demo_of (number_in (2 ^ 64 - 1) seed.now) (number_in photon_limit count.now) }
-    ensures few { IfSome result AsksFew }
+    ensures { ReadAs result
+        (demo_of (number_in (2 ^ 64 - 1) seed.now) (number_in photon_limit count.now)) }
 {
     let seed = number(seed, u64::MAX)?;
     let count = number(count, PHOTON_LIMIT)?;
@@ -89,9 +88,8 @@ fn demo_words(seed: &str, count: &str) -> Option<Command<'static>>
 
 /// The words after `pick`.
 fn pick_words<'a>(plan: &'a str, group: &str, file: &'a str) -> Option<Command<'a>>
-    ensures request { asked_for result
-        ≡ pick_of plan.now (number_in (2 ^ 64 - 1) group.now) file.now }
-    ensures few { IfSome result AsksFew }
+    ensures { ReadAs result
+        (pick_of plan.now (number_in (2 ^ 64 - 1) group.now) file.now) }
 {
     let group = number(group, u64::MAX)?;
     Some(Command::Pick { plan, group, file })
@@ -99,8 +97,7 @@ fn pick_words<'a>(plan: &'a str, group: &str, file: &'a str) -> Option<Command<'
 
 /// The command of two words.
 fn two_words<'a>(word: &str, file: &'a str) -> Option<Command<'a>>
-    ensures request { asked_for result ≡ request_of (word.now ∷ file.now ∷ []) }
-    ensures few { IfSome result AsksFew }
+    ensures { ReadAs result (request_of (word.now ∷ file.now ∷ [])) }
 {
     if word == "count" {
         Some(Command::Count { file })
@@ -115,8 +112,7 @@ fn two_words<'a>(word: &str, file: &'a str) -> Option<Command<'a>>
 
 /// The command of three words.
 fn three_words<'a>(word: &str, first: &'a str, second: &'a str) -> Option<Command<'a>>
-    ensures request { asked_for result ≡ request_of (word.now ∷ first.now ∷ second.now ∷ []) }
-    ensures few { IfSome result AsksFew }
+    ensures { ReadAs result (request_of (word.now ∷ first.now ∷ second.now ∷ [])) }
 {
     if word == "run" {
         Some(Command::Run {
@@ -140,8 +136,7 @@ fn three_words<'a>(word: &str, first: &'a str, second: &'a str) -> Option<Comman
 /// twenty digits, GROUP and SEED at most 2^64 - 1 and COUNT at most 10,000,000. None exactly where the words are none
 /// of these.
 pub fn read_words(words: &[String]) -> Option<Command<'_>>
-    ensures request { asked_for result ≡ request_of (map (λ word. string_bytes word) words.now) }
-    ensures few { IfSome result AsksFew }
+    ensures { ReadAs result (request_of (map (λ word. string_bytes word) words.now)) }
 {
     match words {
         [word, file] => two_words(word.as_str(), file.as_str()),

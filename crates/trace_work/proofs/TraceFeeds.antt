@@ -1,14 +1,15 @@
 -- What a piece, and the end of a stream, write of a trace.
 use Rattle.std.proofs.Common.{◌≡◌, ◌∙◌, ◌<◌, ℕ, List, [], ◌++◌, None, Some, Ok, Err, refl, sym, ap, subst, inl, inr, append_assoc, append-nil, Result, OnOk}
 use Rattle.{std.proofs.Common.OnErr, tally_base.specs.{declared.{fault.Fault.Fault, slot.Failed.Failed}, Faults.fault_in, Settings.{TraceView, trace_view}}}
-use Rattle.{tally_base.specs.Tally.History, bench_io.{specs.{Sinks.{SinkState, Wrote, WroteShort, PassesOn}, Texts.WritesText}, proofs.Bytes.WroteShort-more}}
-use Rattle.{bench_io.proofs.Bytes.PassesOn-held, ptu_definitions.specs.{declared.records.Summary.Summary, Kept.Marked, Settled.not_marked, Words.words_of}}
-use Rattle.ptu_definitions.{specs.{Words.rest_of, Streams.{StreamSettings, record_refusal, last_in, streamed}}, proofs.DeliveredLaws.not_marked-append}
+use Rattle.{tally_base.specs.Tally.History, bench_io.specs.{Sinks.{SinkState, Wrote, WroteShort, PassesOn}, Texts.{WritesText, PutText}}}
+use Rattle.bench_io.proofs.{Bytes.{WroteShort-more, PassesOn-held}, Texts.{PutsText, writes-flushed, writes-unflushed}}
+use Rattle.ptu_definitions.specs.{declared.records.Summary.Summary, Kept.Marked, Settled.not_marked, Words.{words_of, rest_of}, Streams.StreamSettings}
+use Rattle.ptu_definitions.{specs.Streams.{record_refusal, last_in, streamed}, proofs.DeliveredLaws.not_marked-append}
 use Rattle.{record_stream.specs.{declared.taker.EventTaker.Ghosts, Feeding.{GaveOn, Fed}, Ending.Ended}, gate_plan.specs.Shifting.Sorting}
 use Rattle.{gate_plan.{specs.Histories.{with_groups, history}, proofs.Histories.with_groups-more}, long_trace.specs.declared.trace.LongTrace.LongTrace}
 use Rattle.long_trace.{specs.{LongTrace.{Holds, GivenMore, set_of}, Texts.open_text}, proofs.Rising.{RisesFrom, open-front}}
-use Rattle.{command_work.proofs.Flushed.{PutText, PutsText, writes-flushed, writes-unflushed}, trace_work.specs.TraceOutcomes.{settled_before, words_traced}}
-use Rattle.trace_work.specs.{TracePieces.{text_by, both_ended}, TraceTexts.{settled-adds, settled-rises, history-rest, history-rises}}
+use Rattle.trace_work.specs.{TraceOutcomes.{TracedShort, settled_before, words_traced}, TracePieces.{text_by, both_ended}, TraceTexts.settled-adds}
+use Rattle.trace_work.specs.TraceTexts.{settled-rises, history-rest, history-rises}
 
 with-parts : (by : Sorting) (l m : Marked) → with_groups by (not_marked (l ++ m)) ≡ with_groups by (not_marked l) ++ with_groups by (not_marked m)
 with-parts by l m = ap (with_groups by) (not_marked-append l m) ∙ with_groups-more by (not_marked l) (not_marked m)
@@ -29,13 +30,6 @@ pub record Gets (by : Sorting) (old new : LongTrace) (a b : SinkState) (held : L
   pub given : GivenMore old new (with_groups by (not_marked l)) lines
   pub text : PassesOn a b lines held
 
-pub record Breaks (by : Sorting) (old : LongTrace) (a b : SinkState) (held : List ℕ) (l : Marked) : Type 0 where
-  pub lines : List ℕ
-  pub closed : (h : History) → Holds old h
-      → open_text (trace_view (set_of old)) (h ++ with_groups by (not_marked l)) ≡ open_text (trace_view (set_of old)) h ++ lines
-  pub text : WroteShort a b lines
-  pub empty : held ≡ []
-
 -- some of the events of a longer list
 some-lines : (set : TraceView) (by : Sorting) (h all : History) (l m : Marked) (lines : List ℕ)
     → 0 < set.width → RisesFrom 0 all → all ≡ h ++ with_groups by (not_marked (l ++ m))
@@ -49,7 +43,7 @@ some-lines set by h all l m lines some up is closed =
 module _ {T : Type 0} (g : Ghosts T) (trace : T → LongTrace) (told : T → SinkState) (held : T
     → List ℕ) (by : Sorting) (how : StreamSettings) (a b : T)
     (none : g.got a a []) (gets : (l : Marked) → g.got a b l → Gets by (trace a) (trace b) (told a) (told b) (held b) l) (breaks : (l : Marked)
-    → g.broke a b l → Breaks by (trace a) (told a) (told b) (held b) l) where
+    → g.broke a b l → TracedShort (trace a) by (told a) (told b) [] (held b) l) where
   abbrev set : TraceView
   set = trace_view (set_of (trace a))
 
@@ -57,7 +51,7 @@ module _ {T : Type 0} (g : Ghosts T) (trace : T → LongTrace) (told : T → Sin
   text = words_traced (Some set) by how
 
   module _ (some : 0 < set.width) (words now : List ℕ) (holds : Holds (trace a) (settled_before by how words)) where
-    gave : (h : GaveOn g how a b words now) → PutText (text words) (text now) (told a) (told b) (held b) × Holds (trace b) (settled_before by how now)
+    gave : (h : GaveOn g how a b words now) → PutText (text words) (text now) (told a) (told b) [] (held b) × Holds (trace b) (settled_before by how now)
     gave h =
         let it = gets h.more (h.follows a [] none) in
         let adds = settled-adds by how words now h.more h.adds in

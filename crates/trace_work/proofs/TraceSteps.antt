@@ -1,20 +1,17 @@
 -- One event more for a trace, and a block of them.
 use Rattle.std.proofs.Common.{◌≡◌, ◌∙◌, ◌+◌, ◌≤◌, ℕ, List, [], ◌∷◌, ◌++◌, true, false, refl, ap, map, append_assoc, append-nil, arith, length, length-append}
 use Rattle.{std.proofs.{Common.{◌&&◌, not, IsTrue, if◌then◌else◌, rules}, lemmas.List.length-map}, tally_base.specs.declared.event.Event.Event}
-use Rattle.tally_base.specs.{declared.{event.EventKind.EventKind, header.Mode.{Mode, TheVariants.{T2, T3}}}, Events.{is_photon, is_photon_kind, is_ordered}}
-use Rattle.{tally_base.{specs.Tally.{History, floor_after, InOrder}, proofs.Floors.order-looser}, bench_io.specs.Sinks.{SinkState, WroteShort, PassesOn}}
-use Rattle.{bench_io.proofs.Bytes.{WroteShort-passed, PassesOn-trans}, ptu_definitions.specs.{Kept.Marked, Settled.not_marked}}
-use Rattle.{ptu_definitions.proofs.DeliveredLaws.{not_marked-append, not_marked-false}, abs_time.{specs.Floors.orders_markers, proofs.Floors.moved_floor-push}}
-use Rattle.{record_stream.{specs.Blocks.on_time, proofs.{Steps.length-on_time, Gathering.floor_of-block}}, gate_plan.specs.Shifting.{Sorting, shifted}}
-use Rattle.gate_plan.{specs.{Shifting.shifted_kind, Taking.groups_in, Histories.with_groups}, proofs.Histories.{with_groups-more, order-shifted, floor-shifted}}
-use Rattle.{long_trace.{specs.{declared.trace.LongTrace.LongTrace, LongTrace.GivenMore}, proofs.Steps.GivenMore-trans}, trace_work.specs.TraceOutcomes.Traced}
-use Rattle.trace_work.specs.TraceOutcomes.{TracedShort}
-
-photon_kind : (by : Sorting) (kind : EventKind) → is_photon_kind (shifted_kind by kind) ≡ is_photon_kind kind
-photon_kind by kind = search (rules, arith)
+use Rattle.tally_base.specs.{declared.header.Mode.{Mode, TheVariants.{T2, T3}}, Events.{is_photon, is_ordered}, Tally.{History, floor_after, InOrder}}
+use Rattle.{tally_base.proofs.Floors.order-looser, bench_io.{specs.Sinks.{SinkState, WroteShort, PassesOn}, proofs.Bytes.{WroteShort-passed, PassesOn-trans}}}
+use Rattle.ptu_definitions.{specs.{Kept.Marked, Settled.not_marked}, proofs.DeliveredLaws.{not_marked-append, not_marked-false}}
+use Rattle.{abs_time.{specs.Floors.orders_markers, proofs.Floors.moved_floor-push}, record_stream.{specs.Blocks.on_time, proofs.Steps.length-on_time}}
+use Rattle.{record_stream.proofs.Gathering.floor_of-block, gate_plan.specs.{Shifting.{Sorting, shifted}, Taking.groups_in, Histories.with_groups}}
+use Rattle.{gate_plan.proofs.Histories.{with_groups-more, order-shifted, floor-shifted}, long_trace.specs.declared.trace.LongTrace.LongTrace}
+use Rattle.{long_trace.{specs.LongTrace.GivenMore, proofs.Steps.GivenMore-trans}, trace_work.specs.TraceOutcomes.{Traced, TracedShort}}
 
 -- the floor of the trace stays below that of the stream
-pub floor-below : (mode : Mode) (e : Event) (floor low : ℕ) → low ≤ floor → (IsTrue (is_ordered mode e && not false) → floor ≤ e.time) → (if is_photon e then e.time else low) ≤ (if is_ordered mode e && not false then e.time else floor)
+pub floor-below : (mode : Mode) (e : Event) (floor low : ℕ) → low ≤ floor → (IsTrue (is_ordered mode e && not false) → floor ≤ e.time)
+    → (if is_photon e then e.time else low) ≤ (if is_ordered mode e && not false then e.time else floor)
 floor-below T2 e floor low below order = search (rules, arith)
 floor-below T3 e floor low below order = search (rules, arith)
 
@@ -65,7 +62,8 @@ module _ (start old : LongTrace) (by by' : Sorting) (mode mode' : Mode)
       empty = none;
     }
 
-    pub TracedShort-one : (e : Event) (lines : List ℕ) → So_far → GivenMore old now ((shifted by' e, groups_in by' e) ∷ []) lines → WroteShort b c (held' ++ lines) → held'' ≡ [] → TracedShort start by a c held held'' (l ++ (e, false) ∷ [])
+    pub TracedShort-one : (e : Event) (lines : List ℕ) → So_far → GivenMore old now ((shifted by' e, groups_in by' e) ∷ []) lines
+        → WroteShort b c (held' ++ lines) → held'' ≡ [] → TracedShort start by a c held held'' (l ++ (e, false) ∷ [])
     TracedShort-one e lines h given cut none =
         short (l ++ (e, false) ∷ []) ((shifted by e, groups_in by e) ∷ []) lines (with-one by l e) h (rw h.same_sorting at given) cut none
 

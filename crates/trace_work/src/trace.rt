@@ -2,7 +2,7 @@
 ghost use Rattle.std.specs.Prelude.{◌≡◌, ◌<◌, ◌≤◌, ℕ, List, true, OnOk, None, Some};
 ghost use Rattle.{tally_base.specs.Settings.trace_view, ptu_definitions.specs.Words.record_limit, plan_text.specs.ReadPlan.plan_view, record_stream.specs.Standing.{how_of, refused_with, HasStreamed}};
 ghost use Rattle.{record_stream.specs.Pieces.{TakesOn, StaysOpen, Begins}, gate_plan.specs.Groups.sorting_of, long_trace.specs.LongTrace.{set_of, taken_of, floor_of, is_going}};
-ghost use Rattle.{command_work.specs.RecordsWork.WritesEnd, trace_work.specs.{TraceOutcomes.trace_of, TracePieces.{IsBehindStream, TracesBytes, TracesPiece, EndsLines, EndsTrace, both_ended}}};
+ghost use Rattle.{command_work.specs.RecordsWork.WritesEnd, trace_work.specs.{TraceOutcomes.trace_of, TracePieces.{CanEnd, IsBehindStream, FeedsTrace, TracesPiece, EndsLines, EndsTrace, both_ended}}};
 
 use abs_time::{moved_floor, orders_markers};
 use arrayvec::ArrayVec;
@@ -124,12 +124,8 @@ fn trace_piece<O: Sink>(
 ) -> Result<(), Fault>
     requires mode { mode ≡ (how_of stream.old).mode }
     requires behind { IsBehindStream stream.old trace.old }
-    ensures fed { TakesOn stream.old stream.new piece.now }
-    ensures writes { TracesPiece O.Sink (sorting_of gates.now) stream.old trace.old trace.new piece.now
-        out.old out.new result }
-    ensures going { OnOk result (StaysOpen stream.old stream.new piece.now) }
-    ensures behind { OnOk result (IsBehindStream stream.new trace.new) }
-    ensures set { set_of trace.new ≡ set_of trace.old }
+    ensures { FeedsTrace O.Sink (sorting_of gates.now) stream.old stream.new trace.old trace.new
+        piece.now out.old out.new result }
 {
     let mut lines = TraceLines {
         gates,
@@ -186,9 +182,7 @@ fn end_trace<O: Sink>(
     mut trace: LongTrace,
     out: &mut O,
 ) -> Result<(), Fault>
-    requires mode { mode ≡ (how_of stream).mode }
-    requires going { refused_with stream ≡ None }
-    requires behind { IsBehindStream stream trace }
+    requires { CanEnd stream mode trace }
     ensures { EndsTrace O.Sink (sorting_of gates.now) stream trace out.old out.new result }
 {
     last_lines(stream, mode, gates, &mut trace, out)?;
@@ -203,9 +197,7 @@ fn last_lines<O: Sink>(
     trace: &mut LongTrace,
     out: &mut O,
 ) -> Result<(), Fault>
-    requires mode { mode ≡ (how_of stream).mode }
-    requires going { refused_with stream ≡ None }
-    requires behind { IsBehindStream stream trace.old }
+    requires { CanEnd stream mode trace.old }
     ensures writes { EndsLines O.Sink (sorting_of gates.now) stream
         trace.old trace.new out.old out.new result }
     ensures going { is_going trace.new ≡ true }

@@ -1,5 +1,5 @@
-use Rattle.{file_work.{specs.EventLines.listed_none, proofs.EventSteps.puts-lines}, command_work.proofs.{RestEnds.stays-open, Flushed.writes-flushed}}
-use Rattle.command_work.proofs.Flushed.{writes-unflushed}
+use Rattle.{file_work.{specs.EventLines.listed_none, proofs.EventSteps.puts-lines}, bench_io.proofs.Texts.{writes-flushed, writes-unflushed}}
+use Rattle.command_work.proofs.RestEnds.{stays-open}
 use Rattle.file_work.proofs.events.feed_lines.Goals as goal
 
 pub returns-in-Ok-clause-writes : goal.returns-in-Ok-clause-writes

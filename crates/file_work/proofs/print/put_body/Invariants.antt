@@ -1,4 +1,4 @@
-use Rattle.{std.proofs.Common.{◌≡◌, ◌++◌, List, ℕ, take}, ptu_tag.specs.declared.kind.TagKind.TagKind, list_out.specs.Lines.HasPut}
+use Rattle.{std.proofs.Common.{◌≡◌, ◌++◌, List, ℕ, take}, ptu_header.specs.declared.kind.TagKind.TagKind, list_out.specs.Lines.HasPut}
 use Rattle.file_work.specs.BodyPieces.{PutsBody}
 use Rattle.file_work.proofs.print.put_body.Given as goal
 

@@ -1,10 +1,10 @@
 use Rattle.std.proofs.{lemmas.Result.err_from_is_err_and, Common.{◌≡◌, ℕ, List, Some, Ok, Err, refl, inl, inr, Result, OnOk, OnErr, IfErr}}
 use Rattle.{gate_plan.specs.{Groups.sorting_of, Shifting.Sorting, Histories.history}, record_stream.specs.Standing.how_of}
 use Rattle.tally_base.specs.{declared.fault.Fault.{Fault, TheVariants.WriteFault}, Faults.fault_in, Settings.{TraceView, trace_view}, Tally.History}
-use Rattle.bench_io.{specs.{Sinks.SinkState, Texts.WritesText}, proofs.Texts.{WroteText-trans, CutText-behind, CutText-more}}
+use Rattle.bench_io.{specs.{Sinks.SinkState, Texts.{WritesText, WroteText, CutText}}, proofs.Texts.{WroteText-trans, CutText-behind, CutText-more}}
 use Rattle.ptu_definitions.specs.{declared.records.Summary.Summary, Words.words_of, Streams.StreamSettings}
-use Rattle.long_trace.specs.{declared.trace.LongTrace.LongTrace, LongTrace.set_of, Texts.{open_text, whole_text}, Written.{AppendsRest, CutsRest}}
-use Rattle.{long_trace.proofs.Rising.whole-front, trace_work.specs.{TraceOutcomes.{words_traced, traced}, TracePieces.text_by}}
+use Rattle.long_trace.{specs.{declared.trace.LongTrace.LongTrace, LongTrace.set_of, Texts.{open_text, whole_text}}, proofs.Rising.whole-front}
+use Rattle.trace_work.specs.{TraceOutcomes.{words_traced, traced}, TracePieces.text_by}
 use Rattle.trace_work.proofs.trace.end_trace.Goals as goal
 
 module _ (by : Sorting) (how : StreamSettings) (trace : LongTrace) (bytes : List ℕ) where
@@ -26,10 +26,10 @@ module _ (by : Sorting) (how : StreamSettings) (trace : LongTrace) (bytes : List
 
   -- They were written, and then the rest.
   last-ended : (old mid new : SinkState) (r : Result Summary Fault) (done : Result (Unit {0}) Fault) → WritesText {X = Unit {0}} text (text_by trace by how bytes r) (fault_in r) old mid (Ok tt)
-      → OnOk done (AppendsRest mid new (open_text set all) (whole_text set all)) → OnErr done (CutsRest mid new (open_text set all) (whole_text set all)) → IfErr done (λ fault. fault ≡ WriteFault)
+      → OnOk done (WroteText (open_text set all) (whole_text set all) mid new) → OnErr done (CutText (open_text set all) (whole_text set all) mid new) → IfErr done (λ fault. fault ≡ WriteFault)
       → WritesText text (traced (Some set) by how bytes r).text (traced (Some set) by how bytes r).fault old new done
-  last-ended old mid new (Ok summary) (Ok done) h rest cut write = (refl, WroteText-trans _ _ _ _ _ _ h.1 (record { more = rest.rest; adds = rest.whole; wrote = rest.appended }))
-  last-ended old mid new (Ok summary) (Err fault) h rest cut write = inr (write, CutText-behind _ _ _ _ _ _ h.1 (record { more = cut.rest; adds = cut.whole; cut = cut.cut }))
+  last-ended old mid new (Ok summary) (Ok done) h rest cut write = (refl, WroteText-trans _ _ _ _ _ _ h.1 rest)
+  last-ended old mid new (Ok summary) (Err fault) h rest cut write = inr (write, CutText-behind _ _ _ _ _ _ h.1 cut)
   last-ended old mid new (Err own) done h rest cut write = cc h.0
 
 pub returns-in_err-last_lines : goal.returns-in_err-last_lines
@@ -41,4 +41,4 @@ pub returns : goal.returns
 returns g c = λ bytes h holds.
     let last = c.in_ok-last_lines.ensures.writes bytes h holds in
     last-ended (sorting_of c.args.gates.now) (how_of c.args.stream) c.args.trace bytes _ _ _ _ c.finish.result last.writes
-    (rw c.last_lines.ensures.set at (c.finish.ensures.text _ last.stands)) (rw c.last_lines.ensures.set at (c.finish.ensures.short _ last.stands)) c.finish.ensures.fault
+    (rw c.last_lines.ensures.set at (c.finish.ensures.text _ last.stands)) (rw c.last_lines.ensures.set at (c.finish.ensures.short _ last.stands)) c.finish.ensures.refuses.fault

@@ -1,5 +1,5 @@
 use Rattle.{std.proofs.{Common.{arith, rules}, lemmas.Result.on_ok_weaker}, gate_plan.specs.Groups.sorting_of, trace_work.specs.TraceOutcomes.traced_none}
-use Rattle.{trace_work.proofs.TraceFeeds.feeds-on, command_work.proofs.{RestEnds.stays-open, Flushed.{writes-flushed, writes-unflushed}}}
+use Rattle.{trace_work.proofs.TraceFeeds.feeds-on, bench_io.proofs.Texts.{writes-flushed, writes-unflushed}, command_work.proofs.RestEnds.stays-open}
 use Rattle.trace_work.proofs.trace.feed_lines.Goals as goal
 
 pub returns-in-Ok-clause-writes : goal.returns-in-Ok-clause-writes

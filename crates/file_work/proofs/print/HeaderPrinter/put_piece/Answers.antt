@@ -4,17 +4,20 @@ use Rattle.{ptu_definitions.specs.{TagList.{code_in, Item}, Headers.{header_answ
 use Rattle.list_out.specs.{HeaderText.{head_text, bare_end, preamble_lines_of, header_text}, declared.body.BodyText.BodyText, Lines.HasPut}
 use Rattle.list_out.proofs.{Final.{header_text-grows, header_text-refused, header_text-done}, StepTexts.{header_text-same, header_text-preamble}}
 use Rattle.{list_out.proofs.StepTexts.{header_text-tag, header_text-body, kind_with-is}, command_work.{specs.Outcomes.IsCut, proofs.Pieces.two-parts}}
-use Rattle.{command_work.proofs.Pieces.whole-piece, tally_base.specs.declared.{fault.Fault.Fault, header.Header.Header}, bench_io.specs.Sinks.SinkState}
-use Rattle.bench_io.{specs.Sinks.{WroteShort, PassesOn}, proofs.Bytes.{WroteShort-same, WroteShort-more, WroteShort-passed, PassesOn-trans}}
-use Rattle.{ptu_tag.specs.declared.{kind.TagKind.TagKind, head.TagHead.TagHead}, ptu_header.specs.declared.reader.HeaderReader.HeaderReader}
-use Rattle.ptu_header.specs.{declared.step.HeaderStep.TheVariants.{More, Preamble, Tag, Body, Done, Refused}, ReadHeader.{Steps, bytes_taken}}
-use Rattle.file_work.{specs.{BodyPieces.{Prints, PutsHeader, CutsHeader, end_line}, declared.print.HeaderPrinter.HeaderPrinter}, proofs.Ends.no_items}
-use Rattle.file_work.proofs.Ends.{last_item, PutsMore-next, CutsMore-next}
+use Rattle.{command_work.proofs.Pieces.{whole-piece, Walked, Walked-next}, tally_base.specs.declared.{fault.Fault.Fault, header.Header.Header}}
+use Rattle.bench_io.{specs.Sinks.{SinkState, WroteShort, PassesOn}, proofs.Bytes.{WroteShort-same, WroteShort-more, WroteShort-passed, PassesOn-trans}}
+use Rattle.{bench_io.proofs.Texts.{PutText-next, LostText-next}, ptu_header.specs.declared.{kind.TagKind.TagKind, head.TagHead.TagHead}}
+use Rattle.ptu_header.specs.declared.{reader.HeaderReader.HeaderReader, step.HeaderStep.TheVariants.{More, Preamble, Tag, Body, Done, Refused}}
+use Rattle.{ptu_header.specs.ReadHeader.{Steps, bytes_taken}, file_work.specs.BodyPieces.{Prints, PutsHeader, CutsHeader, end_line}}
+use Rattle.file_work.{specs.declared.print.HeaderPrinter.HeaderPrinter, proofs.Ends.{no_items, last_item}}
 use Rattle.file_work.proofs.print.HeaderPrinter.put_piece.Goals as goal
 
 -- what each step of a header reader does for a printer
 abbrev printer : HeaderReader → BodyText → HeaderPrinter
 printer reader body = record { reader = reader; body = body }
+
+abbrev taken_by : HeaderPrinter → ℕ
+taken_by printer = bytes_taken printer.reader
 
 -- what a step makes of the part that it took, after what was taken before
 abbrev TakesPart : HeaderPrinter → List ℕ → ℕ → SinkState → SinkState → List ℕ → List ℕ → List ℕ → Type 0
@@ -24,7 +27,7 @@ TakesPart new left more b c now later front = (text : List ℕ) × (header_text 
 PutsHeader-next : (bytes piece left : List ℕ) (used more : ℕ) (new : HeaderPrinter) (a b c : SinkState) (held now later : List ℕ) → left ≡ drop used piece
     → PutsHeader bytes (take used piece) a b held now → TakesPart new left more b c now later (bytes ++ take used piece) → PutsHeader bytes (take (used + more) piece) a c held later
 PutsHeader-next bytes piece left used more new a b c held now later e h part =
-    PutsMore-next _ _ _ part.0 a b c held now later h (ap header_text (sym (two-parts bytes piece left used more e)) ∙ part.1) part.2
+    PutText-next _ _ _ part.0 a b c held now later h (ap header_text (sym (two-parts bytes piece left used more e)) ∙ part.1) part.2
 
 -- more text is cut
 CutsHeader-next : (bytes piece left text : List ℕ) (used more : ℕ) (a b c : SinkState) (held now : List ℕ)
@@ -33,8 +36,15 @@ CutsHeader-next : (bytes piece left text : List ℕ) (used more : ℕ) (a b c : 
     → WroteShort b c (now ++ text) → CutsHeader bytes piece a c held
 CutsHeader-next bytes piece left text used more a b c held now e h grown cut =
     let rest = header_text-grows (bytes ++ take (used + more) piece) (drop (used + more) piece) in
-    CutsMore-next _ _ (header_text (bytes ++ take (used + more) piece)) _ text rest.0 a b c held now h (ap header_text (sym (two-parts bytes piece left used more e)) ∙ grown)
+    LostText-next _ _ (header_text (bytes ++ take (used + more) piece)) _ text rest.0 a b c held now h (ap header_text (sym (two-parts bytes piece left used more e)) ∙ grown)
     (ap header_text (sym (whole-piece bytes piece (drop (used + more) piece) (used + more) refl)) ∙ rest.1) cut
+
+-- the same of all bytes that may have come before
+cuts : (old mid : HeaderPrinter) (piece left : List ℕ) (used more : ℕ) (a b c : SinkState) (held now : List ℕ) → Walked Prints taken_by old mid piece used → left ≡ drop used piece
+    → ((bytes : List ℕ) → Prints old bytes → PutsHeader bytes (take used piece) a b held now)
+    → ((front : List ℕ) → Prints mid front → (text : List ℕ) × (header_text (front ++ take more left) ≡ header_text front ++ text) × WroteShort b c (now ++ text)) → (bytes : List ℕ) → Prints old bytes → CutsHeader bytes piece a c held
+cuts old mid piece left used more a b c held now walked e h grown bytes p =
+    let it = grown (bytes ++ take used piece) (walked.stood bytes p) in CutsHeader-next bytes piece left it.0 used more a b c held now e (h bytes p) it.1 it.2
 
 -- the bytes that were taken are as many as the step says
 front-size : (front left : List ℕ) (more : ℕ) → more ≤ length left → length (front ++ take more left) ≡ length front + more
@@ -130,7 +140,7 @@ returns-in-More-clause-leaves g c = λ bytes h.
     let piece = c.args.piece.now in
     let left = c.split_at.result.1.now in
     let front = bytes ++ take c.steps.used piece in
-    let p = c.steps.invariant.prints bytes h in
+    let p = c.steps.invariant.walked.stood bytes h in
     let s = c.in-More.ensures.step front p.read in
     let whole : front ++ left ≡ bytes ++ piece = whole-piece bytes piece left c.steps.used c.split_at.ensures.back in
     (subst (Prints (printer c.feed.new.self c.steps.self.body)) whole (Prints-more c.steps.self front left c.feed.new.self p s (omega (arith, p.taken, c.in-More.ensures.room, length-append front left))), s.1, subst IsCut whole s.2)
@@ -139,22 +149,17 @@ pub returns-in-More-clause-text : goal.returns-in-More-clause-text
 returns-in-More-clause-text g c = λ bytes h.
     let left = c.split_at.result.1.now in
     let front = bytes ++ take c.steps.used c.args.piece.now in
-    let p = c.steps.invariant.prints bytes h in
+    let p = c.steps.invariant.walked.stood bytes h in
     PutsHeader-end bytes c.args.piece.now left c.steps.used _ _ _ _ c.split_at.ensures.back (c.steps.invariant.text bytes h)
     (text-more front left c.feed.new.self (c.in-More.ensures.step front p.read) (omega (arith, p.taken, c.in-More.ensures.room, c.in-More.ensures.limit, length-append front left)))
 
 pub returns-in_err-put-in-Preamble-clause-short : goal.returns-in_err-put-in-Preamble-clause-short
 returns-in_err-put-in-Preamble-clause-short g c =
-    let e = err_from_is_err_and c.from_residual.result c.from_residual.ensures.1 in
-    rw e.1 (λ bytes h.
     let left = c.split_at.result.1.now in
     let more = c.in-Preamble.more in
-    let front = bytes ++ take c.steps.used c.args.piece.now in
-    let p = c.steps.invariant.prints bytes h in
+    rw (err_from_is_err_and c.from_residual.result c.from_residual.ensures.1).1 (cuts _ _ _ left c.steps.used more _ _ _ _ c.steps.block c.steps.invariant.walked c.split_at.ensures.back c.steps.invariant.text (λ front p.
     let s = c.in-Preamble.ensures.step front p.read in
-    CutsHeader-next bytes c.args.piece.now left _ c.steps.used more _ _ _ c.args.block.now c.steps.block c.split_at.ensures.back (c.steps.invariant.text bytes h)
-    (text-preamble front left c.in-Preamble.magic c.in-Preamble.version more c.feed.new.self s (omega (arith, p.taken, front-size front left more s.0.0, c.in-Preamble.ensures.room.1, c.in-Preamble.ensures.limit)))
-    (rw (c.as_slice.ensures.value, c.preamble_lines.ensures) at c.in_err-put-in-Preamble.ensures.short))
+    (_, text-preamble front left c.in-Preamble.magic c.in-Preamble.version more c.feed.new.self s (omega (arith, p.taken, front-size front left more s.0.0, c.in-Preamble.ensures.room.1, c.in-Preamble.ensures.limit)), rw (c.as_slice.ensures.value, c.preamble_lines.ensures) at c.in_err-put-in-Preamble.ensures.short)))
 
 pub steps-preserved-in-Preamble : goal.steps-preserved-in-Preamble
 steps-preserved-in-Preamble g c =
@@ -169,29 +174,19 @@ steps-preserved-in-Preamble g c =
       rw (c.as_slice.ensures.value, c.preamble_lines.ensures) at c.in_ok-put-in-Preamble.ensures.all,
       Prints-preamble front left c.in-Preamble.magic c.in-Preamble.version more c.feed.new.self c.steps.self.body s (omega (arith, p.taken, size, c.in-Preamble.ensures.room.1)),
     ) in
-    let first = c.steps.invariant.started in
     record {
-      fits = omega (arith, (c.in-Preamble.ensures.step first.0 first.1.read).0.0, c.split_at.ensures.back_len, c.steps.invariant.fits);
-      started = (first.0 ++ take more left, (goes first.0 first.1).3);
-      prints = λ bytes h. subst (Prints new) (two-parts bytes c.args.piece.now left c.steps.used more c.split_at.ensures.back) (goes _ (c.steps.invariant.prints bytes h)).3;
-      text = λ bytes h. PutsHeader-next bytes c.args.piece.now left c.steps.used more _ _ _ _ _ _ _ c.split_at.ensures.back (c.steps.invariant.text bytes h) (goes _ (c.steps.invariant.prints bytes h));
-      taken = omega (arith, c.in-Preamble.ensures.room.1, c.steps.invariant.taken);
+      walked = Walked-next Prints taken_by _ _ new _ left c.steps.used more c.steps.invariant.walked c.split_at.ensures.back c.in-Preamble.ensures.room.0 c.in-Preamble.ensures.room.1 (λ front p. (goes front p).3);
+      text = λ bytes h. PutsHeader-next bytes c.args.piece.now left c.steps.used more _ _ _ _ _ _ _ c.split_at.ensures.back (c.steps.invariant.text bytes h) (goes _ (c.steps.invariant.walked.stood bytes h));
       kept = c.in_ok-put-in-Preamble.ensures.all.passed.kept ∙ c.steps.invariant.kept;
     }
 
 pub returns-in_err-put-in-Tag-clause-short : goal.returns-in_err-put-in-Tag-clause-short
 returns-in_err-put-in-Tag-clause-short g c =
-    let e = err_from_is_err_and c.from_residual-in_err-put-in-Tag.result c.from_residual-in_err-put-in-Tag.ensures.1 in
-    rw e.1 (λ bytes h.
     let left = c.split_at.result.1.now in
     let more = c.in-Tag.more in
-    let front = bytes ++ take c.steps.used c.args.piece.now in
-    let p = c.steps.invariant.prints bytes h in
+    rw (err_from_is_err_and c.from_residual-in_err-put-in-Tag.result c.from_residual-in_err-put-in-Tag.ensures.1).1 (cuts _ _ _ left c.steps.used more _ _ _ _ c.steps.block c.steps.invariant.walked c.split_at.ensures.back c.steps.invariant.text (λ front p.
     let s = c.in-Tag.ensures.step front p.read in
-    CutsHeader-next bytes c.args.piece.now left _ c.steps.used more _ _ _ c.args.block.now c.steps.block c.split_at.ensures.back (c.steps.invariant.text bytes h)
-    (text-tag front left more c.feed.new.self c.in-Tag.tag c.in-Tag.kind s
-    (omega (arith, p.taken, front-size front left more s.0.0, c.in-Tag.ensures.room.1, c.in-Tag.ensures.limit)))
-    (rw (c.as_slice-in-Tag.ensures.value, c.tag_line.ensures s.2.0 s.2.3 s.2.4) at c.in_err-put-in-Tag.ensures.short))
+    (_, text-tag front left more c.feed.new.self c.in-Tag.tag c.in-Tag.kind s (omega (arith, p.taken, front-size front left more s.0.0, c.in-Tag.ensures.room.1, c.in-Tag.ensures.limit)), rw (c.as_slice-in-Tag.ensures.value, c.tag_line.ensures s.2.0 s.2.3 s.2.4) at c.in_err-put-in-Tag.ensures.short)))
 
 pub steps-preserved-in-Tag : goal.steps-preserved-in-Tag
 steps-preserved-in-Tag g c =
@@ -206,13 +201,9 @@ steps-preserved-in-Tag g c =
       rw (c.as_slice-in-Tag.ensures.value, c.tag_line.ensures s.2.0 s.2.3 s.2.4) at c.in_ok-put-in-Tag.ensures.all,
       Prints-tag front left more c.feed.new.self c.in-Tag.tag c.in-Tag.kind c.new-self.result s (omega (arith, p.taken, size, c.in-Tag.ensures.room.1)) c.new-self.ensures,
     ) in
-    let first = c.steps.invariant.started in
     record {
-      fits = omega (arith, (c.in-Tag.ensures.step first.0 first.1.read).0.0, c.split_at.ensures.back_len, c.steps.invariant.fits);
-      started = (first.0 ++ take more left, (goes first.0 first.1).3);
-      prints = λ bytes h. subst (Prints new) (two-parts bytes c.args.piece.now left c.steps.used more c.split_at.ensures.back) (goes _ (c.steps.invariant.prints bytes h)).3;
-      text = λ bytes h. PutsHeader-next bytes c.args.piece.now left c.steps.used more _ _ _ _ _ _ _ c.split_at.ensures.back (c.steps.invariant.text bytes h) (goes _ (c.steps.invariant.prints bytes h));
-      taken = omega (arith, c.in-Tag.ensures.room.1, c.steps.invariant.taken);
+      walked = Walked-next Prints taken_by _ _ new _ left c.steps.used more c.steps.invariant.walked c.split_at.ensures.back c.in-Tag.ensures.room.0 c.in-Tag.ensures.room.1 (λ front p. (goes front p).3);
+      text = λ bytes h. PutsHeader-next bytes c.args.piece.now left c.steps.used more _ _ _ _ _ _ _ c.split_at.ensures.back (c.steps.invariant.text bytes h) (goes _ (c.steps.invariant.walked.stood bytes h));
       kept = c.in_ok-put-in-Tag.ensures.all.passed.kept ∙ c.steps.invariant.kept;
     }
 
@@ -220,7 +211,7 @@ pub returns-in-Done-clause-leaves : goal.returns-in-Done-clause-leaves
 returns-in-Done-clause-leaves g c = λ bytes h.
     let left = c.split_at.result.1.now in
     let front = bytes ++ take c.steps.used c.args.piece.now in
-    let s = c.in-Done.ensures.step front (c.steps.invariant.prints bytes h).read in (
+    let s = c.in-Done.ensures.step front (c.steps.invariant.walked.stood bytes h).read in (
       c.in-Done.header,
       left,
       λ more.
@@ -233,52 +224,38 @@ returns-in-Done-clause-text g c = λ bytes h.
     let left = c.split_at.result.1.now in
     let front = bytes ++ take c.steps.used c.args.piece.now in
     PutsHeader-end bytes c.args.piece.now left c.steps.used _ _ _ _ c.split_at.ensures.back (c.steps.invariant.text bytes h)
-    (text-done front left c.in-Done.used c.in-Done.header c.feed.new.self (c.in-Done.ensures.step front (c.steps.invariant.prints bytes h).read))
+    (text-done front left c.in-Done.used c.in-Done.header c.feed.new.self (c.in-Done.ensures.step front (c.steps.invariant.walked.stood bytes h).read))
 
 pub returns-in-Refused-clause-leaves : goal.returns-in-Refused-clause-leaves
 returns-in-Refused-clause-leaves g c = λ bytes h more.
     ap (λ l. header_answer (l ++ more)) (sym (whole-piece bytes c.args.piece.now c.split_at.result.1.now c.steps.used c.split_at.ensures.back))
-    ∙ (c.in-Refused.ensures.step (bytes ++ take c.steps.used c.args.piece.now) (c.steps.invariant.prints bytes h).read).1 more
+    ∙ (c.in-Refused.ensures.step (bytes ++ take c.steps.used c.args.piece.now) (c.steps.invariant.walked.stood bytes h).read).1 more
 
 pub returns-in-Refused-clause-text : goal.returns-in-Refused-clause-text
 returns-in-Refused-clause-text g c = λ bytes h.
     let left = c.split_at.result.1.now in
     let front = bytes ++ take c.steps.used c.args.piece.now in
-    let p = c.steps.invariant.prints bytes h in
+    let p = c.steps.invariant.walked.stood bytes h in
     PutsHeader-end bytes c.args.piece.now left c.steps.used _ _ _ _ c.split_at.ensures.back (c.steps.invariant.text bytes h)
     (text-refused front left c.in-Refused.fault c.feed.new.self (c.in-Refused.ensures.step front p.read) (omega (arith, p.taken, c.in-Refused.ensures.room)) c.in-Refused.ensures.limit)
 
 pub returns-in_err-put_body-in-Body-clause-short : goal.returns-in_err-put_body-in-Body-clause-short
 returns-in_err-put_body-in-Body-clause-short g c =
-    let e = err_from_is_err_and c.from_residual-in_err-put_body-in-Body.result c.from_residual-in_err-put_body-in-Body.ensures.1 in
-    rw e.1 (λ bytes h.
     let left = c.split_at.result.1.now in
     let more = c.in-Body.more in
-    let front = bytes ++ take c.steps.used c.args.piece.now in
-    let p = c.steps.invariant.prints bytes h in
+    rw (err_from_is_err_and c.from_residual-in_err-put_body-in-Body.result c.from_residual-in_err-put_body-in-Body.ensures.1).1 (cuts _ _ _ left c.steps.used more _ _ _ _ c.steps.block c.steps.invariant.walked c.split_at.ensures.back c.steps.invariant.text (λ front p.
     let s = c.in-Body.ensures.step front p.read in
-    let body = rw c.split_at-in-Body.ensures.front at
-    (c.in_err-put_body-in-Body.ensures.short (kind_with (code_in s.2.tag)) s.2.part (p.body s.2.items s.2.tag s.2.part s.2.before_are)) in
-    CutsHeader-next bytes c.args.piece.now left (body.added ++ end_line c.in-Body.last) c.steps.used more _ _ _ c.args.block.now c.steps.block c.split_at.ensures.back
-    (c.steps.invariant.text bytes h)
-    (text-body front left body.added more c.in-Body.last c.feed.new.self s (omega (arith, p.taken, front-size front left more s.0.0, c.in-Body.ensures.room.1, c.in-Body.ensures.limit)) body.text)
-    (WroteShort-body _ _ c.steps.block body.added (end_line c.in-Body.last) body.cut))
+    let body = rw c.split_at-in-Body.ensures.front at (c.in_err-put_body-in-Body.ensures.short (kind_with (code_in s.2.tag)) s.2.part (p.body s.2.items s.2.tag s.2.part s.2.before_are)) in
+    (_, text-body front left body.more more c.in-Body.last c.feed.new.self s (omega (arith, p.taken, front-size front left more s.0.0, c.in-Body.ensures.room.1, c.in-Body.ensures.limit)) body.adds, WroteShort-body _ _ c.steps.block body.more (end_line c.in-Body.last) body.cut)))
 
 pub returns-in_err-put_end-in-Body-clause-short : goal.returns-in_err-put_end-in-Body-clause-short
 returns-in_err-put_end-in-Body-clause-short g c =
-    let e = err_from_is_err_and c.from_residual-in_err-put_end-in-Body.result c.from_residual-in_err-put_end-in-Body.ensures.1 in
-    rw e.1 (λ bytes h.
     let left = c.split_at.result.1.now in
     let more = c.in-Body.more in
-    let front = bytes ++ take c.steps.used c.args.piece.now in
-    let p = c.steps.invariant.prints bytes h in
+    rw (err_from_is_err_and c.from_residual-in_err-put_end-in-Body.result c.from_residual-in_err-put_end-in-Body.ensures.1).1 (cuts _ _ _ left c.steps.used more _ _ _ _ c.steps.block c.steps.invariant.walked c.split_at.ensures.back c.steps.invariant.text (λ front p.
     let s = c.in-Body.ensures.step front p.read in
-    let body = rw c.split_at-in-Body.ensures.front at
-    (c.in_ok-put_body-in-Body.ensures.all (kind_with (code_in s.2.tag)) s.2.part (p.body s.2.items s.2.tag s.2.part s.2.before_are)) in
-    CutsHeader-next bytes c.args.piece.now left (body.added ++ end_line c.in-Body.last) c.steps.used more _ _ _ c.args.block.now c.steps.block c.split_at.ensures.back
-    (c.steps.invariant.text bytes h)
-    (text-body front left body.added more c.in-Body.last c.feed.new.self s (omega (arith, p.taken, front-size front left more s.0.0, c.in-Body.ensures.room.1, c.in-Body.ensures.limit)) body.text)
-    (WroteShort-end _ _ _ c.steps.block body.added (end_line c.in-Body.last) c.put_body.new.block body.put c.in_err-put_end-in-Body.ensures.short))
+    let body = rw c.split_at-in-Body.ensures.front at (c.in_ok-put_body-in-Body.ensures.all (kind_with (code_in s.2.tag)) s.2.part (p.body s.2.items s.2.tag s.2.part s.2.before_are)) in
+    (_, text-body front left body.more more c.in-Body.last c.feed.new.self s (omega (arith, p.taken, front-size front left more s.0.0, c.in-Body.ensures.room.1, c.in-Body.ensures.limit)) body.adds, WroteShort-end _ _ _ c.steps.block body.more (end_line c.in-Body.last) c.put_body.new.block body.put c.in_err-put_end-in-Body.ensures.short)))
 
 pub steps-preserved : goal.steps-preserved
 steps-preserved g c =
@@ -290,18 +267,14 @@ steps-preserved g c =
     let size = front-size front left more s.0.0 in
     let part = p.body s.2.items s.2.tag s.2.part s.2.before_are in
     let body = rw c.split_at-in-Body.ensures.front at (c.in_ok-put_body-in-Body.ensures.all (kind_with (code_in s.2.tag)) s.2.part part) in (
-      body.added ++ end_line c.in-Body.last,
-      text-body front left body.added more c.in-Body.last c.feed.new.self s (omega (arith, p.taken, size, c.in-Body.ensures.room.1, c.in-Body.ensures.limit)) body.text,
-      PassesOn-body _ _ _ c.steps.block body.added (end_line c.in-Body.last) c.put_body.new.block c.put_end.new.block body.put c.in_ok-put_end-in-Body.ensures.all,
+      body.more ++ end_line c.in-Body.last,
+      text-body front left body.more more c.in-Body.last c.feed.new.self s (omega (arith, p.taken, size, c.in-Body.ensures.room.1, c.in-Body.ensures.limit)) body.adds,
+      PassesOn-body _ _ _ c.steps.block body.more (end_line c.in-Body.last) c.put_body.new.block c.put_end.new.block body.put c.in_ok-put_end-in-Body.ensures.all,
       Prints-body front left more c.in-Body.last c.feed.new.self c.put_body.new.text s (omega (arith, p.taken, size, c.in-Body.ensures.room.1))
           (rw c.split_at-in-Body.ensures.front at (c.in_ok-put_body-in-Body.ensures.taken (kind_with (code_in s.2.tag)) s.2.part part)),
     ) in
-    let first = c.steps.invariant.started in
     record {
-      fits = omega (arith, (c.in-Body.ensures.step first.0 first.1.read).0.0, c.split_at.ensures.back_len, c.steps.invariant.fits);
-      started = (first.0 ++ take more left, (goes first.0 first.1).3);
-      prints = λ bytes h. subst (Prints new) (two-parts bytes c.args.piece.now left c.steps.used more c.split_at.ensures.back) (goes _ (c.steps.invariant.prints bytes h)).3;
-      text = λ bytes h. PutsHeader-next bytes c.args.piece.now left c.steps.used more _ _ _ _ _ _ _ c.split_at.ensures.back (c.steps.invariant.text bytes h) (goes _ (c.steps.invariant.prints bytes h));
-      taken = omega (arith, c.in-Body.ensures.room.1, c.steps.invariant.taken);
+      walked = Walked-next Prints taken_by _ _ new _ left c.steps.used more c.steps.invariant.walked c.split_at.ensures.back c.in-Body.ensures.room.0 c.in-Body.ensures.room.1 (λ front p. (goes front p).3);
+      text = λ bytes h. PutsHeader-next bytes c.args.piece.now left c.steps.used more _ _ _ _ _ _ _ c.split_at.ensures.back (c.steps.invariant.text bytes h) (goes _ (c.steps.invariant.walked.stood bytes h));
       kept = c.in_ok-put_end-in-Body.ensures.all.passed.kept ∙ c.in_ok-put_body-in-Body.ensures.cause.kept ∙ c.steps.invariant.kept;
     }

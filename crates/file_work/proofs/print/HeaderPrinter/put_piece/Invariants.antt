@@ -1,5 +1,5 @@
-use Rattle.{std.proofs.Common.{◌≡◌, ◌+◌, ◌-◌, ◌≤◌, ◌++◌, List, ℕ, length, take}, ptu_header.specs.ReadHeader.bytes_taken, file_work.specs.BodyPieces.Prints}
-use Rattle.file_work.specs.BodyPieces.{PutsHeader}
+use Rattle.{std.proofs.Common.{◌≡◌, ◌-◌, List, ℕ, length, take}, ptu_header.specs.ReadHeader.bytes_taken, file_work.specs.BodyPieces.{Prints, PutsHeader}}
+use Rattle.command_work.proofs.Pieces.{Walked}
 use Rattle.file_work.proofs.print.HeaderPrinter.put_piece.Given as goal
 
 -- the text of the first `used` bytes of the piece is put
@@ -7,11 +7,8 @@ abbrev pub invariant-steps : goal.invariant-steps
 invariant-steps g l =
     let state = g.O.Sink.state in
     record {
-      fits : l.used ≤ length l.piece;
-      started : (bytes : List ℕ) × Prints l.self bytes;
-      prints : (bytes : List ℕ) → Prints l.fn.self bytes → Prints l.self (bytes ++ take l.used l.piece);
+      walked : Walked Prints (λ printer. bytes_taken printer.reader) l.fn.self l.self l.piece l.used;
       text : (bytes : List ℕ) → Prints l.fn.self bytes → PutsHeader bytes (take l.used l.piece) (state l.initial.out) (state l.out) l.fn.block l.block;
-      taken : bytes_taken l.self.reader ≡ bytes_taken l.fn.self.reader + l.used;
       kept : (state l.out).faults ≡ (state l.initial.out).faults;
     }
 

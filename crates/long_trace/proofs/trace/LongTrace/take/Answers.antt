@@ -11,4 +11,4 @@ returns-clause-given c =
     let added : c.count_at.new.self.before ≡ t.counting.before + count_before (trace_view t.counting.set) ((e, groups) ∷ []) = omega (arith, c.count_at.ensures.counted.before, one) in
     GivenMore-counts t _ ((e, groups) ∷ []) c.new-line.result.items c.count_at.new.lines.items c.count_at.ensures.counted.same_set refl refl
     (c.count_at.ensures.counts e groups refl c.photons_in-more.ensures) c.new-line.ensures
-    added refl (λ h is. floor-one h e groups t.floor _ c.requires.in_order c.floor_behind-self.ensures is)
+    added refl (λ h is. floor-one h e groups t.floor _ c.requires.can.in_order c.floor_behind-self.ensures is)

@@ -10,7 +10,7 @@ returns-clause-given c =
     GivenMore-counts t _ (events_in b) _ c.count_block-self.new.lines.items done.same_set refl refl done.counts refl done.before
     (omega (arith, c.len.ensures.count, length-rows (item b) b.len))
     (λ h is.
-    let order : InOrder false (greatest_time false h) (gathered b) = rw (← is) c.requires.in_order in
+    let order : InOrder false (greatest_time false h) (gathered b) = rw (← is) c.requires.can.in_order in
     c.count_block-self.ensures.floor ∙ ap (λ n. floor_after false n (gathered b)) is ∙ sym (greatest-rows false h (item b) b.len order))
 
 pub invariant_of-self-clause-few : goal.invariant_of-self-clause-few

@@ -1,8 +1,7 @@
-use Rattle.std.proofs.Common.{◌≡◌, ◌∙◌, Bool, true, false, sym, ap, refl, rules, arith, ◌≤◌, ℕ, [], ◌∷◌, ◌++◌, max, ◌&&◌, not, append-nil, IsTrue}
-use Rattle.{std.{proofs.Common.if◌then◌else◌, specs.List.filter}, tally_base.specs.{declared.event.Event.Event, Events.is_ordered}}
-use Rattle.{ptu_definitions.specs.{Kept.{Marked, floor_of}, Settled.not_marked}, record_write.proofs.Puts.puts-none, abs_time.specs.Floors.moved_floor}
-use Rattle.{abs_time.proofs.Floors.moved_floor-push, photon_pick.{specs.Giving.{pen_on, Stand, TookPhotons}, proofs.Gives.{Gave-none, Gave-more, refuses}}}
-use Rattle.photon_pick.proofs.Takes.{TookPhotons-more, Refused-more}
+use Rattle.std.proofs.Common.{◌≡◌, ◌∙◌, Bool, true, false, sym, ap, refl, rules, arith, ◌≤◌, ℕ, [], ◌∷◌, ◌++◌, max, ◌&&◌, not, IsTrue, if◌then◌else◌}
+use Rattle.{std.specs.List.filter, tally_base.specs.{declared.event.Event.Event, Events.is_ordered}, ptu_definitions.specs.Kept.{Marked, floor_of}}
+use Rattle.{ptu_definitions.specs.Settled.not_marked, abs_time.{specs.Floors.moved_floor, proofs.Floors.moved_floor-push}, photon_pick.specs.Giving.pen_on}
+use Rattle.photon_pick.{specs.Giving.{Stand, TookPhotons, Gave-none}, proofs.{Gives.{Gave-one, Stopped-one}, Takes.{TookPhotons-more, Refused-more}}}
 use Rattle.photon_pick.proofs.taker.PicksEventTaker.take.Goals as goal
 
 -- which events are wanted
@@ -18,8 +17,8 @@ returns-then-not-wanted-clause-follows g c = λ start l h.
     let t = c.args.self.now in
     let none : c.is_wanted-wanted.result ≡ false = search rules in
     let old = pen_on g.O.Sink t.picker.now t.out.now t.block in
-    TookPhotons-more _ _ l h t.of_mode ((c.args.event.now, c.args.late) ∷ []) [] (wanted _ c.args.event.now c.args.late false (sym none ∙ c.is_wanted-wanted.ensures)) old _ _ refl
-    (λ behind is. rw append-nil is) (λ behind is. puts-none old.sink old.held) refl (moves _ _ l h c.args.event.now c.args.late _ c.moved_floor-self.ensures c.requires.in_order)
+    TookPhotons-more _ _ l h ((c.args.event.now, c.args.late) ∷ []) [] (wanted _ c.args.event.now c.args.late false (sym none ∙ c.is_wanted-wanted.ensures)) old _ _ (Gave-none old)
+    refl (moves _ _ l h c.args.event.now c.args.late _ c.moved_floor-self.ensures c.requires.in_order)
 
 pub returns-in-Ok-clause-follows : goal.returns-in-Ok-clause-follows
 returns-in-Ok-clause-follows g c = λ start l h.
@@ -29,9 +28,8 @@ returns-in-Ok-clause-follows g c = λ start l h.
     let some : c.is_wanted-wanted.result ≡ true = search rules in
     let old = pen_on g.O.Sink t.picker.now t.out.now t.block in
     let new = pen_on g.O.Sink c.put.new.self c.put.new.out c.put.new.block in
-    let gave = Gave-more old old [] e (Gave-none old (t.going (search rules))) new _ told.late told.picks told.puts in
-    TookPhotons-more _ _ l h t.of_mode ((e, c.args.late) ∷ []) (e ∷ []) (wanted _ e c.args.late true (sym some ∙ c.is_wanted-wanted.ensures)) new _ _ gave.in_time gave.picked gave.text refl
-    (moves _ _ l h e c.args.late _ c.moved_floor-self.ensures c.requires.in_order)
+    TookPhotons-more _ _ l h ((e, c.args.late) ∷ []) (e ∷ []) (wanted _ e c.args.late true (sym some ∙ c.is_wanted-wanted.ensures)) new _ _ (Gave-one old new e _ told.late told.picks told.puts)
+    refl (moves _ _ l h e c.args.late _ c.moved_floor-self.ensures c.requires.in_order)
 
 pub returns-in-Err-clause-broken : goal.returns-in-Err-clause-broken
 returns-in-Err-clause-broken g c = λ start l h none.
@@ -41,6 +39,5 @@ returns-in-Err-clause-broken g c = λ start l h none.
     let some : c.is_wanted-wanted.result ≡ true = search rules in
     let old = pen_on g.O.Sink t.picker.now t.out.now t.block in
     let new = pen_on g.O.Sink c.put.new.self c.put.new.out c.put.new.block in
-    let why = refuses old old [] e (Gave-none old (t.going (search rules))) new c.in-Err.fault told.late
-    (λ is. let kept = told.untouched is in (ap g.O.Sink.state kept.0, kept.1)) told.puts told.cause in
-    Refused-more _ _ l h t.of_mode ((e, c.args.late) ∷ []) (e ∷ []) (wanted _ e c.args.late true (sym some ∙ c.is_wanted-wanted.ensures)) c.in-Err.fault [] e refl refl _ why refl
+    Refused-more _ _ l h ((e, c.args.late) ∷ []) (e ∷ []) (wanted _ e c.args.late true (sym some ∙ c.is_wanted-wanted.ensures)) c.in-Err.fault _
+    (Stopped-one old new e c.in-Err.fault told.late (λ is. let kept = told.untouched is in (ap g.O.Sink.state kept.0, kept.1)) told.puts told.cause) refl

@@ -1,9 +1,9 @@
-use Rattle.std.proofs.{Common.{◌≡◌, ◌∙◌, true, All, filter, rules, ap, sym, subst, refl, arith}, lemmas.List.Elements.{All-weaker, All-filter, filter_passes}}
-use Rattle.{tally_base.specs.{Events.is_photon, Columns.gathered}, ptu_definitions.{specs.Layouts.KindFits, proofs.DeliveredLaws.not_marked-false}}
-use Rattle.{gate_plan.specs.Groups.sorting_of, abs_time.specs.Floors.orders_markers, record_stream.{specs.Blocks.on_time, proofs.Steps.length-on_time}}
-use Rattle.{record_stream.proofs.Gathering.floor_of-block, record_write.specs.Picker.{mode_of, last_by}, photon_pick.specs.{Chosen.is_chosen, Giving.pen_on}}
-use Rattle.photon_pick.{specs.Giving.{CanBeGiven, Gave, Stopped}, proofs.{Ends.chosen-photon, Takes.{order-chosen, last-chosen, up_to, TookPhotons-more}}}
-use Rattle.photon_pick.proofs.Takes.{Refused-more}
+use Rattle.std.proofs.{Common.{◌≡◌, ◌∙◌, true, All, filter, rules, ap, sym, subst, refl, arith, [], append-nil}, lemmas.List.Elements.{All-weaker, All-filter}}
+use Rattle.{std.proofs.lemmas.List.Elements.filter_passes, tally_base.{specs.{Events.is_photon, Columns.gathered}, proofs.BlockRows.length-rows}}
+use Rattle.{ptu_definitions.{specs.Layouts.KindFits, proofs.DeliveredLaws.not_marked-false}, gate_plan.specs.Groups.sorting_of}
+use Rattle.{abs_time.specs.Floors.orders_markers, record_stream.{specs.Blocks.on_time, proofs.{Steps.length-on_time, Gathering.floor_of-block}}}
+use Rattle.{record_write.specs.Picker.{mode_of, last_by}, photon_pick.specs.{Chosen.is_chosen, Giving.{pen_on, CanBeGiven, Gave, Stopped}}}
+use Rattle.photon_pick.proofs.{Parts.chosen-photon, Takes.{order-chosen, last-chosen, TookPhotons-more, Refused-more}}
 use Rattle.photon_pick.proofs.taker.PicksEventTaker.take_block.Goals as goal
 
 pub give_photons-given-requires-clause-can : goal.give_photons-given-requires-clause-can
@@ -45,15 +45,13 @@ returns-in-Err-clause-broken g c =
     let es = gathered c.args.block.now in
     let old = pen_on g.O.Sink t.picker.now t.out.now t.block in
     let new = pen_on g.O.Sink c.give_photons-given.new.picker c.give_photons-given.new.out c.give_photons-given.new.block in
-    let stopped : Stopped old new (filter p es) c.in-Err.fault =
-    subst (λ ps. Stopped old new ps c.in-Err.fault) c.choose-many.ensures.chosen c.in-Err.ensures.stopped in
-    let up = up_to p es stopped.front stopped.back stopped.e stopped.are in
     record {
-      front = up.front;
-      back = up.back;
-      some = up.some;
-      are = up.are;
-      broken = λ start l h none. Refused-more _ _ l h t.of_mode (on_time up.front) (filter p up.front) (ap (filter p) (not_marked-false up.front)) c.in-Err.fault stopped.front stopped.e up.chosen stopped.in_time _ stopped.why refl;
+      front = es;
+      back = [];
+      some = search (rules, arith, length-rows);
+      are = sym (append-nil es);
+      broken = λ start l h none. Refused-more _ _ l h (on_time es) (filter p es) (ap (filter p) (not_marked-false es)) c.in-Err.fault _
+          (subst (λ ps. Stopped old new ps c.in-Err.fault) c.choose-many.ensures.chosen c.in-Err.ensures.stopped) refl;
     }
 
 pub returns-clause-follows : goal.returns-clause-follows
@@ -63,6 +61,6 @@ returns-clause-follows g c = λ start l h.
     let es = gathered c.args.block.now in
     let old = pen_on g.O.Sink t.picker.now t.out.now t.block in
     let new = pen_on g.O.Sink c.give_photons-given.new.picker c.give_photons-given.new.out c.give_photons-given.new.block in
-    let gave : Gave old new (filter p es) = subst (λ ps. Gave old new ps) c.choose-many.ensures.chosen c.in_default.ensures.gave in
-    TookPhotons-more _ _ l h t.of_mode (on_time es) (filter p es) (ap (filter p) (not_marked-false es)) new _ _ gave.in_time gave.picked gave.text (omega (arith, c.len-2.ensures.value, length-on_time es))
+    TookPhotons-more _ _ l h (on_time es) (filter p es) (ap (filter p) (not_marked-false es)) new _ _ (subst (Gave old new) c.choose-many.ensures.chosen c.in_default.ensures.gave)
+    (omega (arith, c.len-2.ensures.value, length-on_time es))
     (rw c.orders_markers.ensures at c.floor_after-self.ensures ∙ floor_of-block t.mode l es _ t.floor (rw h.same_mode h.moved) c.requires.in_order)

@@ -30,7 +30,7 @@ returns-in_err-start-clause-opens g c =
     let view = plan_view job.plan.now in
     let suits = sym (rw c.mode-mode.ensures at c.in_ok-fits.ensures.answer) in
     let short = rw c.new-trace.ensures.set at c.in_err-start.ensures.short in
-    rw (p.1, p.2, suits) (opens-cut (Unit {0}) (traces (trace_view job.set) (sorting view) (reading_by view c.args.header.now)) _ _ _ c.in_err-start.field-0.0 _ (text-none (trace_view job.set) (sorting view) (reading_by view c.args.header.now)) c.in_err-start.ensures.fault short)
+    rw (p.1, p.2, suits) (opens-cut (Unit {0}) (traces (trace_view job.set) (sorting view) (reading_by view c.args.header.now)) _ _ _ c.in_err-start.field-0.0 _ (text-none (trace_view job.set) (sorting view) (reading_by view c.args.header.now)) c.in_err-start.ensures.refuses.fault short)
 
 pub returns-clause-opens : goal.returns-clause-opens
 returns-clause-opens g c =

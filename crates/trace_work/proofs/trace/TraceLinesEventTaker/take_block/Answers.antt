@@ -28,8 +28,8 @@ returns-clause-follows g c = λ start l h.
     let given = rw c.sort_events.ensures.sorted at c.take_block.ensures.given in
     Traced-block _ _ _ _ _ _ _ _ _ _ _ _ _ _ l _ _ _ (gathered c.args.block.now) c.take_block.new.lines.items _ _ h given (rw c.as_slice.ensures.value at c.in_ok-put.ensures.all) c.requires.in_order (search (rules, arith)) (search rules)
 
-pub take_block-requires-clause-in_order : goal.take_block-requires-clause-in_order
-take_block-requires-clause-in_order g c = search (rules, arith, block-in_order)
+pub take_block-requires : goal.take_block-requires
+take_block-requires g c = record { can = search (rules, arith, block-length, block-in_order) }
 
 pub invariant_of-self : goal.invariant_of-self
 invariant_of-self g c = search (rules, arith, block-length, block-below)
