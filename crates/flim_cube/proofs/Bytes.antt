@@ -139,7 +139,8 @@ pub each_of_eight : (P : ℕ → Type 0) → P 0 → P 1 → P 2 → P 3 → P 4
 each_of_eight P p0 p1 p2 p3 p4 p5 p6 p7 i low = search (rules, arith)
 
 -- Where all but the two lowest bytes are 0, a count is the number that these make.
-pub count_two : (bytes : List (List ℕ)) (size cell : ℕ) → ((place : ℕ) → 2 * size ≤ place → byte_in bytes place ≡ 0) → count_in bytes size cell ≡ from_le_bytes w16 (byte_in bytes (0 * size + cell) ∷ byte_in bytes (1 * size + cell) ∷ [])
+pub count_two : (bytes : List (List ℕ)) (size cell : ℕ) → ((place : ℕ) → 2 * size ≤ place → byte_in bytes place ≡ 0)
+    → count_in bytes size cell ≡ from_le_bytes w16 (byte_in bytes (0 * size + cell) ∷ byte_in bytes (1 * size + cell) ∷ [])
 count_two bytes size cell behind =
     let low = byte_in bytes (0 * size + cell) in
     let high = byte_in bytes (1 * size + cell) in

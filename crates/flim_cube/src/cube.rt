@@ -1,6 +1,6 @@
 // A cube: an image of a scan with a histogram in each pixel.
 ghost use Rattle.std.specs.{Prelude.{◌≡◌, ◌+◌, ◌*◌, ◌<◌, ◌≤◌, length, sum, IfOk, [], false}, Int.div_ceil};
-ghost use Rattle.{tally_base.specs.{Settings.{image_view, cube_view, PartSettings.CubeSettings}, Tally.History}, marker_map.specs.Lines.{image_of, markers_given, line_start}};
+ghost use Rattle.{tally_base.specs.{Settings.{image_view, cube_view, PartSettings.CubeSettings}, Tally.History}, scan_image.specs.Lines.{image_of, markers_given, line_start}};
 ghost use Rattle.{scan_image.specs.ImageCounts.count_outside, flim_cube.specs.Cells.counts_of};
 
 use crate::count::{BinCounts, Bins, cell_of};

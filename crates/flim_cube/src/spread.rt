@@ -155,19 +155,19 @@ impl Cells {
         if low < 256 {
             put_byte(&mut self.bytes, at, low as u8);
         } else {
-            self.raise(at, more);
+            let count = self.whole(at) + more;
+            self.put(at, count);
         }
     }
 
-    /// Adds to the count of a cell in all its bytes.
+    /// Puts the count of a cell in all its bytes.
     // Not inlined, as it comes at most once in 256 photons of a cell.
     #[inline(never)]
-    fn raise(&mut self, at: usize, more: u64)
-        requires inside { at < length (counts_of self.old) }
-        requires fits { slice_index (counts_of self.old) at + more < 2 ^ 64 }
-        ensures { counts_of self.new ≡ slice_set (counts_of self.old) at (slice_index (counts_of self.old) at + more) }
+    fn put(&mut self, at: usize, count: u64)
+        requires { at < length (counts_of self.old) }
+        ensures { counts_of self.new ≡ slice_set (counts_of self.old) at count }
     {
-        let parts = (self.whole(at) + more).to_le_bytes();
+        let parts = count.to_le_bytes();
         self.widen(width_of(parts));
         put_bytes(&mut self.bytes, self.size, self.wide, at, parts);
     }

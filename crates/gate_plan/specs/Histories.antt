@@ -18,6 +18,12 @@ pub record FindsGroups {N : ℕ} (groups : List GroupView) (old new : Block N) :
 abbrev pub with_groups : Sorting → List Event → History
 with_groups by es = grouped by.groups (map (shifted by) es)
 
+-- The photons of a block have their shifted dtimes, and its events their groups.
+pub record SortsEvents {N : ℕ} (by : Sorting) (old new : Block N) : Type 0 where
+  pub shifted : gathered new ≡ map (shifted by) (gathered old)
+  pub sorted : events_in new ≡ with_groups by (gathered old)
+  pub ready : IsSorted new
+
 -- The list that every table counts over: the kept list of these words, each photon with its shifted dtime in place of its dtime, and each event with its groups.
 unfoldable pub history : Sorting → StreamSettings → List ℕ → History
 history by how words = with_groups by (kept_by how.policy.settle how.mode (events (map how.meaning words)))

@@ -1,17 +1,14 @@
 // The events of a block, shifted and sorted.
 ghost use Rattle.std.specs.Prelude.{◌≡◌, ℕ, ◌≤◌, map};
-ghost use Rattle.{tally_base.specs.{declared.event.Event.Event, Codes.kind_of, Columns.{sorted, gathered, events_in, IsSorted}}, gate_plan.specs.{Groups.sorting_of, Shifting.shifted}};
-ghost use Rattle.gate_plan.specs.{Taking.groups_by, Parting.gated_bits, Histories.{FindsGroups, with_groups}};
+ghost use Rattle.{tally_base.specs.{declared.event.Event.Event, Codes.kind_of, Columns.{sorted, gathered}}, gate_plan.specs.{Groups.sorting_of, Shifting.shifted, Taking.groups_by}};
+ghost use Rattle.gate_plan.specs.{Parting.gated_bits, Histories.{FindsGroups, SortsEvents}};
 
 use crate::gates::Gates;
 use tally_base::{Block, TABLE_BLOCK};
 
 /// Shifts the dtimes of the photons of a block, and finds the groups of its events.
 pub fn sort_events(gates: &Gates, block: &mut Block<TABLE_BLOCK>)
-    requires { sorted block.old ≡ 0 }
-    ensures shifted { gathered block.new ≡ map (shifted (sorting_of gates.now)) (gathered block.old) }
-    ensures sorted { events_in block.new ≡ with_groups (sorting_of gates.now) (gathered block.old) }
-    ensures ready { IsSorted block.new }
+    ensures { SortsEvents (sorting_of gates.now) block.old block.new }
 {
     if gates.has_shifts() {
         shift_each(gates, block);
@@ -21,9 +18,8 @@ pub fn sort_events(gates: &Gates, block: &mut Block<TABLE_BLOCK>)
 
 /// Shifts the dtimes of the photons of a block.
 fn shift_each(gates: &Gates, block: &mut Block<TABLE_BLOCK>)
-    requires { sorted block.old ≡ 0 }
     ensures shifted { gathered block.new ≡ map (shifted (sorting_of gates.now)) (gathered block.old) }
-    ensures unsorted { sorted block.new ≡ 0 }
+    ensures unsorted { sorted block.new ≡ sorted block.old }
 {
     for at in 0..block.len().min(TABLE_BLOCK) {
         let dtime = dtime_behind(gates, block.code(at), block.dtime(at));
@@ -46,7 +42,6 @@ fn dtime_behind(gates: &Gates, code: u16, dtime: u16) -> u16
 /// Finds the groups of the events of a block, whose dtimes are shifted. Where a plan has one gate, its numbers
 /// are read once for them all, and where it has none, the groups of a photon are those of its input.
 fn sort(gates: &Gates, block: &mut Block<TABLE_BLOCK>)
-    requires { sorted block.old ≡ 0 }
     ensures { FindsGroups (sorting_of gates.now).groups block.old block.new }
 {
     match gates.only_gate() {
@@ -60,8 +55,7 @@ fn sort(gates: &Gates, block: &mut Block<TABLE_BLOCK>)
 // Not inlined, so that its loop has the registers for itself.
 #[inline(never)]
 fn sort_by_input(gates: &Gates, block: &mut Block<TABLE_BLOCK>)
-    requires unsorted { sorted block.old ≡ 0 }
-    requires none { (input dtime : ℕ) → gated_bits (sorting_of gates.now).groups input dtime ≡ 0 }
+    requires { (input dtime : ℕ) → gated_bits (sorting_of gates.now).groups input dtime ≡ 0 }
     ensures { FindsGroups (sorting_of gates.now).groups block.old block.new }
 {
     block.sort_by(gates.by_input());
@@ -71,7 +65,6 @@ fn sort_by_input(gates: &Gates, block: &mut Block<TABLE_BLOCK>)
 // Not inlined, so that its loop has the registers for itself.
 #[inline(never)]
 fn sort_each(gates: &Gates, block: &mut Block<TABLE_BLOCK>)
-    requires { sorted block.old ≡ 0 }
     ensures { FindsGroups (sorting_of gates.now).groups block.old block.new }
 {
     let mut groups = [0; TABLE_BLOCK];

@@ -16,7 +16,7 @@ pub struct OnlyGate {
 
 impl OnlyGate {
     ghost use Rattle.std.specs.Prelude.{ℕ, List, slice_index, if◌then◌else◌};
-    ghost use Rattle.tally_base.{specs.Settings.GroupView, specs.Columns.{events_in, gathered, IsSorted, sorted}};
+    ghost use Rattle.tally_base.{specs.Settings.GroupView, specs.Columns.{events_in, gathered, IsSorted}};
     ghost use Rattle.gate_plan.{specs.Parting.{groups_behind, TellsGroups}, specs.Histories.grouped};
 
     /// A gate, and by input the number of the groups of a photon whose dtime isn't in it, and of one whose is.
@@ -32,7 +32,6 @@ impl OnlyGate {
     // Not inlined, so that its loop has the registers for itself.
     #[inline(never)]
     pub(crate) fn sort(&self, block: &mut Block<TABLE_BLOCK>)
-        requires { sorted block.old ≡ 0 }
         ensures kept { (gathered block.new ≡ gathered block.old) × IsSorted block.new }
         ensures found { (groups : List GroupView) → TellsGroups self.now groups
             → events_in block.new ≡ grouped groups (gathered block.old) }

@@ -2,7 +2,7 @@
 use Rattle.std.proofs.Common.{rules, ◌≡◌, ◌+◌, ◌<◌, ◌≤◌, ◌++◌, [], ◌∷◌, ℕ, zero, suc, List, Bool, true, false, length, map, take, get_or, replicate, cond, refl}
 use Rattle.std.proofs.{Common.{sym, ap, subst, ◌∙◌, arith, ltb}, lemmas.List.FromFn.{get_or-map-range_with_len, length-range_with_len}}
 use Rattle.std.proofs.lemmas.{List.{Elements.filter-append, get_or-map, get_or-take, Sums.{length-filter, count_by-le-length}}, Simd.get_or-replicate}
-use Rattle.std.{proofs.lemmas.Bool.{leb-true, ltb-true}, specs.{Prelude.{count_ones, ◌&&◌, nat_le}, List.{filter, range_with_len}}}
+use Rattle.std.{proofs.lemmas.Bool.{and_parts, leb-true, ltb-true}, specs.{Prelude.{count_ones, ◌&&◌, nat_le}, List.{filter, range_with_len}}}
 use Rattle.lane_decode.specs.Staying.{has_bit, bits_in}
 use lib.Count.{ones}
 use lib.Lanes.{Each1, all_below}
@@ -11,14 +11,9 @@ use lib.Lanes.{Each1, all_below}
 pub each : {X : Type 0} (f : ℕ → X) (x d : X) → map f (range_with_len 0 256) ≡ replicate 256 x → (m : ℕ) → m < 256 → f m ≡ x
 each f x d all m lt = sym (get_or-map-range_with_len f 0 256 m m d lt (omega arith)) ∙ ap (λ t. get_or t m d) all ∙ get_or-replicate 256 m x d lt
 
-both : (a b : Bool) → (a && b) ≡ true → (a ≡ true) × (b ≡ true)
-both true true h = (refl, refl)
-both true false h = cc
-both false b h = cc
-
 pub below-all : (n : ℕ) (ks : List ℕ) → all_below n ks ≡ true → Each1 (λ j. j < n) ks
 below-all n [] t = tt
-below-all n (k ∷ ks) t = search (rules, arith, ltb-true, below-all n ks (both (ltb k n) (all_below n ks) t).1)
+below-all n (k ∷ ks) t = search (rules, arith, ltb-true, below-all n ks (and_parts (ltb k n) (all_below n ks) t).1)
 
 bits_few : map (λ m. nat_le (length (bits_in m)) 8) (range_with_len 0 256) ≡ replicate 256 true
 unfolding bits_in has_bit

@@ -1,6 +1,6 @@
 // The records of a few words, by their parts.
 ghost use Rattle.std.specs.{Prelude.{◌≡◌, ◌+◌, ◌*◌, ◌^◌, ◌<◌, ◌≤◌, ℕ, [], true, nat_lt, if◌then◌else◌, length, map, slice_index, slice_index_or}, Int.{from_le_bytes, w32}};
-ghost use Rattle.{ptu_definitions.specs.{Words.numbers, Kinds.counts_of}, record_layout.specs.{Sums.IsSplit, Rowed.raw_of}};
+ghost use Rattle.{ptu_definitions.specs.{Words.numbers, Kinds.counts_of}, record_layout.specs.Rowed.raw_of};
 
 use crate::lanes::FieldLanes;
 use ptu_definitions::KindCounts;
@@ -100,9 +100,7 @@ impl Columns {
     pub fn kinds<R: RecordLayout>(&self, words: &[[u8; 4]]) -> KindCounts
         requires few { length words.now ≤ 64 }
         requires rows { HasRows R.meaning R.UNIT self.now words.now }
-        ensures value { result ≡ counts_of (map R.meaning (numbers words.now)) }
-        ensures records { result.records ≡ length words.now }
-        ensures split { IsSplit result }
+        ensures { result ≡ counts_of (map R.meaning (numbers words.now)) }
     {
         let mut photons = 0u32;
         let mut markers = 0u32;

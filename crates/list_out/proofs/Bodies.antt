@@ -1,7 +1,7 @@
 -- The text of a body that grows by a byte.
 use Rattle.std.proofs.Common.{◌≡◌, ◌≢◌, ℕ, List, [], ◌∷◌, ◌++◌, Bool, true, false, cond, refl, sym, ap, ◌∙◌, append-nil, ◌==◌, not, take_while, ◌&&◌, arith}
 use Rattle.std.{proofs.{Common.rules, lemmas.{Grind.flat_map-append, List.Sums.take_while-cons}}, specs.List.{flat_map, list_all}}
-use Rattle.{tally_base.specs.Hexadecimal.hexadecimal, ptu_tag.specs.declared.kind.TagKind.{TagKind, TheVariants.AnsiString}}
+use Rattle.{tally_base.specs.Hexadecimal.hexadecimal, ptu_header.specs.declared.kind.TagKind.{TagKind, TheVariants.AnsiString}}
 use Rattle.list_out.specs.{HeaderText.{body_text, shown_byte}, Lines.has_no_nul}
 
 -- a front without what ends it is passed whole

@@ -3,11 +3,12 @@ use Rattle.std.proofs.Common.{◌≡◌, ◌+◌, ◌-◌, ◌<◌, ◌≤◌, �
 use Rattle.std.proofs.Common.{append_assoc, append-nil, take-append-drop, arith, length-append, inl, inr, None, Some, nat_lt, codes, not, ◌||◌, ◌⊎◌}
 use Rattle.std.proofs.{Common.{if◌then◌else◌, rules}, lemmas.{Bool.{cases_lt, cases_Bool}, List.{length-take, length-drop, take-append-le, drop-append-le}}}
 use Rattle.std.{proofs.{lemmas.List.take_all, Math.Seq.{take-append-add, drop-append-add}}, specs.{declared.option.Option.Option, Str.bytes_eq, List.flat_map}}
-use Rattle.ptu_tag.specs.declared.kind.TagKind.{TagKind, TheVariants.{Empty8, Bool8, Int8, BitSet64, Color8, Float8, TDateTime, Float8Array, AnsiString}}
-use Rattle.{ptu_tag.specs.declared.kind.TagKind.TheVariants.{WideString, BinaryBlob}, ptu_definitions.specs.TagList.{code_in, is_known, is_negative, body_size}}
-use Rattle.ptu_definitions.{specs.{TagList.{is_end, Item}, Headers.{seen_from, seen, seen_preamble}}, proofs.Walks.{take_front, drop_front, not_less, is_less}}
-use Rattle.{ptu_definitions.proofs.SeenLemmas.seen_from-short, list_out.specs.HeaderText.{body_text, head_text, head_in, kind_with, item_text, end_text}}
-use Rattle.list_out.{specs.{HeaderText.{preamble_text, shown_text}, Lines.has_no_nul}, proofs.Bodies.{body_text-digits, body_text-passed, body_text-ended}}
+use Rattle.ptu_header.specs.declared.kind.TagKind.{TagKind, TheVariants.{Empty8, Bool8, Int8, BitSet64, Color8, Float8, TDateTime, Float8Array, AnsiString}}
+use Rattle.{ptu_header.specs.declared.kind.TagKind.TheVariants.{WideString, BinaryBlob}, ptu_definitions.specs.TagList.{code_in, is_known, is_negative}}
+use Rattle.ptu_definitions.{specs.{TagList.{body_size, is_end, Item}, Headers.{seen_from, seen, seen_preamble}}, proofs.Walks.{take_front, drop_front}}
+use Rattle.ptu_definitions.proofs.{Walks.{not_less, is_less}, SeenLemmas.{seen_from-short, seen_from-unknown, seen_from-negative}}
+use Rattle.list_out.specs.{HeaderText.{body_text, head_text, head_in, kind_with, item_text, end_text, preamble_text, shown_text}, Lines.has_no_nul}
+use Rattle.list_out.proofs.Bodies.{body_text-digits, body_text-passed, body_text-ended}
 
 -- a text that begins with another
 abbrev pub Grown : List ℕ → List ℕ → Type 0
@@ -58,22 +59,6 @@ item_text-grows tag part extra short =
 
 drop_behind : (n k : ℕ) (xs ys : List ℕ) → length xs ≡ n → drop (n + k) (xs ++ ys) ≡ drop k ys
 drop_behind n k xs ys e = subst (λ j. drop (j + k) (xs ++ ys) ≡ drop k ys) e (drop-append-add xs ys k)
-
--- a tag of no type, or of a negative length, shows nothing
-pub seen_from-unknown : (limit : ℕ) (tag rest : List ℕ) → length tag ≡ 48 → is_known (code_in tag) ≡ false → seen_from limit (tag ++ rest) ≡ []
-unfolding seen_from
-seen_from-unknown zero tag rest size unknown = refl
-seen_from-unknown (suc limit) tag rest size unknown =
-    let long : nat_lt (length (tag ++ rest)) 48 ≡ false = not_less (length (tag ++ rest)) 48 (omega (arith, length-append tag rest)) in
-    rw (long, take_front 48 tag rest size, unknown) refl
-
-pub seen_from-negative : (limit : ℕ) (tag rest : List ℕ) → length tag ≡ 48
-    → is_known (code_in tag) ≡ true → is_negative tag ≡ true → seen_from limit (tag ++ rest) ≡ []
-unfolding seen_from
-seen_from-negative zero tag rest size known negative = refl
-seen_from-negative (suc limit) tag rest size known negative =
-    let long : nat_lt (length (tag ++ rest)) 48 ≡ false = not_less (length (tag ++ rest)) 48 (omega (arith, length-append tag rest)) in
-    rw (long, take_front 48 tag rest size, known, negative) refl
 
 -- what the bytes after a tag show
 abbrev pub seen_behind : ℕ → List ℕ → List ℕ → List Item

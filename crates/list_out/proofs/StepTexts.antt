@@ -1,8 +1,8 @@
 -- What each step of a header reader adds to the text of the bytes taken.
 use Rattle.std.proofs.Common.{◌≡◌, ◌^◌, ◌<◌, ◌≤◌, ℕ, List, [], ◌∷◌, ◌++◌, Bool, length, take, drop, refl, sym, ap, ◌∙◌, append_assoc, append-nil, arith}
 use Rattle.std.proofs.{Common.{length-append, None, Some, nat_eq, codes, if◌then◌else◌, rules}, lemmas.{Grind.flat_map-append, Bool.Decides.nat_tests}}
-use Rattle.{std.proofs.lemmas.List.take_all, ptu_tag.specs.{declared.{kind.TagKind.TagKind, head.TagHead.TagHead}, Kinds.{IsHead, code_of}}}
-use Rattle.ptu_definitions.{specs.{TagList.{code_in, body_size, Item}, Headers.{seen, seen_preamble}}, proofs.Walks.is_less}
+use Rattle.{std.proofs.lemmas.List.take_all, ptu_header.specs.{declared.{kind.TagKind.TagKind, head.TagHead.TagHead}, Kinds.{IsHead, code_of}}}
+use Rattle.ptu_definitions.{specs.{TagList.{code_in, body_size, Item}, Headers.{seen, seen_preamble}}, proofs.SeenLemmas.seen_preamble-short}
 use Rattle.list_out.specs.HeaderText.{body_text, head_text, head_in, kind_with, item_text, end_text, bare_end, preamble_text, preamble_lines_of, shown_text}
 use Rattle.list_out.{specs.HeaderText.header_text, proofs.Growing.{item_of, items_text, item_text-cut, shown_text-none}}
 
@@ -10,10 +10,6 @@ use Rattle.list_out.{specs.HeaderText.header_text, proofs.Growing.{item_of, item
 pub header_text-short : (a : List ℕ) → length a ≤ 2 ^ 24 → header_text a ≡ shown_text a
 unfolding header_text
 header_text-short a fits = ap shown_text (take_all (2 ^ 24) a fits)
-
-seen_preamble-short : (a : List ℕ) → length a < 16 → seen_preamble a ≡ None
-unfolding seen_preamble
-seen_preamble-short a short = rw (is_less (length a) 16 short) refl
 
 -- bytes that show the same have the same text
 pub header_text-same : (a b : List ℕ) → length a ≤ 2 ^ 24 → length b ≤ 2 ^ 24
@@ -63,7 +59,8 @@ item_text-bare tag head kind h k =
     rw (kind_with-is kind tag k, head_in-is tag head h, body_text-nil kind, append-nil (head_text head kind), ends) refl
 
 -- a tag is whole
-pub header_text-tag : (a b tag : List ℕ) (head : TagHead) (kind : TagKind) → length (a ++ b) ≤ 2 ^ 24 → seen_preamble (a ++ b) ≡ seen_preamble a → seen (a ++ b) ≡ seen a ++ item_of tag [] ∷ [] → IsHead tag head → code_of kind ≡ code_in tag
+pub header_text-tag : (a b tag : List ℕ) (head : TagHead) (kind : TagKind) → length (a ++ b) ≤ 2 ^ 24 → seen_preamble (a ++ b) ≡ seen_preamble a
+    → seen (a ++ b) ≡ seen a ++ item_of tag [] ∷ [] → IsHead tag head → code_of kind ≡ code_in tag
     → header_text (a ++ b) ≡ header_text a ++ (head_text head kind ++ bare_end tag)
 header_text-tag a b tag head kind fits preamble shows h k =
     header_text-items a b (head_text head kind ++ bare_end tag) fits preamble

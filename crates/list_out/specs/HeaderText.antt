@@ -2,8 +2,8 @@
 use Rattle.std.specs.{Prelude.{ℕ, ◌==◌, ◌&&◌, not, nat_le, List, [], ◌∷◌, ◌++◌, length, take, drop, take_while, codes, None, Some, if◌then◌else◌}, declared.option.Option.Option, List.flat_map}
 use Rattle.std.specs.{Fmt.signed_decimal, Int.{w32, w64, cast_signed}}
 use Rattle.{tally_base.specs.Hexadecimal.hexadecimal, ptu_definitions.specs.{TagList.{ident_in, index_in, code_in, value_in, name_of, body_size, Item}, Headers.{head_of, seen, seen_preamble}}}
-use Rattle.ptu_tag.specs.declared.{head.TagHead.TagHead, kind.TagKind.{TagKind, TheVariants.{Empty8, Bool8, Int8, BitSet64, Color8, Float8, TDateTime, Float8Array, AnsiString, WideString}}}
-use Rattle.ptu_tag.specs.declared.kind.TagKind.TheVariants.{BinaryBlob}
+use Rattle.ptu_header.specs.declared.{head.TagHead.TagHead, kind.TagKind.{TagKind, TheVariants.{Empty8, Bool8, Int8, BitSet64, Color8, Float8, TDateTime, Float8Array, AnsiString, WideString}}}
+use Rattle.ptu_header.specs.declared.kind.TagKind.TheVariants.{BinaryBlob}
 
 -- A byte of a text: those from `low` to 7E stand as they are, but for the backslash. Every other byte is `\x` and two digits.
 abbrev pub shown_byte : ℕ → ℕ → List ℕ

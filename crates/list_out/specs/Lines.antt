@@ -1,7 +1,7 @@
 -- Lines of a word and a value.
 use Rattle.std.specs.{Prelude.{ℕ, ℤ, List, ◌++◌, None, Some, codes, decimal, ◌≡◌, ◌≢◌, ◌==◌, not, Bool, true, false}, Fmt.signed_decimal, declared.option.Option.Option, List.{list_all, flat_map}}
-use Rattle.{tally_base.specs.{Hexadecimal.hexadecimal, declared.event.{Event.Event, EventKind.{EventKind, TheVariants.{Photon, Marker}}}}, ptu_tag.specs.declared.kind.TagKind.TagKind}
-use Rattle.{ptu_tag.specs.declared.kind.TagKind.TheVariants.AnsiString, list_out.specs.declared.body.{Printing.{Printing, TheVariants.{Digits, Text, Nothing}}, BodyText.BodyText}}
+use Rattle.{tally_base.specs.{Hexadecimal.hexadecimal, declared.event.{Event.Event, EventKind.{EventKind, TheVariants.{Photon, Marker}}}}, ptu_header.specs.declared.kind.TagKind.TagKind}
+use Rattle.{ptu_header.specs.declared.kind.TagKind.TheVariants.AnsiString, list_out.specs.declared.body.{Printing.{Printing, TheVariants.{Digits, Text, Nothing}}, BodyText.BodyText}}
 use Rattle.ptu_definitions.specs.{Kept.Marked, Streams.{StreamSettings, given}}
 
 abbrev pub line : List ℕ → List ℕ → List ℕ

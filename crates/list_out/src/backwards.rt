@@ -47,18 +47,8 @@ pub fn write_wide(text: &mut [u8], end: usize, number: u128) -> usize
     ensures written { drop result text.new ≡ decimal number ++ drop end text.old }
 {
     if number <= u64::MAX as u128 {
-        write_number(text, end, number as u64)
-    } else {
-        write_widest(text, end, number)
+        return write_number(text, end, number as u64);
     }
-}
-
-/// The same of a number of more than 64 bits.
-fn write_widest(text: &mut [u8], end: usize, number: u128) -> usize
-    requires { (39 ≤ end) × (end ≤ length text.old) }
-    ensures start { (result ≤ end) × (end ≤ result + 39) }
-    ensures written { drop result text.new ≡ decimal number ++ drop end text.old }
-{
     let mut buffer = Buffer::new();
     write_text(text, end, buffer.format(number).as_bytes())
 }

@@ -1,10 +1,10 @@
 // The body of a tag, byte by byte.
 ghost use Rattle.std.specs.Prelude.{◌≡◌, ◌++◌, ◌∷◌, [], List, ℕ};
-ghost use Rattle.{ptu_tag.specs.declared.kind.TagKind.TagKind, list_out.specs.HeaderText.body_text};
+ghost use Rattle.{ptu_header.specs.declared.kind.TagKind.TagKind, list_out.specs.HeaderText.body_text};
 
 use crate::head::put_shown;
 use arrayvec::ArrayVec;
-use ptu_tag::TagKind;
+use ptu_header::TagKind;
 use tally_base::put_hexadecimal;
 
 /// How the next byte of a body is printed.

@@ -85,24 +85,8 @@ pub fn format_event<'l>(event: &Event, late: bool, line: &'l mut [u8; LINE_SIZE]
     &line[start..]
 }
 
-/// Writes the lines of up to 64 events of a block from a place on, none of them late, at the end of a buffer, and
-/// returns where they start. The last line is written first, and each before what stands after it.
-fn write_lines(text: &mut [u8; LINES_SIZE], block: &Block<TABLE_BLOCK>, from: usize) -> usize
-    requires { from ≤ count block.now }
-    ensures inside { result ≤ LINES_SIZE }
-    ensures written { drop result text.new ≡ events_text (map (λ e. (e, false)) (take LINES (drop from (gathered block.now)))) }
-{
-    let mut at = block.len().min(from + LINES);
-    let mut start = LINES_SIZE;
-    'back: while at > from {
-        at -= 1;
-        start = write_event(text, start, &block.event(at), false);
-    }
-    start
-}
-
 /// Formats the lines of up to 64 events of a block from a place on, none of them late, in a buffer, where no line is
-/// copied.
+/// copied. The last line is written first, and each before what stands after it.
 pub fn format_block<'l>(
     block: &Block<TABLE_BLOCK>,
     from: usize,
@@ -111,7 +95,12 @@ pub fn format_block<'l>(
     requires { from ≤ count block.now }
     ensures { result.now ≡ events_text (map (λ e. (e, false)) (take LINES (drop from (gathered block.now)))) }
 {
-    let start = write_lines(text, block, from);
+    let mut at = block.len().min(from + LINES);
+    let mut start = LINES_SIZE;
+    'back: while at > from {
+        at -= 1;
+        start = write_event(text, start, &block.event(at), false);
+    }
     &text[start..]
 }
 

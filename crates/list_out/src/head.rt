@@ -3,7 +3,7 @@ ghost use Rattle.std.specs.{Prelude.{◌≡◌, ◌+◌, ◌≤◌, ◌++◌, le
 ghost use Rattle.{arrayvec.specs.ArrayVec.array_vec_len, list_out.specs.HeaderText.{head_text, type_name, value_text, shown_byte}};
 
 use arrayvec::ArrayVec;
-use ptu_tag::{TagHead, TagKind};
+use ptu_header::{TagHead, TagKind};
 use tally_base::{put_hexadecimal, put_signed, put_text};
 
 /// Appends a byte of a text: as it stands from `low` to 7E, but for the backslash, and else as `\x` and

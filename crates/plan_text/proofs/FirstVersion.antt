@@ -1,8 +1,8 @@
 -- A plan of version 1 says nothing that version 2 adds.
 use Rattle.std.proofs.Common.{rules, ◌≡◌, refl, ℕ, ◌≤◌, Bool, true, false, ◌&&◌, ◌||◌, List, [], ◌∷◌, length, filter_map, codes, Option, Some, None, Ok, inl}
-use Rattle.std.proofs.{Common.{inr, arith, Ordering, nat_cmp, All}, lemmas.{Bool.cases_Bool, List.Elements.{All-from_recursion, All-append, All-nil}}}
-use Rattle.std.{proofs.lemmas.Map.Lookups.exact_bytes, specs.{List.{AllByRecursion, cons_option, flat_map}, Option.option_map, Ordering.match_ordering}}
-use Rattle.{std.specs.Cmp.Lexicographic.slice_cmp, toml.specs.Data.{Data, Members, table, no_members, member, get, get_member}}
+use Rattle.std.proofs.{Common.{inr, arith, Ordering, nat_cmp, All}, lemmas.{Bool.{and_parts, cases_Bool}, List.Elements.{All-from_recursion, All-append}}}
+use Rattle.std.{proofs.lemmas.{List.Elements.All-nil, Map.Lookups.exact_bytes}, specs.{List.{AllByRecursion, cons_option, flat_map}, Option.option_map}}
+use Rattle.{std.specs.{Ordering.match_ordering, Cmp.Lexicographic.slice_cmp}, toml.specs.Data.{Data, Members, table, no_members, member, get, get_member}}
 use Rattle.{tally_base.specs.Settings.{PartSettings, GroupView, ImageView, PartSettings.ImageSettings}, toml_rules.specs.{Rules.AllHold, Values.is_one_of}}
 use Rattle.{toml_rules.specs.Values.{members_within, has_keys, list_at}, plan_text.specs.{Version.is_second, Kind.{Kind, tables}, Kinds.{kinds, second_kinds}}}
 use Rattle.plan_text.specs.{Kinds.table_lists, Groups.{groups, group, group_of, group_number, inputs, gates, one_gate}, Shifts.{shifts, period, period_or_one}}
@@ -18,10 +18,6 @@ use Rattle.plan_text.proofs.{Whole.{all_after, lists_hold, each_holds}, Called.{
 some_same : {X : Type 0} {x y : X} → Some x ≡ Some y → x ≡ y
 some_same is = cc
 
-both : (a b : Bool) → (a && b) ≡ true → (a ≡ true) × (b ≡ true)
-both true b h = (refl, h)
-both false b h = cc
-
 -- at one member, of which the rest has nothing at the key
 absent_here : (key k : List ℕ) (o : Ordering) (d : Data) (rest : Option Data) → slice_cmp nat_cmp key k ≡ o
     → (key ≡ k → ⊥) → rest ≡ None → match_ordering o rest (Some d) rest ≡ None
@@ -31,7 +27,7 @@ absent : (needed other : List (List ℕ)) (key : List ℕ) (ms : Members) → (i
     → members_within needed other ms ≡ true → get_member key ms ≡ None
 absent needed other key no_members unknown within = refl
 absent needed other key (member k d ms) unknown within =
-    let here = both (is_one_of needed k || is_one_of other k) (members_within needed other ms) within in
+    let here = and_parts (is_one_of needed k || is_one_of other k) (members_within needed other ms) within in
     absent_here key k (slice_cmp nat_cmp key k) d _ refl (λ same. let known =
     rw same at unknown in let is_known = here.0 in cc) (absent needed other key ms unknown here.1)
 

@@ -1,3 +1,4 @@
+pub mod Among
 pub mod Gates
 pub mod Numbers
 pub mod Rows

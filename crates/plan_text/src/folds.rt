@@ -1,7 +1,7 @@
 // The folds of a plan.
 ghost use Rattle.std.specs.Prelude.{◌≡◌, ◌<◌, ◌≤◌, length, map, option_map, IfSome};
-ghost use Rattle.{toml.specs.View.view, tally_base.specs.{Gates.AreGroups, Settings.{fold_view, PartSettings.FoldSettings}}, plan_text.specs.{Groups.groups, Folds.{numbers_from, numbers_among}}};
-ghost use Rattle.plan_text.specs.Folds.{numbers, fold_settings, fold_kind};
+ghost use Rattle.{toml.specs.View.view, tally_base.specs.{Gates.AreGroups, Settings.{fold_view, PartSettings.FoldSettings}}, plan_text.specs.{Groups.groups, Folds.{numbers_from, numbers}}};
+ghost use Rattle.plan_text.specs.Folds.{fold_settings, fold_kind};
 
 use crate::kind::{PlanKind, each_has_keys};
 use arrayvec::ArrayVec;
@@ -28,20 +28,6 @@ fn numbers_from(most: u64, items: &[Value]) -> Option<ArrayVec<u8, 6>>
     Some(numbers)
 }
 
-/// 1 to 6 such integers.
-fn numbers_among(most: u64, items: &[Value]) -> Option<ArrayVec<u8, 6>>
-    requires most { most ≤ 64 }
-    ensures numbers { option_map (λ numbers. numbers.items) result
-        ≡ numbers_among most (map view items.now) }
-    ensures groups { IfSome result
-        (λ numbers. AreGroups 0 numbers.items × (0 < length numbers.items) × (length numbers.items ≤ 6)) }
-{
-    if items.is_empty() || 6 < items.len() {
-        return None;
-    }
-    numbers_from(most, items)
-}
-
 /// How many groups the document has.
 fn group_count(document: &Value) -> u64
     ensures { result ≡ length (groups (view document.now)) }
@@ -49,7 +35,7 @@ fn group_count(document: &Value) -> u64
     list_at(document, "group").len() as u64
 }
 
-/// The numbers of the groups of a fold.
+/// The numbers of the groups of a fold, 1 to 6.
 #[tactic(auto, using(toml_rules::proofs::Least::list_of_view), unfolding(crate::specs::Folds::numbers))]
 fn numbers(document: &Value, table: &Value) -> Option<ArrayVec<u8, 6>>
     requires few { length (groups (view document.now)) ≤ 64 }
@@ -58,8 +44,11 @@ fn numbers(document: &Value, table: &Value) -> Option<ArrayVec<u8, 6>>
     ensures groups { IfSome result
         (λ numbers. AreGroups 0 numbers.items × (0 < length numbers.items) × (length numbers.items ≤ 6)) }
 {
-    let items = table.get("groups")?.as_array()?;
-    numbers_among(group_count(document), items.as_slice())
+    let items = table.get("groups")?.as_array()?.as_slice();
+    if items.is_empty() || 6 < items.len() {
+        return None;
+    }
+    numbers_from(group_count(document), items)
 }
 
 impl PlanKind for FoldSet {

@@ -1,7 +1,7 @@
 // The groups of a plan.
 ghost use Rattle.std.specs.Prelude.{◌≡◌, ◌<◌, ◌≤◌, ◌^◌, IfSome, map, length, is_some, option_map, codes};
-ghost use Rattle.{toml.specs.{Data.{get, as_array}, View.view}, tally_base.specs.{Gates.AreGates, Settings.group_view}, toml_rules.specs.Rules.all_kept, plan_text.specs.Groups.inputs_from};
-ghost use Rattle.plan_text.specs.Groups.{inputs_among, inputs, range_in, range_among, ranges_from, ranges_in, many_gates, one_gate, gates, groups, has_group_keys, group_rules, group, group_number};
+ghost use Rattle.{toml.specs.{Data.{get, as_array}, View.view}, tally_base.specs.{Gates.AreGates, Settings.group_view}, toml_rules.specs.Rules.all_kept, plan_text.specs.Groups.{inputs_from, inputs}};
+ghost use Rattle.plan_text.specs.Groups.{range_in, range_among, ranges_from, ranges_in, many_gates, one_gate, gates, groups, has_group_keys, group_rules, group, group_number};
 
 use crate::version::is_second;
 use arrayvec::ArrayVec;
@@ -33,24 +33,17 @@ fn inputs_from(items: &[Value]) -> Option<u128>
     Some(inputs)
 }
 
-/// The bit set of 1 to 65 such integers.
-fn inputs_among(items: &[Value]) -> Option<u128>
-    ensures set { result ≡ inputs_among (map view items.now) }
-    ensures range { IfSome result (λ set. (0 < set) × (set < 2 ^ 65)) }
-{
-    if items.is_empty() || 65 < items.len() {
-        return None;
-    }
-    inputs_from(items)
-}
-
-/// The inputs of a group.
+/// The bit set of the inputs of a group, 1 to 65.
 #[tactic(auto, using(toml_rules::proofs::Least::list_of_view), unfolding(crate::specs::Groups::inputs))]
 fn inputs(group: &Value) -> Option<u128>
     ensures set { result ≡ inputs (view group.now) }
     ensures range { IfSome result (λ set. (0 < set) × (set < 2 ^ 65)) }
 {
-    inputs_among(group.get("inputs")?.as_array()?.as_slice())
+    let items = group.get("inputs")?.as_array()?.as_slice();
+    if items.is_empty() || 65 < items.len() {
+        return None;
+    }
+    inputs_from(items)
 }
 
 /// A range of dtimes from two integers with low <= lo < hi <= 32768.

@@ -4,16 +4,17 @@ use Rattle.std.proofs.Common.{subst, append_assoc, append-nil, take-append-drop,
 use Rattle.std.proofs.{Common.{codes, Result, rules}, Math.Seq.take-append-add, lemmas.{List.{take_all, take-append-le, length-take}, Bool.Decides.nat_tests}}
 use Rattle.std.{proofs.lemmas.Bool.{and_parts, cases_eq, cases_lt, false≢true, ltb-true}, specs.Int.{w64, cast_signed}}
 use Rattle.tally_base.specs.declared.{fault.Fault.{Fault, TheVariants.{TruncatedHeader, HeaderLimit, BadMagic, TagType, TagLength}}, header.Header.Header}
-use Rattle.ptu_definitions.specs.{declared.found.Found.Found, TagList.{code_in, value_in, is_known, is_negative, body_size, is_end, Item, IsItem, bytes_of}}
-use Rattle.ptu_definitions.specs.{TagList.{IsPreamble, IsFront, IsHeader}, Endings.{Open, ending, IsOtherFile}, Fields.{found_in, header_of, version_in}}
-use Rattle.ptu_definitions.{specs.{Fields.with_tag, Headers.{header_answer, with_rest, Shows, seen, seen_preamble}}, proofs.SeenLemmas.{seen-short, seen-tag}}
-use Rattle.ptu_definitions.proofs.SeenLemmas.{seen-body, seen-before, seen-other, seen-unknown, seen-negative, seen_preamble-short, seen_preamble-other}
-use Rattle.ptu_definitions.proofs.{SeenLemmas.{seen_preamble-front, seen_preamble-append}, AnswerLemmas.{ending-start, ending-carried, ending-cut, answer-open}}
-use Rattle.ptu_definitions.proofs.AnswerLemmas.{answer-limit, answer-header, answer-other, answer-bad_type, answer-bad_length, found_in-push, Shows-append}
-use Rattle.{ptu_definitions.proofs.{AnswerLemmas.{front-push, front-header}, Walks.is_less}, ptu_header.specs.declared.reader.HeaderReader.HeaderReader}
-use Rattle.ptu_header.specs.declared.{reader.Phase.Phase, step.HeaderStep.{HeaderStep, TheVariants.{More, Preamble, Tag, Body, Done, Refused}}}
-use Rattle.ptu_header.specs.{Phases.phase_after, ReadHeader.{Takes, TookTag, InPreamble, InTag, InBody, AtEnd, Stays, Adds, AddsNothing, IsDue, bare}}
-use Rattle.ptu_header.specs.ReadHeader.{EndsInTag, EndsInBody, Reads, HasRead, goes_on, Steps, StepsWhole, Took}
+use Rattle.{tally_base.specs.Faults.is_outside, ptu_definitions.specs.{declared.found.Found.Found, TagList.{code_in, value_in, is_known, is_negative}}}
+use Rattle.ptu_definitions.specs.{TagList.{body_size, is_end, Item, IsItem, bytes_of, IsPreamble, IsFront, IsHeader}, Endings.{Open, ending, IsOtherFile}}
+use Rattle.ptu_definitions.specs.{Fields.{found_in, header_of, version_in, with_tag}, Headers.{header_answer, with_rest, Shows, seen, seen_preamble}}
+use Rattle.ptu_definitions.proofs.SeenLemmas.{seen-short, seen-tag, seen-body, seen-before, seen-other, seen-unknown, seen-negative, seen_preamble-short}
+use Rattle.ptu_definitions.proofs.{SeenLemmas.{seen_preamble-other, seen_preamble-front, seen_preamble-append}, AnswerLemmas.{ending-start, ending-carried}}
+use Rattle.ptu_definitions.proofs.AnswerLemmas.{ending-cut, answer-open, answer-limit, answer-header, answer-other, answer-bad_type, answer-bad_length}
+use Rattle.ptu_definitions.proofs.{AnswerLemmas.{found_in-push, Shows-append, front-push, front-header}, Walks.is_less}
+use Rattle.ptu_header.specs.declared.{reader.{HeaderReader.HeaderReader, Phase.Phase}, step.HeaderStep.{HeaderStep, TheVariants.{More, Preamble, Tag, Body}}}
+use Rattle.ptu_header.specs.{declared.step.HeaderStep.TheVariants.{Done, Refused}, Phases.{outside_at, phase_after}, ReadHeader.{Takes, TookTag, InPreamble}}
+use Rattle.ptu_header.specs.ReadHeader.{InTag, InBody, AtEnd, Stays, Adds, AddsNothing, EndsInTag, EndsInBody, Reads, HasRead, goes_on, Steps, StepsWhole, Took}
+use Rattle.ptu_header.specs.ReadHeader.{IsDue, bare, IsEnd, IsInside, settled_at}
 use Rattle.ptu_header.specs.declared.reader.Phase.TheVariants as Phases
 
 pub preamble-open : (carried bytes : List ℕ) → InPreamble carried bytes → ending bytes ≡ Open
@@ -384,3 +385,21 @@ done-due step bytes header e h = subst (λ a. IsDue a step) (sym (ap header_answ
 pub refused-due : (step : HeaderStep) (bytes : List ℕ) (fault : Fault) → step ≡ Refused fault
     → Shows header_answer bytes (Err fault) → IsDue (header_answer bytes) step
 refused-due step bytes fault e h = subst (λ a. IsDue a step) (sym (ap header_answer (sym (append-nil bytes)) ∙ h [])) (λ _. e)
+
+-- A refusal that a reader is settled on is one that the bytes call for.
+settled_inside : (phase : Phase) (answer : Result Header Fault) (fault : Fault) → outside_at phase ≡ false
+    → settled_at phase answer ≡ Some (Refused fault) → is_outside fault ≡ false
+settled_inside Phases.Preamble answer fault inside is = cc
+settled_inside Phases.Tag answer fault inside is = cc
+settled_inside (Phases.Body left last) answer fault inside is = cc
+settled_inside Phases.End (Ok header) fault inside is = cc
+settled_inside Phases.End (Err other) fault inside is = cc
+settled_inside (Phases.Refused other) answer fault inside is = cc
+
+pub end_inside : (reader : HeaderReader) (step : HeaderStep) → IsEnd reader step → IsInside step
+end_inside reader More ended = tt
+end_inside reader (Preamble used magic version) ended = tt
+end_inside reader (Tag used head kind) ended = tt
+end_inside reader (Body used last) ended = tt
+end_inside reader (Done used header) ended = tt
+end_inside reader (Refused fault) ended = settled_inside reader.phase (header_of reader.version reader.found) fault reader.inside ended

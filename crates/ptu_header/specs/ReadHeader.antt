@@ -3,7 +3,7 @@ use Rattle.std.specs.Prelude.{ℕ, ◌≡◌, ◌≢◌, ◌+◌, ◌^◌, ◌<�
 use Rattle.std.specs.declared.option.Option.{Option}
 use Rattle.{tally_base.specs.{declared.{fault.Fault.{Fault, TheVariants.TruncatedHeader}, header.Header.Header}, Faults.is_outside}, ptu_definitions.specs.declared.found.Found.Found}
 use Rattle.ptu_definitions.specs.{TagList.{code_in, is_known, is_negative, body_size, is_end, Item, IsPreamble, IsFront, IsHeader}, Fields.{found_in, header_of, with_tag, version_in}}
-use Rattle.{ptu_definitions.specs.Headers.{header_answer, Shows, seen, seen_preamble}, ptu_tag.specs.Kinds.{IsHead, code_of}, ptu_header.specs.declared.reader.{HeaderReader.HeaderReader, Phase.Phase}}
+use Rattle.{ptu_definitions.specs.Headers.{header_answer, Shows, seen, seen_preamble}, ptu_header.specs.{Kinds.{IsHead, code_of}, declared.reader.{HeaderReader.HeaderReader, Phase.Phase}}}
 use Rattle.ptu_header.specs.declared.step.HeaderStep.{HeaderStep, TheVariants.{More, Preamble, Tag, Body, Done, Refused}}
 use Rattle.ptu_header.specs.declared.reader.Phase.TheVariants as Phases
 
@@ -214,3 +214,17 @@ TookTag taken (Tag used head kind) = used ≡ taken
 TookTag taken (Body used last) = ⊥
 TookTag taken (Done used header) = ⊥
 TookTag taken (Refused fault) = Unit {0}
+
+-- What a reader answers to a whole tag, of whose bytes it took the last ones.
+pub record TakesTag (old new : HeaderReader) (used : ℕ) (answer : HeaderStep) : Type 0 where
+  pub step : (bytes : List ℕ) → InTag old.carried.items old.tags old.found old.version bytes
+      → old.taken ≡ length bytes → StepsWhole bytes used new answer
+  pub taken : new.taken ≡ old.taken
+  pub going : TookTag used answer
+  pub ended : IsEnd new answer
+
+-- What a reader that goes on answers to a piece.
+pub record Feeds (old : HeaderReader) (piece : List ℕ) (new : HeaderReader) (step : HeaderStep) : Type 0 where
+  pub steps : (bytes : List ℕ) → HasRead old bytes → Steps bytes piece new step
+  pub room : Takes (bytes_taken old) (bytes_taken new) (length piece) step
+  pub ended : IsEnd new step

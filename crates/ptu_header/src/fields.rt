@@ -1,10 +1,10 @@
 // The fields of a header, from the tags that are read.
 ghost use Rattle.std.specs.Prelude.{◌≡◌, List, ℕ, IfErr, false};
-ghost use Rattle.{ptu_definitions.specs.Fields.{value_under, or_else, with_tag, header_of}, ptu_tag.specs.Kinds.IsHead, tally_base.specs.Faults.is_outside};
+ghost use Rattle.{ptu_definitions.specs.Fields.{value_under, or_else, with_tag, header_of}, ptu_header.specs.Kinds.IsHead, tally_base.specs.Faults.is_outside};
 
 use crate::fill::same;
+use crate::head::TagHead;
 use ptu_definitions::Found;
-use ptu_tag::TagHead;
 use tally_base::{Fault, Header, RecordType};
 
 const INT8: u32 = 0x1000_0008;

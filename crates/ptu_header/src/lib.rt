@@ -5,8 +5,12 @@
 
 mod fields;
 mod fill;
+mod head;
+mod kind;
 mod reader;
 mod step;
 
+pub use head::TagHead;
+pub use kind::TagKind;
 pub use reader::{HEADER_LIMIT, HeaderReader};
 pub use step::HeaderStep;

@@ -1,15 +1,16 @@
 // A reader that carries at most one tag, and the number of body bytes still to come.
 ghost use Rattle.std.specs.Prelude.{◌≡◌, ◌+◌, ◌*◌, ◌^◌, ◌≤◌, ◌↔◌, [], IsTrue, List, ℕ, length, true, false, Err, take, codes};
-ghost use Rattle.{arrayvec.specs.ArrayVec.array_vec_len, ptu_definitions.specs.{Endings.IsOtherFile, TagList.{code_in, body_size}, Headers.header_answer}, ptu_tag.specs.Kinds.{IsHead, code_of}};
-ghost use Rattle.{tally_base.specs.Faults.is_outside, ptu_header.specs.Phases.{phase_after, outside_at}};
+ghost use Rattle.{arrayvec.specs.ArrayVec.array_vec_len, ptu_definitions.specs.{Endings.IsOtherFile, TagList.{code_in, body_size}, Headers.header_answer}, ptu_header.specs.Kinds.{IsHead, code_of}};
+ghost use Rattle.{ptu_header.specs.Phases.{phase_after, outside_at}, tally_base.specs.Faults.is_outside};
 ghost use Rattle.ptu_header.specs.declared.reader.Phase.TheVariants as Phase;
 
 use crate::fields::{header, with};
 use crate::fill::{eight, fill, same};
+use crate::head::TagHead;
+use crate::kind::TagKind;
 use crate::step::HeaderStep;
 use arrayvec::ArrayVec;
 use ptu_definitions::Found;
-use ptu_tag::{TagHead, TagKind};
 use tally_base::Fault;
 
 /// The most bytes of a header, from the first byte of the file to the end of `Header_End` and its
@@ -51,7 +52,7 @@ pub struct HeaderReader {
 }
 
 impl HeaderReader {
-    ghost use Rattle.ptu_header.specs.ReadHeader.{HasRead, Steps, StepsWhole, InTag, IsEnd, IsInside, Takes, TookTag, IsDue, Repeats, bytes_taken, is_open};
+    ghost use Rattle.ptu_header.specs.ReadHeader.{HasRead, Steps, Feeds, TakesTag, IsEnd, IsInside, Takes, IsDue, Repeats, bytes_taken, is_open};
 
     /// A reader that has taken no byte.
     #[tactic(auto, unfolding(ptu_definitions::specs::Fields::found_in))]
@@ -76,6 +77,7 @@ impl HeaderReader {
     }
 
     /// Takes bytes of the piece, up to the next step. A piece may be empty.
+    #[tactic(auto, using(crate::proofs::ReadHeader::end_inside))]
     pub fn feed(&mut self, piece: &[u8]) -> HeaderStep
         ensures step { (bytes : List ℕ) → HasRead self.old bytes → Steps bytes piece.now self.new result }
         ensures room { Takes (bytes_taken self.old) (bytes_taken self.new) (length piece.now) result }
@@ -89,17 +91,17 @@ impl HeaderReader {
             Phase::Preamble => self.preamble(piece),
             Phase::Tag => self.tag(piece),
             Phase::Body { left, last } => self.body(piece, left, last),
-            Phase::End => self.end(),
+            Phase::End => match header(self.version, &self.found) {
+                Ok(header) => HeaderStep::Done { used: 0, header },
+                Err(fault) => self.refuse(fault),
+            },
             Phase::Refused { fault } => HeaderStep::Refused(fault),
         }
     }
 
     fn preamble(&mut self, piece: &[u8]) -> HeaderStep
         requires { self.old.phase ≡ Phase.Preamble }
-        ensures step { (bytes : List ℕ) → HasRead self.old bytes → Steps bytes piece.now self.new result }
-        ensures room { Takes (bytes_taken self.old) (bytes_taken self.new) (length piece.now) result }
-        ensures ended { IsEnd self.new result }
-        ensures inside { IsInside result }
+        ensures { Feeds self.old piece.now self.new result }
     {
         let room = 16 - self.carried.len();
         let used = fill(&mut self.carried, piece, room);
@@ -124,10 +126,7 @@ impl HeaderReader {
 
     fn tag(&mut self, piece: &[u8]) -> HeaderStep
         requires { self.old.phase ≡ Phase.Tag }
-        ensures step { (bytes : List ℕ) → HasRead self.old bytes → Steps bytes piece.now self.new result }
-        ensures room { Takes (bytes_taken self.old) (bytes_taken self.new) (length piece.now) result }
-        ensures ended { IsEnd self.new result }
-        ensures inside { IsInside result }
+        ensures { Feeds self.old piece.now self.new result }
     {
         let room = (48 - self.carried.len()).min((HEADER_LIMIT - self.taken) as usize);
         let used = fill(&mut self.carried, piece, room);
@@ -152,8 +151,6 @@ impl HeaderReader {
         requires { is_outside fault ≡ false }
         ensures step { result ≡ HeaderStep.Refused fault }
         ensures phase { self.new.phase ≡ Phase.Refused fault }
-        ensures ended { IsEnd self.new result }
-        ensures inside { IsInside result }
         ensures taken { self.new.taken ≡ self.old.taken }
     {
         self.carried.clear();
@@ -165,13 +162,7 @@ impl HeaderReader {
     fn whole(&mut self, used: usize) -> HeaderStep
         requires phase { self.old.phase ≡ Phase.Tag }
         requires whole { array_vec_len self.old.carried ≡ 48 }
-        ensures step { (bytes : List ℕ)
-            → InTag self.old.carried.items self.old.tags self.old.found self.old.version bytes
-            → self.old.taken ≡ length bytes → StepsWhole bytes used self.new result }
-        ensures taken { self.new.taken ≡ self.old.taken }
-        ensures going { TookTag used result }
-        ensures ended { IsEnd self.new result }
-        ensures inside { IsInside result }
+        ensures { TakesTag self.old self.new used result }
     {
         let head = head_of(self.carried.as_slice());
         self.carried.clear();
@@ -201,10 +192,7 @@ impl HeaderReader {
 
     fn body(&mut self, piece: &[u8], left: u64, last: bool) -> HeaderStep
         requires { self.old.phase ≡ Phase.Body left last }
-        ensures step { (bytes : List ℕ) → HasRead self.old bytes → Steps bytes piece.now self.new result }
-        ensures room { Takes (bytes_taken self.old) (bytes_taken self.new) (length piece.now) result }
-        ensures ended { IsEnd self.new result }
-        ensures inside { IsInside result }
+        ensures { Feeds self.old piece.now self.new result }
     {
         if self.is_full() {
             return self.refuse(Fault::HeaderLimit);
@@ -218,22 +206,6 @@ impl HeaderReader {
         HeaderStep::Body {
             used: used as usize,
             last: used == left,
-        }
-    }
-
-    fn end(&mut self) -> HeaderStep
-        requires { self.old.phase ≡ Phase.End }
-        ensures step { (bytes piece : List ℕ) → HasRead self.old bytes → Steps bytes piece self.new result }
-        ensures room { (size : ℕ) → Takes (bytes_taken self.old) (bytes_taken self.new) size result }
-        ensures ended { IsEnd self.new result }
-        ensures inside { IsInside result }
-        ensures repeated { Repeats self.old self.new result }
-        ensures due { (bytes : List ℕ) → HasRead self.old bytes → IsDue (header_answer bytes) result }
-        ensures taken { self.new.taken ≡ self.old.taken }
-    {
-        match header(self.version, &self.found) {
-            Ok(header) => HeaderStep::Done { used: 0, header },
-            Err(fault) => self.refuse(fault),
         }
     }
 

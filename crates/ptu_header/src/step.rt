@@ -1,5 +1,6 @@
 // What a reader answers to a piece.
-use ptu_tag::{TagHead, TagKind};
+use crate::head::TagHead;
+use crate::kind::TagKind;
 use tally_base::{Fault, Header};
 
 /// One step through a header. But for More and Refused, a step took `used` bytes from the front of the

@@ -8,7 +8,7 @@ use Rattle.ptu_made.{specs.{Generator.{unit, photon_word, words_behind, made_wor
 use Rattle.{ptu_made.proofs.Behind.{all_given-cons, words_behind-cons}, minimal_file.{specs.ShortFiles.{Timed, timed, bytes_in}, proofs.ShortHeaders.IsWord}}
 use Rattle.{minimal_file.proofs.ShortHeaders.{words_of-bytes_in, rest_of-bytes_in}, std.proofs.Common.{◌≡◌, ◌+◌, ◌*◌, ◌<◌, ◌≤◌, ℕ, zero, suc, Bool, false}}
 use Rattle.std.proofs.Common.{None, List, [], ◌∷◌, length, map, take, refl, arith, nat_lt, nat_le, ◌&&◌, if◌then◌else◌, rules, ◌/◌, ◌%◌, true, ◌++◌, ◌∙◌, ◌^◌}
-use Rattle.std.proofs.{Common.get_or, lemmas.{List.{length-map, length-take, Sums.{sum_by-cons, sum_by_push}}, Bool.Decides.nat_tests}}
+use Rattle.std.proofs.{Common.get_or, lemmas.{List.{length-map, length-take, Sums.{sum_by-cons, sum_by_push}}, Bool.{and_left, and_right, Decides.nat_tests}}}
 use Rattle.std.specs.{List.AllByRecursion, declared.option.Option.Option}
 
 -- The words of the made file are photons and wraps.
@@ -179,12 +179,6 @@ take-made zero words h = tt
 take-made (suc k) [] h = tt
 take-made (suc k) (word ∷ words) h = (h.0, take-made k words h.1)
 
-and-false : (a b : Bool) → b ≡ false → (a && b) ≡ false
-and-false a b h = search (rules, arith)
-
-first-false : (a b : Bool) → a ≡ false → (a && b) ≡ false
-first-false a b h = rw h refl
-
 no-cause : (full reserved passing stops : Bool) (limit gap pass late : Option Fault) → full ≡ false → reserved ≡ false → passing ≡ false → stops ≡ false
     → (if full then limit else if reserved then gap else if passing then pass else if stops then late else None) ≡ None
 no-cause full reserved passing stops limit gap pass late f r p s = rw (f, r, p, s) refl
@@ -201,7 +195,7 @@ refusal-none policy before word drops few small made is =
     let low = base-le before made in
     let step = amount-le raw is.means in
     let passing : nat_lt wrap_limit (base records + amount raw) ≡ false = grind (arith, nat_tests) in
-    no-cause _ _ _ _ _ _ _ _ full (first-false (is_reserved raw) _ (not_reserved raw is.means)) (and-false (is_wrap raw) _ passing) drops
+    no-cause _ _ _ _ _ _ _ _ full (and_left (is_reserved raw) _ (not_reserved raw is.means)) (and_right (is_wrap raw) _ passing) drops
 
 pub unrefused : (policy : Policy) (words : List ℕ) → stops_late policy.order ≡ false
     → length words ≤ policy.records → length words ≤ 20000000 → AllByRecursion IsMade words → record_refusal (reading HydraHarp2T2 policy) words ≡ None

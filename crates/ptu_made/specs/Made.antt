@@ -1,7 +1,8 @@
 -- A made file as inputs.
-use Rattle.std.{specs.{Prelude.{ℕ, List, ◌++◌, ◌≡◌, true, false, None, Some, is_some}, declared.option.Option.Option}, proofs.{Common.sym, lemmas.Option.{none-some, same_Some}}}
-use Rattle.{tally_base.specs.declared.slot.Slot.{Slot, TheVariants.{Plan, Data}}, bench_io.{specs.{Inputs.InputState, Given.{IsOf, no_bytes}}, proofs.States.IsOf-left}}
-use Rattle.ptu_made.specs.{declared.{made.Made.Made, slot.Begun.Begun}, Records.made_file, Unread.{bytes_left, told_in, given_in}}
+use Rattle.std.{specs.{Prelude.{ℕ, List, ◌++◌, ◌≡◌, true, false, None, Some, is_some, IsOk, OnOk, OnErr, Result}, declared.option.Option.Option}, proofs.{Common.sym, lemmas.Option.none-some}}
+use Rattle.std.proofs.lemmas.Option.{same_Some}
+use Rattle.{tally_base.specs.{declared.slot.Slot.{Slot, TheVariants.{Plan, Data}}, FaultCounts.FailsOnce}, bench_io.specs.{Inputs.{InputState, IsOpened, Keeps, KeepsOther}, Given.{IsOf, no_bytes}}}
+use Rattle.{bench_io.proofs.States.IsOf-left, ptu_made.specs.{declared.{made.Made.Made, slot.Begun.Begun}, Records.made_file, Unread.{bytes_left, told_in, given_in}}}
 
 -- one slot of the two
 abbrev pub slot_of : Made → Slot → Option Begun
@@ -42,3 +43,19 @@ pub record IsUnopened (file : List ℕ) (state : InputState) : Type 0 where
   pub open_faults : (slot : Slot) → state.open_faults slot ≡ 0
   pub read_faults : (slot : Slot) → state.read_faults slot ≡ 0
   pub meant : (slot : Slot) (name : List ℕ) → state.meant slot name ≡ true
+
+-- The file of a name was opened in a slot, which was asked for by that; or it failed, and the count of that rose.
+pub record OpensSlot {X E : Type 0} (slot : Slot) (name : List ℕ) (old new : InputState) (answer : Result X E) : Type 0 where
+  pub file : OnOk answer (IsOpened (old.contents name) (new.told slot))
+  pub given : OnOk answer (new.given slot ≡ no_bytes)
+  pub opened : OnOk answer (new.opened slot ≡ true)
+  pub unopened : OnErr answer (new.opened slot ≡ old.opened slot)
+  pub asked : new.asked slot ≡ true
+  pub cause : FailsOnce (old.open_faults slot) (new.open_faults slot) answer
+  pub reads : new.read_faults slot ≡ old.read_faults slot
+
+-- No call fails, and each leaves the names, and the other slot, as they are.
+pub record ServesSlot {X E : Type 0} (slot : Slot) (old new : InputState) (answer : Result X E) : Type 0 where
+  pub keeps : Keeps old new
+  pub keeps_other : KeepsOther slot old new
+  pub succeeds : IsOk answer

@@ -44,7 +44,7 @@ impl Made {
 
 #[tactic(auto, unfolding(crate::specs::Made::made_state))]
 impl Inputs for Made {
-    ghost use Rattle.ptu_made.specs.Made.{made_state, made_asked_first, made_agrees};
+    ghost use Rattle.ptu_made.specs.Made.{made_state, made_asked_first, made_agrees, OpensSlot, ServesSlot};
 
     ghost state = { made_state };
 
@@ -56,18 +56,9 @@ impl Inputs for Made {
         requires meant { (made_state self.old).meant slot name.now ≡ true }
         requires first { (made_state self.old).asked slot ≡ false }
 
-        ensures file { OnOk result (IsOpened ((made_state self.old).contents name.now) ((made_state self.new).told slot)) }
-        ensures given { OnOk result ((made_state self.new).given slot ≡ no_bytes) }
-        ensures opened { OnOk result ((made_state self.new).opened slot ≡ true) }
-        ensures unopened { OnErr result ((made_state self.new).opened slot ≡ (made_state self.old).opened slot) }
-        ensures asked { (made_state self.new).asked slot ≡ true }
-        ensures cause { FailsOnce ((made_state self.old).open_faults slot) ((made_state self.new).open_faults slot) result }
-        ensures reads { (made_state self.new).read_faults slot ≡ (made_state self.old).read_faults slot }
-        ensures keeps { Keeps (made_state self.old) (made_state self.new) }
-        ensures keeps_other { KeepsOther slot (made_state self.old) (made_state self.new) }
-
+        ensures opens { OpensSlot slot name.now (made_state self.old) (made_state self.new) result }
         // No opening fails.
-        ensures succeeds { IsOk result }
+        ensures serves { ServesSlot slot (made_state self.old) (made_state self.new) result }
     {
         let begun = Some(Begun::new(Unread::new(self.seed, self.count)));
         match slot {
@@ -83,12 +74,10 @@ impl Inputs for Made {
         ensures bound { ReadsAtMost result into.new }
         ensures gives { ReadGives ((made_state self.old).given slot) ((made_state self.new).given slot) result into.new }
         ensures cause { FailsOnce ((made_state self.old).read_faults slot) ((made_state self.new).read_faults slot) result }
-        ensures keeps { Keeps (made_state self.old) (made_state self.new) }
-        ensures keeps_other { KeepsOther slot (made_state self.old) (made_state self.new) }
         ensures opens_none { OpensNone (made_state self.old) (made_state self.new) }
 
         // No read fails. It gives as much as there is and as there is room for.
-        ensures succeeds { IsOk result }
+        ensures serves { ServesSlot slot (made_state self.old) (made_state self.new) result }
         ensures count { IfOk result (λ n. n ≡ min (length (left_of (made_state self.old) slot)) (length into.old)) }
     {
         Ok(match slot {

@@ -3,7 +3,7 @@ ghost use Rattle.std.specs.Prelude.{◌≡◌, [], length, min, is_some, true, f
 ghost use Rattle.{bench_io.specs.Given.GivesCount, ptu_made.specs.Unread.{bytes_left, rest_in, told_in, given_in}};
 
 use crate::unread::Unread;
-use noted::Noted;
+use tally_base::Noted;
 
 /// A made file that was opened: what is still to come of it, what was given, and whether a read has
 /// said the end.

@@ -19,7 +19,7 @@ pub(crate) struct Unread {
 }
 
 impl Unread {
-    ghost use Rattle.ptu_made.specs.Unread.{held_in, bytes_left};
+    ghost use Rattle.ptu_made.specs.Unread.{HoldsMore, bytes_left};
 
     #[tactic(auto, unfolding(crate::specs::Records::made_file, minimal_file::specs::ShortFiles::minimal_file, minimal_file::specs::ShortFiles::short_header))]
     pub(crate) fn new(seed: u64, count: u64) -> Unread
@@ -37,9 +37,8 @@ impl Unread {
     /// Holds the bytes of a word after those that are held.
     fn hold(&mut self, word: u32)
         requires { self.old.end + 4 ≤ 112 }
-        ensures bytes { held_in self.new ≡ held_in self.old ++ to_le_bytes w32 word }
+        ensures holds { HoldsMore self.old self.new (to_le_bytes w32 word) }
         ensures end { self.new.end ≡ self.old.end + 4 }
-        ensures photons { self.new.photons ≡ self.old.photons }
     {
         self.held[self.end..self.end + 4].copy_from_slice(&word.to_le_bytes());
         self.end += 4;
@@ -48,8 +47,7 @@ impl Unread {
     /// Holds the bytes of a photon after those that are held.
     fn hold_photon(&mut self, photon: PhotonWords)
         requires { self.old.end + 8 ≤ 112 }
-        ensures bytes { held_in self.new ≡ held_in self.old ++ bytes_in (words_of_photon photon) }
-        ensures photons { self.new.photons ≡ self.old.photons }
+        ensures { HoldsMore self.old self.new (bytes_in (words_of_photon photon)) }
     {
         if photon.wraps {
             self.hold(WRAP);

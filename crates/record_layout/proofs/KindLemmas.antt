@@ -1,8 +1,8 @@
 -- How many of some words are of each kind.
 use Rattle.std.proofs.Common.{rules, ◌≡◌, ◌+◌, ◌-◌, ◌<◌, ◌≤◌, ℕ, zero, suc, get_or, take, List, [], ◌∷◌, ◌++◌, Bool, cond, length, map, refl, ◌∙◌, arith}
 use Rattle.std.{proofs.{Common.count_by, lemmas.List.{length-append, length-map, Sums.sum_by-append}}, specs.Int.{from_le_bytes, w32}}
-use Rattle.ptu_definitions.specs.{declared.records.Raw.{Raw, TheVariants.{Photon, Marker, Wrap, Reserved}}, Words.numbers, Kinds.{is_photon, is_marker}}
-use Rattle.{ptu_definitions.specs.Kinds.{is_wrap, is_reserved, counts_of}, record_layout.specs.Sums.{IsSplit, sum_of}}
+use Rattle.ptu_definitions.specs.{declared.records.{KindCounts.KindCounts, Raw.{Raw, TheVariants.{Photon, Marker, Wrap, Reserved}}}, Words.numbers}
+use Rattle.{ptu_definitions.specs.Kinds.{is_photon, is_marker, is_wrap, is_reserved, counts_of}, record_layout.specs.Sums.{IsSplit, sum_of}}
 
 count_by-append : {X : Type 0} (p : X → Bool) (xs ys : List X) → count_by p (xs ++ ys) ≡ count_by p xs + count_by p ys
 count_by-append p xs ys = sum_by-append (λ x. cond (p x) 1 0) xs ys
@@ -39,6 +39,14 @@ count_by-meanings p meaning (bytes ∷ words) = search (rules, arith, count_by-c
 
 pub length-meanings : (meaning : ℕ → Raw) (words : List (List ℕ)) → length (map meaning (numbers words)) ≡ length words
 length-meanings meaning words = length-map (numbers words) meaning ∙ length-map words (from_le_bytes w32)
+
+-- What is counted of words is as many records, each of one kind.
+module _ (meaning : ℕ → Raw) (words : List (List ℕ)) (counts : KindCounts) (is : counts ≡ counts_of (map meaning (numbers words))) where
+  pub counted_records : counts.records ≡ length words
+  counted_records = rw is (length-meanings meaning words)
+
+  pub counted_split : IsSplit counts
+  counted_split = rw is (counts_of-split (map meaning (numbers words)))
 
 -- The counts of three kinds are all that is to be counted.
 module _ (meaning : ℕ → Raw) (words : List (List ℕ)) (photons markers wraps : ℕ)

@@ -1,6 +1,6 @@
 // What words mean by the record type of their file.
-ghost use Rattle.std.specs.Prelude.{◌≡◌, length, map};
-ghost use Rattle.{ptu_definitions.specs.{Words.numbers, Kinds.counts_of, Layouts.meaning_of}, record_layout.specs.Sums.IsSplit};
+ghost use Rattle.std.specs.Prelude.{◌≡◌, map};
+ghost use Rattle.ptu_definitions.specs.{Words.numbers, Kinds.counts_of, Layouts.meaning_of};
 
 use crate::kinds::kinds_of;
 use crate::layout::RecordLayout;
@@ -54,9 +54,7 @@ fn decode_in<R: RecordLayout>(word: u32) -> Raw
 
 /// How many of the words are of each kind in a file of this type.
 pub(crate) fn kinds(record_type: RecordType, words: &[[u8; 4]]) -> KindCounts
-    ensures value { result ≡ counts_of (map (meaning_of record_type) (numbers words.now)) }
-    ensures records { result.records ≡ length words.now }
-    ensures split { IsSplit result }
+    ensures { result ≡ counts_of (map (meaning_of record_type) (numbers words.now)) }
 {
     in_layout!(record_type, kinds_of::<R>(words))
 }

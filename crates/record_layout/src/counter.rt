@@ -78,6 +78,7 @@ impl Counter {
     }
 
     /// Counts a piece that it has room for.
+    #[tactic(auto, using(crate::proofs::KindLemmas::counted_records, crate::proofs::KindLemmas::counted_split))]
     fn take(&mut self, piece: &[u8])
         requires going { was_refused self.old ≡ false }
         requires fits { length piece.now ≤ room self.old }

@@ -10,10 +10,9 @@ const BLOCK: usize = 1 << 30;
 
 /// How many of the words are of each kind in the layout `R`.
 #[inline]
+#[tactic(auto, using(crate::proofs::KindLemmas::counted_records, crate::proofs::KindLemmas::counted_split))]
 pub fn kinds_of<R: RecordLayout>(words: &[[u8; 4]]) -> KindCounts
-    ensures value { result ≡ counts_of (map R.meaning (numbers words.now)) }
-    ensures records { result.records ≡ length words.now }
-    ensures split { IsSplit result }
+    ensures { result ≡ counts_of (map R.meaning (numbers words.now)) }
 {
     let mut counts = KindCounts {
         records: 0,
@@ -35,9 +34,7 @@ pub fn kinds_of<R: RecordLayout>(words: &[[u8; 4]]) -> KindCounts
 /// several words at once.
 fn kinds_in_block<R: RecordLayout>(words: &[[u8; 4]]) -> KindCounts
     requires { length words.now < 2 ^ 32 }
-    ensures value { result ≡ counts_of (map R.meaning (numbers words.now)) }
-    ensures records { result.records ≡ length words.now }
-    ensures split { IsSplit result }
+    ensures { result ≡ counts_of (map R.meaning (numbers words.now)) }
 {
     let mut photons = 0u32;
     let mut markers = 0u32;

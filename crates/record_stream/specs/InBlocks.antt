@@ -58,5 +58,11 @@ module _ {T : Type 0} (g : Ghosts T) where
     pub cause : FailsOnce (g.faults old) (g.faults new) answer
     pub same : g.same old new
 
+  -- The events that wait were given before a late one, or that may pass them, and those that still wait can be given.
+  pub record GivesWay {N : ℕ} {X E : Type 0} (old new : T) (block block' : Block N) (answer : Result X E) : Type 0 where
+    pub gives : Gives old new (gathered block) (gathered block') answer
+    pub waits : Waits new block'
+    pub passed : MakesWay block block'
+
   pub goes_on-none : (t : T) (es : List Event) → GoesOn t t es es []
   goes_on-none t es = record { front = []; parts = rw append-nil (stands-same (on_time es)); follows = λ start m got. rw append-nil got; counted = omega arith; moved = omega arith; same_mode = refl }

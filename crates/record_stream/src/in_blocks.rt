@@ -1,7 +1,7 @@
 // Events in blocks.
 ghost use Rattle.std.{specs.Prelude.{◌≡◌, ◌+◌, ◌<◌, ◌≤◌, [], true, length, OnOk, OnErr}, proofs.Props.props};
 ghost use Rattle.{abs_time.proofs.Floors.kind_fits-prop, tally_base.{specs.{FaultCounts.FailsOnce, Columns.{sorted, gathered}}, proofs.Floors.in_order-prop}, record_stream.specs.InBlocks.GoesOn};
-ghost use Rattle.record_stream.specs.InBlocks.{Breaks, Gives, MakesWay, Waits};
+ghost use Rattle.record_stream.specs.InBlocks.{Breaks, Gives, GivesWay, Waits};
 
 use crate::ahead::Ahead;
 use crate::blocks::put_events;
@@ -57,10 +57,7 @@ pub(crate) fn give_before_late<S: EventTaker>(
     block: &mut Block<TABLE_BLOCK>,
 ) -> Result<(), Failed>
     requires waits { Waits S.EventTaker taker.old block.old }
-    ensures gives { Gives S.EventTaker taker.old taker.new (gathered block.old)
-        (gathered block.new) result }
-    ensures waits { Waits S.EventTaker taker.new block.new }
-    ensures passed { MakesWay S.EventTaker block.old block.new }
+    ensures { GivesWay S.EventTaker taker.old taker.new block.old block.new result }
 {
     if taker.lets_late_pass() {
         return Ok(());

@@ -2,8 +2,8 @@
 ghost use Rattle.std.specs.Prelude.{◌≡◌, ◌+◌, ◌*◌, ◌<◌, ◌≤◌, ◌++◌, ◌∷◌, [], List, ℕ, length, None, Some, OnOk, OnErr, IfErr, ◌≢◌, ◌&&◌, not, IsTrue, if◌then◌else◌, Err, true, false};
 ghost use Rattle.std.proofs.Props.{props};
 ghost use Rattle.{abs_time.{proofs.Floors.kind_fits-prop, specs.Placing.IsSmall}, tally_base.specs.{Limits.record_limit, declared.fault.Fault.{Fault, TheVariants.WriteFault}, FaultCounts.FailsOnce}};
-ghost use Rattle.{tally_base.specs.{FaultCounts.Rose, Events.is_ordered, Faults.{is_outside, fault_in}, Columns.gathered}, ptu_definitions.specs.{Kept.Marked, Streams.{reading, record_refusal}}};
-ghost use Rattle.{ptu_definitions.specs.{Streams.streamed, Layouts.Fits, Words.{numbers, words_of}, Headers.Shows}, record_stream.specs.Keeping.IsKeeping};
+ghost use Rattle.{tally_base.specs.{FaultCounts.Rose, Events.is_ordered, Faults.{is_outside, fault_in}, Columns.gathered}, ptu_definitions.specs.{Kept.Marked, Streams.{reading, streamed}}};
+ghost use Rattle.{ptu_definitions.specs.{Layouts.Fits, Words.numbers, Headers.Shows}, record_stream.specs.Keeping.IsKeeping};
 
 use crate::blocks::{FileOrder, take_words};
 use crate::columns_taker::TakesColumns;
@@ -40,7 +40,9 @@ pub struct RecordStream {
 }
 
 impl RecordStream {
-    ghost use Rattle.record_stream.{specs.OneMore.with_event, specs.Feeding.{Follows, Delivers, FedPiece}, specs.Standing.{how_of, given_by, greatest_of, refused_with, carried_by, kept_back_by, records_of, bytes_in, summary_in, clock_in, IsBehind, CarriesOn, HasStreamed, HasGivenNone, CanRead, Feeds, IsFollowed, StreamsOn, Stays}, specs.Ending.Ended, specs.Pieces.TakesOn};
+    ghost use Rattle.record_stream.specs.{OneMore.with_event, Feeding.{Follows, Delivers, FedPiece}, Standing.{how_of, given_by, greatest_of, refused_with, carried_by, kept_back_by, records_of}};
+    ghost use Rattle.record_stream.specs.{Standing.{bytes_in, summary_in, clock_in, IsBehind, CarriesOn, HasStreamed, HasGivenNone, CanRead, Feeds, IsFollowed, StreamsOn, Stays}, Ending.Ended};
+    ghost use Rattle.record_stream.specs.Pieces.{Passes};
 
     /// The stream of a file of this type, which was given no bytes. The greatest number of records is 1
     /// to 2^40, and at most 64 events may overtake one.
@@ -231,17 +233,7 @@ impl RecordStream {
 
     /// Takes a piece of the bytes, whose events nobody is given: it does the same as `feed`, and refuses the same.
     pub fn pass(&mut self, piece: &[u8]) -> Result<(), Fault>
-        ensures takes { TakesOn self.old self.new piece.now }
-        ensures answer { refused_with self.old ≡ None → (bytes : List ℕ) → HasStreamed self.old bytes
-            → fault_in result ≡ record_refusal (how_of self.old) (words_of (bytes ++ piece.now)) }
-        ensures kept { (fault : Fault) → refused_with self.old ≡ Some fault
-            → (result ≡ Err fault) × (self.new ≡ self.old) }
-        ensures refused { refused_with self.new ≡ fault_in result }
-        ensures counted { OnOk result (bytes_in self.new ≡ bytes_in self.old + length piece.now) }
-        ensures few { length (kept_back_by self.new) ≤ (how_of self.new).policy.settle }
-        ensures shown { (bytes : List ℕ) → HasStreamed self.old bytes
-            → IfErr result (λ fault. fault ≢ WriteFault → Shows (streamed (how_of self.old))
-            (bytes ++ piece.now) (Err fault)) }
+        ensures { Passes self.old self.new piece.now result }
     {
         if let Some(fault) = self.refused {
             return Err(fault);

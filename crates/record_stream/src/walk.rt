@@ -29,7 +29,8 @@ pub struct Walk {
 }
 
 impl Walk {
-    ghost use Rattle.record_stream.{specs.OneMore.with_event, specs.Feeding.{Follows, WasCalled}, specs.Walking.{how_of, given_by, KeepsPlace, IsBehind, CanGive, Gave}, specs.Keeping.IsKeeping, specs.Settling.{floor_in, CanWalk, ComesUp, IsReady, StaysKept, TellsAfterAny, Walks}, specs.Rows.{IsPlaced, CountsOne, KeepsGiven}};
+    ghost use Rattle.record_stream.specs.{OneMore.with_event, Feeding.{Follows, WasCalled}, Walking.{how_of, given_by, KeepsPlace, IsBehind, CanGive, Gave}, Keeping.IsKeeping, Settling.floor_in};
+    ghost use Rattle.record_stream.specs.{Settling.{CanWalk, ComesUp, IsReady, StaysKept, TellsAfterAny, Walks}, Rows.{IsPlaced, CountsOne, KeepsGiven}};
 
     /// Counts and places the record of the next word. Refuses it for all but a late event.
     #[inline(always)]

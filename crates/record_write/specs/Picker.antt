@@ -1,7 +1,7 @@
 -- What a picker stands for.
-use Rattle.std.specs.Prelude.{ℕ, ◌≡◌, ◌≤◌, Bool, true, false, List, [], ◌∷◌, ◌++◌, Result, is_ok}
-use Rattle.{tally_base.specs.{declared.{event.Event.Event, fault.Fault.Fault, header.Mode.Mode}, Events.is_photon}, ptu_definitions.specs.Layouts.KindFits}
-use Rattle.record_write.specs.{declared.picker.Picker.Picker, Picked.{last_time, photon_words}}
+use Rattle.std.specs.Prelude.{ℕ, ◌≡◌, ◌≤◌, Bool, true, false, List, [], ◌∷◌, ◌++◌, Result, is_ok, ◌↔◌, Err, OnOk, OnErr}
+use Rattle.{tally_base.specs.{declared.{event.Event.Event, fault.Fault.{Fault, TheVariants.PickTime}, header.Mode.Mode}, Events.is_photon}, ptu_definitions.specs.Layouts.KindFits}
+use Rattle.{record_write.specs.{declared.picker.Picker.Picker, Picked.{last_time, photon_words, is_too_late}, Writing.PickCause}, bench_io.specs.Sinks.SinkState}
 
 abbrev pub mode_of : Picker → Mode
 mode_of picker = picker.mode
@@ -53,3 +53,10 @@ pub record Closes (old new : Picker) : Type 0 where
 -- This holds of the words of a photon after those that the picker has picked.
 abbrev pub OnWordsOf : Picker → Event → (List ℕ → Type 0) → Type 0
 OnWordsOf picker e holds = (photons : List Event) → HasPicked picker photons → holds (photon_words (mode_of picker) photons e)
+
+-- A photon was picked and written, or refused: since its time is too late, or since a write failed.
+pub record TakesPhoton (old new : Picker) (e : Event) (before now : SinkState) (result : Result (Unit {0}) Fault) : Type 0 where
+  pub picks : OnOk result (Picks old new e)
+  pub late : (result ≡ Err (PickTime e.place)) ↔ (is_too_late (mode_of old) e.time ≡ true)
+  pub cause : PickCause e.place before now result
+  pub closes : OnErr result (Closes old new)

@@ -25,7 +25,7 @@ pub struct Picker {
 }
 
 impl Picker {
-    ghost use Rattle.record_write.specs.Picker.{mode_of, was_begun, HasPicked, Starts, IsNext, OnWordsOf, Picks, Closes};
+    ghost use Rattle.record_write.specs.Picker.{mode_of, was_begun, HasPicked, Starts, IsNext, OnWordsOf, Picks, Closes, TakesPhoton};
 
     /// A picker for a file of this mode, which has picked no photon.
     pub fn new(mode: Mode) -> Picker
@@ -65,31 +65,6 @@ impl Picker {
         }
     }
 
-    /// Puts the words of a photon into a block.
-    #[inline(always)]
-    fn put_words<O: Sink>(&self, e: &Event, block: &mut OutBuffer, out: &mut O) -> Result<(), Fault>
-        requires next { IsNext self.now e.now }
-        ensures puts { OnWordsOf self.now e.now (λ words. PutsOrCuts (O.state out.old)
-            (O.state out.new) block.old block.new words result) }
-        ensures late { (result ≡ Err (PickTime e.now.place)) ↔ (is_too_late (mode_of self.now) e.now.time ≡ true) }
-        ensures untouched { result ≡ Err (PickTime e.now.place) → (out.new ≡ out.old) × (block.new ≡ block.old) }
-        ensures cause { PickCause e.now.place (O.state out.old) (O.state out.new) result }
-    {
-        if is_too_late(self.mode, e.time) {
-            return Err(Fault::PickTime { place: e.place });
-        }
-        match e.kind {
-            EventKind::Photon { input, dtime } => {
-                let word = photon_word(self.mode, input, dtime, e.time);
-                match put_photon(self.mode, self.last, e.time, word, block, out) {
-                    Ok(()) => Ok(()),
-                    Err(Failed) => Err(Fault::WriteFault),
-                }
-            }
-            EventKind::Marker { .. } => unreachable!(),
-        }
-    }
-
     /// Puts a photon after those before it into a block, which passes it on to the sink.
     ///
     /// Its input must be at most 64 in T2 and 63 in T3, its dtime 0 in T2 and at most 32,767 in T3, and its
@@ -111,44 +86,43 @@ impl Picker {
         ensures cause { PickCause e.now.place (O.state out.old) (O.state out.new) result }
         ensures closes { OnErr result (Closes self.old self.new) }
     {
-        match self.put_words(e, block, out) {
-            Ok(()) => {
+        if is_too_late(self.mode, e.time) {
+            self.going = false;
+            return Err(Fault::PickTime { place: e.place });
+        }
+        match e.kind {
+            EventKind::Photon { input, dtime } => {
+                let word = photon_word(self.mode, input, dtime, e.time);
+                if put_photon(self.mode, self.last, e.time, word, block, out).is_err() {
+                    self.going = false;
+                    return Err(Fault::WriteFault);
+                }
                 self.last = e.time;
                 Ok(())
             }
-            Err(fault) => {
-                self.going = false;
-                Err(fault)
-            }
+            EventKind::Marker { .. } => unreachable!(),
         }
     }
 
     /// Writes a photon after those before it, as `put` does, but at once.
     pub fn photon<O: Sink>(&mut self, e: &Event, out: &mut O) -> Result<(), Fault>
         requires next { IsNext self.old e.now }
-        ensures picks { OnOk result (Picks self.old self.new e.now) }
+        ensures takes { TakesPhoton self.old self.new e.now (O.state out.old) (O.state out.new) result }
         ensures writes { OnWordsOf self.old e.now (λ words. WritesOrCuts (O.state out.old) (O.state out.new) words result) }
-        ensures late { (result ≡ Err (PickTime e.now.place)) ↔ (is_too_late (mode_of self.old) e.now.time ≡ true) }
         ensures untouched { result ≡ Err (PickTime e.now.place) → out.new ≡ out.old }
-        ensures cause { PickCause e.now.place (O.state out.old) (O.state out.new) result }
-        ensures closes { OnErr result (Closes self.old self.new) }
     {
+        let last = self.last;
         let mut block = OutBuffer::new();
-        match self.put_words(e, &mut block, out) {
+        match self.put(e, &mut block, out) {
             Ok(()) => match block.flush(out) {
-                Ok(()) => {
-                    self.last = e.time;
-                    Ok(())
-                }
+                Ok(()) => Ok(()),
                 Err(Failed) => {
+                    self.last = last;
                     self.going = false;
                     Err(Fault::WriteFault)
                 }
             },
-            Err(fault) => {
-                self.going = false;
-                Err(fault)
-            }
+            Err(fault) => Err(fault),
         }
     }
 }

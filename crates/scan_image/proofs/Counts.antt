@@ -2,7 +2,7 @@
 use Rattle.std.proofs.Common.{◌≡◌, ◌∙◌, ℕ, ◌+◌, Bool, false, ◌&&◌, cond, [], ◌∷◌, ◌++◌, ap, arith, Option, ◌≤◌, true, List, sym, subst, refl, if◌then◌else◌}
 use Rattle.std.{proofs.{Common.rules, lemmas.List.{append-nil, Elements.filter_map-append}, Math.Path.fun_ext}, specs.List.cons_option}
 use Rattle.tally_base.specs.{declared.event.{Event.Event, EventKind.TheVariants.{Photon, Marker}}, Events.is_in, Settings.ImageView, Tally.History}
-use Rattle.{tcspc_hist.specs.HistogramCounts.dtime_passes, marker_map.specs.{Places.{mark, Mark, place_of}, declared.lines.Lines.Lines, Lines.Saw}}
+use Rattle.{tcspc_hist.specs.HistogramCounts.dtime_passes, scan_image.specs.{Places.{mark, Mark, place_of}, declared.lines.Lines.Lines, Lines.Saw}}
 use Rattle.scan_image.specs.{ImageCounts.{mark_at, markers, is_met, count_met}, Pushed.count_behind-push, Behind.{IsBehind, HowMany, with_photon}}
 
 pub markers-marker : (h : History) (x : Event × ℕ) (bits : ℕ) → x.0.kind ≡ Marker bits → markers (h ++ x ∷ []) ≡ markers h ++ mark bits x.0.time ∷ []

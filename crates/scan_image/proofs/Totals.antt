@@ -3,8 +3,8 @@ use Rattle.std.proofs.Common.{◌≡◌, ◌∙◌, ℕ, ◌+◌, ◌-◌, ◌<�
 use Rattle.std.{proofs.{Common.{Some, is_none, sum_by, rules}, lemmas.List.{append-nil, Sums.sum_by_push}}, specs.declared.option.Option.Option}
 use Rattle.{std.specs.List.range_with_len, tally_base.{proofs.Sums.{sum_same, sum_plus, sum_none, in_range}, specs.declared.event.Event.Event}}
 use Rattle.tally_base.specs.{declared.event.EventKind.{EventKind, TheVariants.{Photon, Marker}}, Events.{is_photon, is_photon_kind, is_in}, Settings.ImageView}
-use Rattle.{tally_base.specs.Tally.{History, photons_of_group}, marker_map.specs.Places.{Mark, column_in, place_of}, scan_image.specs.ImageCounts.markers}
-use Rattle.scan_image.{specs.{ImageCounts.{is_at, in_cell, count_outside, in_all_cells}, Pushed.one_if}, proofs.Counts.{met-photon, met-marker}}
+use Rattle.{tally_base.specs.Tally.{History, photons_of_group}, scan_image.specs.{Places.{Mark, column_in, place_of}, ImageCounts.{markers, is_at, in_cell}}}
+use Rattle.scan_image.{specs.{ImageCounts.{count_outside, in_all_cells}, Pushed.one_if}, proofs.Counts.{met-photon, met-marker}}
 
 -- a place is inside the image
 abbrev pub Inside : ImageView → Option (ℕ × ℕ) → Type 0

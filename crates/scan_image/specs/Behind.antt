@@ -1,8 +1,8 @@
 -- The counts of an image, and counts and lines after the events of a block.
 use Rattle.std.specs.Prelude.{◌≡◌, ℕ, ◌+◌, ◌*◌, ◌<◌, Bool, List, Option, is_none, slice_index, if◌then◌else◌, ◌≤◌, ◌++◌, true, length}
 use Rattle.tally_base.specs.{Settings.ImageView, declared.{settings.ImageSet.ImageSet, block.Block.Block}, Tally.{History, floor_after}, Columns.{count, code_at, time_at, item, rows, gathered}}
-use Rattle.{tally_base.specs.{Columns.IsSorted, Limits.record_limit}, marker_map.specs.{declared.{lines.Lines.Lines, strip.Strip.Strip}, Lines.{Saw, image_of, markers_given, line_start}, Places.Mark}}
-use Rattle.{marker_map.specs.{Places.place_of, Strips.{place_on, width_of, height_of}}, scan_image.specs.ImageCounts.{is_at, markers, count_met}}
+use Rattle.{tally_base.specs.{Columns.IsSorted, Limits.record_limit}, scan_image.specs.{declared.{lines.Lines.Lines, strip.Strip.Strip}, Lines.{Saw, image_of, markers_given, line_start}, Places.Mark}}
+use Rattle.scan_image.specs.{Places.place_of, Strips.{place_on, width_of, height_of}, ImageCounts.{is_at, markers, count_met}}
 
 -- how many photons have a place, or none, and a dtime that pass a test
 abbrev pub HowMany : Type 0
@@ -50,6 +50,13 @@ ComesFrom block from start = IsSorted block × (from ≤ count block) × ((i : �
 -- the place of the next marker from a place on, or the end of the block
 abbrev pub StopsAt : {N : ℕ} → Block N → ℕ → ℕ → Type 0
 StopsAt block from at = (from ≤ at) × (at ≤ count block) × (at < count block → 256 ≤ code_at block at)
+
+-- Photons were counted from one place of a block to another, where the next marker stands or the block ends: no more of them than places, and the
+-- counts are still of the size of the image.
+pub record RunsTo {N : ℕ} (block : Block N) (from at : ℕ) (fits : Type 0) (total total' : ℕ) : Type 0 where
+  pub fit : fits
+  pub stops : StopsAt block from at
+  pub few : total' + from ≤ total + at
 
 -- The counts are of the size of the image, and have room for so many photons more.
 pub record HasRoom (fits : Type 0) (total more : ℕ) : Type 0 where

@@ -3,8 +3,8 @@ use Rattle.std.{specs.Prelude.{◌≡◌, true, length, ℕ, ◌≤◌, ◌+◌,
 use Rattle.std.proofs.lemmas.List.Elements.{filter_map-append}
 use Rattle.tally_base.specs.{declared.{settings.ImageSet.ImageSet, event.Event.Event}, Settings.{PartSettings, image_view, ImageView, entries, PartSettings.ImageSettings}, Tally.History}
 use Rattle.{tally_base.{specs.{Tally.greatest_time, Events.{is_photon, is_in}}, proofs.Sorted.{same_length, same_greatest}}, tcspc_hist.specs.Hist.no_dtime}
-use Rattle.{marker_map.specs.{declared.lines.Lines.Lines, Lines.Saw, Places.place_of}, scan_image.specs.{declared.image.Image.Image, Behind.{Counted, IsBehind, HowMany}, ImageCounts.mark_at}}
-use Rattle.scan_image.specs.{ImageCounts.{markers, count_behind, is_met, count_met}, Pushed.count_behind-push}
+use Rattle.scan_image.specs.{declared.{lines.Lines.Lines, image.Image.Image}, Lines.Saw, Places.place_of, Behind.{Counted, IsBehind, HowMany}, ImageCounts.{mark_at, markers, count_behind, is_met}}
+use Rattle.scan_image.specs.{ImageCounts.count_met, Pushed.count_behind-push}
 
 -- what it was opened with
 abbrev pub set_of : Image → ImageSet

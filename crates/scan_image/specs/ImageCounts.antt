@@ -1,7 +1,7 @@
 -- The counts of an image over the events that it is given, and their sum.
 use Rattle.std.specs.{Prelude.{ℕ, Bool, false, ◌&&◌, ◌==◌, List, Option, None, Some, is_none, length, take, count_by, filter_map, sum_by}, List.{range_with_len, slice_get}, Option.option_map_or}
 use Rattle.tally_base.specs.{declared.event.{Event.Event, EventKind.{EventKind, TheVariants.{Photon, Marker}}}, Events.is_in, Settings.ImageView, Tally.History}
-use Rattle.{tcspc_hist.specs.HistogramCounts.dtime_passes, marker_map.specs.Places.{Mark, mark, place_of}}
+use Rattle.{tcspc_hist.specs.HistogramCounts.dtime_passes, scan_image.specs.Places.{Mark, mark, place_of}}
 
 abbrev pub mark_at : ℕ → EventKind → Option Mark
 mark_at time (Photon input dtime) = None

@@ -1,3 +1,6 @@
+pub mod Places
+pub mod Lines
+pub mod Strips
 pub mod ImageCounts
 pub mod Image
 pub mod Behind

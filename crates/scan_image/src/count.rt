@@ -1,10 +1,11 @@
 // The photons of a block, counted by their places.
 ghost use Rattle.std.specs.Prelude.{◌≡◌, ◌+◌, ◌≤◌, true, length};
-ghost use Rattle.{tally_base.specs.{Settings.image_view, Limits.record_limit, Columns.{count, gathered, events_in, IsSorted}, Tally.InOrder}, marker_map.specs.Lines.{image_of, line_start}};
-ghost use Rattle.{marker_map.specs.Strips.start_of, scan_image.specs.Behind.{CountsMore, CountsOn, CountsOnStrip, IsOfSize, ComesFrom, StopsAt, HasRoom, Gained, LinesHaveRoom, LinesGoOn}};
+ghost use Rattle.{tally_base.specs.{Settings.image_view, Limits.record_limit, Columns.{count, gathered, events_in, IsSorted}, Tally.InOrder}, scan_image.specs.Lines.{image_of, line_start}};
+ghost use Rattle.scan_image.specs.{Strips.start_of, Behind.{CountsMore, CountsOn, CountsOnStrip, IsOfSize, ComesFrom, RunsTo, HasRoom, Gained, LinesHaveRoom, LinesGoOn}};
 
+use crate::lines::Lines;
 use crate::pixels::Pixels;
-use marker_map::{Lines, Strip, Way};
+use crate::strip::{Strip, Way};
 use tally_base::{Block, TABLE_BLOCK};
 
 /// Counts the photons of a block.
@@ -53,9 +54,7 @@ fn count_run<P: Pixels>(
     requires of_set { image_of lines.now ≡ image_view (P.image pixels.now) }
     ensures follows { CountsOn (P.over pixels.now counts.old) (P.over pixels.now counts.new)
         (image_view (P.image pixels.now)) lines.now block.now from result }
-    ensures fit { P.fits pixels.now counts.new }
-    ensures stops { StopsAt block.now from result }
-    ensures few { P.total counts.new + from ≤ P.total counts.old + result }
+    ensures runs { RunsTo block.now from result (P.fits pixels.now counts.new) (P.total counts.old) (P.total counts.new) }
 {
     let strip = lines.strip();
     if strip.is_backwards() {
@@ -79,9 +78,7 @@ fn count_on<P: Pixels>(
     requires of_set { IsOfSize (P.image pixels.now) strip.now }
     ensures follows { CountsOnStrip (P.over pixels.now counts.old) (P.over pixels.now counts.new)
         (image_view (P.image pixels.now)) strip.now block.now from result }
-    ensures fit { P.fits pixels.now counts.new }
-    ensures stops { StopsAt block.now from result }
-    ensures few { P.total counts.new + from ≤ P.total counts.old + result }
+    ensures runs { RunsTo block.now from result (P.fits pixels.now counts.new) (P.total counts.old) (P.total counts.new) }
 {
     // Copies, so that no field is read again for each photon.
     let own = *pixels;

@@ -1,10 +1,10 @@
 // An image of a scan.
 ghost use Rattle.std.specs.Prelude.{◌≡◌, ◌+◌, ◌*◌, ◌<◌, ◌≤◌, vec_len, length, sum, IfOk, [], false};
-ghost use Rattle.{tally_base.specs.{Settings.{image_view, PartSettings.ImageSettings}, Tally.History, Limits.record_limit}, marker_map.specs.Lines.{image_of, markers_given, line_start}};
+ghost use Rattle.{tally_base.specs.{Settings.{image_view, PartSettings.ImageSettings}, Tally.History, Limits.record_limit}, scan_image.specs.Lines.{image_of, markers_given, line_start}};
 
 use crate::count::count_block;
+use crate::lines::Lines;
 use crate::pixels::{PixelCounts, Pixels, cell_of};
-use marker_map::Lines;
 use std::alloc::{AllocError, Global};
 use std::sync::ledger::Ledger;
 use tally_base::{Block, ImageSet, Steps, TABLE_BLOCK, Tally};

@@ -34,7 +34,7 @@ pub struct Settle {
 }
 
 impl Settle {
-    ghost use Rattle.settle.{specs.Passing.{ComesBehind, HasPassed, HasPushed, KeepsOrEmits, MovesTo, StandsBehind}, specs.Standing.{reach_of, kept_back, last_time, next_place, was_popped, HasSettled}};
+    ghost use Rattle.settle.specs.{Passing.{ComesBehind, HasPassed, HasPushed, KeepsOrEmits, MovesTo, StandsBehind}, Standing.{reach_of, kept_back, last_time, next_place, was_popped, HasSettled}};
 
     /// Keeps back at most so many events, and none yet.
     pub fn new(k: u32) -> Settle

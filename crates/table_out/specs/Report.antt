@@ -1,11 +1,11 @@
 -- What the report of a run prints.
-use Rattle.std.specs.{Str.bytes_eq, Prelude.{ℕ, ◌≡◌, ◌+◌, Bool, List, [], ◌∷◌, ◌++◌, count_by, map, codes, decimal}}
-use Rattle.tally_base.specs.{declared.header.Header.Header, RecordTypes.name_of, Settings.{PartSettings, PartSettings.{HistSettings, TraceSettings, StartStopSettings, CoincidenceSettings}}}
-use Rattle.{tally_base.specs.{Settings.PartSettings.{ImageSettings, CorrelationSettings, CubeSettings, FoldSettings}, Tally.History}, ptu_definitions.specs.declared.records.Summary.Summary}
-use Rattle.{ptu_definitions.specs.Prefixes.each, tally_engine.specs.{declared.{part.Part.Part, results.Results.Results}, contracts.part.PartTally.TheImpl.ghosts}, list_out.specs.Lines.line}
-use Rattle.{list_out.specs.Lines.{announced, bits_text, time_text}, table_out.specs.{Printed.{Printed, table_lines}, Histogram.histogram_printed, Trace.trace_printed, StartStop.startstop_printed}}
-use Rattle.{table_out.specs.{Coincidence.coincidence_printed, Image.image_printed, Correlation.correlation_printed, Cube.cube_printed, Fold.fold_printed}, bench_io.specs.Sinks.{SinkState, WroteShort}}
-use Rattle.bench_io.specs.Sinks.{PassesOn}
+use Rattle.std.specs.{Str.bytes_eq, Prelude.{ℕ, ◌≡◌, ◌+◌, Bool, List, [], ◌∷◌, ◌++◌, count_by, map, codes, decimal, Result, OnOk, OnErr}}
+use Rattle.tally_base.specs.{declared.{header.Header.Header, slot.Failed.Failed}, RecordTypes.name_of, Settings.{PartSettings, PartSettings.{HistSettings, TraceSettings, StartStopSettings}}}
+use Rattle.tally_base.specs.{Settings.PartSettings.{CoincidenceSettings, ImageSettings, CorrelationSettings, CubeSettings, FoldSettings}, Tally.History}
+use Rattle.{ptu_definitions.specs.{declared.records.Summary.Summary, Prefixes.each}, tally_engine.specs.{declared.{part.Part.Part, results.Results.Results}, contracts.part.PartTally.TheImpl.ghosts}}
+use Rattle.{list_out.specs.Lines.{line, announced, bits_text, time_text}, table_out.specs.{Printed.{Printed, table_lines}, Histogram.histogram_printed, Trace.trace_printed}}
+use Rattle.table_out.specs.{StartStop.startstop_printed, Coincidence.coincidence_printed, Image.image_printed, Correlation.correlation_printed, Cube.cube_printed, Fold.fold_printed}
+use Rattle.bench_io.specs.Sinks.{SinkState, WroteShort, PassesOn, Wrote, CountsFault}
 
 -- what stands before the tables
 unfoldable pub head_text : Header → Summary → List ℕ
@@ -78,3 +78,15 @@ PutsText {A} holds text old new held now = (h : A) → holds h → PassesOn old 
 -- The sink has failed, and has only a beginning of them.
 abbrev pub CutsText : {A : Type 0} → (A → Type 0) → (A → List ℕ) → SinkState → SinkState → List ℕ → Type 0
 CutsText {A} holds text old new held = (h : A) → holds h → WroteShort old new (held ++ text h)
+
+-- What came of putting such a text after the bytes that a block held.
+pub record Puts {A : Type 0} (holds : A → Type 0) (text : A → List ℕ) (old new : SinkState) (held now : List ℕ) (result : Result (Unit {0}) Failed) : Type 0 where
+  pub all : OnOk result (PutsText holds text old new held now)
+  pub short : OnErr result (CutsText holds text old new held)
+  pub cause : CountsFault old new result
+
+-- What came of writing a report, whatever its tables stand for.
+pub record WritesReport (results : Results) (old new : SinkState) (result : Result (Unit {0}) Failed) : Type 0 where
+  pub text : OnOk result ((tables : List Table) → EachHolds results.parts.items tables → Wrote old new (report_of results tables))
+  pub short : OnErr result ((tables : List Table) → EachHolds results.parts.items tables → WroteShort old new (report_of results tables))
+  pub cause : CountsFault old new result

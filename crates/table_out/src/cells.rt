@@ -1,7 +1,7 @@
 // The lines of a table of cells.
 ghost use Rattle.std.specs.Prelude.{◌≡◌, ◌<◌, ◌≤◌, true, length, OnOk, OnErr, codes, decimal};
 ghost use Rattle.{bench_io.specs.Sinks.CountsFault, tally_base.specs.Tally.History, list_out.specs.Lines.line, table_out.specs.Printed.{cell_line, pair_line, row_lines, cell_lines, first_line}};
-ghost use Rattle.table_out.specs.Report.{PutsText, CutsText, printed, part_text};
+ghost use Rattle.table_out.specs.Report.{PutsText, CutsText, printed, part_text, Puts};
 
 use arrayvec::ArrayVec;
 use bench_io::{OutBuffer, Sink};
@@ -87,13 +87,8 @@ fn put_row<T: Prints, O: Sink>(
 ) -> Result<(), Failed>
     requires closed { T.closed table.now ≡ true }
     requires row { row < (printed (T.settings table.now)).rows }
-    ensures all { OnOk result (PutsText (T.holds table.now)
-        (row_lines (printed (T.settings table.now)) row)
-        (O.state out.old) (O.state out.new) block.old block.new) }
-    ensures short { OnErr result (CutsText (T.holds table.now)
-        (row_lines (printed (T.settings table.now)) row)
-        (O.state out.old) (O.state out.new) block.old) }
-    ensures cause { CountsFault (O.state out.old) (O.state out.new) result }
+    ensures { Puts (T.holds table.now) (row_lines (printed (T.settings table.now)) row)
+        (O.state out.old) (O.state out.new) block.old block.new result }
 {
     let mut line = [0; LINE_SIZE];
     for column in 0..table.column_count(row) {
@@ -105,13 +100,8 @@ fn put_row<T: Prints, O: Sink>(
 /// Puts the lines of the cells, row by row.
 fn put_rows<T: Prints, O: Sink>(table: &T, block: &mut OutBuffer, out: &mut O) -> Result<(), Failed>
     requires closed { T.closed table.now ≡ true }
-    ensures all { OnOk result (PutsText (T.holds table.now)
-        (cell_lines (printed (T.settings table.now)))
-        (O.state out.old) (O.state out.new) block.old block.new) }
-    ensures short { OnErr result (CutsText (T.holds table.now)
-        (cell_lines (printed (T.settings table.now)))
-        (O.state out.old) (O.state out.new) block.old) }
-    ensures cause { CountsFault (O.state out.old) (O.state out.new) result }
+    ensures { Puts (T.holds table.now) (cell_lines (printed (T.settings table.now)))
+        (O.state out.old) (O.state out.new) block.old block.new result }
 {
     for row in 0..table.row_count() {
         put_row(table, row, block, out)?;
@@ -140,13 +130,8 @@ pub(crate) fn put_table<T: Prints, O: Sink>(
     out: &mut O,
 ) -> Result<(), Failed>
     requires closed { T.closed table.now ≡ true }
-    ensures all { OnOk result (PutsText (T.holds table.now)
-        (part_text number (T.settings table.now))
-        (O.state out.old) (O.state out.new) block.old block.new) }
-    ensures short { OnErr result (CutsText (T.holds table.now)
-        (part_text number (T.settings table.now))
-        (O.state out.old) (O.state out.new) block.old) }
-    ensures cause { CountsFault (O.state out.old) (O.state out.new) result }
+    ensures { Puts (T.holds table.now) (part_text number (T.settings table.now))
+        (O.state out.old) (O.state out.new) block.old block.new result }
 {
     block.put(out, first_line(number, table).as_slice())?;
     put_rows(table, block, out)?;

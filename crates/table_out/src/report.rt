@@ -1,7 +1,7 @@
 // The report of a run.
 ghost use Rattle.std.specs.Prelude.{◌≡◌, ◌+◌, ◌≤◌, true, List, count_by, OnOk, OnErr, IfErr};
 ghost use Rattle.{bench_io.specs.Sinks.{CountsFault, Wrote, WroteShort}, tally_engine.specs.Parts.{settings_in, AllClosed}, table_out.specs.Report.{Table, EachHolds, printed, same_kind, part_text}};
-ghost use Rattle.table_out.specs.Report.{parts_text, report_of, PutsText, CutsText};
+ghost use Rattle.table_out.specs.Report.{parts_text, report_of, PutsText, CutsText, Puts, WritesReport};
 
 use crate::cells::{Prints, put_table};
 use crate::report_head::report_head;
@@ -44,13 +44,8 @@ fn put_part<O: Sink>(
     out: &mut O,
 ) -> Result<(), Failed>
     requires closed { ⟦<Part as Tally>⟧.closed part.now ≡ true }
-    ensures all { OnOk result (PutsText (⟦<Part as Tally>⟧.holds part.now)
-        (part_text number (⟦<Part as Tally>⟧.settings part.now))
-        (O.state out.old) (O.state out.new) block.old block.new) }
-    ensures short { OnErr result (CutsText (⟦<Part as Tally>⟧.holds part.now)
-        (part_text number (⟦<Part as Tally>⟧.settings part.now))
-        (O.state out.old) (O.state out.new) block.old) }
-    ensures cause { CountsFault (O.state out.old) (O.state out.new) result }
+    ensures { Puts (⟦<Part as Tally>⟧.holds part.now) (part_text number (⟦<Part as Tally>⟧.settings part.now))
+        (O.state out.old) (O.state out.new) block.old block.new result }
 {
     in_part!(part, table => put_table(number, table, block, out))
 }
@@ -58,10 +53,8 @@ fn put_part<O: Sink>(
 /// Puts the lines of all tables.
 fn put_parts<O: Sink>(parts: &[Part], block: &mut OutBuffer, out: &mut O) -> Result<(), Failed>
     requires closed { AllClosed parts.now }
-    ensures all { OnOk result (PutsText (EachHolds parts.now) parts_text
-        (O.state out.old) (O.state out.new) block.old block.new) }
-    ensures short { OnErr result (CutsText (EachHolds parts.now) parts_text (O.state out.old) (O.state out.new) block.old) }
-    ensures cause { CountsFault (O.state out.old) (O.state out.new) result }
+    ensures { Puts (EachHolds parts.now) parts_text
+        (O.state out.old) (O.state out.new) block.old block.new result }
 {
     for (place, part) in parts.iter().enumerate() {
         let number = number_of(&parts[..place], part);
@@ -73,13 +66,7 @@ fn put_parts<O: Sink>(parts: &[Part], block: &mut OutBuffer, out: &mut O) -> Res
 /// Writes the whole report through a block.
 fn put_report<O: Sink>(results: &Results, out: &mut O) -> Result<(), Failed>
     requires closed { AllClosed results.now.parts.items }
-    ensures text { OnOk result ((tables : List Table) → EachHolds results.now.parts.items tables
-        → Wrote (O.state out.old) (O.state out.new)
-        (report_of results.now tables)) }
-    ensures short { OnErr result ((tables : List Table) → EachHolds results.now.parts.items tables
-        → WroteShort (O.state out.old) (O.state out.new)
-        (report_of results.now tables)) }
-    ensures cause { CountsFault (O.state out.old) (O.state out.new) result }
+    ensures { WritesReport results.now (O.state out.old) (O.state out.new) result }
 {
     let mut block = OutBuffer::new();
     let head = report_head(&results.header, &results.summary);

@@ -1,7 +1,7 @@
-// Places of photons after known markers: the test of `marker_map`.
+// Places of photons after known markers: the test of the lines of `scan_image`.
 use crate::given::{Given, events_of, halves, holds, plan_of, same};
 use crate::rows::PLACES;
-use marker_map::Lines;
+use scan_image::Lines;
 use std::alloc::Global;
 use std::test::Fail;
 use tally_base::{EventKind, ImageSet};

@@ -40,6 +40,12 @@ count b = b.len
 abbrev pub sorted : {N : ℕ} → Block N → ℕ
 sorted b = b.sorted
 
+-- It keeps its events, of which so many have their groups now.
+pub record HasSorted {N : ℕ} (old new : Block N) (ready : ℕ) : Type 0 where
+  pub same : (i : ℕ) → event_at new i ≡ event_at old i
+  pub count : count new ≡ count old
+  pub sorted : sorted new ≡ ready
+
 -- each of its events has its groups
 abbrev pub IsSorted : {N : ℕ} → Block N → Type 0
 IsSorted b = b.sorted ≡ b.len

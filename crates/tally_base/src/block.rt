@@ -29,7 +29,8 @@ pub struct Block<const N: usize> {
 }
 
 impl<const N: usize> Block<N> {
-    ghost use Rattle.tally_base.{specs.Events.{is_photon, is_in}, specs.Gates.side_of, specs.Columns.{events_in, IsSorted, count, sorted, event_at, groups_at, mark_at, code_at, dtime_at, time_at, item, gathered, event_by, written, row, rows}, specs.Tally.floor_after};
+    ghost use Rattle.tally_base.specs.{Events.{is_photon, is_in}, Gates.side_of, Columns.{HasSorted, events_in, IsSorted, count, sorted, event_at, groups_at, mark_at, code_at, dtime_at, time_at}};
+    ghost use Rattle.tally_base.specs.{Columns.{item, gathered, event_by, written, row, rows}, Tally.floor_after};
 
     /// No events.
     pub fn new() -> Block<N>
@@ -229,11 +230,9 @@ impl<const N: usize> Block<N> {
         requires inside { at < count self.old }
         requires next { at ≡ sorted self.old }
         requires marker { 256 ≤ code_at self.old at → groups ≡ 0 }
-        ensures same { (i : ℕ) → event_at self.new i ≡ event_at self.old i }
-        ensures count { count self.new ≡ count self.old }
+        ensures kept { HasSorted self.old self.new (at + 1) }
         ensures there { groups_at self.new at ≡ groups }
         ensures before { (i : ℕ) → i < at → groups_at self.new i ≡ groups_at self.old i }
-        ensures sorted { sorted self.new ≡ at + 1 }
     {
         self.groups[at] = groups;
         self.sorted = at + 1;
@@ -245,10 +244,8 @@ impl<const N: usize> Block<N> {
     pub fn put_all(&mut self, groups: &[u64; N])
         requires { (i : ℕ) → i < count self.old → 256 ≤ code_at self.old i
             → slice_index groups.now i ≡ 0 }
-        ensures same { (i : ℕ) → event_at self.new i ≡ event_at self.old i }
-        ensures count { count self.new ≡ count self.old }
+        ensures kept { HasSorted self.old self.new (count self.old) }
         ensures there { (i : ℕ) → groups_at self.new i ≡ slice_index groups.now i }
-        ensures sorted { sorted self.new ≡ count self.old }
     {
         self.groups = *groups;
         self.sorted = self.len;
@@ -258,14 +255,12 @@ impl<const N: usize> Block<N> {
     /// them, where markers are looked up.
     #[inline(always)]
     pub fn sort_by(&mut self, groups: &[u64; 257])
-        requires unsorted { sorted self.old ≡ 0 }
-        requires markers { slice_index groups.now 256 ≡ 0 }
-        ensures same { (i : ℕ) → event_at self.new i ≡ event_at self.old i }
-        ensures count { count self.new ≡ count self.old }
+        requires { slice_index groups.now 256 ≡ 0 }
+        ensures kept { HasSorted self.old self.new (count self.old) }
         ensures there { (i : ℕ) → i < count self.old
             → groups_at self.new i ≡ slice_index groups.now (min (code_at self.old i) 256) }
-        ensures sorted { sorted self.new ≡ count self.old }
     {
+        self.sorted = 0;
         let len = self.len.min(N);
         let eights = len / 8;
         look_up(&self.marks, groups, &mut self.groups, eights);
@@ -281,15 +276,13 @@ impl<const N: usize> Block<N> {
     /// then of those whose are, and none after them, where markers are looked up.
     #[inline(always)]
     pub fn sort_by_gate(&mut self, gate: (u16, u16), groups: &[[u64; 2]; 257])
-        requires unsorted { sorted self.old ≡ 0 }
-        requires markers { slice_index_or groups.now 256 [] ≡ 0 ∷ 0 ∷ [] }
-        ensures same { (i : ℕ) → event_at self.new i ≡ event_at self.old i }
-        ensures count { count self.new ≡ count self.old }
+        requires { slice_index_or groups.now 256 [] ≡ 0 ∷ 0 ∷ [] }
+        ensures kept { HasSorted self.old self.new (count self.old) }
         ensures there { (i : ℕ) → i < count self.old → groups_at self.new i
             ≡ slice_index (slice_index_or groups.now (min (code_at self.old i) 256) [])
             (side_of gate (dtime_at self.old i)) }
-        ensures sorted { sorted self.new ≡ count self.old }
     {
+        self.sorted = 0;
         for at in 0..self.len.min(N) {
             let dtime = dtime_in(self.marks[at]);
             // No branch on the dtime, which is as good as random from photon to photon.

@@ -158,27 +158,36 @@ fn put_reason(into: &mut ArrayVec<u8, 96>, fault: &Fault)
         Fault::OutOfMemory => put_text(into, b"out of memory"),
         Fault::PlanTooLong => put_text(into, b"plan longer than 65536 bytes"),
         Fault::PlanSyntax => put_text(into, b"plan is not TOML"),
-        Fault::PlanRule { rule, index } => put_plan_rule(into, *rule, *index),
-        Fault::PlanMode { kind, index, mode } => put_plan_mode(into, *kind, *index, *mode),
+        Fault::PlanRule { rule, index } => put_text(into, plan_rule_text(*rule, *index).as_slice()),
+        Fault::PlanMode { kind, index, mode } => put_text(
+            into,
+            plan_mode_text(*kind, *index, *mode).as_slice(),
+        ),
         Fault::BadMagic => put_text(into, b"not a PTU file"),
         Fault::TruncatedHeader { bytes } => {
             put_around(into, b"header cut after ", *bytes, b" bytes");
         }
-        Fault::TagType { tag, code } => put_tag_type(into, *tag, *code),
-        Fault::TagLength { tag, length } => put_tag_length(into, *tag, *length),
+        Fault::TagType { tag, code } => put_text(into, tag_type_text(*tag, *code).as_slice()),
+        Fault::TagLength { tag, length } => put_text(
+            into,
+            tag_length_text(*tag, *length).as_slice(),
+        ),
         Fault::NoRecordType => put_text(into, b"no record type"),
-        Fault::UnknownRecordType { value } => put_record_type(into, *value),
+        Fault::UnknownRecordType { value } => put_text(into, record_type_text(*value).as_slice()),
         Fault::HeaderLimit => put_text(into, b"header longer than 16777216 bytes"),
         Fault::TruncatedRecord { bytes } => {
             put_around(into, b"", *bytes as u64, b" bytes of a record at the end");
         }
-        Fault::ReservedRecord { place, word } => put_reserved(into, *place, *word),
+        Fault::ReservedRecord { place, word } => put_text(
+            into,
+            reserved_text(*place, *word).as_slice(),
+        ),
         Fault::BackwardTime {
             place,
             time,
             before,
         } => {
-            put_backward(into, *place, *before, *time);
+            put_text(into, backward_text(*place, *before, *time).as_slice());
         }
         Fault::RecordLimit { limit } => put_around(into, b"more than ", *limit, b" records"),
         Fault::TimeLimit { place } => put_record(into, *place, b" passes the greatest time"),
@@ -220,83 +229,82 @@ fn put_record(into: &mut ArrayVec<u8, 96>, place: u64, behind: &[u8])
     put_around(into, b"record ", place, behind);
 }
 
-fn put_plan_rule(into: &mut ArrayVec<u8, 96>, rule: u8, index: u16)
-    requires { array_vec_len into.old ≤ 5 }
-    ensures items { into.new.items ≡ into.old.items ++ reason_of (Fault.PlanRule rule index) }
-    ensures len { array_vec_len into.new ≤ array_vec_len into.old + 87 }
+fn plan_rule_text(rule: u8, index: u16) -> ArrayVec<u8, 87>
+    ensures { result.items ≡ reason_of (Fault.PlanRule rule index) }
 {
-    put_text(into, b"plan breaks rule ");
-    put_decimal(into, rule as u64);
-    put_text(into, b" at ");
-    put_decimal(into, index as u64);
+    let mut text = ArrayVec::new();
+    put_text(&mut text, b"plan breaks rule ");
+    put_decimal(&mut text, rule as u64);
+    put_text(&mut text, b" at ");
+    put_decimal(&mut text, index as u64);
+    text
 }
 
-fn put_plan_mode(into: &mut ArrayVec<u8, 96>, kind: PartKind, index: u8, mode: Mode)
-    requires { array_vec_len into.old ≤ 5 }
-    ensures items { into.new.items ≡ into.old.items ++ reason_of (Fault.PlanMode kind index mode) }
-    ensures len { array_vec_len into.new ≤ array_vec_len into.old + 87 }
+fn plan_mode_text(kind: PartKind, index: u8, mode: Mode) -> ArrayVec<u8, 87>
+    ensures { result.items ≡ reason_of (Fault.PlanMode kind index mode) }
 {
-    put_text(into, kind_text(kind).as_bytes());
-    put_text(into, b" ");
-    put_decimal(into, index as u64);
-    put_text(into, b" does not suit ");
-    put_text(into, mode_text(mode).as_bytes());
+    let mut text = ArrayVec::new();
+    put_text(&mut text, kind_text(kind).as_bytes());
+    put_text(&mut text, b" ");
+    put_decimal(&mut text, index as u64);
+    put_text(&mut text, b" does not suit ");
+    put_text(&mut text, mode_text(mode).as_bytes());
+    text
 }
 
-fn put_tag_type(into: &mut ArrayVec<u8, 96>, tag: u32, code: u32)
-    requires { array_vec_len into.old ≤ 5 }
-    ensures items { into.new.items ≡ into.old.items ++ reason_of (Fault.TagType tag code) }
-    ensures len { array_vec_len into.new ≤ array_vec_len into.old + 87 }
+fn tag_type_text(tag: u32, code: u32) -> ArrayVec<u8, 87>
+    ensures { result.items ≡ reason_of (Fault.TagType tag code) }
 {
-    put_text(into, b"tag ");
-    put_decimal(into, tag as u64);
-    put_text(into, b" has type ");
-    put_hexadecimal(into, code as u64, 8);
+    let mut text = ArrayVec::new();
+    put_text(&mut text, b"tag ");
+    put_decimal(&mut text, tag as u64);
+    put_text(&mut text, b" has type ");
+    put_hexadecimal(&mut text, code as u64, 8);
+    text
 }
 
-fn put_tag_length(into: &mut ArrayVec<u8, 96>, tag: u32, length: i64)
-    requires { array_vec_len into.old ≤ 5 }
-    ensures items { into.new.items ≡ into.old.items ++ reason_of (Fault.TagLength tag length) }
-    ensures len { array_vec_len into.new ≤ array_vec_len into.old + 87 }
+fn tag_length_text(tag: u32, length: i64) -> ArrayVec<u8, 87>
+    ensures { result.items ≡ reason_of (Fault.TagLength tag length) }
 {
-    put_text(into, b"tag ");
-    put_decimal(into, tag as u64);
-    put_text(into, b" has length ");
-    put_signed(into, length);
+    let mut text = ArrayVec::new();
+    put_text(&mut text, b"tag ");
+    put_decimal(&mut text, tag as u64);
+    put_text(&mut text, b" has length ");
+    put_signed(&mut text, length);
+    text
 }
 
-fn put_record_type(into: &mut ArrayVec<u8, 96>, value: i64)
-    requires { array_vec_len into.old ≤ 5 }
-    ensures items { into.new.items ≡ into.old.items ++ reason_of (Fault.UnknownRecordType value) }
-    ensures len { array_vec_len into.new ≤ array_vec_len into.old + 87 }
+fn record_type_text(value: i64) -> ArrayVec<u8, 87>
+    ensures { result.items ≡ reason_of (Fault.UnknownRecordType value) }
 {
-    put_text(into, b"record type ");
-    put_hexadecimal(into, value.cast_unsigned(), 16);
+    let mut text = ArrayVec::new();
+    put_text(&mut text, b"record type ");
+    put_hexadecimal(&mut text, value.cast_unsigned(), 16);
+    text
 }
 
-fn put_reserved(into: &mut ArrayVec<u8, 96>, place: u64, word: u32)
-    requires { array_vec_len into.old ≤ 5 }
-    ensures items { into.new.items ≡ into.old.items ++ reason_of (Fault.ReservedRecord place word) }
-    ensures len { array_vec_len into.new ≤ array_vec_len into.old + 87 }
+fn reserved_text(place: u64, word: u32) -> ArrayVec<u8, 87>
+    ensures { result.items ≡ reason_of (Fault.ReservedRecord place word) }
 {
-    put_text(into, b"record ");
-    put_decimal(into, place);
-    put_text(into, b" is reserved: ");
-    put_hexadecimal(into, word as u64, 8);
+    let mut text = ArrayVec::new();
+    put_text(&mut text, b"record ");
+    put_decimal(&mut text, place);
+    put_text(&mut text, b" is reserved: ");
+    put_hexadecimal(&mut text, word as u64, 8);
+    text
 }
 
-fn put_backward(into: &mut ArrayVec<u8, 96>, place: u64, before: u64, time: u64)
-    requires { array_vec_len into.old ≤ 5 }
-    ensures items { into.new.items ≡ into.old.items ++ reason_of
-        (Fault.BackwardTime place time before) }
-    ensures len { array_vec_len into.new ≤ array_vec_len into.old + 87 }
+fn backward_text(place: u64, before: u64, time: u64) -> ArrayVec<u8, 87>
+    ensures { result.items ≡ reason_of (Fault.BackwardTime place time before) }
 {
-    put_text(into, b"record ");
-    put_decimal(into, place);
-    put_text(into, b" goes back from ");
-    put_decimal(into, before);
-    put_text(into, b" to ");
-    put_decimal(into, time);
+    let mut text = ArrayVec::new();
+    put_text(&mut text, b"record ");
+    put_decimal(&mut text, place);
+    put_text(&mut text, b" goes back from ");
+    put_decimal(&mut text, before);
+    put_text(&mut text, b" to ");
+    put_decimal(&mut text, time);
+    text
 }
 
 fn kind_text(kind: PartKind) -> &'static str

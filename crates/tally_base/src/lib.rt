@@ -10,6 +10,7 @@ mod fault;
 mod header;
 mod limits;
 mod line;
+mod noted;
 mod part;
 mod settings;
 mod slot;
@@ -23,6 +24,7 @@ pub use fault::{Fault, fault_line};
 pub use header::{Header, Mode, RecordType};
 pub use limits::{RECORD_LIMIT, WRAP_LIMIT};
 pub use line::{put_decimal, put_hexadecimal, put_signed, put_text};
+pub use noted::Noted;
 pub use part::PartKind;
 pub use settings::{
     CoincidenceSet, CorrelationSet, CubeSet, FoldSet, Group, HistSet, ImageSet, ShiftSet,

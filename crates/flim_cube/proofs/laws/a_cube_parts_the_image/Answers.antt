@@ -2,8 +2,8 @@ use Rattle.std.proofs.Common.{◌≡◌, ◌∙◌, ℕ, ◌+◌, ◌/◌, Bool,
 use Rattle.std.{proofs.lemmas.{Grind.common_steps, Bool.Decides.nat_tests}, specs.{declared.option.Option.Option, List.range_with_len}}
 use Rattle.tally_base.{proofs.Sums.{sum_same, sum_plus, sum_none, in_range, behind_range}, specs.declared.event.{Event.Event, EventKind.EventKind}}
 use Rattle.tally_base.specs.{declared.event.EventKind.TheVariants.{Photon, Marker}, Events.is_in, Settings.CubeView, Tally.History}
-use Rattle.{marker_map.specs.Places.place_of, scan_image.{specs.ImageCounts.{markers, is_at, in_cell, in_all_cells}, proofs.Counts.{met-photon, met-marker}}}
-use Rattle.scan_image.proofs.Totals.{Inside, place-inside, by-pushes, over_pixels, pixels-agree, pixels-plus, pixels-none, met-count, cells-more}
+use Rattle.scan_image.{specs.{Places.place_of, ImageCounts.{markers, is_at, in_cell, in_all_cells}}, proofs.{Counts.{met-photon, met-marker}, Totals.Inside}}
+use Rattle.scan_image.proofs.Totals.{place-inside, by-pushes, over_pixels, pixels-agree, pixels-plus, pixels-none, met-count, cells-more}
 use Rattle.flim_cube.specs.CubeCounts.{is_in_cell, is_over, count_over, in_cell as in_bin, in_pixel, in_whole_cube}
 use Rattle.flim_cube.proofs.laws.a_cube_parts_the_image.Goals as goal
 

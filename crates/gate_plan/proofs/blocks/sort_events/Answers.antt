@@ -2,13 +2,6 @@ use Rattle.{std.proofs.Common.{◌≡◌, ◌∙◌, ap, map}, tally_base.specs.
 use Rattle.gate_plan.proofs.{Histories.same_events, blocks.sort_events.Goals.{then-has_shifts, else-has_shifts}}
 use Rattle.gate_plan.proofs.blocks.sort_events.Goals as goal
 
-pub sort-requires : goal.sort-requires
-sort-requires c =
-    elim c.if-has_shifts.branch [
-      | then-has_shifts w ↦ rw w.block-is w.shift_each.ensures.unsorted
-      | else-has_shifts w ↦ rw w.block-is c.requires
-    ]
-
 pub returns : goal.returns
 returns c =
     let by = sorting_of c.args.gates.now in

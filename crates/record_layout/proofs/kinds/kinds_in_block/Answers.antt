@@ -7,12 +7,5 @@ overflow_sub-result g c =
     let seen = c.loop-bytes.invariant in
     others-fit g.R.RecordLayout.meaning c.args.words.now _ _ _ (rw all at seen.photons) (rw all at seen.markers) (rw all at seen.wraps)
 
-pub returns-clause-value : goal.returns-clause-value
-returns-clause-value g c = search (rules, arith, take_all, counts_of-three)
-
-pub returns-clause-split : goal.returns-clause-split
-returns-clause-split g c =
-    let all = take_all c.loop-bytes.bytes-index c.args.words.now c.loop-bytes-test.false in
-    let seen = c.loop-bytes.invariant in
-    let fit = others-fit g.R.RecordLayout.meaning c.args.words.now _ _ _ (rw all at seen.photons) (rw all at seen.markers) (rw all at seen.wraps) in
-    omega (arith, fit)
+pub returns : goal.returns
+returns g c = search (rules, arith, take_all, counts_of-three)

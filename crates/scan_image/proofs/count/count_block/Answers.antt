@@ -2,7 +2,7 @@ use Rattle.std.proofs.Common.{◌≡◌, ◌∙◌, ◌<◌, ◌≤◌, ◌%◌,
 use Rattle.{std.proofs.lemmas.{Bool.Decides.nat_tests, Grind.common_steps}, tally_base.specs.declared.event.EventKind.TheVariants.{Photon, Marker}}
 use Rattle.tally_base.specs.{declared.event.Event.Event, Settings.image_view, Columns.{item, event_at, rows, code_at, dtime_at, time_at}, Tally.floor_after}
 use Rattle.tally_base.{specs.Tally.InOrder, proofs.{BlockRows.{length-rows, more_rows, rows-split}, Floors.{floor-more, floor-append, order-at, order-parts}}}
-use Rattle.{marker_map.specs.{Lines.{Saw, line_start}, Places.{Mark, mark}}, scan_image.{specs.Behind.IsBehind, proofs.Counts.marker_step}}
+use Rattle.scan_image.{specs.{Lines.{Saw, line_start}, Places.{Mark, mark}, Behind.IsBehind}, proofs.Counts.marker_step}
 use Rattle.scan_image.proofs.count.count_block.Goals as goal
 
 -- the time so far only rises
@@ -45,22 +45,22 @@ runs-preserved g c =
     let code = code_at b at in
     let time = time_at b at in
     let within : at < b.len = search (rules, arith) in
-    let marker : nat_lt code 256 ≡ false = grind (arith, nat_tests, run.stops.2 within) in
+    let marker : nat_lt code 256 ≡ false = grind (arith, nat_tests, run.runs.stops.2 within) in
     let kind : (item b at).0.kind ≡ Marker (code % 256) = ap (λ t. if t then Photon code (dtime_at b at) else Marker (code % 256)) marker in
     let lines' = c.marker.new.self in
     let saw : (ms : List Mark) → Saw c.runs.lines ms → Saw lines' (ms ++ mark (code % 256) time ∷ []) =
     λ ms is. rw (c.time.ensures, c.code.ensures) at (c.marker.ensures.follows ms is) in
     let moved = floor-more true low (event_at b) at in
     let in_time : line_start c.runs.lines ≤ time =
-    omega (arith, inv.before, floor-below low (event_at b) b.len c.runs.from at run.stops.0 within c.requires.in_order) in
+    omega (arith, inv.before, floor-below low (event_at b) b.len c.runs.from at run.runs.stops.0 within c.requires.in_order) in
     record {
       counted = λ h is. rw (more_rows (item b) at, ← append_assoc)
           (marker_step over set c.runs.lines lines' (h ++ rows (item b) at) (item b at) (code % 256) kind saw (run.follows h (inv.counted h is)));
-      fit = run.fit;
+      fit = run.runs.fit;
       within = omega (arith, within);
-      few = omega (arith, inv.few, run.few);
+      few = omega (arith, inv.few, run.runs.few);
       of_set = c.marker.ensures.same_image ∙ inv.of_set;
-      few_markers = omega (arith, inv.few_markers, c.marker.ensures.one_more, run.stops.0);
+      few_markers = omega (arith, inv.few_markers, c.marker.ensures.one_more, run.runs.stops.0);
       before = rw moved (omega (arith, c.marker.ensures.begun, c.time.ensures, in_time));
     }
 
@@ -70,7 +70,7 @@ returns-then-at-len-clause-follows g c = λ h is.
     let b = c.args.block.now in
     let run = c.count_run-at in
     let len : c.min-len.result ≡ b.len = search (rules, arith) in
-    let end : run.result ≡ b.len = omega (arith, len, run.ensures.stops.1, c.if-at-len.true) in
+    let end : run.result ≡ b.len = omega (arith, len, run.ensures.runs.stops.1, c.if-at-len.true) in
     subst (λ n. IsBehind (p.over c.args.pixels.now run.new.counts) (image_view (p.image c.args.pixels.now)) c.runs.lines (h ++ rows (item b) n)) end
     (run.ensures.follows h (c.runs.invariant.counted h is))
 

@@ -1,5 +1,5 @@
 use Rattle.{std.proofs.Common.{◌≡◌, ◌≤◌, ◌+◌, ◌-◌, ◌++◌, true}, tally_base.specs.{Settings.image_view, Tally.{History, floor_after}, Columns.{count, item}}}
-use Rattle.{tally_base.specs.Columns.{event_at, rows}, marker_map.specs.Lines.{image_of, markers_given, line_start}, scan_image.specs.Behind.IsBehind}
+use Rattle.{tally_base.specs.Columns.{event_at, rows}, scan_image.specs.{Lines.{image_of, markers_given, line_start}, Behind.IsBehind}}
 use Rattle.scan_image.proofs.count.count_block.Given as goal
 
 abbrev pub invariant-runs : goal.invariant-runs

@@ -1,8 +1,8 @@
 use Rattle.std.proofs.Common.{◌++◌, ◌≡◌, ◌∙◌, ◌%◌, true, List, cond, sym, ap, subst, rules, arith, append_assoc, nat_lt, if◌then◌else◌}
 use Rattle.{std.proofs.lemmas.Bool.Decides.nat_tests, tally_base.specs.{declared.event.EventKind.TheVariants.{Photon, Marker}, Events.is_in}}
 use Rattle.tally_base.{specs.{Settings.image_view, Columns.{item, rows, code_at, dtime_at, groups_at, time_at}}, proofs.BlockRows.more_rows}
-use Rattle.{marker_map.specs.{declared.lines.Lines.Lines, Lines.{Saw, image_of}, Places.{Mark, place_of}}, scan_image.specs.Behind.{IsBehind, IsStripOf}}
-use Rattle.scan_image.{specs.Behind.{HowMany, with_photon}, proofs.Counts.{photon_step, only_group, few_more}}
+use Rattle.scan_image.specs.{declared.lines.Lines.Lines, Lines.{Saw, image_of}, Places.{Mark, place_of}, Behind.{IsBehind, IsStripOf, HowMany, with_photon}}
+use Rattle.scan_image.proofs.Counts.{photon_step, only_group, few_more}
 use Rattle.scan_image.proofs.count.count_on.Goals as goal
 
 pub place-place-requires : goal.place-place-requires

@@ -1,4 +1,4 @@
-use Rattle.{std.proofs.Common.{◌≡◌, ◌≤◌, ◌+◌}, tally_base.specs.Settings.image_view, marker_map.specs.{declared.lines.Lines.Lines, Lines.image_of}}
+use Rattle.{std.proofs.Common.{◌≡◌, ◌≤◌, ◌+◌}, tally_base.specs.Settings.image_view, scan_image.specs.{declared.lines.Lines.Lines, Lines.image_of}}
 use Rattle.scan_image.specs.Behind.{CountsOn, IsStripOf}
 use Rattle.scan_image.proofs.count.count_on.Given as goal
 

@@ -1,4 +1,4 @@
-use Rattle.{std.proofs.Common.{◌≡◌, ◌≤◌}, marker_map.specs.Lines.{line_start, markers_given}}
+use Rattle.{std.proofs.Common.{◌≡◌, ◌≤◌}, scan_image.specs.Lines.{line_start, markers_given}}
 use Rattle.table_tests.proofs.places.place.Given as goal
 
 abbrev pub invariant-loop-time : goal.invariant-loop-time

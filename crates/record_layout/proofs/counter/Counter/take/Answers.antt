@@ -6,8 +6,8 @@ returns-clause-taken c = λ record_type bytes h.
     let carried = begun_in c.args.self.now.carried in
     let piece = c.args.piece.now in
     let first = slice-listed c.take-first.result.0 c.as_slice.result.now c.as_slice.ensures in
-    let of_first = rw (first, h.same_type) at c.kinds-of_first.ensures.value in
-    let of_words = rw h.same_type at c.kinds-of_words.ensures.value in
+    let of_first = rw (first, h.same_type) at c.kinds-of_first.ensures in
+    let of_words = rw h.same_type at c.kinds-of_words.ensures in
     let more = counts_of-both record_type (listed c.take-first.result.0) c.take-first.result.1.now _ _ _ of_first of_words c.take-first.ensures.words in
     record {
       same_type = h.same_type;

@@ -2,7 +2,7 @@ use Rattle.std.proofs.{Common.{◌≡◌, ◌+◌, ◌*◌, ◌^◌, ◌<◌, �
 use Rattle.{std.{proofs.Math.Nat.mul-le-mul_right, specs.Int.{from_le_bytes, w32}}, abs_time.specs.Placing.{placed_by, base_of}}
 use Rattle.lane_decode.{specs.{InColumns.{wraps_at, sum_to, time_in, Rises}, Staying.{staying, event_in}}, proofs.Added.sum-few}
 use Rattle.record_stream.specs.{Whole.{last_time, InReach}, Rows.ordered_below, Walking.{how_of, greatest_of, clock_in, LetsPass}}
-use Rattle.record_stream.proofs.WholeBlocks.{gathers-whole, many-events}
+use Rattle.{record_stream.proofs.WholeBlocks.{gathers-whole, many-events}, record_layout.proofs.KindLemmas.{counted_records, counted_split}}
 use Rattle.record_stream.proofs.ahead.Ahead.of.Goals as goal
 
 pub wraps_in-wraps-requires : goal.wraps_in-wraps-requires
@@ -16,6 +16,7 @@ returns-clause-leads g c =
     let unit = g.R.RecordLayout.UNIT in
     let meaning = g.R.RecordLayout.meaning in
     let whole = c.requires.whole in
+    let records = counted_records meaning words c.kinds-counts.result c.kinds-counts.ensures in
     let start = base_of (clock_in walk) in
     let passes : LetsPass walk meaning words = search (rules, arith) in
     let sure : c.rises-in_order.result ≡ true = search rules in
@@ -37,13 +38,13 @@ returns-clause-leads g c =
     let top_is : c.last_in_order-greatest.result ≡ last_time (ordered_below (how_of walk).mode) start unit columns =
     c.last_in_order-greatest.ensures start sum_is last_is ∙ ap (λ m. last_time (ordered_below m) start unit columns) (c.mode.ensures ∙ walk.same_mode) in
     record {
-      counts = rw c.requires.meaning at c.kinds-counts.ensures.value;
-      records = c.kinds-counts.ensures.records;
-      split = c.kinds-counts.ensures.split;
+      counts = rw c.requires.meaning at c.kinds-counts.ensures;
+      records = records;
+      split = counted_split meaning words c.kinds-counts.result c.kinds-counts.ensures;
       room = omega (arith, passes.room, whole);
       reach = reach;
       in_short = record {
-        events = many-events meaning unit columns words c.fill.ensures c.kinds-counts.result whole c.kinds-counts.ensures.value ∙ sym (length-map (staying 512 columns 64) (event_in (placed_by (clock_in walk)) start unit columns));
+        events = many-events meaning unit columns words c.fill.ensures c.kinds-counts.result whole c.kinds-counts.ensures ∙ sym (length-map (staying 512 columns 64) (event_in (placed_by (clock_in walk)) start unit columns));
         last = last_is;
         greatest = top_is ∙ ap (λ m. last_time (ordered_below m) start unit columns) (sym walk.same_mode);
       };

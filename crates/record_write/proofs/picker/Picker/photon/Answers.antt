@@ -1,8 +1,5 @@
-use Rattle.{std.proofs.Common.{arith, rules}, record_write.proofs.Puts.{last_time-push, short-flushed}}
+use Rattle.record_write.proofs.Puts.{short-flushed}
 use Rattle.record_write.proofs.picker.Picker.photon.Goals as goal
-
-pub returns-in-Ok-flush-clause-picks : goal.returns-in-Ok-flush-clause-picks
-returns-in-Ok-flush-clause-picks g c = search (rules, arith, last_time-push)
 
 pub returns-in-Err-flush-clause-writes : goal.returns-in-Err-flush-clause-writes
 returns-in-Err-flush-clause-writes g c = λ photons h. record

@@ -1,5 +1,5 @@
 use Rattle.{std.proofs.Common.{arith, rules}, record_write.proofs.Puts.last_time-push}
 use Rattle.record_write.proofs.picker.Picker.put.Goals as goal
 
-pub returns-in-Ok-clause-picks : goal.returns-in-Ok-clause-picks
-returns-in-Ok-clause-picks g c = search (rules, arith, last_time-push)
+pub returns-clause-picks : goal.returns-clause-picks
+returns-clause-picks g c = search (rules, arith, last_time-push)

@@ -36,7 +36,7 @@ put-requires c =
 pub returns-clause-sorted : goal.returns-clause-sorted
 returns-clause-sorted c =
     let is = one_row c.push.new.self c.args.e.now (rw c.new-block.ensures.empty at c.push.ensures.more) in
-    omega (arith, c.put.ensures.sorted, c.put.ensures.count, is.0)
+    omega (arith, c.put.ensures.kept.sorted, c.put.ensures.kept.count, is.0)
 
 pub returns-clause-events : goal.returns-clause-events
 returns-clause-events c =
@@ -46,4 +46,4 @@ returns-clause-events c =
       | then-is_photon w ↦ w.put-is ∙ sym (ap (λ b. if b then c.args.groups else 0) (sym c.is_photon.ensures ∙ w.if-is_photon.true))
       | else-is_photon w ↦ w.put-is ∙ sym (ap (λ b. if b then c.args.groups else 0) (sym c.is_photon.ensures ∙ w.if-is_photon.false))
     ] in
-    one_item c.put.new.self c.args.e.now _ (c.put.ensures.count ∙ is.0) (c.put.ensures.same 0 ∙ is.1) (c.put.ensures.there ∙ groups)
+    one_item c.put.new.self c.args.e.now _ (c.put.ensures.kept.count ∙ is.0) (c.put.ensures.kept.same 0 ∙ is.1) (c.put.ensures.there ∙ groups)
